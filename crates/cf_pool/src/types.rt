@@ -1,0 +1,39 @@
+//! Descriptors (JVMS 4.3): the types of fields, and of methods' parameters and results.
+
+use super::{Row, Text};
+
+/// A field type (JVMS 4.3.2): an element behind so many array dimensions, 0 to 255.
+#[derive(Debug, Drop)]
+pub struct FieldType {
+    pub dimensions: u8,
+    pub element: ElementType,
+}
+
+/// A field type that is no array.
+#[derive(Debug, Drop)]
+pub enum ElementType {
+    Byte,
+    Char,
+    Double,
+    Float,
+    Int,
+    Long,
+    Short,
+    Boolean,
+    /// A class or interface, by its name with `/` between its parts.
+    Class(Text),
+}
+
+/// A method descriptor (JVMS 4.3.3). `result` is `None` for `V`.
+#[derive(Debug, Drop)]
+pub struct MethodDescriptor {
+    pub parameters: Row<FieldType>,
+    pub result: Option<FieldType>,
+}
+
+/// What a descriptor's text says.
+#[derive(Debug, Drop)]
+pub enum Descriptor {
+    Field(FieldType),
+    Method(MethodDescriptor),
+}

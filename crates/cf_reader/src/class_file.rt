@@ -1,0 +1,53 @@
+//! What a class file says, as far as this project uses it.
+
+use super::Flags;
+use cf_pool::{FieldType, MethodDescriptor, Pool, Row, Text};
+
+/// A class or interface (JVMS 4.1).
+#[derive(Debug, Drop)]
+pub struct ClassFile {
+    pub pool: Pool,
+    pub flags: Flags,
+    pub name: Text,
+    /// The name of the direct superclass: `None` for java/lang/Object alone, which no file holds.
+    pub superclass: Option<Text>,
+    /// The names of the direct superinterfaces, as declared.
+    pub interfaces: Row<Text>,
+    pub fields: Row<Field>,
+    pub methods: Row<Method>,
+}
+
+/// A field (JVMS 4.5).
+#[derive(Debug, Drop)]
+pub struct Field {
+    pub flags: Flags,
+    pub name: Text,
+    pub descriptor: Text,
+    /// What the descriptor says.
+    pub kind: FieldType,
+    /// The value of a static field's ConstantValue attribute (JVMS 4.7.2).
+    pub constant: Option<i32>,
+}
+
+/// A method (JVMS 4.6).
+#[derive(Debug, Drop)]
+pub struct Method {
+    pub flags: Flags,
+    pub name: Text,
+    pub descriptor: Text,
+    /// What the descriptor says.
+    pub types: MethodDescriptor,
+    /// The Code attribute: `None` for an abstract method.
+    pub code: Option<Code>,
+}
+
+/// A Code attribute (JVMS 4.7.3), without exception handlers, which the profile leaves out.
+#[derive(Debug, Drop)]
+pub struct Code {
+    pub max_stack: u16,
+    pub max_locals: u16,
+    /// The bytes of the instructions, 1 to 65,535.
+    pub bytes: Row<u8>,
+    /// The bytes of the StackMapTable attribute behind its length (JVMS 4.7.4), where there is one.
+    pub stack_map_table: Option<Row<u8>>,
+}

@@ -1,0 +1,12 @@
+//! Class files (JVMS 4.1 to 4.7): what a file says, read from its bytes or from a source.
+#![tactic(auto)]
+
+pub use cf_pool::{
+    Descriptor, ElementType, Entry, FieldType, MemberKind, MethodDescriptor, Numbered, Pool,
+    ReadFault, Row, Rule, Text,
+};
+pub use class_file::{ClassFile, Code, Field, Method};
+pub use flags::Flags;
+
+mod class_file;
+mod flags;

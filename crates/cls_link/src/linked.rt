@@ -1,0 +1,59 @@
+//! Methods whose instructions are resolved.
+
+use cf_insns::{BinaryOperator, Condition, StackOperation, UnaryOperator, ValueKind};
+use cls_set::{ClassId, Row};
+
+/// A method's number: methods are numbered from 0 by class, and in a class as declared.
+#[derive(Clone, Copy, Debug, PartialEq, Eq)]
+pub struct MethodId(pub u32);
+
+/// An instruction whose branch target is an index into the method's list of instructions.
+#[derive(Clone, Copy, Debug, PartialEq, Eq)]
+pub enum LinkedInsn {
+    /// nop.
+    Nop,
+    /// iconst_m1 to iconst_5, bipush, sipush: pushes an int.
+    Constant(i32),
+    /// iload: pushes a local variable.
+    Load(ValueKind, u16),
+    /// istore: pops into a local variable.
+    Store(ValueKind, u16),
+    /// iinc: adds to a local variable.
+    Increment { local: u16, by: i16 },
+    /// pop, dup, swap.
+    Stack(StackOperation),
+    /// ineg, i2b, i2c, i2s.
+    Unary(UnaryOperator),
+    /// iadd to ixor.
+    Binary(BinaryOperator),
+    /// ifeq to ifle: compares an int with 0.
+    If { condition: Condition, target: u16 },
+    /// if_icmpeq to if_icmple: compares two ints.
+    IfCompare { condition: Condition, target: u16 },
+    /// goto, goto_w.
+    Goto { target: u16 },
+    /// ireturn: returns an int.
+    ReturnValue(ValueKind),
+    /// return: returns nothing.
+    Return,
+}
+
+/// The code of a method, linked.
+#[derive(Debug, Drop)]
+pub struct LinkedCode {
+    /// The instructions in the order of their offsets.
+    pub insns: Row<LinkedInsn>,
+    /// The offset of each instruction in the method's bytes.
+    pub offsets: Row<u16>,
+}
+
+/// A method of a linked class set.
+#[derive(Debug, Drop)]
+pub struct LinkedMethod {
+    /// The class that declares it.
+    pub class: ClassId,
+    /// Its place among the methods of that class, as declared.
+    pub place: u16,
+    /// `None` for a method without code.
+    pub code: Option<LinkedCode>,
+}

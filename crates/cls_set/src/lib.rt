@@ -1,0 +1,11 @@
+//! Class sets: the classes of some files and the built-in ones, numbered by name, with who extends
+//! and implements whom (JVMS 4.10.1.2).
+#![tactic(auto)]
+
+pub use cf_reader::{
+    ClassFile, Code, ElementType, Field, FieldType, Flags, Method, MethodDescriptor, Numbered, Pool,
+    Row, Text,
+};
+pub use class::{Class, ClassId};
+
+mod class;

@@ -1,0 +1,16 @@
+use Rattle.std.specs.Prelude.{ℕ, zero, suc, Bool, true, false}
+use Rattle.dev_io.specs.declared.calls.Calls.{Calls}
+use Rattle.dev_io.specs.declared.calls.Calls.TheVariants.{Unlimited, Left, Failed}
+
+-- what one more call leaves of the calls
+abbrev pub after_call : Calls → Calls
+after_call Unlimited = Unlimited
+after_call (Left zero) = Failed
+after_call (Left (suc n)) = Left n
+after_call Failed = Failed
+
+-- whether a call has failed
+abbrev pub is_failed : Calls → Bool
+is_failed Unlimited = false
+is_failed (Left n) = false
+is_failed Failed = true

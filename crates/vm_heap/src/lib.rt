@@ -1,0 +1,8 @@
+//! Values that cross between tasks and spaces: ints, int arrays by copy, remote references.
+#![tactic(auto)]
+
+pub use cls_set::{ClassId, Row};
+pub use uuid::Uuid;
+pub use values::{ObjId, Ref, Value};
+
+mod values;
