@@ -1,0 +1,46 @@
+use Rattle.std.specs.Prelude.{ℕ, ◌==◌, if◌then◌else◌, Option, Some, None, List, [], ◌∷◌, slice_get, option_and_then}
+use Rattle.cls_link.specs.declared.linked.LinkedInsn.{LinkedInsn}
+use Rattle.cls_set.specs.declared.class.Class.{Class}
+use Rattle.ver_frames.specs.Frames.{Frame}
+use Rattle.ver_frames.specs.Method.{Subject, opening, result_type}
+use Rattle.ver_frames.specs.declared.vtype.VType.{VType}
+
+-- what is checked of a method with code: the set that it is linked in, the frame in which it begins,
+-- the type of its result, its limits, its instructions with the offset of each, and the frames that
+-- are declared, each with its offset
+pub record Body : Type 0 where
+  pub classes : List Class
+  pub opening : Frame
+  pub result : Option VType
+  pub max_stack : ℕ
+  pub max_locals : ℕ
+  pub insns : List LinkedInsn
+  pub offsets : List ℕ
+  pub declared : List (ℕ × Frame)
+
+-- the body of a method with these declared frames
+abbrev pub body_of : Subject → List (ℕ × Frame) → Body
+body_of m declared = record {
+  classes = m.classes;
+  opening = opening m;
+  result = result_type m;
+  max_stack = m.code.max_stack;
+  max_locals = m.code.max_locals;
+  insns = m.linked.insns;
+  offsets = m.linked.offsets;
+  declared = declared;
+}
+
+-- the instruction at this place, counted from 0
+abbrev pub insn_at : Body → ℕ → Option LinkedInsn
+insn_at body place = slice_get body.insns place
+
+-- the frame that is declared at an offset
+unfoldable pub frame_at_offset : List (ℕ × Frame) → ℕ → Option Frame
+frame_at_offset [] offset = None
+frame_at_offset (first ∷ others) offset =
+    if first.0 == offset then Some first.1 else frame_at_offset others offset
+
+-- the frame that is declared at the instruction at this place
+unfoldable pub declared_at : Body → ℕ → Option Frame
+declared_at body place = option_and_then (frame_at_offset body.declared) (slice_get body.offsets place)

@@ -1,0 +1,54 @@
+use Rattle.std.specs.Prelude.{◌≡◌, ℕ, suc, ◌<◌, ◌≤◌, Some, length, MatchOption, MatchBool, IsSomeAnd, IsSome}
+use Rattle.std.specs.List.{AllByRecursion}
+use Rattle.cls_link.specs.declared.linked.LinkedInsn.{LinkedInsn}
+use Rattle.ver_check.specs.Bodies.{Body, insn_at, declared_at}
+use Rattle.ver_check.specs.Effects.{effect, falls_through, targets}
+use Rattle.ver_frames.specs.Assignable.{IsFrameAssignable}
+use Rattle.ver_frames.specs.Frames.{Frame}
+
+-- Type safety (JVMS 4.10.1.6): there is a frame for each instruction that agrees with the declared
+-- frames and with what flows in.
+
+-- a frame comes in at a place: it is assignable to the frame declared there, or it is the frame there
+abbrev pub Enters : Body → (ℕ → Frame) → ℕ → Frame → Type 0
+Enters body frames place given =
+    MatchOption (declared_at body place) (frames place ≡ given) (λ declared. IsFrameAssignable body.classes given declared)
+
+-- a frame comes in at the target of a branch, where one has to be declared
+abbrev pub Lands : Body → Frame → ℕ → Type 0
+Lands body given place =
+    IsSomeAnd (declared_at body place) (λ declared. IsFrameAssignable body.classes given declared)
+
+-- the frame after an instruction comes in at the next one, which there has to be; where the
+-- instruction does not fall through, a frame has to be declared at the next one, if there is one
+abbrev pub GoesOn : Body → (ℕ → Frame) → ℕ → LinkedInsn → Frame → Type 0
+GoesOn body frames place insn after =
+    MatchBool (falls_through insn)
+    ((suc place < length body.insns) × Enters body frames (suc place) after)
+    (suc place < length body.insns → IsSome (declared_at body (suc place)))
+
+-- the instruction at a place agrees with the frames
+pub record IsFineAt (body : Body) (frames : ℕ → Frame) (place : ℕ) (insn : LinkedInsn) : Type 0 where
+  pub after : Frame
+  pub acts : effect body insn (frames place) ≡ Some after
+  pub lands : AllByRecursion (Lands body after) (targets insn)
+  pub goes_on : GoesOn body frames place insn after
+
+-- a frame has no more local variables and operands than the method
+pub record IsWithin (body : Body) (f : Frame) : Type 0 where
+  pub locals : length f.locals ≤ body.max_locals
+  pub stack : length f.stack ≤ body.max_stack
+
+-- these are the frames of the instructions, by place
+pub record IsTyping (body : Body) (frames : ℕ → Frame) : Type 0 where
+  -- the arguments fit the local variables
+  pub arguments : length body.opening.locals ≤ body.max_locals
+  pub opening : Enters body frames 0 body.opening
+  pub declared : (place : ℕ) (f : Frame) → declared_at body place ≡ Some f → frames place ≡ f
+  pub within : (place : ℕ) → place < length body.insns → IsWithin body (frames place)
+  pub fine : (place : ℕ) (insn : LinkedInsn) → insn_at body place ≡ Some insn → IsFineAt body frames place insn
+
+-- a body is type safe
+pub record IsTypeSafe (body : Body) : Type 0 where
+  pub frames : ℕ → Frame
+  pub typing : IsTyping body frames

@@ -1,0 +1,36 @@
+use Rattle.std.specs.Prelude.{◌≡◌, ◌⊎◌, Some, List, [], ◌∷◌, IsTrue, IsSomeAnd, slice_get, codes, ⊤}
+use Rattle.cls_set.specs.declared.class.Class.{Class}
+use Rattle.ver_frames.specs.Frames.{Frame}
+use Rattle.ver_frames.specs.Hierarchy.{name_at, IsInterface, IsSubclass}
+use Rattle.ver_frames.specs.declared.vtype.VType.{VType}
+use Rattle.ver_frames.specs.declared.vtype.VType.TheVariants.{Top, Int, Null, Object, IntArray, Uninitialized, UninitializedThis}
+
+-- a value of the first type may stand where the second is asked (JVMS 4.10.1.2): each type for
+-- itself and for top, null for classes and arrays, a class for its superclasses and for any
+-- interface, an array for java/lang/Object
+unfoldable pub IsAssignable : List Class → VType → VType → Type 0
+IsAssignable classes _ Top = ⊤
+IsAssignable classes Int Int = ⊤
+IsAssignable classes Null Null = ⊤
+IsAssignable classes Null (Object asked) = ⊤
+IsAssignable classes Null IntArray = ⊤
+IsAssignable classes (Object given) (Object asked) =
+    IsSomeAnd (slice_get classes asked.0) IsInterface ⊎ IsSubclass classes given asked
+IsAssignable classes IntArray (Object asked) = name_at classes asked ≡ Some (codes "java/lang/Object")
+IsAssignable classes IntArray IntArray = ⊤
+IsAssignable classes (Uninitialized made) (Uninitialized asked) = made ≡ asked
+IsAssignable classes UninitializedThis UninitializedThis = ⊤
+IsAssignable classes _ _ = ⊥
+
+-- there are as many types as asked, each assignable to the one in its place
+unfoldable pub AreAssignable : List Class → List VType → List VType → Type 0
+AreAssignable classes [] [] = ⊤
+AreAssignable classes (given ∷ more) (asked ∷ others) = IsAssignable classes given asked × AreAssignable classes more others
+AreAssignable classes _ _ = ⊥
+
+-- a frame may stand where another is asked (JVMS 4.10.1.4): all of its types may, and its flag is
+-- set only if the other's is
+pub record IsFrameAssignable (classes : List Class) (given asked : Frame) : Type 0 where
+  pub locals : AreAssignable classes given.locals asked.locals
+  pub stack : AreAssignable classes given.stack asked.stack
+  pub flag : IsTrue given.flag_this_uninit → IsTrue asked.flag_this_uninit

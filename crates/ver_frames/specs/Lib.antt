@@ -1,0 +1,4 @@
+pub mod Assignable
+pub mod Frames
+pub mod Hierarchy
+pub mod Method

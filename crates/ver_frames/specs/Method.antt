@@ -1,0 +1,74 @@
+use Rattle.std.specs.Prelude.{Bool, true, false, not, ◌==◌, ◌&&◌, if◌then◌else◌, Option, List, [], ◌∷◌, ◌++◌, map, bit_and, bytes_eq, codes, option_map}
+use Rattle.std.specs.Option.{option_map_or}
+use Rattle.cf_pool.specs.declared.types.ElementType.{ElementType}
+use Rattle.cf_pool.specs.declared.types.ElementType.TheVariants as element
+use Rattle.cf_pool.specs.declared.types.FieldType.{FieldType}
+use Rattle.cf_reader.specs.declared.class_file.Method.{Method}
+use Rattle.cf_reader.specs.declared.class_file.Code.{Code}
+use Rattle.cls_link.specs.declared.linked.LinkedCode.{LinkedCode}
+use Rattle.cls_set.specs.declared.class.Class.{Class}
+use Rattle.cls_set.specs.declared.class.ClassId.{ClassId}
+use Rattle.ver_frames.specs.Frames.{Frame, filled}
+use Rattle.ver_frames.specs.Hierarchy.{number_of}
+use Rattle.ver_frames.specs.declared.vtype.VType.{VType}
+use Rattle.ver_frames.specs.declared.vtype.VType.TheVariants.{Top, Int, Object, IntArray, UninitializedThis}
+
+-- a method with code: the set that it is linked in, its class and that class's number, its
+-- declaration, and its code as read and as linked
+pub record Subject : Type 0 where
+  pub classes : List Class
+  pub class_id : ClassId
+  pub class : Class
+  pub method : Method
+  pub code : Code
+  pub linked : LinkedCode
+
+-- the verification type of an element that is no array; one out of this project's profile is top
+unfoldable pub element_type : List Class → ElementType → VType
+element_type classes element.Int = Int
+element_type classes element.Boolean = Int
+element_type classes (element.Class name) = option_map_or Object (number_of classes name) Top
+element_type classes _ = Top
+
+-- whether an element is int
+abbrev pub is_int : ElementType → Bool
+is_int element.Int = true
+is_int _ = false
+
+-- the verification type of a field type (JVMS 4.10.1.2); one out of this project's profile is top
+unfoldable pub field_vtype : List Class → FieldType → VType
+field_vtype classes kind =
+    if kind.dimensions == 0 then element_type classes kind.element
+    else (if (kind.dimensions == 1) && is_int kind.element then IntArray else Top)
+
+-- whether the method is static (flag STATIC, JVMS 4.6)
+abbrev pub is_static : Method → Bool
+is_static method = not (bit_and method.flags.bits 0x0008 == 0)
+
+-- whether its receiver is not initialized as it begins: an <init>, but not that of a built-in class,
+-- which calls no other <init> (a rule of this project; java/lang/Object is one of them)
+unfoldable pub begins_uninit : Subject → Bool
+begins_uninit m =
+    not (is_static m.method) && (not m.class.is_built_in && bytes_eq m.method.name (codes "<init>"))
+
+-- the type of the receiver, where there is one
+unfoldable pub receiver_types : Subject → List VType
+receiver_types m =
+    if is_static m.method then []
+    else ((if begins_uninit m then UninitializedThis else Object m.class_id) ∷ [])
+
+-- the types of the receiver and the parameters, which are the first local variables
+unfoldable pub argument_types : Subject → List VType
+argument_types m = receiver_types m ++ map (field_vtype m.classes) m.method.types.parameters
+
+-- the frame in which the method begins (JVMS 4.10.1.6)
+unfoldable pub opening : Subject → Frame
+opening m = record {
+  locals = filled m.code.max_locals (argument_types m);
+  stack = [];
+  flag_this_uninit = begins_uninit m;
+}
+
+-- the type of the result, where there is one
+unfoldable pub result_type : Subject → Option VType
+result_type m = option_map (field_vtype m.classes) m.method.types.result

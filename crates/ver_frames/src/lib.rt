@@ -1,0 +1,16 @@
+//! Type frames of a method (JVMS 4.10.1): the types of its local variables and operands at an
+//! instruction, which types may stand for which, and the frames that its StackMapTable declares.
+#![tactic(auto)]
+
+pub use cls_link::{
+    BinaryOperator, Class, ClassFile, ClassId, Code, Condition, ElementType, Field, FieldType,
+    Flags, LinkedCode, LinkedInsn, LinkedMethod, Method, MethodDescriptor, MethodId, Numbered,
+    Pool, Row, StackOperation, Text, UnaryOperator, ValueKind,
+};
+pub use fault::{StackMapFault, StackMapRule};
+pub use frame::TypeFrame;
+pub use vtype::VType;
+
+mod fault;
+mod frame;
+mod vtype;
