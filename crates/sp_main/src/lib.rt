@@ -7,4 +7,6 @@ pub use words::{Request, RunRequest, request_of};
 
 mod argument;
 mod folder;
+#[cfg(test)]
+mod tests;
 mod words;
