@@ -1,6 +1,6 @@
 //! The constant pool (JVMS 4.4): its entries by index.
 
-ghost use Rattle.std.specs.Prelude.{◌≡◌};
+ghost use Rattle.std.specs.Prelude.{◌≡◌, slice_get};
 
 use super::Text;
 use std::marker::Model;
@@ -52,11 +52,113 @@ impl Model for Pool {
     ghost view = { λ pool. pool.entries.items };
 }
 
+/// What a NameAndType entry names (JVMS 4.4.6).
+#[derive(Clone, Copy, Debug)]
+pub struct NameAndTypeRef<'a> {
+    pub name: &'a Text,
+    pub descriptor: &'a Text,
+}
+
+/// What a Fieldref, Methodref or InterfaceMethodref entry names (JVMS 4.4.2).
+#[derive(Clone, Copy, Debug)]
+pub struct MemberRef<'a> {
+    pub kind: MemberKind,
+    /// The class's name, or an array's descriptor.
+    pub class: &'a Text,
+    pub name: &'a Text,
+    pub descriptor: &'a Text,
+}
+
 impl Pool {
+    ghost use Rattle.std.specs.Option.{option_copied, option_map};
+    ghost use Rattle.cf_pool.specs.Pools.{class_at, integer_at, member_at, name_and_type_at, utf8_at};
+    ghost use Rattle.cf_pool.specs.PoolRefs.{named_member, named_type};
+
     /// The pool of these entries by index, from index 0 on. It takes no memory.
     pub fn new(entries: Vec<Entry>) -> Pool
         ensures { result ≡ entries.items }
     {
         Pool { entries }
+    }
+
+    // The entry at an index: none past the end.
+    fn entry(&self, index: u16) -> Option<&Entry>
+        ensures { option_copied result ≡ slice_get self.now index }
+    {
+        self.entries.get(index as usize)
+    }
+
+    /// The text of a Utf8 entry: `None` exactly where the index names no such entry.
+    #[tactic(auto, unfolding(crate::specs::Pools::utf8_at))]
+    pub fn utf8(&self, index: u16) -> Option<&Text>
+        ensures { option_copied result ≡ utf8_at self.now index }
+    {
+        match self.entry(index) {
+            Some(Entry::Utf8(text)) => Some(text),
+            _ => None,
+        }
+    }
+
+    /// The value of an Integer entry: `None` exactly where the index names no such entry.
+    #[tactic(auto, unfolding(crate::specs::Pools::integer_at))]
+    pub fn integer(&self, index: u16) -> Option<i32>
+        ensures { result ≡ integer_at self.now index }
+    {
+        match self.entry(index) {
+            Some(Entry::Integer(value)) => Some(*value),
+            _ => None,
+        }
+    }
+
+    /// The name of a Class entry, or the descriptor where it is an array's: `None` exactly where the
+    /// index names no such entry, or one whose own index names no text.
+    #[tactic(auto, unfolding(crate::specs::Pools::class_at))]
+    pub fn class(&self, index: u16) -> Option<&Text>
+        ensures { option_copied result ≡ class_at self.now index }
+    {
+        match self.entry(index) {
+            Some(Entry::Class { name }) => self.utf8(*name),
+            _ => None,
+        }
+    }
+
+    /// What a NameAndType entry names: `None` exactly where the index names no such entry, or one
+    /// whose own indices name no texts.
+    #[tactic(auto, unfolding(crate::specs::Pools::name_and_type_at))]
+    pub fn name_and_type(&self, index: u16) -> Option<NameAndTypeRef<'_>>
+        ensures { option_map named_type result ≡ name_and_type_at self.now index }
+    {
+        let Some(Entry::NameAndType { name, descriptor }) = self.entry(index) else {
+            return None;
+        };
+        let name = self.utf8(*name)?;
+        let descriptor = self.utf8(*descriptor)?;
+        Some(NameAndTypeRef { name, descriptor })
+    }
+
+    /// What a Fieldref, Methodref or InterfaceMethodref entry names: `None` exactly where the index
+    /// names no such entry, or one whose own indices name no class or no name and type.
+    #[tactic(auto, unfolding(crate::specs::Pools::member_at))]
+    pub fn member(&self, index: u16) -> Option<MemberRef<'_>>
+        ensures { option_map named_member result ≡ member_at self.now index }
+    {
+        let Some(
+            Entry::Member {
+                kind,
+                class,
+                name_and_type,
+            },
+        ) = self.entry(index)
+        else {
+            return None;
+        };
+        let class = self.class(*class)?;
+        let NameAndTypeRef { name, descriptor } = self.name_and_type(*name_and_type)?;
+        Some(MemberRef {
+            kind: *kind,
+            class,
+            name,
+            descriptor,
+        })
     }
 }
