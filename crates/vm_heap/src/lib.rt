@@ -4,5 +4,7 @@
 pub use cls_set::{ClassId, Row};
 pub use uuid::Uuid;
 pub use values::{ObjId, Ref, Value};
+pub use word::Word;
 
 mod values;
+mod word;

@@ -1,0 +1,48 @@
+-- How frames lie in one row of words: each from its `bottom` on, first the local variables, from `base` on the operands, which end
+-- where the frame above begins.
+use Rattle.std.specs.Prelude.{ℕ, ◌+◌, ◌-◌, ◌*◌, ◌≤◌, List, [], ◌∷◌, length, take, drop, reverse}
+use Rattle.vm_heap.specs.Tagged.{Tagged}
+use Rattle.vm_stack.specs.Frames.{Frame, Frames}
+use Rattle.vm_stack.specs.declared.link.Link.{Link}
+
+-- the frame that ends a row
+abbrev pub frame_of : List Tagged → Link → Frame
+frame_of row link = record {
+  locals = drop link.bottom (take link.base row);
+  operands = reverse (drop link.base row);
+  room = link.limit - link.base;
+}
+
+-- the frames below a row's end, nearest first
+abbrev pub callers_of : List Tagged → List Link → List Frame
+callers_of row [] = []
+callers_of row (link ∷ links) = frame_of row link ∷ callers_of (take link.bottom row) links
+
+-- a frame lies from its bottom to its base, to its top, and never reaches past its limit
+pub record IsPlaced (link : Link) (top : ℕ) : Type 0 where
+  pub locals : link.bottom ≤ link.base
+  pub operands : link.base ≤ top
+  pub room : top ≤ link.limit
+
+-- the frames of a row of words: the running method's at `link` with its operands up to `top`, its callers' at `links`, the nearest last
+abbrev pub frames_of : List Tagged → Link → ℕ → List Link → ℕ → Frames
+frames_of words link top links free = record {
+  frame = frame_of (take top words) link;
+  callers = callers_of (take link.bottom words) (reverse links);
+  free = free;
+}
+
+-- with `free` words left of `total`, the frames below the one at `link` keep within the budget: each has four words beside its own
+abbrev pub AreWithin : ℕ → ℕ → Link → List Link → Type 0
+AreWithin total free link [] = Unit {0}
+AreWithin total free link (below ∷ links) =
+    IsPlaced below link.bottom
+    × (below.limit + (free + (link.limit - link.bottom) + 4) + 4 * length links ≤ total)
+    × AreWithin total (free + (link.limit - link.bottom) + 4) below links
+
+-- the frames lie in a row of `total` words, and `free` words are left; `room` is how many links were reserved
+pub record IsLaidOut (total : ℕ) (link : Link) (top : ℕ) (links : List Link) (free room : ℕ) : Type 0 where
+  pub placed : IsPlaced link top
+  pub within : link.limit + free + 4 * length links ≤ total
+  pub below : AreWithin total free link (reverse links)
+  pub reserved : total ≤ 4 * room + 3

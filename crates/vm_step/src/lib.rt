@@ -1,0 +1,6 @@
+//! Tasks: the interpreter.
+#![tactic(auto)]
+
+mod arithmetic;
+mod ending;
+mod machine;

@@ -1,0 +1,238 @@
+//! The machine: what a task runs on.
+
+use crate::arithmetic;
+use crate::ending::{Flow, Thrown};
+use cls_link::{
+    BinaryOperator, Condition, LinkedInsn, MethodId, StackOperation, UnaryOperator, ValueKind,
+};
+use vm_stack::{Stack, Word};
+
+/// A method, the index of the instruction that comes next, and the frames.
+#[derive(Drop)]
+pub struct Machine {
+    pub method: MethodId,
+    pub place: usize,
+    pub stack: Stack,
+}
+
+impl Machine {
+    ghost use Rattle.std.specs.Prelude.{◌≡◌, ◌+◌, ◌<◌, ◌^◌, length, slice_get};
+    ghost use Rattle.vm_heap.specs.Tagged.{Int};
+    ghost use Rattle.vm_stack.specs.Frames.{with_local};
+    ghost use Rattle.vm_step.specs.Machine.{act, NotStuck, Does, IsIntOnTop, IsIntLocal, pushed_on, go_on, branch};
+
+    #[inline(always)]
+    fn pop_int(&mut self) -> i32
+        requires { IsIntOnTop self.old.stack.frame.operands }
+        ensures { self.old ≡ pushed_on (Int result) self.new }
+    {
+        self.stack.pop().as_int()
+    }
+
+    #[inline(always)]
+    fn push_int(&mut self, n: i32)
+        requires { length self.old.stack.frame.operands < self.old.stack.frame.room }
+        ensures { self.new ≡ pushed_on (Int n) self.old }
+    {
+        self.stack.push(Word::int(n));
+    }
+
+    #[inline(always)]
+    fn go_on(&mut self) -> Flow
+        requires { self.old.place + 1 < 2 ^ 64 }
+        ensures { Does (go_on self.old) result self.new }
+    {
+        self.place += 1;
+        Flow::Goes
+    }
+
+    #[inline(always)]
+    fn load_int(&self, place: u16) -> i32
+        requires { IsIntLocal (slice_get self.now.stack.frame.locals place) }
+        ensures { slice_get self.now.stack.frame.locals place ≡ Some (Int result) }
+    {
+        self.stack.local(place as usize).as_int()
+    }
+
+    #[inline(always)]
+    fn store_int(&mut self, place: u16, n: i32)
+        requires { place < length self.old.stack.frame.locals }
+        ensures { self.new ≡ record self.old { stack = with_local place (Int n) self.old.stack } }
+    {
+        self.stack.set_local(place as usize, Word::int(n));
+    }
+
+    #[inline(always)]
+    fn branch(&mut self, taken: bool, target: u16) -> Flow
+        requires { self.old.place + 1 < 2 ^ 64 }
+        ensures { Does (branch taken target self.old) result self.new }
+    {
+        if taken {
+            self.place = target as usize;
+            Flow::Goes
+        } else {
+            self.go_on()
+        }
+    }
+
+    #[inline(always)]
+    fn constant(&mut self, n: i32) -> Flow
+        requires place { self.old.place + 1 < 2 ^ 64 }
+        requires fits { NotStuck (act (LinkedInsn.Constant n) self.old) }
+        ensures { Does (act (LinkedInsn.Constant n) self.old) result self.new }
+    {
+        self.push_int(n);
+        self.go_on()
+    }
+
+    #[inline(always)]
+    fn load(&mut self, place: u16) -> Flow
+        requires place { self.old.place + 1 < 2 ^ 64 }
+        requires fits { NotStuck (act (LinkedInsn.Load ValueKind.Int place) self.old) }
+        ensures { Does (act (LinkedInsn.Load ValueKind.Int place) self.old) result self.new }
+    {
+        let n = self.load_int(place);
+        self.push_int(n);
+        self.go_on()
+    }
+
+    #[inline(always)]
+    fn store(&mut self, place: u16) -> Flow
+        requires place { self.old.place + 1 < 2 ^ 64 }
+        requires fits { NotStuck (act (LinkedInsn.Store ValueKind.Int place) self.old) }
+        ensures { Does (act (LinkedInsn.Store ValueKind.Int place) self.old) result self.new }
+    {
+        let n = self.pop_int();
+        self.store_int(place, n);
+        self.go_on()
+    }
+
+    #[inline(always)]
+    fn increment(&mut self, local: u16, by: i16) -> Flow
+        requires place { self.old.place + 1 < 2 ^ 64 }
+        requires fits { NotStuck (act (LinkedInsn.Increment local by) self.old) }
+        ensures { Does (act (LinkedInsn.Increment local by) self.old) result self.new }
+    {
+        let n = self.load_int(local);
+        self.store_int(local, n.wrapping_add(by as i32));
+        self.go_on()
+    }
+
+    #[inline(always)]
+    fn pop(&mut self) -> Flow
+        requires place { self.old.place + 1 < 2 ^ 64 }
+        requires fits { NotStuck (act (LinkedInsn.Stack StackOperation.Pop) self.old) }
+        ensures { Does (act (LinkedInsn.Stack StackOperation.Pop) self.old) result self.new }
+    {
+        let _ = self.stack.pop();
+        self.go_on()
+    }
+
+    #[inline(always)]
+    fn dup(&mut self) -> Flow
+        requires place { self.old.place + 1 < 2 ^ 64 }
+        requires fits { NotStuck (act (LinkedInsn.Stack StackOperation.Dup) self.old) }
+        ensures { Does (act (LinkedInsn.Stack StackOperation.Dup) self.old) result self.new }
+    {
+        let value = self.stack.pop();
+        self.stack.push(value.copy());
+        self.stack.push(value);
+        self.go_on()
+    }
+
+    #[inline(always)]
+    fn swap(&mut self) -> Flow
+        requires place { self.old.place + 1 < 2 ^ 64 }
+        requires fits { NotStuck (act (LinkedInsn.Stack StackOperation.Swap) self.old) }
+        ensures { Does (act (LinkedInsn.Stack StackOperation.Swap) self.old) result self.new }
+    {
+        let first = self.stack.pop();
+        let second = self.stack.pop();
+        self.stack.push(first);
+        self.stack.push(second);
+        self.go_on()
+    }
+
+    #[inline(always)]
+    fn unary(&mut self, operator: UnaryOperator) -> Flow
+        requires place { self.old.place + 1 < 2 ^ 64 }
+        requires fits { NotStuck (act (LinkedInsn.Unary operator) self.old) }
+        ensures { Does (act (LinkedInsn.Unary operator) self.old) result self.new }
+    {
+        let n = self.pop_int();
+        self.push_int(arithmetic::unary(operator, n));
+        self.go_on()
+    }
+
+    #[inline(always)]
+    fn binary(&mut self, operator: BinaryOperator) -> Flow
+        requires place { self.old.place + 1 < 2 ^ 64 }
+        requires fits { NotStuck (act (LinkedInsn.Binary operator) self.old) }
+        ensures { Does (act (LinkedInsn.Binary operator) self.old) result self.new }
+    {
+        let right = self.pop_int();
+        let left = self.pop_int();
+        match arithmetic::binary(operator, left, right) {
+            Some(n) => {
+                self.push_int(n);
+                self.go_on()
+            }
+            None => Flow::Throws(Thrown::ArithmeticException),
+        }
+    }
+
+    #[inline(always)]
+    fn if_zero(&mut self, condition: Condition, target: u16) -> Flow
+        requires place { self.old.place + 1 < 2 ^ 64 }
+        requires fits { NotStuck (act (LinkedInsn.If condition target) self.old) }
+        ensures { Does (act (LinkedInsn.If condition target) self.old) result self.new }
+    {
+        let n = self.pop_int();
+        self.branch(arithmetic::holds(condition, n, 0), target)
+    }
+
+    #[inline(always)]
+    fn if_compare(&mut self, condition: Condition, target: u16) -> Flow
+        requires place { self.old.place + 1 < 2 ^ 64 }
+        requires fits { NotStuck (act (LinkedInsn.IfCompare condition target) self.old) }
+        ensures { Does (act (LinkedInsn.IfCompare condition target) self.old) result self.new }
+    {
+        let right = self.pop_int();
+        let left = self.pop_int();
+        self.branch(arithmetic::holds(condition, left, right), target)
+    }
+
+    #[inline(always)]
+    fn return_int(&mut self) -> Flow
+        requires fits { NotStuck (act (LinkedInsn.ReturnValue ValueKind.Int) self.old) }
+        ensures { Does (act (LinkedInsn.ReturnValue ValueKind.Int) self.old) result self.new }
+    {
+        Flow::ReturnsInt(self.pop_int())
+    }
+
+    /// Makes one instruction, which does not get stuck.
+    #[inline(always)]
+    pub fn hot(&mut self, insn: LinkedInsn) -> Flow
+        requires place { self.old.place + 1 < 2 ^ 64 }
+        requires fits { NotStuck (act insn self.old) }
+        ensures { Does (act insn self.old) result self.new }
+    {
+        match insn {
+            LinkedInsn::Nop => self.go_on(),
+            LinkedInsn::Constant(n) => self.constant(n),
+            LinkedInsn::Load(ValueKind::Int, place) => self.load(place),
+            LinkedInsn::Store(ValueKind::Int, place) => self.store(place),
+            LinkedInsn::Increment { local, by } => self.increment(local, by),
+            LinkedInsn::Stack(StackOperation::Pop) => self.pop(),
+            LinkedInsn::Stack(StackOperation::Dup) => self.dup(),
+            LinkedInsn::Stack(StackOperation::Swap) => self.swap(),
+            LinkedInsn::Unary(operator) => self.unary(operator),
+            LinkedInsn::Binary(operator) => self.binary(operator),
+            LinkedInsn::If { condition, target } => self.if_zero(condition, target),
+            LinkedInsn::IfCompare { condition, target } => self.if_compare(condition, target),
+            LinkedInsn::Goto { target } => self.branch(true, target),
+            LinkedInsn::ReturnValue(ValueKind::Int) => self.return_int(),
+            LinkedInsn::Return => Flow::Returns,
+        }
+    }
+}
