@@ -1,6 +1,8 @@
 //! A class of a class set.
 
-use cf_reader::{ClassFile, Row};
+ghost use Rattle.std.specs.Prelude.{◌↔◌, IsTrue};
+
+use cf_reader::{ClassFile, Flags, Row};
 
 /// A class's number in its class set: its place in the order of names by bytes, from 0.
 #[derive(Clone, Copy, Debug, PartialEq, Eq)]
@@ -16,4 +18,15 @@ pub struct Class {
     pub interfaces: Row<ClassId>,
     /// Whether it is one of the classes that stand in every set.
     pub is_built_in: bool,
+}
+
+impl Class {
+    ghost use Rattle.cls_set.specs.Classes.{IsInterface};
+
+    /// Whether it is an interface (JVMS 4.1).
+    pub fn is_interface(&self) -> bool
+        ensures { IsTrue result ↔ IsInterface self.now }
+    {
+        self.file.flags.has(Flags::INTERFACE)
+    }
 }

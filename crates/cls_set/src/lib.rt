@@ -3,9 +3,14 @@
 #![tactic(auto)]
 
 pub use cf_reader::{
-    ClassFile, Code, ElementType, Field, FieldType, Flags, Method, MethodDescriptor, Numbered, Pool,
-    Row, Text,
+    ClassFile, Code, ElementType, Field, FieldType, Flags, Method, MethodDescriptor, Numbered,
+    Pool, Row, Text,
 };
 pub use class::{Class, ClassId};
+pub use class_set::ClassSet;
+pub use fault::{SetFault, SetRule};
 
 mod class;
+mod class_set;
+mod fault;
+mod members;

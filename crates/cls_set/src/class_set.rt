@@ -1,0 +1,102 @@
+//! Class sets: their look-ups.
+
+use super::members::{Member, find, is_below, leads_to};
+use super::{Class, ClassId, SetFault};
+use cf_reader::{ClassFile, Text};
+use std::alloc::Global;
+use std::marker::Model;
+
+/// Classes in the order of their names, with the built-in ones. A contract sees it as the list of its
+/// classes: the class with number k is item k.
+#[derive(Debug, Drop)]
+pub struct ClassSet {
+    members: Vec<Member>,
+}
+
+impl Model for ClassSet {
+    ghost use Rattle.std.specs.Prelude.{List};
+    ghost use Rattle.cls_set.specs.declared.class.Class.{Class};
+
+    ghost Value = { List Class };
+
+    ghost use Rattle.cls_set.specs.Members.{classes_of, AreMembers};
+
+    ghost view = { λ set. classes_of set.members.items };
+
+    ghost invariant = { λ set. AreMembers set.members.items };
+}
+
+impl ClassSet {
+    ghost use Rattle.std.specs.Prelude.{◌≡◌, ◌<◌, ◌↔◌, Some, IsTrue, IfOk, length, slice_get};
+    ghost use Rattle.cls_set.specs.Classes.{name_at, number_of};
+    ghost use Rattle.cls_set.specs.Sets.{HasClasses, IsClassSet};
+    ghost use Rattle.cls_set.specs.Subtypes.{IsRemote, IsSubclass, IsSubtype};
+
+    /// The set of the files' classes and the built-in ones.
+    pub fn build(alloc: Global, files: Vec<ClassFile>) -> Result<ClassSet, SetFault>
+        ensures set { IfOk result (λ set. IsClassSet set) }
+        ensures classes { IfOk result (λ set. HasClasses files.items set) }
+    {
+        let _ = (alloc, files);
+        Err(SetFault::Memory)
+    }
+
+    /// How many classes it has.
+    pub fn len(&self) -> usize
+        ensures count { result ≡ length self.now }
+        ensures set { IsClassSet self.now }
+    {
+        self.members.len()
+    }
+
+    /// The class with this number.
+    pub fn class(&self, class: ClassId) -> &Class
+        requires { class.0 < length self.now }
+        ensures { slice_get self.now class.0 ≡ Some result.now }
+    {
+        &self.members[usize::from(class.0)].class
+    }
+
+    /// Its name.
+    pub fn name(&self, class: ClassId) -> &Text
+        requires { class.0 < length self.now }
+        ensures { name_at self.now class ≡ Some result.now }
+    {
+        &self.class(class).file.name
+    }
+
+    /// The number of the class of this name: `None` where there is none in the set.
+    pub fn number(&self, name: &[u8]) -> Option<ClassId>
+        ensures { result ≡ number_of self.now name.now }
+    {
+        find(&self.members, name)
+    }
+
+    /// Whether a class is another or a subclass of it.
+    pub fn is_subclass(&self, sub: ClassId, sup: ClassId) -> bool
+        requires { sub.0 < length self.now }
+        ensures { IsTrue result ↔ IsSubclass self.now sub sup }
+    {
+        is_below(&self.members, sub, sup)
+    }
+
+    /// Whether a class or interface is a subtype of an interface.
+    pub fn implements(&self, class: ClassId, interface: ClassId) -> bool
+        requires { class.0 < length self.now }
+        ensures { IsTrue result ↔ IsSubtype self.now class interface }
+    {
+        leads_to(&self.members, class, interface)
+    }
+
+    /// Whether a class is remote: a class, not an interface, that implements java/rmi/Remote (Java RMI
+    /// specification, 2.4).
+    pub fn is_remote(&self, class: ClassId) -> bool
+        requires { class.0 < length self.now }
+        ensures { IsTrue result ↔ IsRemote self.now class }
+    {
+        match self.number(b"java/rmi/Remote") {
+            Some(remote) => !self.class(class).is_interface() && self.implements(class, remote),
+            None => false,
+        }
+    }
+}

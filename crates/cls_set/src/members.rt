@@ -1,0 +1,67 @@
+//! How a class set keeps its classes: in the order of their names, each with a rank above those of
+//! its direct supertypes, so that every walk up ends.
+
+ghost use Rattle.std.specs.Prelude.{◌≡◌, ◌<◌, ◌≤◌, ◌↔◌, All, IsTrue, length};
+ghost use Rattle.std.specs.List.Sorted.{IsStrictlySortedBy};
+ghost use Rattle.cls_set.specs.Classes.{name_cmp, names, number_of};
+ghost use Rattle.cls_set.specs.Members.{classes_of, IsRanked};
+ghost use Rattle.cls_set.specs.Subtypes.{IsSubclass, IsSubtype};
+
+use super::{Class, ClassId};
+
+// A class, and a number that is above those of its direct supertypes.
+#[derive(Debug, Drop)]
+pub(crate) struct Member {
+    pub(crate) class: Class,
+    pub(crate) rank: u16,
+}
+
+// The number of the class of this name.
+pub(crate) fn find(members: &[Member], name: &[u8]) -> Option<ClassId>
+    requires ordered { IsStrictlySortedBy name_cmp (names (classes_of members.now)) }
+    requires few { length members.now ≤ 4096 }
+    ensures { result ≡ number_of (classes_of members.now) name.now }
+{
+    match members.binary_search_by(|member| member.class.file.name.as_bytes().cmp(name)) {
+        Ok(index) => Some(ClassId(index as u16)),
+        Err(_) => None,
+    }
+}
+
+// Whether a class is another or a subclass of it.
+pub(crate) fn is_below(members: &[Member], sub: ClassId, sup: ClassId) -> bool
+    requires ranked { All (IsRanked members.now) members.now }
+    requires in_set { sub.0 < length members.now }
+    ensures { IsTrue result ↔ IsSubclass (classes_of members.now) sub sup }
+{
+    let mut class = sub;
+    'up: while class != sup {
+        let member = &members[usize::from(class.0)];
+        match member.class.superclass {
+            None => return false,
+            Some(superclass) => class = superclass,
+        }
+    }
+    true
+}
+
+// Whether a class or interface is a subtype of another.
+pub(crate) fn leads_to(members: &[Member], sub: ClassId, sup: ClassId) -> bool
+    requires ranked { All (IsRanked members.now) members.now }
+    requires in_set { sub.0 < length members.now }
+    ensures { IsTrue result ↔ IsSubtype (classes_of members.now) sub sup }
+{
+    if sub == sup {
+        return true;
+    }
+    let class = &members[usize::from(sub.0)].class;
+    'superinterfaces: for superinterface in class.interfaces.as_slice() {
+        if leads_to(members, *superinterface, sup) {
+            return true;
+        }
+    }
+    match class.superclass {
+        None => false,
+        Some(superclass) => leads_to(members, superclass, sup),
+    }
+}
