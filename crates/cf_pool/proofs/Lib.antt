@@ -1,2 +1,4 @@
 pub mod Loops
 pub mod Parameters
+pub mod Cells
+pub mod Verdicts

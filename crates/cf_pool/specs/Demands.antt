@@ -1,5 +1,5 @@
 -- What is demanded of a file whose layout is known, in order.
-use Rattle.std.specs.Prelude.{ℕ, Bool, true, false, List, [], ◌∷◌, Option, Some, None, Result, Ok, Err}
+use Rattle.std.specs.Prelude.{ℕ, ◌+◌, Bool, true, false, List, [], ◌∷◌, ◌++◌, Option, Some, None, Result, Ok, Err, if◌then◌else◌}
 use Rattle.cf_pool.specs.declared.fault.Rule.{Rule}
 use Rattle.cf_pool.specs.declared.fault.ReadFault.{ReadFault}
 use Rattle.cf_pool.specs.declared.fault.ReadFault.TheVariants.{Broken}
@@ -13,13 +13,14 @@ pub record Demand : Type 0 where
 -- the first demand that does not hold, as a fault
 unfoldable pub verdict : List Demand → Result (Unit {0}) ReadFault
 verdict [] = Ok tt
-verdict (demand ∷ demands) = judged demand.holds demand (verdict demands)
-  where
-    judged : Bool → Demand → Result (Unit {0}) ReadFault → Result (Unit {0}) ReadFault
-    judged true demand rest = rest
-    judged false demand rest = Err (Broken demand.rule demand.at)
+verdict (demand ∷ demands) = if demand.holds then verdict demands else Err (Broken demand.rule demand.at)
 
 -- a test of a value, which holds where there is none
 abbrev pub where_some : {A : Type 0} → (A → Bool) → Option A → Bool
 where_some test (Some x) = test x
 where_some test None = true
+
+-- the demands of each item of a list, by its index, from an index on
+unfoldable pub of_each : {A : Type 0} → (ℕ → A → List Demand) → ℕ → List A → List Demand
+of_each demands index [] = []
+of_each demands index (item ∷ items) = demands index item ++ of_each demands (index + 1) items

@@ -9,16 +9,16 @@ use Rattle.cf_pool.specs.declared.pool.MemberKind.{MemberKind}
 use Rattle.cf_pool.specs.declared.pool.MemberKind.TheVariants as kinds
 use Rattle.cf_pool.specs.declared.pool.Entry.{Entry}
 use Rattle.cf_pool.specs.declared.pool.Entry.TheVariants.{Utf8, Integer, Class, Member, NameAndType, Other, Unusable}
-use Rattle.cf_pool.specs.declared.entries.Shape.{Shape}
-use Rattle.cf_pool.specs.declared.entries.Shape.TheVariants as shapes
-use Rattle.cf_pool.specs.declared.entries.Places.{Places}
-use Rattle.cf_pool.specs.declared.entries.PlacedEntry.{PlacedEntry}
-use Rattle.cf_pool.specs.declared.entries.PoolLayout.{PoolLayout}
+use Rattle.cf_pool.specs.declared.layout.Shape.{Shape}
+use Rattle.cf_pool.specs.declared.layout.Shape.TheVariants as shapes
+use Rattle.cf_pool.specs.declared.layout.Places.{Places}
+use Rattle.cf_pool.specs.declared.layout.PlacedEntry.{PlacedEntry}
+use Rattle.cf_pool.specs.declared.layout.PoolLayout.{PoolLayout}
 use Rattle.cf_pool.specs.Reading.{◌>>=◌}
 use Rattle.cf_pool.specs.Numbers.{bytes_at, number_at, signed_at, skip_at}
-use Rattle.cf_pool.specs.Demands.{Demand, where_some}
+use Rattle.cf_pool.specs.Demands.{Demand, of_each, where_some}
 use Rattle.cf_pool.specs.Names.{is_class_name, is_name}
-use Rattle.cf_pool.specs.Types.{begins_with}
+use Rattle.cf_pool.specs.Types.{begins_with, is_field_descriptor}
 use Rattle.cf_pool.specs.Utf8.{is_modified_utf8}
 
 -- ---- what an index names
@@ -110,3 +110,143 @@ member_at pool index =
     option_and_then (λ class.
     option_and_then (λ named. Some (record { kind = indices.0; class = class; name = named.name; descriptor = named.descriptor })) (name_and_type_at pool indices.2)) (class_at pool indices.1))
     (option_and_then as_member (slice_get pool index))
+
+-- ---- how entries are read
+
+-- what stands behind a tag
+unfoldable pub shape_of : ℕ → Option Shape
+shape_of tag =
+    if tag == 1 then Some shapes.Utf8 else if tag == 3 then Some shapes.Integer else if tag == 4 then Some (shapes.Skipped 4)
+    else if tag == 5 then Some shapes.Wide else if tag == 6 then Some shapes.Wide else if tag == 7 then Some shapes.Class
+    else if tag == 8 then Some (shapes.Skipped 2) else if tag == 9 then Some (shapes.Member kinds.Field)
+    else if tag == 10 then Some (shapes.Member kinds.Method) else if tag == 11 then Some (shapes.Member kinds.InterfaceMethod)
+    else if tag == 12 then Some shapes.NameAndType else if tag == 15 then Some (shapes.Skipped 3)
+    else if tag == 16 then Some (shapes.Skipped 2) else if tag == 18 then Some (shapes.Skipped 4) else None
+
+-- a text: its length, and its bytes
+unfoldable pub text_entry : List ℕ → ℕ → Result (PlacedEntry × ℕ) ReadFault
+text_entry bytes at = do
+  length ← number_at 2 bytes at
+  text ← bytes_at length.0 bytes length.1
+  Ok (record { entry = Utf8 text.0; places = record { first = at; second = length.1 }; is_wide = false }, text.1)
+
+unfoldable pub integer_entry : List ℕ → ℕ → Result (PlacedEntry × ℕ) ReadFault
+integer_entry bytes at = do
+  value ← signed_at bytes at
+  Ok (record { entry = Integer value.0; places = record { first = at; second = value.1 }; is_wide = false }, value.1)
+
+unfoldable pub class_entry : List ℕ → ℕ → Result (PlacedEntry × ℕ) ReadFault
+class_entry bytes at = do
+  name ← number_at 2 bytes at
+  Ok (record { entry = Class name.0; places = record { first = at; second = name.1 }; is_wide = false }, name.1)
+
+unfoldable pub member_entry : MemberKind → List ℕ → ℕ → Result (PlacedEntry × ℕ) ReadFault
+member_entry kind bytes at = do
+  class ← number_at 2 bytes at
+  named ← number_at 2 bytes class.1
+  Ok (record { entry = Member kind class.0 named.0; places = record { first = at; second = class.1 }; is_wide = false }, named.1)
+
+unfoldable pub name_and_type_entry : List ℕ → ℕ → Result (PlacedEntry × ℕ) ReadFault
+name_and_type_entry bytes at = do
+  name ← number_at 2 bytes at
+  descriptor ← number_at 2 bytes name.1
+  Ok (record { entry = NameAndType name.0 descriptor.0; places = record { first = at; second = name.1 }; is_wide = false }, descriptor.1)
+
+-- so many bytes that are one item and are not looked at
+unfoldable pub skipped_entry : ℕ → Bool → List ℕ → ℕ → Result (PlacedEntry × ℕ) ReadFault
+skipped_entry length wide bytes at = do
+  to ← skip_at length bytes at
+  Ok (record { entry = Other; places = record { first = at; second = to }; is_wide = wide }, to)
+
+-- what stands behind a tag of a shape
+unfoldable pub shaped_entry : Shape → List ℕ → ℕ → Result (PlacedEntry × ℕ) ReadFault
+shaped_entry shapes.Utf8 bytes at = text_entry bytes at
+shaped_entry shapes.Integer bytes at = integer_entry bytes at
+shaped_entry shapes.Class bytes at = class_entry bytes at
+shaped_entry (shapes.Member kind) bytes at = member_entry kind bytes at
+shaped_entry shapes.NameAndType bytes at = name_and_type_entry bytes at
+shaped_entry (shapes.Skipped length) bytes at = skipped_entry length false bytes at
+shaped_entry shapes.Wide bytes at = skipped_entry 8 true bytes at
+
+-- A tag's shape. An entry of two indices does not stand last.
+unfoldable pub tagged : Bool → ℕ → Option Shape → Result Shape ReadFault
+tagged last at None = Err (Broken rules.Tag at)
+tagged last at (Some shapes.Wide) = if last then Err (Broken rules.Index at) else Ok shapes.Wide
+tagged last at (Some shapes.Utf8) = Ok shapes.Utf8
+tagged last at (Some shapes.Integer) = Ok shapes.Integer
+tagged last at (Some shapes.Class) = Ok shapes.Class
+tagged last at (Some (shapes.Member kind)) = Ok (shapes.Member kind)
+tagged last at (Some shapes.NameAndType) = Ok shapes.NameAndType
+tagged last at (Some (shapes.Skipped length)) = Ok (shapes.Skipped length)
+
+-- an entry: its tag, and what stands behind it
+unfoldable pub entry_from : Bool → List ℕ → ℕ → Result (PlacedEntry × ℕ) ReadFault
+entry_from last bytes at = do
+  tag ← number_at 1 bytes at
+  shape ← tagged last at (shape_of tag.0)
+  shaped_entry shape bytes tag.1
+
+-- what stands at an index: nothing at index 0 and behind an entry of two indices, where `taken`
+unfoldable pub cell_from : Bool → Bool → List ℕ → ℕ → Result (PlacedEntry × ℕ) ReadFault
+cell_from true last bytes at = Ok (record { entry = Unusable; places = record { first = at; second = at }; is_wide = false }, at)
+cell_from false last bytes at = entry_from last bytes at
+
+-- so many indices of a pool
+unfoldable pub cells_from : ℕ → Bool → List ℕ → ℕ → Result (PoolLayout × ℕ) ReadFault
+cells_from zero taken bytes at = Ok (record { pool = []; places = [] }, at)
+cells_from (suc n) taken bytes at = do
+  first ← cell_from taken (n == 0) bytes at
+  others ← cells_from n first.0.is_wide bytes first.1
+  Ok (record { pool = first.0.entry ∷ others.0.pool; places = first.0.places ∷ others.0.places }, others.1)
+
+-- a pool: its count, and so many indices
+unfoldable pub layout_from : List ℕ → ℕ → Result (PoolLayout × ℕ) ReadFault
+layout_from bytes at = do
+  count ← number_at 2 bytes at
+  if count.0 == 0 then Err (Broken rules.Index at) else cells_from count.0 true bytes count.1
+
+unfoldable pub pool_from : List ℕ → ℕ → Result (List Entry × ℕ) ReadFault
+pool_from bytes at = do
+  layout ← layout_from bytes at
+  Ok (layout.0.pool, layout.1)
+
+-- ---- what is demanded of entries
+
+-- a name in a Class entry: a class's, or the descriptor of an array
+unfoldable pub is_class_entry_name : List ℕ → Bool
+is_class_entry_name text = if begins_with 91 text then is_field_descriptor text else is_class_name text
+
+-- an index names an entry of the kind that is asked, and what it names passes a test
+unfoldable pub named : {A : Type 0} → ℕ → Option A → (A → Bool) → List Demand
+named at found test =
+    record { at = at; rule = rules.Utf8; holds = where_some test found }
+    ∷ record { at = at; rule = rules.Index; holds = is_some found } ∷ []
+
+-- an index names an entry of the kind that is asked
+unfoldable pub indexed : {A : Type 0} → ℕ → Option A → List Demand
+indexed at found = record { at = at; rule = rules.Index; holds = is_some found } ∷ []
+
+-- the demands of an entry: a text is modified UTF-8, and what an index names is of its kind
+unfoldable pub entry_demands : List Entry → Entry → Places → List Demand
+entry_demands pool (Utf8 text) places = record { at = places.second; rule = rules.Utf8; holds = is_modified_utf8 text } ∷ []
+entry_demands pool (Class name) places = named places.first (utf8_at pool name) is_class_entry_name
+entry_demands pool (Member kind class name_and_type) places =
+    indexed places.first (option_and_then as_class (slice_get pool class))
+    ++ indexed places.second (option_and_then as_name_and_type (slice_get pool name_and_type))
+entry_demands pool (NameAndType name descriptor) places =
+    named places.first (utf8_at pool name) is_name ++ indexed places.second (utf8_at pool descriptor)
+entry_demands pool (Integer n) places = []
+entry_demands pool Other places = []
+entry_demands pool Unusable places = []
+
+-- the demands of the entry at an index
+unfoldable pub index_demands : List Entry → ℕ → Places → List Demand
+index_demands pool index places = of_some (slice_get pool index)
+  where
+    of_some : Option Entry → List Demand
+    of_some None = []
+    of_some (Some entry) = entry_demands pool entry places
+
+-- the demands of a pool
+unfoldable pub pool_demands : PoolLayout → List Demand
+pool_demands layout = of_each (index_demands layout.pool) 0 layout.places

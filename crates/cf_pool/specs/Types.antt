@@ -1,6 +1,6 @@
 -- Descriptors (JVMS 4.3), read from the front of a text: what is read, and the text behind it. A fault
 -- is at the place where the text is used.
-use Rattle.std.specs.Prelude.{ℕ, zero, suc, Bool, true, false, ◌==◌, ◌&&◌, ◌+◌, ◌*◌, not, nat_lt, List, [], ◌∷◌, length, take, drop, Option, Some, None, Result, Ok, Err, if◌then◌else◌}
+use Rattle.std.specs.Prelude.{ℕ, zero, suc, Bool, true, false, ◌==◌, ◌&&◌, ◌+◌, ◌*◌, not, nat_lt, List, [], ◌∷◌, length, take, drop, Option, Some, None, Result, Ok, Err, is_ok, if◌then◌else◌}
 use Rattle.cf_pool.specs.declared.fault.ReadFault.{ReadFault}
 use Rattle.cf_pool.specs.declared.fault.ReadFault.TheVariants.{Broken}
 use Rattle.cf_pool.specs.declared.fault.Rule.{Rule}
@@ -105,3 +105,7 @@ descriptor_in text = found (descriptor_of text)
     found : Result Descriptor ReadFault → Option Descriptor
     found (Ok descriptor) = Some descriptor
     found (Err fault) = None
+
+-- a text is a field descriptor
+unfoldable pub is_field_descriptor : List ℕ → Bool
+is_field_descriptor text = is_ok (field_descriptor_of 0 text)

@@ -46,7 +46,7 @@ fn name_length(text: &[u8]) -> usize
 }
 
 // Whether a text begins with a byte.
-fn begins_with(text: &[u8], byte: u8) -> bool
+pub(crate) fn begins_with(text: &[u8], byte: u8) -> bool
     ensures value { result ≡ begins_with byte text.now }
     ensures some { IsTrue result → 0 < length text.now }
 {

@@ -1,36 +1,237 @@
-//! Reading a constant pool: first the entries and where they stand, then what they say.
+//! Reading a constant pool: its entries, and where they stand.
 
-use super::{Entry, MemberKind, Pool, Row};
-/// What stands behind a tag (JVMS 4.4, table 4.4-A).
-#[derive(Clone, Copy, Debug, PartialEq, Eq)]
-pub(crate) enum Shape {
-    Utf8,
-    Integer,
-    Class,
-    Member(MemberKind),
-    NameAndType,
-    /// So many bytes that are not looked at.
-    Skipped(usize),
-    /// A Long or a Double: eight bytes, and two indices.
-    Wide,
+ghost use Rattle.std.specs.Prelude.{◌≡◌, true};
+ghost use Rattle.cf_pool.specs.Reading.{Gives};
+ghost use Rattle.cf_pool.specs.Pools.{cell_from, cells_from, class_entry, entry_from, integer_entry, layout_from, member_entry, name_and_type_entry, pool_from, shape_of, shaped_entry, skipped_entry, tagged, text_entry};
+
+use super::layout::{PlacedEntry, Shape};
+use super::{
+    Entry, MemberKind, Places, Pool, PoolLayout, ReadFault, Row, Rule, read_i32, read_text,
+    read_u8, read_u16, skip,
+};
+use std::alloc::Global;
+
+#[tactic(auto, unfolding(crate::specs::Pools::shape_of))]
+fn shape_of(tag: u8) -> Option<Shape>
+    ensures { result ≡ shape_of tag }
+{
+    match tag {
+        1 => Some(Shape::Utf8),
+        3 => Some(Shape::Integer),
+        5 | 6 => Some(Shape::Wide),
+        7 => Some(Shape::Class),
+        9 => Some(Shape::Member(MemberKind::Field)),
+        10 => Some(Shape::Member(MemberKind::Method)),
+        11 => Some(Shape::Member(MemberKind::InterfaceMethod)),
+        12 => Some(Shape::NameAndType),
+        8 | 16 => Some(Shape::Skipped(2)),
+        15 => Some(Shape::Skipped(3)),
+        4 | 18 => Some(Shape::Skipped(4)),
+        _ => None,
+    }
 }
 
-/// Where an entry stands: the place behind its tag, and the place behind the first item there.
-#[derive(Clone, Copy, Debug, PartialEq, Eq)]
-pub struct Places {
-    pub first: usize,
-    pub second: usize,
+#[tactic(auto, unfolding(crate::specs::Pools::text_entry))]
+fn text_entry(alloc: Global, bytes: &[u8], at: usize) -> Result<(PlacedEntry, usize), ReadFault>
+    ensures { Gives (text_entry bytes.now at) result }
+{
+    let (length, second) = read_u16(bytes, at)?;
+    let (text, to) = read_text(alloc, bytes, second, length as usize)?;
+    Ok((PlacedEntry::new(Entry::Utf8(text), at, second), to))
 }
 
-#[derive(Debug, Drop)]
-pub(crate) struct PlacedEntry {
-    pub entry: Entry,
-    pub places: Places,
-    pub is_wide: bool,
+#[tactic(auto, unfolding(crate::specs::Pools::integer_entry))]
+fn integer_entry(bytes: &[u8], at: usize) -> Result<(PlacedEntry, usize), ReadFault>
+    ensures { Gives (integer_entry bytes.now at) result }
+{
+    let (value, to) = read_i32(bytes, at)?;
+    Ok((PlacedEntry::new(Entry::Integer(value), at, to), to))
 }
 
-#[derive(Debug, Drop)]
-pub struct PoolLayout {
-    pub pool: Pool,
-    pub places: Row<Places>,
+#[tactic(auto, unfolding(crate::specs::Pools::class_entry))]
+fn class_entry(bytes: &[u8], at: usize) -> Result<(PlacedEntry, usize), ReadFault>
+    ensures { Gives (class_entry bytes.now at) result }
+{
+    let (name, to) = read_u16(bytes, at)?;
+    Ok((PlacedEntry::new(Entry::Class { name }, at, to), to))
+}
+
+#[tactic(auto, unfolding(crate::specs::Pools::member_entry))]
+fn member_entry(
+    kind: MemberKind,
+    bytes: &[u8],
+    at: usize,
+) -> Result<(PlacedEntry, usize), ReadFault>
+    ensures { Gives (member_entry kind bytes.now at) result }
+{
+    let (class, second) = read_u16(bytes, at)?;
+    let (name_and_type, to) = read_u16(bytes, second)?;
+    let entry = Entry::Member {
+        kind,
+        class,
+        name_and_type,
+    };
+    Ok((PlacedEntry::new(entry, at, second), to))
+}
+
+#[tactic(auto, unfolding(crate::specs::Pools::name_and_type_entry))]
+fn name_and_type_entry(bytes: &[u8], at: usize) -> Result<(PlacedEntry, usize), ReadFault>
+    ensures { Gives (name_and_type_entry bytes.now at) result }
+{
+    let (name, second) = read_u16(bytes, at)?;
+    let (descriptor, to) = read_u16(bytes, second)?;
+    Ok((
+        PlacedEntry::new(Entry::NameAndType { name, descriptor }, at, second),
+        to,
+    ))
+}
+
+#[tactic(auto, unfolding(crate::specs::Pools::skipped_entry))]
+fn skipped_entry(
+    len: usize,
+    is_wide: bool,
+    bytes: &[u8],
+    at: usize,
+) -> Result<(PlacedEntry, usize), ReadFault>
+    ensures { Gives (skipped_entry len is_wide bytes.now at) result }
+{
+    let to = skip(bytes, at, len)?;
+    let places = Places {
+        first: at,
+        second: to,
+    };
+    Ok((
+        PlacedEntry {
+            entry: Entry::Other,
+            places,
+            is_wide,
+        },
+        to,
+    ))
+}
+
+#[tactic(auto, unfolding(crate::specs::Pools::shaped_entry))]
+fn shaped_entry(
+    alloc: Global,
+    shape: Shape,
+    bytes: &[u8],
+    at: usize,
+) -> Result<(PlacedEntry, usize), ReadFault>
+    ensures { Gives (shaped_entry shape bytes.now at) result }
+{
+    match shape {
+        Shape::Utf8 => text_entry(alloc, bytes, at),
+        Shape::Integer => integer_entry(bytes, at),
+        Shape::Class => class_entry(bytes, at),
+        Shape::Member(kind) => member_entry(kind, bytes, at),
+        Shape::NameAndType => name_and_type_entry(bytes, at),
+        Shape::Skipped(len) => skipped_entry(len, false, bytes, at),
+        Shape::Wide => skipped_entry(8, true, bytes, at),
+    }
+}
+
+// A tag's shape. An entry of two indices does not stand last.
+#[tactic(auto, unfolding(crate::specs::Pools::tagged))]
+fn tagged(tag: u8, is_last: bool, at: usize) -> Result<Shape, ReadFault>
+    ensures { result ≡ tagged is_last at (shape_of tag) }
+{
+    match shape_of(tag) {
+        None => Err(ReadFault::Broken {
+            rule: Rule::Tag,
+            at,
+        }),
+        Some(Shape::Wide) if is_last => Err(ReadFault::Broken {
+            rule: Rule::Index,
+            at,
+        }),
+        Some(shape) => Ok(shape),
+    }
+}
+
+#[tactic(auto, unfolding(crate::specs::Pools::entry_from))]
+fn entry_from(
+    alloc: Global,
+    is_last: bool,
+    bytes: &[u8],
+    at: usize,
+) -> Result<(PlacedEntry, usize), ReadFault>
+    ensures { Gives (entry_from is_last bytes.now at) result }
+{
+    let (tag, body) = read_u8(bytes, at)?;
+    let shape = tagged(tag, is_last, at)?;
+    shaped_entry(alloc, shape, bytes, body)
+}
+
+// What stands at an index: nothing at index 0, and behind an entry of two indices.
+#[tactic(auto, unfolding(crate::specs::Pools::cell_from))]
+fn cell_from(
+    alloc: Global,
+    is_taken: bool,
+    is_last: bool,
+    bytes: &[u8],
+    at: usize,
+) -> Result<(PlacedEntry, usize), ReadFault>
+    ensures { Gives (cell_from is_taken is_last bytes.now at) result }
+{
+    if is_taken {
+        return Ok((PlacedEntry::new(Entry::Unusable, at, at), at));
+    }
+    entry_from(alloc, is_last, bytes, at)
+}
+
+fn cells_from(
+    alloc: Global,
+    count: u16,
+    bytes: &[u8],
+    at: usize,
+) -> Result<(PoolLayout, usize), ReadFault>
+    ensures { Gives (cells_from count true bytes.now at) result }
+{
+    let mut entries = Vec::new(alloc);
+    let mut places = Vec::new(alloc);
+    let mut place = at;
+    let mut is_taken = true;
+    for index in 0..count {
+        let is_last = index == count - 1;
+        let (cell, after) = cell_from(alloc, is_taken, is_last, bytes, place)?;
+        entries.push(cell.entry)?;
+        places.push(cell.places)?;
+        is_taken = cell.is_wide;
+        place = after;
+    }
+    Ok((
+        PoolLayout {
+            pool: Pool::new(entries),
+            places: Row::new(places),
+        },
+        place,
+    ))
+}
+
+/// The constant pool from its count at `at` on, with the places of its entries, and the place behind
+/// it. A cut item is Truncated at its first byte, an unknown tag is Tag, and a count of 0, or a Long
+/// or Double with no second index, is Index: the first of these in the order of bytes. Texts and the
+/// entries' own indices are not looked at: that is for `PoolLayout::check`.
+#[tactic(auto, unfolding(crate::specs::Pools::layout_from))]
+pub fn read_layout(alloc: Global, bytes: &[u8], at: usize) -> Result<(PoolLayout, usize), ReadFault>
+    ensures { Gives (layout_from bytes.now at) result }
+{
+    let (count, first) = read_u16(bytes, at)?;
+    if count == 0 {
+        return Err(ReadFault::Broken {
+            rule: Rule::Index,
+            at,
+        });
+    }
+    cells_from(alloc, count, bytes, first)
+}
+
+/// The constant pool from its count at `at` on, and the place behind it. The faults are those of
+/// `read_layout`.
+#[tactic(auto, unfolding(crate::specs::Pools::pool_from))]
+pub fn read_pool(alloc: Global, bytes: &[u8], at: usize) -> Result<(Pool, usize), ReadFault>
+    ensures { Gives (pool_from bytes.now at) result }
+{
+    let (layout, to) = read_layout(alloc, bytes, at)?;
+    Ok((layout.pool, to))
 }

@@ -1,6 +1,6 @@
 //! The constant pool (JVMS 4.4): its entries by index.
 
-ghost use Rattle.std.specs.Prelude.{◌≡◌, slice_get};
+ghost use Rattle.std.specs.Prelude.{◌≡◌, is_some, slice_get};
 
 use super::Text;
 use std::marker::Model;
@@ -70,8 +70,8 @@ pub struct MemberRef<'a> {
 }
 
 impl Pool {
-    ghost use Rattle.std.specs.Option.{option_copied, option_map};
-    ghost use Rattle.cf_pool.specs.Pools.{class_at, integer_at, member_at, name_and_type_at, utf8_at};
+    ghost use Rattle.std.specs.Option.{option_and_then, option_copied, option_map};
+    ghost use Rattle.cf_pool.specs.Pools.{as_class, as_name_and_type, class_at, integer_at, member_at, name_and_type_at, utf8_at};
     ghost use Rattle.cf_pool.specs.PoolRefs.{named_member, named_type};
 
     /// The pool of these entries by index, from index 0 on. It takes no memory.
@@ -82,10 +82,24 @@ impl Pool {
     }
 
     // The entry at an index: none past the end.
-    fn entry(&self, index: u16) -> Option<&Entry>
+    pub(crate) fn entry(&self, index: usize) -> Option<&Entry>
         ensures { option_copied result ≡ slice_get self.now index }
     {
-        self.entries.get(index as usize)
+        self.entries.get(index)
+    }
+
+    // Whether an index names a Class entry.
+    pub(crate) fn is_class(&self, index: u16) -> bool
+        ensures { result ≡ is_some (option_and_then as_class (slice_get self.now index)) }
+    {
+        matches!(self.entry(index as usize), Some(Entry::Class { .. }))
+    }
+
+    // Whether an index names a NameAndType entry.
+    pub(crate) fn is_name_and_type(&self, index: u16) -> bool
+        ensures { result ≡ is_some (option_and_then as_name_and_type (slice_get self.now index)) }
+    {
+        matches!(self.entry(index as usize), Some(Entry::NameAndType { .. }))
     }
 
     /// The text of a Utf8 entry: `None` exactly where the index names no such entry.
@@ -93,7 +107,7 @@ impl Pool {
     pub fn utf8(&self, index: u16) -> Option<&Text>
         ensures { option_copied result ≡ utf8_at self.now index }
     {
-        match self.entry(index) {
+        match self.entry(index as usize) {
             Some(Entry::Utf8(text)) => Some(text),
             _ => None,
         }
@@ -104,7 +118,7 @@ impl Pool {
     pub fn integer(&self, index: u16) -> Option<i32>
         ensures { result ≡ integer_at self.now index }
     {
-        match self.entry(index) {
+        match self.entry(index as usize) {
             Some(Entry::Integer(value)) => Some(*value),
             _ => None,
         }
@@ -116,7 +130,7 @@ impl Pool {
     pub fn class(&self, index: u16) -> Option<&Text>
         ensures { option_copied result ≡ class_at self.now index }
     {
-        match self.entry(index) {
+        match self.entry(index as usize) {
             Some(Entry::Class { name }) => self.utf8(*name),
             _ => None,
         }
@@ -128,7 +142,7 @@ impl Pool {
     pub fn name_and_type(&self, index: u16) -> Option<NameAndTypeRef<'_>>
         ensures { option_map named_type result ≡ name_and_type_at self.now index }
     {
-        let Some(Entry::NameAndType { name, descriptor }) = self.entry(index) else {
+        let Some(Entry::NameAndType { name, descriptor }) = self.entry(index as usize) else {
             return None;
         };
         let name = self.utf8(*name)?;
@@ -148,7 +162,7 @@ impl Pool {
                 class,
                 name_and_type,
             },
-        ) = self.entry(index)
+        ) = self.entry(index as usize)
         else {
             return None;
         };

@@ -1,0 +1,140 @@
+//! What is demanded of a constant pool once it is read (JVMS 4.4): texts are modified UTF-8, and each
+//! index names an entry of the kind that is asked.
+
+ghost use Rattle.std.specs.Prelude.{◌≡◌, [], ◌∷◌, ◌++◌, IfErr, IfOk, is_some, slice_get};
+ghost use Rattle.std.specs.Option.{option_and_then};
+ghost use Rattle.cf_pool.specs.Reading.{Gives};
+ghost use Rattle.cf_pool.specs.Demands.{verdict};
+ghost use Rattle.cf_pool.specs.Names.{is_name};
+ghost use Rattle.cf_pool.specs.Types.{is_field_descriptor};
+ghost use Rattle.cf_pool.specs.Utf8.{is_modified_utf8};
+ghost use Rattle.cf_pool.specs.Pools.{as_class, as_name_and_type, entry_demands, index_demands, indexed, is_class_entry_name, named, pool_demands, utf8_at};
+
+use super::descriptors::begins_with;
+use super::{
+    Entry, Places, Pool, PoolLayout, ReadFault, Rule, is_class_name, is_modified_utf8, is_name,
+    read_field_descriptor,
+};
+use std::alloc::Global;
+
+/// The item at a place keeps a rule, or is a fault.
+#[tactic(auto, unfolding(crate::specs::Demands::verdict))]
+pub fn demand(holds: bool, rule: Rule, at: usize) -> Result<(), ReadFault>
+    ensures { result ≡ verdict (record { at = at; rule = rule; holds = holds } ∷ []) }
+{
+    if holds {
+        Ok(())
+    } else {
+        Err(ReadFault::Broken { rule, at })
+    }
+}
+
+#[tactic(auto, unfolding(crate::specs::Types::is_field_descriptor))]
+fn is_field_descriptor(alloc: Global, text: &[u8]) -> Result<bool, ReadFault>
+    ensures value { IfOk result (λ answer. answer ≡ is_field_descriptor text.now) }
+    ensures memory { IfErr result (λ fault. fault ≡ ReadFault.Memory) }
+{
+    match read_field_descriptor(alloc, text, 0) {
+        Ok(_) => Ok(true),
+        Err(ReadFault::Broken { .. }) => Ok(false),
+        Err(ReadFault::Memory) => Err(ReadFault::Memory),
+    }
+}
+
+// A name in a Class entry: a class's, or the descriptor of an array.
+#[tactic(auto, unfolding(crate::specs::Pools::is_class_entry_name))]
+fn is_class_entry_name(alloc: Global, text: &[u8]) -> Result<bool, ReadFault>
+    ensures value { IfOk result (λ answer. answer ≡ is_class_entry_name text.now) }
+    ensures memory { IfErr result (λ fault. fault ≡ ReadFault.Memory) }
+{
+    if begins_with(text, b'[') {
+        is_field_descriptor(alloc, text)
+    } else {
+        Ok(is_class_name(text))
+    }
+}
+
+#[tactic(auto, unfolding(crate::specs::Demands::verdict, crate::specs::Pools::named))]
+fn check_class_name(alloc: Global, pool: &Pool, name: u16, at: usize) -> Result<(), ReadFault>
+    ensures { Gives (verdict (named at (utf8_at pool.now name) is_class_entry_name)) result }
+{
+    let Some(text) = pool.utf8(name) else {
+        return Err(ReadFault::Broken {
+            rule: Rule::Index,
+            at,
+        });
+    };
+    let holds = is_class_entry_name(alloc, text.as_bytes())?;
+    demand(holds, Rule::Utf8, at)
+}
+
+#[tactic(auto, unfolding(crate::specs::Demands::verdict, crate::specs::Pools::named))]
+fn check_name(pool: &Pool, name: u16, at: usize) -> Result<(), ReadFault>
+    ensures { result ≡ verdict (named at (utf8_at pool.now name) is_name) }
+{
+    let Some(text) = pool.utf8(name) else {
+        return Err(ReadFault::Broken {
+            rule: Rule::Index,
+            at,
+        });
+    };
+    demand(is_name(text.as_bytes()), Rule::Utf8, at)
+}
+
+impl PoolLayout {
+    #[tactic(auto, unfolding(crate::specs::Demands::verdict, crate::specs::Pools::entry_demands, crate::specs::Pools::indexed), using(crate::proofs::Verdicts::verdicts))]
+    fn check_entry(&self, alloc: Global, entry: &Entry, places: Places) -> Result<(), ReadFault>
+        ensures { Gives (verdict (entry_demands self.now.pool entry.now places)) result }
+    {
+        let pool = &self.pool;
+        match entry {
+            Entry::Utf8(text) => demand(
+                is_modified_utf8(text.as_bytes()),
+                Rule::Utf8,
+                places.second,
+            ),
+            Entry::Class { name } => check_class_name(alloc, pool, *name, places.first),
+            Entry::Member {
+                class,
+                name_and_type,
+                ..
+            } => {
+                demand(pool.is_class(*class), Rule::Index, places.first)?;
+                demand(
+                    pool.is_name_and_type(*name_and_type),
+                    Rule::Index,
+                    places.second,
+                )
+            }
+            Entry::NameAndType { name, descriptor } => {
+                check_name(pool, *name, places.first)?;
+                demand(pool.utf8(*descriptor).is_some(), Rule::Index, places.second)
+            }
+            Entry::Integer(_) | Entry::Other | Entry::Unusable => Ok(()),
+        }
+    }
+
+    #[tactic(auto, unfolding(crate::specs::Demands::verdict, crate::specs::Pools::index_demands))]
+    fn check_index(&self, alloc: Global, index: usize, places: Places) -> Result<(), ReadFault>
+        ensures { Gives (verdict (index_demands self.now.pool index places)) result }
+    {
+        match self.pool.entry(index) {
+            None => Ok(()),
+            Some(entry) => self.check_entry(alloc, entry, places),
+        }
+    }
+
+    /// The first entry at fault in the order of bytes, if any: a text that is no modified UTF-8 is Utf8
+    /// at its bytes, an index that names no entry of the kind that is asked is Index there, and a name
+    /// that is not allowed is Utf8 at the index that names it. Indices of a String, MethodHandle,
+    /// MethodType or InvokeDynamic, and the descriptors of a NameAndType, are not followed: nothing of
+    /// the profile uses them.
+    pub fn check(&self, alloc: Global) -> Result<(), ReadFault>
+        ensures { Gives (verdict (pool_demands self.now)) result }
+    {
+        for (index, places) in self.places.as_slice().iter().enumerate() {
+            self.check_index(alloc, index, *places)?;
+        }
+        Ok(())
+    }
+}

@@ -1,0 +1,54 @@
+//! A constant pool as it stands in a file, and what is demanded of it once it is read.
+
+ghost use Rattle.std.specs.Prelude.{◌≡◌, false};
+
+use super::{Entry, MemberKind, Pool, Row};
+
+/// What stands behind a tag (JVMS 4.4, table 4.4-A).
+#[derive(Clone, Copy, Debug, PartialEq, Eq)]
+pub(crate) enum Shape {
+    Utf8,
+    Integer,
+    Class,
+    Member(MemberKind),
+    NameAndType,
+    /// So many bytes that are not looked at.
+    Skipped(usize),
+    /// A Long or a Double: eight bytes, and two indices.
+    Wide,
+}
+
+/// Where an entry stands: the place behind its tag, and the place behind the first item there.
+#[derive(Clone, Copy, Debug, PartialEq, Eq)]
+pub struct Places {
+    pub first: usize,
+    pub second: usize,
+}
+
+// An entry as it was read. A wide one takes two indices.
+#[derive(Debug, Drop)]
+pub(crate) struct PlacedEntry {
+    pub entry: Entry,
+    pub places: Places,
+    pub is_wide: bool,
+}
+
+impl PlacedEntry {
+    // An entry of one index.
+    pub(crate) fn new(entry: Entry, first: usize, second: usize) -> PlacedEntry
+        ensures { result ≡ record { entry = entry; places = record { first = first; second = second }; is_wide = false } }
+    {
+        PlacedEntry {
+            entry,
+            places: Places { first, second },
+            is_wide: false,
+        }
+    }
+}
+
+/// A constant pool with the places of its entries, by index.
+#[derive(Debug, Drop)]
+pub struct PoolLayout {
+    pub pool: Pool,
+    pub places: Row<Places>,
+}
