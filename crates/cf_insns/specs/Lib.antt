@@ -1,0 +1,5 @@
+pub mod Listing
+pub mod Opcodes
+pub mod Operands
+pub mod Reading
+pub mod Spelling

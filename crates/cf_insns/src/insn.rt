@@ -1,5 +1,7 @@
 //! The instructions of the profile, by groups.
 
+ghost use Rattle.std.specs.Prelude.{◌≡◌};
+
 /// Whether an instruction moves an int or a reference.
 #[derive(Clone, Copy, Debug, PartialEq, Eq)]
 pub enum ValueKind {
@@ -80,4 +82,20 @@ pub enum Insn {
     ReturnValue(ValueKind),
     /// return: returns nothing.
     Return,
+}
+
+impl Insn {
+    ghost use Rattle.cf_insns.specs.Listing.{branch_of};
+
+    /// How far a branch goes from its own address: `None` for other instructions.
+    pub fn branch(self) -> Option<i32>
+        ensures { result ≡ branch_of self }
+    {
+        match self {
+            Insn::If { branch, .. } | Insn::IfCompare { branch, .. } | Insn::Goto { branch } => {
+                Some(branch)
+            }
+            _ => None,
+        }
+    }
 }

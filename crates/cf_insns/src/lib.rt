@@ -2,6 +2,14 @@
 #![tactic(auto)]
 
 pub use cf_pool::{Numbered, Row};
+pub use decoder::decode;
+pub use fault::{CodeFault, CodeRule};
 pub use insn::{BinaryOperator, Condition, Insn, StackOperation, UnaryOperator, ValueKind};
 
+mod decoder;
+mod fault;
+mod groups;
 mod insn;
+mod operands;
+#[cfg(test)]
+mod tests;
