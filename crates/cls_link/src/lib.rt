@@ -2,11 +2,15 @@
 //! resolved before anything runs.
 #![tactic(auto)]
 
-pub use cf_insns::{BinaryOperator, Condition, StackOperation, UnaryOperator, ValueKind};
+pub use cf_insns::{BinaryOperator, CodeRule, Condition, StackOperation, UnaryOperator, ValueKind};
 pub use cls_set::{
-    Class, ClassFile, ClassId, Code, ElementType, Field, FieldType, Flags, Method,
-    MethodDescriptor, Numbered, Pool, Row, Text,
+    Class, ClassFile, ClassId, ClassSet, Code, ElementType, Field, FieldType, Flags, Method,
+    MethodDescriptor, Numbered, Pool, Row, SetFault, SetRule, Text,
 };
+pub use fault::{LinkFault, LinkRule};
 pub use linked::{LinkedCode, LinkedInsn, LinkedMethod, MethodId};
+pub use links::Linked;
 
+mod fault;
 mod linked;
+mod links;

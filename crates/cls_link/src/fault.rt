@@ -1,0 +1,104 @@
+//! Faults of linking: the rule that is broken, and the instruction that breaks it.
+
+ghost use Rattle.std.specs.Prelude.{◌≡◌};
+ghost use Rattle.cls_link.specs.declared.fault.LinkFault.TheVariants.{Memory};
+
+use cf_insns::CodeRule;
+use cls_set::{Numbered, Text};
+use std::alloc::{AllocError, AllocFailed};
+use thiserror::Error;
+
+/// A rule on the code of the methods of a class set (JVMS 4.9.1, 5.4.3, 5.4.4, 6.5) or of this project's profile.
+#[derive(Clone, Copy, Debug, PartialEq, Eq, Error)]
+pub enum LinkRule {
+    /// The bytes of the code are no instructions.
+    #[error("{0}")]
+    Code(CodeRule),
+    /// No class that is looked at declares the field.
+    #[error("AbsentField")]
+    AbsentField,
+    /// No class that is looked at declares the method.
+    #[error("AbsentMethod")]
+    AbsentMethod,
+    /// The class or the member is not accessible.
+    #[error("Access")]
+    Access,
+    /// A static member where the instruction asks for one of an instance, or the other way round.
+    #[error("StaticMismatch")]
+    StaticMismatch,
+    /// A final field is written outside an `<init>` of its class.
+    #[error("FinalField")]
+    FinalField,
+    /// `new` of an abstract class or of an interface.
+    #[error("Abstract")]
+    Abstract,
+    /// The entry of the constant pool is of a kind that the instruction does not take.
+    #[error("WrongRefKind")]
+    WrongRefKind,
+    /// The class that is named is not in the set.
+    #[error("AbsentClass")]
+    AbsentClass,
+    /// invokevirtual of a private method.
+    #[error("PrivateVirtual")]
+    PrivateVirtual,
+}
+
+impl Numbered for LinkRule {
+    fn number(&self) -> u8 {
+        match self {
+            LinkRule::Code(rule) => rule.number(),
+            LinkRule::AbsentField => 40,
+            LinkRule::AbsentMethod => 41,
+            LinkRule::Access => 42,
+            LinkRule::StaticMismatch => 43,
+            LinkRule::FinalField => 44,
+            LinkRule::Abstract => 45,
+            LinkRule::WrongRefKind => 46,
+            LinkRule::AbsentClass => 47,
+            LinkRule::PrivateVirtual => 48,
+        }
+    }
+}
+
+/// Why a class set is not linked.
+#[derive(Debug, Drop, Error)]
+pub enum LinkFault {
+    /// The instruction at this offset of the method's code breaks the rule. It is the first method at
+    /// fault, by class number and then as declared.
+    #[error("{rule}")]
+    Broken {
+        rule: LinkRule,
+        class: Text,
+        method: Text,
+        descriptor: Text,
+        at: u16,
+    },
+    /// Memory ran out.
+    #[error("Memory")]
+    Memory,
+}
+
+impl Numbered for LinkFault {
+    fn number(&self) -> u8 {
+        match self {
+            LinkFault::Broken { rule, .. } => rule.number(),
+            LinkFault::Memory => 15,
+        }
+    }
+}
+
+impl From<AllocError> for LinkFault {
+    ghost from_gives = { λ _ fault. fault ≡ Memory };
+
+    fn from(_: AllocError) -> LinkFault {
+        LinkFault::Memory
+    }
+}
+
+impl<T: Drop> From<AllocFailed<T>> for LinkFault {
+    ghost from_gives = { λ _ fault. fault ≡ Memory };
+
+    fn from(_: AllocFailed<T>) -> LinkFault {
+        LinkFault::Memory
+    }
+}
