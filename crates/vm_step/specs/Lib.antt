@@ -1,2 +1,4 @@
 pub mod Arithmetic
 pub mod Machine
+pub mod Run
+pub mod Dash

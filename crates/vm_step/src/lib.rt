@@ -2,5 +2,6 @@
 #![tactic(auto)]
 
 mod arithmetic;
+mod dash;
 mod ending;
 mod machine;

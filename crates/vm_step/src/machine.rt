@@ -40,7 +40,8 @@ impl Machine {
     #[inline(always)]
     fn go_on(&mut self) -> Flow
         requires { self.old.place + 1 < 2 ^ 64 }
-        ensures { Does (go_on self.old) result self.new }
+        ensures does { Does (go_on self.old) result self.new }
+        ensures method { self.new.method ≡ self.old.method }
     {
         self.place += 1;
         Flow::Goes
@@ -65,7 +66,8 @@ impl Machine {
     #[inline(always)]
     fn branch(&mut self, taken: bool, target: u16) -> Flow
         requires { self.old.place + 1 < 2 ^ 64 }
-        ensures { Does (branch taken target self.old) result self.new }
+        ensures does { Does (branch taken target self.old) result self.new }
+        ensures method { self.new.method ≡ self.old.method }
     {
         if taken {
             self.place = target as usize;
@@ -79,7 +81,8 @@ impl Machine {
     fn constant(&mut self, n: i32) -> Flow
         requires place { self.old.place + 1 < 2 ^ 64 }
         requires fits { NotStuck (act (LinkedInsn.Constant n) self.old) }
-        ensures { Does (act (LinkedInsn.Constant n) self.old) result self.new }
+        ensures does { Does (act (LinkedInsn.Constant n) self.old) result self.new }
+        ensures method { self.new.method ≡ self.old.method }
     {
         self.push_int(n);
         self.go_on()
@@ -89,7 +92,8 @@ impl Machine {
     fn load(&mut self, place: u16) -> Flow
         requires place { self.old.place + 1 < 2 ^ 64 }
         requires fits { NotStuck (act (LinkedInsn.Load ValueKind.Int place) self.old) }
-        ensures { Does (act (LinkedInsn.Load ValueKind.Int place) self.old) result self.new }
+        ensures does { Does (act (LinkedInsn.Load ValueKind.Int place) self.old) result self.new }
+        ensures method { self.new.method ≡ self.old.method }
     {
         let n = self.load_int(place);
         self.push_int(n);
@@ -100,7 +104,8 @@ impl Machine {
     fn store(&mut self, place: u16) -> Flow
         requires place { self.old.place + 1 < 2 ^ 64 }
         requires fits { NotStuck (act (LinkedInsn.Store ValueKind.Int place) self.old) }
-        ensures { Does (act (LinkedInsn.Store ValueKind.Int place) self.old) result self.new }
+        ensures does { Does (act (LinkedInsn.Store ValueKind.Int place) self.old) result self.new }
+        ensures method { self.new.method ≡ self.old.method }
     {
         let n = self.pop_int();
         self.store_int(place, n);
@@ -111,7 +116,8 @@ impl Machine {
     fn increment(&mut self, local: u16, by: i16) -> Flow
         requires place { self.old.place + 1 < 2 ^ 64 }
         requires fits { NotStuck (act (LinkedInsn.Increment local by) self.old) }
-        ensures { Does (act (LinkedInsn.Increment local by) self.old) result self.new }
+        ensures does { Does (act (LinkedInsn.Increment local by) self.old) result self.new }
+        ensures method { self.new.method ≡ self.old.method }
     {
         let n = self.load_int(local);
         self.store_int(local, n.wrapping_add(by as i32));
@@ -122,7 +128,8 @@ impl Machine {
     fn pop(&mut self) -> Flow
         requires place { self.old.place + 1 < 2 ^ 64 }
         requires fits { NotStuck (act (LinkedInsn.Stack StackOperation.Pop) self.old) }
-        ensures { Does (act (LinkedInsn.Stack StackOperation.Pop) self.old) result self.new }
+        ensures does { Does (act (LinkedInsn.Stack StackOperation.Pop) self.old) result self.new }
+        ensures method { self.new.method ≡ self.old.method }
     {
         let _ = self.stack.pop();
         self.go_on()
@@ -132,7 +139,8 @@ impl Machine {
     fn dup(&mut self) -> Flow
         requires place { self.old.place + 1 < 2 ^ 64 }
         requires fits { NotStuck (act (LinkedInsn.Stack StackOperation.Dup) self.old) }
-        ensures { Does (act (LinkedInsn.Stack StackOperation.Dup) self.old) result self.new }
+        ensures does { Does (act (LinkedInsn.Stack StackOperation.Dup) self.old) result self.new }
+        ensures method { self.new.method ≡ self.old.method }
     {
         let value = self.stack.pop();
         self.stack.push(value.copy());
@@ -144,7 +152,8 @@ impl Machine {
     fn swap(&mut self) -> Flow
         requires place { self.old.place + 1 < 2 ^ 64 }
         requires fits { NotStuck (act (LinkedInsn.Stack StackOperation.Swap) self.old) }
-        ensures { Does (act (LinkedInsn.Stack StackOperation.Swap) self.old) result self.new }
+        ensures does { Does (act (LinkedInsn.Stack StackOperation.Swap) self.old) result self.new }
+        ensures method { self.new.method ≡ self.old.method }
     {
         let first = self.stack.pop();
         let second = self.stack.pop();
@@ -157,7 +166,8 @@ impl Machine {
     fn unary(&mut self, operator: UnaryOperator) -> Flow
         requires place { self.old.place + 1 < 2 ^ 64 }
         requires fits { NotStuck (act (LinkedInsn.Unary operator) self.old) }
-        ensures { Does (act (LinkedInsn.Unary operator) self.old) result self.new }
+        ensures does { Does (act (LinkedInsn.Unary operator) self.old) result self.new }
+        ensures method { self.new.method ≡ self.old.method }
     {
         let n = self.pop_int();
         self.push_int(arithmetic::unary(operator, n));
@@ -168,7 +178,8 @@ impl Machine {
     fn binary(&mut self, operator: BinaryOperator) -> Flow
         requires place { self.old.place + 1 < 2 ^ 64 }
         requires fits { NotStuck (act (LinkedInsn.Binary operator) self.old) }
-        ensures { Does (act (LinkedInsn.Binary operator) self.old) result self.new }
+        ensures does { Does (act (LinkedInsn.Binary operator) self.old) result self.new }
+        ensures method { self.new.method ≡ self.old.method }
     {
         let right = self.pop_int();
         let left = self.pop_int();
@@ -185,7 +196,8 @@ impl Machine {
     fn if_zero(&mut self, condition: Condition, target: u16) -> Flow
         requires place { self.old.place + 1 < 2 ^ 64 }
         requires fits { NotStuck (act (LinkedInsn.If condition target) self.old) }
-        ensures { Does (act (LinkedInsn.If condition target) self.old) result self.new }
+        ensures does { Does (act (LinkedInsn.If condition target) self.old) result self.new }
+        ensures method { self.new.method ≡ self.old.method }
     {
         let n = self.pop_int();
         self.branch(arithmetic::holds(condition, n, 0), target)
@@ -195,7 +207,8 @@ impl Machine {
     fn if_compare(&mut self, condition: Condition, target: u16) -> Flow
         requires place { self.old.place + 1 < 2 ^ 64 }
         requires fits { NotStuck (act (LinkedInsn.IfCompare condition target) self.old) }
-        ensures { Does (act (LinkedInsn.IfCompare condition target) self.old) result self.new }
+        ensures does { Does (act (LinkedInsn.IfCompare condition target) self.old) result self.new }
+        ensures method { self.new.method ≡ self.old.method }
     {
         let right = self.pop_int();
         let left = self.pop_int();
@@ -205,7 +218,8 @@ impl Machine {
     #[inline(always)]
     fn return_int(&mut self) -> Flow
         requires fits { NotStuck (act (LinkedInsn.ReturnValue ValueKind.Int) self.old) }
-        ensures { Does (act (LinkedInsn.ReturnValue ValueKind.Int) self.old) result self.new }
+        ensures does { Does (act (LinkedInsn.ReturnValue ValueKind.Int) self.old) result self.new }
+        ensures method { self.new.method ≡ self.old.method }
     {
         Flow::ReturnsInt(self.pop_int())
     }
@@ -215,7 +229,8 @@ impl Machine {
     pub fn hot(&mut self, insn: LinkedInsn) -> Flow
         requires place { self.old.place + 1 < 2 ^ 64 }
         requires fits { NotStuck (act insn self.old) }
-        ensures { Does (act insn self.old) result self.new }
+        ensures does { Does (act insn self.old) result self.new }
+        ensures method { self.new.method ≡ self.old.method }
     {
         match insn {
             LinkedInsn::Nop => self.go_on(),
