@@ -13,7 +13,7 @@ loop-made-init c =
 pub make-requires : goal.make-requires
 make-requires c = record {
   fits =
-    can_make c.args.methods.now c.loop-made.made (Running c.args.self c.args.fuel) c.loop-made.machine (c.args.fuel - c.loop-made.made)
+    can_make c.args.linked.now c.loop-made.made (Running c.args.self c.args.fuel) c.loop-made.machine (c.args.fuel - c.loop-made.made)
     c.instructions-code.result.now c.requires.safe c.loop-made.invariant.state (omega arith) c.loop-made.invariant.code;
 }
 
@@ -25,7 +25,7 @@ returns-in_default c =
       most = omega arith;
       state =
         rw one_more
-        (made_one c.args.methods.now c.loop-made.made (Running c.args.self c.args.fuel) c.loop-made.machine (c.args.fuel - c.loop-made.made)
+        (made_one c.args.linked.now c.loop-made.made (Running c.args.self c.args.fuel) c.loop-made.machine (c.args.fuel - c.loop-made.made)
          c.instructions-code.result.now c.make.result c.make.new.self c.loop-made.invariant.state (omega arith) c.loop-made.invariant.code c.make.ensures.made);
       all = λ goes. absurd (c.in_default.not-Goes goes);
     }
@@ -37,6 +37,6 @@ loop-made-preserved c =
       code = rw c.make.ensures.method c.loop-made.invariant.code;
       state =
         rw one_less
-        (made_one c.args.methods.now c.loop-made.made (Running c.args.self c.args.fuel) c.loop-made.machine (c.args.fuel - c.loop-made.made)
+        (made_one c.args.linked.now c.loop-made.made (Running c.args.self c.args.fuel) c.loop-made.machine (c.args.fuel - c.loop-made.made)
          c.instructions-code.result.now Goes c.make.new.self c.loop-made.invariant.state (omega arith) c.loop-made.invariant.code c.in-Goes.ensures.made);
     }
