@@ -1,0 +1,5 @@
+pub mod Loop
+pub mod FieldLaws
+pub mod ValueLaws
+pub mod MessageLaws
+pub mod Lengths

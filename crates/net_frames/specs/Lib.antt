@@ -1,0 +1,5 @@
+pub mod Wire
+pub mod Sizes
+pub mod Reading
+pub mod Stream
+pub mod Frame

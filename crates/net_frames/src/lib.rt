@@ -1,0 +1,21 @@
+//! Frames of the protocol between spaces, version 1 (a format of this project): what a frame says,
+//! its one spelling, and reading it from a stream that comes in pieces.
+#![tactic(auto)]
+
+pub use cf_pool::Numbered;
+pub use encoding::{MAX_BODY, encode};
+pub use fault::{WireError, WireFault};
+pub use frame::Frame;
+pub use message::{Digest, Message};
+pub use vm_heap::{ClassId, ObjId, Ref, Row, Uuid, Value};
+
+mod bodies;
+mod encoding;
+mod fault;
+mod fields;
+mod frame;
+mod kinds;
+mod length;
+mod message;
+mod ranges;
+mod writing;
