@@ -1,4 +1,6 @@
 pub mod Assignable
 pub mod Frames
-pub mod Hierarchy
+pub mod Gives
 pub mod Method
+pub mod StackMap
+pub mod Types

@@ -2,6 +2,7 @@
 //! instruction, which types may stand for which, and the frames that its StackMapTable declares.
 #![tactic(auto)]
 
+pub use assignability::{assignable, frame_assignable};
 pub use cls_link::{
     BinaryOperator, Class, ClassFile, ClassId, Code, Condition, ElementType, Field, FieldType,
     Flags, LinkedCode, LinkedInsn, LinkedMethod, Method, MethodDescriptor, MethodId, Numbered,
@@ -9,8 +10,15 @@ pub use cls_link::{
 };
 pub use fault::{StackMapFault, StackMapRule};
 pub use frame::TypeFrame;
+pub use method::MethodView;
 pub use vtype::VType;
 
+mod assignability;
 mod fault;
 mod frame;
+mod items;
+mod layout;
+mod method;
+mod raw_frame;
+mod stack_map;
 mod vtype;

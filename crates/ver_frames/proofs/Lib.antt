@@ -1,0 +1,5 @@
+pub mod FrameLoops
+pub mod Loops
+pub mod Starts
+pub mod Subclasses
+pub mod Zips

@@ -1,0 +1,65 @@
+//! The types that the items of a StackMapTable say (JVMS 4.7.4).
+
+ghost use Rattle.std.specs.Prelude.{◌≡◌, IfOk, MatchOption, None, Some};
+ghost use Rattle.ver_frames.specs.Gives.{Finds};
+ghost use Rattle.ver_frames.specs.StackMap.{object_type, item, items, with_front};
+
+use super::layout::u2;
+use super::{MethodView, VType};
+use std::alloc::AllocError;
+
+// The type that a Class entry of the constant pool says: an array of ints, or a class of the set.
+#[tactic(auto, unfolding(crate::specs::StackMap::object_type))]
+fn object_type(method: &MethodView, index: u16) -> Option<VType>
+    ensures { result ≡ object_type method.now index }
+{
+    let name = method.class.file.pool.class(index)?;
+    if name.is(b"[I") {
+        return Some(VType::IntArray);
+    }
+    let class = method.classes.number(name.as_bytes())?;
+    Some(VType::Object(class))
+}
+
+// The type that an item says, and the bytes after it. An item of a `new` says none, since no
+// instruction of the profile is one yet.
+#[tactic(auto, unfolding(crate::specs::StackMap::item))]
+fn item<'a>(method: &MethodView, bytes: &'a [u8]) -> Option<(VType, &'a [u8])>
+    ensures { Finds (λ x. (x.0, x.1.now)) result (item method.now bytes.now) }
+{
+    match bytes {
+        [] => None,
+        [0, rest @ ..] => Some((VType::Top, rest)),
+        [1, rest @ ..] => Some((VType::Int, rest)),
+        [5, rest @ ..] => Some((VType::Null, rest)),
+        [6, rest @ ..] => Some((VType::UninitializedThis, rest)),
+        [7, rest @ ..] => {
+            let (index, rest) = u2(rest)?;
+            Some((object_type(method, index)?, rest))
+        }
+        _ => None,
+    }
+}
+
+// Appends the types that so many items say, and answers the bytes after them: `None` where an item
+// says none.
+pub(crate) fn push_items<'a>(
+    types: &mut Vec<VType>,
+    method: &MethodView,
+    count: u16,
+    bytes: &'a [u8],
+) -> Result<Option<&'a [u8]>, AllocError>
+    ensures { IfOk result (λ found. MatchOption found
+        (items method.now count bytes.now ≡ None)
+        (λ rest. with_front types.old.items (items method.now count bytes.now) ≡ Some (types.new.items, rest.now))) }
+{
+    let mut rest = bytes;
+    for _ in 0..count {
+        let Some((kind, after)) = item(method, rest) else {
+            return Ok(None);
+        };
+        types.push(kind)?;
+        rest = after;
+    }
+    Ok(Some(rest))
+}

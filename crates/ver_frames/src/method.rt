@@ -1,0 +1,120 @@
+//! A method with code, and the frame in which it begins (JVMS 4.10.1.6).
+
+ghost use Rattle.std.specs.Prelude.{◌≡◌, IfOk};
+ghost use Rattle.ver_frames.specs.Types.{field_vtype, element_type};
+
+use super::frame::fill;
+use super::{TypeFrame, VType};
+use cls_link::LinkedCode;
+use cls_set::{Class, ClassId, ClassSet, Code, ElementType, FieldType, Flags, Method};
+use std::alloc::{AllocError, Global};
+use std::marker::Model;
+
+/// A method with code, as checking sees it. A contract sees it as the record of what it refers to.
+#[derive(Drop)]
+pub struct MethodView<'a> {
+    /// The set that its class stands in, under this number.
+    pub classes: &'a ClassSet,
+    pub class_id: ClassId,
+    pub class: &'a Class,
+    pub method: &'a Method,
+    pub code: &'a Code,
+    pub linked: &'a LinkedCode,
+}
+
+impl<'a> Model for MethodView<'a> {
+    ghost use Rattle.ver_frames.specs.Method.{Subject};
+
+    ghost Value = { Subject };
+
+    ghost view = { λ m. record {
+        classes = m.classes.now;
+        class_id = m.class_id;
+        class = m.class.now;
+        method = m.method.now;
+        code = m.code.now;
+        linked = m.linked.now;
+    } };
+}
+
+impl MethodView<'_> {
+    ghost use Rattle.std.specs.Prelude.{◌≡◌, IfOk};
+    ghost use Rattle.ver_frames.specs.Method.{begins_uninit, argument_types, opening, result_type};
+
+    /// Whether its receiver is not initialized as it begins.
+    #[tactic(auto, unfolding(crate::specs::Method::begins_uninit))]
+    pub fn begins_uninit(&self) -> bool
+        ensures { result ≡ begins_uninit self.now }
+    {
+        !self.method.flags.has(Flags::STATIC)
+            && !self.class.is_built_in
+            && self.method.name.is(b"<init>")
+    }
+
+    /// The types of the receiver and the parameters, which are the first local variables.
+    #[tactic(auto, unfolding(crate::specs::Method::receiver_types, crate::specs::Method::argument_types))]
+    pub fn argument_types(&self, alloc: Global) -> Result<Vec<VType>, AllocError>
+        ensures { IfOk result (λ types. types.items ≡ argument_types self.now) }
+    {
+        let mut types = Vec::new(alloc);
+        if !self.method.flags.has(Flags::STATIC) {
+            types.push(if self.begins_uninit() {
+                VType::UninitializedThis
+            } else {
+                VType::Object(self.class_id)
+            })?;
+        }
+        for parameter in self.method.types.parameters.as_slice() {
+            types.push(field_vtype(self.classes, parameter))?;
+        }
+        Ok(types)
+    }
+
+    /// The frame in which it begins.
+    #[tactic(auto, unfolding(crate::specs::Method::opening))]
+    pub fn opening(&self, alloc: Global) -> Result<TypeFrame, AllocError>
+        ensures { IfOk result (λ frame. frame ≡ opening self.now) }
+    {
+        let mut locals = self.argument_types(alloc)?;
+        fill(&mut locals, usize::from(self.code.max_locals))?;
+        Ok(TypeFrame::new(locals, Vec::new(alloc), self.begins_uninit()))
+    }
+
+    /// The type of its result, where there is one.
+    #[tactic(auto, unfolding(crate::specs::Method::result_type))]
+    pub fn result_type(&self) -> Option<VType>
+        ensures { result ≡ result_type self.now }
+    {
+        match &self.method.types.result {
+            Some(kind) => Some(field_vtype(self.classes, kind)),
+            None => None,
+        }
+    }
+}
+
+// The verification type of a field type; one out of this project's profile is top.
+#[tactic(auto, unfolding(crate::specs::Types::field_vtype))]
+fn field_vtype(classes: &ClassSet, kind: &FieldType) -> VType
+    ensures { result ≡ field_vtype classes.now kind.now }
+{
+    match (kind.dimensions, &kind.element) {
+        (0, element) => element_type(classes, element),
+        (1, ElementType::Int) => VType::IntArray,
+        _ => VType::Top,
+    }
+}
+
+// The verification type of an element that is no array.
+#[tactic(auto, unfolding(crate::specs::Types::element_type))]
+fn element_type(classes: &ClassSet, element: &ElementType) -> VType
+    ensures { result ≡ element_type classes.now element.now }
+{
+    match element {
+        ElementType::Int | ElementType::Boolean => VType::Int,
+        ElementType::Class(name) => match classes.number(name.as_bytes()) {
+            Some(class) => VType::Object(class),
+            None => VType::Top,
+        },
+        _ => VType::Top,
+    }
+}
