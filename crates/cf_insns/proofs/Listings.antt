@@ -10,7 +10,7 @@ use Rattle.cf_insns.specs.Listing.{Listing, offsets, Rises}
 use Rattle.cf_insns.specs.Reading.{instruction, listed, listing_from, with_front}
 
 -- operands are passed over
-listing_from-skipped : (k offset : ℕ) (bytes : List ℕ) → listing_from k offset bytes ≡ listing_from 0 (offset + k) (drop k bytes)
+pub listing_from-skipped : (k offset : ℕ) (bytes : List ℕ) → listing_from k offset bytes ≡ listing_from 0 (offset + k) (drop k bytes)
 unfolding listing_from
 listing_from-skipped zero offset [] = refl
 listing_from-skipped (suc k) offset [] = refl
@@ -23,7 +23,7 @@ listing_from-skipped (suc k) offset (byte ∷ bytes) =
 abbrev pub behind : List ℕ → ℕ → ℕ → Result Listing CodeFault
 behind code at operands = listing_from 0 (at + (1 + operands)) (drop (at + (1 + operands)) code)
 
-listing_from-front : (opcode : ℕ) (bytes : List ℕ) (at : ℕ) → listing_from 0 at (opcode ∷ bytes) ≡ listed at (instruction opcode bytes) (λ k. listing_from k (at + 1) bytes)
+pub listing_from-front : (opcode : ℕ) (bytes : List ℕ) (at : ℕ) → listing_from 0 at (opcode ∷ bytes) ≡ listed at (instruction opcode bytes) (λ k. listing_from k (at + 1) bytes)
 unfolding listing_from
 listing_from-front opcode bytes at = refl
 
@@ -92,18 +92,18 @@ Rises-from low (n ∷ ns) rises zero (suc j) lt within =
 Rises-from low (n ∷ ns) rises (suc i) (suc j) lt within = Rises-from (n + 1) ns rises.1 i j (omega arith) (omega arith)
 
 -- what is listed begins with an instruction
-record Begins (offset : ℕ) (read : Result Spelled CodeRule) (rest : ℕ → Result Listing CodeFault) (listing : Listing) : Type 0 where
-  s : Spelled
-  tail : Listing
-  first : read ≡ Ok s
-  rest_is : rest s.operands ≡ Ok tail
-  all : listing ≡ (offset, s.insn) ∷ tail
+pub record Begins (offset : ℕ) (read : Result Spelled CodeRule) (rest : ℕ → Result Listing CodeFault) (listing : Listing) : Type 0 where
+  pub s : Spelled
+  pub tail : Listing
+  pub first : read ≡ Ok s
+  pub rest_is : rest s.operands ≡ Ok tail
+  pub all : listing ≡ (offset, s.insn) ∷ tail
 
 front_ok : (entry : ℕ × _) (read : Result Listing CodeFault) (listing : Listing) → with_front (entry ∷ []) read ≡ Ok listing → (tail : Listing) × (read ≡ Ok tail) × (listing ≡ entry ∷ tail)
 front_ok entry (Ok tail) listing is = (tail, refl, cc)
 front_ok entry (Err fault) listing is = absurd (cc)
 
-listed_ok : (offset : ℕ) (read : Result Spelled CodeRule) (rest : ℕ → Result Listing CodeFault) (listing : Listing) → listed offset read rest ≡ Ok listing → Begins offset read rest listing
+pub listed_ok : (offset : ℕ) (read : Result Spelled CodeRule) (rest : ℕ → Result Listing CodeFault) (listing : Listing) → listed offset read rest ≡ Ok listing → Begins offset read rest listing
 listed_ok offset (Ok s) rest listing is =
     let (tail, rest_is, all) = front_ok (offset, s.insn) (rest s.operands) listing is in
     record { s = s; tail = tail; first = refl; rest_is = rest_is; all = all }

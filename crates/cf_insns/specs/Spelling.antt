@@ -1,5 +1,5 @@
 -- How instructions are spelled (JVMS 6.5), a rule a form. Some have several spellings.
-use Rattle.std.specs.Prelude.{ℕ, ◌+◌, ◌≤◌, pos, ◌-ℤ◌, List, [], ◌∷◌}
+use Rattle.std.specs.Prelude.{ℕ, ◌+◌, ◌≤◌, pos, ◌-ℤ◌, List, [], ◌∷◌, ◌++◌}
 use Rattle.cf_insns.specs.declared.insn.Insn.{Insn}
 use Rattle.cf_insns.specs.declared.insn.Insn.TheVariants.{Nop, Constant, Load, Store, Increment, Stack, Unary, Binary, If, IfCompare, Goto, ReturnValue, Return}
 use Rattle.cf_insns.specs.declared.insn.ValueKind.TheVariants.{Int}
@@ -36,3 +36,7 @@ pub data Spells : List ℕ → Insn → Type 0 where
   goto_w : (a b c d : ℕ) → Spells (200 ∷ a ∷ b ∷ c ∷ d ∷ []) (Goto (signed_int a b c d))
   ireturn : Spells (172 ∷ []) (ReturnValue Int)
   return : Spells (177 ∷ []) Return
+
+-- no spelling begins with these bytes
+abbrev pub NoneBegins : List ℕ → Type 0
+NoneBegins front = (more : List ℕ) (insn : Insn) → Spells (front ++ more) insn → ⊥

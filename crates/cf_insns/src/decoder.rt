@@ -1,7 +1,8 @@
 //! The listing of a method's code.
 
-ghost use Rattle.std.specs.Prelude.{◌≡◌, ◌≤◌, length, IfOk, MatchResult};
-ghost use Rattle.cf_insns.specs.Listing.{offsets, Rises};
+ghost use Rattle.std.specs.Prelude.{◌≡◌, ◌≤◌, length, slice_index, IfOk, IfErr, MatchResult};
+ghost use Rattle.cf_insns.specs.Faults.{Explains};
+ghost use Rattle.cf_insns.specs.Listing.{IsListing, Listing, offsets, Rises};
 ghost use Rattle.cf_insns.specs.Listing as spec;
 ghost use Rattle.cf_insns.specs.Reading.{reading, listing_from, Fails};
 
@@ -59,17 +60,11 @@ fn first_astray(listing: &[(u16, Insn)]) -> Option<u16>
     None
 }
 
-/// The instructions of a method's code with their offsets, in order.
-///
-/// All bytes are read first. The first instruction at fault counts: an opcode that is none, or one
-/// that is not in profile; then an end of the code inside the instruction. Where each branch goes
-/// is looked at when all are read.
+// The listing, or the first rule that is broken: all bytes are read before a target is looked at.
 #[tactic(auto, unfolding(crate::specs::Reading::reading))]
-pub fn decode(alloc: Global, code: &[u8]) -> Result<Vec<(u16, Insn)>, CodeFault>
+fn listing_with_targets(alloc: Global, code: &[u8]) -> Result<Vec<(u16, Insn)>, CodeFault>
     requires { length code.now ≤ 65535 }
     ensures exact { MatchResult result (λ listing. reading code.now ≡ Ok listing.items) (λ fault. Fails fault (reading code.now)) }
-
-    // Places in the listing and offsets are one to one.
     ensures rises { IfOk result (λ listing. Rises (offsets listing.items)) }
 {
     let listing = listing_of(alloc, code)?;
@@ -80,4 +75,26 @@ pub fn decode(alloc: Global, code: &[u8]) -> Result<Vec<(u16, Insn)>, CodeFault>
         }),
         None => Ok(listing),
     }
+}
+
+/// The instructions of a method's code with their offsets, in order.
+///
+/// The fault that is answered is the first: of an opcode that is none, or one that is not in
+/// profile, or an end of the code inside an instruction. Where branches go is looked at when all
+/// instructions are read.
+pub fn decode(alloc: Global, code: &[u8]) -> Result<Vec<(u16, Insn)>, CodeFault>
+    requires { length code.now ≤ 65535 }
+
+    // What is Ok is the listing of the code. Where there is one, only memory can be wanting.
+    ensures found { IfOk result (λ listing. IsListing code.now listing.items) }
+    ensures only { (listing : Listing) → IsListing code.now listing → MatchResult result (λ found. found.items ≡ listing) (λ fault. fault ≡ CodeFault.Memory) }
+
+    // A fault says what is wrong at the offset that it names.
+    ensures fault { IfErr result (Explains code.now) }
+
+    // Places in the listing and offsets are one to one.
+    ensures begins { IfOk result (λ listing. slice_index (offsets listing.items) 0 ≡ 0) }
+    ensures rises { IfOk result (λ listing. Rises (offsets listing.items)) }
+{
+    listing_with_targets(alloc, code)
 }

@@ -10,6 +10,7 @@ mod decoder;
 mod fault;
 mod groups;
 mod insn;
+pub mod laws;
 mod operands;
 #[cfg(test)]
 mod tests;

@@ -1,0 +1,16 @@
+//! What the definitions say of all code.
+
+ghost use Rattle.std.specs.Prelude.{◌≡◌, ℕ, List, [], ◌++◌};
+ghost use Rattle.cf_insns.specs.declared.insn.Insn.{Insn};
+ghost use Rattle.cf_insns.specs.Listing.{IsListing, Listing};
+ghost use Rattle.cf_insns.specs.Spelling.{Spells};
+
+/// No code has two listings.
+pub fn one_listing()
+    ensures { (code : List ℕ) (one other : Listing) → IsListing code one → IsListing code other → one ≡ other }
+{}
+
+/// No spelling of an instruction begins a spelling of another one, or a longer one of its own.
+pub fn one_spelling()
+    ensures { (one other rest more : List ℕ) (insn others : Insn) → Spells one insn → Spells other others → one ++ rest ≡ other ++ more → (one ≡ other) × (insn ≡ others) }
+{}
