@@ -2,3 +2,4 @@ pub mod Arithmetic
 pub mod Machine
 pub mod Run
 pub mod Dash
+pub mod Fits
