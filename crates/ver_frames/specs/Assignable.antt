@@ -30,9 +30,13 @@ IsAssignable classes (Uninitialized made) (Uninitialized asked) = made ≡ asked
 IsAssignable classes UninitializedThis UninitializedThis = ⊤
 IsAssignable classes _ _ = ⊥
 
+-- there are as many types as asked, each assignable to the one in its place
+abbrev pub AreAssignable : List Class → List VType → List VType → Type 0
+AreAssignable classes = AllZip (IsAssignable classes)
+
 -- a frame may stand where another is asked (JVMS 4.10.1.4): it has as many local variables and
 -- operands, each type may stand where the other's is asked, and its flag is set only if the other's is
 pub record IsFrameAssignable (classes : List Class) (given asked : Frame) : Type 0 where
-  pub locals : AllZip (IsAssignable classes) given.locals asked.locals
-  pub stack : AllZip (IsAssignable classes) given.stack asked.stack
+  pub locals : AreAssignable classes given.locals asked.locals
+  pub stack : AreAssignable classes given.stack asked.stack
   pub flag : IsTrue given.flag_this_uninit → IsTrue asked.flag_this_uninit
