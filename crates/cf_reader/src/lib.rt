@@ -7,6 +7,10 @@ pub use cf_pool::{
 };
 pub use class_file::{ClassFile, Code, Field, Method};
 pub use flags::Flags;
+pub use layout::MAX_LEN;
 
 mod class_file;
+mod code;
 mod flags;
+mod items;
+mod layout;

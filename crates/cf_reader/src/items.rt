@@ -1,0 +1,64 @@
+//! The raw items of a class file, with their places.
+
+use cf_pool::{PoolLayout, Row};
+
+/// A number of two bytes, and where it stands.
+#[derive(Clone, Copy, Debug, PartialEq, Eq)]
+pub struct Item {
+    pub at: usize,
+    pub value: u16,
+}
+
+/// An attribute (JVMS 4.7): its name, and where the bytes behind its length begin and end.
+#[derive(Clone, Copy, Debug, PartialEq, Eq)]
+pub struct Attribute {
+    pub name: Item,
+    pub body: usize,
+    pub end: usize,
+}
+
+/// A field or a method (JVMS 4.5, 4.6).
+#[derive(Debug, Drop)]
+pub struct Member {
+    pub flags: Item,
+    pub name: Item,
+    pub descriptor: Item,
+    pub attributes: Row<Attribute>,
+}
+
+/// A class file (JVMS 4.1) behind its version.
+#[derive(Debug, Drop)]
+pub struct Layout {
+    pub pool: PoolLayout,
+    pub flags: Item,
+    pub this: Item,
+    pub superclass: Item,
+    pub interface_count: Item,
+    pub interfaces: Row<Item>,
+    pub field_count: Item,
+    pub fields: Row<Member>,
+    pub method_count: Item,
+    pub methods: Row<Member>,
+    pub attributes: Row<Attribute>,
+}
+
+/// What stands at the front of a Code attribute (JVMS 4.7.3).
+#[derive(Clone, Copy, Debug, PartialEq, Eq)]
+pub struct CodeHead {
+    pub max_stack: u16,
+    pub max_locals: u16,
+    pub length_at: usize,
+    pub length: u32,
+    /// Where the code begins.
+    pub code: usize,
+}
+
+/// A Code attribute (JVMS 4.7.3).
+#[derive(Debug, Drop)]
+pub struct CodeLayout {
+    pub head: CodeHead,
+    /// Where the code ends.
+    pub code_end: usize,
+    pub handler_count: Item,
+    pub attributes: Row<Attribute>,
+}
