@@ -10,10 +10,9 @@ ghost use Rattle.cf_pool.specs.Types.{is_field_descriptor};
 ghost use Rattle.cf_pool.specs.Utf8.{is_modified_utf8};
 ghost use Rattle.cf_pool.specs.Pools.{as_class, as_name_and_type, entry_demands, index_demands, indexed, is_class_entry_name, named, pool_demands, utf8_at};
 
-use super::descriptors::begins_with;
 use super::{
-    Entry, Places, Pool, PoolLayout, ReadFault, Rule, is_class_name, is_modified_utf8, is_name,
-    read_field_descriptor,
+    Entry, Places, Pool, PoolLayout, ReadFault, Rule, begins_with, is_class_name, is_modified_utf8,
+    is_name, read_field_descriptor,
 };
 use std::alloc::Global;
 

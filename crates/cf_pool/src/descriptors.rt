@@ -45,8 +45,8 @@ fn name_length(text: &[u8]) -> usize
     text.len()
 }
 
-// Whether a text begins with a byte.
-pub(crate) fn begins_with(text: &[u8], byte: u8) -> bool
+/// Whether a text begins with a byte.
+pub fn begins_with(text: &[u8], byte: u8) -> bool
     ensures value { result ≡ begins_with byte text.now }
     ensures some { IsTrue result → 0 < length text.now }
 {

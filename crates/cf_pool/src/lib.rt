@@ -3,7 +3,7 @@
 #![tactic(auto)]
 
 pub use check::demand;
-pub use descriptors::{descriptor, read_field_descriptor, read_method_descriptor};
+pub use descriptors::{begins_with, descriptor, read_field_descriptor, read_method_descriptor};
 pub use entries::{read_layout, read_pool};
 pub use fault::{Numbered, ReadFault, Rule};
 pub use layout::{Places, PoolLayout};

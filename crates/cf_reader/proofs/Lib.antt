@@ -1,2 +1,4 @@
 pub mod Blamed
 pub mod Skims
+pub mod AttributeSteps
+pub mod Each

@@ -7,7 +7,6 @@ use Rattle.cf_reader.specs.Codes.{and_then, skim_many}
 
 -- Of so many, `done` were looked through.
 module _ (skim : ℕ → Result (Option ℕ) ReadFault) (count done at : ℕ) (all : Result (Option ℕ) ReadFault) (so_far : skim_many skim (count - done) at ≡ all) where
-
   skim-next : done < count → all ≡ and_then (skim at) (skim_many skim (count - (done + 1)))
   unfolding skim_many
   skim-next more =

@@ -70,19 +70,22 @@ body_at bytes at = do
   method_count ← item_at bytes fields.1
   methods ← many (member_at bytes) method_count.0.value method_count.1
   attributes ← attributes_at bytes methods.1
-  Ok (record {
-    pool = pool.0;
-    flags = flags.0;
-    this = this.0;
-    superclass = superclass.0;
-    interface_count = interface_count.0;
-    interfaces = interfaces.0;
-    field_count = field_count.0;
-    fields = fields.0;
-    method_count = method_count.0;
-    methods = methods.0;
-    attributes = attributes.0;
-  }, attributes.1)
+  Ok (
+    record {
+      pool = pool.0;
+      flags = flags.0;
+      this = this.0;
+      superclass = superclass.0;
+      interface_count = interface_count.0;
+      interfaces = interfaces.0;
+      field_count = field_count.0;
+      fields = fields.0;
+      method_count = method_count.0;
+      methods = methods.0;
+      attributes = attributes.0;
+    },
+    attributes.1,
+  )
 
 -- the most bytes that a class file may have
 abbrev pub max_length : ℕ

@@ -10,14 +10,18 @@ use cf_pool::{ReadFault, Rule, demand, read_u8, read_u16, read_u32, skip};
 use std::alloc::Global;
 
 // The bytes up to an end.
-fn up_to(bytes: &[u8], end: usize) -> &[u8]
+pub(crate) fn up_to(bytes: &[u8], end: usize) -> &[u8]
     ensures { result.now ≡ take end bytes.now }
 {
-    if end < bytes.len() { &bytes[..end] } else { bytes }
+    if end < bytes.len() {
+        &bytes[..end]
+    } else {
+        bytes
+    }
 }
 
 // A fault in a known attribute is one of its length, at its name index.
-fn blame<T>(outcome: Result<T, ReadFault>, at: usize) -> Result<T, ReadFault>
+pub(crate) fn blame<T>(outcome: Result<T, ReadFault>, at: usize) -> Result<T, ReadFault>
     ensures { result ≡ blamed at outcome }
 {
     match outcome {
@@ -47,7 +51,11 @@ fn read_code_head(bytes: &[u8], at: usize) -> Result<CodeHead, ReadFault>
 }
 
 #[tactic(auto, unfolding(crate::specs::Codes::code_rest_at))]
-fn read_code_rest(alloc: Global, bytes: &[u8], head: CodeHead) -> Result<(CodeLayout, usize), ReadFault>
+fn read_code_rest(
+    alloc: Global,
+    bytes: &[u8],
+    head: CodeHead,
+) -> Result<(CodeLayout, usize), ReadFault>
     ensures { Gives (code_rest_at bytes.now head) result }
 {
     let code_end = skip(bytes, head.code, head.length as usize)?;
@@ -64,7 +72,12 @@ fn read_code_rest(alloc: Global, bytes: &[u8], head: CodeHead) -> Result<(CodeLa
 }
 
 #[tactic(auto, unfolding(crate::specs::Codes::code_filling, cf_pool::specs::Demands::verdict))]
-fn read_code_filling(alloc: Global, bytes: &[u8], head: CodeHead, end: usize) -> Result<CodeLayout, ReadFault>
+fn read_code_filling(
+    alloc: Global,
+    bytes: &[u8],
+    head: CodeHead,
+    end: usize,
+) -> Result<CodeLayout, ReadFault>
     ensures { Gives (code_filling bytes.now head end) result }
 {
     let (code, to) = read_code_rest(alloc, bytes, head)?;
@@ -76,13 +89,24 @@ fn read_code_filling(alloc: Global, bytes: &[u8], head: CodeHead, end: usize) ->
 /// its length, and nothing behind it is looked at; a Code that does not fill its length exactly is
 /// AttributeLength at its name index.
 #[tactic(auto, unfolding(crate::specs::Codes::code_of, cf_pool::specs::Demands::verdict), using(crate::proofs::Blamed::blames))]
-pub(crate) fn read_code(alloc: Global, bytes: &[u8], attribute: Attribute) -> Result<CodeLayout, ReadFault>
+pub(crate) fn read_code(
+    alloc: Global,
+    bytes: &[u8],
+    attribute: Attribute,
+) -> Result<CodeLayout, ReadFault>
     ensures { Gives (code_of bytes.now attribute) result }
 {
     let inside = up_to(bytes, attribute.end);
     let head = blame(read_code_head(inside, attribute.body), attribute.name.at)?;
-    demand(1 <= head.length && head.length <= 65_535, Rule::CodeLength, head.length_at)?;
-    blame(read_code_filling(alloc, inside, head, attribute.end), attribute.name.at)
+    demand(
+        1 <= head.length && head.length <= 65_535,
+        Rule::CodeLength,
+        head.length_at,
+    )?;
+    blame(
+        read_code_filling(alloc, inside, head, attribute.end),
+        attribute.name.at,
+    )
 }
 
 // How far an item reaches. `None`: its tag is above 8.
@@ -196,5 +220,8 @@ pub(crate) fn check_table(bytes: &[u8], attribute: Attribute) -> Result<(), Read
     ensures { Gives (table_of bytes.now attribute) result }
 {
     let inside = up_to(bytes, attribute.end);
-    blame(skim_table(inside, attribute.body, attribute.end), attribute.name.at)
+    blame(
+        skim_table(inside, attribute.body, attribute.end),
+        attribute.name.at,
+    )
 }

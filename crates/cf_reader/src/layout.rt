@@ -20,7 +20,12 @@ pub(crate) fn read_item(bytes: &[u8], at: usize) -> Result<(Item, usize), ReadFa
     Ok((Item { at, value }, to))
 }
 
-fn read_items(alloc: Global, count: u16, bytes: &[u8], at: usize) -> Result<(Row<Item>, usize), ReadFault>
+fn read_items(
+    alloc: Global,
+    count: u16,
+    bytes: &[u8],
+    at: usize,
+) -> Result<(Row<Item>, usize), ReadFault>
     ensures { Gives (many (item_at bytes.now) count at) result }
 {
     let mut items = Vec::new(alloc);
@@ -43,7 +48,12 @@ fn read_attribute(bytes: &[u8], at: usize) -> Result<(Attribute, usize), ReadFau
     Ok((Attribute { name, body, end }, end))
 }
 
-fn read_many_attributes(alloc: Global, count: u16, bytes: &[u8], at: usize) -> Result<(Row<Attribute>, usize), ReadFault>
+fn read_many_attributes(
+    alloc: Global,
+    count: u16,
+    bytes: &[u8],
+    at: usize,
+) -> Result<(Row<Attribute>, usize), ReadFault>
     ensures { Gives (many (attribute_at bytes.now) count at) result }
 {
     let mut attributes = Vec::new(alloc);
@@ -57,7 +67,11 @@ fn read_many_attributes(alloc: Global, count: u16, bytes: &[u8], at: usize) -> R
 }
 
 #[tactic(auto, unfolding(crate::specs::Layouts::attributes_at))]
-pub(crate) fn read_attributes(alloc: Global, bytes: &[u8], at: usize) -> Result<(Row<Attribute>, usize), ReadFault>
+pub(crate) fn read_attributes(
+    alloc: Global,
+    bytes: &[u8],
+    at: usize,
+) -> Result<(Row<Attribute>, usize), ReadFault>
     ensures { Gives (attributes_at bytes.now at) result }
 {
     let (count, first) = read_u16(bytes, at)?;
@@ -72,10 +86,23 @@ fn read_member(alloc: Global, bytes: &[u8], at: usize) -> Result<(Member, usize)
     let (name, after) = read_item(bytes, after)?;
     let (descriptor, after) = read_item(bytes, after)?;
     let (attributes, to) = read_attributes(alloc, bytes, after)?;
-    Ok((Member { flags, name, descriptor, attributes }, to))
+    Ok((
+        Member {
+            flags,
+            name,
+            descriptor,
+            attributes,
+        },
+        to,
+    ))
 }
 
-fn read_members(alloc: Global, count: u16, bytes: &[u8], at: usize) -> Result<(Row<Member>, usize), ReadFault>
+fn read_members(
+    alloc: Global,
+    count: u16,
+    bytes: &[u8],
+    at: usize,
+) -> Result<(Row<Member>, usize), ReadFault>
     ensures { Gives (many (member_at bytes.now) count at) result }
 {
     let mut members = Vec::new(alloc);

@@ -8,9 +8,17 @@ pub use cf_pool::{
 pub use class_file::{ClassFile, Code, Field, Method};
 pub use flags::Flags;
 pub use layout::MAX_LEN;
+pub use read::read_class;
 
+mod attributes;
+mod build;
+mod check;
 mod class_file;
 mod code;
 mod flags;
 mod items;
 mod layout;
+mod members;
+mod profile;
+mod read;
+mod rules;

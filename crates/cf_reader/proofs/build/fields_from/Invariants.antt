@@ -1,0 +1,8 @@
+use Rattle.std.proofs.Common.{◌≡◌, drop}
+use Rattle.cf_reader.specs.Builds.{field_from, each}
+use Rattle.cf_reader.proofs.Each.{before}
+use Rattle.cf_reader.proofs.build.fields_from.Given as goal
+
+-- those so far and those that follow are all of them
+abbrev pub invariant-loop-item : goal.invariant-loop-item
+invariant-loop-item l = before l.fields.items (each (field_from l.bytes l.pool) (drop l.item-index l.items)) ≡ each (field_from l.bytes l.pool) l.items

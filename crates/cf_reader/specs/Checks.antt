@@ -1,0 +1,251 @@
+-- What is demanded of a class file whose layout is known, in the order of bytes, and at one place in the
+-- order of the rules' numbers (JVMS 4.1, 4.5, 4.6, 4.7, 4.8): the second pass. A demand that another one
+-- covers is not made: flags that the profile leaves out need not go together, a Code of a wrong length need
+-- not fill its attribute, and a second attribute of a known kind is not entered.
+use Rattle.std.specs.Prelude.{ℕ, Bool, true, false, ◌==◌, ◌&&◌, ◌||◌, ◌+◌, ◌*◌, nat_le, not, List, [], ◌∷◌, ◌++◌, take, Option, Some, None, is_some, is_none, Result, Ok, codes, if◌then◌else◌, sum_by}
+use Rattle.std.specs.List.{list_any}
+use Rattle.std.specs.Str.{bytes_eq}
+use Rattle.cf_pool.specs.declared.fault.ReadFault.{ReadFault}
+use Rattle.cf_pool.specs.declared.fault.Rule.{Rule}
+use Rattle.cf_pool.specs.declared.fault.Rule.TheVariants as rules
+use Rattle.cf_pool.specs.declared.pool.Entry.{Entry}
+use Rattle.cf_pool.specs.declared.types.ElementType.{ElementType}
+use Rattle.cf_pool.specs.declared.types.ElementType.TheVariants as elements
+use Rattle.cf_pool.specs.declared.types.FieldType.{FieldType}
+use Rattle.cf_pool.specs.declared.types.MethodDescriptor.{MethodDescriptor}
+use Rattle.cf_pool.specs.Reading.{◌>>=◌}
+use Rattle.cf_pool.specs.Demands.{Demand, of_each, of_read, of_some}
+use Rattle.cf_pool.specs.Names.{is_method_name, is_name}
+use Rattle.cf_pool.specs.Types.{begins_with, field_descriptor_of, method_descriptor_of}
+use Rattle.cf_pool.specs.Pools.{class_at, indexed, integer_at, named, pool_demands, utf8_at}
+use Rattle.cf_reader.specs.declared.flags.TheConstants.Flags.{INTERFACE, STATIC}
+use Rattle.cf_reader.specs.declared.items.Item.{Item}
+use Rattle.cf_reader.specs.declared.items.Attribute.{Attribute}
+use Rattle.cf_reader.specs.declared.items.Member.{Member}
+use Rattle.cf_reader.specs.declared.items.Layout.{Layout}
+use Rattle.cf_reader.specs.declared.attributes.Known.{Known}
+use Rattle.cf_reader.specs.declared.attributes.Known.TheVariants as known
+use Rattle.cf_reader.specs.Layouts.{item_at, keeps}
+use Rattle.cf_reader.specs.Codes.{blamed, code_of, table_of}
+use Rattle.cf_reader.specs.Rules.{class_flags_fit, field_flags_fit, has, method_flags_fit}
+use Rattle.cf_reader.specs.Profile.{class_flags_in_profile, count_in_profile, field_flags_in_profile, field_type_in_profile, handlers_in_profile, method_flags_in_profile, method_name_in_profile, method_type_in_profile, super_in_profile}
+
+-- one demand
+abbrev pub demand : ℕ → Rule → Bool → List Demand
+demand at rule holds = record { at = at; rule = rule; holds = holds } ∷ []
+
+-- ---- attributes
+
+-- a text that was found is this one
+abbrev pub text_is : List ℕ → Option (List ℕ) → Bool
+text_is text (Some found) = bytes_eq found text
+text_is text None = false
+
+unfoldable pub is_named : List Entry → List ℕ → Attribute → Bool
+is_named pool name attribute = text_is name (utf8_at pool attribute.name.value)
+
+-- the first attribute of a name
+unfoldable pub first_named : List Entry → List ℕ → List Attribute → Option Attribute
+first_named pool name [] = None
+first_named pool name (attribute ∷ others) = if is_named pool name attribute then Some attribute else first_named pool name others
+
+-- an attribute is of the kind that is known where it stands
+unfoldable pub is_known : List Entry → Known → Attribute → Bool
+is_known pool known.Nothing attribute = false
+is_known pool known.ConstantValue attribute = is_named pool (codes "ConstantValue") attribute
+is_known pool known.StackMapTable attribute = is_named pool (codes "StackMapTable") attribute
+
+-- The demands of an attribute: its name is a text; a known one is the first of its kind, and has the
+-- demands of its kind.
+unfoldable pub one_attribute : List Entry → (Attribute → Bool) → (Attribute → List Demand) → Bool → Attribute → List Demand
+one_attribute pool is_known inside seen attribute =
+    indexed attribute.name.at (utf8_at pool attribute.name.value)
+    ++ (if is_known attribute then (if seen then demand attribute.name.at rules.Duplicate false else inside attribute) else [])
+
+-- the demands of attributes, where `seen` tells whether a known one stood before
+unfoldable pub attribute_demands : List Entry → (Attribute → Bool) → (Attribute → List Demand) → Bool → List Attribute → List Demand
+attribute_demands pool is_known inside seen [] = []
+attribute_demands pool is_known inside seen (attribute ∷ others) =
+    one_attribute pool is_known inside seen attribute ++ attribute_demands pool is_known inside (seen || is_known attribute) others
+
+-- a ConstantValue's index, which fills its length
+unfoldable pub constant_filling : List ℕ → ℕ → ℕ → Result Item ReadFault
+constant_filling bytes at end = do
+  index ← item_at bytes at
+  _ ← keeps (index.1 == end) rules.AttributeLength at
+  Ok index.0
+
+unfoldable pub constant_of : List ℕ → Attribute → Result Item ReadFault
+constant_of bytes attribute = blamed attribute.name.at (constant_filling (take attribute.end bytes) attribute.body attribute.end)
+
+-- the demands of a known attribute but Code
+unfoldable pub known_demands : List ℕ → List Entry → Known → Attribute → List Demand
+known_demands bytes pool known.Nothing attribute = []
+known_demands bytes pool known.ConstantValue attribute =
+    of_read (constant_of bytes attribute) (λ index. indexed index.at (integer_at pool index.value))
+known_demands bytes pool known.StackMapTable attribute = of_read (table_of bytes attribute) (λ _. [])
+
+-- the demands of attributes where one kind but Code is known
+unfoldable pub plain_demands : List ℕ → List Entry → Known → List Attribute → List Demand
+plain_demands bytes pool kind attributes = attribute_demands pool (is_known pool kind) (known_demands bytes pool kind) false attributes
+
+-- the demands of a Code
+unfoldable pub code_demands : List ℕ → List Entry → Attribute → List Demand
+code_demands bytes pool attribute =
+    of_read (code_of bytes attribute) (λ code.
+    demand code.handler_count.at rules.OutOfProfile (handlers_in_profile code.handler_count.value)
+    ++ plain_demands bytes pool known.StackMapTable code.attributes)
+
+-- the demands of a method's attributes
+unfoldable pub method_attribute_demands : List ℕ → List Entry → List Attribute → List Demand
+method_attribute_demands bytes pool attributes =
+    attribute_demands pool (is_named pool (codes "Code")) (code_demands bytes pool) false attributes
+
+-- ---- members
+
+-- two texts that were found are one
+abbrev pub same_text : Option (List ℕ) → Option (List ℕ) → Bool
+same_text (Some a) (Some b) = bytes_eq a b
+same_text (Some a) None = false
+same_text None other = false
+
+-- two members of one name and descriptor
+unfoldable pub same_member : List Entry → Member → Member → Bool
+same_member pool a b =
+    same_text (utf8_at pool a.name.value) (utf8_at pool b.name.value)
+    && same_text (utf8_at pool a.descriptor.value) (utf8_at pool b.descriptor.value)
+
+-- a member's name and descriptor stood before
+unfoldable pub occurs : List Entry → List Member → Member → Bool
+occurs pool earlier member = list_any (same_member pool member) earlier
+
+-- the demands of a member's flags: they go together, the member is new, it is in profile
+unfoldable pub flag_demands : ℕ → Bool → Bool → Bool → List Demand
+flag_demands at fit new in_profile =
+    demand at rules.Flags (not in_profile || fit) ++ demand at rules.Duplicate new ++ demand at rules.OutOfProfile in_profile
+
+-- ---- fields
+
+-- a descriptor that says int or boolean
+unfoldable pub is_int_text : Option (List ℕ) → Bool
+is_int_text found = text_is (codes "I") found || text_is (codes "Z") found
+
+unfoldable pub field_flag_demands : List Entry → ℕ → List Member → Member → List Demand
+field_flag_demands pool class earlier field =
+    flag_demands field.flags.at (field_flags_fit (has class INTERFACE) field.flags.value) (not (occurs pool earlier field))
+    (field_flags_in_profile (is_int_text (utf8_at pool field.descriptor.value))
+    (is_some (first_named pool (codes "ConstantValue") field.attributes)) field.flags.value)
+
+-- the demands of a descriptor's text
+unfoldable pub field_type_demands : ℕ → List ℕ → List Demand
+field_type_demands at text = of_read (field_descriptor_of at text) (λ type. demand at rules.OutOfProfile (field_type_in_profile type))
+
+unfoldable pub field_descriptor_demands : List Entry → Item → List Demand
+field_descriptor_demands pool item =
+    indexed item.at (utf8_at pool item.value) ++ of_some (utf8_at pool item.value) (field_type_demands item.at)
+
+-- which attribute is known: ConstantValue, on static fields
+unfoldable pub field_known : ℕ → Known
+field_known bits = if has bits STATIC then known.ConstantValue else known.Nothing
+
+unfoldable pub field_demands : List ℕ → List Entry → ℕ → List Member → ℕ → Member → List Demand
+field_demands bytes pool class fields index field =
+    field_flag_demands pool class (take index fields) field
+    ++ named field.name.at (utf8_at pool field.name.value) is_name
+    ++ field_descriptor_demands pool field.descriptor
+    ++ plain_demands bytes pool (field_known field.flags.value) field.attributes
+
+-- ---- methods
+
+unfoldable pub is_initializer : List Entry → Item → Bool
+is_initializer pool name = text_is (codes "<init>") (utf8_at pool name.value)
+
+unfoldable pub method_flag_demands : List Entry → ℕ → List Member → Member → List Demand
+method_flag_demands pool class earlier method =
+    flag_demands method.flags.at
+    (method_flags_fit class (is_some (first_named pool (codes "Code") method.attributes)) (is_initializer pool method.name) method.flags.value)
+    (not (occurs pool earlier method)) (method_flags_in_profile class method.flags.value)
+
+unfoldable pub method_name_demands : List Entry → Item → List Demand
+method_name_demands pool item =
+    named item.at (utf8_at pool item.value) is_method_name
+    ++ of_some (utf8_at pool item.value) (λ name. demand item.at rules.OutOfProfile (method_name_in_profile name))
+
+-- how many words a value of an element takes, and a value of a type
+abbrev pub element_words : ElementType → ℕ
+element_words elements.Long = 2
+element_words elements.Double = 2
+element_words elements.Byte = 1
+element_words elements.Char = 1
+element_words elements.Float = 1
+element_words elements.Int = 1
+element_words elements.Short = 1
+element_words elements.Boolean = 1
+element_words (elements.Class name) = 1
+
+unfoldable pub words_of : FieldType → ℕ
+words_of type = if type.dimensions == 0 then element_words type.element else 1
+
+-- parameters, with the receiver where there is one, take at most 255 words (JVMS 4.3.3)
+unfoldable pub are_few : Bool → List FieldType → Bool
+are_few static parameters = nat_le (sum_by words_of parameters + (if static then 0 else 1)) 255
+
+-- The demands of a method's type: its parameters are few, an initializer answers nothing, it is in profile.
+unfoldable pub method_type_demands : ℕ → Bool → Bool → List ℕ → List Demand
+method_type_demands at static initializer text =
+    of_read (method_descriptor_of at text) (λ type.
+    demand at rules.Descriptor (are_few static type.parameters && (not initializer || is_none type.result))
+    ++ demand at rules.OutOfProfile (method_type_in_profile type))
+
+unfoldable pub method_descriptor_demands : List Entry → Member → List Demand
+method_descriptor_demands pool method =
+    indexed method.descriptor.at (utf8_at pool method.descriptor.value)
+    ++ of_some (utf8_at pool method.descriptor.value)
+    (method_type_demands method.descriptor.at (has method.flags.value STATIC) (is_initializer pool method.name))
+
+unfoldable pub method_demands : List ℕ → List Entry → ℕ → List Member → ℕ → Member → List Demand
+method_demands bytes pool class methods index method =
+    method_flag_demands pool class (take index methods) method
+    ++ method_name_demands pool method.name
+    ++ method_descriptor_demands pool method
+    ++ method_attribute_demands bytes pool method.attributes
+
+-- ---- the class
+
+unfoldable pub class_flag_demands : Item → List Demand
+class_flag_demands flags =
+    demand flags.at rules.Flags (not (class_flags_in_profile flags.value) || class_flags_fit flags.value)
+    ++ demand flags.at rules.OutOfProfile (class_flags_in_profile flags.value)
+
+-- an index names a class, and no array
+unfoldable pub class_index_demands : List Entry → Item → List Demand
+class_index_demands pool item = named item.at (class_at pool item.value) (λ name. not (begins_with 91 name))
+
+unfoldable pub super_demands : List Entry → Item → List Demand
+super_demands pool item =
+    class_index_demands pool item
+    ++ of_some (class_at pool item.value) (λ name. demand item.at rules.OutOfProfile (super_in_profile name))
+
+unfoldable pub head_demands : Layout → List Demand
+head_demands layout =
+    pool_demands layout.pool ++ class_flag_demands layout.flags ++ class_index_demands layout.pool.pool layout.this
+    ++ super_demands layout.pool.pool layout.superclass
+
+unfoldable pub interfaces_demands : Layout → List Demand
+interfaces_demands layout =
+    demand layout.interface_count.at rules.OutOfProfile (count_in_profile layout.interface_count.value)
+    ++ of_each (λ index interface. class_index_demands layout.pool.pool interface) 0 layout.interfaces
+
+unfoldable pub fields_demands : List ℕ → Layout → List Demand
+fields_demands bytes layout =
+    demand layout.field_count.at rules.OutOfProfile (count_in_profile layout.field_count.value)
+    ++ of_each (field_demands bytes layout.pool.pool layout.flags.value layout.fields) 0 layout.fields
+
+unfoldable pub methods_demands : List ℕ → Layout → List Demand
+methods_demands bytes layout = of_each (method_demands bytes layout.pool.pool layout.flags.value layout.methods) 0 layout.methods
+
+-- all demands, in order
+unfoldable pub demands : List ℕ → Layout → List Demand
+demands bytes layout =
+    head_demands layout ++ interfaces_demands layout ++ fields_demands bytes layout ++ methods_demands bytes layout
+    ++ plain_demands bytes layout.pool.pool known.Nothing layout.attributes

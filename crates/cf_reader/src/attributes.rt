@@ -1,0 +1,201 @@
+//! What is demanded of attributes (JVMS 4.7): the names of all, and what is inside the known ones.
+
+ghost use Rattle.std.specs.Prelude.{◌≡◌, false};
+ghost use Rattle.std.specs.Prelude.{codes};
+ghost use Rattle.cf_pool.specs.Reading.{Gives};
+ghost use Rattle.cf_pool.specs.Demands.{verdict};
+ghost use Rattle.cf_reader.specs.Codes.{table_of};
+ghost use Rattle.cf_reader.specs.Checks.{attribute_demands, code_demands, constant_filling, constant_of, first_named, is_known, is_named, known_demands, method_attribute_demands, one_attribute, plain_demands};
+
+use super::code::{blame, check_table, read_code, up_to};
+use super::items::{Attribute, Item};
+use super::layout::read_item;
+use super::profile::handlers_in_profile;
+use cf_pool::{Pool, ReadFault, Rule, demand};
+use std::alloc::Global;
+
+pub(crate) const CODE: &[u8] = b"Code";
+
+pub(crate) const CONSTANT_VALUE: &[u8] = b"ConstantValue";
+
+pub(crate) const STACK_MAP_TABLE: &[u8] = b"StackMapTable";
+
+/// Which attribute is known where it stands, Code aside, which is known in methods.
+#[derive(Clone, Copy, Debug, PartialEq, Eq)]
+pub(crate) enum Known {
+    /// None: all are skipped by their length.
+    Nothing,
+    /// Of static fields.
+    ConstantValue,
+    /// Inside a Code.
+    StackMapTable,
+}
+
+#[tactic(auto, unfolding(crate::specs::Checks::is_named))]
+pub(crate) fn is_named(pool: &Pool, name: &[u8], attribute: Attribute) -> bool
+    ensures { result ≡ is_named pool.now name.now attribute }
+{
+    match pool.utf8(attribute.name.value) {
+        Some(text) => text.as_bytes() == name,
+        None => false,
+    }
+}
+
+/// The first attribute of a name.
+#[tactic(auto, unfolding(crate::specs::Checks::first_named))]
+pub(crate) fn first_named(pool: &Pool, name: &[u8], attributes: &[Attribute]) -> Option<Attribute>
+    ensures { result ≡ first_named pool.now name.now attributes.now }
+{
+    for attribute in attributes {
+        if is_named(pool, name, *attribute) {
+            return Some(*attribute);
+        }
+    }
+    None
+}
+
+#[tactic(auto, unfolding(crate::specs::Checks::constant_filling, cf_pool::specs::Demands::verdict))]
+fn read_constant_filling(bytes: &[u8], at: usize, end: usize) -> Result<Item, ReadFault>
+    ensures { Gives (constant_filling bytes.now at end) result }
+{
+    let (index, to) = read_item(bytes, at)?;
+    demand(to == end, Rule::AttributeLength, at)?;
+    Ok(index)
+}
+
+/// A ConstantValue's index (JVMS 4.7.2). One that does not fill its length is AttributeLength at its
+/// name index.
+#[tactic(auto, unfolding(crate::specs::Checks::constant_of), using(crate::proofs::Blamed::blames))]
+pub(crate) fn read_constant(bytes: &[u8], attribute: Attribute) -> Result<Item, ReadFault>
+    ensures { Gives (constant_of bytes.now attribute) result }
+{
+    let inside = up_to(bytes, attribute.end);
+    blame(
+        read_constant_filling(inside, attribute.body, attribute.end),
+        attribute.name.at,
+    )
+}
+
+impl Known {
+    #[tactic(auto, unfolding(crate::specs::Checks::is_known))]
+    fn is(self, pool: &Pool, attribute: Attribute) -> bool
+        ensures { result ≡ is_known pool.now self attribute }
+    {
+        match self {
+            Known::Nothing => false,
+            Known::ConstantValue => is_named(pool, CONSTANT_VALUE, attribute),
+            Known::StackMapTable => is_named(pool, STACK_MAP_TABLE, attribute),
+        }
+    }
+
+    #[tactic(auto, unfolding(crate::specs::Checks::known_demands, cf_pool::specs::Demands::verdict, cf_pool::specs::Pools::indexed))]
+    fn check(self, bytes: &[u8], pool: &Pool, attribute: Attribute) -> Result<(), ReadFault>
+        ensures { Gives (verdict (known_demands bytes.now pool.now self attribute)) result }
+    {
+        match self {
+            Known::Nothing => Ok(()),
+            Known::ConstantValue => {
+                let index = read_constant(bytes, attribute)?;
+                demand(pool.integer(index.value).is_some(), Rule::Index, index.at)
+            }
+            Known::StackMapTable => check_table(bytes, attribute),
+        }
+    }
+
+    #[tactic(auto, unfolding(crate::specs::Checks::one_attribute, cf_pool::specs::Demands::verdict, cf_pool::specs::Pools::indexed))]
+    fn check_one(
+        self,
+        bytes: &[u8],
+        pool: &Pool,
+        seen: bool,
+        attribute: Attribute,
+    ) -> Result<(), ReadFault>
+        ensures { Gives (verdict (one_attribute pool.now (is_known pool.now self) (known_demands bytes.now pool.now self) seen attribute)) result }
+    {
+        demand(
+            pool.utf8(attribute.name.value).is_some(),
+            Rule::Index,
+            attribute.name.at,
+        )?;
+        if !self.is(pool, attribute) {
+            return Ok(());
+        }
+        demand(!seen, Rule::Duplicate, attribute.name.at)?;
+        self.check(bytes, pool, attribute)
+    }
+
+    /// The first demand of these attributes that does not hold, where this kind is known.
+    pub(crate) fn check_all(
+        self,
+        bytes: &[u8],
+        pool: &Pool,
+        attributes: &[Attribute],
+    ) -> Result<(), ReadFault>
+        ensures { Gives (verdict (plain_demands bytes.now pool.now self attributes.now)) result }
+    {
+        let mut seen = false;
+        for attribute in attributes {
+            self.check_one(bytes, pool, seen, *attribute)?;
+            seen |= self.is(pool, *attribute);
+        }
+        Ok(())
+    }
+}
+
+#[tactic(auto, unfolding(crate::specs::Checks::code_demands, cf_pool::specs::Demands::verdict))]
+fn check_code(
+    alloc: Global,
+    bytes: &[u8],
+    pool: &Pool,
+    attribute: Attribute,
+) -> Result<(), ReadFault>
+    ensures { Gives (verdict (code_demands bytes.now pool.now attribute)) result }
+{
+    let code = read_code(alloc, bytes, attribute)?;
+    let handlers = code.handler_count;
+    demand(
+        handlers_in_profile(handlers.value),
+        Rule::OutOfProfile,
+        handlers.at,
+    )?;
+    Known::StackMapTable.check_all(bytes, pool, code.attributes.as_slice())
+}
+
+#[tactic(auto, unfolding(crate::specs::Checks::one_attribute, cf_pool::specs::Demands::verdict, cf_pool::specs::Pools::indexed))]
+fn check_method_attribute(
+    alloc: Global,
+    bytes: &[u8],
+    pool: &Pool,
+    seen: bool,
+    attribute: Attribute,
+) -> Result<(), ReadFault>
+    ensures { Gives (verdict (one_attribute pool.now (is_named pool.now (codes "Code")) (code_demands bytes.now pool.now) seen attribute)) result }
+{
+    demand(
+        pool.utf8(attribute.name.value).is_some(),
+        Rule::Index,
+        attribute.name.at,
+    )?;
+    if !is_named(pool, CODE, attribute) {
+        return Ok(());
+    }
+    demand(!seen, Rule::Duplicate, attribute.name.at)?;
+    check_code(alloc, bytes, pool, attribute)
+}
+
+/// The first demand of a method's attributes that does not hold.
+pub(crate) fn check_method_attributes(
+    alloc: Global,
+    bytes: &[u8],
+    pool: &Pool,
+    attributes: &[Attribute],
+) -> Result<(), ReadFault>
+    ensures { Gives (verdict (method_attribute_demands bytes.now pool.now attributes.now)) result }
+{
+    let mut seen = false;
+    for attribute in attributes {
+        check_method_attribute(alloc, bytes, pool, seen, *attribute)?;
+        seen |= is_named(pool, CODE, *attribute);
+    }
+    Ok(())
+}

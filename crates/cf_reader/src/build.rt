@@ -1,0 +1,249 @@
+//! What a layout says, once its demands hold.
+
+ghost use Rattle.std.specs.Prelude.{◌≡◌};
+ghost use Rattle.cf_pool.specs.Reading.{Gives};
+ghost use Rattle.cf_reader.specs.Builds.{between, class_from, class_name_of, code_from, code_in, constant_attribute, constant_from, each, field_from, method_from, table_in, text_of};
+
+use super::attributes::{CODE, CONSTANT_VALUE, STACK_MAP_TABLE, first_named, read_constant};
+use super::code::{read_code, up_to};
+use super::items::{Attribute, CodeLayout, Item, Layout, Member};
+use super::{ClassFile, Code, Field, Flags, Method};
+use cf_pool::{Pool, ReadFault, Row, Rule, Text, read_field_descriptor, read_method_descriptor};
+use std::alloc::Global;
+
+fn wrong_index(at: usize) -> ReadFault
+    ensures { result ≡ ReadFault.Broken Rule.Index at }
+{
+    ReadFault::Broken {
+        rule: Rule::Index,
+        at,
+    }
+}
+
+fn text_of(pool: &Pool, item: Item) -> Result<Text, ReadFault>
+    ensures { Gives (text_of pool.now item) result }
+{
+    let Some(text) = pool.utf8(item.value) else {
+        return Err(wrong_index(item.at));
+    };
+    Ok(text.copy()?)
+}
+
+fn class_name_of(pool: &Pool, item: Item) -> Result<Text, ReadFault>
+    ensures { Gives (class_name_of pool.now item) result }
+{
+    let Some(name) = pool.class(item.value) else {
+        return Err(wrong_index(item.at));
+    };
+    Ok(name.copy()?)
+}
+
+// The bytes between two places.
+fn between(alloc: Global, bytes: &[u8], from: usize, to: usize) -> Result<Row<u8>, ReadFault>
+    ensures { Gives (Ok (between bytes.now from to)) result }
+{
+    let front = up_to(bytes, to);
+    let part = if from < front.len() {
+        &front[from..]
+    } else {
+        &[]
+    };
+    Ok(Row::new(Vec::from_slice(alloc, part)?))
+}
+
+fn table_in(
+    alloc: Global,
+    bytes: &[u8],
+    table: Option<Attribute>,
+) -> Result<Option<Row<u8>>, ReadFault>
+    ensures { Gives (Ok (table_in bytes.now table)) result }
+{
+    match table {
+        None => Ok(None),
+        Some(attribute) => Ok(Some(between(alloc, bytes, attribute.body, attribute.end)?)),
+    }
+}
+
+#[tactic(auto, unfolding(crate::specs::Builds::code_in))]
+fn code_in(alloc: Global, bytes: &[u8], pool: &Pool, code: &CodeLayout) -> Result<Code, ReadFault>
+    ensures { Gives (Ok (code_in bytes.now pool.now code.now)) result }
+{
+    let head = code.head;
+    let table = first_named(pool, STACK_MAP_TABLE, code.attributes.as_slice());
+    let stack_map_table = table_in(alloc, bytes, table)?;
+    let bytes = between(alloc, bytes, head.code, code.code_end)?;
+    Ok(Code {
+        max_stack: head.max_stack,
+        max_locals: head.max_locals,
+        bytes,
+        stack_map_table,
+    })
+}
+
+fn code_from(
+    alloc: Global,
+    bytes: &[u8],
+    pool: &Pool,
+    attribute: Option<Attribute>,
+) -> Result<Option<Code>, ReadFault>
+    ensures { Gives (code_from bytes.now pool.now attribute) result }
+{
+    match attribute {
+        None => Ok(None),
+        Some(attribute) => {
+            let layout = read_code(alloc, bytes, attribute)?;
+            let code = code_in(alloc, bytes, pool, &layout)?;
+            Ok(Some(code))
+        }
+    }
+}
+
+#[tactic(auto, unfolding(crate::specs::Builds::method_from))]
+fn method_from(
+    alloc: Global,
+    bytes: &[u8],
+    pool: &Pool,
+    method: &Member,
+) -> Result<Method, ReadFault>
+    ensures { Gives (method_from bytes.now pool.now method.now) result }
+{
+    let name = text_of(pool, method.name)?;
+    let descriptor = text_of(pool, method.descriptor)?;
+    let types = read_method_descriptor(alloc, descriptor.as_bytes(), method.descriptor.at)?;
+    let attribute = first_named(pool, CODE, method.attributes.as_slice());
+    let code = code_from(alloc, bytes, pool, attribute)?;
+    let flags = Flags {
+        bits: method.flags.value,
+    };
+    Ok(Method {
+        flags,
+        name,
+        descriptor,
+        types,
+        code,
+    })
+}
+
+fn constant_from(
+    bytes: &[u8],
+    pool: &Pool,
+    attribute: Option<Attribute>,
+) -> Result<Option<i32>, ReadFault>
+    ensures { Gives (constant_from bytes.now pool.now attribute) result }
+{
+    let Some(attribute) = attribute else {
+        return Ok(None);
+    };
+    let index = read_constant(bytes, attribute)?;
+    match pool.integer(index.value) {
+        Some(value) => Ok(Some(value)),
+        None => Err(wrong_index(index.at)),
+    }
+}
+
+// The attribute that gives a field its value: of static fields alone.
+#[tactic(auto, unfolding(crate::specs::Builds::constant_attribute))]
+fn constant_attribute(pool: &Pool, field: &Member) -> Option<Attribute>
+    ensures { result ≡ constant_attribute pool.now field.now }
+{
+    let flags = Flags {
+        bits: field.flags.value,
+    };
+    if flags.has(Flags::STATIC) {
+        first_named(pool, CONSTANT_VALUE, field.attributes.as_slice())
+    } else {
+        None
+    }
+}
+
+#[tactic(auto, unfolding(crate::specs::Builds::field_from))]
+fn field_from(alloc: Global, bytes: &[u8], pool: &Pool, field: &Member) -> Result<Field, ReadFault>
+    ensures { Gives (field_from bytes.now pool.now field.now) result }
+{
+    let name = text_of(pool, field.name)?;
+    let descriptor = text_of(pool, field.descriptor)?;
+    let kind = read_field_descriptor(alloc, descriptor.as_bytes(), field.descriptor.at)?;
+    let flags = Flags {
+        bits: field.flags.value,
+    };
+    let constant = constant_from(bytes, pool, constant_attribute(pool, field))?;
+    Ok(Field {
+        flags,
+        name,
+        descriptor,
+        kind,
+        constant,
+    })
+}
+
+fn interfaces_from(alloc: Global, pool: &Pool, items: &[Item]) -> Result<Row<Text>, ReadFault>
+    ensures { Gives (each (class_name_of pool.now) items.now) result }
+{
+    let mut names = Vec::new(alloc);
+    for item in items {
+        let name = class_name_of(pool, *item)?;
+        names.push(name)?;
+    }
+    Ok(Row::new(names))
+}
+
+fn fields_from(
+    alloc: Global,
+    bytes: &[u8],
+    pool: &Pool,
+    items: &[Member],
+) -> Result<Row<Field>, ReadFault>
+    ensures { Gives (each (field_from bytes.now pool.now) items.now) result }
+{
+    let mut fields = Vec::new(alloc);
+    for item in items {
+        let field = field_from(alloc, bytes, pool, item)?;
+        fields.push(field)?;
+    }
+    Ok(Row::new(fields))
+}
+
+fn methods_from(
+    alloc: Global,
+    bytes: &[u8],
+    pool: &Pool,
+    items: &[Member],
+) -> Result<Row<Method>, ReadFault>
+    ensures { Gives (each (method_from bytes.now pool.now) items.now) result }
+{
+    let mut methods = Vec::new(alloc);
+    for item in items {
+        let method = method_from(alloc, bytes, pool, item)?;
+        methods.push(method)?;
+    }
+    Ok(Row::new(methods))
+}
+
+/// The class file that a layout of these bytes says.
+#[tactic(auto, unfolding(crate::specs::Builds::class_from))]
+pub(crate) fn class_from(
+    alloc: Global,
+    bytes: &[u8],
+    layout: Layout,
+) -> Result<ClassFile, ReadFault>
+    ensures { Gives (class_from bytes.now layout) result }
+{
+    let pool = &layout.pool.pool;
+    let name = class_name_of(pool, layout.this)?;
+    let superclass = class_name_of(pool, layout.superclass)?;
+    let interfaces = interfaces_from(alloc, pool, layout.interfaces.as_slice())?;
+    let fields = fields_from(alloc, bytes, pool, layout.fields.as_slice())?;
+    let methods = methods_from(alloc, bytes, pool, layout.methods.as_slice())?;
+    let flags = Flags {
+        bits: layout.flags.value,
+    };
+    Ok(ClassFile {
+        pool: layout.pool.pool,
+        flags,
+        name,
+        superclass: Some(superclass),
+        interfaces,
+        fields,
+        methods,
+    })
+}

@@ -1,0 +1,126 @@
+//! The second pass: the first demand that does not hold, in the order of bytes.
+
+ghost use Rattle.std.specs.Prelude.{◌≡◌};
+ghost use Rattle.cf_pool.specs.Reading.{Gives};
+ghost use Rattle.cf_pool.specs.Demands.{of_each, verdict};
+ghost use Rattle.cf_reader.specs.Checks.{class_flag_demands, class_index_demands, demands, fields_demands, head_demands, interfaces_demands, methods_demands, super_demands};
+
+use super::Flags;
+use super::attributes::Known;
+use super::items::{Item, Layout};
+use super::members::{check_fields, check_methods};
+use super::profile::{class_flags_in_profile, count_in_profile, super_in_profile};
+use super::rules::class_flags_fit;
+use cf_pool::{Pool, ReadFault, Rule, begins_with, demand};
+use std::alloc::Global;
+
+#[tactic(auto, unfolding(crate::specs::Checks::class_flag_demands, cf_pool::specs::Demands::verdict))]
+fn check_class_flags(item: Item) -> Result<(), ReadFault>
+    ensures { result ≡ verdict (class_flag_demands item) }
+{
+    let flags = Flags { bits: item.value };
+    let is_in_profile = class_flags_in_profile(flags);
+    demand(
+        !is_in_profile || class_flags_fit(flags),
+        Rule::Flags,
+        item.at,
+    )?;
+    demand(is_in_profile, Rule::OutOfProfile, item.at)
+}
+
+// An index names a class, and no array.
+#[tactic(auto, unfolding(crate::specs::Checks::class_index_demands, cf_pool::specs::Demands::verdict, cf_pool::specs::Pools::named))]
+fn check_class_index(pool: &Pool, item: Item) -> Result<(), ReadFault>
+    ensures { result ≡ verdict (class_index_demands pool.now item) }
+{
+    let Some(name) = pool.class(item.value) else {
+        return Err(ReadFault::Broken {
+            rule: Rule::Index,
+            at: item.at,
+        });
+    };
+    demand(!begins_with(name.as_bytes(), b'['), Rule::Utf8, item.at)
+}
+
+#[tactic(auto, unfolding(crate::specs::Checks::super_demands, crate::specs::Checks::class_index_demands, cf_pool::specs::Demands::verdict, cf_pool::specs::Pools::named))]
+fn check_super(pool: &Pool, item: Item) -> Result<(), ReadFault>
+    ensures { result ≡ verdict (super_demands pool.now item) }
+{
+    check_class_index(pool, item)?;
+    match pool.class(item.value) {
+        Some(name) => demand(super_in_profile(name), Rule::OutOfProfile, item.at),
+        None => Ok(()),
+    }
+}
+
+fn check_each_interface(pool: &Pool, interfaces: &[Item]) -> Result<(), ReadFault>
+    ensures { Gives (verdict (of_each (λ index interface. class_index_demands pool.now interface) 0 interfaces.now)) result }
+{
+    for interface in interfaces {
+        check_class_index(pool, *interface)?;
+    }
+    Ok(())
+}
+
+impl Layout {
+    // The constant pool, the flags, this and super.
+    #[tactic(auto, unfolding(crate::specs::Checks::head_demands), using(cf_pool::proofs::Verdicts::verdicts))]
+    fn check_head(&self, alloc: Global) -> Result<(), ReadFault>
+        ensures { Gives (verdict (head_demands self.now)) result }
+    {
+        let pool = &self.pool.pool;
+        self.pool.check(alloc)?;
+        check_class_flags(self.flags)?;
+        check_class_index(pool, self.this)?;
+        check_super(pool, self.superclass)
+    }
+
+    #[tactic(auto, unfolding(crate::specs::Checks::interfaces_demands, cf_pool::specs::Demands::verdict))]
+    fn check_interfaces(&self) -> Result<(), ReadFault>
+        ensures { Gives (verdict (interfaces_demands self.now)) result }
+    {
+        let count = self.interface_count;
+        demand(count_in_profile(count.value), Rule::OutOfProfile, count.at)?;
+        check_each_interface(&self.pool.pool, self.interfaces.as_slice())
+    }
+
+    #[tactic(auto, unfolding(crate::specs::Checks::fields_demands, cf_pool::specs::Demands::verdict))]
+    fn check_fields(&self, alloc: Global, bytes: &[u8]) -> Result<(), ReadFault>
+        ensures { Gives (verdict (fields_demands bytes.now self.now)) result }
+    {
+        let count = self.field_count;
+        demand(count_in_profile(count.value), Rule::OutOfProfile, count.at)?;
+        let class = Flags {
+            bits: self.flags.value,
+        };
+        check_fields(alloc, bytes, &self.pool.pool, class, self.fields.as_slice())
+    }
+
+    #[tactic(auto, unfolding(crate::specs::Checks::methods_demands))]
+    fn check_methods(&self, alloc: Global, bytes: &[u8]) -> Result<(), ReadFault>
+        ensures { Gives (verdict (methods_demands bytes.now self.now)) result }
+    {
+        let class = Flags {
+            bits: self.flags.value,
+        };
+        check_methods(
+            alloc,
+            bytes,
+            &self.pool.pool,
+            class,
+            self.methods.as_slice(),
+        )
+    }
+
+    /// The first demand of this layout of these bytes that does not hold.
+    #[tactic(auto, unfolding(crate::specs::Checks::demands), using(cf_pool::proofs::Verdicts::verdicts))]
+    pub(crate) fn check(&self, alloc: Global, bytes: &[u8]) -> Result<(), ReadFault>
+        ensures { Gives (verdict (demands bytes.now self.now)) result }
+    {
+        self.check_head(alloc)?;
+        self.check_interfaces()?;
+        self.check_fields(alloc, bytes)?;
+        self.check_methods(alloc, bytes)?;
+        Known::Nothing.check_all(bytes, &self.pool.pool, self.attributes.as_slice())
+    }
+}

@@ -1,0 +1,32 @@
+//! Reading a class file from its bytes.
+
+ghost use Rattle.std.specs.Prelude.{◌≡◌};
+ghost use Rattle.cf_pool.specs.Reading.{Gives};
+ghost use Rattle.cf_pool.specs.Demands.{verdict};
+ghost use Rattle.cf_reader.specs.Builds.{reading_of};
+
+use super::ClassFile;
+use super::build::class_from;
+use super::layout::layout_of;
+use cf_pool::ReadFault;
+use std::alloc::Global;
+
+/// The class file that the bytes spell (JVMS 4.1), in this project's profile.
+///
+/// A refusal names a rule and the place of the item that breaks it. There are two passes. The first
+/// reads the layout and enters no attribute: TooLarge at the first byte too many, before all else;
+/// then the first in the order of bytes of Truncated, at the first byte of the cut item; Magic;
+/// Version; Tag; Index, where the constant pool's count is 0 or its last entry wants two indices; and
+/// Trailing, at the first byte behind the class. The second pass answers the first item at fault in
+/// the order of bytes, and at one item the rule of the lowest number: Utf8, Index, Descriptor, Flags,
+/// CodeLength, AttributeLength, Duplicate, OutOfProfile. Want of memory may come in place of any
+/// answer.
+#[tactic(auto, unfolding(crate::specs::Builds::reading_of))]
+pub fn read_class(alloc: Global, bytes: &[u8]) -> Result<ClassFile, ReadFault>
+    // The reading of the bytes, and the first fault where there is none.
+    ensures exact { Gives (reading_of bytes.now) result }
+{
+    let layout = layout_of(alloc, bytes)?;
+    layout.check(alloc, bytes)?;
+    class_from(alloc, bytes, layout)
+}
