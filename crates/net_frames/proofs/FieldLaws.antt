@@ -15,7 +15,7 @@ use Rattle.net_frames.specs.Reading.{◌>>=◌, shown, tested, both, items_at, b
 abbrev pub IsBytes : List ℕ → Type 0
 IsBytes bytes = (i : ℕ) → get_or bytes i 0 < 256
 
-IsBytes-drop : (n : ℕ) (bytes : List ℕ) → IsBytes bytes → IsBytes (drop n bytes)
+pub IsBytes-drop : (n : ℕ) (bytes : List ℕ) → IsBytes bytes → IsBytes (drop n bytes)
 IsBytes-drop n bytes h i = rw get_or-drop (h (n + i))
 
 pub IsBytes-take : (n : ℕ) (bytes : List ℕ) → IsBytes bytes → IsBytes (take n bytes)
@@ -42,7 +42,7 @@ guard_err : {A : Type 0} (b : Bool) (c d : WireFault) (x : A) → cond b (Err c)
 guard_err true c d x e = cc
 guard_err false c d x e = absurd cc
 
-passed_err : {A : Type 0} (b : Bool) (c d : WireFault) (x : A) → cond b (Ok x) (Err c) ≡ Err d → d ≡ c
+pub passed_err : {A : Type 0} (b : Bool) (c d : WireFault) (x : A) → cond b (Ok x) (Err c) ≡ Err d → d ≡ c
 passed_err true c d x e = absurd cc
 passed_err false c d x e = cc
 
@@ -57,6 +57,9 @@ passed_ok false d x y e = absurd cc
 
 abbrev done : {A : Type 0} → A → Result A WireFault
 done x = Ok x
+
+pub ok_not_err : {A : Type 0} (x : A) (fault : WireFault) → done x ≡ Err fault → ⊥
+ok_not_err x fault e = absurd cc
 
 pub ok_is : {A : Type 0} (x y : A) → done x ≡ done y → x ≡ y
 ok_is x y e = cc

@@ -14,7 +14,7 @@ use Rattle.net_frames.specs.declared.message.Message.{Message}
 use Rattle.net_frames.specs.declared.message.Message.TheVariants.{Hello, Call, Returned, Threw, Spent, Ack, Dirty, Lease, Clean, Cleaned, Lookup}
 use Rattle.net_frames.specs.Wire.{number_bytes, id_bytes, class_bytes, row_bytes, value_bytes, result_bytes, flag_bytes, name_bytes, body, FitsBytes, IsId, IsClass, IsValue, AreArguments, AreObjects, IsName, IsInRange, is_within}
 use Rattle.net_frames.specs.Reading.{◌>>=◌, shown, tested, both, byte_at, raw_at, number_at, id_at, class_at, arguments_at, result_at, objects_at, flag_at, name_at, fields_at, all_kinds, kind_from, kind_at, message_at, whole_at}
-use Rattle.net_frames.proofs.FieldLaws.{IsBytes, IsBytes-rest, bind_ok, passed_ok, ok_is, Takes, IsField, refit, headed_takes, shown_again, tested_field, both_field, width8, width4, number_field, raw_field, byte_field}
+use Rattle.net_frames.proofs.FieldLaws.{IsBytes, IsBytes-rest, bind_ok, passed_ok, ok_is, Takes, IsField, refit, headed_takes, shown_again, shown_fails, tested_field, both_field, width8, width4, number_field, raw_field, byte_field}
 use Rattle.net_frames.proofs.ValueLaws.{within_true, true_within, id_field, class_field, arguments_field, result_field, objects_field, flag_field, name_field}
 
 -- ---- the fields of each kind
@@ -80,7 +80,7 @@ lookup_field = numbered name_at name_bytes IsName name_field
 -- ---- bodies
 
 -- the number of a kind
-abbrev number_of : FrameKind → ℕ
+abbrev pub number_of : FrameKind → ℕ
 number_of kinds.Hello = 1
 number_of kinds.Call = 2
 number_of kinds.Returned = 3
@@ -93,7 +93,7 @@ number_of kinds.Clean = 9
 number_of kinds.Cleaned = 10
 number_of kinds.Lookup = 11
 
-fields_takes : (kind : FrameKind) (bytes : List ℕ) (x : Message × List ℕ) → IsBytes bytes → fields_at kind bytes ≡ Ok x → Takes body IsInRange (number_of kind ∷ bytes) x
+pub fields_takes : (kind : FrameKind) (bytes : List ℕ) (x : Message × List ℕ) → IsBytes bytes → fields_at kind bytes ≡ Ok x → Takes body IsInRange (number_of kind ∷ bytes) x
 unfolding fields_at body IsInRange
 fields_takes kinds.Hello bytes x h e = headed_takes hello_at (λ x. (x.0 ∷ []) ++ (x.1.0 ++ x.1.1)) (λ x. (x.0 ≡ 1) × ((length x.1.0 ≡ 16) × (length x.1.1 ≡ 32))) (λ x. Hello x.0 x.1.0 x.1.1) 1 body IsInRange hello_field
     (λ a fits. refl) (λ a fits. (fits.0, fits.1.0, fits.1.1)) bytes x h e
@@ -115,6 +115,21 @@ fields_takes kinds.Clean bytes x h e = headed_takes (and_then (both flag_at obje
 fields_takes kinds.Cleaned bytes x h e = headed_takes (number_at 8) (number_bytes 8) (FitsBytes 8) Cleaned 10 body IsInRange u8_field (λ a fits. refl) (λ a fits. fits) bytes x h e
 fields_takes kinds.Lookup bytes x h e = headed_takes (and_then name_at) (λ x. number_bytes 8 x.0 ++ name_bytes x.1) (λ x. FitsBytes 8 x.0 × IsName x.1) (λ x. Lookup x.0 x.1) 11 body IsInRange lookup_field
     (λ a fits. refl) (λ a fits. fits) bytes x h e
+
+pub fields_fails : (kind : FrameKind) (bytes : List ℕ) (fault : WireFault) → fields_at kind bytes ≡ Err fault → fault ≡ faults.Body
+unfolding fields_at
+fields_fails kinds.Hello bytes fault e = shown_fails hello_at (λ x. (x.0 ∷ []) ++ (x.1.0 ++ x.1.1)) (λ x. (x.0 ≡ 1) × ((length x.1.0 ≡ 16) × (length x.1.1 ≡ 32))) (λ x. Hello x.0 x.1.0 x.1.1) hello_field bytes fault e
+fields_fails kinds.Call bytes fault e = shown_fails call_at (λ x. number_bytes 8 x.0 ++ (id_bytes x.1.0 ++ (number_bytes 4 x.1.1.0 ++ (number_bytes 8 x.1.1.1.0 ++ row_bytes 1 value_bytes x.1.1.1.1))))
+    (λ x. FitsBytes 8 x.0 × (IsId x.1.0 × (FitsBytes 4 x.1.1.0 × (FitsBytes 8 x.1.1.1.0 × AreArguments x.1.1.1.1)))) (λ x. Call x.0 x.1.0 x.1.1.0 x.1.1.1.0 x.1.1.1.1) call_field bytes fault e
+fields_fails kinds.Returned bytes fault e = shown_fails (and_then (and_then result_at)) (λ x. number_bytes 8 x.0 ++ (number_bytes 8 x.1.0 ++ result_bytes x.1.1)) (λ x. FitsBytes 8 x.0 × (FitsBytes 8 x.1.0 × IsResult x.1.1)) (λ x. Returned x.0 x.1.0 x.1.1) returned_field bytes fault e
+fields_fails kinds.Threw bytes fault e = shown_fails (and_then class_at) (λ x. number_bytes 8 x.0 ++ class_bytes x.1) (λ x. FitsBytes 8 x.0 × IsClass x.1) (λ x. Threw x.0 x.1) threw_field bytes fault e
+fields_fails kinds.Spent bytes fault e = shown_fails (number_at 8) (number_bytes 8) (FitsBytes 8) Spent u8_field bytes fault e
+fields_fails kinds.Ack bytes fault e = shown_fails (number_at 8) (number_bytes 8) (FitsBytes 8) Ack u8_field bytes fault e
+fields_fails kinds.Dirty bytes fault e = shown_fails (and_then (and_then objects_at)) (λ x. number_bytes 8 x.0 ++ (number_bytes 8 x.1.0 ++ row_bytes 2 id_bytes x.1.1)) (λ x. FitsBytes 8 x.0 × (FitsBytes 8 x.1.0 × AreObjects x.1.1)) (λ x. Dirty x.0 x.1.0 x.1.1) dirty_field bytes fault e
+fields_fails kinds.Lease bytes fault e = shown_fails (and_then (number_at 8)) (λ x. number_bytes 8 x.0 ++ number_bytes 8 x.1) (λ x. FitsBytes 8 x.0 × FitsBytes 8 x.1) (λ x. Lease x.0 x.1) lease_field bytes fault e
+fields_fails kinds.Clean bytes fault e = shown_fails (and_then (both flag_at objects_at)) (λ x. number_bytes 8 x.0 ++ (flag_bytes x.1.0 ++ row_bytes 2 id_bytes x.1.1)) (λ x. FitsBytes 8 x.0 × (Unit {0} × AreObjects x.1.1)) (λ x. Clean x.0 x.1.0 x.1.1) clean_field bytes fault e
+fields_fails kinds.Cleaned bytes fault e = shown_fails (number_at 8) (number_bytes 8) (FitsBytes 8) Cleaned u8_field bytes fault e
+fields_fails kinds.Lookup bytes fault e = shown_fails (and_then name_at) (λ x. number_bytes 8 x.0 ++ name_bytes x.1) (λ x. FitsBytes 8 x.0 × IsName x.1) (λ x. Lookup x.0 x.1) lookup_field bytes fault e
 
 -- what is in range and spelled is read
 pub message_again : (message : Message) (rest : List ℕ) → IsInRange message → message_at (body message ++ rest) ≡ Ok (message, rest)

@@ -1,10 +1,14 @@
 -- A stream of frames: what its bytes say, in whatever pieces they come.
-use Rattle.std.specs.Prelude.{◌≡◌, ◌≢◌, ℕ, ◌+◌, ◌<◌, ◌≤◌, ◌⊎◌, List, [], ◌∷◌, ◌++◌, length, take, drop, slice_index}
+use Rattle.std.specs.Prelude.{◌≡◌, ◌≢◌, ℕ, ◌+◌, ◌<◌, ◌≤◌, ◌⊎◌, List, [], ◌∷◌, ◌++◌, length, take, drop, slice_index, Option, None, Some, Result, Ok, Err, nat_lt, if◌then◌else◌}
 use Rattle.byteorder.specs.Endian.{big_number}
 use Rattle.net_frames.specs.declared.fault.WireFault.{WireFault}
 use Rattle.net_frames.specs.declared.fault.WireFault.TheVariants as faults
 use Rattle.net_frames.specs.declared.fault.WireError.{WireError}
 use Rattle.net_frames.specs.declared.fault.WireError.TheVariants as errors
+use Rattle.net_frames.specs.declared.front.Front.{Front}
+use Rattle.net_frames.specs.declared.front.Front.TheVariants as fronts
+use Rattle.net_frames.specs.declared.reader.Next.{Next}
+use Rattle.net_frames.specs.declared.reader.Next.TheVariants as nexts
 use Rattle.net_frames.specs.declared.message.Message.{Message}
 use Rattle.net_frames.specs.Wire.{body, IsInRange, IsWire}
 
@@ -34,15 +38,37 @@ first_body bytes = take (told_length bytes) (drop 4 bytes)
 abbrev pub IsKind : ℕ → Type 0
 IsKind kind = (1 ≤ kind) × (kind ≤ 11)
 
--- the first frame breaks that rule, and none that is looked at before
+-- a whole body breaks that rule, and none that is looked at before
+unfoldable pub BreaksIn : WireFault → List ℕ → Type 0
+BreaksIn faults.Length bytes = ⊥
+BreaksIn faults.Kind bytes = ¬ (IsKind (slice_index bytes 0))
+BreaksIn faults.Body bytes = IsKind (slice_index bytes 0) × ((message : Message) (more : List ℕ) → IsInRange message → bytes ≡ body message ++ more → ⊥)
+BreaksIn faults.Trailing bytes = (message : Message) × (more : List ℕ) × (IsInRange message × (bytes ≡ body message ++ more) × (more ≢ []))
+
+-- The first frame breaks that rule, and none that is looked at before: a length is known with its
+-- fourth byte, all else when the body is there.
 unfoldable pub Breaks : WireFault → List ℕ → Type 0
 Breaks faults.Length bytes = (4 ≤ length bytes) × ¬ (IsBodyLength (told_length bytes))
-Breaks faults.Kind bytes = HasBody bytes × (¬ (IsKind (slice_index (first_body bytes) 0)))
-Breaks faults.Body bytes =
-    HasBody bytes × IsKind (slice_index (first_body bytes) 0)
-    × ((message : Message) (more : List ℕ) → IsInRange message → first_body bytes ≡ body message ++ more → ⊥)
-Breaks faults.Trailing bytes =
-    HasBody bytes × ((message : Message) × (more : List ℕ) × (IsInRange message × (first_body bytes ≡ body message ++ more) × (more ≢ [])))
+Breaks faults.Kind bytes = HasBody bytes × BreaksIn faults.Kind (first_body bytes)
+Breaks faults.Body bytes = HasBody bytes × BreaksIn faults.Body (first_body bytes)
+Breaks faults.Trailing bytes = HasBody bytes × BreaksIn faults.Trailing (first_body bytes)
+
+-- what reading a whole body answers: want of memory may stand for any answer
+abbrev pub ReadsBody : List ℕ → Result Message WireError → Type 0
+ReadsBody bytes (Ok message) = (bytes ≡ body message) × IsInRange message
+ReadsBody bytes (Err (errors.Fault fault)) = BreaksIn fault bytes
+ReadsBody bytes (Err errors.Memory) = Unit {0}
+
+-- where the first frame ends, as far as its first bytes tell
+abbrev pub known_end : List ℕ → ℕ
+known_end bytes = if nat_lt (length bytes) 4 then 4 else (4 + told_length bytes)
+
+-- what reading the front of some bytes answers
+abbrev pub ReadsFront : List ℕ → Result Front WireError → Type 0
+ReadsFront bytes (Ok (fronts.Whole message len)) = (len ≤ length bytes) × IsWire (take len bytes) message
+ReadsFront bytes (Ok (fronts.Missing count)) = IsPartial bytes × (0 < count) × (length bytes + count ≡ known_end bytes)
+ReadsFront bytes (Err (errors.Fault fault)) = Breaks fault bytes
+ReadsFront bytes (Err errors.Memory) = Unit {0}
 
 -- ---- the stream relation
 
@@ -51,6 +77,11 @@ pub data Held : Type 0 where
   Rest : List ℕ → Held
   Stopped : WireFault → Held
 
+-- the bytes, where no fault ended the stream
+abbrev pub held : List ℕ → Option WireFault → Held
+held bytes None = Rest bytes
+held bytes (Some fault) = Stopped fault
+
 -- The bytes are the frames that say these messages, one after the other, and then a rest that begins
 -- a frame, or a fault.
 unfoldable pub Stream : List ℕ → List Message → Held → Type 0
@@ -58,6 +89,16 @@ Stream bytes [] (Rest rest) = IsPartial bytes × (rest ≡ bytes)
 Stream bytes [] (Stopped fault) = Breaks fault bytes
 Stream bytes (message ∷ messages) held =
     (first : List ℕ) × (rest : List ℕ) × (IsWire first message × (bytes ≡ first ++ rest) × Stream rest messages held)
+
+-- what comes next in some bytes
+abbrev pub IsNext : List ℕ → Next → Type 0
+IsNext bytes (nexts.Frame message len) = (len ≤ length bytes) × IsWire (take len bytes) message
+IsNext bytes (nexts.End None) = IsPartial bytes
+IsNext bytes (nexts.End (Some fault)) = Breaks fault bytes
+
+-- some bytes are the frames that say these messages, which take so many of them, and what is held then
+abbrev pub IsSplit : List ℕ → List Message → ℕ → Option WireFault → Type 0
+IsSplit bytes messages taken fault = (taken ≤ length bytes) × Stream bytes messages (held (drop taken bytes) fault)
 
 -- ---- feeding a piece
 

@@ -32,6 +32,14 @@ impl Frame {
     ghost use Rattle.net_frames.specs.Frame.{MakesFrame};
     ghost use Rattle.net_frames.specs.declared.message.Message.TheVariants.{Hello, Call, Returned, Threw, Spent, Ack, Dirty, Lease, Clean, Cleaned, Lookup};
 
+    // The frame that says a message which is in range.
+    pub(crate) fn new(message: Message) -> Frame
+        requires { IsInRange message }
+        ensures { result ≡ message }
+    {
+        Frame { message }
+    }
+
     /// Who speaks: the protocol's version (1, else fault 72), the space and its classes' digest.
     #[tactic(auto, unfolding(crate::specs::Wire::IsInRange))]
     pub fn hello(version: u8, space: Uuid, digest: Digest) -> Result<Frame, WireFault>
