@@ -44,6 +44,9 @@ same_some e = cc
 pub none_some : {X : Type 0} {x : X} → None ≡ Some x → ⊥
 none_some e = cc
 
+pub same_read : {X : Type 0} (xs : List X) (i : ℕ) (d e : X) → i < length xs → get_or xs i d ≡ get_or xs i e
+same_read xs i d e h = same_some (sym (slice_get-get_or xs i d h) ∙ slice_get-get_or xs i e h)
+
 -- the class of the member that was read
 pub class_read : (members : List Member) (m : Member) (k j : ℕ) → k ≡ j → j < length members → slice_get (classes_of members) j ≡ Some (get_or members k m).class
 class_read members m k j e h =
@@ -58,6 +61,10 @@ differ_by a b e same = not_same a.0 (subst (λ (x : ClassId). nat_eq a.0 x.0 ≡
 pub by_contradiction : (b : Bool) → (b ≡ false → ⊥) → b ≡ true
 by_contradiction true h = refl
 by_contradiction false h = absurd (h refl)
+
+pub by_contradiction_false : (b : Bool) → (b ≡ true → ⊥) → b ≡ false
+by_contradiction_false true h = absurd (h refl)
+by_contradiction_false false h = refl
 
 -- what holds of all that a loop has passed holds of the whole list
 pub All-whole : {X : Type 0} (P : X → Type 0) (xs : List X) (i : ℕ) (ys : List X) → length xs ≤ i → xs ≡ ys → All P (take i xs) → All P ys

@@ -1,5 +1,5 @@
 use Rattle.std.proofs.Common.{◌≡◌, ℕ, zero, suc, ◌+◌, ◌<◌, ◌≤◌, ◌⊎◌, inl, inr, true, false, Some, None, List, [], ◌∷◌, length, get_or, refl, sym, subst, ap, ◌∙◌, arith, add-zero, zero-add}
-use Rattle.std.specs.Prelude.{All, bytes_eq, nat_lt}
+use Rattle.std.specs.Prelude.{All, bytes_eq, nat_lt, cond, slice_get}
 use Rattle.std.specs.List.{HoldsAt}
 use Rattle.std.specs.List.Sorted.{IsStrictlySortedBy, IsNonDecreasingBy, IsPartitionPoint}
 use Rattle.std.specs.Ordering.{is_lt, is_eq, ordering_index, ordering_reverse}
@@ -16,6 +16,8 @@ use Rattle.std.proofs.lemmas.Map.Keys.{sorted_tail}
 use Rattle.std.proofs.lemmas.Map.Text.{is_eq-slice_cmp}
 use Rattle.std.proofs.lemmas.Map.Views.{All-after_first}
 use Rattle.cls_set.specs.declared.class.Class.{Class}
+use Rattle.cls_set.proofs.Hierarchy.{same_some, none_some}
+use Rattle.cls_set.specs.declared.class.ClassId.{ClassId}
 use Rattle.cls_set.specs.declared.members.Member.{Member}
 use Rattle.cls_set.specs.Classes.{name_cmp, names, number_from, number_of}
 use Rattle.cls_set.specs.Members.{classes_of}
@@ -60,7 +62,7 @@ searchable members name s =
     searchable_from_sorted nat_list_cmp_total name_of members name
     (λ k d low high. not_less_back (name_of (get_or members k d)) (name_of (get_or members (k + 1) d)) (far_names members k (k + 1) d s (omega arith) high))
 
-same_test : (x y : List ℕ) (r : Ordering) → name_cmp x y ≡ r → bytes_eq x y ≡ is_eq r
+pub same_test : (x y : List ℕ) (r : Ordering) → name_cmp x y ≡ r → bytes_eq x y ≡ is_eq r
 same_test x y r e = sym (is_eq-slice_cmp x y) ∙ ap is_eq e
 
 before : (k i : ℕ) → (k < i) ⊎ (i ≤ k)
@@ -108,3 +110,20 @@ find_absent members name i parts =
     number_absent 0 (classes_of members) name
     (All-map (λ n. bytes_eq n name ≡ false) (λ (c : Class). c.file.name) (classes_of members)
     (All-map (λ (c : Class). bytes_eq c.file.name name ≡ false) (λ (m : Member). m.class) members (other_at members name i parts)))
+
+some_id : (k : ℕ) (id : ClassId) → Some (record { 0 = k }) ≡ Some id → id.0 ≡ k
+some_id k id e = ap (λ (i : ClassId). i.0) (sym (same_some e))
+
+name_from : (k : ℕ) (classes : List Class) (name : List ℕ) (id : ClassId) → number_from k classes name ≡ Some id → (i : ℕ) × (id.0 ≡ k + i) × (slice_get (names classes) i ≡ Some name)
+name_from k [] name id e = absurd (none_some e)
+name_from k (c ∷ cs) name id e =
+    elim (bytes_eq c.file.name name) as (λ b. bytes_eq c.file.name name ≡ b → cond b (Some (record { 0 = k })) (number_from (suc k) cs name) ≡ Some id → (i : ℕ) × (id.0 ≡ k + i) × (slice_get (c.file.name ∷ names cs) i ≡ Some name)) [
+      | true ↦ λ same f. (0, some_id k id f ∙ sym (add-zero k), ap (λ n. Some n) ((bytes_eq-Decides c.file.name name).0 same))
+      | false ↦ λ _ f. let rest = name_from (suc k) cs name id f in (suc rest.0, rest.1 ∙ suc_moves k rest.0, rest.2)
+    ] refl e
+
+-- the class that a name leads to has that name
+pub name_at_number : (classes : List Class) (name : List ℕ) (id : ClassId) → number_of classes name ≡ Some id → slice_get (names classes) id.0 ≡ Some name
+name_at_number classes name id e =
+    let at = name_from 0 classes name id e in
+    subst (λ i. slice_get (names classes) i ≡ Some name) (sym (at.1 ∙ zero-add at.0)) at.2

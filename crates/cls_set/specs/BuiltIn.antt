@@ -2,15 +2,11 @@ use Rattle.std.specs.Prelude.{ℕ, Option, Some, None, List, [], ◌∷◌, ◌+
 use Rattle.cf_reader.specs.declared.class_file.ClassFile.{ClassFile}
 use Rattle.cf_reader.specs.declared.class_file.Method.{Method}
 use Rattle.cf_reader.specs.declared.flags.TheConstants.Flags.{PUBLIC, INTERFACE, ABSTRACT}
+use Rattle.cls_set.specs.declared.built_in.Kind.{Kind}
+use Rattle.cls_set.specs.declared.built_in.Kind.TheVariants.{Concrete, Abstract, Interface}
 
 -- The classes that stand in every set (a rule of this project). Each is public and not final, and each but the
 -- interface java/rmi/Remote has a public <init>()V that returns at once, and no other member.
-
--- what a built-in class is
-pub data Kind : Type 0 where
-  Concrete : Kind
-  Abstract : Kind
-  Interface : Kind
 
 pub record BuiltIn : Type 0 where
   pub name : List ℕ

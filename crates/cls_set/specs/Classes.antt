@@ -1,4 +1,4 @@
-use Rattle.std.specs.Prelude.{ℕ, suc, Option, Some, None, List, [], ◌∷◌, ◌++◌, ◌≢◌, map, slice_get, bytes_eq, if◌then◌else◌, bit_and, option_map, option_to_list}
+use Rattle.std.specs.Prelude.{ℕ, suc, Option, Some, None, List, [], ◌∷◌, ◌++◌, ◌≢◌, map, slice_get, bytes_eq, if◌then◌else◌, bit_and, option_to_list}
 use Rattle.std.specs.Ordering.{nat_cmp}
 use Rattle.std.specs.declared.cmp.Ordering.{Ordering}
 use Rattle.std.specs.Cmp.Lexicographic.{slice_cmp}
@@ -18,7 +18,7 @@ names classes = map (λ c. c.file.name) classes
 
 -- the name of the class with this number
 abbrev pub name_at : List Class → ClassId → Option (List ℕ)
-name_at classes id = option_map (λ c. c.file.name) (slice_get classes id.0)
+name_at classes id = slice_get (names classes) id.0
 
 -- the number of the first class of this name, where the first of the classes has the number k
 abbrev pub number_from : ℕ → List Class → List ℕ → Option ClassId

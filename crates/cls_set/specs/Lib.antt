@@ -1,4 +1,5 @@
 pub mod BuiltIn
+pub mod Building
 pub mod Classes
 pub mod Members
 pub mod Sets

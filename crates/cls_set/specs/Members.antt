@@ -1,4 +1,4 @@
-use Rattle.std.specs.Prelude.{◌<◌, List, All, IsSomeAnd, map, slice_get}
+use Rattle.std.specs.Prelude.{ℕ, ◌<◌, List, All, IsSomeAnd, map, slice_get}
 use Rattle.cls_set.specs.declared.class.Class.{Class}
 use Rattle.cls_set.specs.declared.class.ClassId.{ClassId}
 use Rattle.cls_set.specs.declared.members.Member.{Member}
@@ -11,10 +11,13 @@ use Rattle.cls_set.specs.Sets.{IsClassSet}
 abbrev pub classes_of : List Member → List Class
 classes_of members = map (λ m. m.class) members
 
--- each direct supertype stands in the set, with a lower rank
+-- a class stands in the set, with a rank below this one
+abbrev pub IsLower : List Member → ℕ → ClassId → Type 0
+IsLower members rank class = IsSomeAnd (slice_get members class.0) (λ m. m.rank < rank)
+
+-- the direct supertypes are ranked below
 abbrev pub IsRanked : List Member → Member → Type 0
-IsRanked members m =
-    All (λ (s : ClassId). IsSomeAnd (slice_get members s.0) (λ n. n.rank < m.rank)) (direct_supertypes m.class)
+IsRanked members m = All (IsLower members m.rank) (direct_supertypes m.class)
 
 pub record AreMembers (members : List Member) : Type 0 where
   pub set : IsClassSet (classes_of members)

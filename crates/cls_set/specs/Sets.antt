@@ -1,29 +1,75 @@
-use Rattle.std.specs.Prelude.{◌≡◌, ◌≤◌, Bool, true, false, Some, List, ◌++◌, map, option_map, length, All, IsSome, IsPermutation}
+use Rattle.std.specs.Prelude.{◌≡◌, ◌≤◌, ◌<◌, ◌-◌, ℕ, Bool, true, false, Some, List, ◌++◌, map, option_map, length, All, IsSome, IsPermutation, bytes_eq, count_by, slice_get}
+use Rattle.std.specs.declared.cmp.Ordering.TheVariants.{Less}
 use Rattle.std.specs.List.Sorted.{IsStrictlySortedBy}
 use Rattle.cf_reader.specs.declared.class_file.ClassFile.{ClassFile}
 use Rattle.cls_set.specs.declared.class.Class.{Class}
-use Rattle.cls_set.specs.Classes.{name_cmp, names, name_at, number_of}
+use Rattle.cls_set.specs.declared.fault.SetFault.{SetFault}
+use Rattle.cls_set.specs.declared.fault.SetFault.TheVariants.{Broken, Memory}
+use Rattle.cls_set.specs.declared.fault.SetRule.TheVariants.{Duplicate, AbsentClass, Cycle, BadSuper, FinalSuper, RemoteField, RemoteMethod, Override, TooMany}
+use Rattle.cls_set.specs.Classes.{name_cmp, names, number_of}
 use Rattle.cls_set.specs.BuiltIn.{BuiltIn, built_ins, built_in_files}
 
--- the supertypes of a class, by number, are those that its file names
-pub record IsResolved (classes : List Class) (c : Class) : Type 0 where
-  pub superclass : option_map (name_at classes) c.superclass ≡ option_map (λ name. Some name) c.file.superclass
-  pub interfaces : map (name_at classes) c.interfaces ≡ map (λ name. Some name) c.file.interfaces
+-- the supertypes of a class, by number among these names, are those that its file names
+pub record IsResolved (names : List (List ℕ)) (c : Class) : Type 0 where
+  pub superclass : option_map (λ id. slice_get names id.0) c.superclass ≡ option_map (λ name. Some name) c.file.superclass
+  pub interfaces : map (λ id. slice_get names id.0) c.interfaces ≡ map (λ name. Some name) c.file.interfaces
 
 -- what is true of the classes of every set
 pub record IsClassSet (classes : List Class) : Type 0 where
   -- they stand in the order of their names, each name once
   pub ordered : IsStrictlySortedBy name_cmp (names classes)
   pub few : length classes ≤ 4096
-  pub resolved : All (IsResolved classes) classes
+  pub resolved : All (IsResolved (names classes)) classes
   -- each class that stands in every set stands in it
   pub built_in : All (λ (b : BuiltIn). IsSome (number_of classes b.name)) built_ins
 
--- where a class comes from
-abbrev pub origin : Class → ClassFile × Bool
+-- where a class comes from: what its file says, and whether it stands in every set
+abbrev pub Origin : Type 0
+Origin = ClassFile × Bool
+
+abbrev pub origin : Class → Origin
 origin c = (c.file, c.is_built_in)
 
--- each class of the files and each built-in one stands in the set, once, and no other does
+-- the built-in classes and those of the files
+abbrev pub origins : List ClassFile → List Origin
+origins files = map (λ file. (file, true)) built_in_files ++ map (λ file. (file, false)) files
+
+-- each of them stands in the set, once, and no other class does
 abbrev pub HasClasses : List ClassFile → List Class → Type 0
-HasClasses files classes =
-    IsPermutation (map (λ f. (f, true)) built_in_files ++ map (λ f. (f, false)) files) (map origin classes)
+HasClasses files classes = IsPermutation (origins files) (map origin classes)
+
+-- their names
+abbrev pub origin_names : List ClassFile → List (List ℕ)
+origin_names files = map (λ o. o.0.name) (origins files)
+
+-- a name stands more than once among others
+abbrev pub IsTwice : List (List ℕ) → List ℕ → Type 0
+IsTwice names name = 1 < count_by (λ n. bytes_eq n name) names
+
+-- a name stands more than once, and no name before it does
+pub record IsFirstDuplicate (names : List (List ℕ)) (name : List ℕ) : Type 0 where
+  pub twice : IsTwice names name
+  pub first : (other : List ℕ) → name_cmp other name ≡ Less → ¬ IsTwice names other
+
+-- no name stands more than once
+abbrev pub IsWithoutDuplicates : List (List ℕ) → Type 0
+IsWithoutDuplicates names = (name : List ℕ) → ¬ IsTwice names name
+
+-- more files than this stage takes, the last of which has this name (a rule of this project)
+pub record IsTooMany (files : List ClassFile) (name : List ℕ) : Type 0 where
+  pub distinct : IsWithoutDuplicates (origin_names files)
+  pub many : 1 < length files
+  pub last : option_map (λ file. file.name) (slice_get files (length files - 1)) ≡ Some name
+
+-- the fault of files that make no set, unless memory ran out
+abbrev pub IsSetFault : List ClassFile → SetFault → Type 0
+IsSetFault files Memory = Unit {0}
+IsSetFault files (Broken Duplicate name) = IsFirstDuplicate (origin_names files) name
+IsSetFault files (Broken AbsentClass name) = Unit {0}
+IsSetFault files (Broken Cycle name) = Unit {0}
+IsSetFault files (Broken TooMany name) = IsTooMany files name
+IsSetFault files (Broken BadSuper name) = ⊥
+IsSetFault files (Broken FinalSuper name) = ⊥
+IsSetFault files (Broken RemoteField name) = ⊥
+IsSetFault files (Broken RemoteMethod name) = ⊥
+IsSetFault files (Broken Override name) = ⊥

@@ -1,7 +1,9 @@
 //! Class sets: their look-ups.
 
+use super::building::{gather, last_of_many, refuse_cycles, refuse_duplicates};
 use super::members::{Member, find, is_below, leads_to};
-use super::{Class, ClassId, SetFault};
+use super::resolving::resolve;
+use super::{Class, ClassId, SetFault, SetRule};
 use cf_reader::{ClassFile, Text};
 use std::alloc::Global;
 use std::marker::Model;
@@ -27,18 +29,33 @@ impl Model for ClassSet {
 }
 
 impl ClassSet {
-    ghost use Rattle.std.specs.Prelude.{◌≡◌, ◌<◌, ◌↔◌, Some, IsTrue, IfOk, length, slice_get};
+    ghost use Rattle.std.specs.Prelude.{◌≡◌, ◌<◌, ◌≤◌, ◌↔◌, Some, IsTrue, IfOk, IfErr, OnOk, length, slice_get};
     ghost use Rattle.cls_set.specs.Classes.{name_at, number_of};
-    ghost use Rattle.cls_set.specs.Sets.{HasClasses, IsClassSet};
+    ghost use Rattle.cls_set.specs.Sets.{HasClasses, IsClassSet, IsSetFault};
     ghost use Rattle.cls_set.specs.Subtypes.{IsRemote, IsSubclass, IsSubtype};
 
-    /// The set of the files' classes and the built-in ones.
+    /// The set of the files' classes and the built-in ones. The files may come in any order, and
+    /// nothing of them is handed back with a fault.
+    ///
+    /// Faults are looked for in the order of their numbers, each over all classes. Of files that this
+    /// project's reader takes now, which extend java/lang/Object alone and have no fields, only
+    /// `Duplicate` and `TooMany` (more than one file) can come.
     pub fn build(alloc: Global, files: Vec<ClassFile>) -> Result<ClassSet, SetFault>
         ensures set { IfOk result (λ set. IsClassSet set) }
         ensures classes { IfOk result (λ set. HasClasses files.items set) }
+        ensures few { OnOk result (length files.items ≤ 1) }
+        ensures fault { IfErr result (IsSetFault files.items) }
     {
-        let _ = (alloc, files);
-        Err(SetFault::Memory)
+        let last_of_many = last_of_many(files.as_slice())?;
+        let mut members = gather(alloc, files)?;
+        refuse_duplicates(members.as_slice())?;
+        if let Some(class) = last_of_many {
+            let rule = SetRule::TooMany;
+            return Err(SetFault::Broken { rule, class });
+        }
+        resolve(alloc, &mut members)?;
+        refuse_cycles(members.as_slice())?;
+        Ok(ClassSet { members })
     }
 
     /// How many classes it has.

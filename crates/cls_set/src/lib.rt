@@ -10,7 +10,10 @@ pub use class::{Class, ClassId};
 pub use class_set::ClassSet;
 pub use fault::{SetFault, SetRule};
 
+mod building;
+mod built_in;
 mod class;
 mod class_set;
 mod fault;
 mod members;
+mod resolving;

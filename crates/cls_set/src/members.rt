@@ -13,7 +13,7 @@ use super::{Class, ClassId};
 #[derive(Debug, Drop)]
 pub(crate) struct Member {
     pub(crate) class: Class,
-    pub(crate) rank: u16,
+    pub(crate) rank: usize,
 }
 
 // The number of the class of this name.

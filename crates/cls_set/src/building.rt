@@ -1,0 +1,112 @@
+//! Building class sets from files: the classes are gathered, sorted by name, and their supertypes
+//! found by name.
+
+ghost use Rattle.std.specs.Prelude.{◌≡◌, ◌<◌, ◌++◌, ◌-◌, ◌≤◌, Some, OnOk, IfOk, IfErr, OnSome, IfSome, IfNone, All, IsPermutation, map, length, option_map, slice_get};
+ghost use Rattle.std.specs.List.Sorted.{IsStrictlySortedBy};
+ghost use Rattle.cls_set.specs.Building.{ranked_from, AscendByName, IsDuplicateFault, IsRankFault};
+ghost use Rattle.cls_set.specs.Classes.{name_cmp, names};
+ghost use Rattle.cls_set.specs.Members.{classes_of, IsRanked};
+ghost use Rattle.cls_set.specs.Sets.{origins, IsFirstDuplicate};
+
+use super::built_in::built_in_classes;
+use super::members::Member;
+use super::resolving::{broken, first_unranked};
+use super::{Class, SetFault, SetRule};
+use cf_reader::{ClassFile, Row, Text};
+use std::alloc::{AllocError, Global};
+
+// Adds the classes of the files, with ranks in their order.
+fn add_classes(
+    alloc: Global,
+    files: Vec<ClassFile>,
+    is_built_in: bool,
+    members: &mut Vec<Member>,
+) -> Result<(), AllocError>
+    ensures { OnOk result (members.new.items ≡ members.old.items ++ ranked_from (length members.old.items) (map (λ file. (file, is_built_in)) files.items)) }
+{
+    for file in files {
+        let class = Class {
+            file,
+            superclass: None,
+            interfaces: Row::new(Vec::new(alloc)),
+            is_built_in,
+        };
+        let rank = members.len();
+        members.push(Member { class, rank })?;
+    }
+    Ok(())
+}
+
+// Sorts by name.
+fn sort(members: &mut Vec<Member>) -> Result<(), AllocError>
+    ensures permutation { IsPermutation members.old.items members.new.items }
+    ensures sorted { OnOk result (AscendByName members.new.items) }
+{
+    members.sort_by(|a, b| {
+        let name = b.class.file.name.as_bytes();
+        a.class.file.name.as_bytes().cmp(name)
+    })
+}
+
+// The place of the first class whose name stands before it too.
+fn first_duplicate(members: &[Member]) -> Option<usize>
+    requires { AscendByName members.now }
+    ensures within { IfSome result (λ k. k < length members.now) }
+    ensures found { IfSome result (λ k. IfSome (slice_get members.now k) (λ m. IsFirstDuplicate (names (classes_of members.now)) m.class.file.name)) }
+    ensures none { IfNone result (IsStrictlySortedBy name_cmp (names (classes_of members.now))) }
+{
+    for place in 1..members.len() {
+        let before = members[place - 1].class.file.name.as_bytes();
+        if members[place].class.file.name.is(before) {
+            return Some(place);
+        }
+    }
+    None
+}
+
+// The classes of the files and the built-in ones, by name.
+pub(crate) fn gather(alloc: Global, files: Vec<ClassFile>) -> Result<Vec<Member>, AllocError>
+    ensures all { IfOk result (λ members. IsPermutation (ranked_from 0 (origins files.items)) members.items) }
+    ensures sorted { IfOk result (λ members. AscendByName members.items) }
+{
+    let mut members = Vec::new(alloc);
+    add_classes(alloc, built_in_classes(alloc)?, true, &mut members)?;
+    add_classes(alloc, files, false, &mut members)?;
+    sort(&mut members)?;
+    Ok(members)
+}
+
+// The name of the last file, where there are more than this stage takes.
+pub(crate) fn last_of_many(files: &[ClassFile]) -> Result<Option<Text>, AllocError>
+    ensures some { IfOk result (λ last. OnSome last (1 < length files.now)) }
+    ensures last { IfOk result (λ last. IfSome last (λ name. option_map (λ file. file.name) (slice_get files.now (length files.now - 1)) ≡ Some name)) }
+    ensures none { IfOk result (λ last. IfNone last (length files.now ≤ 1)) }
+{
+    match files {
+        [_, .., last] => Ok(Some(last.name.copy()?)),
+        _ => Ok(None),
+    }
+}
+
+// Refuses a name that stands twice.
+pub(crate) fn refuse_duplicates(members: &[Member]) -> Result<(), SetFault>
+    requires { AscendByName members.now }
+    ensures ok { OnOk result (IsStrictlySortedBy name_cmp (names (classes_of members.now))) }
+    ensures fault { IfErr result (IsDuplicateFault (names (classes_of members.now))) }
+{
+    match first_duplicate(members) {
+        Some(place) => Err(broken(SetRule::Duplicate, &members[place].class.file.name)),
+        None => Ok(()),
+    }
+}
+
+// Refuses a class that is among its own supertypes.
+pub(crate) fn refuse_cycles(members: &[Member]) -> Result<(), SetFault>
+    ensures ok { OnOk result (All (IsRanked members.now) members.now) }
+    ensures fault { IfErr result (IsRankFault members.now) }
+{
+    match first_unranked(members) {
+        Some(place) => Err(broken(SetRule::Cycle, &members[place].class.file.name)),
+        None => Ok(()),
+    }
+}
