@@ -2,3 +2,4 @@ pub mod Blamed
 pub mod Skims
 pub mod AttributeSteps
 pub mod Each
+pub mod Front

@@ -4,3 +4,4 @@ pub mod Rules
 pub mod Profile
 pub mod Checks
 pub mod Builds
+pub mod Loads

@@ -8,7 +8,9 @@ pub use cf_pool::{
 pub use class_file::{ClassFile, Code, Field, Method};
 pub use flags::Flags;
 pub use layout::MAX_LEN;
+pub use load_fault::LoadFault;
 pub use read::read_class;
+pub use source::{load, read_bytes};
 
 mod attributes;
 mod build;
@@ -18,7 +20,9 @@ mod code;
 mod flags;
 mod items;
 mod layout;
+mod load_fault;
 mod members;
 mod profile;
 mod read;
 mod rules;
+mod source;
