@@ -43,6 +43,7 @@ pub trait Folder {
 }
 
 /// The file system of the process.
+#[derive(Drop)]
 pub struct Disk<'a, R> {
     runtime: &'a R,
 }

@@ -1,0 +1,36 @@
+//! The program `rmispace`: hands the words of the process, its file system and its standard streams
+//! to the library, and ends with the status that the library answers.
+#![tactic(auto)]
+
+use sp_main::{Disk, Status, command};
+use std::process::ExitCode;
+use std::rt::Env;
+use std::{env, io};
+
+fn main(rt: HostRuntime) -> ExitCode {
+    let alloc = rt.alloc();
+    let status = match words_of(&rt) {
+        Ok(words) => command(
+            alloc,
+            &words,
+            &Disk::new(&rt),
+            &mut rt.reader(),
+            &mut io::writer(&rt.stdout()),
+            &mut io::writer(&rt.stderr()),
+        ),
+        Err(_) => {
+            let _ = eprintln!(rt; "no memory");
+            Status::Failed.code()
+        }
+    };
+    ExitCode::from(status)
+}
+
+// The words of the command line, the program's own name first.
+fn words_of<R: Env + AllocGlobal>(rt: &R) -> io::Result<Vec<String>> {
+    let mut words = Vec::new(rt.alloc());
+    for word in env::args(rt)? {
+        words.push(word)?;
+    }
+    Ok(words)
+}
