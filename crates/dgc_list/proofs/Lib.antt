@@ -1,0 +1,9 @@
+pub mod CallsLemmas
+pub mod ClientsLemmas
+pub mod ExpiriesLemmas
+pub mod HistoryLemmas
+pub mod LawsLemmas
+pub mod ListLemmas
+pub mod MomentLemmas
+pub mod ObjectsLemmas
+pub mod RememberedLemmas

@@ -1,0 +1,82 @@
+use Rattle.std.specs.Prelude.{◌≡◌, ℕ, ◌+◌, ◌≤◌, Bool, false, List, [], ◌∷◌, is_some, IsTrue, ◌&&◌, nat_lt, min, max, filter, if◌then◌else◌}
+use Rattle.std.specs.List.{list_any}
+use Rattle.std.specs.Str.{bytes_eq}
+use Rattle.vm_heap.specs.declared.values.ObjId.{ObjId}
+use Rattle.dgc_list.specs.declared.list.RefList.{RefList}
+use Rattle.dgc_list.specs.declared.remembered.Remembered.{Remembered}
+use Rattle.dgc_list.specs.Remembered.{blank, after_dirty, after_clean, after_moment}
+use Rattle.dgc_list.specs.Clients.{leased, leased_after}
+use Rattle.dgc_list.specs.Objects.{is_same, clients_at, remembered_at, is_named, IsCovered}
+
+-- What a reference list is told. A history is the list of it, newest first. A client is the sixteen bytes of its space's id; moments and periods are in milliseconds.
+pub data Call : Type 0 where
+  Dirty : (client : List ℕ) (objects : List ObjId) (number period : ℕ) → Call
+  Clean : (client : List ℕ) (objects : List ObjId) (number : ℕ) (strong : Bool) → Call
+  Moment : (moment : ℕ) → Call
+  Forget : (object : ObjId) → Call
+
+-- The moment that it is: one below the last changes nothing.
+abbrev pub moment_of : List Call → ℕ
+moment_of [] = 0
+moment_of (Dirty client objects number period ∷ h) = moment_of h
+moment_of (Clean client objects number strong ∷ h) = moment_of h
+moment_of (Moment moment ∷ h) = max moment (moment_of h)
+moment_of (Forget object ∷ h) = moment_of h
+
+-- the period that is granted where this one is asked
+abbrev pub granted : ℕ → ℕ
+granted period = min period 600000
+
+-- whether a call of the client on these objects is one of this client and object
+abbrev pub is_told : List ℕ → List ObjId → List ℕ → ObjId → Bool
+is_told client objects c o = bytes_eq client c && is_named o objects
+
+-- What is remembered of a client and an object. Only the calls of that client on that object count, the moments, and the object's withdrawal.
+abbrev pub remembered_of : List Call → List ℕ → ObjId → Remembered
+remembered_of [] c o = blank
+remembered_of (Dirty client objects number period ∷ h) c o =
+    if is_told client objects c o then after_dirty number (moment_of h + granted period) (remembered_of h c o) else remembered_of h c o
+remembered_of (Clean client objects number strong ∷ h) c o =
+    if is_told client objects c o then after_clean number strong (remembered_of h c o) else remembered_of h c o
+remembered_of (Moment moment ∷ h) c o =
+    if nat_lt moment (moment_of h) then remembered_of h c o else after_moment moment (remembered_of h c o)
+remembered_of (Forget object ∷ h) c o = if is_same object o then blank else remembered_of h c o
+
+-- whether the client has an entry for the object
+abbrev pub is_leased : List Call → List ℕ → ObjId → Bool
+is_leased h c o = is_some (remembered_of h c o).expires
+
+-- The clients with an entry for the object, in the order in which the entries that stand were first set.
+abbrev pub clients_of : List Call → ObjId → List (List ℕ)
+clients_of [] o = []
+clients_of (Dirty client objects number period ∷ h) o =
+    if is_named o objects then leased_after client (is_leased h client o) (is_leased (Dirty client objects number period ∷ h) client o) (clients_of h o) else clients_of h o
+clients_of (Clean client objects number strong ∷ h) o =
+    if is_named o objects then leased_after client (is_leased h client o) (is_leased (Clean client objects number strong ∷ h) client o) (clients_of h o) else clients_of h o
+clients_of (Moment moment ∷ h) o = filter (λ c. is_leased (Moment moment ∷ h) c o) (clients_of h o)
+clients_of (Forget object ∷ h) o = if is_same object o then [] else clients_of h o
+
+-- The list is what the history leaves.
+pub record IsAfter (h : List Call) (list : RefList) : Type 0 where
+  pub moment : list.moment ≡ moment_of h
+  pub remembered : (c : List ℕ) (o : ObjId) → remembered_at list.objects o c ≡ remembered_of h c o
+  pub clients : (o : ObjId) → leased (clients_at list.objects o) ≡ clients_of h o
+  pub covered : IsCovered list.objects list.expiries
+
+-- The calls of one client on one object, with the moments and the object's withdrawal.
+abbrev pub own_calls : List ℕ → ObjId → List Call → List Call
+own_calls c o [] = []
+own_calls c o (Dirty client objects number period ∷ h) =
+    if is_told client objects c o then Dirty client objects number period ∷ own_calls c o h else own_calls c o h
+own_calls c o (Clean client objects number strong ∷ h) =
+    if is_told client objects c o then Clean client objects number strong ∷ own_calls c o h else own_calls c o h
+own_calls c o (Moment moment ∷ h) = Moment moment ∷ own_calls c o h
+own_calls c o (Forget object ∷ h) = if is_same object o then Forget object ∷ own_calls c o h else own_calls c o h
+
+-- Of these calls none of the client on the object is newer than the number, and the object is not withdrawn.
+abbrev pub AreOlder : ℕ → List ℕ → ObjId → List Call → Type 0
+AreOlder number c o [] = Unit {0}
+AreOlder number c o (Dirty client objects n period ∷ h) = (IsTrue (is_told client objects c o) → n ≤ number) × AreOlder number c o h
+AreOlder number c o (Clean client objects n strong ∷ h) = (IsTrue (is_told client objects c o) → n ≤ number) × AreOlder number c o h
+AreOlder number c o (Moment moment ∷ h) = AreOlder number c o h
+AreOlder number c o (Forget object ∷ h) = (is_same object o ≡ false) × AreOlder number c o h

@@ -1,0 +1,4 @@
+pub mod Clients
+pub mod History
+pub mod Objects
+pub mod Remembered

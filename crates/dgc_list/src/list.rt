@@ -1,0 +1,134 @@
+//! The reference lists of a space.
+
+ghost use Rattle.std.specs.Prelude.{◌≡◌, ◌<◌, ◌^◌, List, [], ◌∷◌, IfOk, OnOk, OnErr, length};
+ghost use Rattle.vm_heap.specs.declared.values.ObjId.{ObjId};
+
+use crate::calls::{add_expiries, expire, make_room, tell_clean, tell_dirty};
+use crate::expiries::Expiries;
+use crate::objects::Objects;
+use std::alloc::{AllocError, Global};
+use uuid::Uuid;
+use vm_heap::ObjId;
+
+/// The longest period that a lease is granted for, in milliseconds (ten minutes, as is the default of
+/// Java RMI).
+pub const LONGEST_LEASE: u64 = 600_000;
+
+/// The reference lists of a space: what it remembers of the clients of each of its objects.
+///
+/// A contract names the histories that the value may stand for: it is what each of them leaves.
+#[derive(Debug, Drop)]
+pub struct RefList {
+    objects: Objects,
+    expiries: Expiries,
+    moment: u64,
+    ghost in_range: { moment < 2 ^ 63 },
+}
+
+impl RefList {
+    ghost use Rattle.dgc_list.specs.History.{Call, granted, remembered_of, clients_of, IsAfter};
+    ghost use Rattle.dgc_list.specs.History.Call.{Dirty, Clean, Moment, Forget};
+
+    /// Reference lists of which nothing is told yet, at moment 0.
+    pub fn new(alloc: Global) -> RefList
+        ensures { IsAfter [] result }
+    {
+        RefList {
+            objects: Objects::new(alloc),
+            expiries: Expiries::new(alloc),
+            moment: 0,
+        }
+    }
+
+    /// A dirty call of a client on objects that stand. For each of them it sets the client's entry,
+    /// granted now for `period` or the longest lease, whichever is less, and has its number
+    /// remembered; where it is late it changes nothing. Answers the period that is granted. At want
+    /// of memory no entry is changed.
+    pub fn dirty(
+        &mut self,
+        client: &Uuid,
+        objects: &[ObjId],
+        number: u64,
+        period: u64,
+    ) -> Result<u64, AllocError>
+        ensures granted { IfOk result (λ period_granted. period_granted ≡ granted period) }
+        ensures ok { OnOk result ((h : List Call) → IsAfter h self.old → IsAfter (Dirty client.now objects.now number period ∷ h) self.new) }
+        ensures err { OnErr result ((h : List Call) → IsAfter h self.old → IsAfter h self.new) }
+    {
+        let granted = period.min(LONGEST_LEASE);
+        let expires = self.moment + granted;
+        make_room(&mut self.objects, client, objects)?;
+        add_expiries(&mut self.expiries, client, objects, expires)?;
+        tell_dirty(&mut self.objects, client, objects, number, expires);
+        Ok(granted)
+    }
+
+    /// A clean call of a client on objects that stand. For each of them it removes the client's
+    /// entry. A strong one has its number remembered; one that is not strong has it forgotten, unless
+    /// a strong one was kept before. Where it is late it changes nothing. At want of memory, which
+    /// only a strong one meets, no entry is changed.
+    pub fn clean(
+        &mut self,
+        client: &Uuid,
+        objects: &[ObjId],
+        number: u64,
+        strong: bool,
+    ) -> Result<(), AllocError>
+        ensures ok { OnOk result ((h : List Call) → IsAfter h self.old → IsAfter (Clean client.now objects.now number strong ∷ h) self.new) }
+        ensures err { OnErr result ((h : List Call) → IsAfter h self.old → IsAfter h self.new) }
+    {
+        if strong {
+            make_room(&mut self.objects, client, objects)?;
+        }
+        tell_clean(&mut self.objects, client, objects, number, strong);
+        Ok(())
+    }
+
+    /// The moment is now, in milliseconds. Entries whose period is over are gone, as if cleaned not
+    /// strongly. A moment below the last changes nothing.
+    pub fn moment(&mut self, moment: u64)
+        requires { moment < 2 ^ 63 }
+        ensures { (h : List Call) → IsAfter h self.old → IsAfter (Moment moment ∷ h) self.new }
+    {
+        if moment < self.moment {
+            return;
+        }
+        self.moment = moment;
+        expire(&mut self.objects, &mut self.expiries, moment);
+    }
+
+    /// The object was withdrawn: nothing is remembered of it any more.
+    pub fn forget(&mut self, object: ObjId)
+        ensures { (h : List Call) → IsAfter h self.old → IsAfter (Forget object ∷ h) self.new }
+    {
+        self.objects.forget(object);
+    }
+
+    /// The moment from which the client's entry for the object is gone, where one stands.
+    pub fn entry(&self, client: &Uuid, object: ObjId) -> Option<u64>
+        ensures { (h : List Call) → IsAfter h self.now → result ≡ (remembered_of h client.now object).expires }
+    {
+        self.objects.get(object, client).expires
+    }
+
+    /// The clients with an entry for the object, in the order in which the entries that stand were
+    /// first set (an order of our own).
+    pub fn clients_of(&self, alloc: Global, object: ObjId) -> Result<Vec<Uuid>, AllocError>
+        ensures { IfOk result (λ clients. (h : List Call) → IsAfter h self.now → clients.items ≡ clients_of h object) }
+    {
+        match self.objects.clients(object) {
+            Some(clients) => clients.leased(alloc),
+            None => Ok(Vec::new(alloc)),
+        }
+    }
+
+    /// How many clients have an entry for the object.
+    pub fn entries_of(&self, object: ObjId) -> usize
+        ensures { (h : List Call) → IsAfter h self.now → result ≡ length (clients_of h object) }
+    {
+        match self.objects.clients(object) {
+            Some(clients) => clients.count(),
+            None => 0,
+        }
+    }
+}

@@ -1,0 +1,84 @@
+//! What is remembered of one client and one object.
+
+ghost use Rattle.std.specs.Prelude.{◌≡◌, ◌+◌, ◌^◌, ◌<◌};
+ghost use Rattle.dgc_list.specs.Remembered.{blank, is_late, after_dirty, after_clean, after_moment, is_blank};
+
+/// What an owner remembers of a client and an object. Nothing is remembered where all is none.
+#[derive(Clone, Copy, Debug, PartialEq, Eq)]
+pub struct Remembered {
+    /// The number of the call that counted last, where it is kept: calls up to it are late.
+    pub number: Option<u64>,
+    /// Whether a strong clean call was ever kept.
+    pub strong: bool,
+    /// The moment from which the client's entry is gone, where one stands.
+    pub expires: Option<u64>,
+}
+
+impl Remembered {
+    /// Nothing is remembered.
+    pub(crate) const BLANK: Remembered = Remembered {
+        number: None,
+        strong: false,
+        expires: None,
+    };
+
+    // Whether nothing is remembered.
+    pub(crate) fn is_blank(self) -> bool
+        ensures { result ≡ is_blank self }
+    {
+        self.number.is_none() && !self.strong && self.expires.is_none()
+    }
+
+    // Whether a call of this number is late.
+    fn is_late(self, number: u64) -> bool
+        ensures { result ≡ is_late self number }
+    {
+        match self.number {
+            Some(last) => number <= last,
+            None => false,
+        }
+    }
+
+    // What a dirty call leaves whose entry is gone at `expires`.
+    pub(crate) fn after_dirty(self, number: u64, expires: u64) -> Remembered
+        ensures { result ≡ after_dirty number expires self }
+    {
+        if self.is_late(number) {
+            return self;
+        }
+        Remembered {
+            number: Some(number),
+            strong: self.strong,
+            expires: Some(expires),
+        }
+    }
+
+    // What a clean call leaves.
+    pub(crate) fn after_clean(self, number: u64, strong: bool) -> Remembered
+        ensures { result ≡ after_clean number strong self }
+    {
+        if self.is_late(number) {
+            return self;
+        }
+        let strong = strong || self.strong;
+        Remembered {
+            number: if strong { Some(number) } else { None },
+            strong,
+            expires: None,
+        }
+    }
+
+    // What a moment leaves.
+    pub(crate) fn after_moment(self, moment: u64) -> Remembered
+        ensures { result ≡ after_moment moment self }
+    {
+        match self.expires {
+            Some(expires) if expires <= moment => Remembered {
+                number: if self.strong { self.number } else { None },
+                strong: self.strong,
+                expires: None,
+            },
+            _ => self,
+        }
+    }
+}
