@@ -167,7 +167,7 @@ fn tell(list: &mut RefList, plain: &mut Vec<Vec<Told>>, step: u64) -> Result<(),
         }
     };
     for object in objects {
-        if let Some(pair) = plain.get_mut((of * 100 + object.0) as usize) {
+        if let Some(pair) = plain.get_mut((of * 100 + object.0 % 100) as usize) {
             pair.push(told)?;
         }
     }

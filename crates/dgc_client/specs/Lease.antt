@@ -1,0 +1,105 @@
+use Rattle.std.specs.Prelude.{ℕ, ◌+◌, ◌-◌, Bool, true, false, Option, None, Some, is_none, ◌&&◌, ◌||◌, ◌==◌, nat_lt, nat_le, if◌then◌else◌}
+use Rattle.dgc_client.specs.declared.lease.ClientLease.{ClientLease}
+use Rattle.dgc_client.specs.declared.lease.Due.{Due}
+use Rattle.dgc_client.specs.declared.lease.Due.TheVariants.{Dirty, Clean as Clean_due}
+use Rattle.dgc_client.specs.declared.lease.Made.{Made}
+use Rattle.dgc_client.specs.declared.lease.Owed.{Owed}
+use Rattle.dgc_client.specs.declared.lease.Owed.TheVariants.{Nothing, Clean, Strong, Again}
+use Rattle.dgc_client.specs.declared.lease.Term.{Term}
+
+-- a reference of which nothing happened yet
+abbrev pub fresh : ℕ → ClientLease
+fresh moment = record { holders = 0; moment = moment; dirty = None; lease = None; renew = false; last = None; clean = None; owed = Nothing; waits = false }
+
+-- whether the call is this one
+abbrev pub is_made : Option Made → ℕ → Bool
+is_made None call = false
+is_made (Some made) call = made.call == call
+
+abbrev pub is_clean : Option ℕ → ℕ → Bool
+is_clean None call = false
+is_clean (Some clean) call = clean == call
+
+abbrev pub after_hold : ClientLease → ClientLease
+after_hold l = record l { holders = l.holders + 1 }
+
+abbrev pub after_drop : ClientLease → ClientLease
+after_drop l = record l { holders = l.holders - 1 }
+
+-- The lease where it stands: its period, counted from the moment at which its dirty call was sent, is not over.
+abbrev pub standing : Option Term → ℕ → Option Term
+standing None moment = None
+standing (Some term) moment = if nat_lt (moment - term.sent) term.period then Some term else None
+
+-- Whether not more than half of the period is left: what is left is not more than what is over.
+abbrev pub is_half_over : Option Term → ℕ → Bool
+is_half_over None moment = false
+is_half_over (Some term) moment = nat_le (term.period - (moment - term.sent)) (moment - term.sent)
+
+abbrev pub at_moment : ℕ → ClientLease → ClientLease
+at_moment moment l = record l { moment = moment; waits = false; lease = standing l.lease moment; renew = is_half_over (standing l.lease moment) moment }
+
+-- A moment below the last changes nothing.
+abbrev pub after_moment : ℕ → ClientLease → ClientLease
+after_moment moment l = if nat_lt moment l.moment then l else at_moment moment l
+
+abbrev pub after_dirty : ℕ → ClientLease → ClientLease
+after_dirty call l =
+    record l {
+      dirty = Some (record { call = call; at = l.moment });
+      last = Some (record { call = call; at = l.moment });
+      renew = false;
+      clean = None;
+      owed = Clean;
+      waits = false;
+    }
+
+-- A clean call ends the lease as it is made, and overtakes the dirty call that is on its way.
+abbrev pub after_clean : ℕ → ClientLease → ClientLease
+after_clean call l = record l { dirty = None; lease = None; renew = false; clean = Some call; owed = Nothing; waits = false }
+
+abbrev pub sent_at : Option Made → ℕ → ℕ → Option Made
+sent_at made call moment = if is_made made call then Some (record { call = call; at = moment }) else made
+
+abbrev pub after_sent : ℕ → ClientLease → ClientLease
+after_sent call l = record l { dirty = sent_at l.dirty call l.moment; last = sent_at l.last call l.moment }
+
+-- The answer gives a lease where the dirty call is still on its way.
+abbrev pub answered : Option Made → ℕ → ClientLease → ClientLease
+answered None period l = l
+answered (Some made) period l = record l { dirty = None; lease = Some (record { sent = made.at; period = period }); renew = false }
+
+abbrev pub after_answer : ℕ → ℕ → ClientLease → ClientLease
+after_answer call period l = if is_made l.dirty call then answered l.dirty period l else l
+
+abbrev pub after_failed_dirty : ℕ → ClientLease → ClientLease
+after_failed_dirty call l = if is_made l.dirty call then record l { dirty = None; owed = Strong; waits = true } else l
+
+abbrev pub after_answered_clean : ℕ → ClientLease → ClientLease
+after_answered_clean call l = if is_clean l.clean call then record l { clean = None } else l
+
+abbrev pub after_failed_clean : ℕ → ClientLease → ClientLease
+after_failed_clean call l = if is_clean l.clean call then record l { clean = None; owed = Again; waits = true } else l
+
+-- With holders a dirty call is due where none is on its way, and there is no lease or it is due for renewal.
+abbrev pub due_held : ClientLease → Option Due
+due_held l = if is_none l.dirty && (is_none l.lease || l.renew) then Some Dirty else None
+
+-- A clean call is repeated as long as the longest lease of the last dirty call is not over.
+abbrev pub due_again : Option Made → ℕ → Option Due
+due_again None moment = None
+due_again (Some last) moment = if nat_lt (moment - last.at) 600000 then Some (Clean_due true) else None
+
+-- Without holders the clean call is due that is owed.
+abbrev pub due_owed : Owed → ClientLease → Option Due
+due_owed Nothing l = None
+due_owed Clean l = Some (Clean_due false)
+due_owed Strong l = Some (Clean_due true)
+due_owed Again l = due_again l.last l.moment
+
+abbrev pub due_unheld : ClientLease → Option Due
+due_unheld l = due_owed l.owed l
+
+-- the call that is due
+abbrev pub due : ClientLease → Option Due
+due l = if l.waits then None else (if nat_lt 0 l.holders then due_held l else due_unheld l)

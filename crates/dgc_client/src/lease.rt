@@ -1,0 +1,282 @@
+//! One foreign reference: its holders, its lease, and the call that is due.
+
+ghost use Rattle.std.specs.Prelude.{◌≡◌, ◌+◌, ◌<◌, ◌^◌};
+ghost use Rattle.dgc_client.specs.Lease.{fresh, is_made, after_hold, after_drop, standing, is_half_over, after_moment, after_dirty, after_clean, after_sent, after_answer, after_failed_dirty, after_answered_clean, after_failed_clean, due_held, due_unheld, due};
+
+/// The period that each dirty call asks for, in milliseconds.
+pub const LONGEST_LEASE: u64 = 600_000;
+
+/// A lease: when its dirty call was sent, and the period that was granted, in milliseconds.
+#[derive(Clone, Copy, Debug, PartialEq, Eq)]
+pub struct Term {
+    pub sent: u64,
+    pub period: u64,
+}
+
+/// A call that was made: its number among the space's dirty and clean calls as they are made, and the
+/// moment at which it was sent, or made where it is not sent yet.
+#[derive(Clone, Copy, Debug, PartialEq, Eq)]
+pub struct Made {
+    pub call: u64,
+    pub at: u64,
+}
+
+/// The clean call that is owed once there is no holder.
+#[derive(Clone, Copy, Debug, PartialEq, Eq)]
+pub enum Owed {
+    /// None: no dirty call was made, or a clean call was made after the last one.
+    Nothing,
+    /// A clean call: a dirty call was made.
+    Clean,
+    /// A strong clean call: the last dirty call failed, and may have arrived all the same.
+    Strong,
+    /// A strong clean call again: the last clean call failed. It is owed only until the longest lease
+    /// of the last dirty call is over.
+    Again,
+}
+
+/// The call that is due.
+#[derive(Clone, Copy, Debug, PartialEq, Eq)]
+pub enum Due {
+    Dirty,
+    Clean { strong: bool },
+}
+
+/// What a space keeps of one foreign reference.
+#[derive(Clone, Copy, Debug, PartialEq, Eq)]
+pub struct ClientLease {
+    /// How many parked frames, tasks, fields and results that nobody has acknowledged hold it.
+    pub holders: u64,
+    /// The last moment, in milliseconds.
+    pub moment: u64,
+    /// The dirty call that is on its way: it is not answered, it has not failed, and no clean call
+    /// was made after it.
+    pub dirty: Option<Made>,
+    /// The lease that stands.
+    pub lease: Option<Term>,
+    /// Whether the lease is due for renewal.
+    pub renew: bool,
+    /// The dirty call that was made last.
+    pub last: Option<Made>,
+    /// The clean call that was made last and is not answered, where no dirty call was made after it.
+    pub clean: Option<u64>,
+    /// The clean call that is owed once there is no holder.
+    pub owed: Owed,
+    /// Whether a call failed since the last moment: nothing is due before the next.
+    pub waits: bool,
+}
+
+// Whether the call is this one.
+fn is_call(made: Option<Made>, call: u64) -> bool
+    ensures { result ≡ is_made made call }
+{
+    matches!(made, Some(made) if made.call == call)
+}
+
+impl ClientLease {
+    /// A reference of which nothing happened yet.
+    pub fn new(moment: u64) -> ClientLease
+        ensures { result ≡ fresh moment }
+    {
+        ClientLease {
+            holders: 0,
+            moment,
+            dirty: None,
+            lease: None,
+            renew: false,
+            last: None,
+            clean: None,
+            owed: Owed::Nothing,
+            waits: false,
+        }
+    }
+
+    /// The reference has one more holder.
+    pub fn hold(&mut self)
+        requires { self.old.holders + 1 < 2 ^ 64 }
+        ensures { self.new ≡ after_hold self.old }
+    {
+        self.holders += 1;
+    }
+
+    /// The reference has one holder less, where it has one.
+    pub fn drop_holder(&mut self)
+        ensures { self.new ≡ after_drop self.old }
+    {
+        self.holders = self.holders.saturating_sub(1);
+    }
+
+    /// The moment is now. A lease is due for renewal as soon as not more than half of its period is
+    /// left, and lapses when all of it is over, counted from the moment at which its dirty call was
+    /// sent. A moment below the last changes nothing.
+    pub fn moment(&mut self, moment: u64)
+        ensures { self.new ≡ after_moment moment self.old }
+    {
+        if moment < self.moment {
+            return;
+        }
+        self.moment = moment;
+        self.waits = false;
+        self.lease = standing(self.lease, moment);
+        self.renew = is_half_over(self.lease, moment);
+    }
+
+    /// A dirty call was made for the reference.
+    pub fn dirty_made(&mut self, call: u64)
+        ensures { self.new ≡ after_dirty call self.old }
+    {
+        let made = Made {
+            call,
+            at: self.moment,
+        };
+        self.dirty = Some(made);
+        self.last = Some(made);
+        self.renew = false;
+        self.clean = None;
+        self.owed = Owed::Clean;
+        self.waits = false;
+    }
+
+    /// A clean call was made for the reference: its lease ends, and a dirty call that is on its way is
+    /// overtaken.
+    pub fn clean_made(&mut self, call: u64)
+        ensures { self.new ≡ after_clean call self.old }
+    {
+        self.dirty = None;
+        self.lease = None;
+        self.renew = false;
+        self.clean = Some(call);
+        self.owed = Owed::Nothing;
+        self.waits = false;
+    }
+
+    /// A dirty call went out now.
+    pub fn dirty_sent(&mut self, call: u64)
+        ensures { self.new ≡ after_sent call self.old }
+    {
+        let sent = Some(Made {
+            call,
+            at: self.moment,
+        });
+        if is_call(self.dirty, call) {
+            self.dirty = sent;
+        }
+        if is_call(self.last, call) {
+            self.last = sent;
+        }
+    }
+
+    /// A dirty call was answered by a lease for this period. Where it was overtaken it gives none.
+    pub fn dirty_answered(&mut self, call: u64, period: u64)
+        ensures { self.new ≡ after_answer call period self.old }
+    {
+        if let Some(dirty) = self.dirty
+            && dirty.call == call
+        {
+            self.dirty = None;
+            self.lease = Some(Term {
+                sent: dirty.at,
+                period,
+            });
+            self.renew = false;
+        }
+    }
+
+    /// A dirty call failed. Where it was not overtaken a new dirty call or a strong clean call is due
+    /// from the next moment on.
+    pub fn dirty_failed(&mut self, call: u64)
+        ensures { self.new ≡ after_failed_dirty call self.old }
+    {
+        if is_call(self.dirty, call) {
+            self.dirty = None;
+            self.owed = Owed::Strong;
+            self.waits = true;
+        }
+    }
+
+    /// A clean call was answered.
+    pub fn clean_answered(&mut self, call: u64)
+        ensures { self.new ≡ after_answered_clean call self.old }
+    {
+        if self.clean == Some(call) {
+            self.clean = None;
+        }
+    }
+
+    /// A clean call failed. Where no dirty call was made after it, a strong one is due from the next
+    /// moment on, while there is no holder and a lease of the last dirty call could stand.
+    pub fn clean_failed(&mut self, call: u64)
+        ensures { self.new ≡ after_failed_clean call self.old }
+    {
+        if self.clean != Some(call) {
+            return;
+        }
+        self.clean = None;
+        self.owed = Owed::Again;
+        self.waits = true;
+    }
+
+    /// The call that is due now.
+    pub fn due(&self) -> Option<Due>
+        ensures { result ≡ due self.now }
+    {
+        if self.waits {
+            None
+        } else if self.holders > 0 {
+            self.due_held()
+        } else {
+            self.due_unheld()
+        }
+    }
+
+    // The call that is due where there are holders.
+    fn due_held(&self) -> Option<Due>
+        ensures { result ≡ due_held self.now }
+    {
+        if self.dirty.is_none() && (self.lease.is_none() || self.renew) {
+            Some(Due::Dirty)
+        } else {
+            None
+        }
+    }
+
+    // The call that is due where there are none.
+    fn due_unheld(&self) -> Option<Due>
+        ensures { result ≡ due_unheld self.now }
+    {
+        match self.owed {
+            Owed::Nothing => None,
+            Owed::Clean => Some(Due::Clean { strong: false }),
+            Owed::Strong => Some(Due::Clean { strong: true }),
+            Owed::Again => match self.last {
+                Some(last) if self.moment.saturating_sub(last.at) < LONGEST_LEASE => {
+                    Some(Due::Clean { strong: true })
+                }
+                _ => None,
+            },
+        }
+    }
+}
+
+// The lease, where it stands at the moment.
+fn standing(lease: Option<Term>, moment: u64) -> Option<Term>
+    ensures { result ≡ standing lease moment }
+{
+    match lease {
+        Some(term) if moment.saturating_sub(term.sent) < term.period => lease,
+        _ => None,
+    }
+}
+
+// Whether not more than half of the lease's period is left.
+fn is_half_over(lease: Option<Term>, moment: u64) -> bool
+    ensures { result ≡ is_half_over lease moment }
+{
+    match lease {
+        Some(term) => {
+            let over = moment.saturating_sub(term.sent);
+            term.period.saturating_sub(over) <= over
+        }
+        None => false,
+    }
+}
