@@ -13,4 +13,5 @@ pub use links::Linked;
 
 mod fault;
 mod linked;
+mod linking;
 mod links;

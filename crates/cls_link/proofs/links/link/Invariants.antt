@@ -1,0 +1,8 @@
+use Rattle.std.proofs.Common.{take}
+use Rattle.std.specs.List.{AllZip}
+use Rattle.cls_link.specs.Links.{declared_from, IsLinked}
+use Rattle.cls_link.proofs.links.link.Given as goal
+
+-- the methods of the classes so far are linked
+abbrev pub invariant-loop-number : goal.invariant-loop-number
+invariant-loop-number l = AllZip IsLinked (declared_from 0 (take l.number l.fn.set)) l.methods.items
