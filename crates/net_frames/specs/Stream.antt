@@ -119,3 +119,16 @@ abbrev pub Refuses : Held → List ℕ → WireError → Held → Type 0
 Refuses (Rest rest) piece (errors.Fault fault) new = Stream (rest ++ piece) [] (Stopped fault) × (new ≡ Stopped fault)
 Refuses (Rest rest) piece errors.Memory new = new ≡ Rest rest
 Refuses (Stopped fault) piece error new = (error ≡ errors.Fault fault) × (new ≡ Stopped fault)
+
+-- ---- laws
+
+-- each is a byte
+abbrev pub AreBytes : List ℕ → Type 0
+AreBytes bytes = (i : ℕ) → slice_index bytes i < 256
+
+-- Pieces, one after the other, give these messages and leave that. A piece behind a fault gives none.
+unfoldable pub Reads : Held → List (List ℕ) → List Message → Held → Type 0
+Reads start [] messages end = (messages ≡ []) × (end ≡ start)
+Reads (Stopped fault) (piece ∷ pieces) messages end = Reads (Stopped fault) pieces messages end
+Reads (Rest rest) (piece ∷ pieces) messages end =
+    (first : List Message) × (others : List Message) × (middle : Held) × (Stream (rest ++ piece) first middle × Reads middle pieces others end × (messages ≡ first ++ others))

@@ -18,6 +18,7 @@ mod fields;
 mod frame;
 mod front;
 mod kinds;
+pub mod laws;
 mod length;
 mod message;
 mod ranges;
