@@ -52,20 +52,22 @@ told_bytes bytes h long =
     ap (big_bytes 4) (sym (big_from-take 0 4 4 bytes (omega arith))) ∙ width4.back (take 4 bytes) (length-take-le 4 bytes long) (IsBytes-take 4 bytes h)
 
 pub is_whole : (bytes first : List ℕ) (n : ℕ) (message : Message) → IsBytes bytes → first ≡ take n (drop 4 bytes) → n ≡ told_length bytes → 1 ≤ n → n ≤ 65536 → 4 + n ≤ length bytes → ReadsBody first (Ok message)
-    → (4 + n ≤ length bytes) × IsWire (take (4 + n) bytes) message
+    → (4 + n ≤ length bytes) × IsWire (take (4 + n) bytes) message × (4 + n ≡ known_end bytes)
 is_whole bytes first n message h cut told low high long reads =
     let is : take n (drop 4 bytes) ≡ body message = sym cut ∙ reads.0 in
     let len : length (body message) ≡ n = ap length (sym is) ∙ length-take-le n (drop 4 bytes) (omega (arith, length-drop 4 bytes)) in
     let head : number_bytes 4 (length (body message)) ≡ take 4 bytes = ap (number_bytes 4) (len ∙ told) ∙ told_bytes bytes h (omega arith) in
     let parts : take 4 (take (4 + n) bytes) ++ drop 4 (take (4 + n) bytes) ≡ take (4 + n) bytes = take-append-drop 4 (take (4 + n) bytes) in
     let front : take 4 (take (4 + n) bytes) ≡ take 4 bytes = take-take 4 (4 + n) bytes (omega arith) in
-    let back : drop 4 (take (4 + n) bytes) ≡ take n (drop 4 bytes) = drop-take 4 n bytes in (
+    let back : drop 4 (take (4 + n) bytes) ≡ take n (drop 4 bytes) = drop-take 4 n bytes in
+    let at_end : known_end bytes ≡ 4 + told_length bytes = rw (le-ltb (length bytes) 4 (omega arith)) refl in (
       long,
       record {
         in_range = reads.1;
         short = omega arith;
         spelled = sym parts ∙ ap (λ (x : List ℕ). x ++ drop 4 (take (4 + n) bytes)) (front ∙ sym head) ∙ ap (λ (x : List ℕ). number_bytes 4 (length (body message)) ++ x) (back ∙ is);
       },
+      omega arith,
     )
 
 -- ---- one reading

@@ -12,7 +12,7 @@ use Rattle.vm_heap.specs.declared.values.Value.TheVariants as values
 use Rattle.net_frames.specs.declared.message.Message.{Message}
 use Rattle.net_frames.specs.declared.message.Message.TheVariants.{Hello, Call, Returned, Threw, Spent, Ack, Dirty, Lease, Clean, Cleaned, Lookup}
 use Rattle.net_frames.specs.Sizes.{value_size, values_size, result_size, body_size}
-use Rattle.net_frames.specs.Wire.{number_bytes, int_bytes, id_bytes, class_bytes, reference_bytes, row_bytes, value_bytes, result_bytes, flag_bytes, name_bytes, body, IsValue, IsInRange}
+use Rattle.net_frames.specs.Wire.{number_bytes, int_bytes, id_bytes, class_bytes, reference_bytes, row_bytes, value_bytes, result_bytes, flag_bytes, name_bytes, body, frame, IsValue, IsInRange}
 use Rattle.net_frames.proofs.FieldLaws.{length-number_bytes}
 
 length-int : (n : ℤ) → length (int_bytes n) ≡ 4
@@ -97,3 +97,6 @@ length-body (Clean sequence strong objects) fits =
     omega (arith, length-after 8 sequence (flag_bytes strong ++ row_bytes 2 id_bytes objects), length-append (flag_bytes strong) (row_bytes 2 id_bytes objects), length-flag strong, length-row 2 id_bytes objects, length-ids objects)
 length-body (Cleaned sequence) fits = omega (arith, length-number_bytes 8 sequence)
 length-body (Lookup number name) fits = omega (arith, length-after 8 number (name_bytes name), length-name name)
+
+pub length-frame : (message : Message) → length (frame message) ≡ 4 + length (body message)
+length-frame message = length-after 4 (length (body message)) (body message)

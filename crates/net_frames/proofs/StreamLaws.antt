@@ -112,7 +112,7 @@ goes_on bytes rest more (m ∷ ms) ns end s t =
 
 -- ---- pieces
 
-told_stays : (bytes more : List ℕ) → 4 ≤ length bytes → told_length (bytes ++ more) ≡ told_length bytes
+pub told_stays : (bytes more : List ℕ) → 4 ≤ length bytes → told_length (bytes ++ more) ≡ told_length bytes
 unfolding told_length
 told_stays bytes more long = big_from-append 4 bytes more long
 

@@ -65,7 +65,7 @@ known_end bytes = if nat_lt (length bytes) 4 then 4 else (4 + told_length bytes)
 
 -- what reading the front of some bytes answers
 abbrev pub ReadsFront : List ℕ → Result Front WireError → Type 0
-ReadsFront bytes (Ok (fronts.Whole message len)) = (len ≤ length bytes) × IsWire (take len bytes) message
+ReadsFront bytes (Ok (fronts.Whole message len)) = (len ≤ length bytes) × IsWire (take len bytes) message × (len ≡ known_end bytes)
 ReadsFront bytes (Ok (fronts.Missing count)) = IsPartial bytes × (0 < count) × (length bytes + count ≡ known_end bytes)
 ReadsFront bytes (Err (errors.Fault fault)) = Breaks fault bytes
 ReadsFront bytes (Err errors.Memory) = Unit {0}

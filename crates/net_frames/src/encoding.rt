@@ -23,6 +23,7 @@ impl Frame {
         ensures in_range { IsInRange self.now }
         ensures items { out.new.items ≡ out.old.items ++ wire.frame self.now }
         ensures spare { out.new.spare + (4 + length (body self.now)) ≡ out.old.spare }
+        ensures capacity { length out.new.items + out.new.spare ≡ length out.old.items + out.old.spare }
     {
         put_frame(out, self.body_len() as u32, self.message());
     }

@@ -1,0 +1,71 @@
+-- Bytes that move from a source into a buffer, and from a buffer into a sink.
+use Rattle.std.proofs.Common.{◌≡◌, ℕ, ◌+◌, ◌-◌, ◌<◌, ◌≤◌, List, [], ◌∷◌, ◌++◌, length, take, drop, Option, Some, None, refl, sym, ap, subst, ◌∙◌, append_assoc, arith, inl, inr}
+use Rattle.std.specs.Io.KnownBytes.{Appends, Consumes, Keeps, prepend_known}
+use Rattle.std.proofs.KnownBytes.{Appends-trans}
+use Rattle.std.proofs.lemmas.List.{take-append-drop, take-append-le, take-take, drop-take, take_at, drop_at, length-take, length-take-le, length-append}
+use borrow.Rule.Slice.PartMut.{put_mid, post_of}
+use Rattle.std.proofs.lemmas.Bool.{cases_lt, lt-ltb, le-ltb}
+use Rattle.net_frames.specs.Stream.{told_length, IsPartial, known_end}
+use Rattle.net_frames.proofs.StreamLaws.{told_stays}
+use Rattle.net_engine.specs.Engine.{known, IsWithinFirst}
+
+take_add : (n m : ℕ) (xs : List ℕ) → take (n + m) xs ≡ take n xs ++ take m (drop n xs)
+take_add n m xs =
+    sym (take-append-drop n (take (n + m) xs)) ∙ ap (λ (x : List ℕ). x ++ drop n (take (n + m) xs)) (take-take n (n + m) xs (omega arith)) ∙ ap (λ (x : List ℕ). take n xs ++ x) (drop-take n m xs)
+
+-- a sink that has taken the first bytes, and then takes the first of the rest
+pub appends_more : (a b c : Option (List ℕ)) (bytes rest : List ℕ) (sent count : ℕ) → rest ≡ drop sent bytes → Appends a b (take sent bytes) → Appends b c (take count rest) → Appends a c (take (sent + count) bytes)
+appends_more a b c bytes rest sent count is first next =
+    subst (Appends a c) (ap (λ (x : List ℕ). take sent bytes ++ take count x) is ∙ sym (take_add sent count bytes)) (Appends-trans a b c (take sent bytes) (take count rest) first next)
+
+-- the bytes of a buffer up to those that were read into a part of it
+take_read : (old part : List ℕ) (a k count : ℕ) → a + k ≤ length old → length part ≡ k → count ≤ k → take (a + count) (put_mid a k old part) ≡ take a old ++ take count part
+take_read old part a k count within len most =
+    let new = put_mid a k old part in
+    let front : take a old ++ (part ++ post_of a k old) ≡ new = refl in
+    let len_front : length (take a old) ≡ a = length-take-le a old (omega arith) in
+    take_add a count new ∙ ap (λ (x : List ℕ). x ++ take count (drop a new)) (take_at (take a old) (part ++ post_of a k old) a len_front)
+    ∙ ap (λ (x : List ℕ). take a old ++ take count x) (drop_at (take a old) (part ++ post_of a k old) a len_front) ∙ ap (λ (x : List ℕ). take a old ++ x) (take-append-le count part (post_of a k old) (omega arith))
+
+known_moves : (x y : Option (List ℕ)) (held bytes : List ℕ) → Consumes x y bytes → Keeps (prepend_known held x) (prepend_known (held ++ bytes) y)
+known_moves None y held bytes consumes = tt
+known_moves (Some xs) None held bytes consumes = absurd consumes
+known_moves (Some xs) (Some ys) held bytes consumes = append_assoc held bytes ys ∙ ap (λ (z : List ℕ). held ++ z) (sym consumes)
+
+-- what a source gave stands behind what was held
+pub moved : {S : Type 0} (remaining : S → Option (List ℕ)) (old part : List ℕ) (a k count : ℕ) (s t : S) → a + k ≤ length old → length part ≡ k → count ≤ k → Consumes (remaining s) (remaining t) (take count part)
+    → Keeps (known remaining (take a old) s) (known remaining (take (a + count) (put_mid a k old part)) t)
+moved remaining old part a k count s t within len most consumes =
+    rw (take_read old part a k count within len most) (known_moves (remaining s) (remaining t) (take a old) (take count part) consumes)
+
+-- the first frame ends within the room for one
+pub end_fits : (held : List ℕ) → IsPartial held → known_end held ≤ 65540
+end_fits held (inl short) = rw (lt-ltb (length held) 4 short) (omega arith)
+end_fits held (inr begun) =
+    elim (cases_lt (length held) 4) [
+      | inl short ↦ rw (lt-ltb (length held) 4 short) (omega arith)
+      | inr long ↦ rw (le-ltb (length held) 4 long) (omega (arith, begun.0.1))
+    ]
+
+-- bytes that were missing do not go past the first frame
+stays_within : (held more : List ℕ) → length (held ++ more) ≤ known_end held → IsWithinFirst (held ++ more)
+stays_within held more within =
+    elim (cases_lt (length held) 4) [
+      | inl short ↦
+          let at_most : length (held ++ more) ≤ 4 = rw (lt-ltb (length held) 4 short) at within in
+          elim (cases_lt (length (held ++ more)) 4) [
+            | inl still ↦ rw (lt-ltb (length (held ++ more)) 4 still) (omega arith)
+            | inr there ↦ rw (le-ltb (length (held ++ more)) 4 there) (omega arith)
+          ]
+      | inr long ↦
+          let at_most : length (held ++ more) ≤ 4 + told_length held = rw (le-ltb (length held) 4 long) at within in
+          let there : 4 ≤ length (held ++ more) = omega (arith, length-append held more) in
+          rw (le-ltb (length (held ++ more)) 4 there, told_stays held more long) at_most
+    ]
+
+-- the same of a buffer whose front stayed
+pub read_within : (old new : List ℕ) (filled count missing : ℕ) → take filled new ≡ take filled old → filled ≤ length old → count ≤ missing → length (take filled old) + missing ≡ known_end (take filled old) → IsWithinFirst (take (filled + count) new)
+read_within old new filled count missing front fits most ends =
+    let parts : take (filled + count) new ≡ take filled old ++ take count (drop filled new) = take_add filled count new ∙ ap (λ (x : List ℕ). x ++ take count (drop filled new)) front in
+    subst IsWithinFirst (sym parts) (stays_within (take filled old) (take count (drop filled new))
+    (omega (arith, length-append (take filled old) (take count (drop filled new)), length-take count (drop filled new), ends)))
