@@ -28,3 +28,6 @@ mod types;
 mod utf8;
 
 pub use utf8::is_modified_utf8;
+
+#[cfg(test)]
+mod tests;

@@ -26,3 +26,5 @@ mod profile;
 mod read;
 mod rules;
 mod source;
+#[cfg(test)]
+mod tests;
