@@ -2,3 +2,5 @@ pub mod Loops
 pub mod Parameters
 pub mod Cells
 pub mod Verdicts
+pub mod FormatLaws
+pub mod PoolLaws

@@ -6,3 +6,5 @@ pub mod Utf8
 pub mod Types
 pub mod Pools
 pub mod PoolRefs
+pub mod Formats
+pub mod PoolFormat

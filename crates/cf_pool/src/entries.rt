@@ -1,7 +1,9 @@
 //! Reading a constant pool: its entries, and where they stand.
 
-ghost use Rattle.std.specs.Prelude.{◌≡◌, true};
+ghost use Rattle.std.specs.Prelude.{◌≡◌, ℕ, true, List, IfOk, IfErr};
 ghost use Rattle.cf_pool.specs.Reading.{Gives};
+ghost use Rattle.cf_pool.specs.Formats.{FailsBy};
+ghost use Rattle.cf_pool.specs.PoolFormat.{layout_format, pool_format};
 ghost use Rattle.cf_pool.specs.Pools.{cell_from, cells_from, class_entry, entry_from, integer_entry, layout_from, member_entry, name_and_type_entry, pool_from, shape_of, shaped_entry, skipped_entry, tagged, text_entry};
 
 use super::layout::{PlacedEntry, Shape};
@@ -208,12 +210,9 @@ fn cells_from(
     ))
 }
 
-/// The constant pool from its count at `at` on, with the places of its entries, and the place behind
-/// it. A cut item is Truncated at its first byte, an unknown tag is Tag, and a count of 0, or a Long
-/// or Double with no second index, is Index: the first of these in the order of bytes. Texts and the
-/// entries' own indices are not looked at: that is for `PoolLayout::check`.
+// The reading behind `read_layout`, with the first fault.
 #[tactic(auto, unfolding(crate::specs::Pools::layout_from))]
-pub fn read_layout(alloc: Global, bytes: &[u8], at: usize) -> Result<(PoolLayout, usize), ReadFault>
+fn layout_from(alloc: Global, bytes: &[u8], at: usize) -> Result<(PoolLayout, usize), ReadFault>
     ensures { Gives (layout_from bytes.now at) result }
 {
     let (count, first) = read_u16(bytes, at)?;
@@ -226,12 +225,44 @@ pub fn read_layout(alloc: Global, bytes: &[u8], at: usize) -> Result<(PoolLayout
     cells_from(alloc, count, bytes, first)
 }
 
-/// The constant pool from its count at `at` on, and the place behind it. The faults are those of
-/// `read_layout`.
+/// The constant pool from its count at `at` on, with the places of its entries, and the place behind
+/// it. A cut item is Truncated at its first byte, an unknown tag is Tag, and a count of 0, or a Long
+/// or Double with no second index, is Index: the first of these in the order of bytes. Texts and the
+/// entries' own indices are not looked at: that is for `PoolLayout::check`.
+pub fn read_layout(alloc: Global, bytes: &[u8], at: usize) -> Result<(PoolLayout, usize), ReadFault>
+    // What is read stands there, what stands there is read, and a fault is one of what stands there.
+    ensures found { IfOk result (λ x. (layout_format bytes.now at).Stands at x.0 x.1) }
+    ensures only { (x : PoolLayout × ℕ) → (layout_format bytes.now at).Stands at x.0 x.1 → Gives (Ok x) result }
+    ensures fault { IfErr result (FailsBy (layout_format bytes.now at) at) }
+    // Which fault it is.
+    ensures exact { Gives (layout_from bytes.now at) result }
+{
+    layout_from(alloc, bytes, at)
+}
+
+// The reading behind `read_pool`, with the first fault.
 #[tactic(auto, unfolding(crate::specs::Pools::pool_from))]
-pub fn read_pool(alloc: Global, bytes: &[u8], at: usize) -> Result<(Pool, usize), ReadFault>
+fn pool_from(alloc: Global, bytes: &[u8], at: usize) -> Result<(Pool, usize), ReadFault>
     ensures { Gives (pool_from bytes.now at) result }
 {
-    let (layout, to) = read_layout(alloc, bytes, at)?;
+    let (layout, to) = layout_from(alloc, bytes, at)?;
     Ok((layout.pool, to))
 }
+
+/// The constant pool from its count at `at` on, and the place behind it. The faults are those of
+/// `read_layout`.
+pub fn read_pool(alloc: Global, bytes: &[u8], at: usize) -> Result<(Pool, usize), ReadFault>
+    // What is read stands there, what stands there is read, and a fault is one of what stands there.
+    ensures found { IfOk result (λ x. (pool_format bytes.now at).Stands at x.0 x.1) }
+    ensures only { (x : List Entry × ℕ) → (pool_format bytes.now at).Stands at x.0 x.1 → Gives (Ok x) result }
+    ensures fault { IfErr result (FailsBy (pool_format bytes.now at) at) }
+{
+    pool_from(alloc, bytes, at)
+}
+
+/// No bytes have two readings as a constant pool: what stands from a place on is one pool, up to one
+/// place.
+pub fn one_pool()
+    ensures { (bytes : List ℕ) (at : ℕ) (x y : List Entry × ℕ) → (pool_format bytes at).Stands at x.0 x.1
+        → (pool_format bytes at).Stands at y.0 y.1 → x ≡ y }
+{}

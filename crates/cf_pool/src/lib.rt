@@ -4,7 +4,7 @@
 
 pub use check::demand;
 pub use descriptors::{begins_with, descriptor, read_field_descriptor, read_method_descriptor};
-pub use entries::{read_layout, read_pool};
+pub use entries::{one_pool, read_layout, read_pool};
 pub use fault::{Numbered, ReadFault, Rule};
 pub use layout::{Places, PoolLayout};
 pub use names::{CLASS_INITIALIZER, INITIALIZER, is_class_name, is_method_name, is_name};

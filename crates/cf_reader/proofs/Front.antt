@@ -11,7 +11,7 @@ use Rattle.cf_pool.specs.Demands.{verdict}
 use Rattle.cf_reader.specs.declared.class_file.ClassFile.{ClassFile}
 use Rattle.cf_reader.specs.declared.load_fault.LoadFault.{LoadFault}
 use Rattle.cf_reader.specs.Builds.{reading_of}
-use Rattle.cf_reader.specs.Layouts.{layout_of}
+use Rattle.cf_reader.specs.Layouts.{file_at, layout_of}
 use Rattle.cf_reader.specs.Loads.{GivesPiece, Loads}
 
 -- what a source gave in two steps
@@ -55,7 +55,7 @@ front_of_many before mid after most old new passed piece few room many =
 
 -- what is too long is refused as such, however long
 too_large : (bytes : List ℕ) → 1048576 < length bytes → reading_of bytes ≡ Err (Broken TooLarge 1048576)
-unfolding reading_of layout_of verdict
+unfolding reading_of layout_of file_at verdict
 too_large bytes long = rw (lt-leb (length bytes) 1048576 long) refl
 
 -- the front of the bytes reads as all of them

@@ -3,3 +3,5 @@ pub mod Skims
 pub mod AttributeSteps
 pub mod Each
 pub mod Front
+pub mod FileLaws
+pub mod SpellsLaws

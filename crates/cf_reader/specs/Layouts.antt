@@ -46,7 +46,7 @@ abbrev pub keeps : Bool → Rule → ℕ → Result (Unit {0}) ReadFault
 keeps holds rule at = verdict (record { at = at; rule = rule; holds = holds } ∷ [])
 
 -- CAFEBABE, minor version 0, and a major version from 50 to 52
-unfoldable pub header_at : List ℕ → Result ℕ ReadFault
+unfoldable pub header_at : List ℕ → Result (ℕ × ℕ) ReadFault
 header_at bytes = do
   magic ← number_at 4 bytes 0
   _ ← keeps (magic.0 == 0xcafebabe) rules.Magic 0
@@ -54,7 +54,7 @@ header_at bytes = do
   _ ← keeps (minor.0 == 0) rules.Version magic.1
   major ← number_at 2 bytes minor.1
   _ ← keeps (nat_le 50 major.0 && nat_le major.0 52) rules.Version minor.1
-  Ok major.1
+  Ok (major.0, major.1)
 
 -- what follows the version
 unfoldable pub body_at : List ℕ → ℕ → Result (Layout × ℕ) ReadFault
@@ -91,11 +91,17 @@ body_at bytes at = do
 abbrev pub max_length : ℕ
 max_length = 1048576
 
--- the first pass: the layout of all the bytes
+-- the first pass, up to the end of the file
+unfoldable pub file_at : List ℕ → Result (Layout × ℕ) ReadFault
+file_at bytes = do
+  _ ← keeps (nat_le (length bytes) max_length) rules.TooLarge max_length
+  major ← header_at bytes
+  layout ← body_at bytes major.1
+  _ ← keeps (layout.1 == length bytes) rules.Trailing layout.1
+  Ok (layout.0, layout.1)
+
+-- the layout of all the bytes
 unfoldable pub layout_of : List ℕ → Result Layout ReadFault
 layout_of bytes = do
-  _ ← keeps (nat_le (length bytes) max_length) rules.TooLarge max_length
-  pool_at ← header_at bytes
-  layout ← body_at bytes pool_at
-  _ ← keeps (layout.1 == length bytes) rules.Trailing layout.1
-  Ok layout.0
+  file ← file_at bytes
+  Ok file.0

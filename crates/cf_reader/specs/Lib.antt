@@ -5,3 +5,5 @@ pub mod Profile
 pub mod Checks
 pub mod Builds
 pub mod Loads
+pub mod FileFormat
+pub mod Spells

@@ -115,9 +115,9 @@ fn read_members(
     Ok((Row::new(members), place))
 }
 
-// CAFEBABE, and a version of the profile. What follows stands at the answer.
+// CAFEBABE, and a version of the profile: the major version, and the place behind it.
 #[tactic(auto, unfolding(crate::specs::Layouts::header_at, cf_pool::specs::Demands::verdict))]
-fn read_header(bytes: &[u8]) -> Result<usize, ReadFault>
+fn read_header(bytes: &[u8]) -> Result<(u16, usize), ReadFault>
     ensures { Gives (header_at bytes.now) result }
 {
     let (magic, minor_at) = read_u32(bytes, 0)?;
@@ -126,7 +126,7 @@ fn read_header(bytes: &[u8]) -> Result<usize, ReadFault>
     demand(minor == 0, Rule::Version, minor_at)?;
     let (major, to) = read_u16(bytes, major_at)?;
     demand(50 <= major && major <= 52, Rule::Version, major_at)?;
-    Ok(to)
+    Ok((major, to))
 }
 
 // What follows the version.
@@ -165,12 +165,12 @@ fn read_body(alloc: Global, bytes: &[u8], at: usize) -> Result<(Layout, usize), 
 /// many. Else the first of these counts, in the order of bytes: a cut item is Truncated at its first
 /// byte; Magic, Version, Tag; Index where the constant pool's count is 0 or its last entry wants two
 /// indices; Trailing at the first byte behind the class.
-#[tactic(auto, unfolding(crate::specs::Layouts::layout_of, cf_pool::specs::Demands::verdict))]
+#[tactic(auto, unfolding(crate::specs::Layouts::layout_of, crate::specs::Layouts::file_at, cf_pool::specs::Demands::verdict))]
 pub(crate) fn layout_of(alloc: Global, bytes: &[u8]) -> Result<Layout, ReadFault>
     ensures { Gives (layout_of bytes.now) result }
 {
     demand(bytes.len() <= MAX_LEN, Rule::TooLarge, MAX_LEN)?;
-    let pool_at = read_header(bytes)?;
+    let (_, pool_at) = read_header(bytes)?;
     let (layout, to) = read_body(alloc, bytes, pool_at)?;
     demand(to == bytes.len(), Rule::Trailing, to)?;
     Ok(layout)

@@ -1,9 +1,10 @@
 //! Reading a class file from its bytes.
 
-ghost use Rattle.std.specs.Prelude.{◌≡◌};
+ghost use Rattle.std.specs.Prelude.{◌≡◌, ℕ, List, IfOk, IfErr};
 ghost use Rattle.cf_pool.specs.Reading.{Gives};
-ghost use Rattle.cf_pool.specs.Demands.{verdict};
+ghost use Rattle.cf_reader.specs.declared.items.Layout.{Layout};
 ghost use Rattle.cf_reader.specs.Builds.{reading_of};
+ghost use Rattle.cf_reader.specs.Spells.{IsAtFault, IsInProfile, Spells};
 
 use super::ClassFile;
 use super::build::class_from;
@@ -21,12 +22,30 @@ use std::alloc::Global;
 /// the order of bytes, and at one item the rule of the lowest number: Utf8, Index, Descriptor, Flags,
 /// CodeLength, AttributeLength, Duplicate, OutOfProfile. Want of memory may come in place of any
 /// answer.
-#[tactic(auto, unfolding(crate::specs::Builds::reading_of))]
 pub fn read_class(alloc: Global, bytes: &[u8]) -> Result<ClassFile, ReadFault>
-    // The reading of the bytes, and the first fault where there is none.
+    // What is read is spelled, and in profile.
+    ensures found { IfOk result (λ class. (layout : Layout) × Spells bytes.now layout class × IsInProfile bytes.now layout) }
+    // What is spelled, and in profile, is read, unless memory runs out.
+    ensures only { (layout : Layout) (class : ClassFile) → Spells bytes.now layout class → IsInProfile bytes.now layout → Gives (Ok class) result }
+    // A fault names a rule that fails at its place.
+    ensures fault { IfErr result (IsAtFault bytes.now) }
+    // Which fault it is: the first.
     ensures exact { Gives (reading_of bytes.now) result }
+{
+    reading_of(alloc, bytes)
+}
+
+// The reading behind `read_class`, with the first fault.
+#[tactic(auto, unfolding(crate::specs::Builds::reading_of))]
+fn reading_of(alloc: Global, bytes: &[u8]) -> Result<ClassFile, ReadFault>
+    ensures { Gives (reading_of bytes.now) result }
 {
     let layout = layout_of(alloc, bytes)?;
     layout.check(alloc, bytes)?;
     class_from(alloc, bytes, layout)
 }
+
+/// No bytes have two readings: what they spell, by any layout, is one class file.
+pub fn one_reading()
+    ensures { (bytes : List ℕ) (l m : Layout) (c d : ClassFile) → Spells bytes l c → Spells bytes m d → c ≡ d }
+{}
