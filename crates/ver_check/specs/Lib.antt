@@ -1,3 +1,6 @@
 pub mod Bodies
 pub mod Effects
+pub mod Flow
+pub mod Makes
+pub mod Offsets
 pub mod Typing

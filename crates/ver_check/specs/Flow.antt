@@ -1,0 +1,48 @@
+use Rattle.std.specs.Prelude.{◌≡◌, ℕ, suc, ◌<◌, Option, Some, None, List, Result, Ok, Err, length, MatchOption, MatchBool}
+use Rattle.std.specs.List.{AllByRecursion}
+use Rattle.cls_link.specs.declared.linked.LinkedInsn.{LinkedInsn}
+use Rattle.ver_check.specs.Bodies.{Body, insn_at, declared_at}
+use Rattle.ver_check.specs.Effects.{effect, falls_through, targets}
+use Rattle.ver_check.specs.Typing.{Lands}
+use Rattle.ver_check.specs.declared.stop.Stop.{Stop}
+use Rattle.ver_check.specs.declared.stop.Stop.TheVariants.{Broken, Missing, Memory}
+use Rattle.ver_frames.specs.Assignable.{IsFrameAssignable}
+use Rattle.ver_frames.specs.Frames.{Frame}
+
+-- The one pass over a body, with one current frame.
+
+-- a frame comes in at a place, and the pass goes on there with this one: the frame that is declared
+-- there, or the one that came in
+abbrev pub ComesIn : Body → ℕ → Frame → Frame → Type 0
+ComesIn body place given here =
+    MatchOption (declared_at body place) (here ≡ given) (λ declared. IsFrameAssignable body.classes given declared × (here ≡ declared))
+
+-- behind an instruction and its effect the pass goes on with this frame
+abbrev pub GoesTo : Body → ℕ → LinkedInsn → Frame → Frame → Type 0
+GoesTo body place insn after next =
+    MatchBool (falls_through insn)
+    ((suc place < length body.insns) × ComesIn body (suc place) after next)
+    (suc place < length body.insns → declared_at body (suc place) ≡ Some next)
+
+-- the frame lands on a declared one at each target
+abbrev pub LandsOnAll : Body → LinkedInsn → Frame → Type 0
+LandsOnAll body insn after = AllByRecursion (Lands body after) (targets insn)
+
+-- the pass comes through an instruction, from this frame to this one at the next place
+pub record Passes (body : Body) (place : ℕ) (insn : LinkedInsn) (here next : Frame) : Type 0 where
+  pub after : Frame
+  pub acts : effect body insn here ≡ Some after
+  pub lands : LandsOnAll body insn after
+  pub goes_to : GoesTo body place insn after next
+
+-- the pass reaches a place with this frame
+pub data Reaches (body : Body) : ℕ → Frame → Type 0 where
+  begins : (here : Frame) → ComesIn body 0 body.opening here → Reaches body 0 here
+  comes_on : (place : ℕ) (insn : LinkedInsn) (here next : Frame) → Reaches body place here → insn_at body place ≡ Some insn → Passes body place insn here next → Reaches body (suc place) next
+
+-- a function found that the first is so, or it stopped and the second is so, or for want of memory
+abbrev pub Settles : {X : Type 0} → Result X Stop → Type 0 → Type 0 → Type 0
+Settles (Ok x) so not_so = so
+Settles (Err (Broken rule)) so not_so = not_so
+Settles (Err (Missing place)) so not_so = not_so
+Settles (Err Memory) so not_so = Unit {0}

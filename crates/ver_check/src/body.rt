@@ -1,0 +1,25 @@
+//! What is checked of a method: the method and the frames that it declares.
+
+use std::marker::Model;
+use ver_frames::{MethodView, TypeFrame};
+
+// A method and the frames that it declares, each with its offset. A contract sees it as the body
+// that is checked.
+#[derive(Drop)]
+pub(crate) struct BodyView<'a> {
+    pub(crate) method: &'a MethodView<'a>,
+    pub(crate) declared: &'a [(u16, TypeFrame)],
+}
+
+impl<'a> Model for BodyView<'a> {
+    ghost use Rattle.ver_check.specs.Bodies.{Body, body_of};
+
+    ghost Value = { Body };
+
+    ghost use Rattle.std.specs.List.Sorted.{IsStrictlyIncreasing};
+    ghost use Rattle.ver_check.specs.Offsets.{declared_offsets};
+
+    ghost view = { λ b. body_of b.method.now b.declared.now };
+
+    ghost invariant = { λ b. IsStrictlyIncreasing (declared_offsets b.declared.now) };
+}

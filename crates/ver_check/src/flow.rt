@@ -1,0 +1,134 @@
+//! The pass over the instructions of a body, with the frame at the current one.
+
+ghost use Rattle.std.specs.Prelude.{◌≡◌, ◌<◌, option_copied, length, ℕ};
+ghost use Rattle.std.specs.List.Sorted.{IsStrictlyIncreasing};
+ghost use Rattle.ver_check.specs.Bodies.{frame_at_offset};
+ghost use Rattle.ver_check.specs.Effects.{falls_through};
+ghost use Rattle.ver_check.specs.Offsets.{declared_offsets};
+
+use super::body::BodyView;
+use super::stop::Stop;
+use super::{CheckRule, LinkedInsn, TypeFrame};
+use ver_frames::frame_assignable;
+
+// The frame that is declared at an offset.
+fn frame_at_offset(declared: &[(u16, TypeFrame)], offset: u16) -> Option<&TypeFrame>
+    requires { IsStrictlyIncreasing (declared_offsets declared.now) }
+    ensures { option_copied result ≡ frame_at_offset declared.now offset }
+{
+    match declared.binary_search_by_key(&offset, |frame| frame.0) {
+        Ok(index) => Some(&declared[index].1),
+        Err(_) => None,
+    }
+}
+
+// Whether the next instruction may come after it.
+fn falls_through(insn: LinkedInsn) -> bool
+    ensures { result ≡ falls_through insn }
+{
+    !matches!(
+        insn,
+        LinkedInsn::Goto { .. } | LinkedInsn::ReturnValue(_) | LinkedInsn::Return
+    )
+}
+
+impl BodyView<'_> {
+    ghost use Rattle.std.specs.Prelude.{◌≡◌, ◌<◌, option_copied, length, ℕ};
+    ghost use Rattle.ver_check.specs.Bodies.{declared_at};
+    ghost use Rattle.ver_check.specs.Flow.{ComesIn, GoesTo, LandsOnAll, Passes, Settles};
+    ghost use Rattle.ver_check.specs.Typing.{Lands};
+    ghost use Rattle.ver_frames.specs.Frames.{Frame};
+
+    // How many instructions there are.
+    pub(crate) fn insn_count(&self) -> usize
+        ensures { result ≡ length self.now.insns }
+    {
+        let method = self.method;
+        method.linked.insns.as_slice().len()
+    }
+
+    // The frame that is declared at the instruction at a place.
+    #[tactic(auto, unfolding(crate::specs::Bodies::declared_at))]
+    fn declared_at(&self, place: usize) -> Option<&TypeFrame>
+        ensures { option_copied result ≡ declared_at self.now place }
+    {
+        let method = self.method;
+        let offset = method.linked.offsets.as_slice().get(place)?;
+        frame_at_offset(self.declared, *offset)
+    }
+
+    // A frame comes in at a place, and becomes the one that is declared there, where one is.
+    pub(crate) fn enter(&self, frame: &mut TypeFrame, place: usize) -> Result<(), Stop>
+        ensures { Settles result (ComesIn self.now place frame.old frame.new) ((here : Frame) → ¬ ComesIn self.now place frame.old here) }
+    {
+        let Some(declared) = self.declared_at(place) else {
+            return Ok(());
+        };
+        let method = self.method;
+        if !frame_assignable(method.classes, frame, declared) {
+            return Err(Stop::Broken(CheckRule::NotAssignable));
+        }
+        frame.copy_from(declared)?;
+        Ok(())
+    }
+
+    // A frame comes in at the target of a branch, where one has to be declared.
+    fn land(&self, frame: &TypeFrame, target: u16) -> Result<(), Stop>
+        ensures { Settles result (Lands self.now frame.now target) (¬ Lands self.now frame.now target) }
+    {
+        let place = usize::from(target);
+        let Some(declared) = self.declared_at(place) else {
+            return Err(Stop::Missing(place));
+        };
+        let method = self.method;
+        if !frame_assignable(method.classes, frame, declared) {
+            return Err(Stop::Broken(CheckRule::NotAssignable));
+        }
+        Ok(())
+    }
+
+    // A frame comes in at each target of an instruction.
+    fn land_on_all(&self, frame: &TypeFrame, insn: LinkedInsn) -> Result<(), Stop>
+        ensures { Settles result (LandsOnAll self.now insn frame.now) (¬ LandsOnAll self.now insn frame.now) }
+    {
+        match insn {
+            LinkedInsn::If { target, .. }
+            | LinkedInsn::IfCompare { target, .. }
+            | LinkedInsn::Goto { target } => self.land(frame, target),
+            _ => Ok(()),
+        }
+    }
+
+    // The pass goes on behind an instruction, whose effect gave this frame.
+    fn go_on(&self, frame: &mut TypeFrame, place: usize, insn: LinkedInsn) -> Result<(), Stop>
+        requires { place < length self.now.insns }
+        ensures { Settles result (GoesTo self.now place insn frame.old frame.new) ((next : Frame) → ¬ GoesTo self.now place insn frame.old next) }
+    {
+        let count = self.insn_count();
+        let next = place + 1;
+        let is_inside = next < count;
+        if falls_through(insn) {
+            if !is_inside {
+                return Err(Stop::Broken(CheckRule::FallsOff));
+            }
+            return self.enter(frame, next);
+        }
+        if is_inside {
+            let Some(declared) = self.declared_at(next) else {
+                return Err(Stop::Missing(next));
+            };
+            frame.copy_from(declared)?;
+        }
+        Ok(())
+    }
+
+    // The pass comes through an instruction.
+    pub(crate) fn pass(&self, frame: &mut TypeFrame, place: usize, insn: LinkedInsn) -> Result<(), Stop>
+        requires { place < length self.now.insns }
+        ensures { Settles result (Passes self.now place insn frame.old frame.new) ((next : Frame) → ¬ Passes self.now place insn frame.old next) }
+    {
+        self.apply(frame, insn)?;
+        self.land_on_all(frame, insn)?;
+        self.go_on(frame, place, insn)
+    }
+}
