@@ -1,2 +1,5 @@
 pub mod Lookups
+pub mod Stops
 pub mod Stores
+pub mod Typings
+pub mod Within

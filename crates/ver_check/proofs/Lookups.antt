@@ -72,5 +72,5 @@ module _ (fs : List (ℕ × Frame)) (rising : IsStrictlyIncreasing (declared_off
       → frame_at_offset fs x ≡ None
   search_ends i within parted =
       none_at fs x (λ k lt. apart k i (length fs) (key_at fs k) x
-          (λ below. ranked _ x _ (sym ((parted comparisons_rise).0 k no_frame (omega arith) below)))
-          (λ le above. ranked _ x _ (sym ((parted comparisons_rise).1 k no_frame le above))) lt)
+      (λ below. ranked _ x _ (sym ((parted comparisons_rise).0 k no_frame (omega arith) below)))
+      (λ le above. ranked _ x _ (sym ((parted comparisons_rise).1 k no_frame le above))) lt)

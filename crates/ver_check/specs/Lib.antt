@@ -3,4 +3,5 @@ pub mod Effects
 pub mod Flow
 pub mod Makes
 pub mod Offsets
+pub mod Settled
 pub mod Typing

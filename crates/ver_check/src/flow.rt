@@ -123,7 +123,12 @@ impl BodyView<'_> {
     }
 
     // The pass comes through an instruction.
-    pub(crate) fn pass(&self, frame: &mut TypeFrame, place: usize, insn: LinkedInsn) -> Result<(), Stop>
+    pub(crate) fn pass(
+        &self,
+        frame: &mut TypeFrame,
+        place: usize,
+        insn: LinkedInsn,
+    ) -> Result<(), Stop>
         requires { place < length self.now.insns }
         ensures { Settles result (Passes self.now place insn frame.old frame.new) ((next : Frame) → ¬ Passes self.now place insn frame.old next) }
     {

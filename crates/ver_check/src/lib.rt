@@ -10,6 +10,7 @@ pub use ver_frames::{
 };
 
 mod body;
+mod check;
 mod effects;
 mod fault;
 mod flow;

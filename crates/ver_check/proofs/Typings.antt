@@ -1,0 +1,226 @@
+-- The one pass and the typings of a body: a typing has the frames that the pass reaches, and where the pass comes
+-- through all instructions there is a typing.
+use Rattle.std.proofs.Common.{◌≡◌, ◌≢◌, ℕ, zero, suc, ◌+◌, ◌<◌, ◌≤◌, Bool, true, false, Option, Some, None, List, length, refl, sym, ap, subst, ◌∙◌, arith}
+use Rattle.std.specs.Prelude.{◌==◌, if◌then◌else◌, MatchOption, MatchBool, IsSome, slice_get, option_and_then}
+use Rattle.std.proofs.lemmas.Bool.{eq-eqb, ne_eqb}
+use Rattle.std.proofs.lemmas.Option.{slice_get_within}
+use borrow.Author.Count.{below_more}
+use Rattle.cls_link.specs.declared.linked.LinkedInsn.{LinkedInsn}
+use Rattle.cls_set.specs.declared.class.Class.{Class}
+use Rattle.ver_check.proofs.Within.{effect_within}
+use Rattle.ver_check.specs.Bodies.{Body, insn_at, declared_at, frame_at_offset}
+use Rattle.ver_check.specs.Effects.{effect, falls_through, targets}
+use Rattle.ver_check.specs.Flow.{ComesIn, GoesTo, LandsOnAll, Passes, Reaches}
+use Rattle.ver_check.specs.Flow.Reaches.{begins, comes_on}
+use Rattle.ver_check.specs.Typing.{Enters, GoesOn, IsFineAt, IsTyping, IsTypeSafe, IsWithin}
+use Rattle.ver_frames.specs.Assignable.{IsFrameAssignable}
+use Rattle.ver_frames.specs.Frames.{Frame}
+
+-- what a frame is, where one that came in is held against the one declared, if one is
+abbrev Came : List Class → Option Frame → Frame → Frame → Type 0
+Came classes o given here = MatchOption o (here ≡ given) (λ declared. IsFrameAssignable classes given declared × (here ≡ declared))
+
+abbrev Entered : List Class → Option Frame → Frame → Frame → Type 0
+Entered classes o given here = MatchOption o (here ≡ given) (λ declared. IsFrameAssignable classes given declared)
+
+same_some : (f g : Frame) → ◌≡◌ {A = Option Frame} (Some f) (Some g) → f ≡ g
+same_some f g e = cc
+
+came_same : (classes : List Class) (o : Option Frame) (given here g : Frame) → Came classes o given here → Entered classes o given g → ((d : Frame) → o ≡ Some d → g ≡ d) → g ≡ here
+came_same classes None given here g came entered declared = entered ∙ sym came
+came_same classes (Some d) given here g came entered declared = declared d refl ∙ sym came.1
+
+came_from : (classes : List Class) (o : Option Frame) (given g : Frame) → Entered classes o given g → ((d : Frame) → o ≡ Some d → g ≡ d) → Came classes o given g
+came_from classes None given g entered declared = entered
+came_from classes (Some d) given g entered declared = (entered, declared d refl)
+
+entered_from : (classes : List Class) (o : Option Frame) (given here : Frame) → Came classes o given here → Entered classes o given here
+entered_from classes None given here came = came
+entered_from classes (Some d) given here came = came.0
+
+came_declared : (classes : List Class) (o : Option Frame) (given here : Frame) → Came classes o given here → (d : Frame) → o ≡ Some d → here ≡ d
+came_declared classes None given here came d is = absurd (cc)
+came_declared classes (Some e) given here came d is = came.1 ∙ same_some e d is
+
+came_within : (body : Body) (o : Option Frame) (given here : Frame) → Came body.classes o given here → IsWithin body given → ((d : Frame) → o ≡ Some d → IsWithin body d) → IsWithin body here
+came_within body None given here came fits declared = subst (λ (f : Frame). IsWithin body f) (sym came) fits
+came_within body (Some d) given here came fits declared = subst (λ (f : Frame). IsWithin body f) (sym came.1) (declared d refl)
+
+is_declared : (o : Option Frame) (g : Frame) → IsSome o → ((d : Frame) → o ≡ Some d → g ≡ d) → o ≡ Some g
+is_declared None g some declared = absurd (cc)
+is_declared (Some d) g some declared = ap (λ (f : Frame). Some f) (sym (declared d refl))
+
+-- ---- a typing has the frames of the pass
+
+module _ (body : Body) (frames : ℕ → Frame) (typing : IsTyping body frames) where
+  next_same : (place : ℕ) (falls : Bool) (after next : Frame)
+      → MatchBool falls ((suc place < length body.insns) × ComesIn body (suc place) after next) (suc place < length body.insns → declared_at body (suc place) ≡ Some next)
+      → MatchBool falls ((suc place < length body.insns) × Enters body frames (suc place) after) (suc place < length body.insns → IsSome (declared_at body (suc place)))
+      → suc place < length body.insns → frames (suc place) ≡ next
+  next_same place true after next to on inside = came_same body.classes (declared_at body (suc place)) after next (frames (suc place)) to.1 on.1 (typing.declared (suc place))
+  next_same place false after next to on inside = typing.declared (suc place) next (to inside)
+
+  pub reached : (place : ℕ) (here : Frame) → Reaches body place here → place < length body.insns → frames place ≡ here
+  reached place here (begins first came) inside = came_same body.classes (declared_at body 0) body.opening here (frames 0) came typing.opening (typing.declared 0)
+  reached place here (comes_on last insn before next reaches at passes) inside =
+      let same : frames last ≡ before = reached last before reaches (omega arith) in
+      let fine = typing.fine last insn at in
+      let after_same : fine.after ≡ passes.after = same_some fine.after passes.after (sym fine.acts ∙ ap (effect body insn) same ∙ passes.acts) in
+      next_same last (falls_through insn) passes.after next passes.goes_to (subst (λ (f : Frame). GoesOn body frames last insn f) after_same fine.goes_on) inside
+
+  goes_from : (place : ℕ) (falls : Bool) (after : Frame)
+      → MatchBool falls ((suc place < length body.insns) × Enters body frames (suc place) after) (suc place < length body.insns → IsSome (declared_at body (suc place)))
+      → MatchBool falls ((suc place < length body.insns) × ComesIn body (suc place) after (frames (suc place))) (suc place < length body.insns → declared_at body (suc place) ≡ Some (frames (suc place)))
+  goes_from place true after on = (on.0, came_from body.classes (declared_at body (suc place)) after (frames (suc place)) on.1 (typing.declared (suc place)))
+  goes_from place false after on = λ inside. is_declared (declared_at body (suc place)) (frames (suc place)) (on inside) (typing.declared (suc place))
+
+  passes_from : (place : ℕ) (insn : LinkedInsn) (here : Frame) → frames place ≡ here → insn_at body place ≡ Some insn → Passes body place insn here (frames (suc place))
+  passes_from place insn here same at =
+      let fine = typing.fine place insn at in
+      record {
+        after = fine.after;
+        acts = ap (effect body insn) (sym same) ∙ fine.acts;
+        lands = fine.lands;
+        goes_to = goes_from place (falls_through insn) fine.after fine.goes_on;
+      }
+
+-- where the pass does not come through an instruction, the body is not type safe
+pub refuted : (body : Body) (place : ℕ) (insn : LinkedInsn) (here : Frame) → Reaches body place here → insn_at body place ≡ Some insn
+    → ((next : Frame) → ¬ Passes body place insn here next) → ¬ IsTypeSafe body
+refuted body place insn here reaches at stops safe =
+    let inside = slice_get_within body.insns place insn at in
+    stops (safe.frames (suc place)) (passes_from body safe.frames safe.typing place insn here (reached body safe.frames safe.typing place here reaches inside) at)
+
+-- where the opening frame does not come in at the first instruction, the body is not type safe
+pub refuted_opening : (body : Body) → ((here : Frame) → ¬ ComesIn body 0 body.opening here) → ¬ IsTypeSafe body
+refuted_opening body stops safe =
+    stops (safe.frames 0) (came_from body.classes (declared_at body 0) body.opening (safe.frames 0) safe.typing.opening (safe.typing.declared 0))
+
+-- ---- the pass gives a typing
+
+-- the frames, but this one at a place
+abbrev with_frame : (ℕ → Frame) → ℕ → Frame → ℕ → Frame
+with_frame frames n f k = if k == n then f else frames k
+
+at_it : (frames : ℕ → Frame) (n : ℕ) (f : Frame) → with_frame frames n f n ≡ f
+at_it frames n f = rw (eq-eqb n n refl)
+
+elsewhere : (frames : ℕ → Frame) (n : ℕ) (f : Frame) (k : ℕ) → k ≢ n → with_frame frames n f k ≡ frames k
+elsewhere frames n f k other = rw (ne_eqb k n other)
+
+-- frames that agree with what the pass came through before a place
+record SoFar (body : Body) (n : ℕ) (here : Frame) : Type 0 where
+  frames : ℕ → Frame
+  at_last : frames n ≡ here
+  opening : Enters body frames 0 body.opening
+  declared : (k : ℕ) → k < n + 1 → k < length body.insns → (f : Frame) → declared_at body k ≡ Some f → frames k ≡ f
+  within : (k : ℕ) → k < n + 1 → k < length body.insns → IsWithin body (frames k)
+  fine : (k : ℕ) → k < n → (insn : LinkedInsn) → insn_at body k ≡ Some insn → IsFineAt body frames k insn
+
+moved_on : (body : Body) (frames others : ℕ → Frame) (place : ℕ) (falls : Bool) (after : Frame) → frames (suc place) ≡ others (suc place)
+    → MatchBool falls ((suc place < length body.insns) × Enters body frames (suc place) after) (suc place < length body.insns → IsSome (declared_at body (suc place)))
+    → MatchBool falls ((suc place < length body.insns) × Enters body others (suc place) after) (suc place < length body.insns → IsSome (declared_at body (suc place)))
+moved_on body frames others place true after same on = (on.0, subst (λ (f : Frame). Entered body.classes (declared_at body (suc place)) after f) same on.1)
+moved_on body frames others place false after same on = on
+
+moved : (body : Body) (frames others : ℕ → Frame) (place : ℕ) (insn : LinkedInsn) → frames place ≡ others place → frames (suc place) ≡ others (suc place)
+    → IsFineAt body frames place insn → IsFineAt body others place insn
+moved body frames others place insn here next fine = record {
+  after = fine.after;
+  acts = ap (effect body insn) (sym here) ∙ fine.acts;
+  lands = fine.lands;
+  goes_on = moved_on body frames others place (falls_through insn) fine.after next fine.goes_on;
+}
+
+some_declared : (o : Option Frame) (f : Frame) → o ≡ Some f → IsSome o
+some_declared None f is = absurd (cc)
+some_declared (Some d) f is = refl
+
+on_from : (body : Body) (frames : ℕ → Frame) (place : ℕ) (falls : Bool) (after next : Frame) → frames (suc place) ≡ next
+    → MatchBool falls ((suc place < length body.insns) × ComesIn body (suc place) after next) (suc place < length body.insns → declared_at body (suc place) ≡ Some next)
+    → MatchBool falls ((suc place < length body.insns) × Enters body frames (suc place) after) (suc place < length body.insns → IsSome (declared_at body (suc place)))
+on_from body frames place true after next same to =
+    (to.0, subst (λ (f : Frame). Entered body.classes (declared_at body (suc place)) after f) (sym same) (entered_from body.classes (declared_at body (suc place)) after next to.1))
+on_from body frames place false after next same to = λ inside. some_declared (declared_at body (suc place)) next (to inside)
+
+next_declared : (body : Body) (place : ℕ) (falls : Bool) (after next : Frame)
+    → MatchBool falls ((suc place < length body.insns) × ComesIn body (suc place) after next) (suc place < length body.insns → declared_at body (suc place) ≡ Some next)
+    → suc place < length body.insns → (d : Frame) → declared_at body (suc place) ≡ Some d → next ≡ d
+next_declared body place true after next to inside d is = came_declared body.classes (declared_at body (suc place)) after next to.1 d is
+next_declared body place false after next to inside d is = same_some next d (sym (to inside) ∙ is)
+
+same_insn : (a b : LinkedInsn) → ◌≡◌ {A = Option LinkedInsn} (Some a) (Some b) → a ≡ b
+same_insn a b e = cc
+
+module _ (body : Body) (opening_within : IsWithin body body.opening) (declared_within : (place : ℕ) (f : Frame) → declared_at body place ≡ Some f → IsWithin body f) where
+  next_within : (place : ℕ) (falls : Bool) (after next : Frame)
+      → MatchBool falls ((suc place < length body.insns) × ComesIn body (suc place) after next) (suc place < length body.insns → declared_at body (suc place) ≡ Some next)
+      → IsWithin body after → suc place < length body.insns → IsWithin body next
+  next_within place true after next to fits inside = came_within body (declared_at body (suc place)) after next to.1 fits (declared_within (suc place))
+  next_within place false after next to fits inside = declared_within (suc place) next (to inside)
+
+  begun : (here : Frame) → ComesIn body 0 body.opening here → SoFar body 0 here
+  begun here came = record {
+    frames = λ k. here;
+    at_last = refl;
+    opening = entered_from body.classes (declared_at body 0) body.opening here came;
+    declared = λ k lt inside d is. came_declared body.classes (declared_at body 0) body.opening here came d (subst (λ (j : ℕ). declared_at body j ≡ Some d) {x = k} (omega arith) is);
+    within = λ k lt inside. came_within body (declared_at body 0) body.opening here came opening_within (declared_within 0);
+    fine = λ k lt insn at. absurd (omega arith);
+  }
+
+  went_on : (place : ℕ) (insn : LinkedInsn) (here next : Frame) → SoFar body place here → insn_at body place ≡ Some insn → Passes body place insn here next → SoFar body (suc place) next
+  went_on place insn here next before at passes =
+      let frames : ℕ → Frame = with_frame before.frames (suc place) next in
+      let old : (k : ℕ) → k < suc place → frames k ≡ before.frames k = λ k lt. elsewhere before.frames (suc place) next k (omega arith) in
+      let new : frames (suc place) ≡ next = at_it before.frames (suc place) next in
+      let here_within : IsWithin body here = subst (λ (f : Frame). IsWithin body f) before.at_last (before.within place (omega arith) (slice_get_within body.insns place insn at)) in
+      let after_within : IsWithin body passes.after = effect_within body insn here passes.after here_within passes.acts in
+      record {
+        frames = frames;
+        at_last = new;
+        opening = subst (λ (f : Frame). Entered body.classes (declared_at body 0) body.opening f) (sym (old 0 (omega arith))) before.opening;
+        declared = below_more (λ k. k < length body.insns → (f : Frame) → declared_at body k ≡ Some f → frames k ≡ f) (suc place)
+            (λ k lt inside f is. old k lt ∙ before.declared k (omega arith) inside f is)
+            (λ inside f is. new ∙ next_declared body place (falls_through insn) passes.after next passes.goes_to inside f is);
+        within = below_more (λ k. k < length body.insns → IsWithin body (frames k)) (suc place)
+            (λ k lt inside. subst (λ (f : Frame). IsWithin body f) (sym (old k lt)) (before.within k (omega arith) inside))
+            (λ inside. subst (λ (f : Frame). IsWithin body f) (sym new) (next_within place (falls_through insn) passes.after next passes.goes_to after_within inside));
+        fine = λ k lt. below_more (λ j. (i : LinkedInsn) → insn_at body j ≡ Some i → IsFineAt body frames j i) place
+            (λ j below i is. moved body before.frames frames j i (sym (old j (omega arith))) (sym (old (suc j) (omega arith))) (before.fine j below i is))
+            (λ i is. subst (λ (x : LinkedInsn). IsFineAt body frames place x) (same_insn insn i (sym at ∙ is)) (record {
+              after = passes.after;
+              acts = ap (effect body insn) (old place (omega arith) ∙ before.at_last) ∙ passes.acts;
+              lands = passes.lands;
+              goes_on = on_from body frames place (falls_through insn) passes.after next new passes.goes_to;
+            })) k (omega arith);
+      }
+
+  so_far : (place : ℕ) (here : Frame) → Reaches body place here → SoFar body place here
+  so_far place here (begins first came) = begun here came
+  so_far place here (comes_on last insn before next reaches at passes) = went_on last insn before next (so_far last before reaches) at passes
+
+declared_inside : (body : Body) (place : ℕ) (f : Frame) → length body.offsets ≡ length body.insns → declared_at body place ≡ Some f → place < length body.insns
+unfolding declared_at
+declared_inside body place f listed is = some_offset (slice_get body.offsets place) refl is
+  where
+    some_offset : (o : Option ℕ) → slice_get body.offsets place ≡ o → option_and_then (frame_at_offset body.declared) o ≡ Some f → place < length body.insns
+    some_offset None at found = absurd (cc)
+    some_offset (Some offset) at found = let within : place < length body.offsets = slice_get_within body.offsets place offset at in omega arith
+
+-- where the pass comes to the end, the body is type safe
+pub proved_safe : (body : Body) (here : Frame) → length body.offsets ≡ length body.insns → length body.opening.locals ≤ body.max_locals → IsWithin body body.opening
+    → ((place : ℕ) (f : Frame) → declared_at body place ≡ Some f → IsWithin body f)
+    → Reaches body (length body.insns) here → IsTypeSafe body
+proved_safe body here listed arguments opening_within declared_within reaches =
+    let all = so_far body opening_within declared_within (length body.insns) here reaches in
+    record {
+      frames = all.frames;
+      typing = record {
+        arguments = arguments;
+        opening = all.opening;
+        declared = λ place f is. let inside = declared_inside body place f listed is in all.declared place (omega arith) inside f is;
+        within = λ place inside. all.within place (omega arith) inside;
+        fine = λ place insn at. all.fine place (slice_get_within body.insns place insn at) insn at;
+      };
+    }

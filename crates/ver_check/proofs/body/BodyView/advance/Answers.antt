@@ -1,0 +1,19 @@
+use Rattle.std.proofs.Common.{◌+◌, add-one}
+use Rattle.ver_check.proofs.Stops.{stopped}
+use Rattle.ver_check.proofs.Typings.{refuted}
+use Rattle.ver_check.specs.Flow.{Passes, Reaches}
+use Rattle.ver_check.specs.Flow.Reaches.{comes_on}
+use Rattle.ver_check.specs.Typing.{IsTypeSafe}
+use Rattle.ver_frames.specs.Frames.{Frame}
+use Rattle.ver_check.proofs.body.BodyView.advance.Goals as goal
+
+pub returns-in-Ok : goal.returns-in-Ok
+returns-in-Ok c =
+    rw add-one (comes_on c.args.place c.insn.result c.args.frame.now c.pass.new.frame c.requires.reached c.insn.ensures c.in-Ok.ensures)
+
+pub returns-in-Err : goal.returns-in-Err
+returns-in-Err c =
+    let body = c.args.self.now in
+    let insn = c.insn.result in
+    let here = c.args.frame.now in
+    rw c.fault.ensures (stopped body.offsets c.args.place c.in-Err.stop (Passes body c.args.place insn here c.pass.new.frame) ((next : Frame) → ¬ Passes body c.args.place insn here next) (¬ IsTypeSafe body) (λ _. Reaches body (c.args.place + 1) c.pass.new.frame) (refuted body c.args.place insn here c.requires.reached c.insn.ensures) c.in-Err.ensures)

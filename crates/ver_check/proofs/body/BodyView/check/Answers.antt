@@ -1,0 +1,11 @@
+use Rattle.std.proofs.Common.{ℕ, length, subst, arith}
+use Rattle.ver_check.proofs.Typings.{proved_safe}
+use Rattle.ver_check.specs.Flow.{Reaches}
+use Rattle.ver_check.proofs.body.BodyView.check.Goals as goal
+
+pub returns : goal.returns
+returns c =
+    let body = c.args.self.now in
+    let opens = c.in_ok-frame.ensures.1 in
+    proved_safe body c.loop-place.frame c.requires.listed opens.locals opens c.requires.within
+    (subst (λ (n : ℕ). Reaches body n c.loop-place.frame) {x = c.loop-place.place} (omega arith) c.loop-place.invariant)

@@ -1,0 +1,19 @@
+use Rattle.std.specs.Prelude.{ℕ, List, Result, Ok, Err, slice_index}
+use Rattle.ver_check.specs.declared.check.BodyFault.{BodyFault}
+use Rattle.ver_check.specs.declared.check.BodyFault.TheVariants as fault
+use Rattle.ver_check.specs.declared.fault.CheckRule.TheVariants.{NoFrame}
+use Rattle.ver_check.specs.declared.stop.Stop.{Stop}
+use Rattle.ver_check.specs.declared.stop.Stop.TheVariants as stop
+
+-- the fault of a stop at the instruction at a place, by the offsets of the instructions
+abbrev pub fault_of : List ℕ → ℕ → Stop → BodyFault
+fault_of offsets place (stop.Broken rule) = fault.Broken rule (slice_index offsets place)
+fault_of offsets place (stop.Missing missing) = fault.Broken NoFrame (slice_index offsets missing)
+fault_of offsets place stop.Memory = fault.Memory
+
+-- a function found a value of which the first is so; or the second is so, and it tells a fault; or
+-- memory ran out
+abbrev pub SettlesBody : {X : Type 0} → Result X BodyFault → (X → Type 0) → Type 0 → Type 0
+SettlesBody (Ok x) So not_so = So x
+SettlesBody (Err (fault.Broken rule at)) So not_so = not_so
+SettlesBody (Err fault.Memory) So not_so = Unit {0}

@@ -1,0 +1,133 @@
+//! The check of one body, from its first instruction to its last.
+
+ghost use Rattle.std.specs.Prelude.{◌≡◌};
+ghost use Rattle.ver_check.specs.declared.check.BodyFault.TheVariants.{Memory};
+
+use super::body::BodyView;
+use super::stop::Stop;
+use super::{CheckRule, LinkedInsn, TypeFrame};
+use std::alloc::{AllocError, Global};
+
+// Why a body is not type safe: the rule is broken at this offset.
+#[derive(Clone, Copy, Debug, PartialEq, Eq)]
+pub(crate) enum BodyFault {
+    Broken { rule: CheckRule, at: usize },
+    Memory,
+}
+
+impl From<AllocError> for BodyFault {
+    ghost from_gives = { λ _ fault. fault ≡ Memory };
+
+    fn from(_: AllocError) -> BodyFault {
+        BodyFault::Memory
+    }
+}
+
+impl BodyView<'_> {
+    ghost use Rattle.std.specs.Prelude.{◌≡◌, ◌+◌, ◌<◌, [], Some, IfOk, ℕ, length, slice_index};
+    ghost use Rattle.ver_check.specs.Bodies.{declared_at, insn_at};
+    ghost use Rattle.ver_check.specs.Flow.{Reaches};
+    ghost use Rattle.ver_check.specs.Settled.{SettlesBody, fault_of};
+    ghost use Rattle.ver_check.specs.Typing.{IsTypeSafe, IsWithin};
+    ghost use Rattle.ver_frames.specs.Frames.{Frame};
+
+    // The offset of the instruction at a place.
+    fn offset(&self, place: usize) -> usize
+        ensures { result ≡ slice_index self.now.offsets place }
+    {
+        let method = self.method;
+        match method.linked.offsets.as_slice().get(place) {
+            Some(offset) => usize::from(*offset),
+            None => 0,
+        }
+    }
+
+    // The fault that the check stops with at an instruction.
+    fn fault(&self, stop: Stop, place: usize) -> BodyFault
+        ensures { result ≡ fault_of self.now.offsets place stop }
+    {
+        match stop {
+            Stop::Broken(rule) => BodyFault::Broken {
+                rule,
+                at: self.offset(place),
+            },
+            Stop::Missing(place) => BodyFault::Broken {
+                rule: CheckRule::NoFrame,
+                at: self.offset(place),
+            },
+            Stop::Memory => BodyFault::Memory,
+        }
+    }
+
+    // The frame in which the method begins.
+    #[tactic(auto, unfolding(ver_frames::specs::Method::opening))]
+    fn opening(&self, alloc: Global) -> Result<TypeFrame, AllocError>
+        ensures opening { IfOk result (λ frame. frame ≡ self.now.opening) }
+        ensures empty { self.now.opening.stack ≡ [] }
+    {
+        let method = self.method;
+        method.opening(alloc)
+    }
+
+    // How many local variables there are.
+    fn max_locals(&self) -> usize
+        ensures { result ≡ self.now.max_locals }
+    {
+        let method = self.method;
+        usize::from(method.code.max_locals)
+    }
+
+    // The instruction at a place.
+    fn insn(&self, place: usize) -> LinkedInsn
+        requires { place < length self.now.insns }
+        ensures { insn_at self.now place ≡ Some result }
+    {
+        let method = self.method;
+        let insns = method.linked.insns.as_slice();
+        insns[place]
+    }
+
+    // The frame with which the pass begins.
+    fn begin(&self, alloc: Global) -> Result<TypeFrame, BodyFault>
+        ensures { SettlesBody result
+            (λ frame. Reaches self.now 0 frame × IsWithin self.now self.now.opening)
+            (¬ IsTypeSafe self.now) }
+    {
+        let mut frame = self.opening(alloc)?;
+        if frame.locals().len() > self.max_locals() {
+            return Err(BodyFault::Broken {
+                rule: CheckRule::Local,
+                at: 0,
+            });
+        }
+        match self.enter(&mut frame, 0) {
+            Ok(()) => Ok(frame),
+            Err(stop) => Err(self.fault(stop, 0)),
+        }
+    }
+
+    // The pass comes through the instruction at a place, which it has reached with this frame.
+    fn advance(&self, frame: &mut TypeFrame, place: usize) -> Result<(), BodyFault>
+        requires inside { place < length self.now.insns }
+        requires reached { Reaches self.now place frame.old }
+        ensures { SettlesBody result (λ _. Reaches self.now (place + 1) frame.new) (¬ IsTypeSafe self.now) }
+    {
+        match self.pass(frame, place, self.insn(place)) {
+            Ok(()) => Ok(()),
+            Err(stop) => Err(self.fault(stop, place)),
+        }
+    }
+
+    // Whether the body is type safe.
+    pub(crate) fn check(&self, alloc: Global) -> Result<(), BodyFault>
+        requires listed { length self.now.offsets ≡ length self.now.insns }
+        requires within { (place : ℕ) (declared : Frame) → declared_at self.now place ≡ Some declared → IsWithin self.now declared }
+        ensures { SettlesBody result (λ _. IsTypeSafe self.now) (¬ IsTypeSafe self.now) }
+    {
+        let mut frame = self.begin(alloc)?;
+        for place in 0..self.insn_count() {
+            self.advance(&mut frame, place)?;
+        }
+        Ok(())
+    }
+}
