@@ -1,3 +1,4 @@
+pub mod Declared
 pub mod FrameLoops
 pub mod Loops
 pub mod Starts

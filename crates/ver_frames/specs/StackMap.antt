@@ -168,10 +168,11 @@ frames_of_table m bytes = do
   count ← or_broken Reserved 0 (u2 bytes)
   frames m count.0 None (argument_types m) count.1
 
+-- the frames of a StackMapTable, where there is one
+abbrev pub frames_of : Subject → Option (List ℕ) → Result (List (ℕ × Frame)) StackMapFault
+frames_of m None = Ok []
+frames_of m (Some bytes) = frames_of_table m bytes
+
 -- the frames that a method declares, in the order of their offsets: none where it has no table
 unfoldable pub declared_frames : Subject → Result (List (ℕ × Frame)) StackMapFault
-declared_frames m = of_table m.code.stack_map_table
-  where
-    of_table : Option (List ℕ) → Result (List (ℕ × Frame)) StackMapFault
-    of_table None = Ok []
-    of_table (Some bytes) = frames_of_table m bytes
+declared_frames m = frames_of m m.code.stack_map_table

@@ -1,9 +1,10 @@
 //! The frames that a StackMapTable declares (JVMS 4.7.4).
 
-ghost use Rattle.std.specs.Prelude.{◌≡◌, ◌==◌, IfOk, None, Some, if◌then◌else◌};
-ghost use Rattle.std.specs.List.{list_any};
+ghost use Rattle.std.specs.Prelude.{◌≡◌, ◌==◌, IfOk, None, Some, map, if◌then◌else◌};
+ghost use Rattle.std.specs.List.{AllByRecursion, list_any};
 ghost use Rattle.std.specs.List.Sorted.{IsStrictlyIncreasing};
 ghost use Rattle.ver_frames.specs.Gives.{Gives};
+ghost use Rattle.ver_frames.specs.Limits.{FitsMethod};
 ghost use Rattle.ver_frames.specs.Method.{argument_types};
 ghost use Rattle.ver_frames.specs.declared.fault.StackMapFault.TheVariants.{Broken};
 ghost use Rattle.ver_frames.specs.StackMap.{declared_frame, declared_frames, frame, frame_behind, frames, frames_of_table, is_start, is_uninit_this};
@@ -186,14 +187,12 @@ fn frames(
     }
 }
 
-/// The frames that a method declares, each with its offset, in the order of the offsets: none where
-/// it has no StackMapTable. The first fault counts; of several in one frame, the lowest number.
+// The frames of the table, where there is one.
 #[tactic(auto, unfolding(crate::specs::StackMap::declared_frames, crate::specs::StackMap::frames_of_table))]
-pub fn declared(
+fn declared_or_none(
     alloc: Global,
     method: &MethodView,
 ) -> Result<Vec<(u16, TypeFrame)>, StackMapFault>
-    // The offsets of the method's instructions rise.
     requires { IsStrictlyIncreasing method.now.linked.offsets }
     ensures { Gives (λ v. v.items) result (declared_frames method.now) }
 {
@@ -204,4 +203,20 @@ pub fn declared(
         return broken(StackMapRule::Reserved, 0);
     };
     frames(alloc, method, count, rest)
+}
+
+/// The frames that a method declares, each with its offset, in the order of the offsets: none where
+/// it has no StackMapTable. The first fault counts; of several in one frame, the lowest number.
+#[tactic(auto, using(crate::proofs::Declared::declared_rise, crate::proofs::Declared::declared_within))]
+pub fn declared(
+    alloc: Global,
+    method: &MethodView,
+) -> Result<Vec<(u16, TypeFrame)>, StackMapFault>
+    // The offsets of the method's instructions rise.
+    requires { IsStrictlyIncreasing method.now.linked.offsets }
+    ensures declared { Gives (λ v. v.items) result (declared_frames method.now) }
+    ensures rising { IfOk result (λ v. IsStrictlyIncreasing (map (λ declared. declared.0) v.items)) }
+    ensures within { IfOk result (λ v. AllByRecursion (FitsMethod method.now) v.items) }
+{
+    declared_or_none(alloc, method)
 }

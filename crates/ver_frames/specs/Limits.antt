@@ -1,0 +1,8 @@
+use Rattle.std.specs.Prelude.{ℕ, ◌≤◌, length}
+use Rattle.ver_frames.specs.Frames.{Frame}
+use Rattle.ver_frames.specs.Method.{Subject}
+
+-- a declared frame has no more local variables and operands than the method
+pub record FitsMethod (m : Subject) (declared : ℕ × Frame) : Type 0 where
+  pub locals : length declared.1.locals ≤ m.code.max_locals
+  pub stack : length declared.1.stack ≤ m.code.max_stack
