@@ -1,4 +1,4 @@
-pub mod Declared
+pub mod FrameLimits
 pub mod FrameLoops
 pub mod Loops
 pub mod Starts

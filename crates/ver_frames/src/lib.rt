@@ -4,13 +4,14 @@
 
 pub use assignability::{assignable, frame_assignable};
 pub use cls_link::{
-    BinaryOperator, Class, ClassFile, ClassId, Code, Condition, ElementType, Field, FieldType,
-    Flags, LinkedCode, LinkedInsn, LinkedMethod, Method, MethodDescriptor, MethodId, Numbered,
-    Pool, Row, StackOperation, Text, UnaryOperator, ValueKind,
+    BinaryOperator, Class, ClassFile, ClassId, ClassSet, Code, Condition, ElementType, Field,
+    FieldType, Flags, Linked, LinkedCode, LinkedInsn, LinkedMethod, Method, MethodDescriptor,
+    MethodId, Numbered, Pool, Row, StackOperation, Text, UnaryOperator, ValueKind,
 };
 pub use fault::{StackMapFault, StackMapRule};
 pub use frame::TypeFrame;
 pub use method::MethodView;
+pub use stack_map::declared;
 pub use vtype::VType;
 
 mod assignability;

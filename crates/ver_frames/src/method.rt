@@ -28,12 +28,12 @@ impl<'a> Model for MethodView<'a> {
     ghost Value = { Subject };
 
     ghost view = { λ m. record {
-        classes = m.classes.now;
-        class_id = m.class_id;
-        class = m.class.now;
-        method = m.method.now;
-        code = m.code.now;
-        linked = m.linked.now;
+      classes = m.classes.now;
+      class_id = m.class_id;
+      class = m.class.now;
+      method = m.method.now;
+      code = m.code.now;
+      linked = m.linked.now;
     } };
 }
 

@@ -207,11 +207,8 @@ fn declared_or_none(
 
 /// The frames that a method declares, each with its offset, in the order of the offsets: none where
 /// it has no StackMapTable. The first fault counts; of several in one frame, the lowest number.
-#[tactic(auto, using(crate::proofs::Declared::declared_rise, crate::proofs::Declared::declared_within))]
-pub fn declared(
-    alloc: Global,
-    method: &MethodView,
-) -> Result<Vec<(u16, TypeFrame)>, StackMapFault>
+#[tactic(auto, using(crate::proofs::FrameLimits::declared_rise, crate::proofs::FrameLimits::declared_within))]
+pub fn declared(alloc: Global, method: &MethodView) -> Result<Vec<(u16, TypeFrame)>, StackMapFault>
     // The offsets of the method's instructions rise.
     requires { IsStrictlyIncreasing method.now.linked.offsets }
     ensures declared { Gives (λ v. v.items) result (declared_frames method.now) }
