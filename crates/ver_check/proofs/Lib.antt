@@ -1,3 +1,5 @@
+pub mod Accepts
+pub mod Links
 pub mod Lookups
 pub mod Stops
 pub mod Stores

@@ -1,7 +1,10 @@
+pub mod Acceptance
 pub mod Bodies
 pub mod Effects
 pub mod Flow
+pub mod Listed
 pub mod Makes
 pub mod Offsets
+pub mod Refusals
 pub mod Settled
 pub mod Typing

@@ -1,0 +1,98 @@
+-- What a linked class set says of the code of its methods, and what the declared frames say at each place.
+use Rattle.std.proofs.Common.{◌≡◌, ℕ, zero, suc, ◌+◌, ◌<◌, ◌≤◌, Bool, true, false, Option, Some, None, Result, Ok, Err, List, [], ◌∷◌, length, refl, ap, sym, subst, ◌∙◌, arith}
+use Rattle.std.specs.Prelude.{◌==◌, if◌then◌else◌, map, slice_get, slice_index, option_and_then, MatchOption, IsSomeAnd, IfSome}
+use Rattle.std.specs.List.{AllByRecursion, AllZip}
+use Rattle.std.specs.List.Sorted.{IsStrictlyIncreasing}
+use Rattle.cf_insns.proofs.Listings.{listing_from-rises}
+use Rattle.cf_insns.specs.Listing.{Listing, offsets, Rises}
+use Rattle.cf_insns.specs.Reading.{◌>>=◌, reading, listing_from, if_none_astray}
+use Rattle.cf_insns.specs.Listing.{first_astray}
+use Rattle.cf_insns.specs.declared.fault.CodeFault.{CodeFault}
+use Rattle.cf_insns.specs.declared.insn.Insn.{Insn}
+use Rattle.cf_reader.specs.declared.class_file.Code.{Code}
+use Rattle.cls_link.specs.Links.{Declared, IsLinked, IsLinkedCode}
+use Rattle.cls_link.specs.Targets.{AreLinked, linked_insn}
+use Rattle.cls_link.specs.declared.linked.LinkedCode.{LinkedCode}
+use Rattle.cls_link.specs.declared.linked.LinkedInsn.{LinkedInsn}
+use Rattle.cls_link.specs.declared.linked.LinkedMethod.{LinkedMethod}
+use Rattle.ver_check.specs.Bodies.{Body, body_of, declared_at, frame_at_offset}
+use Rattle.ver_check.specs.Listed.{IsListed}
+use Rattle.ver_check.specs.Typing.{IsWithin}
+use Rattle.ver_frames.specs.Frames.{Frame}
+use Rattle.ver_frames.specs.Limits.{FitsMethod}
+use Rattle.ver_frames.specs.Method.{Subject}
+
+-- ---- the code of a linked method is listed
+
+read_ok : (r : Result Listing CodeFault) (listing : Listing) → (r >>= λ found. if_none_astray found (first_astray (offsets found) found)) ≡ Ok listing → r ≡ Ok listing
+read_ok (Err fault) listing e = absurd (cc)
+read_ok (Ok found) listing e = not_astray (first_astray (offsets found) found) e
+  where
+    not_astray : (o : Option ℕ) → if_none_astray found o ≡ Ok listing → ◌≡◌ {A = Result Listing CodeFault} (Ok found) (Ok listing)
+    not_astray None same = same
+    not_astray (Some offset) same = absurd (cc)
+
+read_rises : (bytes : List ℕ) (listing : Listing) → reading bytes ≡ Ok listing → Rises (offsets listing)
+unfolding reading
+read_rises bytes listing e = listing_from-rises bytes listing (read_ok (listing_from 0 0 bytes) listing e)
+
+increasing : (ns : List ℕ) → Rises ns → IsStrictlyIncreasing ns
+increasing ns rises k lt = rises k (k + 1) (omega arith) lt
+
+map_long : {A B : Type 0} (f : A → B) (xs : List A) → length (map f xs) ≡ length xs
+map_long f [] = refl
+map_long f (x ∷ xs) = ap suc (map_long f xs)
+
+linked_long : (listing : Listing) (insns : List LinkedInsn) → AreLinked listing insns → length insns ≡ length listing
+linked_long listing insns linked =
+    sym (map_long (λ (i : LinkedInsn). Some i) insns) ∙ ap length linked ∙ map_long (λ (e : ℕ × Insn). linked_insn (offsets listing) e.0 e.1) listing
+
+code_listed : (bytes : List ℕ) (code : LinkedCode) → IsLinkedCode bytes code → IsListed code
+code_listed bytes code linked =
+    let rises = increasing (offsets linked.listing) (read_rises bytes linked.listing linked.read) in
+    record {
+      rising = subst (λ (ns : List ℕ). IsStrictlyIncreasing ns) (sym linked.offsets_of) rises;
+      listed = ap length linked.offsets_of ∙ map_long (λ (e : ℕ × Insn). e.0) linked.listing ∙ sym (linked_long linked.listing code.insns linked.insns);
+    }
+
+of_method : (o : Option Code) (c : Option LinkedCode) → MatchOption o (c ≡ None) (λ code. IsSomeAnd c (IsLinkedCode code.bytes)) → IfSome c IsListed
+of_method None None h = tt
+of_method None (Some code) h = absurd (cc)
+of_method (Some read) None h = tt
+of_method (Some read) (Some code) h = code_listed read.bytes code h
+
+-- the code of each method of a linked class set is listed
+pub method_listed : (declared : List Declared) (methods : List LinkedMethod) → AllZip IsLinked declared methods → (k : ℕ) (m : LinkedMethod) → slice_get methods k ≡ Some m → IfSome m.code IsListed
+method_listed [] [] linked k m at = absurd (cc)
+method_listed (d ∷ ds) [] linked k m at = absurd linked
+method_listed [] (n ∷ ns) linked k m at = absurd linked
+method_listed (d ∷ ds) (n ∷ ns) linked zero m at =
+    let same : n ≡ m = cc in
+    subst (λ (x : LinkedMethod). IfSome x.code IsListed) same (of_method d.method.code n.code linked.0.code)
+method_listed (d ∷ ds) (n ∷ ns) linked (suc k) m at = method_listed ds ns linked.1 k m at
+
+-- ---- the frame at each place fits
+
+abbrev FitsIn : Subject → Frame → Type 0
+FitsIn m f = (length f.locals ≤ m.code.max_locals) × (length f.stack ≤ m.code.max_stack)
+
+this_or_later : (m : Subject) (d : ℕ × Frame) (later : Option Frame) (f : Frame) (here : Bool) → FitsMethod m d → (later ≡ Some f → FitsIn m f)
+    → (if here then Some d.1 else later) ≡ Some f → FitsIn m f
+this_or_later m d later f true fit others found =
+    let same : d.1 ≡ f = cc in
+    subst (λ (g : Frame). FitsIn m g) same (fit.locals, fit.stack)
+this_or_later m d later f false fit others found = others found
+
+fits_at : (m : Subject) (ds : List (ℕ × Frame)) → AllByRecursion (FitsMethod m) ds → (offset : ℕ) (f : Frame) → frame_at_offset ds offset ≡ Some f → FitsIn m f
+unfolding frame_at_offset
+fits_at m [] fit offset f e = absurd (cc)
+fits_at m (d ∷ ds) fit offset f e = this_or_later m d (frame_at_offset ds offset) f (d.0 == offset) fit.0 (fits_at m ds fit.1 offset f) e
+
+-- a frame that is declared at a place is within the limits of the method
+pub within_at : (m : Subject) (ds : List (ℕ × Frame)) → AllByRecursion (FitsMethod m) ds → (place : ℕ) (f : Frame) → declared_at (body_of m ds) place ≡ Some f → IsWithin (body_of m ds) f
+unfolding declared_at
+within_at m ds fit place f e = of_offset (slice_get m.linked.offsets place) e
+  where
+    of_offset : (o : Option ℕ) → option_and_then (frame_at_offset ds) o ≡ Some f → IsWithin (body_of m ds) f
+    of_offset None found = absurd (cc)
+    of_offset (Some offset) found = let fits = fits_at m ds fit offset f found in record { locals = fits.0; stack = fits.1 }

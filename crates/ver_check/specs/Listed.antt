@@ -1,0 +1,8 @@
+use Rattle.std.specs.Prelude.{◌≡◌, length}
+use Rattle.std.specs.List.Sorted.{IsStrictlyIncreasing}
+use Rattle.cls_link.specs.declared.linked.LinkedCode.{LinkedCode}
+
+-- the instructions stand at rising offsets
+pub record IsListed (code : LinkedCode) : Type 0 where
+  pub rising : IsStrictlyIncreasing code.offsets
+  pub listed : length code.offsets ≡ length code.insns

@@ -1,0 +1,50 @@
+//! Class sets that are accepted.
+
+ghost use Rattle.std.specs.Prelude.{◌≡◌};
+ghost use Rattle.ver_check.specs.Acceptance.{AreSafe};
+ghost use Rattle.ver_check.specs.Refusals.{SettlesSet};
+
+use super::all_methods::check_all;
+use super::{CheckFault, Linked};
+use std::alloc::Global;
+use std::marker::Model;
+
+/// A linked class set whose methods are all type safe: `accept` alone makes one. A contract sees it
+/// as the linked class set.
+#[derive(Debug, Drop)]
+pub struct Accepted {
+    linked: Linked,
+}
+
+impl Model for Accepted {
+    ghost use Rattle.cls_link.specs.Links.{Links};
+    ghost use Rattle.ver_check.specs.Acceptance.{AreSafe};
+
+    ghost Value = { Links };
+
+    ghost view = { λ accepted. accepted.linked };
+
+    ghost invariant = { λ accepted. AreSafe accepted.linked };
+}
+
+impl Accepted {
+    ghost use Rattle.std.specs.Prelude.{◌≡◌};
+    ghost use Rattle.ver_check.specs.Acceptance.{AreSafe};
+
+    /// The linked class set.
+    pub fn linked(&self) -> &Linked
+        ensures linked { result.now ≡ self.now }
+        ensures safe { AreSafe self.now }
+    {
+        &self.linked
+    }
+}
+
+/// Accepts a linked class set, where every method is type safe. A method without code is. A fault
+/// names the first method at fault.
+pub fn accept(alloc: Global, linked: Linked) -> Result<Accepted, CheckFault>
+    ensures { SettlesSet result (λ accepted. (accepted ≡ linked) × AreSafe linked) (¬ AreSafe linked) }
+{
+    check_all(alloc, &linked)?;
+    Ok(Accepted { linked })
+}
