@@ -1,9 +1,7 @@
 -- From each method to all of them.
-use Rattle.std.proofs.Common.{◌≡◌, ℕ, ◌<◌, Option, Some, None, Err, List, length, ap, sym, subst}
-use Rattle.std.specs.Prelude.{slice_get, option_and_then, IfSome}
+use Rattle.std.proofs.Common.{◌≡◌, ℕ, ◌<◌, Option, Some, None, Err, List, length, ap, subst}
+use Rattle.std.specs.Prelude.{slice_get, IfSome}
 use Rattle.std.proofs.lemmas.Option.{option_and_then_some}
-use Rattle.cf_reader.specs.declared.class_file.Code.{Code}
-use Rattle.cf_reader.specs.declared.class_file.Method.{Method}
 use Rattle.cls_link.specs.Links.{Links}
 use Rattle.cls_link.specs.declared.linked.LinkedCode.{LinkedCode}
 use Rattle.cls_link.specs.declared.linked.LinkedMethod.{LinkedMethod}
@@ -39,6 +37,6 @@ subject_listed classes m s e listed =
     option_and_then_some _ (slice_get classes m.class.0) s in_class (λ class class_is in_methods.
     option_and_then_some _ (slice_get class.file.methods m.place) s in_methods (λ method method_is in_code.
     option_and_then_some _ method.code s in_code (λ code code_is found.
-        subst (λ (x : LinkedCode). IsListed x)
-        (linked_of (record { classes = classes; class_id = m.class; class = class; method = method; code = code; linked = linked }) s found)
-        (listed_of m.code linked is listed)))))
+    subst (λ (x : LinkedCode). IsListed x)
+    (linked_of (record { classes = classes; class_id = m.class; class = class; method = method; code = code; linked = linked }) s found)
+    (listed_of m.code linked is listed)))))

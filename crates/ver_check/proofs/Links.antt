@@ -1,6 +1,6 @@
 -- What a linked class set says of the code of its methods, and what the declared frames say at each place.
-use Rattle.std.proofs.Common.{◌≡◌, ℕ, zero, suc, ◌+◌, ◌<◌, ◌≤◌, Bool, true, false, Option, Some, None, Result, Ok, Err, List, [], ◌∷◌, length, refl, ap, sym, subst, ◌∙◌, arith}
-use Rattle.std.specs.Prelude.{◌==◌, if◌then◌else◌, map, slice_get, slice_index, option_and_then, MatchOption, IsSomeAnd, IfSome}
+use Rattle.std.proofs.Common.{◌≡◌, ℕ, zero, suc, ◌+◌, ◌≤◌, Bool, true, false, Option, Some, None, Result, Ok, Err, List, [], ◌∷◌, length, refl, ap, sym, subst, ◌∙◌, arith}
+use Rattle.std.specs.Prelude.{◌==◌, if◌then◌else◌, map, slice_get, option_and_then, MatchOption, IsSomeAnd, IfSome}
 use Rattle.std.specs.List.{AllByRecursion, AllZip}
 use Rattle.std.specs.List.Sorted.{IsStrictlyIncreasing}
 use Rattle.cf_insns.proofs.Listings.{listing_from-rises}
@@ -15,7 +15,7 @@ use Rattle.cls_link.specs.Targets.{AreLinked, linked_insn}
 use Rattle.cls_link.specs.declared.linked.LinkedCode.{LinkedCode}
 use Rattle.cls_link.specs.declared.linked.LinkedInsn.{LinkedInsn}
 use Rattle.cls_link.specs.declared.linked.LinkedMethod.{LinkedMethod}
-use Rattle.ver_check.specs.Bodies.{Body, body_of, declared_at, frame_at_offset}
+use Rattle.ver_check.specs.Bodies.{body_of, declared_at, frame_at_offset}
 use Rattle.ver_check.specs.Listed.{IsListed}
 use Rattle.ver_check.specs.Typing.{IsWithin}
 use Rattle.ver_frames.specs.Frames.{Frame}

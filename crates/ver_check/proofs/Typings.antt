@@ -1,6 +1,6 @@
 -- The one pass and the typings of a body: a typing has the frames that the pass reaches, and where the pass comes
 -- through all instructions there is a typing.
-use Rattle.std.proofs.Common.{◌≡◌, ◌≢◌, ℕ, zero, suc, ◌+◌, ◌<◌, ◌≤◌, Bool, true, false, Option, Some, None, List, length, refl, sym, ap, subst, ◌∙◌, arith}
+use Rattle.std.proofs.Common.{◌≡◌, ◌≢◌, ℕ, suc, ◌+◌, ◌<◌, ◌≤◌, Bool, true, false, Option, Some, None, List, length, refl, sym, ap, subst, ◌∙◌, arith}
 use Rattle.std.specs.Prelude.{◌==◌, if◌then◌else◌, MatchOption, MatchBool, IsSome, slice_get, option_and_then}
 use Rattle.std.proofs.lemmas.Bool.{eq-eqb, ne_eqb}
 use Rattle.std.proofs.lemmas.Option.{slice_get_within}
@@ -9,8 +9,8 @@ use Rattle.cls_link.specs.declared.linked.LinkedInsn.{LinkedInsn}
 use Rattle.cls_set.specs.declared.class.Class.{Class}
 use Rattle.ver_check.proofs.Within.{effect_within}
 use Rattle.ver_check.specs.Bodies.{Body, insn_at, declared_at, frame_at_offset}
-use Rattle.ver_check.specs.Effects.{effect, falls_through, targets}
-use Rattle.ver_check.specs.Flow.{ComesIn, GoesTo, LandsOnAll, Passes, Reaches}
+use Rattle.ver_check.specs.Effects.{effect, falls_through}
+use Rattle.ver_check.specs.Flow.{ComesIn, Passes, Reaches}
 use Rattle.ver_check.specs.Flow.Reaches.{begins, comes_on}
 use Rattle.ver_check.specs.Typing.{Enters, GoesOn, IsFineAt, IsTyping, IsTypeSafe, IsWithin}
 use Rattle.ver_frames.specs.Assignable.{IsFrameAssignable}

@@ -1,4 +1,4 @@
-use Rattle.std.specs.Prelude.{◌≡◌, ℕ, suc, ◌<◌, Option, Some, None, List, Result, Ok, Err, length, MatchOption, MatchBool}
+use Rattle.std.specs.Prelude.{◌≡◌, ℕ, suc, ◌<◌, Some, Result, Ok, Err, length, MatchOption, MatchBool}
 use Rattle.std.specs.List.{AllByRecursion}
 use Rattle.cls_link.specs.declared.linked.LinkedInsn.{LinkedInsn}
 use Rattle.ver_check.specs.Bodies.{Body, insn_at, declared_at}

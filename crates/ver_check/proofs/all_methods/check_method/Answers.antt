@@ -1,4 +1,4 @@
-use Rattle.std.proofs.Common.{sym, ◌∙◌}
+use Rattle.std.proofs.Common.{sym}
 use Rattle.ver_check.proofs.Accepts.{subject_listed}
 use Rattle.ver_check.proofs.all_methods.check_method.Goals as goal
 

@@ -1,4 +1,4 @@
-use Rattle.std.proofs.Common.{◌≡◌, ◌≤◌, length, ap, arith}
+use Rattle.std.proofs.Common.{length, ap, arith}
 use Rattle.ver_check.proofs.Stops.{stopped}
 use Rattle.ver_check.proofs.Typings.{refuted_opening}
 use Rattle.ver_check.specs.Flow.{ComesIn, Reaches}

@@ -1,4 +1,4 @@
-use Rattle.std.proofs.Common.{ℕ, length, subst, arith}
+use Rattle.std.proofs.Common.{ℕ, subst, arith}
 use Rattle.ver_check.proofs.Typings.{proved_safe}
 use Rattle.ver_check.specs.Flow.{Reaches}
 use Rattle.ver_check.proofs.body.BodyView.check.Goals as goal
