@@ -1,3 +1,4 @@
 pub mod Declarations
 pub mod Indices
 pub mod Landing
+pub mod MethodNumbers

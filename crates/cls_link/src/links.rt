@@ -1,7 +1,8 @@
 //! Linked class sets: their look-ups.
 
-ghost use Rattle.std.specs.Prelude.{◌≡◌, IfOk, IfErr};
+ghost use Rattle.std.specs.Prelude.{◌≡◌, ◌<◌, ◌&&◌, IfOk, IfErr, IfSome, bytes_eq, length};
 ghost use Rattle.cls_link.specs.Links.{declared_methods, AreLinks, IsLinkFault};
+ghost use Rattle.cls_link.specs.Numbers.{place_from};
 
 use super::linking::link_class;
 use super::{LinkFault, LinkedMethod, MethodId};
@@ -15,16 +16,20 @@ use std::marker::Model;
 pub struct Linked {
     set: ClassSet,
     methods: Vec<LinkedMethod>,
+    // The number of the first method of each class, by class number.
+    first: Vec<usize>,
 }
 
 impl Model for Linked {
+    ghost use Rattle.std.specs.Prelude.{◌≡◌};
     ghost use Rattle.cls_link.specs.Links.{Links, AreLinks};
+    ghost use Rattle.cls_link.specs.Numbers.{starts};
 
     ghost Value = { Links };
 
     ghost view = { λ linked. record { classes = linked.set; methods = linked.methods.items } };
 
-    ghost invariant = { λ linked. AreLinks (record { classes = linked.set; methods = linked.methods.items }) };
+    ghost invariant = { λ linked. AreLinks (record { classes = linked.set; methods = linked.methods.items }) × (linked.first.items ≡ starts 0 linked.set) };
 }
 
 impl Linked {
@@ -46,6 +51,20 @@ impl Linked {
         &self.set
     }
 
+    /// The number of the method that a class declares with this name and descriptor: `None` where it
+    /// declares none.
+    pub fn method(&self, class: ClassId, name: &[u8], descriptor: &[u8]) -> Option<MethodId>
+        requires { class.0 < length self.now.classes }
+        ensures { result ≡ number_of self.now.classes class name.now descriptor.now }
+    {
+        let first = self.first[usize::from(class.0)];
+        let methods = self.set.class(class).file.methods.as_slice();
+        match find(methods, name, descriptor) {
+            Some(place) => Some(MethodId((first + place) as u32)),
+            None => None,
+        }
+    }
+
     /// The method with this number, linked.
     pub fn linked_method(&self, method: MethodId) -> &LinkedMethod
         requires { method.0 < length self.now.methods }
@@ -53,6 +72,25 @@ impl Linked {
     {
         &self.methods[method.0 as usize]
     }
+}
+
+fn is_named(method: &Method, name: &[u8], descriptor: &[u8]) -> bool
+    ensures { result ≡ (bytes_eq method.now.name name.now && bytes_eq method.now.descriptor descriptor.now) }
+{
+    method.name.as_bytes() == name && method.descriptor.as_bytes() == descriptor
+}
+
+// The place of the first method with this name and descriptor.
+fn find(methods: &[Method], name: &[u8], descriptor: &[u8]) -> Option<usize>
+    ensures found { result ≡ place_from 0 methods.now name.now descriptor.now }
+    ensures within { IfSome result (λ place. place < length methods.now) }
+{
+    for (place, method) in methods.iter().enumerate() {
+        if is_named(method, name, descriptor) {
+            return Some(place);
+        }
+    }
+    None
 }
 
 /// Links the methods of a class set: each code is read once, with each branch as the index of the
@@ -67,9 +105,18 @@ pub fn link(alloc: Global, set: ClassSet) -> Result<Linked, LinkFault>
     ensures fault { IfErr result (IsLinkFault (declared_methods set)) }
 {
     let mut methods = Vec::new(alloc);
+    let mut first = Vec::with_capacity(alloc, set.len())?;
     for number in 0..set.len() {
+        first.push(methods.len())?;
         let class = ClassId(number as u16);
         link_class(alloc, class, &set.class(class).file, &mut methods)?;
     }
-    Ok(Linked { set, methods })
+    if u32::try_from(methods.len()).is_err() {
+        return Err(LinkFault::Memory);
+    }
+    Ok(Linked {
+        set,
+        methods,
+        first,
+    })
 }
