@@ -21,9 +21,11 @@ use Rattle.ver_frames.specs.declared.vtype.VType.{VType}
 use Rattle.ver_frames.specs.declared.vtype.VType.TheVariants as vtype
 use Rattle.vm_heap.specs.Tagged.{Tagged, Int}
 use Rattle.vm_step.specs.Arithmetic.{unary_result, binary_result, condition_holds}
-use Rattle.vm_step.specs.Machine.{Ending, Returned, Spent, Next, On, Ends, Stuck, act, go_on, jump, branch, pop, pop_int, push, store, push_result}
+use Rattle.vm_step.specs.Machine.{Next, On, Ends, Stuck, act, go_on, jump, branch, pop, pop_int, push, store, push_result}
 use Rattle.vm_step.specs.Run.{State, Running, Over, code_of, next, step, run, after, IsNotLost, IsNeverStuck}
 use Rattle.vm_step.specs.Fits.{Fits, AllFit, FitsFrame}
+use Rattle.vm_step.specs.declared.ending.Ending.{Ending}
+use Rattle.vm_step.specs.declared.ending.Ending.TheVariants.{ReturnedInt, Spent}
 use Rattle.vm_step.specs.declared.machine.Machine.{Machine}
 use Rattle.vm_step.proofs.Leads.{LeadsTo, passes_both, pop-leads, pop_int-leads, pop_typed-leads, push-leads, local_found, load_int-leads, store-leads, rewrite-leads}
 
@@ -201,7 +203,7 @@ module _ (body : Body) (frames : ℕ → Frame) (method : MethodId) (typing : Is
       jump-leads place fine.after m target fine.lands.0 (subst (λ (g : Frame). FitsFrame body g method place m) same fits)
   act-leads place (insn.ReturnValue kind.Int) m fine fits =
       let popped = passes_both (effects.take effects.is_int (frames place)) (effects.where_true (effects.returns_kind kind.Int body.result)) fine.after fine.acts in
-      pop_int-leads Typed (λ n m1. Ends (Returned (Some (Int n)))) body method place (frames place) popped.0 m popped.1.0 fits (λ n m1 all. tt)
+      pop_int-leads Typed (λ n m1. Ends (ReturnedInt n)) body method place (frames place) popped.0 m popped.1.0 fits (λ n m1 all. tt)
   act-leads place insn.Return m fine fits = tt
 
   next-leads : (m : Machine) → IsTyped body frames method m → LeadsTo Typed (next body.insns m)

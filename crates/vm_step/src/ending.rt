@@ -7,11 +7,19 @@ pub enum Thrown {
     StackOverflowError,
 }
 
+/// How a task ends. There are no exception handlers, so that what is thrown ends it.
+#[derive(Clone, Copy, Debug, PartialEq, Eq)]
+pub enum Ending {
+    ReturnedNothing,
+    ReturnedInt(i32),
+    Threw(Thrown),
+    /// An instruction came next, and there was no fuel for it.
+    Spent,
+}
+
 /// What an instruction did: the machine goes on, or the task ends.
 #[derive(Clone, Copy)]
 pub enum Flow {
     Goes,
-    Returns,
-    ReturnsInt(i32),
-    Throws(Thrown),
+    Ends(Ending),
 }

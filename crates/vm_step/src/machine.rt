@@ -1,7 +1,7 @@
 //! The machine: what a task runs on.
 
 use crate::arithmetic;
-use crate::ending::{Flow, Thrown};
+use crate::ending::{Ending, Flow, Thrown};
 use cls_link::{
     BinaryOperator, Condition, LinkedInsn, MethodId, StackOperation, UnaryOperator, ValueKind,
 };
@@ -188,7 +188,7 @@ impl Machine {
                 self.push_int(n);
                 self.go_on()
             }
-            None => Flow::Throws(Thrown::ArithmeticException),
+            None => Flow::Ends(Ending::Threw(Thrown::ArithmeticException)),
         }
     }
 
@@ -221,7 +221,7 @@ impl Machine {
         ensures does { Does (act (LinkedInsn.ReturnValue ValueKind.Int) self.old) result self.new }
         ensures method { self.new.method ≡ self.old.method }
     {
-        Flow::ReturnsInt(self.pop_int())
+        Flow::Ends(Ending::ReturnedInt(self.pop_int()))
     }
 
     /// Makes one instruction, which does not get stuck.
@@ -247,7 +247,7 @@ impl Machine {
             LinkedInsn::IfCompare { condition, target } => self.if_compare(condition, target),
             LinkedInsn::Goto { target } => self.branch(true, target),
             LinkedInsn::ReturnValue(ValueKind::Int) => self.return_int(),
-            LinkedInsn::Return => Flow::Returns,
+            LinkedInsn::Return => Flow::Ends(Ending::ReturnedNothing),
         }
     }
 }
