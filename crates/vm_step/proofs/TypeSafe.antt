@@ -45,7 +45,6 @@ Fits-assignable classes vtype.UninitializedThis vtype.UninitializedThis value to
 Fits-assignable classes s t value to fits = absurd to
 
 AllFit-assignable : (classes : List Class) (given asked : List VType) (values : List Tagged) → AreAssignable classes given asked → AllFit given values → AllFit asked values
-unfolding AreAssignable
 AllFit-assignable classes [] [] values to fits = fits
 AllFit-assignable classes (s ∷ given) (t ∷ asked) [] to fits = fits
 AllFit-assignable classes (s ∷ given) (t ∷ asked) (value ∷ values) to fits =

@@ -1,5 +1,6 @@
 -- When a machine fits the type frames of a method (JVMS 4.10.1): each value is of the type in its place.
-use Rattle.std.specs.Prelude.{◌≡◌, ℕ, List, [], ◌∷◌}
+use Rattle.std.specs.Prelude.{◌≡◌, ℕ, List}
+use Rattle.std.specs.List.{AllZip}
 use Rattle.cls_link.specs.declared.linked.MethodId.{MethodId}
 use Rattle.ver_check.specs.Bodies.{Body}
 use Rattle.ver_frames.specs.Frames.{Frame}
@@ -30,10 +31,7 @@ Fits vtype.UninitializedThis value = ⊥
 
 -- as many values as types, each of the type in its place
 abbrev pub AllFit : List VType → List Tagged → Type 0
-AllFit [] [] = Unit {0}
-AllFit [] (value ∷ values) = ⊥
-AllFit (t ∷ types) [] = ⊥
-AllFit (t ∷ types) (value ∷ values) = Fits t value × AllFit types values
+AllFit types values = AllZip Fits types values
 
 -- the machine is in this method, at this place, with this type frame
 pub record FitsFrame (body : Body) (frame : Frame) (method : MethodId) (place : ℕ) (m : Machine) : Type 0 where
