@@ -5,3 +5,5 @@ pub mod Dash
 pub mod Fits
 pub mod Subjects
 pub mod Task
+pub mod Start
+pub mod Found

@@ -4,6 +4,7 @@ use Rattle.cf_reader.specs.declared.class_file.Code.{Code}
 use Rattle.cf_reader.specs.declared.class_file.Method.{Method}
 use Rattle.cls_link.specs.Links.{Links}
 use Rattle.cls_link.specs.declared.linked.LinkedCode.{LinkedCode}
+use Rattle.cls_link.specs.declared.linked.LinkedInsn.{LinkedInsn}
 use Rattle.cls_link.specs.declared.linked.LinkedMethod.{LinkedMethod}
 use Rattle.cls_link.specs.declared.linked.MethodId.{MethodId}
 use Rattle.cls_set.specs.declared.class.Class.{Class}
@@ -23,6 +24,18 @@ subject_at links id =
     option_map (λ (linked : LinkedCode).
     record { classes = links.classes; class_id = m.class; class = c; method = method; code = code; linked = linked })
     m.code) method.code) (slice_get c.file.methods m.place)) (slice_get links.classes m.class.0)) (slice_get links.methods id.0)
+
+-- a method's declaration, and its code as read and as linked
+pub record Declared : Type 0 where
+  pub method : Method
+  pub code : Code
+  pub insns : List LinkedInsn
+
+abbrev pub declared_of : Subject → Declared
+declared_of m = record { method = m.method; code = m.code; insns = m.linked.insns }
+
+unfoldable pub declared_at : Links → MethodId → Option Declared
+declared_at links id = option_map declared_of (subject_at links id)
 
 -- a method with code is type safe with the frames that it declares
 pub record IsTypeSafeMethod (m : Subject) : Type 0 where
