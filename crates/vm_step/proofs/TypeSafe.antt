@@ -71,7 +71,7 @@ moved : (body : Body) (f : Frame) (method : MethodId) (place to : ℕ) (m : Mach
 moved body f method place to m fits = record { in_method = fits.in_method; at_place = refl; locals = fits.locals; operands = fits.operands; room = fits.room }
 
 module _ (body : Body) (frames : ℕ → Frame) (method : MethodId) (typing : IsTyping body frames) (listed : length body.offsets ≡ length body.insns) where
-  entered : (to : ℕ) (given : Frame) (m : Machine) (d : Option Frame) → declared_at body to ≡ d
+  pub entered : (to : ℕ) (given : Frame) (m : Machine) (d : Option Frame) → declared_at body to ≡ d
       → MatchOption d (frames to ≡ given) (λ declared. IsFrameAssignable body.classes given declared)
       → FitsFrame body given method to m → FitsFrame body (frames to) method to m
   entered to given m None is enters fits = subst (λ (g : Frame). FitsFrame body g method to m) (sym enters) fits

@@ -33,14 +33,14 @@ is_startable m = not (bytes_eq m.method.name (codes "<init>")) && not (length m.
 abbrev pub startable : Links → MethodId → Option Declared
 startable links id = option_and_then (λ m. if is_startable m then Some m else None) (declared_at links id)
 
+abbrev pub is_int_element : ElementType → Bool
+is_int_element element.Int = true
+is_int_element element.Boolean = true
+is_int_element _ = false
+
 -- whether values of a type may be passed: ints and booleans may, so far
 abbrev pub is_int_type : FieldType → Bool
 is_int_type kind = (kind.dimensions == 0) && is_int_element kind.element
-  where
-    is_int_element : ElementType → Bool
-    is_int_element element.Int = true
-    is_int_element element.Boolean = true
-    is_int_element _ = false
 
 -- whether a method takes and gives ints and booleans alone
 abbrev pub takes_ints : MethodDescriptor → Bool

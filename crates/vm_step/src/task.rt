@@ -1,16 +1,26 @@
 //! Tasks.
-ghost use Rattle.std.specs.Prelude.{◌≡◌, ℕ, ◌+◌, ◌≤◌};
+ghost use Rattle.std.specs.Prelude.{◌≡◌, ◌≢◌, ℕ, ◌+◌, ◌^◌, ◌<◌, ◌≤◌, length, IsTrue, IsSome, IfOk, IfErr};
+ghost use Rattle.std.specs.List.{list_all};
+ghost use Rattle.cls_set.specs.Classes.{number_of};
+ghost use Rattle.vm_step.specs.Start.{is_int_value, opening_state, started};
 ghost use Rattle.vm_step.specs.Run.{run, IsNeverStuck};
-ghost use Rattle.vm_step.specs.Task.{pause_at, fuel_left, outcome_at};
+ghost use Rattle.vm_step.specs.Task.{pause_at, fuel_left, outcome_at, phase_state, thrown_name};
 
 use crate::accepted::Accepted;
 use crate::ending::{Ending, Thrown};
+use crate::fault::StartFault;
+use crate::limits::Limits;
+use crate::machine::Machine;
 use crate::outcome::{Outcome, Pause};
 use crate::phase::Phase;
+use crate::start::{find, pass, refuses};
+use cls_link::{ClassSet, Code, Linked, MethodId};
+use std::alloc::{AllocError, Global};
 use std::marker::Model;
 use std::mem;
 use std::snapshot::Snapshot;
 use vm_heap::{ClassId, Uuid, Value};
+use vm_stack::Stack;
 
 /// The numbers of the classes of which the interpreter throws objects.
 #[derive(Clone, Copy)]
@@ -42,6 +52,45 @@ impl Model for Task {
 }
 
 impl Task {
+    /// A task of the space `own` that runs a method on these arguments. It does not start where there
+    /// is no such method, or its values do not fit: the lowest fault that fits is told.
+    pub fn start(
+        alloc: Global,
+        program: &Accepted,
+        own: Uuid,
+        method: MethodId,
+        arguments: Vec<Value>,
+        limits: Limits,
+    ) -> Result<Task, StartFault>
+        requires { limits.heap_words + limits.references < 2 ^ 32 }
+        ensures started {
+            IfOk result (λ task. started program.now own method arguments.items limits ≡ Ok task)
+        }
+        ensures refused {
+            IfErr
+                result
+                (λ fault.
+                    fault ≢ StartFault.Memory
+                        → started program.now own method arguments.items limits ≡ Err fault)
+        }
+    {
+        let linked = program.linked();
+        let Some(found) = find(linked, method) else {
+            return Err(StartFault::AbsentMethod);
+        };
+        match refuses(found.method, &arguments) {
+            Some(fault) => return Err(fault),
+            None => {}
+        }
+        let phase = opening(alloc, method, found.code, &arguments, limits)?;
+        Ok(Task {
+            program: Snapshot::of(program),
+            own,
+            thrown: thrown_classes(linked),
+            phase,
+        })
+    }
+
     /// Makes at most `k` instructions, fewer where the task ends. It takes no memory.
     pub fn run(&mut self, program: &Accepted, k: u64) -> Pause
         requires { self.old.program ≡ program.now }
@@ -83,4 +132,58 @@ impl Task {
             }),
         }
     }
+}
+
+// The phase in which a method begins.
+fn opening(
+    alloc: Global,
+    method: MethodId,
+    code: &Code,
+    arguments: &[Value],
+    limits: Limits,
+) -> Result<Phase, AllocError>
+    requires few { length arguments.now ≤ code.now.max_locals }
+    requires ints { IsTrue (list_all is_int_value arguments.now) }
+    ensures {
+        IfOk result (λ phase. phase_state phase ≡ opening_state method code.now arguments.now limits)
+    }
+{
+    let mut stack = Stack::with_words(alloc, limits.stack_words as usize)?;
+    if !stack.push_frame(code.max_locals, code.max_stack) {
+        let overflow = Ending::Threw(Thrown::StackOverflowError);
+        return Ok(Phase::Over(overflow, limits.fuel));
+    }
+    pass(&mut stack, arguments);
+    let machine = Machine {
+        method,
+        place: 0,
+        stack,
+    };
+    Ok(Phase::Running(machine, limits.fuel))
+}
+
+// The classes of which the interpreter throws objects stand in every set.
+fn thrown_classes(linked: &Linked) -> ThrownClasses
+    ensures arithmetic_exception {
+        number_of linked.now.classes (thrown_name Thrown.ArithmeticException)
+            ≡ Some result.arithmetic_exception
+    }
+    ensures stack_overflow_error {
+        number_of linked.now.classes (thrown_name Thrown.StackOverflowError)
+            ≡ Some result.stack_overflow_error
+    }
+{
+    let _methods = linked.len();
+    let set = linked.set();
+    ThrownClasses {
+        arithmetic_exception: class_named(set, b"java/lang/ArithmeticException"),
+        stack_overflow_error: class_named(set, b"java/lang/StackOverflowError"),
+    }
+}
+
+fn class_named(set: &ClassSet, name: &[u8]) -> ClassId
+    requires { IsSome (number_of set.now name.now) }
+    ensures { number_of set.now name.now ≡ Some result }
+{
+    set.number(name).unwrap()
 }

@@ -1,0 +1,246 @@
+-- A task begins in a state that is never stuck: its first frame fits the one in which its method begins.
+use Rattle.std.proofs.Common.{◌≡◌, ℕ, zero, suc, ◌+◌, ◌-◌, ◌<◌, ◌≤◌, Bool, true, false, List, [], ◌∷◌, ◌++◌, length, drop, map, refl, ap, sym, subst, ◌∙◌, eqb→eq, le-leb, arith, Option, Some, None, length-append}
+use Rattle.std.proofs.lemmas.List.{length-map}
+use Rattle.std.specs.Prelude.{not, ◌&&◌, ◌==◌, nat_le, slice_get, replicate, bytes_eq, codes, option_and_then, option_map, if◌then◌else◌, IsTrue}
+use Rattle.std.specs.List.{list_all}
+use Rattle.std.specs.Option.{option_map_or}
+use Rattle.cf_pool.specs.declared.types.ElementType.{ElementType}
+use Rattle.cf_pool.specs.declared.types.ElementType.TheVariants as element
+use Rattle.cf_pool.specs.declared.types.FieldType.{FieldType}
+use Rattle.cf_reader.specs.declared.class_file.Code.{Code}
+use Rattle.cf_reader.specs.declared.class_file.Method.{Method}
+use Rattle.cls_link.specs.Links.{Links}
+use Rattle.cls_link.specs.declared.linked.LinkedCode.{LinkedCode}
+use Rattle.cls_link.specs.declared.linked.LinkedInsn.{LinkedInsn}
+use Rattle.cls_link.specs.declared.linked.LinkedMethod.{LinkedMethod}
+use Rattle.cls_link.specs.declared.linked.MethodId.{MethodId}
+use Rattle.cls_set.specs.declared.class.Class.{Class}
+use Rattle.ver_check.specs.Bodies.{Body, body_of, declared_at as frame_declared_at}
+use Rattle.ver_check.specs.Typing.{IsTyping}
+use Rattle.ver_frames.specs.Frames.{Frame, filled}
+use Rattle.ver_frames.specs.Method.{Subject, is_static, opening, argument_types, receiver_types}
+use Rattle.ver_frames.specs.Types.{field_vtype, element_type}
+use Rattle.ver_frames.specs.declared.vtype.VType.{VType}
+use Rattle.ver_frames.specs.declared.vtype.VType.TheVariants as vtype
+use Rattle.vm_heap.specs.Tagged.{Tagged, Int, Unset}
+use Rattle.vm_heap.specs.declared.values.Value.{Value}
+use Rattle.vm_heap.specs.declared.values.Value.TheVariants as value
+use Rattle.vm_step.specs.Fits.{Fits, AllFit, FitsFrame}
+use Rattle.vm_step.specs.Run.{State, Running, Over, code_of, run, IsNotLost, IsNeverStuck}
+use Rattle.vm_step.specs.Start.{is_startable, startable, is_int_element, is_int_type, takes_ints, is_int_value, fill_parameters, refusal, passed, opening_frame, opening_state}
+use Rattle.vm_step.specs.Subjects.{subject_at, Declared, declared_of, declared_at, IsTypeSafeMethod, AreTypeSafe}
+use Rattle.vm_step.specs.Found.{shown}
+use Rattle.vm_step.specs.declared.fault.StartFault.{StartFault}
+use Rattle.vm_step.specs.declared.fault.StartFault.TheVariants as fault
+use Rattle.vm_step.specs.declared.start.Found.{Found}
+use Rattle.vm_stack.specs.Frames.{Frames, empty_frame, frame_cost, entered as with_frame}
+use Rattle.vm_step.specs.declared.ending.Ending.TheVariants.{Threw}
+use Rattle.vm_step.specs.declared.ending.Thrown.TheVariants.{StackOverflowError}
+use Rattle.vm_step.specs.declared.limits.Limits.{Limits}
+use Rattle.vm_step.specs.declared.machine.Machine.{Machine}
+use Rattle.vm_step.proofs.Leads.{passes_both}
+use Rattle.vm_step.proofs.Runs.{run_over}
+use Rattle.vm_step.proofs.TypeSafe.{IsTyped, entered, typed-IsNeverStuck}
+
+both_true : (a b : Bool) → (a && b) ≡ true → (a ≡ true) × (b ≡ true)
+both_true true true e = (refl, refl)
+both_true true false e = absurd (cc)
+both_true false b e = absurd (cc)
+
+-- what is mapped to something is something
+maps_some : {A B : Type 0} (o : Option A) (f : A → B) (b : B) → option_map f o ≡ Some b → (a : A) × ((o ≡ Some a) × (f a ≡ b))
+maps_some None f b e = absurd (cc)
+maps_some (Some a) f b e = (a, (refl, cc))
+
+-- the code that runs is the one that was checked
+code_of-subject : (links : Links) (id : MethodId) (m : Subject) → subject_at links id ≡ Some m → code_of links id ≡ m.linked.insns
+unfolding subject_at code_of
+code_of-subject links id m e =
+    let entry = passes_both (slice_get links.methods id.0) _ m e in
+    let class = passes_both (slice_get links.classes entry.0.class.0) _ m entry.1.1 in
+    let method = passes_both (slice_get class.0.file.methods entry.0.place) _ m class.1.1 in
+    let code = passes_both method.0.code _ m method.1.1 in
+    let linked = maps_some entry.0.code _ m code.1.1 in
+    let same : linked.0.insns ≡ m.linked.insns = ap (λ (s : Subject). s.linked.insns) linked.1.1 in
+    rw (entry.1.0, linked.1.0) same
+
+element_type-int : (classes : List Class) (e : ElementType) → is_int_element e ≡ true → element_type classes e ≡ vtype.Int
+unfolding element_type
+element_type-int classes element.Int is = refl
+element_type-int classes element.Boolean is = refl
+element_type-int classes e is = absurd (cc)
+
+-- ints and booleans are of the type int
+field_vtype-int : (classes : List Class) (kind : FieldType) → is_int_type kind ≡ true → field_vtype classes kind ≡ vtype.Int
+unfolding field_vtype
+field_vtype-int classes kind e =
+    let both = both_true (kind.dimensions == 0) (is_int_element kind.element) e in
+    rw both.0 (element_type-int classes kind.element both.1)
+
+passed-Fits : (v : Value) → is_int_value v ≡ true → Fits vtype.Int (passed v)
+passed-Fits (value.Int n) is = tt
+passed-Fits v is = absurd (cc)
+
+-- the arguments fit the types of the parameters
+arguments-AllFit : (classes : List Class) (kinds : List FieldType) (arguments : List Value) → list_all is_int_type kinds ≡ true → list_all is_int_value arguments ≡ true
+    → length arguments ≡ length kinds → AllFit (map (field_vtype classes) kinds) (map passed arguments)
+arguments-AllFit classes [] [] kinds arguments same = tt
+arguments-AllFit classes [] (v ∷ arguments) k a same = absurd (cc)
+arguments-AllFit classes (kind ∷ kinds) [] k a same = absurd (cc)
+arguments-AllFit classes (kind ∷ kinds) (v ∷ arguments) k a same =
+    let first = both_true (is_int_type kind) (list_all is_int_type kinds) k in
+    let given = both_true (is_int_value v) (list_all is_int_value arguments) a in
+    (rw (field_vtype-int classes kind first.0) (passed-Fits v given.0), arguments-AllFit classes kinds arguments first.1 given.1 (omega (arith, same)))
+
+-- and what is left of the local variables is of no type
+filled-AllFit : (types : List VType) (values : List Tagged) (n : ℕ) → AllFit types values → AllFit (types ++ replicate n vtype.Top) (values ++ replicate n Unset)
+filled-AllFit [] [] zero all = tt
+filled-AllFit [] [] (suc n) all = (tt, filled-AllFit [] [] n tt)
+filled-AllFit [] (v ∷ values) n all = absurd all
+filled-AllFit (t ∷ types) [] n all = absurd all
+filled-AllFit (t ∷ types) (v ∷ values) n all = (all.0, filled-AllFit types values n all.1)
+
+-- the methods at which a task may start have instructions
+startable-insns : (m : Declared) → is_startable m ≡ true → 0 < length m.insns
+startable-insns m e = some (length m.insns) (both_true (not (bytes_eq m.method.name (codes "<init>"))) (not (length m.insns == 0)) e).1
+  where
+    some : (n : ℕ) → not (n == 0) ≡ true → 0 < n
+    some zero e = absurd (cc)
+    some (suc n) e = omega arith
+
+-- what a method takes and is given, where it is not refused
+record Accepts (method : Method) (arguments : List Value) : Type 0 where
+  static : is_static method ≡ true
+  parameters : list_all is_int_type method.types.parameters ≡ true
+  same : length arguments ≡ length method.types.parameters
+  ints : list_all is_int_value arguments ≡ true
+
+accepts : (method : Method) (arguments : List Value) → refusal method arguments ≡ None → Accepts method arguments
+accepts method arguments e = taken (takes_ints method.types) refl e
+  where
+    given : (b : Bool) → (is_static method && fill_parameters method.types arguments) ≡ b → takes_ints method.types ≡ true
+        → (if b then None else Some fault.BadArgument) ≡ None → Accepts method arguments
+    given false is takes e = absurd (cc)
+    given true is takes e =
+        let both = both_true (is_static method) (fill_parameters method.types arguments) is in
+        let filled = both_true (length arguments == length method.types.parameters) (list_all is_int_value arguments) both.1 in
+        record {
+          static = both.0;
+          parameters = (both_true (list_all is_int_type method.types.parameters) (option_map_or is_int_type method.types.result true) takes).0;
+          same = eqb→eq (length arguments) (length method.types.parameters) (rw filled.0 tt);
+          ints = filled.1;
+        }
+    taken : (b : Bool) → takes_ints method.types ≡ b
+        → (if not b then Some fault.BadSignature else (if is_static method && fill_parameters method.types arguments then None else Some fault.BadArgument)) ≡ None → Accepts method arguments
+    taken false is e = absurd (cc)
+    taken true is e = given (is_static method && fill_parameters method.types arguments) refl is e
+
+-- the types of the first local variables of a static method are those of its parameters
+argument_types-static : (m : Subject) → is_static m.method ≡ true → argument_types m ≡ map (field_vtype m.classes) m.method.types.parameters
+unfolding argument_types receiver_types
+argument_types-static m static = rw static refl
+
+module _ (links : Links) (id : MethodId) (m : Subject) (arguments : List Value) (limits : Limits)
+    (found : subject_at links id ≡ Some m) (safe : IsTypeSafeMethod m) (given : Accepts m.method arguments) (some : 0 < length m.linked.insns) where
+  abbrev body : Body
+  body = body_of m safe.declared
+
+  -- there are as many local variables as arguments at least
+  few : length arguments ≤ m.code.max_locals
+  unfolding opening
+  few =
+      let all : length (filled m.code.max_locals (argument_types m)) ≤ m.code.max_locals = safe.safe.typing.arguments in
+      let are : argument_types m ≡ map (field_vtype m.classes) m.method.types.parameters = argument_types-static m given.static in
+      let some : length (filled m.code.max_locals (map (field_vtype m.classes) m.method.types.parameters)) ≤ m.code.max_locals = rw are at all in
+      omega (arith, some, given.same, length-map m.method.types.parameters (field_vtype m.classes),
+             length-append (map (field_vtype m.classes) m.method.types.parameters) (replicate (m.code.max_locals - length (map (field_vtype m.classes) m.method.types.parameters)) vtype.Top))
+
+  machine : Machine
+  machine = record { method = id; place = 0; stack = record { frame = opening_frame m.code arguments; callers = empty_frame ∷ []; free = limits.stack_words - frame_cost m.code.max_locals m.code.max_stack } }
+
+  fits : FitsFrame body body.opening id 0 machine
+  unfolding opening machine
+  fits =
+      let are : argument_types m ≡ map (field_vtype m.classes) m.method.types.parameters = argument_types-static m given.static in
+      let same : length (map (field_vtype m.classes) m.method.types.parameters) ≡ length arguments = length-map m.method.types.parameters (field_vtype m.classes) ∙ sym given.same in
+      record {
+        in_method = refl;
+        at_place = refl;
+        locals = rw (are, same)
+          (filled-AllFit (map (field_vtype m.classes) m.method.types.parameters) (map passed arguments) (m.code.max_locals - length arguments)
+           (arguments-AllFit m.classes m.method.types.parameters arguments given.parameters given.ints given.same));
+        operands = tt;
+        room = refl;
+      }
+
+  typed : IsTyped body safe.safe.frames id machine
+  unfolding machine
+  typed = record {
+    inside = some;
+    fits = entered body safe.safe.frames id safe.safe.typing safe.listed 0 body.opening machine (frame_declared_at body 0) refl safe.safe.typing.opening fits;
+  }
+
+  begins : (b : Bool) → IsNeverStuck links (if b then Running machine limits.fuel else Over (Threw StackOverflowError) limits.fuel)
+  begins false = record { always = λ k. subst IsNotLost (sym (run_over links k (Threw StackOverflowError) limits.fuel)) tt }
+  begins true = typed-IsNeverStuck body safe.safe.frames id safe.safe.typing safe.listed links (code_of-subject links id m found) machine limits.fuel typed
+
+  opening-IsNeverStuck : IsNeverStuck links (opening_state id m.code arguments limits)
+  unfolding machine
+  opening-IsNeverStuck = begins (nat_le (frame_cost m.code.max_locals m.code.max_stack) limits.stack_words)
+
+-- what is known of the task that a method's start gives
+pub record Begins (links : Links) (id : MethodId) (m : Declared) (arguments : List Value) (limits : Limits) : Type 0 where
+  pub few : length arguments ≤ m.code.max_locals
+  pub ints : IsTrue (list_all is_int_value arguments)
+  pub never_stuck : IsNeverStuck links (opening_state id m.code arguments limits)
+
+pub startable-begins : (links : Links) (id : MethodId) (m : Declared) (arguments : List Value) (limits : Limits) → AreTypeSafe links → startable links id ≡ Some m
+    → refusal m.method arguments ≡ None → Begins links id m arguments limits
+unfolding declared_at
+startable-begins links id m arguments limits safe found taken =
+    let at = passes_both (declared_at links id) (λ d. if is_startable d then Some d else None) m found in
+    let passed = tested at.0 (is_startable at.0) refl at.1.1 in
+    let subject = maps_some (subject_at links id) declared_of at.0 at.1.0 in
+    let given : Accepts subject.0.method arguments = subst (λ (d : Declared). Accepts d.method arguments) (sym (subject.1.1 ∙ passed.0)) (accepts m.method arguments taken) in
+    let some : 0 < length subject.0.linked.insns = subst (λ (d : Declared). 0 < length d.insns) (sym subject.1.1) (startable-insns at.0 passed.1) in
+    let begins : Begins links id (declared_of subject.0) arguments limits = record {
+      few = few links id subject.0 arguments limits subject.1.0 (safe.methods id subject.0 subject.1.0) given some;
+      ints = given.ints;
+      never_stuck = opening-IsNeverStuck links id subject.0 arguments limits subject.1.0 (safe.methods id subject.0 subject.1.0) given some;
+    } in
+    subst (λ (d : Declared). Begins links id d arguments limits) (subject.1.1 ∙ passed.0) begins
+  where
+    tested : (d : Declared) (b : Bool) → is_startable d ≡ b → (if b then Some d else None) ≡ Some m → (d ≡ m) × (is_startable d ≡ true)
+    tested d false is e = absurd (cc)
+    tested d true is e = (cc, is)
+
+drop-replicate : (n m : ℕ) (x : Tagged) → drop n (replicate m x) ≡ replicate (m - n) x
+drop-replicate zero m x = let e : m - zero ≡ m = omega arith in rw e refl
+drop-replicate (suc n) zero x = let e : zero - suc n ≡ zero = omega arith in rw e refl
+drop-replicate (suc n) (suc m) x = let e : suc m - suc n ≡ m - n = omega arith in rw e (drop-replicate n m x)
+
+same_frames : (a b : Frames) → a.frame ≡ b.frame → a.callers ≡ b.callers → a.free ≡ b.free → a ≡ b
+same_frames a b frame callers free = λ i. record { frame = frame i; callers = callers i; free = free i }
+
+-- a new stack with the first frame, to which the arguments were passed, is the opening state's
+pub opening_runs : (id : MethodId) (code : Code) (arguments : List Value) (limits : Limits) (fresh entry s : Frames)
+    → fresh ≡ record { frame = empty_frame; callers = []; free = limits.stack_words } → frame_cost code.max_locals code.max_stack ≤ fresh.free
+    → entry ≡ with_frame code.max_locals code.max_stack fresh
+    → s.frame ≡ record entry.frame { locals = map passed arguments ++ drop (length arguments) entry.frame.locals } → s.callers ≡ entry.callers → s.free ≡ entry.free
+    → Running (record { method = id; place = 0; stack = s }) limits.fuel ≡ opening_state id code arguments limits
+opening_runs id code arguments limits fresh entry s new enough pushed frame callers free =
+    let cost : ℕ = frame_cost code.max_locals code.max_stack in
+    let stack : Frames = record { frame = opening_frame code arguments; callers = empty_frame ∷ []; free = limits.stack_words - cost } in
+    let frames : s.frame ≡ opening_frame code arguments = frame ∙ rw (pushed, drop-replicate (length arguments) code.max_locals Unset) refl in
+    let same : s ≡ stack = same_frames s stack frames (callers ∙ rw (pushed, new) refl) (free ∙ rw (pushed, new) refl) in
+    let within : cost ≤ limits.stack_words = rw new at enough in
+    rw (same, le-leb cost limits.stack_words within) refl
+
+-- the same, of what a start found and did not refuse
+pub found_begins : (links program : Links) (id : MethodId) (r : Option Found) (found : Found) (why : Option StartFault) (given arguments : List Value) (limits : Limits)
+    → links ≡ program → AreTypeSafe program → option_map shown r ≡ startable links id → r ≡ Some found → why ≡ refusal found.method.now given → why ≡ None → given ≡ arguments
+    → Begins program id (shown found) arguments limits
+found_begins links program id r found why given arguments limits same safe is was refuses none args =
+    let at : startable program id ≡ Some (shown found) = rw (← same) (sym is ∙ ap (option_map shown) was) in
+    let accepted : refusal found.method.now arguments ≡ None = rw (← args) (sym refuses ∙ none) in
+    startable-begins program id (shown found) arguments limits safe at accepted
