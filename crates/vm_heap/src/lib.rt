@@ -1,4 +1,5 @@
-//! Values that cross between tasks and spaces: ints, int arrays by copy, remote references.
+//! The values of tasks: words, and what crosses between tasks and spaces, which are ints, int arrays
+//! by copy and remote references.
 #![tactic(auto)]
 
 pub use cls_set::{ClassId, Row};
@@ -6,5 +7,7 @@ pub use uuid::Uuid;
 pub use values::{ObjId, Ref, Value};
 pub use word::Word;
 
+#[cfg(test)]
+mod tests;
 mod values;
 mod word;

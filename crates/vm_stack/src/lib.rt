@@ -6,3 +6,5 @@ pub use vm_heap::Word;
 
 mod link;
 mod stack;
+#[cfg(test)]
+mod tests;

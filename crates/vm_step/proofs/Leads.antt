@@ -133,7 +133,7 @@ pub push-leads : (P : Machine → Type 0) (value : Tagged) (next : Machine → N
 unfolding effects.give
 push-leads P value next t body method place f after m e fits fit go =
     let same : nat_lt (length m.stack.frame.operands) m.stack.frame.room ≡ nat_lt (length f.stack) body.max_stack =
-        rw (length-AllFit f.stack m.stack.frame.operands fits.operands, fits.room) refl in
+    rw (length-AllFit f.stack m.stack.frame.operands fits.operands, fits.room) refl in
     rw same (given (nat_lt (length f.stack) body.max_stack) e)
   where
     given : (b : Bool) → (if b then Some (record f { stack = t ∷ f.stack }) else None) ≡ Some after

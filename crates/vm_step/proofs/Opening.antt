@@ -130,6 +130,7 @@ accepts method arguments e = taken (takes_ints method.types) refl e
           same = eqb→eq (length arguments) (length method.types.parameters) (rw filled.0 tt);
           ints = filled.1;
         }
+
     taken : (b : Bool) → takes_ints method.types ≡ b
         → (if not b then Some fault.BadSignature else (if is_static method && fill_parameters method.types arguments then None else Some fault.BadArgument)) ≡ None → Accepts method arguments
     taken false is e = absurd (cc)
@@ -152,8 +153,13 @@ module _ (links : Links) (id : MethodId) (m : Subject) (arguments : List Value) 
       let all : length (filled m.code.max_locals (argument_types m)) ≤ m.code.max_locals = safe.safe.typing.arguments in
       let are : argument_types m ≡ map (field_vtype m.classes) m.method.types.parameters = argument_types-static m given.static in
       let some : length (filled m.code.max_locals (map (field_vtype m.classes) m.method.types.parameters)) ≤ m.code.max_locals = rw are at all in
-      omega (arith, some, given.same, length-map m.method.types.parameters (field_vtype m.classes),
-             length-append (map (field_vtype m.classes) m.method.types.parameters) (replicate (m.code.max_locals - length (map (field_vtype m.classes) m.method.types.parameters)) vtype.Top))
+      omega (
+        arith,
+        some,
+        given.same,
+        length-map m.method.types.parameters (field_vtype m.classes),
+        length-append (map (field_vtype m.classes) m.method.types.parameters) (replicate (m.code.max_locals - length (map (field_vtype m.classes) m.method.types.parameters)) vtype.Top),
+      )
 
   machine : Machine
   machine = record { method = id; place = 0; stack = record { frame = opening_frame m.code arguments; callers = empty_frame ∷ []; free = limits.stack_words - frame_cost m.code.max_locals m.code.max_stack } }
@@ -167,8 +173,8 @@ module _ (links : Links) (id : MethodId) (m : Subject) (arguments : List Value) 
         in_method = refl;
         at_place = refl;
         locals = rw (are, same)
-          (filled-AllFit (map (field_vtype m.classes) m.method.types.parameters) (map passed arguments) (m.code.max_locals - length arguments)
-           (arguments-AllFit m.classes m.method.types.parameters arguments given.parameters given.ints given.same));
+            (filled-AllFit (map (field_vtype m.classes) m.method.types.parameters) (map passed arguments) (m.code.max_locals - length arguments)
+            (arguments-AllFit m.classes m.method.types.parameters arguments given.parameters given.ints given.same));
         operands = tt;
         room = refl;
       }

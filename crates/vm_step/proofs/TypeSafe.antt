@@ -136,9 +136,9 @@ module _ (body : Body) (frames : ℕ → Frame) (method : MethodId) (typing : Is
       (λ m3 all. go_on-leads place after m3 follows all)))
   stack-leads place Swap f after m acts follows fits =
       let first = passes_both (effects.taken effects.is_word f)
-            (λ top. option_and_then (λ below. option_and_then (effects.give body below.0) (effects.give body top.0 below.1)) (effects.taken effects.is_word top.1)) after acts in
+      (λ top. option_and_then (λ below. option_and_then (effects.give body below.0) (effects.give body top.0 below.1)) (effects.taken effects.is_word top.1)) after acts in
       let second = passes_both (effects.taken effects.is_word first.0.1)
-            (λ below. option_and_then (effects.give body below.0) (effects.give body first.0.0 below.1)) after first.1.1 in
+      (λ below. option_and_then (effects.give body below.0) (effects.give body first.0.0 below.1)) after first.1.1 in
       let once = passes_both (effects.give body first.0.0 second.0.1) (effects.give body second.0.0) after second.1.1 in
       pop-leads Typed (λ value. pop (λ other. push value (push other go_on))) effects.is_word body method place f first.0.0 first.0.1 m first.1.0 fits
       (λ value m1 tested fit all. pop-leads Typed (λ other. push value (push other go_on)) effects.is_word body method place first.0.1 second.0.0 second.0.1 m1 second.1.0 all

@@ -1,7 +1,7 @@
 pub mod Arithmetic
 pub mod Machine
 pub mod Run
-pub mod Dash
+pub mod Reached
 pub mod Fits
 pub mod Subjects
 pub mod Task

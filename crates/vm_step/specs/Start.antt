@@ -93,6 +93,7 @@ started links own id arguments limits =
     begin : Declared → Option StartFault → Result Tasked StartFault
     begin m (Some why) = Err why
     begin m None = Ok (record { program = links; own = own; state = opening_state id m.code arguments limits })
+
     start_at : Option Declared → Result Tasked StartFault
     start_at None = Err fault.AbsentMethod
     start_at (Some m) = begin m (refusal m.method arguments)

@@ -1,4 +1,8 @@
-//! Tasks: the interpreter.
+//! Tasks: methods that run on the interpreter (JVMS 6.5), each with its own stack, limits and fuel.
+//!
+//! The interpreter has bare words and makes no test of a kind, an index or a depth. That it makes
+//! exactly the steps of the machine over tagged values, and that this machine is never stuck in
+//! accepted code, is what the contracts of `Task` say.
 #![tactic(auto)]
 
 pub use accepted::Accepted;
@@ -9,12 +13,12 @@ pub use task::Task;
 
 mod accepted;
 mod arithmetic;
-mod dash;
 mod ending;
 mod fault;
 mod limits;
 mod machine;
 mod outcome;
 mod phase;
+mod run;
 mod start;
 mod task;

@@ -17,14 +17,12 @@ pub struct Limits {
 
 impl Default for Limits {
     fn default() -> Limits
-        ensures {
-            result ≡ record {
-                heap_words = 65536;
-                stack_words = 16384;
-                references = 1024;
-                fuel = 1000000;
-            }
-        }
+        ensures { result ≡ record {
+          heap_words = 65536;
+          stack_words = 16384;
+          references = 1024;
+          fuel = 1000000;
+        } }
     {
         Limits {
             heap_words: 65_536,

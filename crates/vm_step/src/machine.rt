@@ -226,7 +226,7 @@ impl Machine {
 
     /// Makes one instruction, which does not get stuck.
     #[inline(always)]
-    pub fn hot(&mut self, insn: LinkedInsn) -> Flow
+    pub fn act(&mut self, insn: LinkedInsn) -> Flow
         requires place { self.old.place + 1 < 2 ^ 64 }
         requires fits { NotStuck (act insn self.old) }
         ensures does { Does (act insn self.old) result self.new }

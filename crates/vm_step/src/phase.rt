@@ -13,7 +13,7 @@ pub enum Phase {
 }
 
 impl Phase {
-    ghost use Rattle.std.specs.Prelude.{◌≡◌, ◌+◌, ◌≤◌};
+    ghost use Rattle.std.specs.Prelude.{◌≡◌, ℕ, ◌+◌, ◌≤◌};
     ghost use Rattle.vm_step.specs.Run.{run, IsNeverStuck};
     ghost use Rattle.vm_step.specs.Task.{phase_state, fuel_left, pause_at};
 
@@ -21,13 +21,14 @@ impl Phase {
     pub fn run(self, linked: &Linked, k: u64) -> Phase
         requires { IsNeverStuck linked.now (phase_state self) }
         ensures state { phase_state result ≡ run linked.now k (phase_state self) }
+        ensures further { (more : ℕ)
+            → run linked.now more (phase_state result)
+            ≡ run linked.now (k + more) (phase_state self) }
         ensures never_stuck { IsNeverStuck linked.now (phase_state result) }
         ensures fuel { fuel_left (phase_state result) ≤ fuel_left (phase_state self) }
         ensures most { fuel_left (phase_state self) ≤ fuel_left (phase_state result) + k }
-        ensures turn {
-            pause_at (phase_state result) ≡ Pause.Turn
-                → fuel_left (phase_state result) + k ≡ fuel_left (phase_state self)
-        }
+        ensures turn { pause_at (phase_state result) ≡ Pause.Turn
+            → fuel_left (phase_state result) + k ≡ fuel_left (phase_state self) }
     {
         self.after(linked, k)
     }
@@ -40,11 +41,11 @@ impl Phase {
         match self {
             Phase::Running(machine, fuel) => {
                 let most = if k < fuel { k } else { fuel };
-                let dash = machine.turns(linked, most, fuel);
-                match dash.flow {
-                    Flow::Ends(ending) => Phase::Over(ending, dash.fuel),
+                let reached = machine.run(linked, most, fuel);
+                match reached.flow {
+                    Flow::Ends(ending) => Phase::Over(ending, reached.fuel),
                     Flow::Goes if fuel < k => Phase::Over(Ending::Spent, 0),
-                    Flow::Goes => Phase::Running(dash.machine, dash.fuel),
+                    Flow::Goes => Phase::Running(reached.machine, reached.fuel),
                 }
             }
             Phase::Over(ending, fuel) => Phase::Over(ending, fuel),

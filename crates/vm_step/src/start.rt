@@ -150,14 +150,12 @@ fn int_of(value: &Value) -> i32
 pub fn pass(stack: &mut Stack, arguments: &[Value])
     requires room { length arguments.now ≤ length stack.old.frame.locals }
     requires ints { IsTrue (list_all is_int_value arguments.now) }
-    ensures frame {
-        stack.new.frame
-            ≡ record stack.old.frame {
-                locals =
-                    map passed arguments.now
-                        ++ drop (length arguments.now) stack.old.frame.locals;
-            }
-    }
+    ensures frame { stack.new.frame
+        ≡ record stack.old.frame {
+          locals =
+              map passed arguments.now
+              ++ drop (length arguments.now) stack.old.frame.locals;
+        } }
     ensures callers { stack.new.callers ≡ stack.old.callers }
     ensures free { stack.new.free ≡ stack.old.free }
 {

@@ -63,16 +63,12 @@ impl Task {
         limits: Limits,
     ) -> Result<Task, StartFault>
         requires { limits.heap_words + limits.references < 2 ^ 32 }
-        ensures started {
-            IfOk result (λ task. started program.now own method arguments.items limits ≡ Ok task)
-        }
-        ensures refused {
-            IfErr
-                result
-                (λ fault.
-                    fault ≢ StartFault.Memory
-                        → started program.now own method arguments.items limits ≡ Err fault)
-        }
+        ensures started { IfOk result (λ task. started program.now own method arguments.items limits ≡ Ok task) }
+        ensures refused { IfErr
+            result
+            (λ fault.
+            fault ≢ StartFault.Memory
+            → started program.now own method arguments.items limits ≡ Err fault) }
     {
         let linked = program.linked();
         let Some(found) = find(linked, method) else {
@@ -94,15 +90,18 @@ impl Task {
     /// Makes at most `k` instructions, fewer where the task ends. It takes no memory.
     pub fn run(&mut self, program: &Accepted, k: u64) -> Pause
         requires { self.old.program ≡ program.now }
-        ensures task {
-            self.new ≡ record self.old { state = run program.now k self.old.state }
-        }
+        ensures task { self.new ≡ record self.old { state = run program.now k self.old.state } }
         ensures pause { result ≡ pause_at self.new.state }
+
+        // However many instructions more, they lead where all of them at once would have led.
+        ensures further { (more : ℕ)
+            → run program.now more self.new.state
+            ≡ run program.now (k + more) self.old.state }
+
+        // The fuel goes down by at most `k`, and by `k` where the task has not ended.
         ensures fuel { fuel_left self.new.state ≤ fuel_left self.old.state }
         ensures most { fuel_left self.old.state ≤ fuel_left self.new.state + k }
-        ensures turn {
-            result ≡ Pause.Turn → fuel_left self.new.state + k ≡ fuel_left self.old.state
-        }
+        ensures turn { result ≡ Pause.Turn → fuel_left self.new.state + k ≡ fuel_left self.old.state }
         ensures never_stuck { IsNeverStuck program.now self.new.state }
     {
         let phase = mem::replace(&mut self.phase, Phase::Over(Ending::Spent, 0));
@@ -144,9 +143,7 @@ fn opening(
 ) -> Result<Phase, AllocError>
     requires few { length arguments.now ≤ code.now.max_locals }
     requires ints { IsTrue (list_all is_int_value arguments.now) }
-    ensures {
-        IfOk result (λ phase. phase_state phase ≡ opening_state method code.now arguments.now limits)
-    }
+    ensures { IfOk result (λ phase. phase_state phase ≡ opening_state method code.now arguments.now limits) }
 {
     let mut stack = Stack::with_words(alloc, limits.stack_words as usize)?;
     if !stack.push_frame(code.max_locals, code.max_stack) {
@@ -164,14 +161,10 @@ fn opening(
 
 // The classes of which the interpreter throws objects stand in every set.
 fn thrown_classes(linked: &Linked) -> ThrownClasses
-    ensures arithmetic_exception {
-        number_of linked.now.classes (thrown_name Thrown.ArithmeticException)
-            ≡ Some result.arithmetic_exception
-    }
-    ensures stack_overflow_error {
-        number_of linked.now.classes (thrown_name Thrown.StackOverflowError)
-            ≡ Some result.stack_overflow_error
-    }
+    ensures arithmetic_exception { number_of linked.now.classes (thrown_name Thrown.ArithmeticException)
+        ≡ Some result.arithmetic_exception }
+    ensures stack_overflow_error { number_of linked.now.classes (thrown_name Thrown.StackOverflowError)
+        ≡ Some result.stack_overflow_error }
 {
     let _methods = linked.len();
     let set = linked.set();
