@@ -1,7 +1,7 @@
 -- Where each instruction's effect on a type frame exists, and a machine fits the frame, what the instruction leads to is not stuck, and
 -- fits the frame after it. Each lemma on one small step takes what is to hold in the end, and how it follows from the step's result.
-use Rattle.std.proofs.Common.{◌≡◌, ℕ, zero, suc, ◌+◌, ◌<◌, Bool, true, false, List, [], ◌∷◌, length, refl, ap, sym, subst, ◌∙◌, arith, Option, Some, None, inl, inr}
-use Rattle.std.specs.Prelude.{ℤ, pos, nat_lt, slice_get, slice_set, option_and_then, option_map, if◌then◌else◌}
+use Rattle.std.proofs.Common.{◌≡◌, ℕ, zero, suc, ◌<◌, Bool, true, false, List, [], ◌∷◌, length, refl, ap, sym, subst, Option, Some, None}
+use Rattle.std.specs.Prelude.{ℤ, nat_lt, slice_get, slice_set, option_and_then, option_map, if◌then◌else◌}
 use Rattle.std.proofs.lemmas.Bool.{lt-ltb}
 use Rattle.std.proofs.lemmas.Option.{slice_get_within}
 use Rattle.cls_link.specs.declared.linked.MethodId.{MethodId}
@@ -10,10 +10,10 @@ use Rattle.ver_check.specs.Effects as effects
 use Rattle.ver_frames.specs.Frames.{Frame}
 use Rattle.ver_frames.specs.declared.vtype.VType.{VType}
 use Rattle.ver_frames.specs.declared.vtype.VType.TheVariants as vtype
-use Rattle.vm_heap.specs.Tagged.{Tagged, IsInt, Int, Null, Local, Own, Foreign, Fresh, This, Unset}
+use Rattle.vm_heap.specs.Tagged.{Tagged, Int, Null, Local, Own, Foreign, Fresh, This, Unset}
 use Rattle.vm_stack.specs.Frames.{pushed, with_local}
-use Rattle.vm_step.specs.Machine.{Next, On, Ends, Stuck, on_int, on_top, pop, pop_int, push, on_local, load_int, store, with_operands}
-use Rattle.vm_step.specs.Fits.{Fits, AllFit, FitsFrame, IsNull}
+use Rattle.vm_step.specs.Machine.{Next, On, Ends, Stuck, on_int, on_top, pop, pop_int, push, load_int, store, with_operands}
+use Rattle.vm_step.specs.Fits.{Fits, AllFit, FitsFrame}
 use Rattle.vm_step.specs.declared.machine.Machine.{Machine}
 
 -- a step is not stuck, and a machine that it goes on with has the property

@@ -1,7 +1,7 @@
 -- A task begins in a state that is never stuck: its first frame fits the one in which its method begins.
-use Rattle.std.proofs.Common.{◌≡◌, ℕ, zero, suc, ◌+◌, ◌-◌, ◌<◌, ◌≤◌, Bool, true, false, List, [], ◌∷◌, ◌++◌, length, drop, map, refl, ap, sym, subst, ◌∙◌, eqb→eq, le-leb, arith, Option, Some, None, length-append}
+use Rattle.std.proofs.Common.{◌≡◌, ℕ, zero, suc, ◌-◌, ◌<◌, ◌≤◌, Bool, true, false, List, [], ◌∷◌, ◌++◌, length, drop, map, refl, ap, sym, subst, ◌∙◌, eqb→eq, le-leb, arith, Option, Some, None, length-append}
 use Rattle.std.proofs.lemmas.List.{length-map}
-use Rattle.std.specs.Prelude.{not, ◌&&◌, ◌==◌, nat_le, slice_get, replicate, bytes_eq, codes, option_and_then, option_map, if◌then◌else◌, IsTrue}
+use Rattle.std.specs.Prelude.{not, ◌&&◌, ◌==◌, nat_le, slice_get, replicate, bytes_eq, codes, option_map, if◌then◌else◌, IsTrue}
 use Rattle.std.specs.List.{list_all}
 use Rattle.std.specs.Option.{option_map_or}
 use Rattle.cf_pool.specs.declared.types.ElementType.{ElementType}
@@ -10,23 +10,19 @@ use Rattle.cf_pool.specs.declared.types.FieldType.{FieldType}
 use Rattle.cf_reader.specs.declared.class_file.Code.{Code}
 use Rattle.cf_reader.specs.declared.class_file.Method.{Method}
 use Rattle.cls_link.specs.Links.{Links}
-use Rattle.cls_link.specs.declared.linked.LinkedCode.{LinkedCode}
-use Rattle.cls_link.specs.declared.linked.LinkedInsn.{LinkedInsn}
-use Rattle.cls_link.specs.declared.linked.LinkedMethod.{LinkedMethod}
 use Rattle.cls_link.specs.declared.linked.MethodId.{MethodId}
 use Rattle.cls_set.specs.declared.class.Class.{Class}
 use Rattle.ver_check.specs.Bodies.{Body, body_of, declared_at as frame_declared_at}
-use Rattle.ver_check.specs.Typing.{IsTyping}
-use Rattle.ver_frames.specs.Frames.{Frame, filled}
+use Rattle.ver_frames.specs.Frames.{filled}
 use Rattle.ver_frames.specs.Method.{Subject, is_static, opening, argument_types, receiver_types}
 use Rattle.ver_frames.specs.Types.{field_vtype, element_type}
 use Rattle.ver_frames.specs.declared.vtype.VType.{VType}
 use Rattle.ver_frames.specs.declared.vtype.VType.TheVariants as vtype
-use Rattle.vm_heap.specs.Tagged.{Tagged, Int, Unset}
+use Rattle.vm_heap.specs.Tagged.{Tagged, Unset}
 use Rattle.vm_heap.specs.declared.values.Value.{Value}
 use Rattle.vm_heap.specs.declared.values.Value.TheVariants as value
 use Rattle.vm_step.specs.Fits.{Fits, AllFit, FitsFrame}
-use Rattle.vm_step.specs.Run.{State, Running, Over, code_of, run, IsNotLost, IsNeverStuck}
+use Rattle.vm_step.specs.Run.{Running, Over, code_of, IsNotLost, IsNeverStuck}
 use Rattle.vm_step.specs.Start.{is_startable, startable, is_int_element, is_int_type, takes_ints, is_int_value, fill_parameters, refusal, passed, opening_frame, opening_state}
 use Rattle.vm_step.specs.Subjects.{subject_at, Declared, declared_of, declared_at, IsTypeSafeMethod, AreTypeSafe}
 use Rattle.vm_step.specs.Found.{shown}

@@ -1,7 +1,7 @@
 -- Arguments that are passed one after another.
 use Rattle.std.proofs.Common.{◌≡◌, ℕ, zero, suc, ◌+◌, ◌<◌, List, [], ◌∷◌, ◌++◌, length, get_or, take, drop, map, refl, ap, arith, add-one}
 use Rattle.std.proofs.Math.ListN.{set}
-use Rattle.vm_heap.specs.Tagged.{Tagged, Unset}
+use Rattle.vm_heap.specs.Tagged.{Tagged}
 use Rattle.vm_heap.specs.declared.values.Value.{Value}
 use Rattle.vm_step.specs.Start.{passed}
 

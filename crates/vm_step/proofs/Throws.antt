@@ -1,8 +1,8 @@
 -- The classes of which the interpreter throws objects stand in every class set.
-use Rattle.std.proofs.Common.{◌≡◌, ℕ, ◌<◌, List, [], length, lit<}
-use Rattle.std.specs.Prelude.{IsSome, slice_index_or}
+use Rattle.std.proofs.Common.{[], lit<}
+use Rattle.std.specs.Prelude.{IsSome}
 use Rattle.cls_link.specs.Links.{Links, AreLinks}
-use Rattle.cls_set.specs.BuiltIn.{BuiltIn, built_ins, built_in, Concrete}
+use Rattle.cls_set.specs.BuiltIn.{built_ins, built_in}
 use Rattle.cls_set.specs.Classes.{number_of}
 use Rattle.vm_step.specs.Task.{thrown_name}
 use Rattle.vm_step.specs.declared.ending.Thrown.{Thrown}

@@ -1,5 +1,5 @@
 -- A machine in a type safe method is never stuck: one clause for each instruction, in the nesting of its effect.
-use Rattle.std.proofs.Common.{◌≡◌, ℕ, zero, suc, ◌+◌, ◌-◌, ◌<◌, Bool, true, false, List, [], ◌∷◌, length, refl, ap, sym, subst, ◌∙◌, arith, add-one, get_or, Option, Some, None}
+use Rattle.std.proofs.Common.{◌≡◌, ℕ, zero, suc, ◌+◌, ◌<◌, Bool, true, false, List, [], ◌∷◌, length, refl, sym, subst, arith, add-one, get_or, Option, Some, None}
 use Rattle.std.specs.Prelude.{ℤ, pos, slice_get, option_and_then, option_map, MatchOption, IsSomeAnd}
 use Rattle.std.specs.Int.{int_wrapping_add}
 use mir.Syntax.{w32}
@@ -12,7 +12,7 @@ use Rattle.cls_link.specs.declared.linked.LinkedInsn.{LinkedInsn}
 use Rattle.cls_link.specs.declared.linked.LinkedInsn.TheVariants as insn
 use Rattle.cls_link.specs.declared.linked.MethodId.{MethodId}
 use Rattle.cls_set.specs.declared.class.Class.{Class}
-use Rattle.ver_check.specs.Bodies.{Body, insn_at, declared_at, frame_at_offset}
+use Rattle.ver_check.specs.Bodies.{Body, declared_at, frame_at_offset}
 use Rattle.ver_check.specs.Effects as effects
 use Rattle.ver_check.specs.Typing.{Enters, Lands, IsFineAt, IsTyping}
 use Rattle.ver_frames.specs.Assignable.{IsAssignable, AreAssignable, IsFrameAssignable}
@@ -22,7 +22,7 @@ use Rattle.ver_frames.specs.declared.vtype.VType.TheVariants as vtype
 use Rattle.vm_heap.specs.Tagged.{Tagged, Int}
 use Rattle.vm_step.specs.Arithmetic.{unary_result, binary_result, condition_holds}
 use Rattle.vm_step.specs.Machine.{Next, On, Ends, Stuck, act, go_on, jump, branch, pop, pop_int, push, store, push_result}
-use Rattle.vm_step.specs.Run.{State, Running, Over, code_of, next, step, run, after, IsNotLost, IsNeverStuck}
+use Rattle.vm_step.specs.Run.{Running, Over, code_of, next, step, run, after, IsNotLost, IsNeverStuck}
 use Rattle.vm_step.specs.Fits.{Fits, AllFit, FitsFrame}
 use Rattle.vm_step.specs.declared.ending.Ending.{Ending}
 use Rattle.vm_step.specs.declared.ending.Ending.TheVariants.{ReturnedInt, Spent}

@@ -1,5 +1,5 @@
 -- How tasks start (JVMS 5.2 for the command line's class; the rest are rules of this project).
-use Rattle.std.specs.Prelude.{◌≡◌, ℕ, ◌+◌, ◌-◌, Bool, true, false, not, ◌&&◌, ◌||◌, ◌==◌, nat_le, if◌then◌else◌, Option, Some, None, Result, Ok, Err, List, [], ◌∷◌, ◌++◌, length, map, replicate, bytes_eq, codes, option_map, option_and_then, is_some}
+use Rattle.std.specs.Prelude.{◌-◌, Bool, true, false, not, ◌&&◌, ◌==◌, nat_le, if◌then◌else◌, Option, Some, None, Result, Ok, Err, List, [], ◌∷◌, ◌++◌, length, map, replicate, bytes_eq, codes, option_and_then}
 use Rattle.std.specs.List.{list_all}
 use Rattle.std.specs.Option.{option_map_or}
 use Rattle.cf_pool.specs.declared.types.ElementType.{ElementType}
@@ -12,7 +12,7 @@ use Rattle.cls_link.specs.Links.{Links}
 use Rattle.cls_link.specs.declared.linked.MethodId.{MethodId}
 use Rattle.uuid.specs.declared.Uuid.{Uuid}
 use Rattle.ver_frames.specs.Method.{is_static}
-use Rattle.vm_heap.specs.Tagged.{Tagged, Int, Null, Unset}
+use Rattle.vm_heap.specs.Tagged.{Tagged, Int, Unset}
 use Rattle.vm_heap.specs.declared.values.Value.{Value}
 use Rattle.vm_heap.specs.declared.values.Value.TheVariants as value
 use Rattle.vm_stack.specs.Frames.{Frame, empty_frame, frame_cost}

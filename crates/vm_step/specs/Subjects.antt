@@ -1,5 +1,5 @@
 -- The methods of a linked class set, as checking sees them.
-use Rattle.std.specs.Prelude.{◌≡◌, ℕ, Bool, Option, Some, None, Ok, List, length, slice_get, option_and_then, option_map}
+use Rattle.std.specs.Prelude.{◌≡◌, ℕ, Option, Some, Ok, List, length, slice_get, option_and_then, option_map}
 use Rattle.cf_reader.specs.declared.class_file.Code.{Code}
 use Rattle.cf_reader.specs.declared.class_file.Method.{Method}
 use Rattle.cls_link.specs.Links.{Links}
@@ -8,7 +8,7 @@ use Rattle.cls_link.specs.declared.linked.LinkedInsn.{LinkedInsn}
 use Rattle.cls_link.specs.declared.linked.LinkedMethod.{LinkedMethod}
 use Rattle.cls_link.specs.declared.linked.MethodId.{MethodId}
 use Rattle.cls_set.specs.declared.class.Class.{Class}
-use Rattle.ver_check.specs.Bodies.{Body, body_of}
+use Rattle.ver_check.specs.Bodies.{body_of}
 use Rattle.ver_check.specs.Typing.{IsTypeSafe}
 use Rattle.ver_frames.specs.Frames.{Frame}
 use Rattle.ver_frames.specs.Method.{Subject}

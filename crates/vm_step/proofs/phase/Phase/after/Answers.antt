@@ -1,8 +1,8 @@
-use Rattle.std.proofs.Common.{◌≡◌, ◌-◌, ◌≤◌, ap, sym, subst, ◌∙◌, arith}
-use Rattle.vm_step.specs.Run.{State, Running, Over, run}
+use Rattle.std.proofs.Common.{◌≡◌, ◌-◌, ◌≤◌, ap, sym, ◌∙◌, arith}
+use Rattle.vm_step.specs.Run.{Running, Over, run}
 use Rattle.vm_step.specs.Task.{phase_state}
 use Rattle.vm_step.specs.Reached.{state_with}
-use Rattle.vm_step.proofs.Runs.{run_over, run_ended, run_spent}
+use Rattle.vm_step.proofs.Runs.{run_ended, run_spent}
 use Rattle.vm_step.proofs.phase.Phase.after.Goals as goal
 use Rattle.vm_step.proofs.phase.Phase.after.Goals.{then-k-fuel, else-k-fuel}
 
