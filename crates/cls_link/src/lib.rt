@@ -9,7 +9,7 @@ pub use cls_set::{
 };
 pub use fault::{LinkFault, LinkRule};
 pub use linked::{LinkedCode, LinkedInsn, LinkedMethod, MethodId};
-pub use links::Linked;
+pub use links::{Linked, link};
 
 mod fault;
 mod linked;
