@@ -23,4 +23,6 @@ mod length;
 mod message;
 mod ranges;
 mod reader;
+#[cfg(test)]
+mod tests;
 mod writing;
