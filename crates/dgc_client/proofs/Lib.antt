@@ -1,1 +1,2 @@
 pub mod LeaseLemmas
+pub mod TableLemmas

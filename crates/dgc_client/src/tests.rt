@@ -1,5 +1,7 @@
 use super::*;
 use std::test::Fail;
+use uuid::Uuid;
+use vm_heap::ObjId;
 
 const DIRTY: Option<Due> = Some(Due::Dirty);
 
@@ -97,5 +99,39 @@ fn a_failed_clean_call_is_repeated_for_the_longest_lease(rt: HostRuntime) -> Res
     lease.clean_failed(2);
     lease.moment(1060);
     assert_eq!(rt; lease.due(), None);
+    Ok(())
+}
+
+#[test]
+fn each_reference_of_a_table_has_its_own_lease(rt: HostRuntime) -> Result<(), Fail> {
+    let space = Uuid::from_u64_pair(0, 7);
+    let first = ForeignId {
+        space,
+        id: ObjId(1),
+    };
+    let second = ForeignId {
+        space,
+        id: ObjId(2),
+    };
+    let mut leases = Leases::new(rt.alloc());
+    leases.hold(&first)?;
+    leases.hold(&second)?;
+    leases.dirty_made(&first, 1)?;
+    leases.dirty_sent(&first, 1);
+    leases.dirty_answered(&first, 1, 100);
+    assert_eq!(rt; leases.lease(&first).due(), None);
+    assert_eq!(rt; leases.lease(&second).due(), DIRTY);
+    leases.moment(50);
+    assert_eq!(rt; leases.lease(&first).due(), DIRTY);
+    leases.dirty_made(&first, 2)?;
+    leases.dirty_failed(&first, 2);
+    leases.drop_holder(&first);
+    leases.moment(60);
+    assert_eq!(rt; leases.lease(&first).due(), STRONG);
+    leases.clean_made(&first, 3)?;
+    leases.clean_failed(&first, 3);
+    leases.clean_answered(&first, 3);
+    leases.moment(60);
+    assert_eq!(rt; leases.lease(&first).due(), STRONG);
     Ok(())
 }

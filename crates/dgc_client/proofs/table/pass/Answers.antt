@@ -1,0 +1,13 @@
+use Rattle.std.proofs.Common.{◌≡◌, ◌+◌, ◌++◌, ℕ, suc, List, take, drop, length, arith, ap, sym, ◌∙◌, subst}
+use Rattle.std.specs.Prelude.{map}
+use Rattle.indexmap.specs.IndexMap.{set_value_at}
+use Rattle.dgc_client.specs.declared.lease.ClientLease.{ClientLease}
+use Rattle.dgc_client.specs.declared.table.ForeignId.{ForeignId}
+use Rattle.dgc_client.specs.Lease.{after_moment}
+use Rattle.dgc_client.proofs.TableLemmas.{pass-next}
+use Rattle.dgc_client.proofs.table.pass.Goals as goal
+
+pub loop-at-preserved : goal.loop-at-preserved
+loop-at-preserved c =
+    pass-next c.args.moment c.args.references.now.entries c.loop-at.references.entries c.loop-at.at c.index.result.now c.moment.new.self
+    (omega arith) c.loop-at.invariant (c.index.ensures) c.moment.ensures
