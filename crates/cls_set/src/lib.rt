@@ -17,3 +17,5 @@ mod class_set;
 mod fault;
 mod members;
 mod resolving;
+#[cfg(test)]
+mod tests;
