@@ -9,11 +9,18 @@ use Rattle.cf_pool.specs.declared.types.ElementType.TheVariants as element
 use Rattle.cf_pool.specs.declared.types.FieldType.{FieldType}
 use Rattle.cf_reader.specs.declared.class_file.Code.{Code}
 use Rattle.cf_reader.specs.declared.class_file.Method.{Method}
-use Rattle.cls_link.specs.Links.{Links}
+use Rattle.cls_link.specs.Links.{Links, AreLinks, declared_methods}
 use Rattle.cls_link.specs.declared.linked.MethodId.{MethodId}
 use Rattle.cls_set.specs.declared.class.Class.{Class}
+use Rattle.ver_check.proofs.Accepts.{subject_listed}
+use Rattle.ver_check.proofs.Links.{method_listed}
+use Rattle.ver_check.specs.Acceptance.{IsSafe, IsSafeMethod, AreSafe, subject_of}
+use Rattle.ver_check.specs.Listed.{IsListed}
+use Rattle.ver_check.specs.Typing.{IsTypeSafe}
+use Rattle.std.specs.Prelude.{MatchOption, IfSome}
+use Rattle.std.proofs.lemmas.Option.{slice_get_within}
 use Rattle.ver_check.specs.Bodies.{Body, body_of, declared_at as frame_declared_at}
-use Rattle.ver_frames.specs.Frames.{filled}
+use Rattle.ver_frames.specs.Frames.{Frame, filled}
 use Rattle.ver_frames.specs.Method.{Subject, is_static, opening, argument_types, receiver_types}
 use Rattle.ver_frames.specs.Types.{field_vtype, element_type}
 use Rattle.ver_frames.specs.declared.vtype.VType.{VType}
@@ -24,7 +31,7 @@ use Rattle.vm_heap.specs.declared.values.Value.TheVariants as value
 use Rattle.vm_step.specs.Fits.{Fits, AllFit, FitsFrame}
 use Rattle.vm_step.specs.Run.{Running, Over, code_of, IsNotLost, IsNeverStuck}
 use Rattle.vm_step.specs.Start.{is_startable, startable, is_int_element, is_int_type, takes_ints, is_int_value, fill_parameters, refusal, passed, opening_frame, opening_state}
-use Rattle.vm_step.specs.Subjects.{subject_at, Declared, declared_of, declared_at, IsTypeSafeMethod, AreTypeSafe}
+use Rattle.vm_step.specs.Subjects.{subject_at, Declared, declared_of, declared_at}
 use Rattle.vm_step.specs.Found.{shown}
 use Rattle.vm_step.specs.declared.fault.StartFault.{StartFault}
 use Rattle.vm_step.specs.declared.fault.StartFault.TheVariants as fault
@@ -48,17 +55,40 @@ maps_some : {A B : Type 0} (o : Option A) (f : A → B) (b : B) → option_map f
 maps_some None f b e = absurd (cc)
 maps_some (Some a) f b e = (a, (refl, cc))
 
+insns_of : (s t : Subject) → ◌≡◌ {A = Option Subject} (Some s) (Some t) → s.linked.insns ≡ t.linked.insns
+insns_of s t e = let same : s ≡ t = cc in ap (λ (x : Subject). x.linked.insns) same
+
 -- the code that runs is the one that was checked
 code_of-subject : (links : Links) (id : MethodId) (m : Subject) → subject_at links id ≡ Some m → code_of links id ≡ m.linked.insns
-unfolding subject_at code_of
+unfolding subject_at subject_of code_of
 code_of-subject links id m e =
     let entry = passes_both (slice_get links.methods id.0) _ m e in
-    let class = passes_both (slice_get links.classes entry.0.class.0) _ m entry.1.1 in
+    let linked = passes_both entry.0.code _ m entry.1.1 in
+    let class = passes_both (slice_get links.classes entry.0.class.0) _ m linked.1.1 in
     let method = passes_both (slice_get class.0.file.methods entry.0.place) _ m class.1.1 in
     let code = passes_both method.0.code _ m method.1.1 in
-    let linked = maps_some entry.0.code _ m code.1.1 in
-    let same : linked.0.insns ≡ m.linked.insns = ap (λ (s : Subject). s.linked.insns) linked.1.1 in
+    let same : linked.0.insns ≡ m.linked.insns = insns_of _ m code.1.1 in
     rw (entry.1.0, linked.1.0) same
+
+-- what checking found of a method with code
+record IsTypeSafeMethod (m : Subject) : Type 0 where
+  declared : List (ℕ × Frame)
+  listed : length m.linked.offsets ≡ length m.linked.insns
+  safe : IsTypeSafe (body_of m declared)
+
+safe_subject : (links : Links) (id : MethodId) (m : Subject) → AreLinks links → AreSafe links → subject_at links id ≡ Some m → IsTypeSafeMethod m
+unfolding subject_at AreSafe
+safe_subject links id m are safe e =
+    let entry = passes_both (slice_get links.methods id.0) (subject_of links.classes) m e in
+    let within : id.0 < length links.methods = slice_get_within links.methods id.0 entry.0 entry.1.0 in
+    let at : MatchOption (Some entry.0) (Unit {0}) (IsSafeMethod links.classes) = rw entry.1.0 at (safe id.0 within) in
+    let found : MatchOption (Some m) (Unit {0}) IsSafe = rw entry.1.1 at at in
+    let code : IfSome entry.0.code IsListed = method_listed (declared_methods links.classes) links.methods are.methods id.0 entry.0 entry.1.0 in
+    record {
+      declared = found.declared;
+      listed = (subject_listed links.classes entry.0 m entry.1.1 code).listed;
+      safe = found.body;
+    }
 
 element_type-int : (classes : List Class) (e : ElementType) → is_int_element e ≡ true → element_type classes e ≡ vtype.Int
 unfolding element_type
@@ -196,19 +226,19 @@ pub record Begins (links : Links) (id : MethodId) (m : Declared) (arguments : Li
   pub ints : IsTrue (list_all is_int_value arguments)
   pub never_stuck : IsNeverStuck links (opening_state id m.code arguments limits)
 
-pub startable-begins : (links : Links) (id : MethodId) (m : Declared) (arguments : List Value) (limits : Limits) → AreTypeSafe links → startable links id ≡ Some m
+pub startable-begins : (links : Links) (id : MethodId) (m : Declared) (arguments : List Value) (limits : Limits) → AreLinks links → AreSafe links → startable links id ≡ Some m
     → refusal m.method arguments ≡ None → Begins links id m arguments limits
 unfolding declared_at
-startable-begins links id m arguments limits safe found taken =
+startable-begins links id m arguments limits are safe found taken =
     let at = passes_both (declared_at links id) (λ d. if is_startable d then Some d else None) m found in
     let passed = tested at.0 (is_startable at.0) refl at.1.1 in
     let subject = maps_some (subject_at links id) declared_of at.0 at.1.0 in
     let given : Accepts subject.0.method arguments = subst (λ (d : Declared). Accepts d.method arguments) (sym (subject.1.1 ∙ passed.0)) (accepts m.method arguments taken) in
     let some : 0 < length subject.0.linked.insns = subst (λ (d : Declared). 0 < length d.insns) (sym subject.1.1) (startable-insns at.0 passed.1) in
     let begins : Begins links id (declared_of subject.0) arguments limits = record {
-      few = few links id subject.0 arguments limits subject.1.0 (safe.methods id subject.0 subject.1.0) given some;
+      few = few links id subject.0 arguments limits subject.1.0 (safe_subject links id subject.0 are safe subject.1.0) given some;
       ints = given.ints;
-      never_stuck = opening-IsNeverStuck links id subject.0 arguments limits subject.1.0 (safe.methods id subject.0 subject.1.0) given some;
+      never_stuck = opening-IsNeverStuck links id subject.0 arguments limits subject.1.0 (safe_subject links id subject.0 are safe subject.1.0) given some;
     } in
     subst (λ (d : Declared). Begins links id d arguments limits) (subject.1.1 ∙ passed.0) begins
   where
@@ -240,9 +270,9 @@ opening_runs id code arguments limits fresh entry s new enough pushed frame call
 
 -- the same, of what a start found and did not refuse
 pub found_begins : (links program : Links) (id : MethodId) (r : Option Found) (found : Found) (why : Option StartFault) (given arguments : List Value) (limits : Limits)
-    → links ≡ program → AreTypeSafe program → option_map shown r ≡ startable links id → r ≡ Some found → why ≡ refusal found.method.now given → why ≡ None → given ≡ arguments
+    → links ≡ program → AreLinks links → AreSafe program → option_map shown r ≡ startable links id → r ≡ Some found → why ≡ refusal found.method.now given → why ≡ None → given ≡ arguments
     → Begins program id (shown found) arguments limits
-found_begins links program id r found why given arguments limits same safe is was refuses none args =
+found_begins links program id r found why given arguments limits same are safe is was refuses none args =
     let at : startable program id ≡ Some (shown found) = rw (← same) (sym is ∙ ap (option_map shown) was) in
     let accepted : refusal found.method.now arguments ≡ None = rw (← args) (sym refuses ∙ none) in
-    startable-begins program id (shown found) arguments limits safe at accepted
+    startable-begins program id (shown found) arguments limits (subst AreLinks same are) safe at accepted

@@ -5,13 +5,13 @@
 //! accepted code, is what the contracts of `Task` say.
 #![tactic(auto)]
 
-pub use accepted::Accepted;
 pub use fault::StartFault;
 pub use limits::Limits;
 pub use outcome::{Outcome, Pause};
 pub use task::Task;
+pub use ver_check::{Accepted, MethodId, Numbered};
+pub use vm_heap::{ClassId, ObjId, Ref, Row, Uuid, Value};
 
-mod accepted;
 mod arithmetic;
 mod ending;
 mod fault;

@@ -2,6 +2,7 @@
 ghost use Rattle.std.specs.Prelude.{◌≡◌, ◌+◌, ◌≤◌, ◌<◌, ◌↔◌, ◌++◌, Bool, IsTrue, length, map, drop, true, option_map, bytes_eq, codes};
 ghost use Rattle.std.specs.Option.{option_map_or};
 ghost use Rattle.std.specs.List.{list_all};
+ghost use Rattle.cls_link.specs.Links.{AreLinks};
 ghost use Rattle.ver_frames.specs.Method.{is_static};
 ghost use Rattle.vm_step.specs.Start.{startable, is_int_type, takes_ints, is_int_value, fill_parameters, refusal, passed};
 ghost use Rattle.vm_step.specs.Found.{shown};
@@ -25,7 +26,8 @@ pub struct Found<'a> {
 
 /// The method at which a task may start: one with code, and no `<init>`.
 pub fn find(linked: &Linked, id: MethodId) -> Option<Found<'_>>
-    ensures { option_map shown result ≡ startable linked.now id }
+    ensures found { option_map shown result ≡ startable linked.now id }
+    ensures links { AreLinks linked.now }
 {
     let found = look_up(linked, id)?;
     if is_initializer(found.method) || found.insns.is_empty() {
@@ -40,9 +42,10 @@ fn is_initializer(method: &Method) -> bool
     method.name.as_bytes() == b"<init>".as_slice()
 }
 
-#[tactic(auto, unfolding(crate::specs::Subjects::subject_at, crate::specs::Subjects::declared_at))]
+#[tactic(auto, unfolding(crate::specs::Subjects::subject_at, crate::specs::Subjects::declared_at, ver_check::specs::Acceptance::subject_of))]
 fn look_up(linked: &Linked, id: MethodId) -> Option<Found<'_>>
-    ensures { option_map shown result ≡ declared_at linked.now id }
+    ensures found { option_map shown result ≡ declared_at linked.now id }
+    ensures links { AreLinks linked.now }
 {
     if id.0 as usize >= linked.len() {
         return None;

@@ -6,7 +6,6 @@ ghost use Rattle.vm_step.specs.Start.{is_int_value, opening_state, started};
 ghost use Rattle.vm_step.specs.Run.{run, IsNeverStuck};
 ghost use Rattle.vm_step.specs.Task.{pause_at, fuel_left, outcome_at, phase_state, thrown_name};
 
-use crate::accepted::Accepted;
 use crate::ending::{Ending, Thrown};
 use crate::fault::StartFault;
 use crate::limits::Limits;
@@ -19,6 +18,7 @@ use std::alloc::{AllocError, Global};
 use std::marker::Model;
 use std::mem;
 use std::snapshot::Snapshot;
+use ver_check::Accepted;
 use vm_heap::{ClassId, Uuid, Value};
 use vm_stack::Stack;
 

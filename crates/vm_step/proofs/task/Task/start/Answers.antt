@@ -6,14 +6,14 @@ pub opening-requires-clause-few : goal.opening-requires-clause-few
 opening-requires-clause-few c =
     let begins : Begins c.args.program.now c.args.method (shown c.in-Some.found) c.args.arguments.items c.args.limits =
     found_begins c.linked-linked.result.now c.args.program.now c.args.method c.find.result c.in-Some.found c.refuses.result c.deref.result.now c.args.arguments.items c.args.limits
-    c.linked-linked.ensures.linked c.linked-linked.ensures.safe c.find.ensures c.in-Some.is c.refuses.ensures c.in-None.is c.deref.ensures.value in
+    c.linked-linked.ensures.linked c.find.ensures.links c.linked-linked.ensures.safe c.find.ensures.found c.in-Some.is c.refuses.ensures c.in-None.is c.deref.ensures.value in
     rw c.deref-2.ensures.value begins.few
 
 pub invariant_of-result : goal.invariant_of-result
 invariant_of-result c =
     let begins : Begins c.args.program.now c.args.method (shown c.in-Some.found) c.args.arguments.items c.args.limits =
     found_begins c.linked-linked.result.now c.args.program.now c.args.method c.find.result c.in-Some.found c.refuses.result c.deref.result.now c.args.arguments.items c.args.limits
-    c.linked-linked.ensures.linked c.linked-linked.ensures.safe c.find.ensures c.in-Some.is c.refuses.ensures c.in-None.is c.deref.ensures.value in
+    c.linked-linked.ensures.linked c.find.ensures.links c.linked-linked.ensures.safe c.find.ensures.found c.in-Some.is c.refuses.ensures c.in-None.is c.deref.ensures.value in
     record {
       arithmetic_exception = rw (c.of.ensures, ← c.linked-linked.ensures.linked) c.thrown_classes.ensures.arithmetic_exception;
       stack_overflow_error = rw (c.of.ensures, ← c.linked-linked.ensures.linked) c.thrown_classes.ensures.stack_overflow_error;
