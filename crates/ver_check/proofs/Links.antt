@@ -3,6 +3,7 @@ use Rattle.std.proofs.Common.{◌≡◌, ℕ, zero, suc, ◌+◌, ◌≤◌, Boo
 use Rattle.std.specs.Prelude.{◌==◌, if◌then◌else◌, map, slice_get, option_and_then, MatchOption, IsSomeAnd, IfSome}
 use Rattle.std.specs.List.{AllByRecursion, AllZip}
 use Rattle.std.specs.List.Sorted.{IsStrictlyIncreasing}
+use Rattle.cf_insns.proofs.Exact.{listing_reads}
 use Rattle.cf_insns.proofs.Listings.{listing_from-rises}
 use Rattle.cf_insns.specs.Listing.{Listing, offsets, Rises}
 use Rattle.cf_insns.specs.Reading.{◌>>=◌, reading, listing_from, if_none_astray}
@@ -49,7 +50,7 @@ linked_long listing insns linked =
 
 code_listed : (bytes : List ℕ) (code : LinkedCode) → IsLinkedCode bytes code → IsListed code
 code_listed bytes code linked =
-    let rises = increasing (offsets linked.listing) (read_rises bytes linked.listing linked.read) in
+    let rises = increasing (offsets linked.listing) (read_rises bytes linked.listing (listing_reads bytes linked.listing linked.read)) in
     record {
       rising = subst (λ (ns : List ℕ). IsStrictlyIncreasing ns) (sym linked.offsets_of) rises;
       listed = ap length linked.offsets_of ∙ map_long (λ (e : ℕ × Insn). e.0) linked.listing ∙ sym (linked_long linked.listing code.insns linked.insns);
