@@ -2,10 +2,14 @@
 
 ghost use Rattle.std.specs.Prelude.{◌≡◌, ◌<◌, ◌≤◌};
 
+use super::texts::{outcome_report, refusal_report, unreadable_report};
 use super::words::{Request, RunRequest, request_of};
-use super::{Folder, Report, Status};
+use super::{ClassBytes, Content, Folder, FolderFault, Report, Status, run_classes};
+use cf_reader::{LoadFault, read_bytes};
+use dev_io::StdSource;
 use std::alloc::{AllocError, Global};
 use std::io::{Read, Write};
+use vm_step::Limits;
 
 /// Does what the words ask for, of which the first is the program's own name, and answers the exit
 /// status. What it prints is made whole before its first byte is written.
@@ -16,7 +20,7 @@ use std::io::{Read, Write};
 pub fn command<F: Folder, I: Read, O: Write, E: Write>(
     alloc: Global,
     words: &[String],
-    _folder: &F,
+    folder: &F,
     _input: &mut I,
     out: &mut O,
     err: &mut E,
@@ -27,7 +31,7 @@ pub fn command<F: Folder, I: Read, O: Write, E: Write>(
     ensures answers { result < 2 → E.contents err.new ≡ E.contents err.old }
     ensures refused { result ≡ 2 → O.contents out.new ≡ O.contents out.old }
 {
-    match report_of(alloc, words) {
+    match report_of(alloc, words, folder) {
         Ok(report) => report.write(out, err).code(),
         Err(AllocError) => {
             let _ = err.write_all(b"no memory\n");
@@ -36,9 +40,8 @@ pub fn command<F: Folder, I: Read, O: Write, E: Write>(
     }
 }
 
-fn report_of<'a>(alloc: Global, words: &'a [String]) -> Result<Report, AllocError> {
-    let request: Request<'a> = request_of(alloc, words)?;
-    match request {
+fn report_of<F: Folder>(alloc: Global, words: &[String], folder: &F) -> Result<Report, AllocError> {
+    match request_of(alloc, words)? {
         Request::Tell(text) => Ok(Report {
             text: text.into_bytes(),
             status: Status::Done,
@@ -47,13 +50,58 @@ fn report_of<'a>(alloc: Global, words: &'a [String]) -> Result<Report, AllocErro
             text: text.into_bytes(),
             status: Status::Failed,
         }),
-        Request::Run(request) => run(alloc, request),
+        Request::Run(request) => run_report(alloc, request, folder),
     }
 }
 
-fn run(alloc: Global, _request: RunRequest) -> Result<Report, AllocError> {
-    Ok(Report {
-        text: Vec::from_slice(alloc, b"error: the command 'run' has not come yet\n")?,
-        status: Status::Failed,
-    })
+fn run_report<F: Folder>(
+    alloc: Global,
+    request: RunRequest,
+    folder: &F,
+) -> Result<Report, AllocError> {
+    let paths = match folder.paths(request.folder) {
+        Ok(paths) => paths,
+        Err(FolderFault::CannotRead(path)) => return unreadable_report(alloc, &path),
+        Err(FolderFault::Memory) => return Err(AllocError),
+    };
+    let files = read_contents(alloc, folder, paths)?;
+    let mut limits = Limits::default();
+    if let Some(fuel) = request.fuel {
+        limits.fuel = fuel.min(i64::MAX as u64);
+    }
+    let class = request.class.as_bytes();
+    let method = request.method.as_bytes();
+    match run_classes(alloc, &files, class, method, request.arguments, limits) {
+        Ok(outcome) => outcome_report(alloc, &outcome),
+        Err(refusal) => refusal_report(alloc, &files, &refusal),
+    }
+}
+
+// What the devices of the files give, up to the first that fails.
+fn read_contents<F: Folder>(
+    alloc: Global,
+    folder: &F,
+    paths: Vec<String>,
+) -> Result<Vec<ClassBytes>, AllocError> {
+    let mut files = Vec::new(alloc);
+    for path in paths {
+        let content = read_content(alloc, folder, &path)?;
+        let is_last = matches!(content, Content::Unreadable);
+        files.push(ClassBytes { path, content })?;
+        if is_last {
+            break;
+        }
+    }
+    Ok(files)
+}
+
+fn read_content<F: Folder>(alloc: Global, folder: &F, path: &str) -> Result<Content, AllocError> {
+    let Ok(file) = folder.open(path) else {
+        return Ok(Content::Unreadable);
+    };
+    match read_bytes(alloc, &mut StdSource::new(file)) {
+        Ok(bytes) => Ok(Content::Bytes(bytes)),
+        Err(LoadFault::Device) => Ok(Content::Unreadable),
+        Err(LoadFault::Read(_)) => Err(AllocError),
+    }
 }

@@ -1,18 +1,25 @@
-//! The program as a library: its words, the folder that it reads, and what it prints.
+//! The program as a library: its words, the folder that it reads, what it runs and what it
+//! prints.
 #![tactic(auto)]
 
 pub use argument::argument_of;
 pub use entry::command;
 pub use folder::{Disk, Folder, FolderFault};
+pub use refusal::Refusal;
 pub use report::Report;
+pub use running::{ClassBytes, Content, RunOutcome, run_classes};
 pub use status::Status;
 pub use words::{Request, RunRequest, request_of};
 
 mod argument;
 mod entry;
 mod folder;
+mod line;
+mod refusal;
 mod report;
+mod running;
 mod status;
 #[cfg(test)]
 mod tests;
+mod texts;
 mod words;

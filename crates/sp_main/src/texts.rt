@@ -1,0 +1,162 @@
+//! What is printed of outcomes and refusals.
+
+use super::line::Line;
+use super::{ClassBytes, Refusal, Report, RunOutcome, Status};
+use cf_reader::{LoadFault, Numbered, ReadFault, Text};
+use cls_link::LinkFault;
+use cls_set::SetFault;
+use std::alloc::{AllocError, Global};
+use ver_check::CheckFault;
+use vm_heap::Value;
+use vm_step::StartFault;
+
+/// What is reported of how a method ended.
+pub fn outcome_report(alloc: Global, outcome: &RunOutcome) -> Result<Report, AllocError> {
+    let line = Line::new(alloc);
+    match outcome {
+        RunOutcome::Returned(None) => line.text("returned")?.report(Status::Done),
+        RunOutcome::Returned(Some(value)) => {
+            with_value(line.text("returned ")?, value)?.report(Status::Done)
+        }
+        RunOutcome::Threw(class) => line
+            .text("threw ")?
+            .bytes(class.as_bytes())?
+            .report(Status::Ended),
+        RunOutcome::Spent => line.text("spent")?.report(Status::Ended),
+    }
+}
+
+fn with_value(line: Line, value: &Value) -> Result<Line, AllocError> {
+    match value {
+        Value::Null => line.text("null"),
+        Value::Int(int) => line.display(int),
+        Value::Ints(ints) => with_ints(line, ints.as_slice()),
+        // No method of the profile gives one yet.
+        Value::Ref(_) => line.text("ref"),
+    }
+}
+
+fn with_ints(line: Line, ints: &[i32]) -> Result<Line, AllocError> {
+    let mut line = line.text("[")?;
+    for (place, int) in ints.iter().enumerate() {
+        if place > 0 {
+            line = line.text(",")?;
+        }
+        line = line.display(int)?;
+    }
+    line.text("]")
+}
+
+/// What is reported of why a class set is not run. `files` are those that were handed in.
+pub fn refusal_report(
+    alloc: Global,
+    files: &[ClassBytes],
+    refusal: &Refusal,
+) -> Result<Report, AllocError> {
+    match refusal {
+        Refusal::File { place, fault } => match files.get(*place) {
+            Some(file) => file_report(alloc, &file.path, *fault),
+            None => Err(AllocError),
+        },
+        Refusal::Set(fault) => set_report(alloc, fault),
+        Refusal::Link(fault) => link_report(alloc, fault),
+        Refusal::Check(fault) => check_report(alloc, fault),
+        Refusal::Start(fault) => start_report(alloc, *fault),
+        Refusal::Memory => Err(AllocError),
+    }
+}
+
+fn file_report(alloc: Global, path: &str, fault: LoadFault) -> Result<Report, AllocError> {
+    match fault {
+        LoadFault::Device => unreadable_report(alloc, path),
+        LoadFault::Read(ReadFault::Memory) => Err(AllocError),
+        LoadFault::Read(ReadFault::Broken { rule, at }) => {
+            let line = refused(alloc)?.text(path)?.text(" at ")?.display(&at)?;
+            with_fault(line, &rule)?.report(Status::Refused)
+        }
+    }
+}
+
+/// What is reported where a file or a folder cannot be read.
+pub fn unreadable_report(alloc: Global, path: &str) -> Result<Report, AllocError> {
+    Line::new(alloc)
+        .text("cannot read ")?
+        .text(path)?
+        .report(Status::Failed)
+}
+
+fn set_report(alloc: Global, fault: &SetFault) -> Result<Report, AllocError> {
+    match fault {
+        SetFault::Memory => Err(AllocError),
+        SetFault::Broken { rule, class } => {
+            let line = refused(alloc)?.bytes(class.as_bytes())?;
+            with_fault(line, rule)?.report(Status::Refused)
+        }
+    }
+}
+
+fn link_report(alloc: Global, fault: &LinkFault) -> Result<Report, AllocError> {
+    match fault {
+        LinkFault::Memory => Err(AllocError),
+        LinkFault::Broken {
+            rule,
+            class,
+            method,
+            descriptor,
+            at,
+        } => {
+            let line = refused_method(alloc, class, method, descriptor)?.display(at)?;
+            with_fault(line, rule)?.report(Status::Refused)
+        }
+    }
+}
+
+fn check_report(alloc: Global, fault: &CheckFault) -> Result<Report, AllocError> {
+    match fault {
+        CheckFault::Memory => Err(AllocError),
+        CheckFault::Broken {
+            rule,
+            class,
+            method,
+            descriptor,
+            at,
+        } => {
+            let line = refused_method(alloc, class, method, descriptor)?.display(at)?;
+            with_fault(line, rule)?.report(Status::Refused)
+        }
+    }
+}
+
+fn start_report(alloc: Global, fault: StartFault) -> Result<Report, AllocError> {
+    match fault {
+        StartFault::Memory => Err(AllocError),
+        _ => with_fault(refused(alloc)?.text("start")?, &fault)?.report(Status::Failed),
+    }
+}
+
+fn refused(alloc: Global) -> Result<Line, AllocError> {
+    Line::new(alloc).text("refused ")
+}
+
+// A refusal of a method, up to the offset.
+fn refused_method(
+    alloc: Global,
+    class: &Text,
+    method: &Text,
+    descriptor: &Text,
+) -> Result<Line, AllocError> {
+    refused(alloc)?
+        .bytes(class.as_bytes())?
+        .text(".")?
+        .bytes(method.as_bytes())?
+        .bytes(descriptor.as_bytes())?
+        .text(" at ")
+}
+
+// A fault's number and name behind the line.
+fn with_fault<F: Numbered>(line: Line, fault: &F) -> Result<Line, AllocError> {
+    line.text(": ")?
+        .display(&fault.number())?
+        .text(" ")?
+        .display(fault)
+}
