@@ -29,7 +29,7 @@ impl Model for ClassSet {
 }
 
 impl ClassSet {
-    ghost use Rattle.std.specs.Prelude.{◌≡◌, ◌<◌, ◌≤◌, ◌↔◌, Some, IsTrue, IfOk, IfErr, OnOk, length, slice_get};
+    ghost use Rattle.std.specs.Prelude.{◌≡◌, ◌<◌, ◌≤◌, ◌↔◌, Some, IsTrue, IfOk, IfErr, IfSome, OnOk, length, slice_get};
     ghost use Rattle.cls_set.specs.Classes.{name_at, number_of};
     ghost use Rattle.cls_set.specs.Sets.{HasClasses, IsClassSet, IsSetFault};
     ghost use Rattle.cls_set.specs.Subtypes.{IsRemote, IsSubclass, IsSubtype};
@@ -84,7 +84,9 @@ impl ClassSet {
 
     /// The number of the class of this name: `None` where there is none in the set.
     pub fn number(&self, name: &[u8]) -> Option<ClassId>
-        ensures { result ≡ number_of self.now name.now }
+        ensures number { result ≡ number_of self.now name.now }
+        ensures in_set { IfSome result (λ id. id.0 < length self.now) }
+        ensures named { IfSome result (λ id. name_at self.now id ≡ Some name.now) }
     {
         find(&self.members, name)
     }

@@ -1,9 +1,9 @@
 //! How a class set keeps its classes: in the order of their names, each with a rank above those of
 //! its direct supertypes, so that every walk up ends.
 
-ghost use Rattle.std.specs.Prelude.{◌≡◌, ◌<◌, ◌≤◌, ◌↔◌, All, IsTrue, length};
+ghost use Rattle.std.specs.Prelude.{◌≡◌, ◌<◌, ◌≤◌, ◌↔◌, All, IfSome, IsTrue, Some, length};
 ghost use Rattle.std.specs.List.Sorted.{IsStrictlySortedBy};
-ghost use Rattle.cls_set.specs.Classes.{name_cmp, names, number_of};
+ghost use Rattle.cls_set.specs.Classes.{name_at, name_cmp, names, number_of};
 ghost use Rattle.cls_set.specs.Members.{classes_of, IsRanked};
 ghost use Rattle.cls_set.specs.Subtypes.{IsSubclass, IsSubtype};
 
@@ -20,7 +20,9 @@ pub(crate) struct Member {
 pub(crate) fn find(members: &[Member], name: &[u8]) -> Option<ClassId>
     requires ordered { IsStrictlySortedBy name_cmp (names (classes_of members.now)) }
     requires few { length members.now ≤ 4096 }
-    ensures { result ≡ number_of (classes_of members.now) name.now }
+    ensures number { result ≡ number_of (classes_of members.now) name.now }
+    ensures in_set { IfSome result (λ id. id.0 < length (classes_of members.now)) }
+    ensures named { IfSome result (λ id. name_at (classes_of members.now) id ≡ Some name.now) }
 {
     match members.binary_search_by(|member| member.class.file.name.as_bytes().cmp(name)) {
         Ok(index) => Some(ClassId(index as u16)),

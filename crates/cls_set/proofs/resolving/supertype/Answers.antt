@@ -7,4 +7,4 @@ use Rattle.cls_set.proofs.resolving.supertype.Goals as goal
 pub returns-in-Some-clause-ok : goal.returns-in-Some-clause-ok
 returns-in-Some-clause-ok c =
     name_at_number (classes_of c.args.members.now) c.args.name.now c.in-Some.id
-    (ap (number_of (classes_of c.args.members.now)) (sym c.as_bytes.ensures) ∙ sym c.in-Some.ensures)
+    (ap (number_of (classes_of c.args.members.now)) (sym c.as_bytes.ensures) ∙ sym c.in-Some.ensures.number)
