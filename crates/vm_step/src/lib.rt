@@ -15,6 +15,7 @@ pub use vm_heap::{ClassId, ObjId, Ref, Row, Uuid, Value};
 mod arithmetic;
 mod ending;
 mod fault;
+pub mod laws;
 mod limits;
 mod machine;
 mod outcome;

@@ -13,9 +13,9 @@ pub enum Phase {
 }
 
 impl Phase {
-    ghost use Rattle.std.specs.Prelude.{◌≡◌, ℕ, ◌+◌, ◌≤◌};
-    ghost use Rattle.vm_step.specs.Run.{run, IsNeverStuck};
-    ghost use Rattle.vm_step.specs.Task.{phase_state, fuel_left, pause_at};
+    ghost use Rattle.std.specs.Prelude.{◌≡◌, ℕ, ◌+◌, ◌<◌, ◌≤◌};
+    ghost use Rattle.vm_step.specs.Run.{run, IsOver, IsNeverStuck};
+    ghost use Rattle.vm_step.specs.Task.{phase_state, fuel_left, pause_at, final_state};
 
     /// The phase after at most `k` instructions, fewer where the task ends.
     pub fn run(self, linked: &Linked, k: u64) -> Phase
@@ -29,6 +29,9 @@ impl Phase {
         ensures most { fuel_left (phase_state self) ≤ fuel_left (phase_state result) + k }
         ensures turn { pause_at (phase_state result) ≡ Pause.Turn
             → fuel_left (phase_state result) + k ≡ fuel_left (phase_state self) }
+        ensures over { fuel_left (phase_state self) < k → IsOver (phase_state result) }
+        ensures finished { fuel_left (phase_state self) < k
+            → phase_state result ≡ final_state linked.now (phase_state self) }
     {
         self.after(linked, k)
     }

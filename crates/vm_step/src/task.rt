@@ -1,10 +1,10 @@
 //! Tasks.
-ghost use Rattle.std.specs.Prelude.{◌≡◌, ◌≢◌, ℕ, ◌+◌, ◌^◌, ◌<◌, ◌≤◌, length, IsTrue, IsSome, IfOk, IfErr};
+ghost use Rattle.std.specs.Prelude.{◌≡◌, ◌≢◌, ℕ, ◌+◌, ◌^◌, ◌<◌, ◌≤◌, length, IsTrue, IsSome, IfSome, IfOk, IfErr};
 ghost use Rattle.std.specs.List.{list_all};
 ghost use Rattle.cls_set.specs.Classes.{number_of};
 ghost use Rattle.vm_step.specs.Start.{is_int_value, opening_state, started};
-ghost use Rattle.vm_step.specs.Run.{run, IsNeverStuck};
-ghost use Rattle.vm_step.specs.Task.{pause_at, fuel_left, outcome_at, phase_state, thrown_name};
+ghost use Rattle.vm_step.specs.Run.{run, IsOver, IsNeverStuck};
+ghost use Rattle.vm_step.specs.Task.{pause_at, fuel_left, final_state, outcome_of, outcome_at, phase_state, thrown_name, IsOutcome, IsOfSet};
 
 use crate::ending::{Ending, Thrown};
 use crate::fault::StartFault;
@@ -69,6 +69,11 @@ impl Task {
             (λ fault.
             fault ≢ StartFault.Memory
             → started program.now own method arguments.items limits ≡ Err fault) }
+
+        // It has all its fuel, and however many instructions it makes, its machine is not stuck.
+        ensures program { IfOk result (λ task. task.program ≡ program.now) }
+        ensures fuel { IfOk result (λ task. fuel_left task.state ≡ limits.fuel) }
+        ensures never_stuck { IfOk result (λ task. IsNeverStuck program.now task.state) }
     {
         let linked = program.linked();
         let Some(found) = find(linked, method) else {
@@ -103,6 +108,10 @@ impl Task {
         ensures most { fuel_left self.old.state ≤ fuel_left self.new.state + k }
         ensures turn { result ≡ Pause.Turn → fuel_left self.new.state + k ≡ fuel_left self.old.state }
         ensures never_stuck { IsNeverStuck program.now self.new.state }
+
+        // With more instructions than it has fuel for it ends.
+        ensures over { fuel_left self.old.state < k → IsOver self.new.state }
+        ensures finished { fuel_left self.old.state < k → self.new.state ≡ final_state program.now self.old.state }
     {
         let phase = mem::replace(&mut self.phase, Phase::Over(Ending::Spent, 0));
         self.phase = phase.run(program.linked(), k);
@@ -114,21 +123,31 @@ impl Task {
 
     /// How the task ended: `None` where it has not.
     pub fn outcome(&self) -> Option<Outcome>
-        ensures { result ≡ outcome_at self.now.program.classes self.now.state }
+        ensures value { result ≡ outcome_at self.now.program.classes self.now.state }
+        ensures over { IsOver self.now.state → IsSome result }
+        ensures ending { IfSome result (IsOutcome self.now.program.classes self.now.state) }
+        ensures of_set { IfSome result (IsOfSet self.now.program.classes) }
     {
         match self.phase {
             Phase::Running(..) => None,
-            Phase::Over(ending, _) => Some(match ending {
-                Ending::ReturnedNothing => Outcome::Returned(None),
-                Ending::ReturnedInt(n) => Outcome::Returned(Some(Value::Int(n))),
-                Ending::Threw(Thrown::ArithmeticException) => {
-                    Outcome::Threw(self.thrown.arithmetic_exception)
-                }
-                Ending::Threw(Thrown::StackOverflowError) => {
-                    Outcome::Threw(self.thrown.stack_overflow_error)
-                }
-                Ending::Spent => Outcome::Spent,
-            }),
+            Phase::Over(ending, _) => Some(self.told(ending)),
+        }
+    }
+
+    // What an ending is to callers.
+    fn told(&self, ending: Ending) -> Outcome
+        ensures { outcome_of self.now.program.classes ending ≡ Some result }
+    {
+        match ending {
+            Ending::ReturnedNothing => Outcome::Returned(None),
+            Ending::ReturnedInt(n) => Outcome::Returned(Some(Value::Int(n))),
+            Ending::Threw(Thrown::ArithmeticException) => {
+                Outcome::Threw(self.thrown.arithmetic_exception)
+            }
+            Ending::Threw(Thrown::StackOverflowError) => {
+                Outcome::Threw(self.thrown.stack_overflow_error)
+            }
+            Ending::Spent => Outcome::Spent,
         }
     }
 }
@@ -143,7 +162,8 @@ fn opening(
 ) -> Result<Phase, AllocError>
     requires few { length arguments.now ≤ code.now.max_locals }
     requires ints { IsTrue (list_all is_int_value arguments.now) }
-    ensures { IfOk result (λ phase. phase_state phase ≡ opening_state method code.now arguments.now limits) }
+    ensures opens { IfOk result (λ phase. phase_state phase ≡ opening_state method code.now arguments.now limits) }
+    ensures fuel { IfOk result (λ phase. fuel_left (phase_state phase) ≡ limits.fuel) }
 {
     let mut stack = Stack::with_words(alloc, limits.stack_words as usize)?;
     if !stack.push_frame(code.max_locals, code.max_stack) {

@@ -17,5 +17,12 @@ invariant_of-result c =
     record {
       arithmetic_exception = rw (c.of.ensures, ← c.linked-linked.ensures.linked) c.thrown_classes.ensures.arithmetic_exception;
       stack_overflow_error = rw (c.of.ensures, ← c.linked-linked.ensures.linked) c.thrown_classes.ensures.stack_overflow_error;
-      never_stuck = rw (c.of.ensures, c.in_ok-phase.ensures, c.deref-2.ensures.value) begins.never_stuck;
+      never_stuck = rw (c.of.ensures, c.in_ok-phase.ensures.opens, c.deref-2.ensures.value) begins.never_stuck;
     }
+
+pub returns-clause-never_stuck : goal.returns-clause-never_stuck
+returns-clause-never_stuck c =
+    let begins : Begins c.args.program.now c.args.method (shown c.in-Some.found) c.args.arguments.items c.args.limits =
+    found_begins c.linked-linked.result.now c.args.program.now c.args.method c.find.result c.in-Some.found c.refuses.result c.deref.result.now c.args.arguments.items c.args.limits
+    c.linked-linked.ensures.linked c.find.ensures.links c.linked-linked.ensures.safe c.find.ensures.found c.in-Some.is c.refuses.ensures c.in-None.is c.deref.ensures.value in
+    rw (c.in_ok-phase.ensures.opens, c.deref-2.ensures.value) begins.never_stuck
