@@ -2,8 +2,8 @@
 use Rattle.std.specs.Prelude.{◌≡◌, ℕ, ◌+◌, ◌<◌, ◌≤◌, ◌↔◌, List, [], length, Option, None, Some, Result, Ok, Err, Bool, IsTrue, MatchOption}
 use Rattle.std.specs.Io.KnownBytes.{prepend_known, Keeps, Consumes, IsAtEnd}
 use Rattle.std.specs.declared.alloc.AllocError.{AllocError}
-use Rattle.net_frames.specs.declared.fault.WireFault.{WireFault}
-use Rattle.net_frames.specs.Wire.{IsWire}
+use Rattle.net_message.specs.declared.fault.WireFault.{WireFault}
+use Rattle.net_message.specs.Wire.{IsWire}
 use Rattle.net_engine.specs.declared.inbound.Look.{Look}
 use Rattle.net_engine.specs.declared.inbound.Look.TheVariants as looks
 use Rattle.net_engine.specs.declared.inbound.Inflow.{Inflow}

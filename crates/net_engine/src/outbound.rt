@@ -2,8 +2,8 @@
 
 ghost use Rattle.std.specs.Prelude.{◌≡◌, ◌<◌, ◌≤◌, length, take, IfOk, IfErr, OnOk, IsTrue};
 ghost use Rattle.std.specs.Io.KnownBytes.{Appends};
-ghost use Rattle.net_frames.specs.Wire as wire;
-ghost use Rattle.net_frames.specs.Wire.{body};
+ghost use Rattle.net_message.specs.Wire as wire;
+ghost use Rattle.net_message.specs.Wire.{body};
 
 use crate::MAX_FRAME;
 use bytes::BytesMut;
@@ -72,6 +72,13 @@ impl<K: Sink + Drop> Outbound<K> {
 }
 
 impl<K: Sink> Outbound<K> {
+    /// What it sends into.
+    pub fn sink(&self) -> &K
+        ensures { result.now ≡ self.now.sink }
+    {
+        &self.sink
+    }
+
     /// Sends the frame, whose body has at most 65,536 bytes (`Frame::body_len`): all of its bytes,
     /// or the first `sent` of them where the sink fails. It takes no memory.
     pub fn send(&mut self, frame: &Frame) -> Result<(), WriteFailed>

@@ -3,11 +3,11 @@ use Rattle.std.proofs.Common.{◌≡◌, ◌≢◌, ℕ, zero, suc, ◌+◌, ◌
 use Rattle.std.specs.Prelude.{◌==◌}
 use Rattle.std.proofs.lemmas.Bool.{eqb-true, ne_eqb}
 use Rattle.std.proofs.lemmas.List.{append-nil, nil_from_length}
-use Rattle.net_frames.specs.declared.fault.WireFault.{WireFault}
-use Rattle.net_frames.specs.declared.fault.WireFault.TheVariants as faults
+use Rattle.net_message.specs.declared.fault.WireFault.{WireFault}
+use Rattle.net_message.specs.declared.fault.WireFault.TheVariants as faults
 use Rattle.net_frames.specs.declared.kinds.FrameKind.{FrameKind}
-use Rattle.net_frames.specs.declared.message.Message.{Message}
-use Rattle.net_frames.specs.Wire.{body, IsInRange}
+use Rattle.net_message.specs.declared.message.Message.{Message}
+use Rattle.net_message.specs.Wire.{body, IsInRange}
 use Rattle.net_frames.specs.Reading.{◌>>=◌, fields_at, all_kinds, kind_from, kind_at, message_at, whole_at}
 use Rattle.net_frames.specs.Stream.{IsKind, BreaksIn}
 use Rattle.net_frames.proofs.FieldLaws.{IsBytes, IsBytes-rest, bind_ok, bind_err, passed_ok, passed_err, ok_is, ok_not_err, Takes}

@@ -7,9 +7,9 @@ use Rattle.std.proofs.lemmas.List.{take_at, drop_at, take-append-drop, length-ap
 use Rattle.std.proofs.lemmas.Nat.{be_bytes_2, be_bytes_4, be_bytes_8}
 use Rattle.byteorder.specs.Endian.{big_bytes, big_number}
 use Rattle.byteorder.specs.Numbers.{big_from-take, big_from-lt, big_number-reads_back, length-bytes_high_first}
-use Rattle.net_frames.specs.declared.fault.WireFault.{WireFault}
-use Rattle.net_frames.specs.declared.fault.WireFault.TheVariants as faults
-use Rattle.net_frames.specs.Wire.{number_bytes, row_bytes, FitsBytes}
+use Rattle.net_message.specs.declared.fault.WireFault.{WireFault}
+use Rattle.net_message.specs.declared.fault.WireFault.TheVariants as faults
+use Rattle.net_message.specs.Wire.{number_bytes, row_bytes, FitsBytes}
 use Rattle.net_frames.specs.Reading.{◌>>=◌, shown, tested, both, items_at, byte_at, raw_at, number_at, row_at}
 
 abbrev pub IsBytes : List ℕ → Type 0
@@ -211,10 +211,6 @@ width4 = record { back = λ bytes len fits. be_bytes_4 bytes (big_number 4 bytes
 
 pub width8 : IsWidth 8
 width8 = record { back = λ bytes len fits. be_bytes_8 bytes (big_number 8 bytes) len fits (omega arith) }
-
-pub length-number_bytes : (width n : ℕ) → length (number_bytes width n) ≡ width
-unfolding number_bytes
-length-number_bytes width n = length-bytes_high_first width n
 
 pub number_field : (width : ℕ) → IsWidth width → IsField (number_at width) (number_bytes width) (FitsBytes width)
 unfolding number_at number_bytes

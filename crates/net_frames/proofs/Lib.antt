@@ -2,7 +2,6 @@ pub mod Loop
 pub mod FieldLaws
 pub mod ValueLaws
 pub mod MessageLaws
-pub mod Lengths
 pub mod BodyLaws
 pub mod FrontLaws
 pub mod StreamLaws

@@ -1,9 +1,9 @@
 -- Reading things of one kind one after the other, as a loop does.
 use Rattle.std.proofs.Common.{◌≡◌, ℕ, suc, ◌-◌, ◌+◌, ◌≤◌, ◌<◌, List, [], ◌∷◌, ◌++◌, Result, Ok, Err, refl, sym, ap, ◌∙◌, append_assoc, arith}
 use Rattle.std.proofs.lemmas.List.{append-nil}
-use Rattle.net_frames.specs.declared.fault.WireFault.{WireFault}
-use Rattle.net_frames.specs.declared.fault.WireError.{WireError}
-use Rattle.net_frames.specs.declared.fault.WireError.TheVariants as errors
+use Rattle.net_message.specs.declared.fault.WireFault.{WireFault}
+use Rattle.net_message.specs.declared.fault.WireError.{WireError}
+use Rattle.net_message.specs.declared.fault.WireError.TheVariants as errors
 use Rattle.net_frames.specs.Reading.{◌>>=◌, Fails, items_at}
 
 -- what was read before, and what is still read

@@ -3,14 +3,17 @@ use Rattle.std.proofs.Common.{◌≡◌, ◌≢◌, ℕ, zero, suc, ◌+◌, ◌
 use Rattle.std.proofs.lemmas.List.{append-nil, take-append-drop, get_or-append-add, length-append, length-take, length-drop, drop-drop, drop-append-le, take-append-le}
 use Rattle.std.specs.List.{flat_map}
 use Rattle.byteorder.specs.Numbers.{big_from-append}
-use Rattle.net_frames.specs.declared.fault.WireFault.{WireFault}
-use Rattle.net_frames.specs.declared.fault.WireFault.TheVariants as faults
+use Rattle.net_message.specs.declared.fault.WireFault.{WireFault}
+use Rattle.net_message.specs.declared.fault.WireFault.TheVariants as faults
+use Rattle.net_message.specs.declared.fault.WireError.{WireError}
+use Rattle.net_message.specs.declared.fault.WireError.TheVariants as errors
 use Rattle.net_frames.specs.declared.reader.Next.TheVariants as nexts
-use Rattle.net_frames.specs.declared.message.Message.{Message}
-use Rattle.net_frames.specs.Wire.{number_bytes, body, frame, IsWire}
-use Rattle.net_frames.proofs.FieldLaws.{IsBytes, ok_not_err, length-number_bytes}
+use Rattle.net_message.specs.declared.message.Message.{Message}
+use Rattle.net_message.specs.Wire.{number_bytes, body, frame, IsWire}
+use Rattle.net_message.proofs.Lengths.{length-number_bytes}
+use Rattle.net_frames.proofs.FieldLaws.{IsBytes, ok_not_err}
 use Rattle.net_frames.proofs.FrontLaws.{front_at, partial_front, breaks_front, wire_front}
-use Rattle.net_frames.specs.Stream.{told_length, IsBodyLength, HasBody, first_body, BreaksIn, Reads, IsPartial, Breaks, Held, Rest, Stopped, Stream, held, IsNext, IsSplit}
+use Rattle.net_frames.specs.Stream.{told_length, IsBodyLength, HasBody, first_body, BreaksIn, Reads, IsPartial, Breaks, Held, Rest, Stopped, Stream, held, IsNext, IsSplit, Feeds, Refuses}
 
 -- what is read of the rest is read of all, behind the frames so far
 abbrev pub GoesOn : List ℕ → List Message → ℕ → Type 0
@@ -168,3 +171,30 @@ reads_whole rest [] ms end partial reads =
 reads_whole rest (piece ∷ pieces) ms end partial reads =
     subst (λ x. Stream (rest ++ (piece ++ joined pieces)) x end) (sym reads.3.2)
     (subst (λ x. Stream x (reads.0 ++ reads.1) end) (append_assoc rest piece (joined pieces)) (reads_on (rest ++ piece) pieces reads.0 reads.1 reads.2 end reads.3.0 (λ r p. reads_whole r pieces reads.1 end p) reads.3.1))
+
+-- ---- feeding a new reader
+
+-- a frame's bytes are read as that frame
+pub fed_back : (bytes : List ℕ) (m : Message) (ms : List Message) (end : Held) → IsBytes bytes → IsWire bytes m → Feeds (Rest []) bytes ms end → (ms ≡ m ∷ []) × (end ≡ Rest [])
+fed_back bytes m ms end h wire fed = one_reading bytes ms (m ∷ []) end (Rest []) h fed.0 (alone bytes m wire)
+
+-- and as no fault
+pub not_refused : (bytes : List ℕ) (m : Message) (error : WireError) (end : Held) → IsBytes bytes → IsWire bytes m → Refuses (Rest []) bytes error end → error ≡ errors.Memory
+not_refused bytes m errors.Memory end h wire refused = refl
+not_refused bytes m (errors.Fault fault) end h wire refused =
+    let same = one_reading bytes [] (m ∷ []) (Stopped fault) (Rest []) h refused.0 (alone bytes m wire) in
+    absurd (let none : [] ≡ m ∷ [] = same.0 in cc)
+
+-- one frame alone is its bytes
+pub fed_one : (bytes : List ℕ) (m : Message) → Feeds (Rest []) bytes (m ∷ []) (Rest []) → IsWire bytes m
+unfolding Stream
+fed_one bytes m fed =
+    let s = fed.0 in
+    let nothing : s.1 ≡ [] = sym s.2.2.1 in
+    subst (λ x. IsWire x m) (sym (s.2.1 ∙ ap (λ (x : List ℕ). s.0 ++ x) nothing ∙ append-nil s.0)) s.2.0
+
+partial_short : (bytes : List ℕ) → IsPartial bytes → length bytes < 65540
+partial_short bytes partial = elim partial [ inl few ↦ omega (arith, few) | inr begun ↦ omega (arith, begun.0.1, begun.1) ]
+
+pub held_short : (bytes rest : List ℕ) (ms : List Message) → Stream bytes ms (Rest rest) → length rest < 65540
+held_short bytes rest ms stream = partial_short rest (rest_is_partial bytes ms rest stream)

@@ -3,7 +3,6 @@ use Rattle.std.proofs.Common.{◌≡◌, ℕ, zero, suc, ◌+◌, ◌^◌, ◌<�
 use Rattle.std.specs.Prelude.{◌&&◌, ◌==◌, nat_le, IfSome, IsTrue, FitsSigned}
 use Rattle.std.specs.Int.{w32, cast_signed, cast_unsigned}
 use Rattle.std.specs.List.{flat_map, list_all, AllByRecursion}
-use Rattle.std.proofs.lemmas.Bool.{leb-true, le-leb, and_parts, and_from}
 use Rattle.std.proofs.lemmas.Int.{to_z-of_z, of_z-to_z}
 use Rattle.std.proofs.Math.Facts.{sfits_to_z, Fits-of_z}
 use Rattle.std.proofs.lemmas.List.{append-nil}
@@ -12,18 +11,12 @@ use Rattle.vm_heap.specs.declared.values.ObjId.{ObjId}
 use Rattle.vm_heap.specs.declared.values.Ref.{Ref}
 use Rattle.vm_heap.specs.declared.values.Value.{Value}
 use Rattle.vm_heap.specs.declared.values.Value.TheVariants as values
-use Rattle.net_frames.specs.declared.fault.WireFault.{WireFault}
-use Rattle.net_frames.specs.declared.fault.WireFault.TheVariants as faults
-use Rattle.net_frames.specs.Wire.{number_bytes, int_bytes, id_bytes, class_bytes, reference_bytes, row_bytes, value_bytes, result_row, result_bytes, flag_bytes, name_bytes, FitsBytes, IsId, IsClass, IsReference, AreInts, IsValue, AreArguments, AreObjects, IsName, is_within, is_name_byte}
-use Rattle.net_frames.specs.Reading.{◌>>=◌, shown, tested, both, items_at, byte_at, raw_at, number_at, row_at, int_at, id_at, class_at, reference_at, ints_at, tagged_at, value_at, arguments_at, counted_result_at, result_at, objects_at, flag_at, is_name, name_at}
+use Rattle.net_message.specs.declared.fault.WireFault.{WireFault}
+use Rattle.net_message.specs.declared.fault.WireFault.TheVariants as faults
+use Rattle.net_message.specs.Wire.{number_bytes, int_bytes, id_bytes, class_bytes, reference_bytes, row_bytes, value_bytes, result_row, result_bytes, flag_bytes, name_bytes, FitsBytes, IsId, IsClass, IsReference, AreInts, IsValue, AreArguments, AreObjects, IsName, is_within, is_name_byte, is_name}
+use Rattle.net_frames.specs.Reading.{◌>>=◌, shown, tested, both, items_at, byte_at, raw_at, number_at, row_at, int_at, id_at, class_at, reference_at, ints_at, tagged_at, value_at, arguments_at, counted_result_at, result_at, objects_at, flag_at, name_at}
+use Rattle.net_message.proofs.Names.{within_true, true_within, name_true, true_name}
 use Rattle.net_frames.proofs.FieldLaws.{IsBytes, IsBytes-rest, bind_ok, passed_ok, ok_is, Takes, IsField, refit, headed_takes, shown_again, shown_fails, shown_field, bind_err, tested_field, both_field, width1, width2, width4, width8, number_field, raw_field, byte_field, row_field}
-
--- a number within bounds, and the test of it
-pub within_true : (low high n : ℕ) → is_within low high n ≡ true → (low ≤ n) × (n ≤ high)
-within_true low high n e = let p = and_parts (nat_le low n) (nat_le n high) e in (leb-true low n p.0, leb-true n high p.1)
-
-pub true_within : (low high n : ℕ) → low ≤ n → n ≤ high → is_within low high n ≡ true
-true_within low high n le ge = and_from (nat_le low n) (nat_le n high) (le-leb low n le) (le-leb n high ge)
 
 int_field : IsField int_at int_bytes (FitsSigned w32)
 unfolding int_at int_bytes
@@ -174,25 +167,6 @@ flag_fails bytes fault e = shown_fails (tested (is_within 0 1) byte_at) (λ byte
 
 pub flag_field : IsField flag_at flag_bytes IsFlag
 flag_field = record { takes = flag_takes; again = flag_again; fails = flag_fails }
-
-all_true : (test : ℕ → Bool) (xs : List ℕ) → list_all test xs ≡ true → AllByRecursion (λ x. IsTrue (test x)) xs
-all_true test [] e = tt
-all_true test (x ∷ xs) e = let p = and_parts (test x) (list_all test xs) e in (p.0, all_true test xs p.1)
-
-true_all : (test : ℕ → Bool) (xs : List ℕ) → AllByRecursion (λ x. IsTrue (test x)) xs → list_all test xs ≡ true
-true_all test [] h = refl
-true_all test (x ∷ xs) h = and_from (test x) (list_all test xs) h.0 (true_all test xs h.1)
-
-pub name_true : (name : List ℕ) → is_name name ≡ true → IsName name
-unfolding is_name
-name_true name e =
-    let p = and_parts (is_within 1 255 (length name)) (list_all is_name_byte name) e in
-    let q = within_true 1 255 (length name) p.0 in
-    (q.0, q.1, all_true is_name_byte name p.1)
-
-pub true_name : (name : List ℕ) → IsName name → is_name name ≡ true
-unfolding is_name
-true_name name h = and_from (is_within 1 255 (length name)) (list_all is_name_byte name) (true_within 1 255 (length name) h.0 h.1) (true_all is_name_byte name h.2)
 
 counted_name : IsField (λ bytes. byte_at bytes >>= λ count. raw_at count.0 count.1) name_bytes (λ name. length name < 256)
 unfolding name_bytes

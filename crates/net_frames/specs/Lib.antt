@@ -1,5 +1,2 @@
-pub mod Wire
-pub mod Sizes
 pub mod Reading
 pub mod Stream
-pub mod Frame

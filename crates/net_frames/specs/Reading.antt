@@ -8,15 +8,15 @@ use Rattle.vm_heap.specs.declared.values.ObjId.{ObjId}
 use Rattle.vm_heap.specs.declared.values.Ref.{Ref}
 use Rattle.vm_heap.specs.declared.values.Value.{Value}
 use Rattle.vm_heap.specs.declared.values.Value.TheVariants as values
-use Rattle.net_frames.specs.declared.fault.WireFault.{WireFault}
-use Rattle.net_frames.specs.declared.fault.WireFault.TheVariants as faults
-use Rattle.net_frames.specs.declared.fault.WireError.{WireError}
-use Rattle.net_frames.specs.declared.fault.WireError.TheVariants as errors
+use Rattle.net_message.specs.declared.fault.WireFault.{WireFault}
+use Rattle.net_message.specs.declared.fault.WireFault.TheVariants as faults
+use Rattle.net_message.specs.declared.fault.WireError.{WireError}
+use Rattle.net_message.specs.declared.fault.WireError.TheVariants as errors
 use Rattle.net_frames.specs.declared.kinds.FrameKind.{FrameKind}
 use Rattle.net_frames.specs.declared.kinds.FrameKind.TheVariants as kinds
-use Rattle.net_frames.specs.declared.message.Message.{Message}
-use Rattle.net_frames.specs.declared.message.Message.TheVariants.{Hello, Call, Returned, Threw, Spent, Ack, Dirty, Lease, Clean, Cleaned, Lookup}
-use Rattle.net_frames.specs.Wire.{is_within, is_name_byte}
+use Rattle.net_message.specs.declared.message.Message.{Message}
+use Rattle.net_message.specs.declared.message.Message.TheVariants.{Hello, Call, Returned, Threw, Spent, Ack, Dirty, Lease, Clean, Cleaned, Lookup}
+use Rattle.net_message.specs.Wire.{is_within, is_name}
 
 infixl 10 ◌>>=◌
 abbrev pub ◌>>=◌ : {A B : Type 0} → Result A WireFault → (A → Result B WireFault) → Result B WireFault
@@ -113,9 +113,6 @@ unfoldable pub flag_at : List ℕ → Result (Bool × List ℕ) WireFault
 flag_at bytes = shown (λ flag. flag == 1) (tested (is_within 0 1) byte_at) bytes
 
 -- a name that its length in front tells
-unfoldable pub is_name : List ℕ → Bool
-is_name name = is_within 1 255 (length name) && list_all is_name_byte name
-
 unfoldable pub name_at : List ℕ → Result (List ℕ × List ℕ) WireFault
 name_at bytes = tested is_name (λ bytes. byte_at bytes >>= λ count. raw_at count.0 count.1) bytes
 

@@ -1,16 +1,16 @@
 -- A stream of frames: what its bytes say, in whatever pieces they come.
 use Rattle.std.specs.Prelude.{◌≡◌, ◌≢◌, ℕ, ◌+◌, ◌<◌, ◌≤◌, ◌⊎◌, List, [], ◌∷◌, ◌++◌, length, take, drop, slice_index, Option, None, Some, Result, Ok, Err, nat_lt, if◌then◌else◌}
 use Rattle.byteorder.specs.Endian.{big_number}
-use Rattle.net_frames.specs.declared.fault.WireFault.{WireFault}
-use Rattle.net_frames.specs.declared.fault.WireFault.TheVariants as faults
-use Rattle.net_frames.specs.declared.fault.WireError.{WireError}
-use Rattle.net_frames.specs.declared.fault.WireError.TheVariants as errors
+use Rattle.net_message.specs.declared.fault.WireFault.{WireFault}
+use Rattle.net_message.specs.declared.fault.WireFault.TheVariants as faults
+use Rattle.net_message.specs.declared.fault.WireError.{WireError}
+use Rattle.net_message.specs.declared.fault.WireError.TheVariants as errors
 use Rattle.net_frames.specs.declared.front.Front.{Front}
 use Rattle.net_frames.specs.declared.front.Front.TheVariants as fronts
 use Rattle.net_frames.specs.declared.reader.Next.{Next}
 use Rattle.net_frames.specs.declared.reader.Next.TheVariants as nexts
-use Rattle.net_frames.specs.declared.message.Message.{Message}
-use Rattle.net_frames.specs.Wire.{body, IsInRange, IsWire}
+use Rattle.net_message.specs.declared.message.Message.{Message}
+use Rattle.net_message.specs.Wire.{body, IsInRange, IsWire}
 
 -- ---- the front of a stream
 

@@ -4,13 +4,12 @@ ghost use Rattle.std.specs.Prelude.{◌≡◌};
 ghost use Rattle.net_frames.specs.declared.kinds.FrameKind.TheVariants as kinds;
 ghost use Rattle.net_frames.specs.Reading.{Gives, fields_at, message_at, whole_at};
 
-use crate::fault::{WireError, WireFault};
 use crate::fields::{
     arguments_of, byte_of, class_of, digest_of, flag_of, id_of, name_of, objects_of, result_of,
     space_of, u32_of, u64_of,
 };
 use crate::kinds::{FrameKind, kind_of};
-use crate::message::Message;
+use net_message::{Message, WireError, WireFault};
 use std::alloc::Global;
 use vm_heap::Uuid;
 

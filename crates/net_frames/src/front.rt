@@ -5,10 +5,8 @@ ghost use Rattle.net_frames.specs.Stream as stream;
 ghost use Rattle.net_frames.specs.Stream.{ReadsBody, ReadsFront};
 
 use crate::bodies::whole_of;
-use crate::encoding::MAX_BODY;
-use crate::fault::{WireError, WireFault};
-use crate::frame::Frame;
 use byteorder::{BigEndian, ByteOrder};
+use net_message::{Frame, MAX_BODY, WireError, WireFault};
 use std::alloc::Global;
 
 /// How far bytes that begin with no fault have come.

@@ -3,7 +3,7 @@
 ghost use Rattle.std.specs.Prelude.{◌≡◌};
 ghost use Rattle.net_frames.specs.Reading.{Gives, kind_at};
 
-use crate::fault::{WireError, WireFault};
+use net_message::{WireError, WireFault};
 
 /// What a frame's first byte tells.
 #[derive(Clone, Copy, Debug)]

@@ -1,11 +1,13 @@
 //! What follows from the wire format alone, apart from any code. Each function does nothing: its
 //! contract is the law.
 
-ghost use Rattle.std.specs.Prelude.{◌≡◌, ◌<◌, ℕ, List, [], ◌∷◌, ◌++◌, slice_index};
+ghost use Rattle.std.specs.Prelude.{◌≡◌, ◌<◌, ℕ, List, [], ◌∷◌, ◌++◌, length, slice_index};
 ghost use Rattle.std.specs.List.{flat_map};
-ghost use Rattle.net_frames.specs.declared.message.Message.{Message};
-ghost use Rattle.net_frames.specs.Wire.{IsWire};
-ghost use Rattle.net_frames.specs.Stream.{Held, Rest, Stream, AreBytes, Reads};
+ghost use Rattle.net_message.specs.declared.message.Message.{Message};
+ghost use Rattle.net_message.specs.Wire.{IsWire};
+ghost use Rattle.net_message.specs.declared.fault.WireError.{WireError};
+ghost use Rattle.net_message.specs.declared.fault.WireError.TheVariants as errors;
+ghost use Rattle.net_frames.specs.Stream.{Held, Rest, Stream, AreBytes, Reads, Feeds, Refuses};
 
 /// No bytes are two frames, nor the fronts of two.
 pub fn no_bytes_have_two_readings()
@@ -45,4 +47,24 @@ pub fn no_cut_changes_the_frames()
         → AreBytes (flat_map (λ piece. piece) pieces)
         → flat_map (λ piece. piece) pieces ≡ flat_map (λ piece. piece) others
         → Reads (Rest []) pieces ms end → Reads (Rest []) others ns other → (ms ≡ ns) × (end ≡ other) }
+{}
+
+/// What is encoded is read back: a new reader that is fed a frame's bytes answers that frame alone
+/// and holds nothing, or wants memory.
+pub fn what_is_encoded_is_read_back()
+    ensures frames { (bytes : List ℕ) (m : Message) (ms : List Message) (end : Held) → AreBytes bytes → IsWire bytes m
+        → Feeds (Rest []) bytes ms end → (ms ≡ m ∷ []) × (end ≡ Rest []) }
+    ensures error { (bytes : List ℕ) (m : Message) (error : WireError) (end : Held) → AreBytes bytes → IsWire bytes m
+        → Refuses (Rest []) bytes error end → error ≡ errors.Memory }
+{}
+
+/// What is read is encoded back: bytes of which a new reader answers one frame, and holds nothing,
+/// are that frame's.
+pub fn what_is_read_is_encoded_back()
+    ensures { (bytes : List ℕ) (m : Message) → Feeds (Rest []) bytes (m ∷ []) (Rest []) → IsWire bytes m }
+{}
+
+/// A reader holds less than one frame, which has at most 65,540 bytes.
+pub fn what_is_held_is_less_than_a_frame()
+    ensures { (bytes rest : List ℕ) (ms : List Message) → Stream bytes ms (Rest rest) → length rest < 65540 }
 {}

@@ -3,10 +3,9 @@
 ghost use Rattle.std.specs.Prelude.{◌≡◌, IfOk, IfErr};
 ghost use Rattle.net_frames.specs.Stream.{IsNext, IsSplit};
 
-use crate::fault::{WireError, WireFault};
-use crate::frame::Frame;
 use crate::front::{Front, read_front};
 use bytes::BytesMut;
+use net_message::{Frame, WireError, WireFault};
 use std::alloc::{AllocError, Global};
 use std::marker::Model;
 

@@ -231,37 +231,71 @@ fn a_body_over_the_limit_has_no_bytes(rt: HostRuntime) -> Result<(), Fail> {
 }
 
 #[test]
-fn bad_bytes_are_faults_whole_and_byte_by_byte(rt: HostRuntime) {
+fn the_longest_body_goes_both_ways(rt: HostRuntime) -> Result<(), Fail> {
     let alloc = rt.alloc();
-    assert_eq!(rt;
-        fault_of(&rt, alloc, &[0, 0, 0, 0]),
-        Some(WireFault::Length)
-    );
-    assert_eq!(rt;
-        fault_of(&rt, alloc, &[0, 1, 0, 1]),
-        Some(WireFault::Length)
-    );
-    assert_eq!(rt;
-        fault_of(&rt, alloc, b"\0\0\0\x0b\x0c\0\0\0\0\0\0\0\x01\x01c"),
-        Some(WireFault::Kind)
-    );
-    assert_eq!(rt;
-        fault_of(&rt, alloc, b"\0\0\0\x0c\x0b\0\0\0\0\0\0\0\x01\x01cc"),
-        Some(WireFault::Trailing)
-    );
-    assert_eq!(rt;
-        fault_of(&rt, alloc, b"\0\0\0\x0a\x0b\0\0\0\0\0\0\0\x01\x01"),
-        Some(WireFault::Body)
-    );
-    assert_eq!(rt;
-        fault_of(&rt, alloc, b"\0\0\0\x0b\x0b\0\0\0\0\0\0\0\x01\x01-"),
-        Some(WireFault::Body)
-    );
-    let array =
-        b"\0\0\0\x23\x02\0\0\0\0\0\0\0\x01\0\0\0\0\0\0\0\x02\0\0\0\x07\0\0\0\0\0\0\0\x63\x01\x02\0\0\x1f\x41";
-    assert_eq!(rt; fault_of(&rt, alloc, array), Some(WireFault::Body));
-    let strong = b"\0\0\0\x14\x09\0\0\0\0\0\0\0\x05\x02\0\x01\0\0\0\0\0\0\0\x03";
-    assert_eq!(rt; fault_of(&rt, alloc, strong), Some(WireFault::Body));
+    for (nulls, ok) in [(3, true), (4, false)] {
+        let mut values = Vec::new(alloc);
+        for count in [8000, 8000, 372] {
+            values.push(ints(alloc, count)?)?;
+        }
+        for _ in 0..nulls {
+            values.push(Value::Null)?;
+        }
+        let call = Frame::call(1, ObjId(2), 7, 99, Row::new(values))?;
+        if ok {
+            assert_eq!(rt; call.body_len(), 65_536);
+            let bytes = encode(alloc, &call)?;
+            let frames = FrameReader::new(alloc).feed(bytes.as_slice())?;
+            assert_eq!(rt; frames.len(), 1);
+        } else {
+            assert_eq!(rt; fault(encode(alloc, &call)), Some(WireFault::Length));
+        }
+    }
+    Ok(())
+}
+
+#[test]
+fn bad_bytes_are_faults_whole_and_byte_by_byte(rt: HostRuntime) {
+    let cases: [(&[u8], WireFault); 14] = [
+        (b"\0\0\0\0", WireFault::Length),
+        (b"\0\x01\0\x01", WireFault::Length),
+        (b"\0\0\0\x0b\x0c\0\0\0\0\0\0\0\x01\x01c", WireFault::Kind),
+        (b"\0\0\0\x01\0", WireFault::Kind),
+        // a byte more, a byte less, and a name out of its alphabet
+        (
+            b"\0\0\0\x0c\x0b\0\0\0\0\0\0\0\x01\x01cc",
+            WireFault::Trailing,
+        ),
+        (b"\0\0\0\x0a\x0b\0\0\0\0\0\0\0\x01\x01", WireFault::Body),
+        (b"\0\0\0\x0b\x0b\0\0\0\0\0\0\0\x01\x01-", WireFault::Body),
+        (b"\0\0\0\x0a\x0b\0\0\0\0\0\0\0\x01\0", WireFault::Body),
+        // an array of 8,001 ints, and a value of no known kind
+        (
+            b"\0\0\0\x23\x02\0\0\0\0\0\0\0\x01\0\0\0\0\0\0\0\x02\0\0\0\x07\0\0\0\0\0\0\0\x63\x01\x02\0\0\x1f\x41",
+            WireFault::Body,
+        ),
+        (
+            b"\0\0\0\x1f\x02\0\0\0\0\0\0\0\x01\0\0\0\0\0\0\0\x02\0\0\0\x07\0\0\0\0\0\0\0\x63\x01\x04",
+            WireFault::Body,
+        ),
+        // two results, strong 2, no id, and 1,025 ids
+        (
+            b"\0\0\0\x14\x03\0\0\0\0\0\0\0\x03\0\0\0\0\0\0\0\x04\x02\0\0",
+            WireFault::Body,
+        ),
+        (
+            b"\0\0\0\x14\x09\0\0\0\0\0\0\0\x05\x02\0\x01\0\0\0\0\0\0\0\x03",
+            WireFault::Body,
+        ),
+        (b"\0\0\0\x0c\x09\0\0\0\0\0\0\0\x05\x01\0\0", WireFault::Body),
+        (
+            b"\0\0\0\x0c\x09\0\0\0\0\0\0\0\x05\x01\x04\x01",
+            WireFault::Body,
+        ),
+    ];
+    for (bytes, fault) in cases {
+        assert_eq!(rt; fault_of(&rt, rt.alloc(), bytes), Some(fault));
+    }
 }
 
 #[test]

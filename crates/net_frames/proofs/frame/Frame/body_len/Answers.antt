@@ -1,8 +1,0 @@
-use Rattle.std.proofs.Common.{◌≡◌, length, sym, ap, ◌∙◌}
-use Rattle.net_frames.specs.Wire.{body}
-use Rattle.net_frames.proofs.Lengths.{length-body}
-use Rattle.net_frames.proofs.frame.Frame.body_len.Goals as goal
-
-pub returns : goal.returns
-returns c =
-    c.body_len.ensures ∙ sym (length-body c.self.inside.message c.self.invariant) ∙ ap (λ message. length (body message)) c.self.view_is

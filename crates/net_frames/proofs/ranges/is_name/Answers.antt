@@ -1,7 +1,0 @@
-use Rattle.std.proofs.Common.{sym, ◌∙◌}
-use Rattle.net_frames.proofs.ValueLaws.{name_true, true_name}
-use Rattle.net_frames.proofs.ranges.is_name.Goals as goal
-
-pub returns-clause-range : goal.returns-clause-range
-returns-clause-range c =
-    (λ passes. name_true c.args.name.now (sym c.passes_as_name.ensures ∙ passes), λ is. c.passes_as_name.ensures ∙ true_name c.args.name.now is)

@@ -1,9 +1,0 @@
-use Rattle.std.proofs.Common.{◌≡◌, ◌+◌, ◌*◌, ◌++◌, length, drop, take}
-use Rattle.std.specs.List.{flat_map}
-use Rattle.net_frames.specs.Wire.{int_bytes}
-use Rattle.net_frames.proofs.writing.put_each_int.Given as goal
-
-abbrev pub invariant-loop-int : goal.invariant-loop-int
-invariant-loop-int l =
-    (l.out.items ≡ l.initial.out.items ++ flat_map int_bytes (take l.int-index l.ints))
-    × (l.out.spare + 4 * l.int-index ≡ l.initial.out.spare)

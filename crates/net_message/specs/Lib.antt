@@ -1,0 +1,3 @@
+pub mod Wire
+pub mod Sizes
+pub mod Frame

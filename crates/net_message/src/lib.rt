@@ -1,0 +1,19 @@
+//! The messages of the protocol between spaces, version 1 (a format of this project): what a frame
+//! says, the ranges of its fields, and its one spelling in bytes.
+#![tactic(auto)]
+
+pub use cf_pool::Numbered;
+pub use encoding::{MAX_BODY, encode};
+pub use fault::{WireError, WireFault};
+pub use frame::Frame;
+pub use message::{Digest, Message};
+pub use ranges::is_name;
+pub use vm_heap::{ClassId, ObjId, Ref, Row, Uuid, Value};
+
+mod encoding;
+mod fault;
+mod frame;
+mod length;
+mod message;
+mod ranges;
+mod writing;

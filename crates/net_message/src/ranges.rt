@@ -1,0 +1,136 @@
+//! The ranges of a frame's fields that a type does not keep by itself.
+
+ghost use Rattle.std.specs.Prelude.{◌≡◌, ◌↔◌, IsTrue, IfSome, length};
+ghost use Rattle.std.specs.List.{list_all, AllByRecursion};
+ghost use Rattle.net_message.specs.Wire as wire;
+ghost use Rattle.net_message.specs.Wire.{AreInts, AreArguments, AreObjects, IsId, IsReference, IsValue, IsName};
+
+use crate::fault::WireFault;
+use vm_heap::{ObjId, Ref, Uuid, Value};
+
+#[tactic(auto, unfolding(crate::specs::Wire::is_name_byte))]
+fn is_name_byte(byte: u8) -> bool
+    ensures { result ≡ wire.is_name_byte byte }
+{
+    matches!(byte, b'a'..=b'z' | b'A'..=b'Z' | b'0'..=b'9' | b'_' | b'.')
+}
+
+fn are_name_bytes(name: &[u8]) -> bool
+    ensures { result ≡ list_all wire.is_name_byte name.now }
+{
+    name.iter().all(|byte| is_name_byte(*byte))
+}
+
+#[tactic(auto, unfolding(crate::specs::Wire::is_name))]
+fn passes_as_name(name: &[u8]) -> bool
+    ensures { result ≡ wire.is_name name.now }
+{
+    if name.is_empty() || name.len() > 255 {
+        return false;
+    }
+    are_name_bytes(name)
+}
+
+/// Whether a registry may have the name: 1 to 255 ASCII letters, digits, `_` and `.`.
+pub fn is_name(name: &[u8]) -> bool
+    ensures read { result ≡ wire.is_name name.now }
+    ensures range { IsTrue result ↔ IsName name.now }
+{
+    passes_as_name(name)
+}
+
+// A contract knows the range of a number where it is read, so each is.
+fn are_ints(ints: &[i32]) -> bool
+    ensures { IsTrue result ↔ AreInts ints.now }
+{
+    for int in ints {
+        let _int = *int;
+    }
+    ints.len() <= 8000
+}
+
+fn is_sixteen_bytes(bytes: &[u8; 16]) -> bool
+    ensures result { IsTrue result }
+    ensures length { length bytes.now ≡ 16 }
+{
+    bytes.len() == 16
+}
+
+pub(crate) fn is_space(space: &Uuid) -> bool
+    ensures { IsTrue result ↔ (length space.now ≡ 16) }
+{
+    is_sixteen_bytes(space.as_bytes())
+}
+
+fn is_reference(reference: &Ref) -> bool
+    ensures { IsTrue result ↔ IsReference reference.now }
+{
+    let _id = reference.id.0;
+    let _class = reference.class.0;
+    is_space(&reference.space)
+}
+
+#[tactic(auto, unfolding(crate::specs::Wire::IsValue))]
+fn is_value(value: &Value) -> bool
+    ensures { IsTrue result ↔ IsValue value.now }
+{
+    match value {
+        Value::Null => true,
+        Value::Int(int) => {
+            let _int = *int;
+            true
+        }
+        Value::Ints(ints) => are_ints(ints.as_slice()),
+        Value::Ref(reference) => is_reference(reference),
+    }
+}
+
+pub(crate) fn is_result(outcome: &Option<Value>) -> bool
+    ensures { IsTrue result ↔ IfSome outcome.now IsValue }
+{
+    match outcome {
+        None => true,
+        Some(value) => is_value(value),
+    }
+}
+
+fn are_values(values: &[Value]) -> bool
+    ensures { IsTrue result ↔ AllByRecursion IsValue values.now }
+{
+    for value in values {
+        if !is_value(value) {
+            return false;
+        }
+    }
+    true
+}
+
+pub(crate) fn are_arguments(values: &[Value]) -> bool
+    ensures { IsTrue result ↔ AreArguments values.now }
+{
+    values.len() <= 255 && are_values(values)
+}
+
+fn is_id(id: &ObjId) -> bool
+    ensures { IsTrue result ↔ IsId id.now }
+{
+    let _number = id.0;
+    true
+}
+
+fn are_ids(ids: &[ObjId]) -> bool
+    ensures { IsTrue result ↔ AllByRecursion IsId ids.now }
+{
+    for id in ids {
+        if !is_id(id) {
+            return false;
+        }
+    }
+    true
+}
+
+pub(crate) fn are_objects(objects: &[ObjId]) -> bool
+    ensures { IsTrue result ↔ AreObjects objects.now }
+{
+    !objects.is_empty() && objects.len() <= 1024 && are_ids(objects)
+}
