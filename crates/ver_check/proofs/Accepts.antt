@@ -1,24 +1,48 @@
 -- From each method to all of them.
-use Rattle.std.proofs.Common.{◌≡◌, ℕ, ◌<◌, Option, Some, None, Err, List, length, ap, subst}
-use Rattle.std.specs.Prelude.{slice_get, IfSome}
+use Rattle.std.proofs.Common.{◌≡◌, ℕ, ◌<◌, Option, Some, None, Result, Ok, Err, List, length, refl, sym, ap, subst}
+use Rattle.std.specs.Prelude.{slice_get, option_and_then, IfErr, IfSome, IsSomeAnd}
 use Rattle.std.proofs.lemmas.Option.{option_and_then_some}
 use Rattle.cls_link.specs.Links.{Links}
 use Rattle.cls_link.specs.declared.linked.LinkedCode.{LinkedCode}
 use Rattle.cls_link.specs.declared.linked.LinkedMethod.{LinkedMethod}
 use Rattle.cls_set.specs.declared.class.Class.{Class}
-use Rattle.ver_check.specs.Acceptance.{AreSafe, IsSafeAt, subject_of}
+use Rattle.ver_check.specs.Acceptance.{IsSafeAt, subject_of}
+use Rattle.ver_check.specs.Faults.{IsCheckFault, IsMethodFault, IsNamed}
 use Rattle.ver_check.specs.Listed.{IsListed}
-use Rattle.ver_check.specs.Refusals.{SettlesSet}
+use Rattle.ver_check.specs.Refusals.{IsFaultAt, IsFaultIn, IsFaultOf}
 use Rattle.ver_check.specs.declared.fault.CheckFault.{CheckFault}
 use Rattle.ver_check.specs.declared.fault.CheckFault.TheVariants as fault
 use Rattle.ver_frames.specs.Method.{Subject}
 
--- where a method is not type safe, not all are
-pub refused : (e : CheckFault) (links : Links) (index : ℕ) → index < length links.methods → SettlesSet {X = Unit {0}} (Err e) (λ _. IsSafeAt links index) (¬ IsSafeAt links index)
-    → SettlesSet {X = Unit {0}} (Err e) (λ _. AreSafe links) (¬ AreSafe links)
-unfolding AreSafe
-refused (fault.Broken rule class method descriptor at) links index inside not_safe = λ all. not_safe (all index inside)
-refused fault.Memory links index inside not_safe = tt
+some_of : (o : Option Subject) (P : Subject → Type 0) → IsSomeAnd o P → (m : Subject) × (o ≡ Some m) × P m
+some_of None P h = absurd h
+some_of (Some m) P h = (m, refl, h)
+
+-- the fault of a method, before which all are type safe, is that of the class set
+pub first_fault : (e : CheckFault) (links : Links) (index : ℕ) → index < length links.methods → ((k : ℕ) → k < index → IsSafeAt links k) → IsFaultAt links index e → IsCheckFault links e
+first_fault (fault.Broken rule class method descriptor at) links index inside before wrong =
+    let found = some_of (option_and_then (subject_of links.classes) (slice_get links.methods index)) (λ m. IsNamed m class method descriptor × IsMethodFault m rule at) wrong in
+    record {
+      index = index;
+      inside = inside;
+      before = before;
+      subject = found.0;
+      stands = found.1;
+      named = found.2.0;
+      wrong = found.2.1;
+    }
+first_fault fault.Memory links index inside before wrong = tt
+
+of_subject : (e : CheckFault) (o : Option Subject) → IsSomeAnd o (λ m. IsFaultOf m e) → IsFaultIn o e
+of_subject (fault.Broken rule class method descriptor at) o wrong = wrong
+of_subject fault.Memory o wrong = tt
+
+-- the fault of a method is that of the method with its number
+pub fault_at : (links : Links) (index : ℕ) (m : LinkedMethod) (r : Result (Unit {0}) CheckFault) → slice_get links.methods index ≡ Some m
+    → IfErr r (λ e. IsSomeAnd (subject_of links.classes m) (λ s. IsFaultOf s e)) → IfErr r (IsFaultAt links index)
+fault_at links index m (Ok x) at wrong = tt
+fault_at links index m (Err e) at wrong =
+    subst (λ (o : Option LinkedMethod). IsFaultIn (option_and_then (subject_of links.classes) o) e) (sym at) (of_subject e (subject_of links.classes m) wrong)
 
 listed_of : (c : Option LinkedCode) (code : LinkedCode) → c ≡ Some code → IfSome c IsListed → IsListed code
 listed_of None code is listed = absurd (cc)

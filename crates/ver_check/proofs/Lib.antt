@@ -1,7 +1,9 @@
 pub mod Accepts
+pub mod Faults
+pub mod Flows
 pub mod Links
 pub mod Lookups
+pub mod Outcomes
 pub mod Stops
-pub mod Stores
 pub mod Typings
 pub mod Within

@@ -1,9 +1,9 @@
 -- The one pass and the typings of a body: a typing has the frames that the pass reaches, and where the pass comes
 -- through all instructions there is a typing.
-use Rattle.std.proofs.Common.{◌≡◌, ◌≢◌, ℕ, suc, ◌+◌, ◌<◌, ◌≤◌, Bool, true, false, Option, Some, None, List, length, refl, sym, ap, subst, ◌∙◌, arith}
+use Rattle.std.proofs.Common.{◌≡◌, ◌≢◌, ◌⊎◌, inl, inr, ℕ, zero, suc, ◌+◌, ◌<◌, ◌≤◌, Bool, true, false, Option, Some, None, List, length, refl, sym, ap, subst, ◌∙◌, arith}
 use Rattle.std.specs.Prelude.{◌==◌, if◌then◌else◌, MatchOption, MatchBool, IsSome, slice_get, option_and_then}
 use Rattle.std.proofs.lemmas.Bool.{eq-eqb, ne_eqb}
-use Rattle.std.proofs.lemmas.Option.{slice_get_within}
+use Rattle.std.proofs.lemmas.Option.{slice_get_cases, slice_get_within}
 use borrow.Author.Count.{below_more}
 use Rattle.cls_link.specs.declared.linked.LinkedInsn.{LinkedInsn}
 use Rattle.cls_set.specs.declared.class.Class.{Class}
@@ -83,6 +83,20 @@ module _ (body : Body) (frames : ℕ → Frame) (typing : IsTyping body frames) 
         lands = fine.lands;
         goes_to = goes_from place (falls_through insn) fine.after fine.goes_on;
       }
+
+  -- the pass reaches each instruction, with the frame of the typing
+  pub reaches_all : (place : ℕ) → place < length body.insns → Reaches body place (frames place)
+  reaches_all zero inside = begins (frames 0) (came_from body.classes (declared_at body 0) body.opening (frames 0) typing.opening (typing.declared 0))
+  reaches_all (suc place) inside =
+      elim (slice_get_cases body.insns place).1 [
+        | inl r ↦ comes_on place r.0 (frames place) (frames (suc place)) (reaches_all place (omega arith)) r.2 (passes_from place r.0 (frames place) refl r.2)
+        | inr r ↦ absurd (omega arith)
+      ]
+
+-- two typings agree at each instruction
+pub one_typing : (body : Body) (frames others : ℕ → Frame) → IsTyping body frames → IsTyping body others → (place : ℕ) → place < length body.insns → frames place ≡ others place
+one_typing body frames others one other place inside =
+    sym (reached body others other place (frames place) (reaches_all body frames one place inside) inside)
 
 -- where the pass does not come through an instruction, the body is not type safe
 pub refuted : (body : Body) (place : ℕ) (insn : LinkedInsn) (here : Frame) → Reaches body place here → insn_at body place ≡ Some insn

@@ -4,6 +4,8 @@ use Rattle.cls_link.specs.declared.linked.LinkedInsn.{LinkedInsn}
 use Rattle.ver_check.specs.Bodies.{Body, insn_at, declared_at}
 use Rattle.ver_check.specs.Effects.{effect, falls_through, targets}
 use Rattle.ver_check.specs.Typing.{Lands}
+use Rattle.ver_check.specs.declared.fault.CheckRule.{CheckRule}
+use Rattle.ver_check.specs.declared.fault.CheckRule.TheVariants.{NoFrame}
 use Rattle.ver_check.specs.declared.stop.Stop.{Stop}
 use Rattle.ver_check.specs.declared.stop.Stop.TheVariants.{Broken, Missing, Memory}
 use Rattle.ver_frames.specs.Assignable.{IsFrameAssignable}
@@ -40,9 +42,9 @@ pub data Reaches (body : Body) : ℕ → Frame → Type 0 where
   begins : (here : Frame) → ComesIn body 0 body.opening here → Reaches body 0 here
   comes_on : (place : ℕ) (insn : LinkedInsn) (here next : Frame) → Reaches body place here → insn_at body place ≡ Some insn → Passes body place insn here next → Reaches body (suc place) next
 
--- a function found that the first is so, or it stopped and the second is so, or for want of memory
-abbrev pub Settles : {X : Type 0} → Result X Stop → Type 0 → Type 0 → Type 0
-Settles (Ok x) so not_so = so
-Settles (Err (Broken rule)) so not_so = not_so
-Settles (Err (Missing place)) so not_so = not_so
-Settles (Err Memory) so not_so = Unit {0}
+-- a function found that this is so; or it stopped at the instruction at a place, and this is wrong; or memory ran out
+abbrev pub Settles : {X : Type 0} → ℕ → Result X Stop → Type 0 → (CheckRule → ℕ → Type 0) → Type 0
+Settles place (Ok x) so Wrong = so
+Settles place (Err (Broken rule)) so Wrong = Wrong rule place
+Settles place (Err (Missing missing)) so Wrong = Wrong NoFrame missing
+Settles place (Err Memory) so Wrong = Unit {0}

@@ -1,10 +1,12 @@
 pub mod Acceptance
 pub mod Bodies
 pub mod Effects
+pub mod Faults
 pub mod Flow
 pub mod Listed
 pub mod Makes
 pub mod Offsets
+pub mod Outcomes
 pub mod Refusals
 pub mod Settled
 pub mod Typing

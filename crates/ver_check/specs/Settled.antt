@@ -1,6 +1,7 @@
 use Rattle.std.specs.Prelude.{ℕ, List, Result, Ok, Err, slice_index}
 use Rattle.ver_check.specs.declared.check.BodyFault.{BodyFault}
 use Rattle.ver_check.specs.declared.check.BodyFault.TheVariants as fault
+use Rattle.ver_check.specs.declared.fault.CheckRule.{CheckRule}
 use Rattle.ver_check.specs.declared.fault.CheckRule.TheVariants.{NoFrame}
 use Rattle.ver_check.specs.declared.stop.Stop.{Stop}
 use Rattle.ver_check.specs.declared.stop.Stop.TheVariants as stop
@@ -11,9 +12,8 @@ fault_of offsets place (stop.Broken rule) = fault.Broken rule (slice_index offse
 fault_of offsets place (stop.Missing missing) = fault.Broken NoFrame (slice_index offsets missing)
 fault_of offsets place stop.Memory = fault.Memory
 
--- a function found a value of which the first is so; or the second is so, and it tells a fault; or
--- memory ran out
-abbrev pub SettlesBody : {X : Type 0} → Result X BodyFault → (X → Type 0) → Type 0 → Type 0
-SettlesBody (Ok x) So not_so = So x
-SettlesBody (Err (fault.Broken rule at)) So not_so = not_so
-SettlesBody (Err fault.Memory) So not_so = Unit {0}
+-- a function found a value of which this is so; or this is wrong, by rule and offset; or memory ran out
+abbrev pub SettlesBody : {X : Type 0} → Result X BodyFault → (X → Type 0) → (CheckRule → ℕ → Type 0) → Type 0
+SettlesBody (Ok x) So Wrong = So x
+SettlesBody (Err (fault.Broken rule at)) So Wrong = Wrong rule at
+SettlesBody (Err fault.Memory) So Wrong = Unit {0}

@@ -1,7 +1,8 @@
 //! Class sets that are accepted.
 
-ghost use Rattle.std.specs.Prelude.{◌≡◌};
+ghost use Rattle.std.specs.Prelude.{◌≡◌, IfErr};
 ghost use Rattle.ver_check.specs.Acceptance.{AreSafe};
+ghost use Rattle.ver_check.specs.Faults.{IsCheckFault};
 ghost use Rattle.ver_check.specs.Refusals.{SettlesSet};
 
 use super::all_methods::check_all;
@@ -40,10 +41,17 @@ impl Accepted {
     }
 }
 
-/// Accepts a linked class set, where every method is type safe. A method without code is. A fault
-/// names the first method at fault.
+/// Accepts a linked class set, where every method is type safe. A method without code is.
+///
+/// A fault names the first method, by number, that is not type safe. In it the faults of its
+/// StackMapTable come first, then more arguments than local variables (`Local` at 0), then the first
+/// instruction at which the pass over it stops (JVMS 4.10.1.6): by its local variables, its operands
+/// from the top, the method's result, the room on the stack, its targets in order, and what is behind
+/// it. `NoFrame` names the offset at which the frame is missing, every other rule the instruction
+/// that breaks it.
 pub fn accept(alloc: Global, linked: Linked) -> Result<Accepted, CheckFault>
-    ensures { SettlesSet result (λ accepted. (accepted ≡ linked) × AreSafe linked) (¬ AreSafe linked) }
+    ensures exact { SettlesSet result (λ accepted. (accepted ≡ linked) × AreSafe linked) (¬ AreSafe linked) }
+    ensures fault { IfErr result (IsCheckFault linked) }
 {
     check_all(alloc, &linked)?;
     Ok(Accepted { linked })

@@ -1,10 +1,11 @@
 //! Checking every method of a linked class set.
 
-ghost use Rattle.std.specs.Prelude.{◌≡◌, ◌<◌, IfSome, length};
+ghost use Rattle.std.specs.Prelude.{◌≡◌, ◌<◌, IfErr, IfOk, IfSome, IsSomeAnd, OnOk, length};
 ghost use Rattle.cls_link.specs.Links.{AreLinks};
 ghost use Rattle.ver_check.specs.Acceptance.{AreSafe, IsSafe, IsSafeAt, IsSafeMethod, subject_of};
 ghost use Rattle.ver_check.specs.Listed.{IsListed};
-ghost use Rattle.ver_check.specs.Refusals.{IsNamed, SettlesSet};
+ghost use Rattle.ver_check.specs.Faults.{IsCheckFault, IsMethodFault, IsNamed};
+ghost use Rattle.ver_check.specs.Refusals.{IsFaultAt, IsFaultOf, Names};
 ghost use Rattle.ver_check.specs.Settled.{SettlesBody};
 
 use super::body::BodyView;
@@ -49,7 +50,7 @@ fn view_of<'a>(classes: &'a ClassSet, method: &'a LinkedMethod) -> Option<Method
 // Whether a method with code is type safe.
 fn check_code(alloc: Global, method: &MethodView) -> Result<(), BodyFault>
     requires { IsListed method.now.linked }
-    ensures { SettlesBody result (λ _. IsSafe method.now) (¬ IsSafe method.now) }
+    ensures { SettlesBody result (λ _. IsSafe method.now) (IsMethodFault method.now) }
 {
     let frames = match declared(alloc, method) {
         Ok(frames) => frames,
@@ -71,7 +72,8 @@ fn check_code(alloc: Global, method: &MethodView) -> Result<(), BodyFault>
 // Whether a method is type safe.
 fn check_method(alloc: Global, classes: &ClassSet, method: &LinkedMethod) -> Result<(), CheckFault>
     requires { IfSome method.now.code IsListed }
-    ensures { SettlesSet result (λ _. IsSafeMethod classes.now method.now) (¬ IsSafeMethod classes.now method.now) }
+    ensures ok { OnOk result (IsSafeMethod classes.now method.now) }
+    ensures fault { IfErr result (λ fault. IsSomeAnd (subject_of classes.now method.now) (λ m. IsFaultOf m fault)) }
 {
     let Some(view) = view_of(classes, method) else {
         return Ok(());
@@ -86,7 +88,8 @@ fn check_method(alloc: Global, classes: &ClassSet, method: &LinkedMethod) -> Res
 fn check_at(alloc: Global, linked: &Linked, index: usize) -> Result<(), CheckFault>
     requires inside { index < length linked.now.methods }
     requires links { AreLinks linked.now }
-    ensures { SettlesSet result (λ _. IsSafeAt linked.now index) (¬ IsSafeAt linked.now index) }
+    ensures ok { OnOk result (IsSafeAt linked.now index) }
+    ensures fault { IfErr result (IsFaultAt linked.now index) }
 {
     // There are no more methods than numbers of methods.
     let Ok(number) = u32::try_from(index) else {
@@ -98,7 +101,8 @@ fn check_at(alloc: Global, linked: &Linked, index: usize) -> Result<(), CheckFau
 
 // Whether all methods are type safe.
 pub(crate) fn check_all(alloc: Global, linked: &Linked) -> Result<(), CheckFault>
-    ensures { SettlesSet result (λ _. AreSafe linked.now) (¬ AreSafe linked.now) }
+    ensures ok { OnOk result (AreSafe linked.now) }
+    ensures fault { IfErr result (IsCheckFault linked.now) }
 {
     for index in 0..linked.len() {
         check_at(alloc, linked, index)?;
@@ -108,7 +112,7 @@ pub(crate) fn check_all(alloc: Global, linked: &Linked) -> Result<(), CheckFault
 
 // The fault of a method, with its names.
 fn named(fault: BodyFault, view: &MethodView) -> CheckFault
-    ensures { IsNamed fault result }
+    ensures { Names view.now fault result }
 {
     let BodyFault::Broken { rule, at } = fault else {
         return CheckFault::Memory;
@@ -126,7 +130,9 @@ fn named(fault: BodyFault, view: &MethodView) -> CheckFault
 }
 
 // Copies of the names of a method's class, of itself and of its descriptor.
-fn copies(view: &MethodView) -> Result<(Text, Text, Text), AllocError> {
+fn copies(view: &MethodView) -> Result<(Text, Text, Text), AllocError>
+    ensures { IfOk result (λ names. IsNamed view.now names.0 names.1 names.2) }
+{
     let class = view.class.file.name.copy()?;
     let method = view.method.name.copy()?;
     let descriptor = view.method.descriptor.copy()?;

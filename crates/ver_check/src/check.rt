@@ -24,8 +24,9 @@ impl From<AllocError> for BodyFault {
 }
 
 impl BodyView<'_> {
-    ghost use Rattle.std.specs.Prelude.{◌≡◌, ◌+◌, ◌<◌, [], Some, IfOk, ℕ, length, slice_index};
+    ghost use Rattle.std.specs.Prelude.{◌≡◌, ◌+◌, ◌<◌, ◌≤◌, [], Some, IfOk, ℕ, length, slice_index};
     ghost use Rattle.ver_check.specs.Bodies.{declared_at, insn_at};
+    ghost use Rattle.ver_check.specs.Faults.{IsBodyFault};
     ghost use Rattle.ver_check.specs.Flow.{Reaches};
     ghost use Rattle.ver_check.specs.Settled.{SettlesBody, fault_of};
     ghost use Rattle.ver_check.specs.Typing.{IsTypeSafe, IsWithin};
@@ -91,14 +92,11 @@ impl BodyView<'_> {
     fn begin(&self, alloc: Global) -> Result<TypeFrame, BodyFault>
         ensures { SettlesBody result
             (λ frame. Reaches self.now 0 frame × IsWithin self.now self.now.opening)
-            (¬ IsTypeSafe self.now) }
+            (IsBodyFault self.now) }
     {
         let mut frame = self.opening(alloc)?;
         if frame.locals().len() > self.max_locals() {
-            return Err(BodyFault::Broken {
-                rule: CheckRule::Local,
-                at: 0,
-            });
+            return Err(self.fault(Stop::Broken(CheckRule::Local), 0));
         }
         match self.enter(&mut frame, 0) {
             Ok(()) => Ok(frame),
@@ -108,9 +106,10 @@ impl BodyView<'_> {
 
     // The pass comes through the instruction at a place, which it has reached with this frame.
     fn advance(&self, frame: &mut TypeFrame, place: usize) -> Result<(), BodyFault>
+        requires arguments { length self.now.opening.locals ≤ self.now.max_locals }
         requires inside { place < length self.now.insns }
         requires reached { Reaches self.now place frame.old }
-        ensures { SettlesBody result (λ _. Reaches self.now (place + 1) frame.new) (¬ IsTypeSafe self.now) }
+        ensures { SettlesBody result (λ _. Reaches self.now (place + 1) frame.new) (IsBodyFault self.now) }
     {
         match self.pass(frame, place, self.insn(place)) {
             Ok(()) => Ok(()),
@@ -122,7 +121,7 @@ impl BodyView<'_> {
     pub(crate) fn check(&self, alloc: Global) -> Result<(), BodyFault>
         requires listed { length self.now.offsets ≡ length self.now.insns }
         requires within { (place : ℕ) (declared : Frame) → declared_at self.now place ≡ Some declared → IsWithin self.now declared }
-        ensures { SettlesBody result (λ _. IsTypeSafe self.now) (¬ IsTypeSafe self.now) }
+        ensures { SettlesBody result (λ _. IsTypeSafe self.now) (IsBodyFault self.now) }
     {
         let mut frame = self.begin(alloc)?;
         for place in 0..self.insn_count() {

@@ -1,7 +1,8 @@
 //! The effect of each instruction on a frame (JVMS 4.10.1.9).
 
 ghost use Rattle.std.specs.Prelude.{◌≡◌};
-ghost use Rattle.ver_check.specs.Effects.{taken, give, load, store, moved, effect, local_type, is_kind};
+ghost use Rattle.ver_check.specs.Effects.{is_kind};
+ghost use Rattle.ver_check.specs.Outcomes.{taken, give, load, store, moved, outcome, local_type};
 ghost use Rattle.cls_link.specs.declared.linked.LinkedInsn.TheVariants.{Return, ReturnValue};
 ghost use Rattle.ver_check.specs.Makes.{Makes, wanted};
 
@@ -39,7 +40,7 @@ fn kind_wanted(kind: ValueKind) -> Want
 }
 
 // Takes the operand off the top, where it is what is wanted.
-#[tactic(auto, unfolding(crate::specs::Effects::taken))]
+#[tactic(auto, unfolding(crate::specs::Outcomes::taken))]
 fn take(frame: &mut TypeFrame, want: Want) -> Result<VType, Stop>
     ensures taken { Makes (λ top. (top, frame.new)) result (taken (wanted want) frame.old) }
     ensures locals { frame.new.locals ≡ frame.old.locals }
@@ -54,7 +55,7 @@ fn take(frame: &mut TypeFrame, want: Want) -> Result<VType, Stop>
 }
 
 // The type of a local variable, where it is what is wanted.
-#[tactic(auto, unfolding(crate::specs::Effects::local_type))]
+#[tactic(auto, unfolding(crate::specs::Outcomes::local_type))]
 fn local_type(frame: &TypeFrame, want: Want, local: u16) -> Result<VType, Stop>
     ensures { Makes (λ kind. kind) result (local_type (wanted want) local frame.now) }
 {
@@ -65,7 +66,6 @@ fn local_type(frame: &TypeFrame, want: Want, local: u16) -> Result<VType, Stop>
 }
 
 // Pops into a local variable.
-#[tactic(auto, using(crate::proofs::Stores::store_outside), unfolding(crate::specs::Effects::set_local))]
 fn store(frame: &mut TypeFrame, kind: ValueKind, local: u16) -> Result<(), Stop>
     ensures { Makes (λ _. frame.new) result (store kind local frame.old) }
 {
@@ -95,7 +95,7 @@ impl BodyView<'_> {
     }
 
     // Puts an operand on top, where there is room.
-    #[tactic(auto, unfolding(crate::specs::Effects::give))]
+    #[tactic(auto, unfolding(crate::specs::Outcomes::give))]
     fn give(&self, frame: &mut TypeFrame, kind: VType) -> Result<(), Stop>
         ensures { Makes (λ _. frame.new) result (give self.now kind frame.old) }
     {
@@ -134,9 +134,9 @@ impl BodyView<'_> {
     }
 
     // Returns the operand on top.
-    #[tactic(auto, unfolding(crate::specs::Effects::effect))]
+    #[tactic(auto, unfolding(crate::specs::Outcomes::outcome))]
     fn return_value(&self, frame: &mut TypeFrame, kind: ValueKind) -> Result<(), Stop>
-        ensures { Makes (λ _. frame.new) result (effect self.now (ReturnValue kind) frame.old) }
+        ensures { Makes (λ _. frame.new) result (outcome self.now (ReturnValue kind) frame.old) }
     {
         take(frame, kind_wanted(kind))?;
         match self.result_type() {
@@ -146,9 +146,9 @@ impl BodyView<'_> {
     }
 
     // Returns nothing.
-    #[tactic(auto, unfolding(crate::specs::Effects::effect))]
+    #[tactic(auto, unfolding(crate::specs::Outcomes::outcome))]
     fn return_nothing(&self, frame: &TypeFrame) -> Result<(), Stop>
-        ensures { Makes (λ _. frame.now) result (effect self.now Return frame.now) }
+        ensures { Makes (λ _. frame.now) result (outcome self.now Return frame.now) }
     {
         if frame.flag_this_uninit() {
             return Err(Stop::Broken(CheckRule::Uninitialized));
@@ -160,9 +160,9 @@ impl BodyView<'_> {
     }
 
     // Makes the effect of an instruction.
-    #[tactic(auto, unfolding(crate::specs::Effects::effect))]
+    #[tactic(auto, unfolding(crate::specs::Outcomes::outcome))]
     pub(crate) fn apply(&self, frame: &mut TypeFrame, insn: LinkedInsn) -> Result<(), Stop>
-        ensures { Makes (λ _. frame.new) result (effect self.now insn frame.old) }
+        ensures { Makes (λ _. frame.new) result (outcome self.now insn frame.old) }
     {
         match insn {
             LinkedInsn::Nop | LinkedInsn::Goto { .. } => Ok(()),

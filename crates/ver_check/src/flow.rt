@@ -35,9 +35,10 @@ fn falls_through(insn: LinkedInsn) -> bool
 impl BodyView<'_> {
     ghost use Rattle.std.specs.Prelude.{◌≡◌, ◌<◌, option_copied, length, ℕ};
     ghost use Rattle.ver_check.specs.Bodies.{declared_at};
+    ghost use Rattle.ver_check.specs.Effects.{targets};
+    ghost use Rattle.ver_check.specs.Faults.{IsWrongAmong, IsWrongAt, IsWrongEntry, IsWrongNext, IsWrongTarget};
     ghost use Rattle.ver_check.specs.Flow.{ComesIn, GoesTo, LandsOnAll, Passes, Settles};
     ghost use Rattle.ver_check.specs.Typing.{Lands};
-    ghost use Rattle.ver_frames.specs.Frames.{Frame};
 
     // How many instructions there are.
     pub(crate) fn insn_count(&self) -> usize
@@ -59,7 +60,7 @@ impl BodyView<'_> {
 
     // A frame comes in at a place, and becomes the one that is declared there, where one is.
     pub(crate) fn enter(&self, frame: &mut TypeFrame, place: usize) -> Result<(), Stop>
-        ensures { Settles result (ComesIn self.now place frame.old frame.new) ((here : Frame) → ¬ ComesIn self.now place frame.old here) }
+        ensures { (from : ℕ) → Settles from result (ComesIn self.now place frame.old frame.new) (IsWrongEntry self.now place frame.old from) }
     {
         let Some(declared) = self.declared_at(place) else {
             return Ok(());
@@ -74,7 +75,7 @@ impl BodyView<'_> {
 
     // A frame comes in at the target of a branch, where one has to be declared.
     fn land(&self, frame: &TypeFrame, target: u16) -> Result<(), Stop>
-        ensures { Settles result (Lands self.now frame.now target) (¬ Lands self.now frame.now target) }
+        ensures { (from : ℕ) → Settles from result (Lands self.now frame.now target) (IsWrongTarget self.now from frame.now target) }
     {
         let place = usize::from(target);
         let Some(declared) = self.declared_at(place) else {
@@ -89,7 +90,7 @@ impl BodyView<'_> {
 
     // A frame comes in at each target of an instruction.
     fn land_on_all(&self, frame: &TypeFrame, insn: LinkedInsn) -> Result<(), Stop>
-        ensures { Settles result (LandsOnAll self.now insn frame.now) (¬ LandsOnAll self.now insn frame.now) }
+        ensures { (from : ℕ) → Settles from result (LandsOnAll self.now insn frame.now) (IsWrongAmong self.now from frame.now (targets insn)) }
     {
         match insn {
             LinkedInsn::If { target, .. }
@@ -102,7 +103,7 @@ impl BodyView<'_> {
     // The pass goes on behind an instruction, whose effect gave this frame.
     fn go_on(&self, frame: &mut TypeFrame, place: usize, insn: LinkedInsn) -> Result<(), Stop>
         requires { place < length self.now.insns }
-        ensures { Settles result (GoesTo self.now place insn frame.old frame.new) ((next : Frame) → ¬ GoesTo self.now place insn frame.old next) }
+        ensures { Settles place result (GoesTo self.now place insn frame.old frame.new) (IsWrongNext self.now place insn frame.old) }
     {
         let count = self.insn_count();
         let next = place + 1;
@@ -130,7 +131,7 @@ impl BodyView<'_> {
         insn: LinkedInsn,
     ) -> Result<(), Stop>
         requires { place < length self.now.insns }
-        ensures { Settles result (Passes self.now place insn frame.old frame.new) ((next : Frame) → ¬ Passes self.now place insn frame.old next) }
+        ensures { Settles place result (Passes self.now place insn frame.old frame.new) (IsWrongAt self.now place insn frame.old) }
     {
         self.apply(frame, insn)?;
         self.land_on_all(frame, insn)?;

@@ -3,6 +3,7 @@
 
 pub use accepted::{Accepted, accept};
 pub use fault::{CheckFault, CheckRule};
+pub use laws::one_typing;
 pub use ver_frames::{
     BinaryOperator, Class, ClassFile, ClassId, ClassSet, Code, Condition, ElementType, Field,
     FieldType, Flags, Linked, LinkedCode, LinkedInsn, LinkedMethod, Method, MethodDescriptor,
@@ -17,4 +18,7 @@ mod check;
 mod effects;
 mod fault;
 mod flow;
+mod laws;
 mod stop;
+#[cfg(test)]
+mod tests;

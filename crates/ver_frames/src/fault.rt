@@ -46,6 +46,15 @@ pub enum StackMapFault {
     Memory,
 }
 
+impl Numbered for StackMapFault {
+    fn number(&self) -> u8 {
+        match self {
+            StackMapFault::Broken { rule, .. } => rule.number(),
+            StackMapFault::Memory => 15,
+        }
+    }
+}
+
 impl From<AllocError> for StackMapFault {
     ghost from_gives = { λ _ fault. fault ≡ Memory };
 

@@ -1,10 +1,9 @@
-use Rattle.std.proofs.Common.{◌+◌, add-one}
+use Rattle.std.proofs.Common.{◌+◌, add-one, refl}
 use Rattle.ver_check.proofs.Stops.{stopped}
-use Rattle.ver_check.proofs.Typings.{refuted}
+use Rattle.ver_check.specs.Faults as faults
+use Rattle.ver_check.specs.Faults.{IsBodyFault, IsWrongAt}
 use Rattle.ver_check.specs.Flow.{Passes, Reaches}
 use Rattle.ver_check.specs.Flow.Reaches.{comes_on}
-use Rattle.ver_check.specs.Typing.{IsTypeSafe}
-use Rattle.ver_frames.specs.Frames.{Frame}
 use Rattle.ver_check.proofs.body.BodyView.advance.Goals as goal
 
 pub returns-in-Ok : goal.returns-in-Ok
@@ -16,4 +15,5 @@ returns-in-Err c =
     let body = c.args.self.now in
     let insn = c.insn.result in
     let here = c.args.frame.now in
-    rw c.fault.ensures (stopped body.offsets c.args.place c.in-Err.stop (Passes body c.args.place insn here c.pass.new.frame) ((next : Frame) → ¬ Passes body c.args.place insn here next) (¬ IsTypeSafe body) (λ _. Reaches body (c.args.place + 1) c.pass.new.frame) (refuted body c.args.place insn here c.requires.reached c.insn.ensures) c.in-Err.ensures)
+    rw c.fault.ensures (stopped body.offsets c.args.place c.in-Err.stop (Passes body c.args.place insn here c.pass.new.frame) (IsWrongAt body c.args.place insn here) (IsBodyFault body) (λ _. Reaches body (c.args.place + 1) c.pass.new.frame)
+    (λ rule told wrong. record { told = told; wrong = faults.IsWrongBody.instruction c.requires.arguments c.args.place insn here c.requires.reached c.insn.ensures wrong; offset = refl }) c.in-Err.ensures)

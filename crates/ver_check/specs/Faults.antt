@@ -1,0 +1,105 @@
+-- Why a class set is not accepted: what the check meets first.
+use Rattle.std.specs.Prelude.{◌≡◌, ◌⊎◌, ℕ, suc, ◌<◌, ◌≤◌, Some, None, Result, Ok, Err, List, [], ◌∷◌, length, slice_get, slice_index, option_and_then, MatchBool, IsSomeAnd}
+use Rattle.cls_link.specs.Links.{Links}
+use Rattle.cls_link.specs.declared.linked.LinkedInsn.{LinkedInsn}
+use Rattle.ver_check.specs.Acceptance.{IsSafeAt, subject_of}
+use Rattle.ver_check.specs.Bodies.{Body, body_of, insn_at, declared_at}
+use Rattle.ver_check.specs.Effects.{effect, falls_through, targets}
+use Rattle.ver_check.specs.Flow.{LandsOnAll, Reaches}
+use Rattle.ver_check.specs.Outcomes.{outcome}
+use Rattle.ver_check.specs.Typing.{Lands}
+use Rattle.ver_check.specs.declared.fault.CheckFault.{CheckFault}
+use Rattle.ver_check.specs.declared.fault.CheckFault.TheVariants as fault
+use Rattle.ver_check.specs.declared.fault.CheckRule.{CheckRule}
+use Rattle.ver_check.specs.declared.fault.CheckRule.TheVariants.{StackMap, NoFrame, NotAssignable, FallsOff, Local}
+use Rattle.ver_frames.specs.Assignable.{IsFrameAssignable}
+use Rattle.ver_frames.specs.Frames.{Frame}
+use Rattle.ver_frames.specs.Method.{Subject}
+use Rattle.ver_frames.specs.StackMap.{declared_frames}
+use Rattle.ver_frames.specs.declared.fault.StackMapFault.{StackMapFault}
+use Rattle.ver_frames.specs.declared.fault.StackMapFault.TheVariants as frames
+
+-- Each of these takes the rule that is broken, and the place of the instruction at which that is told.
+
+-- what comes from a place is not assignable to the frame that is declared here: that is told at the place that it
+-- comes from
+abbrev pub IsWrongEntry : Body → ℕ → Frame → ℕ → CheckRule → ℕ → Type 0
+IsWrongEntry body here given from rule told =
+    IsSomeAnd (declared_at body here) (λ declared. ¬ IsFrameAssignable body.classes given declared × (rule ≡ NotAssignable) × (told ≡ from))
+
+-- no frame is declared here: that is told here
+abbrev pub IsMissing : Body → ℕ → CheckRule → ℕ → Type 0
+IsMissing body here rule told = (declared_at body here ≡ None) × (rule ≡ NoFrame) × (told ≡ here)
+
+-- a frame does not land on one that is declared at the target of a branch
+abbrev pub IsWrongTarget : Body → ℕ → Frame → ℕ → CheckRule → ℕ → Type 0
+IsWrongTarget body place after target rule told = IsMissing body target rule told ⊎ IsWrongEntry body target after place rule told
+
+-- at the first of these targets at which it does not land
+abbrev pub IsWrongAmong : Body → ℕ → Frame → List ℕ → CheckRule → ℕ → Type 0
+IsWrongAmong body place after [] rule told = ⊥
+IsWrongAmong body place after (target ∷ others) rule told =
+    IsWrongTarget body place after target rule told ⊎ (Lands body after target × IsWrongAmong body place after others rule told)
+
+-- the pass does not go on behind an instruction, whose effect gave this frame
+abbrev pub IsWrongNext : Body → ℕ → LinkedInsn → Frame → CheckRule → ℕ → Type 0
+IsWrongNext body place insn after rule told =
+    MatchBool (falls_through insn)
+    (((length body.insns ≤ suc place) × (rule ≡ FallsOff) × (told ≡ place)) ⊎ ((suc place < length body.insns) × IsWrongEntry body (suc place) after place rule told))
+    ((suc place < length body.insns) × IsMissing body (suc place) rule told)
+
+-- the pass does not come through an instruction: it breaks a rule in this frame; or it does not, and then its
+-- targets are looked at, in order; or they are in order, and then what is behind it
+pub data IsWrongAt (body : Body) (place : ℕ) (insn : LinkedInsn) (here : Frame) (rule : CheckRule) (told : ℕ) : Type 0 where
+  acts : outcome body insn here ≡ Err rule → told ≡ place → IsWrongAt body place insn here rule told
+  lands : (after : Frame) → effect body insn here ≡ Some after → IsWrongAmong body place after (targets insn) rule told → IsWrongAt body place insn here rule told
+  goes_on : (after : Frame) → effect body insn here ≡ Some after → LandsOnAll body insn after → IsWrongNext body place insn after rule told → IsWrongAt body place insn here rule told
+
+-- the pass over a body stops: there are more arguments than local variables; or they fit, and the opening frame is not
+-- assignable to the one that is declared at the first instruction; or the pass reaches an instruction and does not
+-- come through it
+pub data IsWrongBody (body : Body) (rule : CheckRule) (told : ℕ) : Type 0 where
+  arguments : body.max_locals < length body.opening.locals → rule ≡ Local → told ≡ 0 → IsWrongBody body rule told
+  opening : length body.opening.locals ≤ body.max_locals → IsWrongEntry body 0 body.opening 0 rule told → IsWrongBody body rule told
+  instruction : length body.opening.locals ≤ body.max_locals → (place : ℕ) (insn : LinkedInsn) (here : Frame) → Reaches body place here → insn_at body place ≡ Some insn → IsWrongAt body place insn here rule told → IsWrongBody body rule told
+
+-- the rule that is broken, and the offset of the instruction at which that is told
+pub record IsBodyFault (body : Body) (rule : CheckRule) (at : ℕ) : Type 0 where
+  pub told : ℕ
+  pub wrong : IsWrongBody body rule told
+  pub offset : at ≡ slice_index body.offsets told
+
+-- the fault of a table of frames
+abbrev pub IsFrameFault : StackMapFault → CheckRule → ℕ → Type 0
+IsFrameFault frames.Memory rule at = ⊥
+IsFrameFault (frames.Broken broken place) rule at = (rule ≡ StackMap broken) × (at ≡ place)
+
+-- the same of a method, by what its table of frames gives
+abbrev pub IsFaultWith : Subject → Result (List (ℕ × Frame)) StackMapFault → CheckRule → ℕ → Type 0
+IsFaultWith m (Ok declared) rule at = IsBodyFault (body_of m declared) rule at
+IsFaultWith m (Err broken) rule at = IsFrameFault broken rule at
+
+-- the table of a method declares no frames, which comes first; or the body with them is at fault
+abbrev pub IsMethodFault : Subject → CheckRule → ℕ → Type 0
+IsMethodFault m rule at = IsFaultWith m (declared_frames m) rule at
+
+-- the names of a method and of its class
+pub record IsNamed (m : Subject) (class method descriptor : List ℕ) : Type 0 where
+  pub class_name : class ≡ m.class.file.name
+  pub method_name : method ≡ m.method.name
+  pub method_descriptor : descriptor ≡ m.method.descriptor
+
+-- the first method that is not type safe, by its names, and its fault
+pub record IsFirstFault (links : Links) (rule : CheckRule) (class method descriptor : List ℕ) (at : ℕ) : Type 0 where
+  pub index : ℕ
+  pub inside : index < length links.methods
+  pub before : (k : ℕ) → k < index → IsSafeAt links k
+  pub subject : Subject
+  pub stands : option_and_then (subject_of links.classes) (slice_get links.methods index) ≡ Some subject
+  pub named : IsNamed subject class method descriptor
+  pub wrong : IsMethodFault subject rule at
+
+-- the fault of a class set that is not accepted, unless memory ran out
+abbrev pub IsCheckFault : Links → CheckFault → Type 0
+IsCheckFault links fault.Memory = Unit {0}
+IsCheckFault links (fault.Broken rule class method descriptor at) = IsFirstFault links rule class method descriptor at

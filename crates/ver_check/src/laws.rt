@@ -1,0 +1,13 @@
+//! Laws of type safety.
+
+ghost use Rattle.std.specs.Prelude.{◌≡◌, ◌<◌, ℕ, length};
+ghost use Rattle.ver_check.specs.Bodies.{Body};
+ghost use Rattle.ver_check.specs.Typing.{IsTyping};
+ghost use Rattle.ver_frames.specs.Frames.{Frame};
+
+/// Any two typings of a body agree at each of its instructions: what type a local variable or an
+/// operand has there is settled by the body alone (JVMS 4.10.1.6).
+pub fn one_typing()
+    ensures { (body : Body) (frames others : ℕ → Frame) → IsTyping body frames → IsTyping body others
+        → (place : ℕ) → place < length body.insns → frames place ≡ others place }
+{}
