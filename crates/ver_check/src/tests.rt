@@ -17,7 +17,7 @@ struct Case<'a> {
 }
 
 // A static method `f(I)I` with one operand at most, and two local variables.
-fn case<'a>(bytes: &'a [u8], frames: &'a [u8]) -> Case<'a> {
+fn make_case<'a>(bytes: &'a [u8], frames: &'a [u8]) -> Case<'a> {
     Case {
         flags: Flags::STATIC,
         name: b"f",
@@ -101,7 +101,7 @@ const SUM: [u8; 18] = [
 fn sum(frames: &[u8]) -> Case<'_> {
     Case {
         max_stack: 2,
-        ..case(&SUM, frames)
+        ..make_case(&SUM, frames)
     }
 }
 
@@ -109,8 +109,8 @@ fn sum(frames: &[u8]) -> Case<'_> {
 fn a_loop_is_accepted(rt: HostRuntime) -> Result<(), Fail> {
     let frames = [0, 2, 0xfc, 0, 2, 1, 0x0d];
     assert_eq!(rt; checked(rt.alloc(), sum(&frames))?, (0, 0));
-    // Dead code with a frame, and a frame that nothing jumps to: iconst_0, ireturn, iconst_0, ireturn.
-    let dead = case(&[0x03, 0xac, 0x03, 0xac], &[0, 2, 2, 0]);
+    // Dead code with a frame, and a frame that nothing jumps to: iconst_0, ireturn, nop, iconst_0, ireturn.
+    let dead = make_case(&[0x03, 0xac, 0x00, 0x03, 0xac], &[0, 2, 2, 0]);
     assert_eq!(rt; checked(rt.alloc(), dead)?, (0, 0));
     Ok(())
 }
@@ -135,37 +135,49 @@ fn tables_that_declare_no_frames(rt: HostRuntime) -> Result<(), Fail> {
 fn instructions_at_fault(rt: HostRuntime) -> Result<(), Fail> {
     let none = [0, 0];
     // iadd; iconst_0, iconst_0.
-    assert_eq!(rt; checked(rt.alloc(), case(&[0x60, 0xac], &none))?, (60, 0));
     assert_eq!(rt;
-        checked(rt.alloc(), case(&[0x03, 0x03, 0x60, 0xac], &none))?,
+        checked(rt.alloc(), make_case(&[0x60, 0xac], &none))?,
+        (60, 0)
+    );
+    assert_eq!(rt;
+        checked(rt.alloc(), make_case(&[0x03, 0x03, 0x60, 0xac], &none))?,
         (61, 1)
     );
     // Behind ireturn a frame with null on the stack, and ineg.
     let null = [0, 1, 0x42, 5];
     assert_eq!(rt;
-        checked(rt.alloc(), case(&[0x03, 0xac, 0x74, 0xac], &null))?,
+        checked(rt.alloc(), make_case(&[0x03, 0xac, 0x74, 0xac], &null))?,
         (62, 2)
     );
     // goto 3 without a frame there; goto 4 with one there, and none behind it.
     assert_eq!(rt;
-        checked(rt.alloc(), case(&[0xa7, 0, 3, 0x03, 0xac], &none))?,
+        checked(rt.alloc(), make_case(&[0xa7, 0, 3, 0x03, 0xac], &none))?,
         (64, 3)
     );
     let behind = [0, 1, 4];
     assert_eq!(rt;
-        checked(rt.alloc(), case(&[0xa7, 0, 4, 0, 0x03, 0xac], &behind))?,
+        checked(rt.alloc(), make_case(&[0xa7, 0, 4, 0, 0x03, 0xac], &behind))?,
         (64, 3)
     );
     // ifne to a frame with an int that is not there yet.
     let int = [0, 1, 0xfc, 0, 4, 1];
     assert_eq!(rt;
-        checked(rt.alloc(), case(&[0x03, 0x9a, 0, 3, 0x03, 0xac], &int))?,
+        checked(rt.alloc(), make_case(&[0x03, 0x9a, 0, 3, 0x03, 0xac], &int))?,
         (65, 1)
     );
-    assert_eq!(rt; checked(rt.alloc(), case(&[0x00, 0x03], &none))?, (66, 1));
+    assert_eq!(rt;
+        checked(rt.alloc(), make_case(&[0x00, 0x03], &none))?,
+        (66, 1)
+    );
     // iload_1, which holds nothing.
-    assert_eq!(rt; checked(rt.alloc(), case(&[0x1b, 0xac], &none))?, (67, 0));
-    assert_eq!(rt; checked(rt.alloc(), case(&[0x00, 0xb1], &none))?, (68, 1));
+    assert_eq!(rt;
+        checked(rt.alloc(), make_case(&[0x1b, 0xac], &none))?,
+        (67, 0)
+    );
+    assert_eq!(rt;
+        checked(rt.alloc(), make_case(&[0x00, 0xb1], &none))?,
+        (68, 1)
+    );
     Ok(())
 }
 
@@ -177,12 +189,12 @@ fn methods_at_fault(rt: HostRuntime) -> Result<(), Fail> {
         name: b"<init>",
         parameters: 0,
         is_void: true,
-        ..case(&[0x00, 0xb1], &none)
+        ..make_case(&[0x00, 0xb1], &none)
     };
     assert_eq!(rt; checked(rt.alloc(), init)?, (63, 1));
     let arguments = Case {
         parameters: 3,
-        ..case(&[0x60], &none)
+        ..make_case(&[0x60], &none)
     };
     assert_eq!(rt; checked(rt.alloc(), arguments)?, (67, 0));
     Ok(())
@@ -193,13 +205,13 @@ fn of_two_faults_in_an_instruction_the_first_counts(rt: HostRuntime) -> Result<(
     let none = [0, 0];
     // istore 5 has no such local variable, and no operand.
     assert_eq!(rt;
-        checked(rt.alloc(), case(&[0x36, 5, 0xb1], &none))?,
+        checked(rt.alloc(), make_case(&[0x36, 5, 0xb1], &none))?,
         (67, 0)
     );
     // ireturn of a void method has no operand.
     let void = Case {
         is_void: true,
-        ..case(&[0xac], &none)
+        ..make_case(&[0xac], &none)
     };
     assert_eq!(rt; checked(rt.alloc(), void)?, (60, 0));
     Ok(())
