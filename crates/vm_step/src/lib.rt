@@ -23,3 +23,5 @@ mod phase;
 mod run;
 mod start;
 mod task;
+#[cfg(test)]
+mod tests;

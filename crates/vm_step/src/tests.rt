@@ -1,0 +1,166 @@
+ghost use Rattle.std.specs.Prelude.{◌≡◌, ◌+◌, ◌<◌, ◌^◌, IfOk};
+
+use super::start::refuses;
+use super::*;
+use cf_pool::Row;
+use cf_reader::read_class;
+use cls_link::{ElementType, FieldType, Flags, Method, MethodDescriptor, Text, link};
+use cls_set::ClassSet;
+use std::alloc::{AllocError, Global};
+use std::process::Abort;
+use std::test::Fail;
+use ver_check::accept;
+
+// The class of examples/sum. Its method f stands behind the one of java/lang/Object.
+const SUM: &[u8] =
+    b"\xca\xfe\xba\xbe\0\0\0\x34\0\x09\x01\0\x01T\x07\0\x01\x01\0\x10java/lang/Object\
+\x07\0\x03\x01\0\x01f\x01\0\x04(I)I\x01\0\x04Code\x01\0\x0dStackMapTable\0\x21\0\x02\0\x04\0\0\0\0\0\x01\
+\0\x09\0\x05\0\x06\0\x01\0\x07\0\0\0\x2b\0\x02\0\x02\0\0\0\x12\x03\x3c\x1a\x9e\0\x0d\x1b\x1a\x60\x3c\x84\
+\0\xff\xa7\xff\xf5\x1b\xac\0\0\0\x01\0\x08\0\0\0\x07\0\x02\xfc\0\x02\x01\x0d\0\0";
+
+fn sum(alloc: Global) -> Result<Accepted, Fail> {
+    let mut files = Vec::new(alloc);
+    files.push(read_class(alloc, SUM)?)?;
+    let set = ClassSet::build(alloc, files)?;
+    Ok(accept(alloc, link(alloc, set)?)?)
+}
+
+fn method(program: &Accepted, name: &[u8]) -> Option<MethodId> {
+    let linked = program.linked();
+    let class = linked.set().number(b"T")?;
+    linked.method(class, name, b"(I)I")
+}
+
+fn limits(stack_words: u32, fuel: u64) -> Limits
+    ensures { result.heap_words + result.references < 2 ^ 32 }
+{
+    Limits {
+        heap_words: 0,
+        stack_words,
+        references: 0,
+        fuel,
+    }
+}
+
+fn ints(alloc: Global, numbers: &[i32]) -> Result<Vec<Value>, AllocError> {
+    let mut values = Vec::new(alloc);
+    for n in numbers {
+        values.push(Value::Int(*n))?;
+    }
+    Ok(values)
+}
+
+fn begin(
+    alloc: Global,
+    program: &Accepted,
+    arguments: &[i32],
+    limits: Limits,
+) -> Result<Task, StartFault>
+    requires { limits.heap_words + limits.references < 2 ^ 32 }
+    ensures { IfOk result (λ task. task.program ≡ program.now) }
+{
+    let values = ints(alloc, arguments)?;
+    let method = method(program, b"f").ok_or(StartFault::AbsentMethod)?;
+    Task::start(alloc, program, Uuid::nil(), method, values, limits)
+}
+
+// How often the task turns, of a hundred pieces of one instruction at most.
+fn turns(task: &mut Task, program: &Accepted) -> u32
+    requires { task.old.program ≡ program.now }
+    ensures { task.new.program ≡ program.now }
+{
+    for made in 0..100 {
+        if task.run(program, 1) == Pause::Ended {
+            return made;
+        }
+    }
+    100
+}
+
+// The loop goes round in 8 instructions, and 6 stand around it: f(4) takes 38.
+#[test]
+fn pieces_of_one_instruction_take_one_unit_of_fuel_each(rt: HostRuntime) -> Result<(), Fail> {
+    let program = sum(rt.alloc())?;
+    let mut task = begin(rt.alloc(), &program, &[4], limits(8, 38))?;
+    assert!(rt; task.outcome().is_none());
+    assert_eq!(rt; turns(&mut task, &program), 37);
+    assert!(rt;
+        matches!(
+            task.outcome(),
+            Some(Outcome::Returned(Some(Value::Int(10))))
+        )
+    );
+    let mut task = begin(rt.alloc(), &program, &[4], limits(8, 37))?;
+    assert_eq!(rt; turns(&mut task, &program), 37);
+    assert!(rt; matches!(task.outcome(), Some(Outcome::Spent)));
+    Ok(())
+}
+
+// The first frame takes two local variables, two operands and four words more.
+#[test]
+fn a_first_frame_that_does_not_fit_throws(rt: HostRuntime) -> Result<(), Fail> {
+    let program = sum(rt.alloc())?;
+    let mut task = begin(rt.alloc(), &program, &[4], limits(7, 0))?;
+    assert_eq!(rt; task.run(&program, 0), Pause::Ended);
+    let overflow = program
+        .linked()
+        .set()
+        .number(b"java/lang/StackOverflowError");
+    assert!(rt; overflow.is_some());
+    match task.outcome() {
+        Some(Outcome::Threw(class)) => assert_eq!(rt; Some(class), overflow),
+        _ => assert!(rt; false),
+    }
+    Ok(())
+}
+
+#[test]
+fn a_task_does_not_start(rt: HostRuntime) -> Result<(), Fail> {
+    let program = sum(rt.alloc())?;
+    let alloc = rt.alloc();
+    let absent = MethodId(u32::MAX);
+    let nowhere = Task::start(
+        alloc,
+        &program,
+        Uuid::nil(),
+        absent,
+        Vec::new(alloc),
+        limits(8, 1),
+    );
+    assert!(rt; matches!(nowhere, Err(StartFault::AbsentMethod)));
+    let empty = begin(alloc, &program, &[], limits(8, 1));
+    assert!(rt; matches!(empty, Err(StartFault::BadArgument)));
+    // No class file of the profile has such a method so far.
+    let byte = method_of(alloc, ElementType::Byte)?;
+    assert_eq!(rt; refuses(&byte, &[]), Some(StartFault::BadSignature));
+    for (fault, number) in [
+        (StartFault::AbsentMethod, 85),
+        (StartFault::BadSignature, 86),
+        (StartFault::BadArgument, 87),
+        (StartFault::Memory, 15),
+    ] {
+        assert_eq!(rt; fault.number(), number);
+    }
+    Ok(())
+}
+
+// A static method that takes one value of this type.
+fn method_of(alloc: Global, element: ElementType) -> Result<Method, AllocError> {
+    let mut parameters = Vec::new(alloc);
+    parameters.push(FieldType {
+        dimensions: 0,
+        element,
+    })?;
+    Ok(Method {
+        flags: Flags {
+            bits: Flags::STATIC,
+        },
+        name: Text::new(Vec::new(alloc)),
+        descriptor: Text::new(Vec::new(alloc)),
+        types: MethodDescriptor {
+            parameters: Row::new(parameters),
+            result: None,
+        },
+        code: None,
+    })
+}
