@@ -1,6 +1,7 @@
 //! Why a class set is not run.
 
 ghost use Rattle.std.specs.Prelude.{◌≡◌};
+ghost use Rattle.sp_main.specs.declared.refusal.Refusal.TheVariants as refusal;
 
 use cf_reader::LoadFault;
 use cls_link::LinkFault;
@@ -27,36 +28,48 @@ pub enum Refusal {
 }
 
 impl From<SetFault> for Refusal {
+    ghost from_gives = { λ fault told. told ≡ refusal.Set fault };
+
     fn from(fault: SetFault) -> Refusal {
         Refusal::Set(fault)
     }
 }
 
 impl From<LinkFault> for Refusal {
+    ghost from_gives = { λ fault told. told ≡ refusal.Link fault };
+
     fn from(fault: LinkFault) -> Refusal {
         Refusal::Link(fault)
     }
 }
 
 impl From<CheckFault> for Refusal {
+    ghost from_gives = { λ fault told. told ≡ refusal.Check fault };
+
     fn from(fault: CheckFault) -> Refusal {
         Refusal::Check(fault)
     }
 }
 
 impl From<StartFault> for Refusal {
+    ghost from_gives = { λ fault told. told ≡ refusal.Start fault };
+
     fn from(fault: StartFault) -> Refusal {
         Refusal::Start(fault)
     }
 }
 
 impl From<AllocError> for Refusal {
+    ghost from_gives = { λ _ told. told ≡ refusal.Memory };
+
     fn from(_: AllocError) -> Refusal {
         Refusal::Memory
     }
 }
 
 impl<T: Drop> From<AllocFailed<T>> for Refusal {
+    ghost from_gives = { λ _ told. told ≡ refusal.Memory };
+
     fn from(_: AllocFailed<T>) -> Refusal {
         Refusal::Memory
     }

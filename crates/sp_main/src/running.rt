@@ -1,7 +1,12 @@
 //! From the bytes of class files to how a method ends: reading, sets, linking, checking and running,
 //! without any input or output.
 
-ghost use Rattle.std.specs.Prelude.{◌+◌, ◌-◌, ◌^◌, ◌<◌};
+ghost use Rattle.std.specs.Prelude.{◌≡◌, ◌+◌, ◌-◌, ◌^◌, ◌<◌, ◌≤◌, length, IfOk, IfErr, IfSome};
+ghost use Rattle.std.specs.List.{position};
+ghost use Rattle.cls_link.specs.Links.{AreLinks};
+ghost use Rattle.ver_check.specs.Acceptance.{AreSafe};
+ghost use Rattle.vm_step.specs.Task.{IsOfSet};
+ghost use Rattle.sp_main.specs.Runs.{AreSpelled, IsFileFault, IsNamed, IsNoProgram, IsNotRun, IsProgram, IsRefused, IsRun, IsSpelled, IsUnread, Runs, is_parenthesis, method_named};
 
 use super::refusal::Refusal;
 use cf_reader::{ClassFile, LoadFault, Text, read_class};
@@ -53,28 +58,34 @@ pub fn run_classes(
 ) -> Result<RunOutcome, Refusal>
     requires memory { limits.heap_words + limits.references < 2 ^ 32 }
     requires fuel { limits.fuel < 2 ^ 64 - 1 }
+    // From the bytes to the outcome: the classes that the bytes spell are type safe, and the tagged
+    // machine runs the method to this end, never stuck and within its bounds.
+    ensures run { IfOk result (IsRun files.now class.now method.now arguments.items limits) }
+    // A refusal says what is wrong, and what comes before it is not.
+    ensures refused { IfErr result (IsRefused files.now class.now method.now arguments.items limits) }
 {
     let accepted = accepted_of(alloc, files)?;
-    let method = find_method(&accepted, class, method).ok_or(StartFault::AbsentMethod)?;
-    let space = Uuid::nil();
-    let mut task = Task::start(alloc, &accepted, space, method, arguments, limits)?;
-    // More instructions than there is fuel for: the task ends.
-    let _ = task.run(&accepted, u64::MAX);
-    match task.outcome() {
-        Some(outcome) => Ok(named(&accepted, outcome)?),
-        None => Ok(RunOutcome::Spent),
-    }
+    let Some(method) = find_method(&accepted, class, method) else {
+        return Err(Refusal::Start(StartFault::AbsentMethod));
+    };
+    run_method(alloc, &accepted, method, arguments, limits)
 }
 
 // The files' class set, read, linked and checked.
-fn accepted_of(alloc: Global, files: &[ClassBytes]) -> Result<Accepted, Refusal> {
+fn accepted_of(alloc: Global, files: &[ClassBytes]) -> Result<Accepted, Refusal>
+    ensures program { IfOk result (IsProgram files.now) }
+    ensures refused { IfErr result (IsNoProgram files.now) }
+{
     let classes = read_files(alloc, files)?;
     let set = ClassSet::build(alloc, classes)?;
     let linked = link(alloc, set)?;
     Ok(accept(alloc, linked)?)
 }
 
-fn read_files(alloc: Global, files: &[ClassBytes]) -> Result<Vec<ClassFile>, Refusal> {
+fn read_files(alloc: Global, files: &[ClassBytes]) -> Result<Vec<ClassFile>, Refusal>
+    ensures read { IfOk result (λ classes. AreSpelled files.now classes.items) }
+    ensures refused { IfErr result (IsUnread files.now) }
+{
     let mut classes = Vec::new(alloc);
     for (place, file) in files.iter().enumerate() {
         match read_file(alloc, file) {
@@ -85,7 +96,10 @@ fn read_files(alloc: Global, files: &[ClassBytes]) -> Result<Vec<ClassFile>, Ref
     Ok(classes)
 }
 
-fn read_file(alloc: Global, file: &ClassBytes) -> Result<ClassFile, LoadFault> {
+fn read_file(alloc: Global, file: &ClassBytes) -> Result<ClassFile, LoadFault>
+    ensures read { IfOk result (IsSpelled file.now.content) }
+    ensures fault { IfErr result (IsFileFault file.now.content) }
+{
     match &file.content {
         Content::Bytes(bytes) => Ok(read_class(alloc, bytes)?),
         Content::Unreadable => Err(LoadFault::Device),
@@ -93,32 +107,57 @@ fn read_file(alloc: Global, file: &ClassBytes) -> Result<ClassFile, LoadFault> {
 }
 
 // The method of this class, name and descriptor.
-fn find_method(accepted: &Accepted, class: &[u8], method: &[u8]) -> Option<MethodId> {
+fn find_method(accepted: &Accepted, class: &[u8], method: &[u8]) -> Option<MethodId>
+    ensures { result ≡ method_named accepted.now class.now method.now }
+{
     let linked = accepted.linked();
     let class = linked.set().number(class)?;
-    // `number` gives a class of the set; it does not say so yet.
-    if usize::from(class.0) >= linked.set().len() {
-        return None;
-    }
-    let parted = method.iter().position(|byte| *byte == b'(')?;
-    if parted > method.len() {
-        return None;
-    }
-    let (name, descriptor) = method.split_at(parted);
+    let (name, descriptor) = method.split_at(descriptor_place(method)?);
     linked.method(class, name, descriptor)
 }
 
+// Where the descriptor begins.
+fn descriptor_place(method: &[u8]) -> Option<usize>
+    ensures place { result ≡ position is_parenthesis method.now }
+    ensures within { IfSome result (λ place. place ≤ length method.now) }
+{
+    method.iter().position(|byte| *byte == b'(')
+}
+
+// Starts the method and runs it to its end.
+fn run_method(
+    alloc: Global,
+    accepted: &Accepted,
+    method: MethodId,
+    arguments: Vec<Value>,
+    limits: Limits,
+) -> Result<RunOutcome, Refusal>
+    requires linked { AreLinks accepted.now }
+    requires safe { AreSafe accepted.now }
+    requires memory { limits.heap_words + limits.references < 2 ^ 32 }
+    requires fuel { limits.fuel < 2 ^ 64 - 1 }
+    ensures run { IfOk result (Runs accepted.now method arguments.items limits) }
+    ensures refused { IfErr result (IsNotRun accepted.now method arguments.items limits) }
+{
+    let mut task = Task::start(alloc, accepted, Uuid::nil(), method, arguments, limits)?;
+    // More instructions than there is fuel for: the task ends.
+    let _ = task.run(accepted, u64::MAX);
+    match task.outcome() {
+        Some(outcome) => Ok(named(accepted, outcome)?),
+        None => unreachable!(),
+    }
+}
+
 // How a task ended, with the name of a class in place of its number.
-fn named(accepted: &Accepted, outcome: Outcome) -> Result<RunOutcome, AllocError> {
+fn named(accepted: &Accepted, outcome: Outcome) -> Result<RunOutcome, AllocError>
+    requires { IsOfSet accepted.now.classes outcome }
+    ensures { IfOk result (IsNamed accepted.now.classes outcome) }
+{
     match outcome {
         Outcome::Returned(value) => Ok(RunOutcome::Returned(value)),
         Outcome::Spent => Ok(RunOutcome::Spent),
         Outcome::Threw(class) => {
             let set = accepted.linked().set();
-            // What a task throws is a class of its set; its outcome does not say so yet.
-            if usize::from(class.0) >= set.len() {
-                return Err(AllocError);
-            }
             Ok(RunOutcome::Threw(set.name(class).copy()?))
         }
     }

@@ -1,0 +1,27 @@
+-- One file more, and one class file more.
+use Rattle.std.proofs.Common.{◌≡◌, ◌++◌, ℕ, zero, suc, List, [], ◌∷◌, Some, ◌<◌, ◌∙◌, length, get_or, ap, sym, subst}
+use Rattle.std.proofs.lemmas.Option.{slice_get-get_or}
+use Rattle.std.specs.Prelude.{Result, Ok, Err, IfErr, IsErrAnd, take, slice_get}
+use Rattle.cf_reader.specs.declared.class_file.ClassFile.{ClassFile}
+use Rattle.sp_main.specs.Runs.{AreSpelled, IsSpelled}
+use Rattle.sp_main.specs.declared.running.ClassBytes.{ClassBytes}
+
+pub AreSpelled-next : (files : List ClassBytes) (place : ℕ) (file : ClassBytes) (classes : List ClassFile) (class : ClassFile)
+    → slice_get files place ≡ Some file → AreSpelled (take place files) classes → IsSpelled file.content class → AreSpelled (take (suc place) files) (classes ++ class ∷ [])
+AreSpelled-next [] place file classes class is before spelled = absurd (cc)
+AreSpelled-next (f ∷ files) zero file [] class is before spelled =
+    let same : f ≡ file = cc in
+    (subst (λ (g : ClassBytes). IsSpelled g.content class) (sym same) spelled, tt)
+AreSpelled-next (f ∷ files) zero file (c ∷ classes) class is before spelled = absurd before
+AreSpelled-next (f ∷ files) (suc place) file [] class is before spelled = absurd before
+AreSpelled-next (f ∷ files) (suc place) file (c ∷ classes) class is before spelled =
+    (before.0, AreSpelled-next files place file classes class is before.1 spelled)
+
+-- an error of which all is known is the error of the result
+pub known_error : {A E : Type 0} (r : Result A E) (known : E) (P : E → Type 0) → IsErrAnd r (λ e. e ≡ known) → P known → IfErr r P
+known_error (Ok a) known P is holds = tt
+known_error (Err e) known P is holds = subst P (sym is) holds
+
+-- what an index gives
+pub found : (files : List ClassBytes) (place : ℕ) (file : ClassBytes) → place < length files → file ≡ get_or files place file → slice_get files place ≡ Some file
+found files place file within is = slice_get-get_or files place file within ∙ ap (λ (f : ClassBytes). Some f) (sym is)

@@ -1,0 +1,5 @@
+pub mod Files
+pub mod Made
+pub mod Refused
+pub mod Whole
+pub mod Within

@@ -1,0 +1,28 @@
+use Rattle.std.proofs.Common.{◌≡◌, sym, subst, List}
+use Rattle.cls_set.specs.Sets.{HasClasses, IsClassSet}
+use Rattle.cls_set.specs.declared.class.Class.{Class}
+use Rattle.sp_main.specs.Runs.{IsNoProgram, unread, no_set, not_linked, not_safe}
+use Rattle.sp_main.specs.declared.refusal.Refusal.TheVariants.{Set, Link, Check}
+use Rattle.sp_main.proofs.Files.{known_error}
+use Rattle.sp_main.proofs.running.accepted_of.Goals as goal
+
+pub returns-in_err-classes-clause-refused : goal.returns-in_err-classes-clause-refused
+returns-in_err-classes-clause-refused c =
+    known_error c.from_residual.result c.in_err-classes.field-0.0 (IsNoProgram c.args.files.now) c.from_residual.ensures.1
+    (unread c.in_err-classes.field-0.0 (c.in_err-classes.ensures).refused)
+
+pub returns-in_err-set-clause-refused : goal.returns-in_err-set-clause-refused
+returns-in_err-set-clause-refused c =
+    known_error c.from_residual-in_err-set.result (Set c.in_err-set.field-0.0) (IsNoProgram c.args.files.now) c.from_residual-in_err-set.ensures.1
+    (no_set c.in_ok-classes.classes.items c.in_err-set.field-0.0 (c.in_ok-classes.ensures).read (c.in_err-set.ensures).fault)
+
+pub returns-in_err-linked-clause-refused : goal.returns-in_err-linked-clause-refused
+returns-in_err-linked-clause-refused c =
+    known_error c.from_residual-in_err-linked.result (Link c.in_err-linked.field-0.0) (IsNoProgram c.args.files.now) c.from_residual-in_err-linked.ensures.1
+    (not_linked c.in_ok-classes.classes.items c.in_ok-set.set c.in_err-linked.field-0.0 (c.in_ok-classes.ensures).read (c.in_ok-set.ensures).classes (c.in_ok-set.ensures).set (c.in_err-linked.ensures).fault)
+
+pub returns-in_err-accept-clause-refused : goal.returns-in_err-accept-clause-refused
+returns-in_err-accept-clause-refused c =
+    let has = subst (HasClasses c.in_ok-classes.classes.items) (sym (c.in_ok-linked.ensures).classes) (c.in_ok-set.ensures).classes in
+    known_error c.from_residual-in_err-accept.result (Check c.in_err-accept.field-0.0) (IsNoProgram c.args.files.now) c.from_residual-in_err-accept.ensures.1
+    (not_safe c.in_ok-classes.classes.items c.in_ok-linked.linked c.in_err-accept.field-0.0 (c.in_ok-classes.ensures).read has (c.in_ok-linked.ensures).links (c.in_err-accept.ensures).fault)

@@ -1,0 +1,163 @@
+-- What it is for class files to run: from their bytes to how the method ends, each layer by its own definition.
+use Rattle.std.specs.Prelude.{◌≡◌, ◌≢◌, ◌+◌, ◌≤◌, ◌==◌, ◌++◌, ◌∷◌, ℕ, zero, suc, Bool, Option, Some, None, Ok, Err, List, take, drop, length, slice_get, option_and_then}
+use Rattle.std.specs.List.{AllZip, position}
+use Rattle.cf_reader.specs.declared.class_file.ClassFile.{ClassFile}
+use Rattle.cf_reader.specs.declared.class_file.Code.{Code}
+use Rattle.cf_reader.specs.declared.items.Layout.{Layout}
+use Rattle.cf_reader.specs.Spells.{IsAtFault, IsInProfile, Spells}
+use Rattle.cf_reader.specs.declared.load_fault.LoadFault.{LoadFault}
+use Rattle.cf_reader.specs.declared.load_fault.LoadFault.TheVariants as load
+use Rattle.cls_link.specs.Links.{Links, AreLinks, IsLinkFault}
+use Rattle.cls_link.specs.declared.fault.LinkFault.{LinkFault}
+use Rattle.cls_link.specs.Links as links
+use Rattle.cls_link.specs.declared.linked.MethodId.{MethodId}
+use Rattle.cls_set.specs.Classes as sets
+use Rattle.cls_set.specs.Sets.{HasClasses, IsClassSet, IsSetFault}
+use Rattle.cls_set.specs.declared.fault.SetFault.{SetFault}
+use Rattle.cls_set.specs.declared.class.Class.{Class}
+use Rattle.sp_main.specs.declared.running.ClassBytes.{ClassBytes}
+use Rattle.sp_main.specs.declared.running.Content.{Content}
+use Rattle.sp_main.specs.declared.running.Content.TheVariants.{Bytes, Unreadable}
+use Rattle.sp_main.specs.declared.running.RunOutcome.{RunOutcome}
+use Rattle.sp_main.specs.declared.running.RunOutcome.TheVariants as told
+use Rattle.sp_main.specs.declared.refusal.Refusal.{Refusal}
+use Rattle.sp_main.specs.declared.refusal.Refusal.TheVariants as refusal
+use Rattle.uuid.specs.Parts.{zero_bytes}
+use Rattle.ver_check.specs.Acceptance.{AreSafe}
+use Rattle.ver_check.specs.Faults.{IsCheckFault}
+use Rattle.ver_check.specs.declared.fault.CheckFault.{CheckFault}
+use Rattle.vm_heap.specs.declared.values.Value.{Value}
+use Rattle.vm_heap.specs.declared.values.Value.TheVariants as value
+use Rattle.vm_step.specs.Run.{State, Running, Over, Lost, run, step, IsNeverStuck}
+use Rattle.vm_step.specs.Start.{started, startable}
+use Rattle.vm_step.specs.Subjects.{Declared}
+use Rattle.vm_step.specs.Task.{Tasked, thrown_name}
+use Rattle.vm_step.specs.declared.ending.Ending.{Ending}
+use Rattle.vm_step.specs.declared.ending.Ending.TheVariants as ending
+use Rattle.vm_step.specs.declared.outcome.Outcome.{Outcome}
+use Rattle.vm_step.specs.declared.outcome.Outcome.TheVariants as outcome
+use Rattle.vm_step.specs.declared.fault.StartFault.{StartFault}
+use Rattle.vm_step.specs.declared.fault.StartFault.TheVariants as start
+use Rattle.vm_step.specs.declared.limits.Limits.{Limits}
+
+-- what a device gave of a file spells a class file (JVMS 4.1), which is in profile
+abbrev pub IsSpelled : Content → ClassFile → Type 0
+IsSpelled (Bytes bytes) class = (layout : Layout) × Spells bytes.items layout class × IsInProfile bytes.items layout
+IsSpelled Unreadable class = ⊥
+
+-- the files spell these class files, each its own
+abbrev pub AreSpelled : List ClassBytes → List ClassFile → Type 0
+AreSpelled files classes = AllZip (λ file class. IsSpelled file.content class) files classes
+
+-- why a file is refused: what is wrong with its bytes, or its device failed
+abbrev pub IsFileFault : Content → LoadFault → Type 0
+IsFileFault (Bytes bytes) (load.Read fault) = IsAtFault bytes.items fault
+IsFileFault (Bytes bytes) load.Device = ⊥
+IsFileFault Unreadable fault = fault ≡ load.Device
+
+-- why a method is not started, but for want of memory
+abbrev pub IsStartFault : Links → MethodId → List Value → Limits → StartFault → Type 0
+IsStartFault program method arguments limits fault = fault ≢ start.Memory → started program zero_bytes method arguments limits ≡ Err fault
+
+-- why a method of a program does not run, but for want of memory
+abbrev pub IsNotRun : Links → MethodId → List Value → Limits → Refusal → Type 0
+IsNotRun program method arguments limits (refusal.Start fault) = IsStartFault program method arguments limits fault
+IsNotRun program method arguments limits refusal.Memory = Unit {0}
+IsNotRun program method arguments limits _ = ⊥
+
+-- the class files that the files spell, as one linked class set in which every method is type safe (JVMS 4.10.1)
+pub record IsProgram (files : List ClassBytes) (program : Links) : Type 0 where
+  pub classes : List ClassFile
+  pub spelled : AreSpelled files classes
+  pub set : HasClasses classes program.classes
+  pub linked : AreLinks program
+  pub safe : AreSafe program
+
+-- an opening parenthesis, with which descriptors of methods begin (JVMS 4.3.3)
+abbrev pub is_parenthesis : ℕ → Bool
+is_parenthesis byte = byte == 40
+
+-- the method of a class by its name and descriptor, one text: the descriptor begins at the first parenthesis
+abbrev pub method_named : Links → List ℕ → List ℕ → Option MethodId
+method_named program class text =
+    option_and_then (λ holder.
+    option_and_then (λ place. links.number_of program.classes holder (take place text) (drop place text))
+    (position is_parenthesis text)) (sets.number_of program.classes class)
+
+-- how many instructions so many steps make: one a step, while the task runs and has fuel
+abbrev pub made_in : State → ℕ
+made_in (Running m zero) = 0
+made_in (Running m (suc fuel)) = 1
+made_in (Over ending fuel) = 0
+made_in Lost = 0
+
+unfoldable pub made : Links → ℕ → State → ℕ
+made program zero state = 0
+made program (suc steps) state = made_in state + made program steps (step program state)
+
+-- the frame of a running task has the local variables of its code, and no more operands than that allows
+abbrev pub KeepsWithin : Code → State → Type 0
+KeepsWithin code (Running m fuel) = (length m.stack.frame.locals ≡ code.max_locals) × (length m.stack.frame.operands ≤ code.max_stack)
+KeepsWithin code (Over ending fuel) = Unit {0}
+KeepsWithin code Lost = Unit {0}
+
+-- how a task ended, as it is told: a thrown class by its name
+abbrev pub IsTold : Ending → RunOutcome → Type 0
+IsTold ending.ReturnedNothing outcome = outcome ≡ told.Returned None
+IsTold (ending.ReturnedInt n) outcome = outcome ≡ told.Returned (Some (value.Int n))
+IsTold (ending.Threw thrown) outcome = outcome ≡ told.Threw (thrown_name thrown)
+IsTold ending.Spent outcome = outcome ≡ told.Spent
+
+-- an outcome with the name of a class in place of its number
+abbrev pub IsNamed : List Class → Outcome → RunOutcome → Type 0
+IsNamed classes (outcome.Returned value) named = named ≡ told.Returned value
+IsNamed classes (outcome.Threw class) named = (name : List ℕ) × (named ≡ told.Threw name) × (sets.name_at classes class ≡ Some name)
+IsNamed classes outcome.Spent named = named ≡ told.Spent
+
+-- The tagged machine (JVMS 6.5) runs a method of a program from its opening state to this outcome: it is never stuck, keeps
+-- within max_stack and max_locals, and makes no more instructions than it has fuel for.
+pub record Runs (program : Links) (method : MethodId) (arguments : List Value) (limits : Limits) (outcome : RunOutcome) : Type 0 where
+  pub declared : Declared
+  pub found : startable program method ≡ Some declared
+  pub task : Tasked
+  pub starts : started program zero_bytes method arguments limits ≡ Ok task
+  pub never_stuck : IsNeverStuck program task.state
+  pub within : (steps : ℕ) → KeepsWithin declared.code (run program steps task.state)
+  pub steps : ℕ
+  pub ending : Ending
+  pub left : ℕ
+  pub ends : run program steps task.state ≡ Over ending left
+  pub fuel : made program steps task.state + left ≡ limits.fuel
+  pub told : IsTold ending outcome
+
+-- the files make a program, and its method of this class, name and descriptor runs to this outcome
+pub record IsRun (files : List ClassBytes) (class text : List ℕ) (arguments : List Value) (limits : Limits) (outcome : RunOutcome) : Type 0 where
+  pub program : Links
+  pub is_program : IsProgram files program
+  pub method : MethodId
+  pub named : method_named program class text ≡ Some method
+  pub runs : Runs program method arguments limits outcome
+
+-- why files are not read: the first at fault, and those before it spell class files
+pub data IsUnread (files : List ClassBytes) : Refusal → Type 0 where
+  at_fault : (place : ℕ) (file : ClassBytes) (fault : LoadFault) (before : List ClassFile) → slice_get files place ≡ Some file → AreSpelled (take place files) before
+      → IsFileFault file.content fault → IsUnread files (refusal.File place fault)
+  no_memory_to_read : IsUnread files refusal.Memory
+
+-- why files make no program: the first of reading, set, links and checks that refuses them
+pub data IsNoProgram (files : List ClassBytes) : Refusal → Type 0 where
+  unread : (refused : Refusal) → IsUnread files refused → IsNoProgram files refused
+  no_set : (classes : List ClassFile) (fault : SetFault) → AreSpelled files classes → IsSetFault classes fault → IsNoProgram files (refusal.Set fault)
+  not_linked : (classes : List ClassFile) (set : List Class) (fault : LinkFault) → AreSpelled files classes → HasClasses classes set → IsClassSet set
+      → IsLinkFault (links.declared_methods set) fault → IsNoProgram files (refusal.Link fault)
+  not_safe : (classes : List ClassFile) (linked : Links) (fault : CheckFault) → AreSpelled files classes → HasClasses classes linked.classes → AreLinks linked
+      → IsCheckFault linked fault → IsNoProgram files (refusal.Check fault)
+
+-- why a method does not run: the files make no program, or it has no such method, or that does not start with these arguments. Want of
+-- memory may come in place of any answer
+pub data IsRefused (files : List ClassBytes) (class text : List ℕ) (arguments : List Value) (limits : Limits) : Refusal → Type 0 where
+  no_program : (refused : Refusal) → IsNoProgram files refused → IsRefused files class text arguments limits refused
+  absent : (program : Links) → IsProgram files program → method_named program class text ≡ None → IsRefused files class text arguments limits (refusal.Start start.AbsentMethod)
+  not_started : (program : Links) (method : MethodId) (fault : StartFault) → IsProgram files program → method_named program class text ≡ Some method
+      → IsStartFault program method arguments limits fault → IsRefused files class text arguments limits (refusal.Start fault)
+  no_memory : IsRefused files class text arguments limits refusal.Memory
