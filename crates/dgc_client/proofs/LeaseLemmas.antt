@@ -101,17 +101,26 @@ settled h (CleanAnswered answer ∷ later) clean quiet =
     settled-either (is_clean l.clean answer) (record l { clean = None }) l (record { owed = s.owed; dirty = s.dirty }) s
 settled h (CleanFailed failed ∷ later) clean quiet = absurd quiet
 
+-- with holders no clean call is due
+no-clean-held : (t strong : Bool) → (if t then Some Dirty else None) ≡ Some (Clean_due strong) → ⊥
+no-clean-held true strong h = cc
+no-clean-held false strong h = cc
+
+pub clean-unheld : (l : ClientLease) (strong : Bool) → due l ≡ Some (Clean_due strong) → l.holders ≡ 0
+clean-unheld l strong h = by l.waits (nat_lt 0 l.holders) refl h
+  where
+    by : (w g : Bool) → nat_lt 0 l.holders ≡ g → (if w then None else (if g then due_held l else due_unheld l)) ≡ Some (Clean_due strong) → l.holders ≡ 0
+    by true g e h = cc
+    by false true e h = absurd (no-clean-held (is_none l.dirty && (is_none l.lease || l.renew)) strong h)
+    by false false e h = grind (arith, nat_tests)
+
 -- where nothing is owed no clean call is due
 no-clean : (l : ClientLease) (strong : Bool) → l.owed ≡ Nothing → due l ≡ Some (Clean_due strong) → ⊥
 no-clean l strong nothing h = by l.waits (nat_lt 0 l.holders) h
   where
-    held : (t : Bool) → (if t then Some Dirty else None) ≡ Some (Clean_due strong) → ⊥
-    held true h = cc
-    held false h = cc
-
     by : (w g : Bool) → (if w then None else (if g then due_held l else due_unheld l)) ≡ Some (Clean_due strong) → ⊥
     by true g h = cc
-    by false true h = held (is_none l.dirty && (is_none l.lease || l.renew)) h
+    by false true h = no-clean-held (is_none l.dirty && (is_none l.lease || l.renew)) strong h
     by false false h = let e : due_unheld l ≡ None = rw nothing refl in cc
 
 pub due-once : (h later : List Event) (clean : ℕ) (strong : Bool) → IsQuiet later → due (lease_of (later ++ CleanMade clean ∷ h)) ≡ Some (Clean_due strong) → ⊥

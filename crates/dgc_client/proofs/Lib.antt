@@ -1,2 +1,4 @@
+pub mod GroupsLemmas
 pub mod LeaseLemmas
+pub mod OrderLemmas
 pub mod TableLemmas

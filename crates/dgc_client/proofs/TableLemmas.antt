@@ -1,19 +1,31 @@
-use Rattle.std.proofs.Common.{◌≡◌, ℕ, Bool, true, false, cond, ◌&&◌, eqb, List, [], ◌∷◌, ◌++◌, zero, suc, ◌+◌, ◌<◌, length, take, drop, max, is_some, Option, None, Some, refl, sym, ap, subst, ◌∙◌, arith}
-use Rattle.std.specs.Prelude.{unwrap_or, if◌then◌else◌, map, slice_get, nat_lt}
-use Rattle.std.specs.Map.{lookup, values_of}
+use Rattle.std.proofs.Common.{◌≡◌, ℕ, Bool, true, false, cond, ◌&&◌, ◌||◌, eqb, List, [], ◌∷◌, ◌++◌, zero, suc, ◌+◌, ◌<◌, length, get_or, take, drop, filter, max, is_some, Option, None, Some, refl, sym, ap, subst, ◌∙◌, arith}
+use Rattle.std.specs.Prelude.{All, unwrap_or, if◌then◌else◌, map, slice_get, nat_lt}
+use Rattle.std.specs.Cmp.{IsEquivalence}
+use Rattle.std.specs.List.{IsDistinct, filter_map, cons_option}
+use Rattle.std.specs.Map.{lookup, keys_of, values_of}
 use Rattle.indexmap.specs.IndexMap.{set_value_at}
 use Rattle.std.proofs.lemmas.Bool.Decides.{nat_tests}
 use Rattle.std.specs.Str.{bytes_eq}
 use Rattle.std.proofs.lemmas.Bool.{false≢true, eqb-true}
+use Rattle.std.proofs.lemmas.List.{take_more}
+use Rattle.std.proofs.lemmas.List.Elements.{All-nil, All-cons}
+use Rattle.std.proofs.lemmas.Map.Entries.{lookup_from_place}
 use Rattle.std.proofs.lemmas.Slice.Eq.{bytes_eq-Decides}
+use Rattle.vm_heap.specs.declared.values.ObjId.{ObjId}
+use Rattle.dgc_client.specs.declared.lease.Change.{Change}
+use Rattle.dgc_client.specs.declared.lease.Change.TheVariants as change
 use Rattle.dgc_client.specs.declared.lease.ClientLease.{ClientLease}
+use Rattle.dgc_client.specs.declared.groups.DueCall.{DueCall}
+use Rattle.dgc_client.specs.declared.lease.Due.{Due}
+use Rattle.dgc_client.specs.declared.lease.Due.TheVariants.{Dirty, Clean}
 use Rattle.dgc_client.specs.declared.table.ForeignId.{ForeignId}
-use Rattle.dgc_client.specs.declared.table.Leases.{Leases}
-use Rattle.dgc_client.specs.Lease.{fresh, after_moment, after_sent}
-use Rattle.dgc_client.specs.History.{Event, lease_of, after}
-use Rattle.dgc_client.specs.History.Event.{DirtySent}
-use Rattle.dgc_client.specs.Table.{Told, is_same, is_known, own, moment_of, lease_at, Puts, IsAfter}
+use Rattle.dgc_client.specs.declared.table.Clients.{Clients}
+use Rattle.dgc_client.specs.Groups.{is_clean}
+use Rattle.dgc_client.specs.Lease.{fresh, after_moment, due}
+use Rattle.dgc_client.specs.History.{Event, lease_of, after, event_of}
+use Rattle.dgc_client.specs.Table.{Told, is_same, is_among, is_hold, with_reference, held, own, moment_of, lease_at, is_known, Puts, IsAfter, on_each, references_at, due_call, due_of}
 use Rattle.dgc_client.specs.Table.Told.{On, At}
+use Rattle.dgc_client.proofs.LeaseLemmas.{clean-unheld}
 
 left-true : (s t : Bool) → (s && t) ≡ true → s ≡ true
 left-true true t h = refl
@@ -30,42 +42,201 @@ same-reference a b h =
     let id : a.id.0 ≡ b.id.0 = eqb-true _ _ (right-true (bytes_eq a.space b.space) (eqb a.id.0 b.id.0) h) in
     λ i. record { space = space i; id = record { 0 = id i } }
 
-or-fresh : (t : Bool) (w : ClientLease) (x : Option ClientLease) (l : ClientLease) → unwrap_or (cond t (Some w) x) l ≡ cond t w (unwrap_or x l)
+both-self : (s t : Bool) → s ≡ true → t ≡ true → (s && t) ≡ true
+both-self true t h g = g
+both-self false t h g = h
+
+-- a reference is the same as itself
+pub same-self : (a : ForeignId) → is_same a a ≡ true
+same-self a = both-self (bytes_eq a.space a.space) (eqb a.id.0 a.id.0) ((bytes_eq-Decides a.space a.space).1 refl) (grind (arith, nat_tests))
+
+same-swap : (a b : ForeignId) → is_same a b ≡ is_same b a
+same-swap a b = by (is_same a b) (is_same b a) refl refl
+  where
+    by : (s t : Bool) → is_same a b ≡ s → is_same b a ≡ t → s ≡ t
+    by true true h g = refl
+    by false false h g = refl
+    by true false h g = sym (subst (λ (x : ForeignId). is_same x a ≡ true) (same-reference a b h) (same-self a)) ∙ g
+    by false true h g = sym h ∙ subst (λ (x : ForeignId). is_same x b ≡ true) (same-reference b a g) (same-self b)
+
+pub same-laws : IsEquivalence is_same
+same-laws = record {
+  refl = same-self;
+  symm = same-swap;
+  congr = λ a b c h. ap (λ (x : ForeignId). is_same x c) (same-reference a b h);
+}
+
+-- a reference has a place in the table where it is among the keys
+pub known-among : (r : ForeignId) (es : List (ForeignId × ClientLease)) → is_some (lookup (is_same r) es) ≡ is_among r (keys_of es)
+known-among r [] = refl
+known-among r (e ∷ es) = elim (is_same r e.0) as (λ t. is_some (cond t (Some e.1) (lookup (is_same r) es)) ≡ (t || is_among r (keys_of es))) [ true ↦ refl | false ↦ known-among r es ]
+
+pub or-fresh : (t : Bool) (w : ClientLease) (x : Option ClientLease) (l : ClientLease) → unwrap_or (cond t (Some w) x) l ≡ cond t w (unwrap_or x l)
 or-fresh true w x l = refl
 or-fresh false w x l = refl
 
--- a write of one reference
-pub puts : (reference : ForeignId) (lease : ClientLease) (old new : Leases) → new.moment ≡ old.moment
+-- what the table keeps after a write of one reference
+pub each-after : (reference : ForeignId) (lease : ClientLease) (old new : Clients) → new.moment ≡ old.moment
+    → ((q : ForeignId) → lookup (is_same q) new.references.entries ≡ cond (is_same reference q) (Some lease) (lookup (is_same q) old.references.entries))
+    → (q : ForeignId) → lease_at new q ≡ cond (is_same reference q) lease (lease_at old q)
+each-after reference lease old new moment at q =
+    ap (λ o. unwrap_or o (fresh new.moment)) (at q) ∙ ap (λ m. unwrap_or (cond (is_same reference q) (Some lease) (lookup (is_same q) old.references.entries)) (fresh m)) moment
+    ∙ or-fresh (is_same reference q) lease (lookup (is_same q) old.references.entries) (fresh old.moment)
+
+-- a write of one reference that is known
+pub puts : (reference : ForeignId) (lease : ClientLease) (old new : Clients) → new.moment ≡ old.moment → new.numbers ≡ old.numbers
+    → keys_of new.references.entries ≡ keys_of old.references.entries
     → ((q : ForeignId) → lookup (is_same q) new.references.entries ≡ cond (is_same reference q) (Some lease) (lookup (is_same q) old.references.entries))
     → Puts reference lease old new
-puts reference lease old new moment at = record {
-  moment = moment;
-  each = λ q. ap (λ o. unwrap_or o (fresh new.moment)) (at q) ∙ ap (λ m. unwrap_or (cond (is_same reference q) (Some lease) (lookup (is_same q) old.references.entries)) (fresh m)) moment
-      ∙ or-fresh (is_same reference q) lease (lookup (is_same q) old.references.entries) (fresh old.moment);
-}
+puts reference lease old new moment numbers keys at = record { moment = moment; numbers = numbers; keys = keys; each = each-after reference lease old new moment at }
+
+counted : (s x : Bool) (a b : List Event) → x ≡ true → cond (s && x) a b ≡ cond s a b
+counted true x a b e = ap (λ t. cond t a b) e
+counted false x a b e = refl
+
+uncounted : (s x : Bool) (a b : List Event) → x ≡ false → cond (s && x) a b ≡ b
+uncounted true x a b e = ap (λ t. cond t a b) e
+uncounted false x a b e = refl
 
 -- an event of one reference, from the write that makes it
-pub after-event : (h : List Told) (old new : Leases) (reference : ForeignId) (event : Event) (lease : ClientLease) → Puts reference lease old new
+pub after-event : (h : List Told) (old new : Clients) (reference : ForeignId) (event : Event) (lease : ClientLease)
+    → new.moment ≡ old.moment → new.numbers ≡ old.numbers
+    → keys_of new.references.entries ≡ (if is_hold event then with_reference (keys_of old.references.entries) reference else keys_of old.references.entries)
+    → ((q : ForeignId) → lease_at new q ≡ cond (is_same reference q) lease (lease_at old q))
+    → (is_hold event || is_among reference (keys_of old.references.entries)) ≡ true
     → lease ≡ after event (lease_at old reference) → IsAfter h old → IsAfter (On reference event ∷ h) new
-after-event h old new reference event lease put is was = record {
-  moment = put.moment ∙ was.moment;
-  each = λ q. put.each q ∙ (elim (is_same reference q) as (λ t. is_same reference q ≡ t → cond t lease (lease_at old q) ≡ lease_of (cond t (event ∷ own q h) (own q h))) [
-    | true ↦ λ same. subst (λ (r : ForeignId). lease ≡ after event (lease_of (own r h))) (same-reference reference q same) (is ∙ ap (after event) (was.each reference))
-    | false ↦ λ _. was.each q
-  ] refl);
-}
+after-event h old new reference event lease moment numbers keys each counts is was =
+    let told : (is_hold event || is_among reference (held h)) ≡ true = ap (λ (ks : List ForeignId). is_hold event || is_among reference ks) (sym was.held) ∙ counts in
+    record {
+      moment = moment ∙ was.moment;
+      numbers = numbers ∙ was.numbers;
+      held = keys ∙ ap (λ (ks : List ForeignId). if is_hold event then with_reference ks reference else ks) was.held;
+      each = λ q. each q ∙ (elim (is_same reference q) as (λ t. is_same reference q ≡ t → cond t lease (lease_at old q) ≡ lease_of (cond t (event ∷ own q h) (own q h))) [
+        | true ↦ λ same. subst (λ (r : ForeignId). lease ≡ after event (lease_of (own r h))) (same-reference reference q same) (is ∙ ap (after event) (was.each reference))
+        | false ↦ λ _. was.each q
+      ] refl) ∙ ap lease_of (sym (counted (is_same reference q) (is_hold event || is_among reference (held h)) (event ∷ own q h) (own q h) told));
+    }
 
--- an event that changes nothing of its reference
-pub after-nothing : (h : List Told) (leases : Leases) (reference : ForeignId) (event : Event) → lease_at leases reference ≡ after event (lease_at leases reference)
-    → IsAfter h leases → IsAfter (On reference event ∷ h) leases
-after-nothing h leases reference event is was = record {
-  moment = was.moment;
-  each = λ q. was.each q ∙ (elim (is_same reference q) as (λ t. is_same reference q ≡ t → lease_of (own q h) ≡ lease_of (cond t (event ∷ own q h) (own q h))) [
-    | true ↦ λ same. subst (λ (r : ForeignId). lease_of (own r h) ≡ after event (lease_of (own r h))) (same-reference reference q same)
-        (sym (was.each reference) ∙ is ∙ ap (after event) (was.each reference))
-    | false ↦ λ _. refl
-  ] refl);
-}
+-- what is told of a reference that was never held is none of it
+pub after-nothing : (h : List Told) (clients : Clients) (reference : ForeignId) (event : Event) → is_hold event ≡ false → is_among reference (keys_of clients.references.entries) ≡ false
+    → IsAfter h clients → IsAfter (On reference event ∷ h) clients
+after-nothing h clients reference event new_none absent was =
+    let untold : (is_hold event || is_among reference (held h)) ≡ false =
+    ap (λ (ks : List ForeignId). is_hold event || is_among reference ks) (sym was.held) ∙ ap (λ t. t || is_among reference (keys_of clients.references.entries)) new_none ∙ absent in
+    record {
+      moment = was.moment;
+      numbers = was.numbers;
+      held = was.held ∙ ap (λ t. if t then with_reference (held h) reference else held h) (sym new_none);
+      each = λ q. was.each q ∙ ap lease_of (sym (uncounted (is_same reference q) (is_hold event || is_among reference (held h)) (event ∷ own q h) (own q h) untold));
+    }
+
+-- no change is a new holder
+pub no-hold : (change : Change) → is_hold (event_of change) ≡ false
+no-hold change.Dropped = refl
+no-hold (change.DirtyMade call) = refl
+no-hold (change.CleanMade call) = refl
+no-hold (change.DirtySent call) = refl
+no-hold (change.DirtyAnswered call period) = refl
+no-hold (change.DirtyFailed call) = refl
+no-hold (change.CleanAnswered call) = refl
+no-hold (change.CleanFailed call) = refl
+
+-- a change, from what is put where the reference is known
+pub after-change : (h : List Told) (old new : Clients) (reference : ForeignId) (change : Change) (lease : ClientLease)
+    → (is_known old reference ≡ true → Puts reference lease old new) → (is_known old reference ≡ false → new ≡ old)
+    → lease ≡ after (event_of change) (lease_at old reference) → IsAfter h old → IsAfter (On reference (event_of change) ∷ h) new
+after-change h old new reference change lease put left is was = by (is_known old reference) refl
+  where
+    by : (t : Bool) → is_known old reference ≡ t → IsAfter (On reference (event_of change) ∷ h) new
+    by true known =
+        let p = put known in
+        after-event h old new reference (event_of change) lease p.moment p.numbers (p.keys ∙ ap (λ t. if t then with_reference (keys_of old.references.entries) reference else keys_of old.references.entries) (sym (no-hold change)))
+        p.each (ap (λ t. t || is_among reference (keys_of old.references.entries)) (no-hold change) ∙ sym (known-among reference old.references.entries) ∙ known) is was
+    by false unknown = subst (λ (l : Clients). IsAfter (On reference (event_of change) ∷ h) l) (sym (left unknown))
+        (after-nothing h old reference (event_of change) (no-hold change) (sym (known-among reference old.references.entries) ∙ unknown) was)
+
+-- a new holder
+pub after-held : (h : List Told) (old new : Clients) (reference : ForeignId) (event : Event) (lease : ClientLease) → is_hold event ≡ true
+    → new.moment ≡ old.moment → new.numbers ≡ old.numbers → keys_of new.references.entries ≡ with_reference (keys_of old.references.entries) reference
+    → ((q : ForeignId) → lookup (is_same q) new.references.entries ≡ cond (is_same reference q) (Some lease) (lookup (is_same q) old.references.entries))
+    → lease ≡ after event (lease_at old reference) → IsAfter h old → IsAfter (On reference event ∷ h) new
+after-held h old new reference event lease holds moment numbers keys at is was =
+    after-event h old new reference event lease moment numbers
+    (keys ∙ ap (λ t. if t then with_reference (keys_of old.references.entries) reference else keys_of old.references.entries) (sym holds))
+    (each-after reference lease old new moment at) (ap (λ t. t || is_among reference (keys_of old.references.entries)) holds) is was
+
+on-each-push : (rs : List ForeignId) (r : ForeignId) (event : Event) (h : List Told) → on_each (rs ++ r ∷ []) event h ≡ On r event ∷ on_each rs event h
+on-each-push [] r event h = refl
+on-each-push (x ∷ rs) r event h = on-each-push rs r event (On x event ∷ h)
+
+references-push : (peer : List ℕ) (ids : List ObjId) (id : ObjId) → references_at peer (ids ++ id ∷ []) ≡ references_at peer ids ++ record { space = peer; id = id } ∷ []
+references-push peer [] id = refl
+references-push peer (x ∷ ids) id = ap (λ (rest : List ForeignId). record { space = peer; id = x } ∷ rest) (references-push peer ids id)
+
+told-one : (peer : List ℕ) (ids : List ObjId) (i : ℕ) (d : ObjId) (event : Event) (h : List Told) → i < length ids
+    → on_each (references_at peer (take (i + 1) ids)) event h ≡ On (record { space = peer; id = get_or ids i d }) event ∷ on_each (references_at peer (take i ids)) event h
+told-one peer ids i d event h below =
+    ap (λ (xs : List ObjId). on_each (references_at peer xs) event h) (take_more ids i d below)
+    ∙ ap (λ (rs : List ForeignId). on_each rs event h) (references-push peer (take i ids) (get_or ids i d))
+    ∙ on-each-push (references_at peer (take i ids)) (record { space = peer; id = get_or ids i d }) event h
+
+-- the event of one more reference of a group
+pub told-next : (peer : List ℕ) (ids shown : List ObjId) (i : ℕ) (d : ObjId) (event : Event) (h : List Told) → shown ≡ ids → i < length shown
+    → on_each (references_at peer (take (i + 1) ids)) event h ≡ On (record { space = peer; id = get_or shown i d }) event ∷ on_each (references_at peer (take i ids)) event h
+told-next peer ids shown i d event h is below =
+    subst (λ (xs : List ObjId). on_each (references_at peer (take (i + 1) xs)) event h ≡ On (record { space = peer; id = get_or shown i d }) event ∷ on_each (references_at peer (take i xs)) event h) is
+    (told-one peer shown i d event h below)
+
+-- entries whose values a function of the keys tells
+entries-told : (f : ForeignId → ClientLease) (es : List (ForeignId × ClientLease)) → ((i : ℕ) (k : ForeignId) (v : ClientLease) → slice_get es i ≡ Some (k, v) → f k ≡ v)
+    → es ≡ map (λ (k : ForeignId). (k, f k)) (keys_of es)
+entries-told f [] tells = refl
+entries-told f (e ∷ es) tells = λ j. (e.0, sym (tells zero e.0 e.1 refl) j) ∷ entries-told f es (λ i. tells (suc i)) j
+
+-- the entries are what the history leaves of each reference that was held
+pub entries-are : (h : List Told) (clients : Clients) → IsDistinct is_same (keys_of clients.references.entries) → IsAfter h clients
+    → clients.references.entries ≡ map (λ (k : ForeignId). (k, lease_of (own k h))) (held h)
+entries-are h clients distinct was =
+    entries-told (λ k. lease_of (own k h)) clients.references.entries
+    (λ i k v at. sym (was.each k) ∙ ap (λ o. unwrap_or o (fresh clients.moment)) (lookup_from_place same-laws clients.references.entries i k v distinct at))
+    ∙ ap (λ (ks : List ForeignId). map (λ (k : ForeignId). (k, lease_of (own k h))) ks) was.held
+
+due-map : (f : ForeignId → ClientLease) (ks : List ForeignId)
+    → filter_map (λ (e : ForeignId × ClientLease). due_call e.0 (due e.1)) (map (λ (k : ForeignId). (k, f k)) ks) ≡ filter_map (λ (k : ForeignId). due_call k (due (f k))) ks
+due-map f [] = refl
+due-map f (k ∷ ks) = ap (cons_option (due_call k (due (f k)))) (due-map f ks)
+
+picked-map : (f : ForeignId → ClientLease) (p : ClientLease → Bool) (ks : List ForeignId)
+    → map (λ (e : ForeignId × ClientLease). e.0) (filter (λ (e : ForeignId × ClientLease). p e.1) (map (λ (k : ForeignId). (k, f k)) ks)) ≡ filter (λ (k : ForeignId). p (f k)) ks
+picked-map f p [] = refl
+picked-map f p (k ∷ ks) = elim (p (f k)) as (λ t. map (λ (e : ForeignId × ClientLease). e.0) (cond t ((k, f k) ∷ filter (λ (e : ForeignId × ClientLease). p e.1) (map (λ (k : ForeignId). (k, f k)) ks)) (filter (λ (e : ForeignId × ClientLease). p e.1) (map (λ (k : ForeignId). (k, f k)) ks)))
+    ≡ cond t (k ∷ filter (λ (k : ForeignId). p (f k)) ks) (filter (λ (k : ForeignId). p (f k)) ks)) [ true ↦ ap (λ (rest : List ForeignId). k ∷ rest) (picked-map f p ks) | false ↦ picked-map f p ks ]
+
+-- the calls that are due, from the entries
+pub due-calls : (h : List Told) (clients : Clients) (calls : List DueCall) → IsDistinct is_same (keys_of clients.references.entries)
+    → calls ≡ filter_map (λ (e : ForeignId × ClientLease). due_call e.0 (due e.1)) clients.references.entries → IsAfter h clients → calls ≡ due_of h
+due-calls h clients calls distinct is was =
+    is ∙ ap (λ (es : List (ForeignId × ClientLease)). filter_map (λ (e : ForeignId × ClientLease). due_call e.0 (due e.1)) es) (entries-are h clients distinct was)
+    ∙ due-map (λ k. lease_of (own k h)) (held h)
+
+-- the references of clean calls have no holders
+pub cleans-unheld : (f : ForeignId → ClientLease) (ks : List ForeignId) → All (λ (call : DueCall). is_clean call ≡ true → (f call.reference).holders ≡ 0) (filter_map (λ (k : ForeignId). due_call k (due (f k))) ks)
+cleans-unheld f [] = All-nil (λ (call : DueCall). is_clean call ≡ true → (f call.reference).holders ≡ 0)
+cleans-unheld f (k ∷ ks) = by (due (f k)) refl (cleans-unheld f ks)
+  where
+    by : (o : Option Due) → due (f k) ≡ o → All (λ (call : DueCall). is_clean call ≡ true → (f call.reference).holders ≡ 0) (filter_map (λ (k : ForeignId). due_call k (due (f k))) ks)
+        → All (λ (call : DueCall). is_clean call ≡ true → (f call.reference).holders ≡ 0) (cons_option (due_call k o) (filter_map (λ (k : ForeignId). due_call k (due (f k))) ks))
+    by None e rest = rest
+    by (Some Dirty) e rest = All-cons (λ (call : DueCall). is_clean call ≡ true → (f call.reference).holders ≡ 0) _ _ (λ clean. absurd (false≢true clean)) rest
+    by (Some (Clean strong)) e rest = All-cons (λ (call : DueCall). is_clean call ≡ true → (f call.reference).holders ≡ 0) _ _ (λ clean. clean-unheld (f k) strong e) rest
+
+-- the references that pass a test of what is kept of them, from the entries
+pub picked : (p : ClientLease → Bool) (h : List Told) (clients : Clients) (references : List ForeignId) → IsDistinct is_same (keys_of clients.references.entries)
+    → references ≡ map (λ (e : ForeignId × ClientLease). e.0) (filter (λ (e : ForeignId × ClientLease). p e.1) clients.references.entries) → IsAfter h clients
+    → references ≡ filter (λ (r : ForeignId). p (lease_of (own r h))) (held h)
+picked p h clients references distinct is was =
+    is ∙ ap (λ (es : List (ForeignId × ClientLease)). map (λ (e : ForeignId × ClientLease). e.0) (filter (λ (e : ForeignId × ClientLease). p e.1) es)) (entries-are h clients distinct was)
+    ∙ picked-map (λ k. lease_of (own k h)) p (held h)
 
 -- the moment comes for one more reference
 pub pass-step : (m : ℕ) (es : List (ForeignId × ClientLease)) (i : ℕ) (v : ClientLease) → i < length es
@@ -88,24 +259,21 @@ passed m n r [] = fresh-moment m n
 passed m n r (e ∷ es) = elim (is_same r e.0) as (λ t. unwrap_or (cond t (Some (after_moment m e.1)) (lookup (is_same r) (map (λ (e : ForeignId × ClientLease). (e.0, after_moment m e.1)) es))) (fresh (max n m))
     ≡ after_moment m (unwrap_or (cond t (Some e.1) (lookup (is_same r) es)) (fresh n))) [ true ↦ refl | false ↦ passed m n r es ]
 
+passed-keys : (m : ℕ) (es : List (ForeignId × ClientLease)) → keys_of (map (λ (e : ForeignId × ClientLease). (e.0, after_moment m e.1)) es) ≡ keys_of es
+passed-keys m [] = refl
+passed-keys m (e ∷ es) = ap (λ (rest : List ForeignId). e.0 ∷ rest) (passed-keys m es)
+
 -- a moment, from what it makes of each reference
-pub after-pass : (h : List Told) (old new : Leases) (m : ℕ) → new.moment ≡ max old.moment m
+pub after-pass : (h : List Told) (old new : Clients) (m : ℕ) → new.moment ≡ max old.moment m → new.numbers ≡ old.numbers
     → new.references.entries ≡ map (λ (e : ForeignId × ClientLease). (e.0, after_moment m e.1)) old.references.entries → IsAfter h old → IsAfter (At m ∷ h) new
-after-pass h old new m moment is was = record {
+after-pass h old new m moment numbers is was = record {
   moment = moment ∙ ap (λ n. max n m) was.moment ∙ (let flipped : max (moment_of h) m ≡ max m (moment_of h) = omega arith in flipped);
+  numbers = numbers ∙ was.numbers;
+  held = ap (λ (es : List (ForeignId × ClientLease)). keys_of es) is ∙ passed-keys m old.references.entries ∙ was.held;
   each = λ r. ap (λ n. unwrap_or (lookup (is_same r) new.references.entries) (fresh n)) moment
       ∙ ap (λ (es : List (ForeignId × ClientLease)). unwrap_or (lookup (is_same r) es) (fresh (max old.moment m))) is
       ∙ passed m old.moment r old.references.entries ∙ ap (after_moment m) (was.each r);
 }
-
--- a dirty call that goes out of a reference that is not known is none of it
-pub sent-unknown : (h : List Told) (leases : Leases) (reference : ForeignId) (call : ℕ) → is_known leases reference ≡ false
-    → IsAfter h leases → IsAfter (On reference (DirtySent call) ∷ h) leases
-sent-unknown h leases reference call absent was = after-nothing h leases reference (DirtySent call) (by (lookup (is_same reference) leases.references.entries) absent) was
-  where
-    by : (o : Option ClientLease) → is_some o ≡ false → unwrap_or o (fresh leases.moment) ≡ after_sent call (unwrap_or o (fresh leases.moment))
-    by None h = refl
-    by (Some l) h = cc
 
 pub pass-next : (m : ℕ) (es now : List (ForeignId × ClientLease)) (i : ℕ) (v w : ClientLease) → i < length es
     → now ≡ map (λ (e : ForeignId × ClientLease). (e.0, after_moment m e.1)) (take i es) ++ drop i es

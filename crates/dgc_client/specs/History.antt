@@ -1,4 +1,6 @@
 use Rattle.std.specs.Prelude.{◌≡◌, ◌≢◌, ℕ, List, [], ◌∷◌}
+use Rattle.dgc_client.specs.declared.lease.Change.{Change}
+use Rattle.dgc_client.specs.declared.lease.Change.TheVariants as change
 use Rattle.dgc_client.specs.declared.lease.ClientLease.{ClientLease}
 use Rattle.dgc_client.specs.Lease.{fresh, after_hold, after_drop, after_moment, after_dirty, after_clean, after_sent, after_answer, after_failed_dirty, after_answered_clean, after_failed_clean}
 
@@ -14,6 +16,17 @@ pub data Event : Type 0 where
   DirtyFailed : (call : ℕ) → Event
   CleanAnswered : (call : ℕ) → Event
   CleanFailed : (call : ℕ) → Event
+
+-- the event that a change is
+abbrev pub event_of : Change → Event
+event_of change.Dropped = Dropped
+event_of (change.DirtyMade call) = DirtyMade call
+event_of (change.CleanMade call) = CleanMade call
+event_of (change.DirtySent call) = DirtySent call
+event_of (change.DirtyAnswered call period) = DirtyAnswered call period
+event_of (change.DirtyFailed call) = DirtyFailed call
+event_of (change.CleanAnswered call) = CleanAnswered call
+event_of (change.CleanFailed call) = CleanFailed call
 
 -- what one event makes of what is kept
 abbrev pub after : Event → ClientLease → ClientLease

@@ -1,4 +1,4 @@
-use Rattle.std.specs.Prelude.{ℕ, ◌+◌, ◌-◌, Bool, true, false, Option, None, Some, is_none, ◌&&◌, ◌||◌, ◌==◌, nat_lt, nat_le, if◌then◌else◌}
+use Rattle.std.specs.Prelude.{ℕ, ◌+◌, ◌-◌, Bool, true, false, Option, None, Some, is_none, is_some, ◌&&◌, ◌||◌, ◌==◌, nat_lt, nat_le, if◌then◌else◌}
 use Rattle.dgc_client.specs.declared.lease.ClientLease.{ClientLease}
 use Rattle.dgc_client.specs.declared.lease.Due.{Due}
 use Rattle.dgc_client.specs.declared.lease.Due.TheVariants.{Dirty, Clean as Clean_due}
@@ -42,6 +42,14 @@ at_moment moment l = record l { moment = moment; waits = false; lease = standing
 -- A moment below the last changes nothing.
 abbrev pub after_moment : ℕ → ClientLease → ClientLease
 after_moment moment l = if nat_lt moment l.moment then l else at_moment moment l
+
+-- whether the lease is due for renewal once the moment has come
+abbrev pub is_renewed_at : ℕ → ClientLease → Bool
+is_renewed_at moment l = (after_moment moment l).renew
+
+-- whether there is a lease, and the moment ends it
+abbrev pub lapses_at : ℕ → ClientLease → Bool
+lapses_at moment l = is_some l.lease && is_none (after_moment moment l).lease
 
 abbrev pub after_dirty : ℕ → ClientLease → ClientLease
 after_dirty call l =

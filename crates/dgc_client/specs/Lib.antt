@@ -1,3 +1,4 @@
+pub mod Groups
 pub mod History
 pub mod Lease
 pub mod Table

@@ -1,48 +1,132 @@
-use Rattle.std.specs.Prelude.{◌≡◌, ℕ, Bool, List, [], ◌∷◌, Option, ◌==◌, ◌&&◌, unwrap_or, is_some, max, if◌then◌else◌}
-use Rattle.std.specs.Map.{lookup}
+use Rattle.std.specs.Prelude.{◌≡◌, ℕ, ◌+◌, Bool, true, false, List, [], ◌∷◌, ◌++◌, map, Option, None, Some, ◌==◌, ◌&&◌, ◌||◌, unwrap_or, is_some, max, if◌then◌else◌}
+use Rattle.std.specs.List.{list_any, filter_map}
+use Rattle.std.specs.Map.{lookup, keys_of}
 use Rattle.std.specs.Str.{bytes_eq}
+use Rattle.vm_heap.specs.declared.values.ObjId.{ObjId}
+use Rattle.dgc_client.specs.declared.groups.DueCall.{DueCall}
+use Rattle.dgc_client.specs.declared.groups.Group.{Group}
 use Rattle.dgc_client.specs.declared.lease.ClientLease.{ClientLease}
+use Rattle.dgc_client.specs.declared.lease.Due.{Due}
+use Rattle.dgc_client.specs.declared.lease.Due.TheVariants.{Dirty, Clean}
 use Rattle.dgc_client.specs.declared.table.ForeignId.{ForeignId}
-use Rattle.dgc_client.specs.declared.table.Leases.{Leases}
-use Rattle.dgc_client.specs.Lease.{fresh}
+use Rattle.dgc_client.specs.declared.table.Clients.{Clients}
+use Rattle.dgc_client.specs.Lease.{fresh, due}
 use Rattle.dgc_client.specs.History.{Event, lease_of}
-use Rattle.dgc_client.specs.History.Event.{Moment}
+use Rattle.dgc_client.specs.History.Event.{Held, Dropped, Moment, DirtyMade, CleanMade, DirtySent, DirtyAnswered, DirtyFailed, CleanAnswered, CleanFailed}
 
--- What happens to the references of a space: an event of one of them, or a moment. A history is the list of it, newest first.
+-- What happens to the references of a space: an event of one of them, a moment, or a number that is given to a group as it goes out. A history is the list of it, newest first.
 pub data Told : Type 0 where
   On : (reference : ForeignId) (event : Event) → Told
   At : (moment : ℕ) → Told
+  Numbered : Told
 
 -- whether two references name one object
 abbrev pub is_same : ForeignId → ForeignId → Bool
 is_same a b = bytes_eq a.space b.space && a.id.0 == b.id.0
 
--- what happened to one reference
+abbrev pub is_among : ForeignId → List ForeignId → Bool
+is_among reference references = list_any (is_same reference) references
+
+abbrev pub is_hold : Event → Bool
+is_hold Held = true
+is_hold Dropped = false
+is_hold (Moment moment) = false
+is_hold (DirtyMade call) = false
+is_hold (CleanMade call) = false
+is_hold (DirtySent call) = false
+is_hold (DirtyAnswered call period) = false
+is_hold (DirtyFailed call) = false
+is_hold (CleanAnswered call) = false
+is_hold (CleanFailed call) = false
+
+-- a reference goes last, where it is not there
+abbrev pub with_reference : List ForeignId → ForeignId → List ForeignId
+with_reference references reference = if is_among reference references then references else references ++ reference ∷ []
+
+-- the references that were held, in the order in which they were first held
+abbrev pub held : List Told → List ForeignId
+held [] = []
+held (On reference event ∷ h) = if is_hold event then with_reference (held h) reference else held h
+held (At moment ∷ h) = held h
+held (Numbered ∷ h) = held h
+
+-- What happened to one reference. What is told of a reference that was never held is none of it.
 abbrev pub own : ForeignId → List Told → List Event
 own reference [] = []
-own reference (On other event ∷ h) = if is_same other reference then event ∷ own reference h else own reference h
+own reference (On other event ∷ h) = if is_same other reference && (is_hold event || is_among other (held h)) then event ∷ own reference h else own reference h
 own reference (At moment ∷ h) = Moment moment ∷ own reference h
+own reference (Numbered ∷ h) = own reference h
 
 -- The moment that it is: one below the last changes nothing.
 abbrev pub moment_of : List Told → ℕ
 moment_of [] = 0
 moment_of (On other event ∷ h) = moment_of h
 moment_of (At moment ∷ h) = max moment (moment_of h)
+moment_of (Numbered ∷ h) = moment_of h
+
+-- how many numbers were given
+abbrev pub numbers_of : List Told → ℕ
+numbers_of [] = 0
+numbers_of (On other event ∷ h) = numbers_of h
+numbers_of (At moment ∷ h) = numbers_of h
+numbers_of (Numbered ∷ h) = numbers_of h + 1
+
+-- the event of each of these references, in turn
+abbrev pub on_each : List ForeignId → Event → List Told → List Told
+on_each [] event h = h
+on_each (reference ∷ references) event h = on_each references event (On reference event ∷ h)
+
+-- the references of a peer's objects
+abbrev pub references_at : List ℕ → List ObjId → List ForeignId
+references_at peer ids = map (λ (id : ObjId). record { space = peer; id = id }) ids
+
+-- the event of each reference of a group
+abbrev pub told : Group → Event → List Told → List Told
+told group event h = on_each (references_at group.peer group.ids.items) event h
+
+-- that a call of this kind is made
+abbrev pub making : Due → ℕ → Event
+making Dirty call = DirtyMade call
+making (Clean strong) call = CleanMade call
+
+-- a group's call is made
+abbrev pub made : Group → ℕ → List Told → List Told
+made group call h = told group (making group.kind call) h
+
+abbrev pub sent_as : Due → Group → ℕ → List Told → List Told
+sent_as Dirty group call h = told group (DirtySent call) h
+sent_as (Clean strong) group call h = h
+
+-- a group's call goes out: it gets a number, and its leases count from now where it is a dirty call
+abbrev pub sent : Group → ℕ → List Told → List Told
+sent group call h = Numbered ∷ sent_as group.kind group call h
+
+abbrev pub due_call : ForeignId → Option Due → Option DueCall
+due_call reference None = None
+due_call reference (Some kind) = Some (record { reference = reference; kind = kind })
+
+-- the calls that are due, in the order in which the references were first held
+abbrev pub due_of : List Told → List DueCall
+due_of h = filter_map (λ reference. due_call reference (due (lease_of (own reference h)))) (held h)
 
 -- what is kept of a reference
-abbrev pub lease_at : Leases → ForeignId → ClientLease
-lease_at leases reference = unwrap_or (lookup (is_same reference) leases.references.entries) (fresh leases.moment)
+abbrev pub lease_at : Clients → ForeignId → ClientLease
+lease_at clients reference = unwrap_or (lookup (is_same reference) clients.references.entries) (fresh clients.moment)
 
 -- whether the reference has a place in the table
-abbrev pub is_known : Leases → ForeignId → Bool
-is_known leases reference = is_some (lookup (is_same reference) leases.references.entries)
+abbrev pub is_known : Clients → ForeignId → Bool
+is_known clients reference = is_some (lookup (is_same reference) clients.references.entries)
 
 -- this is kept of the reference now, and all else stays
-pub record Puts (reference : ForeignId) (lease : ClientLease) (old new : Leases) : Type 0 where
+pub record Puts (reference : ForeignId) (lease : ClientLease) (old new : Clients) : Type 0 where
   pub moment : new.moment ≡ old.moment
+  pub numbers : new.numbers ≡ old.numbers
+  pub keys : keys_of new.references.entries ≡ keys_of old.references.entries
   pub each : (other : ForeignId) → lease_at new other ≡ (if is_same reference other then lease else lease_at old other)
 
 -- The table is what the history leaves.
-pub record IsAfter (h : List Told) (leases : Leases) : Type 0 where
-  pub moment : leases.moment ≡ moment_of h
-  pub each : (reference : ForeignId) → lease_at leases reference ≡ lease_of (own reference h)
+pub record IsAfter (h : List Told) (clients : Clients) : Type 0 where
+  pub moment : clients.moment ≡ moment_of h
+  pub numbers : clients.numbers ≡ numbers_of h
+  pub held : keys_of clients.references.entries ≡ held h
+  pub each : (reference : ForeignId) → lease_at clients reference ≡ lease_of (own reference h)

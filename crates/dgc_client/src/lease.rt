@@ -1,7 +1,8 @@
 //! One foreign reference: its holders, its lease, and the call that is due.
 
 ghost use Rattle.std.specs.Prelude.{◌≡◌, ◌+◌, ◌<◌, ◌^◌};
-ghost use Rattle.dgc_client.specs.Lease.{fresh, is_made, after_hold, after_drop, standing, is_half_over, after_moment, after_dirty, after_clean, after_sent, after_answer, after_failed_dirty, after_answered_clean, after_failed_clean, due_held, due_unheld, due};
+ghost use Rattle.dgc_client.specs.Lease.{fresh, is_made, after_hold, after_drop, standing, is_half_over, after_moment, after_dirty, after_clean, after_sent, after_answer, after_failed_dirty, after_answered_clean, after_failed_clean, due_held, due_unheld, due, is_renewed_at, lapses_at};
+ghost use Rattle.dgc_client.specs.History.{after, event_of};
 
 /// The period that each dirty call asks for, in milliseconds.
 pub const LONGEST_LEASE: u64 = 600_000;
@@ -64,6 +65,19 @@ pub struct ClientLease {
     pub owed: Owed,
     /// Whether a call failed since the last moment: nothing is due before the next.
     pub waits: bool,
+}
+
+/// What happens to a reference that is known, beside moments and new holders.
+#[derive(Clone, Copy)]
+pub(crate) enum Change {
+    Dropped,
+    DirtyMade(u64),
+    CleanMade(u64),
+    DirtySent(u64),
+    DirtyAnswered { call: u64, period: u64 },
+    DirtyFailed(u64),
+    CleanAnswered(u64),
+    CleanFailed(u64),
 }
 
 // Whether the call is this one.
@@ -214,6 +228,40 @@ impl ClientLease {
         self.clean = None;
         self.owed = Owed::Again;
         self.waits = true;
+    }
+
+    /// The change happened.
+    pub(crate) fn change(&mut self, change: Change)
+        ensures { self.new ≡ after (event_of change) self.old }
+    {
+        match change {
+            Change::Dropped => self.drop_holder(),
+            Change::DirtyMade(call) => self.dirty_made(call),
+            Change::CleanMade(call) => self.clean_made(call),
+            Change::DirtySent(call) => self.dirty_sent(call),
+            Change::DirtyAnswered { call, period } => self.dirty_answered(call, period),
+            Change::DirtyFailed(call) => self.dirty_failed(call),
+            Change::CleanAnswered(call) => self.clean_answered(call),
+            Change::CleanFailed(call) => self.clean_failed(call),
+        }
+    }
+
+    /// Whether the lease is due for renewal once this moment has come.
+    pub fn is_renewed_at(&self, moment: u64) -> bool
+        ensures { result ≡ is_renewed_at moment self.now }
+    {
+        let mut then = *self;
+        then.moment(moment);
+        then.renew
+    }
+
+    /// Whether there is a lease, and this moment ends it.
+    pub fn lapses_at(&self, moment: u64) -> bool
+        ensures { result ≡ lapses_at moment self.now }
+    {
+        let mut then = *self;
+        then.moment(moment);
+        self.lease.is_some() && then.lease.is_none()
     }
 
     /// The call that is due now.

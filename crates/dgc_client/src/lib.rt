@@ -2,13 +2,15 @@
 //! collection): what a space holds of a foreign reference, its lease, and the call that is due.
 //!
 //! [`ClientLease`] is the machine of one reference. Its history is the list of what happened to it,
-//! newest first, with the moments. [`Leases`] is the table of these machines, in the order in which
-//! the references were first held.
+//! newest first, with the moments. [`Clients`] is the table of these machines, in the order in which
+//! the references were first held; it answers the calls that are due in [`Group`]s, one a frame.
 #![tactic(auto)]
 
+pub use groups::{Group, MOST};
 pub use lease::{ClientLease, Due, LONGEST_LEASE, Made, Owed, Term};
-pub use table::{ForeignId, Leases};
+pub use table::{Clients, ForeignId};
 
+mod groups;
 pub mod laws;
 mod lease;
 mod table;

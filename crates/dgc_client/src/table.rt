@@ -1,9 +1,14 @@
 //! All foreign references of a space.
 
-ghost use Rattle.std.specs.Prelude.{◌≡◌, List, [], ◌∷◌, OnOk, OnErr, IsTrue, false, map};
-ghost use Rattle.dgc_client.specs.Lease.{after_moment};
+ghost use Rattle.std.specs.Prelude.{◌≡◌, ◌≤◌, ◌+◌, ◌^◌, ℕ, List, [], ◌∷◌, OnOk, OnErr, IfOk, IfSome, IfNone, IsTrue, false, map, filter};
+ghost use Rattle.std.specs.List.{filter_map, IsDistinct};
+ghost use Rattle.std.specs.Map.{keys_of};
+ghost use Rattle.dgc_client.specs.Lease.{after_moment, due, is_renewed_at, lapses_at};
+ghost use Rattle.dgc_client.specs.Table.{due_call, is_same};
 
-use crate::ClientLease;
+use crate::groups::{DueCall, Group, grouped, in_order};
+use crate::lease::Change;
+use crate::{ClientLease, Due};
 use indexmap::IndexMap;
 use std::alloc::{AllocError, Global};
 use uuid::Uuid;
@@ -21,24 +26,27 @@ pub struct ForeignId {
 ///
 /// A contract names the histories that the value may stand for: it is what each of them leaves.
 #[derive(Debug, Drop)]
-pub struct Leases {
+pub struct Clients {
     references: IndexMap<ForeignId, ClientLease>,
     moment: u64,
+    numbers: u64,
 }
 
-impl Leases {
-    ghost use Rattle.dgc_client.specs.Table.{Told, IsAfter, own, is_known, Puts};
+impl Clients {
+    ghost use Rattle.dgc_client.specs.History.{Event, lease_of, event_of};
+    ghost use Rattle.dgc_client.specs.History.Event.{Held, Dropped, DirtyAnswered, DirtyFailed, CleanAnswered, CleanFailed};
+    ghost use Rattle.dgc_client.specs.Groups.{IsGrouping, in_order};
+    ghost use Rattle.dgc_client.specs.Table.{Told, IsAfter, own, held, numbers_of, told, made, sent, due_of, is_known, Puts};
     ghost use Rattle.dgc_client.specs.Table.Told.{On, At};
-    ghost use Rattle.dgc_client.specs.History.{lease_of};
-    ghost use Rattle.dgc_client.specs.History.Event.{Held, Dropped, DirtyMade, CleanMade, DirtySent, DirtyAnswered, DirtyFailed, CleanAnswered, CleanFailed};
 
-    /// No reference is held, at moment 0.
-    pub fn new(alloc: Global) -> Leases
+    /// No reference was held and no number given, at moment 0.
+    pub fn new(alloc: Global) -> Clients
         ensures { IsAfter [] result }
     {
-        Leases {
+        Clients {
             references: IndexMap::new(alloc),
             moment: 0,
+            numbers: 0,
         }
     }
 
@@ -52,7 +60,8 @@ impl Leases {
         }
     }
 
-    /// The reference has one more holder.
+    /// The reference has one more holder: a parked frame, a task, a field, or a result that nobody
+    /// has acknowledged. At want of memory, and where 2^64 - 1 hold it, nothing happens.
     pub fn hold(&mut self, reference: &ForeignId) -> Result<(), AllocError>
         ensures ok { OnOk result ((h : List Told) → IsAfter h self.old → IsAfter (On reference.now Held ∷ h) self.new) }
         ensures err { OnErr result ((h : List Told) → IsAfter h self.old → IsAfter h self.new) }
@@ -70,88 +79,91 @@ impl Leases {
     pub fn drop_holder(&mut self, reference: &ForeignId)
         ensures { (h : List Told) → IsAfter h self.old → IsAfter (On reference.now Dropped ∷ h) self.new }
     {
-        let mut lease = self.lease(reference);
-        lease.drop_holder();
-        self.put_known(reference, lease);
+        self.change(reference, Change::Dropped);
     }
 
-    /// A dirty call was made for the reference.
-    pub fn dirty_made(&mut self, reference: &ForeignId, call: u64) -> Result<(), AllocError>
-        ensures ok { OnOk result ((h : List Told) → IsAfter h self.old → IsAfter (On reference.now (DirtyMade call) ∷ h) self.new) }
-        ensures err { OnErr result ((h : List Told) → IsAfter h self.old → IsAfter h self.new) }
+    /// The calls that are due now: clean calls first, then dirty calls; those of one peer together,
+    /// strong clean calls in groups of their own before the others. References stand in the order in
+    /// which they were first held, and peers in the order of their first reference. Changes nothing:
+    /// each group that is answered is to be [`made`](Clients::made).
+    pub fn due(&self, alloc: Global) -> Result<Vec<Group>, AllocError>
+        ensures { IfOk result (λ groups. (h : List Told) → IsAfter h self.now → IsGrouping (in_order (due_of h)) groups.items) }
     {
-        let mut lease = self.lease(reference);
-        lease.dirty_made(call);
-        self.references.insert(*reference, lease)?;
-        Ok(())
+        let calls = due_calls(alloc, &self.references)?;
+        let ordered = in_order(alloc, calls.as_slice())?;
+        grouped(alloc, ordered.as_slice())
     }
 
-    /// A clean call was made for the reference.
-    pub fn clean_made(&mut self, reference: &ForeignId, call: u64) -> Result<(), AllocError>
-        ensures ok { OnOk result ((h : List Told) → IsAfter h self.old → IsAfter (On reference.now (CleanMade call) ∷ h) self.new) }
-        ensures err { OnErr result ((h : List Told) → IsAfter h self.old → IsAfter h self.new) }
+    /// The references whose lease is due for renewal once this moment has come, in the order in which
+    /// they were first held.
+    pub fn renewals(&self, alloc: Global, moment: u64) -> Result<Vec<ForeignId>, AllocError>
+        ensures { IfOk result (λ references. (h : List Told) → IsAfter h self.now → references.items ≡ filter (λ r. is_renewed_at moment (lease_of (own r h))) (held h)) }
     {
-        let mut lease = self.lease(reference);
-        lease.clean_made(call);
-        self.references.insert(*reference, lease)?;
-        Ok(())
+        renewed_at(alloc, &self.references, moment)
     }
 
-    /// A dirty call for the reference went out now.
-    pub fn dirty_sent(&mut self, reference: &ForeignId, call: u64)
-        ensures { (h : List Told) → IsAfter h self.old → IsAfter (On reference.now (DirtySent call) ∷ h) self.new }
+    /// The references whose lease this moment ends, in the order in which they were first held.
+    pub fn lapsed(&self, alloc: Global, moment: u64) -> Result<Vec<ForeignId>, AllocError>
+        ensures { IfOk result (λ references. (h : List Told) → IsAfter h self.now → references.items ≡ filter (λ r. lapses_at moment (lease_of (own r h))) (held h)) }
     {
-        let mut lease = self.lease(reference);
-        lease.dirty_sent(call);
-        self.put_known(reference, lease);
+        lapsed_at(alloc, &self.references, moment)
     }
 
-    /// A dirty call for the reference was answered by a lease for this period.
-    pub fn dirty_answered(&mut self, reference: &ForeignId, call: u64, period: u64)
-        ensures { (h : List Told) → IsAfter h self.old → IsAfter (On reference.now (DirtyAnswered call period) ∷ h) self.new }
+    /// The group's call was made, under this number: by it the group is known until its answer. A
+    /// clean call ends the leases of its references.
+    pub fn made(&mut self, group: &Group, call: u64)
+        ensures { (h : List Told) → IsAfter h self.old → IsAfter (made group.now call h) self.new }
     {
-        let mut lease = self.lease(reference);
-        lease.dirty_answered(call, period);
-        self.put_known(reference, lease);
-    }
-
-    /// A dirty call for the reference failed.
-    pub fn dirty_failed(&mut self, reference: &ForeignId, call: u64)
-        ensures { (h : List Told) → IsAfter h self.old → IsAfter (On reference.now (DirtyFailed call) ∷ h) self.new }
-    {
-        let mut lease = self.lease(reference);
-        lease.dirty_failed(call);
-        self.put_known(reference, lease);
-    }
-
-    /// A clean call for the reference was answered.
-    pub fn clean_answered(&mut self, reference: &ForeignId, call: u64)
-        ensures { (h : List Told) → IsAfter h self.old → IsAfter (On reference.now (CleanAnswered call) ∷ h) self.new }
-    {
-        let mut lease = self.lease(reference);
-        lease.clean_answered(call);
-        self.put_known(reference, lease);
-    }
-
-    /// A clean call for the reference failed.
-    pub fn clean_failed(&mut self, reference: &ForeignId, call: u64)
-        ensures { (h : List Told) → IsAfter h self.old → IsAfter (On reference.now (CleanFailed call) ∷ h) self.new }
-    {
-        let mut lease = self.lease(reference);
-        lease.clean_failed(call);
-        self.put_known(reference, lease);
-    }
-
-    // Sets what is kept of a reference that is known; another is left out.
-    fn put_known(&mut self, reference: &ForeignId, lease: ClientLease)
-        ensures known { IsTrue (is_known self.old reference.now) → Puts reference.now lease self.old self.new }
-        ensures unknown { is_known self.old reference.now ≡ false → self.new ≡ self.old }
-    {
-        if self.references.contains_key(reference) {
-            let Ok(_) = self.references.insert(*reference, lease) else {
-                unreachable!();
-            };
+        match group.kind {
+            Due::Dirty => self.tell(group, Change::DirtyMade(call)),
+            Due::Clean { .. } => self.tell(group, Change::CleanMade(call)),
         }
+    }
+
+    /// The group's call goes out now. Answers the number of its frame, one above the last that was
+    /// given to any group; none, and nothing happens, where that would be 2^63.
+    pub fn sent(&mut self, group: &Group, call: u64) -> Option<u64>
+        ensures number { IfSome result (λ number. (h : List Told) → IsAfter h self.old → number ≡ numbers_of h + 1) }
+        ensures some { IfSome result (λ number. (h : List Told) → IsAfter h self.old → IsAfter (sent group.now call h) self.new) }
+        ensures worn { IfNone result ((h : List Told) → IsAfter h self.old → 2 ^ 63 ≤ numbers_of h + 1) }
+        ensures none { IfNone result (self.new ≡ self.old) }
+    {
+        if self.numbers >= (1 << 63) - 1 {
+            return None;
+        }
+        if matches!(group.kind, Due::Dirty) {
+            self.tell(group, Change::DirtySent(call));
+        }
+        self.numbers += 1;
+        Some(self.numbers)
+    }
+
+    /// The group's dirty call was answered by a lease for this period, in milliseconds.
+    pub fn dirty_answered(&mut self, group: &Group, call: u64, period: u64)
+        ensures { (h : List Told) → IsAfter h self.old → IsAfter (told group.now (DirtyAnswered call period) h) self.new }
+    {
+        self.tell(group, Change::DirtyAnswered { call, period });
+    }
+
+    /// The group's dirty call failed.
+    pub fn dirty_failed(&mut self, group: &Group, call: u64)
+        ensures { (h : List Told) → IsAfter h self.old → IsAfter (told group.now (DirtyFailed call) h) self.new }
+    {
+        self.tell(group, Change::DirtyFailed(call));
+    }
+
+    /// The group's clean call was answered.
+    pub fn clean_answered(&mut self, group: &Group, call: u64)
+        ensures { (h : List Told) → IsAfter h self.old → IsAfter (told group.now (CleanAnswered call) h) self.new }
+    {
+        self.tell(group, Change::CleanAnswered(call));
+    }
+
+    /// The group's clean call failed.
+    pub fn clean_failed(&mut self, group: &Group, call: u64)
+        ensures { (h : List Told) → IsAfter h self.old → IsAfter (told group.now (CleanFailed call) h) self.new }
+    {
+        self.tell(group, Change::CleanFailed(call));
     }
 
     /// The moment is now, in milliseconds. A moment below the last changes nothing.
@@ -161,6 +173,102 @@ impl Leases {
         pass(&mut self.references, moment);
         self.moment = self.moment.max(moment);
     }
+
+    // The change happened to each reference of the group.
+    fn tell(&mut self, group: &Group, change: Change)
+        ensures told { (h : List Told) → IsAfter h self.old → IsAfter (told group.now (event_of change) h) self.new }
+        ensures numbers { self.new.numbers ≡ self.old.numbers }
+    {
+        for id in &group.ids {
+            let reference = ForeignId {
+                space: group.peer,
+                id: *id,
+            };
+            self.change(&reference, change);
+        }
+    }
+
+    // The change happened to the reference.
+    fn change(&mut self, reference: &ForeignId, change: Change)
+        ensures told { (h : List Told) → IsAfter h self.old → IsAfter (On reference.now (event_of change) ∷ h) self.new }
+        ensures numbers { self.new.numbers ≡ self.old.numbers }
+    {
+        let mut lease = self.lease(reference);
+        lease.change(change);
+        self.put_known(reference, lease);
+    }
+
+    // Sets what is kept of a reference that is known; another is left out.
+    fn put_known(&mut self, reference: &ForeignId, lease: ClientLease)
+        ensures known { IsTrue (is_known self.old reference.now) → Puts reference.now lease self.old self.new }
+        ensures unknown { is_known self.old reference.now ≡ false → self.new ≡ self.old }
+        ensures numbers { self.new.numbers ≡ self.old.numbers }
+    {
+        if self.references.contains_key(reference) {
+            let Ok(_) = self.references.insert(*reference, lease) else {
+                unreachable!();
+            };
+        }
+    }
+}
+
+// The call that is due of a reference.
+fn due_call(reference: &ForeignId, lease: &ClientLease) -> Option<DueCall>
+    ensures { result ≡ due_call reference.now (due lease.now) }
+{
+    match lease.due() {
+        Some(kind) => Some(DueCall {
+            reference: *reference,
+            kind,
+        }),
+        None => None,
+    }
+}
+
+// The calls that are due, in the order of the references.
+fn due_calls(
+    alloc: Global,
+    references: &IndexMap<ForeignId, ClientLease>,
+) -> Result<Vec<DueCall>, AllocError>
+    ensures calls { IfOk result (λ calls. calls.items ≡ filter_map (λ entry. due_call entry.0 (due entry.1)) references.now.entries) }
+    ensures distinct { IsDistinct is_same (keys_of references.now.entries) }
+{
+    references
+        .iter()
+        .filter_map(|(reference, lease)| due_call(reference, lease))
+        .collect(alloc)
+}
+
+// The references whose lease is due for renewal at the moment, in their order.
+fn renewed_at(
+    alloc: Global,
+    references: &IndexMap<ForeignId, ClientLease>,
+    moment: u64,
+) -> Result<Vec<ForeignId>, AllocError>
+    ensures references { IfOk result (λ found. found.items ≡ map (λ entry. entry.0) (filter (λ entry. is_renewed_at moment entry.1) references.now.entries)) }
+    ensures distinct { IsDistinct is_same (keys_of references.now.entries) }
+{
+    references
+        .iter()
+        .filter(|entry| entry.1.is_renewed_at(moment))
+        .map(|entry| *entry.0)
+        .collect(alloc)
+}
+
+// The references whose lease the moment ends, in their order.
+fn lapsed_at(
+    alloc: Global,
+    references: &IndexMap<ForeignId, ClientLease>,
+    moment: u64,
+) -> Result<Vec<ForeignId>, AllocError>
+    ensures references { IfOk result (λ found. found.items ≡ map (λ entry. entry.0) (filter (λ entry. lapses_at moment entry.1) references.now.entries)) }
+    ensures distinct { IsDistinct is_same (keys_of references.now.entries) }
+{
+    references
+        .iter()
+        .filter(|entry| entry.1.lapses_at(moment))
+        .map(|entry| *entry.0)
+        .collect(alloc)
 }
 
 // The moment comes for each reference.

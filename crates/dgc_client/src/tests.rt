@@ -1,4 +1,5 @@
 use super::*;
+use std::alloc::{AllocError, Global};
 use std::test::Fail;
 use uuid::Uuid;
 use vm_heap::ObjId;
@@ -102,36 +103,112 @@ fn a_failed_clean_call_is_repeated_for_the_longest_lease(rt: HostRuntime) -> Res
     Ok(())
 }
 
+fn reference(of: u64, id: u64) -> ForeignId {
+    ForeignId {
+        space: Uuid::from_u64_pair(0, of),
+        id: ObjId(id),
+    }
+}
+
+fn is_group(group: Option<&Group>, of: u64, kind: Due, ids: &[ObjId]) -> bool {
+    match group {
+        Some(group) => {
+            group.peer == Uuid::from_u64_pair(0, of)
+                && group.kind == kind
+                && group.ids.as_slice() == ids
+        }
+        None => false,
+    }
+}
+
+// All that is due is made, sent and answered, dirty calls for this period. Answers the last number.
+fn settle(clients: &mut Clients, alloc: Global, period: u64) -> Result<Option<u64>, AllocError> {
+    let mut number = None;
+    for group in &clients.due(alloc)? {
+        clients.made(group, 1);
+        number = clients.sent(group, 1);
+        clients.dirty_answered(group, 1, period);
+        clients.clean_answered(group, 1);
+    }
+    Ok(number)
+}
+
+// References 1 and 2 of peer 7, 3 of peer 8 and 4 of peer 7, held in this order and leased for 100 ms.
+fn held(alloc: Global) -> Result<Clients, AllocError> {
+    let mut clients = Clients::new(alloc);
+    for (of, id) in [(7, 1), (7, 2), (8, 3), (7, 4)] {
+        clients.hold(&reference(of, id))?;
+    }
+    settle(&mut clients, alloc, 100)?;
+    Ok(clients)
+}
+
 #[test]
-fn each_reference_of_a_table_has_its_own_lease(rt: HostRuntime) -> Result<(), Fail> {
-    let space = Uuid::from_u64_pair(0, 7);
-    let first = ForeignId {
-        space,
-        id: ObjId(1),
+fn leases_are_renewed_at_half_and_lapse_at_the_whole(rt: HostRuntime) -> Result<(), Fail> {
+    let mut clients = held(rt.alloc())?;
+    assert!(rt; clients.due(rt.alloc())?.is_empty());
+    assert!(rt; clients.renewals(rt.alloc(), 49)?.is_empty());
+    assert_eq!(rt; clients.renewals(rt.alloc(), 50)?.len(), 4);
+    assert!(rt; clients.lapsed(rt.alloc(), 99)?.is_empty());
+    let lapsed = clients.lapsed(rt.alloc(), 100)?;
+    assert_eq!(rt; lapsed.len(), 4);
+    assert_eq!(rt; lapsed.get(2).copied(), Some(reference(8, 3)));
+    clients.moment(100);
+    assert!(rt; clients.lease(&reference(7, 1)).lease.is_none());
+    assert_eq!(rt; clients.lease(&reference(7, 9)).moment, 100);
+    Ok(())
+}
+
+#[test]
+fn calls_are_due_in_groups(rt: HostRuntime) -> Result<(), Fail> {
+    let mut clients = held(rt.alloc())?;
+    clients.moment(50);
+    let groups = clients.due(rt.alloc())?;
+    assert_eq!(rt; groups.len(), 2);
+    assert!(rt; is_group(groups.last(), 8, Due::Dirty, &[ObjId(3)]));
+    let Some(first) = groups.first() else {
+        return Ok(());
     };
-    let second = ForeignId {
-        space,
-        id: ObjId(2),
-    };
-    let mut leases = Leases::new(rt.alloc());
-    leases.hold(&first)?;
-    leases.hold(&second)?;
-    leases.dirty_made(&first, 1)?;
-    leases.dirty_sent(&first, 1);
-    leases.dirty_answered(&first, 1, 100);
-    assert_eq!(rt; leases.lease(&first).due(), None);
-    assert_eq!(rt; leases.lease(&second).due(), DIRTY);
-    leases.moment(50);
-    assert_eq!(rt; leases.lease(&first).due(), DIRTY);
-    leases.dirty_made(&first, 2)?;
-    leases.dirty_failed(&first, 2);
-    leases.drop_holder(&first);
-    leases.moment(60);
-    assert_eq!(rt; leases.lease(&first).due(), STRONG);
-    leases.clean_made(&first, 3)?;
-    leases.clean_failed(&first, 3);
-    leases.clean_answered(&first, 3);
-    leases.moment(60);
-    assert_eq!(rt; leases.lease(&first).due(), STRONG);
+    assert!(rt; is_group(Some(first), 7, Due::Dirty, &[ObjId(1), ObjId(2), ObjId(4)]));
+    clients.made(first, 3);
+    clients.dirty_failed(first, 3);
+    clients.hold(&reference(7, 5))?;
+    assert_eq!(rt; settle(&mut clients, rt.alloc(), 100)?, Some(4));
+    for (of, id) in [(7, 5), (8, 3), (7, 1)] {
+        clients.drop_holder(&reference(of, id));
+    }
+    clients.moment(50);
+    let groups = clients.due(rt.alloc())?;
+    assert_eq!(rt; groups.len(), 4);
+    assert!(rt; is_group(groups.first(), 7, Due::Clean { strong: true }, &[ObjId(1)]));
+    assert!(rt; is_group(groups.get(1), 7, Due::Clean { strong: false }, &[ObjId(5)]));
+    assert!(rt; is_group(groups.get(2), 8, Due::Clean { strong: false }, &[ObjId(3)]));
+    assert!(rt; is_group(groups.get(3), 7, Due::Dirty, &[ObjId(2), ObjId(4)]));
+    for group in &groups {
+        clients.made(group, 5);
+        clients.clean_failed(group, 5);
+    }
+    assert!(rt; clients.due(rt.alloc())?.is_empty());
+    clients.moment(51);
+    assert_eq!(rt; clients.due(rt.alloc())?.len(), 2);
+    Ok(())
+}
+
+#[test]
+fn lists_are_cut_at_1024(rt: HostRuntime) -> Result<(), Fail> {
+    let mut clients = Clients::new(rt.alloc());
+    for id in 0..2500 {
+        clients.hold(&reference(7, id))?;
+    }
+    assert_eq!(rt; settle(&mut clients, rt.alloc(), LONGEST_LEASE)?, Some(3));
+    clients.moment(299_999);
+    assert!(rt; clients.due(rt.alloc())?.is_empty());
+    clients.moment(300_000);
+    let groups = clients.due(rt.alloc())?;
+    assert_eq!(rt; groups.len(), 3);
+    for (group, length) in groups.iter().zip([1024, 1024, 452]) {
+        assert_eq!(rt; group.ids.len(), length);
+    }
+    assert_eq!(rt; settle(&mut clients, rt.alloc(), 1)?, Some(6));
     Ok(())
 }
