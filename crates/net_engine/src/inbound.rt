@@ -1,6 +1,6 @@
 //! Frames from a source.
 
-ghost use Rattle.std.specs.Prelude.{◌≡◌, [], None, ◌+◌, ◌<◌, ◌≤◌, length, take, IfOk, IfErr, OnErr, IsTrue};
+ghost use Rattle.std.specs.Prelude.{◌≡◌, [], None, ◌+◌, ◌<◌, ◌≤◌, length, vec_len, take, IfOk, IfErr, OnErr, IsTrue};
 ghost use Rattle.std.specs.Io.KnownBytes.{prepend_known, Keeps, IsAtEnd};
 ghost use Rattle.net_engine.specs.Engine.{known, Sees, Comes, Receives, IsWithinFirst};
 
@@ -121,6 +121,13 @@ fn fill<S: Source>(
     }
 }
 
+// Room for the longest frame.
+fn room_for_a_frame(alloc: Global) -> Result<Vec<u8>, AllocError>
+    ensures { IfOk result (λ room. vec_len room ≡ MAX_FRAME) }
+{
+    vec![in alloc; 0; MAX_FRAME]
+}
+
 impl<S: Source + Drop> Inbound<S> {
     /// Receives from the source. The room for a frame of any kind is reserved here; without it the
     /// source is dropped.
@@ -128,7 +135,7 @@ impl<S: Source + Drop> Inbound<S> {
         ensures { IfOk result (λ inbound. inbound ≡ record { source = source; held = []; fault = None; room = MAX_FRAME }) }
     {
         Ok(Inbound {
-            buffer: vec![in alloc; 0; MAX_FRAME]?,
+            buffer: room_for_a_frame(alloc)?,
             source,
             filled: 0,
             fault: None,
