@@ -47,12 +47,12 @@ pub fn class_of(alloc: Global, body: &Body) -> Result<Vec<u8>, BuildFault> {
     class_of_parts(alloc, body, body.descriptor, body.code, &[table])
 }
 
-fn class_of_parts(
+fn class_of_parts<'a>(
     alloc: Global,
     sizes: &Body,
-    descriptor: &str,
-    code: &[u8],
-    attributes: &[AttributeParts],
+    descriptor: &'a str,
+    code: &'a [u8],
+    attributes: &'a [AttributeParts<'a>],
 ) -> Result<Vec<u8>, BuildFault> {
     let method = MethodParts {
         flags: 0x0009,
