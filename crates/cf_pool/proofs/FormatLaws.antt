@@ -1,7 +1,7 @@
 -- Readings of formats, put together.
 use Rattle.std.proofs.Common.{◌≡◌, ◌≤◌, ◌<◌, ◌+◌, ℕ, zero, suc, Bool, true, false, cond, leb, not, List, [], ◌∷◌, length, take, drop, Result, Ok, Err, refl, sym, ap, ◌∙◌, subst, arith, inl, inr}
 use Rattle.std.specs.Prelude.{IfOk, IfErr}
-use Rattle.std.proofs.lemmas.Bool.{false≢true, leb-true, leb-false, le-leb}
+use Rattle.std.proofs.lemmas.Bool.{false≢true, leb-true, leb-false, le-leb, lt-leb}
 use Rattle.byteorder.specs.Endian.{big_number}
 use Rattle.cf_pool.specs.declared.fault.Rule.{Rule}
 use Rattle.cf_pool.specs.declared.fault.Rule.TheVariants.{Truncated}
@@ -15,6 +15,10 @@ use Rattle.cf_pool.specs.Numbers.{number_at, bytes_at, skip_at}
 -- a pair from its parts
 pub pair_is : {A B : Type 0} {a c : A} {b d : B} → a ≡ c → b ≡ d → ◌≡◌ {A = A × B} (a, b) (c, d)
 pair_is {A} {B} {a} {c} {b} {d} p q = ap (λ (x : A). (x, b)) p ∙ ap (λ (y : B). (c, y)) q
+
+-- a fault from its parts
+pub broken_is : {r s : Rule} {a b : ℕ} → r ≡ s → a ≡ b → Broken r a ≡ Broken s b
+broken_is {r} {s} {a} {b} p q = ap (λ (x : Rule). Broken x a) p ∙ ap (λ (y : ℕ). Broken s y) q
 
 -- an answer that is no fault
 abbrev answered : {A : Type 0} → A → Result A ReadFault
@@ -30,7 +34,8 @@ refusal fault = Err fault
 module _ {A : Type 0} (n : ℕ) (bytes : List ℕ) (from : ℕ) (value : A) (format : Format A)
     (stands : (to : ℕ) → IsItem n bytes from to → format.Stands from value to)
     (is : (x : A) (to : ℕ) → format.Stands from x to → IsItem n bytes from to × (x ≡ value))
-    (cut : (rule : Rule) (at : ℕ) → IsCut n bytes from rule at → format.Fails from rule at) where
+    (cut : (rule : Rule) (at : ℕ) → IsCut n bytes from rule at → format.Fails from rule at)
+    (uncut : (rule : Rule) (at : ℕ) → format.Fails from rule at → IsCut n bytes from rule at) where
   item_taken : (b : Bool) (x : A × ℕ) → leb (from + n) (length bytes) ≡ b → cond b (answered (value, from + n)) (Err (Broken Truncated from)) ≡ Ok x → format.Stands from x.0 x.1
   item_taken true x test e =
       let same : ◌≡◌ {A = A × ℕ} (value, from + n) x = cc in
@@ -47,20 +52,31 @@ module _ {A : Type 0} (n : ℕ) (bytes : List ℕ) (from : ℕ) (value : A) (for
   item_failed false (Broken rule at) test e = cut rule at (record { short = leb-false _ _ test; rule_is = cc; at_is = cc })
   item_failed false Memory test e = absurd cc
 
+  item_refused : (rule : Rule) (at : ℕ) → IsCut n bytes from rule at → cond (leb (from + n) (length bytes)) (answered {A = A × ℕ} (value, from + n)) (Err (Broken Truncated from)) ≡ Err (Broken rule at)
+  item_refused rule at h =
+      let short : leb (from + n) (length bytes) ≡ false = lt-leb (from + n) (length bytes) h.short in
+      rw short (ap Err (broken_is (sym h.rule_is) (sym h.at_is)))
+
+  item_ample : (b : Bool) → cond b (answered {A = A × ℕ} (value, from + n)) (Err (Broken Truncated from)) ≡ Err Memory → ⊥
+  item_ample true e = cc
+  item_ample false e = cc
+
   item_reads : Reads (cond (leb (from + n) (length bytes)) (answered (value, from + n)) (Err (Broken Truncated from))) from format
   item_reads = record {
     takes = λ x e. item_taken (leb (from + n) (length bytes)) x refl e;
     again = λ x h. item_again x (is x.0 x.1 h);
     fails = λ fault e. item_failed (leb (from + n) (length bytes)) fault refl e;
+    refuses = λ rule at h. item_refused rule at (uncut rule at h);
+    ample = item_ample (leb (from + n) (length bytes));
   }
 
 pub number_reads : (n : ℕ) (bytes : List ℕ) (from : ℕ) → Reads (number_at n bytes from) from (number_format n bytes)
 number_reads n bytes from =
-    item_reads n bytes from (big_number n (drop from bytes)) (number_format n bytes) (λ to item. (item, refl)) (λ x to h. h) (λ rule at cut. cut)
+    item_reads n bytes from (big_number n (drop from bytes)) (number_format n bytes) (λ to item. (item, refl)) (λ x to h. h) (λ rule at cut. cut) (λ rule at cut. cut)
 
 pub run_reads : (n : ℕ) (bytes : List ℕ) (from : ℕ) → Reads (bytes_at n bytes from) from (run_format n bytes)
 run_reads n bytes from =
-    item_reads n bytes from (take n (drop from bytes)) (run_format n bytes) (λ to item. (item, refl)) (λ x to h. h) (λ rule at cut. cut)
+    item_reads n bytes from (take n (drop from bytes)) (run_format n bytes) (λ to item. (item, refl)) (λ x to h. h) (λ rule at cut. cut) (λ rule at cut. cut)
 
 -- ---- one behind the other
 
@@ -69,6 +85,8 @@ done_reads {A} a from = record {
   takes = λ x e. taken x e;
   again = λ x h. ap Ok (pair_is (sym h.0) (sym h.1));
   fails = λ fault e. absurd cc;
+  refuses = λ rule at h. absurd h;
+  ample = λ e. cc;
 }
   where
     taken : (x : A × ℕ) → answered (a, from) ≡ answered x → (x.0 ≡ a) × (x.1 ≡ from)
@@ -90,12 +108,26 @@ module _ {A B : Type 0} (from : ℕ) (one : Format A) (next : A × ℕ → Resul
       inl (first.fails (Broken rule at) (ap Err same))
   then_failed (Err failed) first Memory e = tt
 
+  then_ample : (r : Result (A × ℕ) ReadFault) → Reads r from one → (r then next) ≡ Err Memory → ⊥
+  then_ample (Ok x) first e = (second x).ample e
+  then_ample (Err (Broken rule at)) first e = cc
+  then_ample (Err Memory) first e = first.ample refl
+
+  then_refused : (r : Result (A × ℕ) ReadFault) → Reads r from one → (rule : Rule) (at : ℕ) → (one >>= other).Fails from rule at → (r then next) ≡ Err (Broken rule at)
+  then_refused r first rule at h =
+      elim h [
+        | inl failed ↦ ap (λ (q : Result (A × ℕ) ReadFault). q then next) (first.refuses rule at failed)
+        | inr later ↦ ap (λ (q : Result (A × ℕ) ReadFault). q then next) (first.again later.0 later.1) ∙ (second later.0).refuses rule at later.2
+      ]
+
 pub then_reads : {A B : Type 0} {reading : Result (A × ℕ) ReadFault} {from : ℕ} {one : Format A} {next : A × ℕ → Result (B × ℕ) ReadFault} {other : A × ℕ → Format B}
     → Reads reading from one → ((x : A × ℕ) → Reads (next x) x.1 (other x)) → Reads (reading then next) from (one >>= other)
 then_reads {A} {B} {reading} {from} {one} {next} {other} first second = record {
   takes = λ y e. then_taken from one next other second reading first y e;
   again = λ y h. ap (λ (r : Result (A × ℕ) ReadFault). r then next) (first.again h.0 h.1) ∙ (second h.0).again y h.2;
   fails = λ fault e. then_failed from one next other second reading first fault e;
+  refuses = λ rule at h. then_refused from one next other second reading first rule at h;
+  ample = λ e. then_ample from one next other second reading first e;
 }
 
 -- a reading that is equal to one of a format
@@ -104,6 +136,8 @@ along_reads same reads = record {
   takes = λ x e. reads.takes x (sym same ∙ e);
   again = λ x h. same ∙ reads.again x h;
   fails = λ fault e. reads.fails fault (sym same ∙ e);
+  refuses = λ rule at h. same ∙ reads.refuses rule at h;
+  ample = λ e. reads.ample (sym same ∙ e);
 }
 
 -- bytes that are passed over are a run of them
@@ -123,6 +157,8 @@ refused_reads {A} rule at from = record {
   takes = λ x e. absurd cc;
   again = λ x h. absurd h;
   fails = λ fault e. failed fault e;
+  refuses = λ r a h. ap Err (broken_is (sym h.0) (sym h.1));
+  ample = λ e. cc;
 }
   where
     failed : (fault : ReadFault) → refusal {A = A × ℕ} (Broken rule at) ≡ refusal fault → FailsBy (refused {A = A} rule at) from fault
@@ -136,8 +172,13 @@ asking_reads true rule at {reading} {from} {format} reads = record {
   takes = λ x e. (refl, reads.takes x e);
   again = λ x h. reads.again x h.1;
   fails = λ fault e. failed fault e;
+  refuses = λ r a h. refused_later r a h;
+  ample = λ e. reads.ample e;
 }
   where
+    refused_later : (r : Rule) (a : ℕ) → (asking true rule at format).Fails from r a → reading ≡ Err (Broken r a)
+    refused_later r a h = elim h [ inl here ↦ absurd (false≢true (sym here.0)) | inr later ↦ reads.refuses r a later.1 ]
+
     failed : (fault : ReadFault) → reading ≡ Err fault → FailsBy (asking true rule at format) from fault
     failed (Broken r a) e = inr (refl, reads.fails (Broken r a) e)
     failed Memory e = tt
@@ -145,8 +186,13 @@ asking_reads {A} false rule at {reading} {from} {format} reads = record {
   takes = λ x e. absurd cc;
   again = λ x h. absurd (false≢true h.0);
   fails = λ fault e. failed fault e;
+  refuses = λ r a h. refused_here r a h;
+  ample = λ e. cc;
 }
   where
+    refused_here : (r : Rule) (a : ℕ) → (asking false rule at format).Fails from r a → refusal {A = A × ℕ} (Broken rule at) ≡ Err (Broken r a)
+    refused_here r a h = elim h [ inl here ↦ ap Err (broken_is (sym here.1) (sym here.2)) | inr later ↦ absurd (false≢true later.0) ]
+
     failed : (fault : ReadFault) → refusal {A = A × ℕ} (Broken rule at) ≡ refusal fault → FailsBy (asking false rule at format) from fault
     failed (Broken r a) e = inl (refl, cc, cc)
     failed Memory e = absurd cc

@@ -78,8 +78,11 @@ abbrev pub FailsBy : {A : Type 0} → Format A → ℕ → ReadFault → Type 0
 FailsBy format from (Broken rule at) = format.Fails from rule at
 FailsBy format from Memory = Unit {0}
 
--- A reading from a place on gives what stands there, and nothing else, and its faults are faults of the format.
+-- A reading from a place on gives what stands there, and nothing else; it refuses what the format fails for, and
+-- nothing else; and it asks for no memory.
 pub record Reads {A : Type 0} (reading : Result (A × ℕ) ReadFault) (from : ℕ) (format : Format A) : Type 0 where
   pub takes : (x : A × ℕ) → reading ≡ Ok x → format.Stands from x.0 x.1
   pub again : (x : A × ℕ) → format.Stands from x.0 x.1 → reading ≡ Ok x
   pub fails : (fault : ReadFault) → reading ≡ Err fault → FailsBy format from fault
+  pub refuses : (rule : Rule) (at : ℕ) → format.Fails from rule at → reading ≡ Err (Broken rule at)
+  pub ample : reading ≡ Err Memory → ⊥
