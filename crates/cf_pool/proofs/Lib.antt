@@ -4,3 +4,4 @@ pub mod Cells
 pub mod Verdicts
 pub mod FormatLaws
 pub mod PoolLaws
+pub mod LookLaws

@@ -8,3 +8,4 @@ pub mod Pools
 pub mod PoolRefs
 pub mod Formats
 pub mod PoolFormat
+pub mod Looks
