@@ -4,4 +4,5 @@ pub mod AttributeSteps
 pub mod Each
 pub mod Front
 pub mod FileLaws
+pub mod CodeLaws
 pub mod SpellsLaws

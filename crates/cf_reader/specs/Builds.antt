@@ -20,8 +20,9 @@ use Rattle.cf_reader.specs.declared.items.CodeLayout.{CodeLayout}
 use Rattle.cf_reader.specs.declared.items.Member.{Member}
 use Rattle.cf_reader.specs.declared.items.Layout.{Layout}
 use Rattle.cf_reader.specs.Layouts.{layout_of}
-use Rattle.cf_reader.specs.Codes.{code_of}
-use Rattle.cf_reader.specs.Checks.{constant_of, demands, first_named}
+use Rattle.cf_reader.specs.Codes.{code_of, constant_of}
+use Rattle.cf_reader.specs.ReadInsides.{insides_of}
+use Rattle.cf_reader.specs.Checks.{demands, first_named}
 use Rattle.cf_reader.specs.Rules.{has}
 
 -- what an index at a place names
@@ -112,5 +113,5 @@ class_from bytes layout = do
 unfoldable pub reading_of : List ℕ → Result ClassFile ReadFault
 reading_of bytes = do
   layout ← layout_of bytes
-  _ ← verdict (demands bytes layout)
+  _ ← verdict (demands (insides_of bytes) layout)
   class_from bytes layout

@@ -25,8 +25,7 @@ use Rattle.cf_reader.specs.declared.items.Member.{Member}
 use Rattle.cf_reader.specs.declared.items.Layout.{Layout}
 use Rattle.cf_reader.specs.declared.attributes.Known.{Known}
 use Rattle.cf_reader.specs.declared.attributes.Known.TheVariants as known
-use Rattle.cf_reader.specs.Layouts.{item_at, keeps}
-use Rattle.cf_reader.specs.Codes.{blamed, code_of, table_of}
+use Rattle.cf_reader.specs.CodeFormat.{Insides}
 use Rattle.cf_reader.specs.Rules.{class_flags_fit, field_flags_fit, has, method_flags_fit}
 use Rattle.cf_reader.specs.Profile.{class_flags_in_profile, count_in_profile, field_flags_in_profile, field_type_in_profile, handlers_in_profile, method_flags_in_profile, method_name_in_profile, method_type_in_profile, super_in_profile}
 
@@ -68,38 +67,28 @@ attribute_demands pool is_known inside seen [] = []
 attribute_demands pool is_known inside seen (attribute ∷ others) =
     one_attribute pool is_known inside seen attribute ++ attribute_demands pool is_known inside (seen || is_known attribute) others
 
--- a ConstantValue's index, which fills its length
-unfoldable pub constant_filling : List ℕ → ℕ → ℕ → Result Item ReadFault
-constant_filling bytes at end = do
-  index ← item_at bytes at
-  _ ← keeps (index.1 == end) rules.AttributeLength at
-  Ok index.0
-
-unfoldable pub constant_of : List ℕ → Attribute → Result Item ReadFault
-constant_of bytes attribute = blamed attribute.name.at (constant_filling (take attribute.end bytes) attribute.body attribute.end)
-
 -- the demands of a known attribute but Code
-unfoldable pub known_demands : List ℕ → List Entry → Known → Attribute → List Demand
-known_demands bytes pool known.Nothing attribute = []
-known_demands bytes pool known.ConstantValue attribute =
-    of_read (constant_of bytes attribute) (λ index. indexed index.at (integer_at pool index.value))
-known_demands bytes pool known.StackMapTable attribute = of_read (table_of bytes attribute) (λ _. [])
+unfoldable pub known_demands : Insides → List Entry → Known → Attribute → List Demand
+known_demands insides pool known.Nothing attribute = []
+known_demands insides pool known.ConstantValue attribute =
+    of_read (insides.constant attribute) (λ index. indexed index.at (integer_at pool index.value))
+known_demands insides pool known.StackMapTable attribute = of_read (insides.table attribute) (λ _. [])
 
 -- the demands of attributes where one kind but Code is known
-unfoldable pub plain_demands : List ℕ → List Entry → Known → List Attribute → List Demand
-plain_demands bytes pool kind attributes = attribute_demands pool (is_known pool kind) (known_demands bytes pool kind) false attributes
+unfoldable pub plain_demands : Insides → List Entry → Known → List Attribute → List Demand
+plain_demands insides pool kind attributes = attribute_demands pool (is_known pool kind) (known_demands insides pool kind) false attributes
 
 -- the demands of a Code
-unfoldable pub code_demands : List ℕ → List Entry → Attribute → List Demand
-code_demands bytes pool attribute =
-    of_read (code_of bytes attribute) (λ code.
+unfoldable pub code_demands : Insides → List Entry → Attribute → List Demand
+code_demands insides pool attribute =
+    of_read (insides.code attribute) (λ code.
     demand code.handler_count.at rules.OutOfProfile (handlers_in_profile code.handler_count.value)
-    ++ plain_demands bytes pool known.StackMapTable code.attributes)
+    ++ plain_demands insides pool known.StackMapTable code.attributes)
 
 -- the demands of a method's attributes
-unfoldable pub method_attribute_demands : List ℕ → List Entry → List Attribute → List Demand
-method_attribute_demands bytes pool attributes =
-    attribute_demands pool (is_named pool (codes "Code")) (code_demands bytes pool) false attributes
+unfoldable pub method_attribute_demands : Insides → List Entry → List Attribute → List Demand
+method_attribute_demands insides pool attributes =
+    attribute_demands pool (is_named pool (codes "Code")) (code_demands insides pool) false attributes
 
 -- ---- members
 
@@ -148,12 +137,12 @@ field_descriptor_demands pool item =
 unfoldable pub field_known : ℕ → Known
 field_known bits = if has bits STATIC then known.ConstantValue else known.Nothing
 
-unfoldable pub field_demands : List ℕ → List Entry → ℕ → List Member → ℕ → Member → List Demand
-field_demands bytes pool class fields index field =
+unfoldable pub field_demands : Insides → List Entry → ℕ → List Member → ℕ → Member → List Demand
+field_demands insides pool class fields index field =
     field_flag_demands pool class (take index fields) field
     ++ named field.name.at (utf8_at pool field.name.value) is_name
     ++ field_descriptor_demands pool field.descriptor
-    ++ plain_demands bytes pool (field_known field.flags.value) field.attributes
+    ++ plain_demands insides pool (field_known field.flags.value) field.attributes
 
 -- ---- methods
 
@@ -203,12 +192,12 @@ method_descriptor_demands pool method =
     ++ of_some (utf8_at pool method.descriptor.value)
     (method_type_demands method.descriptor.at (has method.flags.value STATIC) (is_initializer pool method.name))
 
-unfoldable pub method_demands : List ℕ → List Entry → ℕ → List Member → ℕ → Member → List Demand
-method_demands bytes pool class methods index method =
+unfoldable pub method_demands : Insides → List Entry → ℕ → List Member → ℕ → Member → List Demand
+method_demands insides pool class methods index method =
     method_flag_demands pool class (take index methods) method
     ++ method_name_demands pool method.name
     ++ method_descriptor_demands pool method
-    ++ method_attribute_demands bytes pool method.attributes
+    ++ method_attribute_demands insides pool method.attributes
 
 -- ---- the class
 
@@ -236,16 +225,16 @@ interfaces_demands layout =
     demand layout.interface_count.at rules.OutOfProfile (count_in_profile layout.interface_count.value)
     ++ of_each (λ index interface. class_index_demands layout.pool.pool interface) 0 layout.interfaces
 
-unfoldable pub fields_demands : List ℕ → Layout → List Demand
-fields_demands bytes layout =
+unfoldable pub fields_demands : Insides → Layout → List Demand
+fields_demands insides layout =
     demand layout.field_count.at rules.OutOfProfile (count_in_profile layout.field_count.value)
-    ++ of_each (field_demands bytes layout.pool.pool layout.flags.value layout.fields) 0 layout.fields
+    ++ of_each (field_demands insides layout.pool.pool layout.flags.value layout.fields) 0 layout.fields
 
-unfoldable pub methods_demands : List ℕ → Layout → List Demand
-methods_demands bytes layout = of_each (method_demands bytes layout.pool.pool layout.flags.value layout.methods) 0 layout.methods
+unfoldable pub methods_demands : Insides → Layout → List Demand
+methods_demands insides layout = of_each (method_demands insides layout.pool.pool layout.flags.value layout.methods) 0 layout.methods
 
 -- all demands, in order
-unfoldable pub demands : List ℕ → Layout → List Demand
-demands bytes layout =
-    head_demands layout ++ interfaces_demands layout ++ fields_demands bytes layout ++ methods_demands bytes layout
-    ++ plain_demands bytes layout.pool.pool known.Nothing layout.attributes
+unfoldable pub demands : Insides → Layout → List Demand
+demands insides layout =
+    head_demands layout ++ interfaces_demands layout ++ fields_demands insides layout ++ methods_demands insides layout
+    ++ plain_demands insides layout.pool.pool known.Nothing layout.attributes

@@ -5,10 +5,12 @@ use Rattle.cf_pool.specs.declared.fault.ReadFault.TheVariants.{Broken, Memory}
 use Rattle.cf_pool.specs.declared.fault.Rule.TheVariants as rules
 use Rattle.cf_pool.specs.Reading.{◌>>=◌, many}
 use Rattle.cf_pool.specs.Numbers.{number_at, skip_at}
+use Rattle.cf_reader.specs.declared.items.Item.{Item}
 use Rattle.cf_reader.specs.declared.items.Attribute.{Attribute}
 use Rattle.cf_reader.specs.declared.items.CodeHead.{CodeHead}
 use Rattle.cf_reader.specs.declared.items.CodeLayout.{CodeLayout}
 use Rattle.cf_reader.specs.Layouts.{attributes_at, item_at, keeps}
+use Rattle.cf_reader.specs.CodeFormat.{reaches}
 
 -- a known attribute that cannot be read does not fill its length: the fault is at its name index
 abbrev pub blamed : {A : Type 0} → ℕ → Result A ReadFault → Result A ReadFault
@@ -91,11 +93,6 @@ skim_frame bytes at = do
   tag ← number_at 1 bytes at
   skim_tagged tag.0 bytes tag.1
 
--- the look ended, or reached the end
-abbrev pub reaches : ℕ → Option ℕ → Bool
-reaches end None = true
-reaches end (Some to) = to == end
-
 unfoldable pub skim_table : List ℕ → ℕ → ℕ → Result (Unit {0}) ReadFault
 skim_table bytes at end = do
   count ← number_at 2 bytes at
@@ -105,3 +102,15 @@ skim_table bytes at end = do
 -- a StackMapTable fills its length
 unfoldable pub table_of : List ℕ → Attribute → Result (Unit {0}) ReadFault
 table_of bytes attribute = blamed attribute.name.at (skim_table (take attribute.end bytes) attribute.body attribute.end)
+
+-- ---- ConstantValue
+
+-- an index, which fills its length
+unfoldable pub constant_filling : List ℕ → ℕ → ℕ → Result Item ReadFault
+constant_filling bytes at end = do
+  index ← item_at bytes at
+  _ ← keeps (index.1 == end) rules.AttributeLength at
+  Ok index.0
+
+unfoldable pub constant_of : List ℕ → Attribute → Result Item ReadFault
+constant_of bytes attribute = blamed attribute.name.at (constant_filling (take attribute.end bytes) attribute.body attribute.end)

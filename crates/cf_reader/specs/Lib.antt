@@ -1,9 +1,12 @@
 pub mod Layouts
 pub mod Codes
+pub mod CodeFormat
+pub mod ReadInsides
 pub mod Rules
 pub mod Profile
 pub mod Checks
 pub mod Builds
 pub mod Loads
 pub mod FileFormat
+pub mod Says
 pub mod Spells

@@ -1,6 +1,6 @@
 -- What it is for bytes to spell a class file (JVMS 4.1 to 4.8), for a class file to be in profile, and for bytes to be
 -- at fault.
-use Rattle.std.specs.Prelude.{◌≡◌, ℕ, Bool, true, false, ◌⊎◌, List, [], ◌∷◌, Result, Ok, Err}
+use Rattle.std.specs.Prelude.{◌≡◌, ℕ, Bool, true, false, ◌⊎◌, List, [], ◌∷◌}
 use Rattle.std.specs.List.{AllByRecursion}
 use Rattle.cf_pool.specs.declared.fault.Rule.{Rule}
 use Rattle.cf_pool.specs.declared.fault.Rule.TheVariants as rules
@@ -9,9 +9,10 @@ use Rattle.cf_pool.specs.declared.fault.ReadFault.TheVariants.{Broken, Memory}
 use Rattle.cf_pool.specs.Demands.{Demand}
 use Rattle.cf_reader.specs.declared.class_file.ClassFile.{ClassFile}
 use Rattle.cf_reader.specs.declared.items.Layout.{Layout}
-use Rattle.cf_reader.specs.Builds.{class_from}
+use Rattle.cf_reader.specs.CodeFormat.{AreInsides, Insides}
 use Rattle.cf_reader.specs.Checks.{demands}
 use Rattle.cf_reader.specs.FileFormat.{file_format}
+use Rattle.cf_reader.specs.Says.{SaysClass}
 
 -- the rule of the profile, among those of the standard
 abbrev pub is_profile : Rule → Bool
@@ -41,16 +42,22 @@ AreInProfile = AllByRecursion (λ d. is_profile d.rule ≡ true → d.holds ≡ 
 abbrev pub LaysOut : List ℕ → Layout → Type 0
 LaysOut bytes layout = (end : ℕ) × (file_format bytes).Stands 0 layout end
 
+-- these are demanded of bytes that are laid out so
+abbrev pub AreDemands : List ℕ → Layout → List Demand → Type 0
+AreDemands bytes layout asked = (insides : Insides) × AreInsides bytes insides × (asked ≡ demands insides layout)
+
 -- The bytes spell a class file by a layout: they lay it out, what the standard demands of it holds, and it says the
 -- class file.
 pub record Spells (bytes : List ℕ) (layout : Layout) (class : ClassFile) : Type 0 where
   pub laid_out : LaysOut bytes layout
-  pub sound : AreSound (demands bytes layout)
-  pub says : class_from bytes layout ≡ Ok class
+  pub asked : List Demand
+  pub demanded : AreDemands bytes layout asked
+  pub sound : AreSound asked
+  pub says : SaysClass bytes layout class
 
 -- no rule of the profile is broken
 abbrev pub IsInProfile : List ℕ → Layout → Type 0
-IsInProfile bytes layout = AreInProfile (demands bytes layout)
+IsInProfile bytes layout = (asked : List Demand) × AreDemands bytes layout asked × AreInProfile asked
 
 -- the first of the demands that does not hold is of this rule, at this place
 unfoldable pub Breaks : List Demand → Rule → ℕ → Type 0
@@ -61,10 +68,8 @@ Breaks (d ∷ ds) rule at = ((d.holds ≡ false) × (rule ≡ d.rule) × (at ≡
 pub data WayToFail (bytes : List ℕ) (rule : Rule) (at : ℕ) : Type 0 where
   -- they lay out no file: what stands before the place is laid out, and what stands there is not
   no_layout : (file_format bytes).Fails 0 rule at → WayToFail bytes rule at
-  -- they lay out a file, and a demand of it does not hold
-  no_demand : (layout : Layout) → LaysOut bytes layout → Breaks (demands bytes layout) rule at → WayToFail bytes rule at
-  -- they lay out a file, and an index of it names nothing that it could say
-  no_class : (layout : Layout) → LaysOut bytes layout → class_from bytes layout ≡ Err (Broken rule at) → WayToFail bytes rule at
+  -- they lay out a file, and of what is demanded of it this is the first that does not hold
+  no_demand : (layout : Layout) (asked : List Demand) → LaysOut bytes layout → AreDemands bytes layout asked → Breaks asked rule at → WayToFail bytes rule at
 
 -- a fault names a rule that fails at its place; want of memory says nothing
 abbrev pub IsAtFault : List ℕ → ReadFault → Type 0

@@ -4,8 +4,9 @@ ghost use Rattle.std.specs.Prelude.{◌≡◌, false};
 ghost use Rattle.std.specs.Prelude.{codes};
 ghost use Rattle.cf_pool.specs.Reading.{Gives};
 ghost use Rattle.cf_pool.specs.Demands.{verdict};
-ghost use Rattle.cf_reader.specs.Codes.{table_of};
-ghost use Rattle.cf_reader.specs.Checks.{attribute_demands, code_demands, constant_filling, constant_of, first_named, is_known, is_named, known_demands, method_attribute_demands, one_attribute, plain_demands};
+ghost use Rattle.cf_reader.specs.Codes.{constant_filling, constant_of, table_of};
+ghost use Rattle.cf_reader.specs.ReadInsides.{insides_of};
+ghost use Rattle.cf_reader.specs.Checks.{attribute_demands, code_demands, first_named, is_known, is_named, known_demands, method_attribute_demands, one_attribute, plain_demands};
 
 use super::code::{blame, check_table, read_code, up_to};
 use super::items::{Attribute, Item};
@@ -54,7 +55,7 @@ pub(crate) fn first_named(pool: &Pool, name: &[u8], attributes: &[Attribute]) ->
     None
 }
 
-#[tactic(auto, unfolding(crate::specs::Checks::constant_filling, cf_pool::specs::Demands::verdict))]
+#[tactic(auto, unfolding(crate::specs::Codes::constant_filling, cf_pool::specs::Demands::verdict))]
 fn read_constant_filling(bytes: &[u8], at: usize, end: usize) -> Result<Item, ReadFault>
     ensures { Gives (constant_filling bytes.now at end) result }
 {
@@ -65,7 +66,7 @@ fn read_constant_filling(bytes: &[u8], at: usize, end: usize) -> Result<Item, Re
 
 /// A ConstantValue's index (JVMS 4.7.2). One that does not fill its length is AttributeLength at its
 /// name index.
-#[tactic(auto, unfolding(crate::specs::Checks::constant_of), using(crate::proofs::Blamed::blames))]
+#[tactic(auto, unfolding(crate::specs::Codes::constant_of), using(crate::proofs::Blamed::blames))]
 pub(crate) fn read_constant(bytes: &[u8], attribute: Attribute) -> Result<Item, ReadFault>
     ensures { Gives (constant_of bytes.now attribute) result }
 {
@@ -90,7 +91,7 @@ impl Known {
 
     #[tactic(auto, unfolding(crate::specs::Checks::known_demands, cf_pool::specs::Demands::verdict, cf_pool::specs::Pools::indexed))]
     fn check(self, bytes: &[u8], pool: &Pool, attribute: Attribute) -> Result<(), ReadFault>
-        ensures { Gives (verdict (known_demands bytes.now pool.now self attribute)) result }
+        ensures { Gives (verdict (known_demands (insides_of bytes.now) pool.now self attribute)) result }
     {
         match self {
             Known::Nothing => Ok(()),
@@ -110,7 +111,7 @@ impl Known {
         seen: bool,
         attribute: Attribute,
     ) -> Result<(), ReadFault>
-        ensures { Gives (verdict (one_attribute pool.now (is_known pool.now self) (known_demands bytes.now pool.now self) seen attribute)) result }
+        ensures { Gives (verdict (one_attribute pool.now (is_known pool.now self) (known_demands (insides_of bytes.now) pool.now self) seen attribute)) result }
     {
         demand(
             pool.utf8(attribute.name.value).is_some(),
@@ -131,7 +132,7 @@ impl Known {
         pool: &Pool,
         attributes: &[Attribute],
     ) -> Result<(), ReadFault>
-        ensures { Gives (verdict (plain_demands bytes.now pool.now self attributes.now)) result }
+        ensures { Gives (verdict (plain_demands (insides_of bytes.now) pool.now self attributes.now)) result }
     {
         let mut seen = false;
         for attribute in attributes {
@@ -149,7 +150,7 @@ fn check_code(
     pool: &Pool,
     attribute: Attribute,
 ) -> Result<(), ReadFault>
-    ensures { Gives (verdict (code_demands bytes.now pool.now attribute)) result }
+    ensures { Gives (verdict (code_demands (insides_of bytes.now) pool.now attribute)) result }
 {
     let code = read_code(alloc, bytes, attribute)?;
     let handlers = code.handler_count;
@@ -169,7 +170,7 @@ fn check_method_attribute(
     seen: bool,
     attribute: Attribute,
 ) -> Result<(), ReadFault>
-    ensures { Gives (verdict (one_attribute pool.now (is_named pool.now (codes "Code")) (code_demands bytes.now pool.now) seen attribute)) result }
+    ensures { Gives (verdict (one_attribute pool.now (is_named pool.now (codes "Code")) (code_demands (insides_of bytes.now) pool.now) seen attribute)) result }
 {
     demand(
         pool.utf8(attribute.name.value).is_some(),
@@ -190,7 +191,7 @@ pub(crate) fn check_method_attributes(
     pool: &Pool,
     attributes: &[Attribute],
 ) -> Result<(), ReadFault>
-    ensures { Gives (verdict (method_attribute_demands bytes.now pool.now attributes.now)) result }
+    ensures { Gives (verdict (method_attribute_demands (insides_of bytes.now) pool.now attributes.now)) result }
 {
     let mut seen = false;
     for attribute in attributes {

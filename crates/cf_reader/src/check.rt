@@ -3,6 +3,7 @@
 ghost use Rattle.std.specs.Prelude.{◌≡◌};
 ghost use Rattle.cf_pool.specs.Reading.{Gives};
 ghost use Rattle.cf_pool.specs.Demands.{of_each, verdict};
+ghost use Rattle.cf_reader.specs.ReadInsides.{insides_of};
 ghost use Rattle.cf_reader.specs.Checks.{class_flag_demands, class_index_demands, demands, fields_demands, head_demands, interfaces_demands, methods_demands, super_demands};
 
 use super::Flags;
@@ -86,7 +87,7 @@ impl Layout {
 
     #[tactic(auto, unfolding(crate::specs::Checks::fields_demands, cf_pool::specs::Demands::verdict))]
     fn check_fields(&self, alloc: Global, bytes: &[u8]) -> Result<(), ReadFault>
-        ensures { Gives (verdict (fields_demands bytes.now self.now)) result }
+        ensures { Gives (verdict (fields_demands (insides_of bytes.now) self.now)) result }
     {
         let count = self.field_count;
         demand(count_in_profile(count.value), Rule::OutOfProfile, count.at)?;
@@ -98,7 +99,7 @@ impl Layout {
 
     #[tactic(auto, unfolding(crate::specs::Checks::methods_demands))]
     fn check_methods(&self, alloc: Global, bytes: &[u8]) -> Result<(), ReadFault>
-        ensures { Gives (verdict (methods_demands bytes.now self.now)) result }
+        ensures { Gives (verdict (methods_demands (insides_of bytes.now) self.now)) result }
     {
         let class = Flags {
             bits: self.flags.value,
@@ -115,7 +116,7 @@ impl Layout {
     /// The first demand of this layout of these bytes that does not hold.
     #[tactic(auto, unfolding(crate::specs::Checks::demands), using(cf_pool::proofs::Verdicts::verdicts))]
     pub(crate) fn check(&self, alloc: Global, bytes: &[u8]) -> Result<(), ReadFault>
-        ensures { Gives (verdict (demands bytes.now self.now)) result }
+        ensures { Gives (verdict (demands (insides_of bytes.now) self.now)) result }
     {
         self.check_head(alloc)?;
         self.check_interfaces()?;

@@ -2,7 +2,8 @@
 
 ghost use Rattle.std.specs.Prelude.{◌≡◌, ◌≤◌, take};
 ghost use Rattle.cf_pool.specs.Reading.{Gives};
-ghost use Rattle.cf_reader.specs.Codes.{blamed, code_filling, code_head_at, code_of, code_rest_at, reaches, skim_frame, skim_item, skim_list, skim_lists, skim_many, skim_table, skim_tagged, table_of};
+ghost use Rattle.cf_reader.specs.CodeFormat.{reaches};
+ghost use Rattle.cf_reader.specs.Codes.{blamed, code_filling, code_head_at, code_of, code_rest_at, skim_frame, skim_item, skim_list, skim_lists, skim_many, skim_table, skim_tagged, table_of};
 
 use super::items::{Attribute, CodeHead, CodeLayout};
 use super::layout::{read_attributes, read_item};

@@ -5,6 +5,7 @@ ghost use Rattle.cf_pool.specs.Reading.{Gives};
 ghost use Rattle.cf_pool.specs.Demands.{of_each, verdict};
 ghost use Rattle.cf_pool.specs.Names.{is_method_name, is_name};
 ghost use Rattle.cf_pool.specs.Pools.{named, utf8_at};
+ghost use Rattle.cf_reader.specs.ReadInsides.{insides_of};
 ghost use Rattle.cf_reader.specs.Checks.{are_few, field_demands, field_descriptor_demands, field_flag_demands, field_known, field_type_demands, flag_demands, is_initializer, is_int_text, method_demands, method_descriptor_demands, method_flag_demands, method_name_demands, method_type_demands, occurs, same_member, same_text, words_of};
 
 use super::Flags;
@@ -146,7 +147,7 @@ fn check_field(
     field: &Member,
 ) -> Result<(), ReadFault>
     requires { index ≤ length fields.now }
-    ensures { Gives (verdict (field_demands bytes.now pool.now class.bits fields.now index field.now)) result }
+    ensures { Gives (verdict (field_demands (insides_of bytes.now) pool.now class.bits fields.now index field.now)) result }
 {
     check_field_flags(pool, class, &fields[..index], field)?;
     check_field_name(pool, field.name)?;
@@ -165,7 +166,7 @@ pub(crate) fn check_fields(
     class: Flags,
     fields: &[Member],
 ) -> Result<(), ReadFault>
-    ensures { Gives (verdict (of_each (field_demands bytes.now pool.now class.bits fields.now) 0 fields.now)) result }
+    ensures { Gives (verdict (of_each (field_demands (insides_of bytes.now) pool.now class.bits fields.now) 0 fields.now)) result }
 {
     for (index, field) in fields.iter().enumerate() {
         check_field(alloc, bytes, pool, class, fields, index, field)?;
@@ -297,7 +298,7 @@ fn check_method(
     method: &Member,
 ) -> Result<(), ReadFault>
     requires { index ≤ length methods.now }
-    ensures { Gives (verdict (method_demands bytes.now pool.now class.bits methods.now index method.now)) result }
+    ensures { Gives (verdict (method_demands (insides_of bytes.now) pool.now class.bits methods.now index method.now)) result }
 {
     check_method_flags(pool, class, &methods[..index], method)?;
     check_method_name(pool, method.name)?;
@@ -313,7 +314,7 @@ pub(crate) fn check_methods(
     class: Flags,
     methods: &[Member],
 ) -> Result<(), ReadFault>
-    ensures { Gives (verdict (of_each (method_demands bytes.now pool.now class.bits methods.now) 0 methods.now)) result }
+    ensures { Gives (verdict (of_each (method_demands (insides_of bytes.now) pool.now class.bits methods.now) 0 methods.now)) result }
 {
     for (index, method) in methods.iter().enumerate() {
         check_method(alloc, bytes, pool, class, methods, index, method)?;

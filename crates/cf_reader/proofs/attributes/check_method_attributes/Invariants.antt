@@ -1,5 +1,6 @@
 use Rattle.std.proofs.Common.{◌≡◌, drop, false, codes}
 use Rattle.cf_pool.specs.Demands.{verdict}
+use Rattle.cf_reader.specs.ReadInsides.{insides_of}
 use Rattle.cf_reader.specs.Checks.{is_named, code_demands, attribute_demands}
 use Rattle.cf_reader.proofs.attributes.check_method_attributes.Given as goal
 
@@ -7,5 +8,5 @@ use Rattle.cf_reader.proofs.attributes.check_method_attributes.Given as goal
 abbrev pub invariant-loop-attribute : goal.invariant-loop-attribute
 invariant-loop-attribute l =
     let is_known = is_named l.pool (codes "Code") in
-    let inside = code_demands l.bytes l.pool in
+    let inside = code_demands (insides_of l.bytes) l.pool in
     verdict (attribute_demands l.pool is_known inside l.seen (drop l.attribute-index l.attributes)) ≡ verdict (attribute_demands l.pool is_known inside false l.attributes)

@@ -1,6 +1,7 @@
 use Rattle.std.proofs.Common.{refl, sym, rules}
 use Rattle.std.proofs.lemmas.Result.{err_from_is_err_and}
 use Rattle.cf_pool.proofs.Verdicts.{of_each-goes_on, of_each-fails, of_each-end}
+use Rattle.cf_reader.specs.ReadInsides.{insides_of}
 use Rattle.cf_reader.specs.Checks.{field_demands}
 use Rattle.cf_reader.proofs.members.check_fields.Goals as goal
 
@@ -8,13 +9,13 @@ pub returns-in_err-check_field : goal.returns-in_err-check_field
 returns-in_err-check_field c =
     let p = err_from_is_err_and c.from_residual.result c.from_residual.ensures.1 in
     let item = c.index-fields-index.result in
-    rw (p.1, p.2) (of_each-fails (field_demands c.args.bytes.now c.args.pool.now c.args.class.bits c.args.fields.now) c.args.fields.now c.loop-index.index item item (search rules) (sym c.index-fields-index.is) c.loop-index.invariant c.in_err-check_field.field-0.0 (search rules))
+    rw (p.1, p.2) (of_each-fails (field_demands (insides_of c.args.bytes.now) c.args.pool.now c.args.class.bits c.args.fields.now) c.args.fields.now c.loop-index.index item item (search rules) (sym c.index-fields-index.is) c.loop-index.invariant c.in_err-check_field.field-0.0 (search rules))
 
 pub loop-index-preserved : goal.loop-index-preserved
 loop-index-preserved c =
     let item = c.index-fields-index.result in
-    of_each-goes_on (field_demands c.args.bytes.now c.args.pool.now c.args.class.bits c.args.fields.now) c.args.fields.now c.loop-index.index item item (search rules) (sym c.index-fields-index.is) c.loop-index.invariant (search rules)
+    of_each-goes_on (field_demands (insides_of c.args.bytes.now) c.args.pool.now c.args.class.bits c.args.fields.now) c.args.fields.now c.loop-index.index item item (search rules) (sym c.index-fields-index.is) c.loop-index.invariant (search rules)
 
 pub returns : goal.returns
 returns c =
-    of_each-end (field_demands c.args.bytes.now c.args.pool.now c.args.class.bits c.args.fields.now) c.args.fields.now c.loop-index.index (search rules) c.loop-index.invariant
+    of_each-end (field_demands (insides_of c.args.bytes.now) c.args.pool.now c.args.class.bits c.args.fields.now) c.args.fields.now c.loop-index.index (search rules) c.loop-index.invariant
