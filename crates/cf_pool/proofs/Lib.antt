@@ -5,3 +5,4 @@ pub mod Verdicts
 pub mod FormatLaws
 pub mod PoolLaws
 pub mod LookLaws
+pub mod DescriptorLaws

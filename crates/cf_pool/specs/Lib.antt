@@ -9,3 +9,4 @@ pub mod PoolRefs
 pub mod Formats
 pub mod PoolFormat
 pub mod Looks
+pub mod Descriptors
