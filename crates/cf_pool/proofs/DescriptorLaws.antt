@@ -15,8 +15,10 @@ use Rattle.cf_pool.specs.declared.types.Descriptor.{Descriptor}
 use Rattle.cf_pool.specs.declared.types.Descriptor.TheVariants.{Field, Method}
 use Rattle.cf_pool.specs.Reading.{◌>>=◌}
 use Rattle.cf_pool.specs.Names.{are_parts, is_class_name, is_name_byte}
+use Rattle.std.specs.Prelude.{IfOk}
 use Rattle.cf_pool.specs.Looks.{Look, Tells}
-use Rattle.cf_pool.specs.Types.{begins_with, class_type_of, descriptor_in, descriptor_of, dimensions_of, element_type_of, field_descriptor_of, field_type_of, letter_type, malformed, method_descriptor_of, name_length, parameters_of, plain_type_of, result_of}
+use Rattle.cf_pool.specs.LookUps.{Exactly}
+use Rattle.cf_pool.specs.Types.{as_found, begins_with, class_type_of, descriptor_in, descriptor_of, dimensions_of, element_type_of, field_descriptor_of, field_type_of, letter_type, malformed, method_descriptor_of, name_length, parameters_of, plain_type_of, result_of}
 use Rattle.cf_pool.specs.Descriptors.{AreFieldTypes, IsDescriptor, IsElementType, IsFieldType, IsMethodType, IsResultType, spelling}
 use Rattle.cf_pool.proofs.FormatLaws.{broken_is, pair_is}
 
@@ -479,3 +481,53 @@ field_descriptor_tells at text =
 pub method_descriptor_tells : (at : ℕ) (text : List ℕ) → Tells (method_descriptor_of at text) (spelling IsMethodType at text)
 method_descriptor_tells at text =
     spelling_tells IsMethodType at text (method_descriptor_of at text) (method_descriptor_takes at text) (method_descriptor_again at text) (malformed_method_descriptor at text)
+
+-- ---- whichever it is
+
+abbrev said : Descriptor → Result Descriptor ReadFault
+said descriptor = Ok descriptor
+
+-- a method's descriptor begins with a parenthesis, and a field's does not
+method_begins : (text : List ℕ) (type : MethodDescriptor) → IsMethodType text type → begins_with 40 text ≡ true
+method_begins text type is = rw is.spelled refl
+
+field_begins : (text : List ℕ) (type : FieldType) → IsFieldType text type → begins_with 40 text ≡ false
+field_begins text type is = ap (begins_with 40) (sym (append-nil text)) ∙ (field_byte text type [] is).2
+
+any_again : (text : List ℕ) (what : Descriptor) → IsDescriptor text what → descriptor_of text ≡ Ok what
+unfolding descriptor_of
+any_again text (Field type) is = rw (field_begins text type is, field_descriptor_again 0 text type is) refl
+any_again text (Method type) is = rw (method_begins text type is, method_descriptor_again 0 text type is) refl
+
+any_takes_by : (text : List ℕ) (method : Bool) (one : Result MethodDescriptor ReadFault) (other : Result FieldType ReadFault) → method_descriptor_of 0 text ≡ one → field_descriptor_of 0 text ≡ other
+    → (what : Descriptor) → cond method (one >>= λ type. said (Method type)) (other >>= λ type. said (Field type)) ≡ Ok what → IsDescriptor text what
+any_takes_by text true (Ok type) other read unread what e =
+    let same : Method type ≡ what = cc in
+    subst (IsDescriptor text) same (method_descriptor_takes 0 text type read)
+any_takes_by text true (Err fault) other read unread what e = absurd cc
+any_takes_by text false one (Ok type) unread read what e =
+    let same : Field type ≡ what = cc in
+    subst (IsDescriptor text) same (field_descriptor_takes 0 text type read)
+any_takes_by text false one (Err fault) unread read what e = absurd cc
+
+any_takes : (text : List ℕ) (what : Descriptor) → descriptor_of text ≡ Ok what → IsDescriptor text what
+unfolding descriptor_of
+any_takes text what e = any_takes_by text (begins_with 40 text) (method_descriptor_of 0 text) (field_descriptor_of 0 text) refl refl what e
+
+in_exactly : (text : List ℕ) → Exactly (descriptor_in text) (IsDescriptor text)
+unfolding descriptor_in
+in_exactly text = by (descriptor_of text) refl
+  where
+    by : (r : Result Descriptor ReadFault) → descriptor_of text ≡ r → Exactly (as_found r) (IsDescriptor text)
+    by (Ok what) read = (any_takes text what read, λ other is. same other what (sym (any_again text other is) ∙ read))
+      where
+        same : (x y : Descriptor) → said x ≡ said y → x ≡ y
+        same x y e = cc
+    by (Err fault) read = λ other is. apart other (sym (any_again text other is) ∙ read)
+      where
+        apart : (x : Descriptor) → said x ≡ Err fault → ⊥
+        apart x e = cc
+
+pub descriptor_exactly : {E : Type 0} (text : List ℕ) (answer : Result (Option Descriptor) E) → IfOk answer (λ found. found ≡ descriptor_in text) → IfOk answer (λ found. Exactly found (IsDescriptor text))
+descriptor_exactly text (Ok found) is = subst (λ (o : Option Descriptor). Exactly o (IsDescriptor text)) (sym is) (in_exactly text)
+descriptor_exactly text (Err fault) is = tt

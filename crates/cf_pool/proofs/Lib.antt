@@ -6,3 +6,4 @@ pub mod FormatLaws
 pub mod PoolLaws
 pub mod LookLaws
 pub mod DescriptorLaws
+pub mod LookUpLaws

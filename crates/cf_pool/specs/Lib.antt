@@ -10,3 +10,4 @@ pub mod Formats
 pub mod PoolFormat
 pub mod Looks
 pub mod Descriptors
+pub mod LookUps

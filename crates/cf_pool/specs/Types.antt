@@ -98,13 +98,14 @@ descriptor_of text = if begins_with 40 text then (do
     type ← field_descriptor_of 0 text
     Ok (Field type))
 
+-- what was read, or none
+abbrev pub as_found : Result Descriptor ReadFault → Option Descriptor
+as_found (Ok descriptor) = Some descriptor
+as_found (Err fault) = None
+
 -- what a text says as a descriptor: none where it is not one
 unfoldable pub descriptor_in : List ℕ → Option Descriptor
-descriptor_in text = found (descriptor_of text)
-  where
-    found : Result Descriptor ReadFault → Option Descriptor
-    found (Ok descriptor) = Some descriptor
-    found (Err fault) = None
+descriptor_in text = as_found (descriptor_of text)
 
 -- a text is a field descriptor
 unfoldable pub is_field_descriptor : List ℕ → Bool

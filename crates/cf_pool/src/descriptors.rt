@@ -3,6 +3,8 @@
 
 ghost use Rattle.std.specs.Prelude.{◌≡◌, ◌<◌, ◌≤◌, length, IsTrue, IfOk};
 ghost use Rattle.cf_pool.specs.Reading.{Gives, GivesSeen};
+ghost use Rattle.cf_pool.specs.Descriptors.{IsDescriptor};
+ghost use Rattle.cf_pool.specs.LookUps.{Exactly};
 ghost use Rattle.cf_pool.specs.Types.{begins_with, class_type_of, descriptor_in, descriptor_of, dimensions_of, element_type_of, field_descriptor_of, field_type_of, letter_type, method_descriptor_of, name_length, parameters_of, result_of};
 
 use super::{
@@ -202,11 +204,8 @@ fn any_descriptor(alloc: Global, text: &[u8]) -> Result<Descriptor, ReadFault>
     Ok(Descriptor::Field(kind))
 }
 
-/// What a text says as a descriptor (JVMS 4.3): a method descriptor where it begins with `(`, else a
-/// field type. `None` exactly where it is neither. Every type of the standard is read, in this
-/// project's profile or not; `Err` is want of memory.
 #[tactic(auto, unfolding(crate::specs::Types::descriptor_in))]
-pub fn descriptor(alloc: Global, text: &[u8]) -> Result<Option<Descriptor>, AllocError>
+fn descriptor_in(alloc: Global, text: &[u8]) -> Result<Option<Descriptor>, AllocError>
     ensures { IfOk result (λ found. found ≡ descriptor_in text.now) }
 {
     match any_descriptor(alloc, text) {
@@ -214,4 +213,15 @@ pub fn descriptor(alloc: Global, text: &[u8]) -> Result<Option<Descriptor>, Allo
         Err(ReadFault::Broken { .. }) => Ok(None),
         Err(ReadFault::Memory) => Err(AllocError),
     }
+}
+
+/// What a text says as a descriptor (JVMS 4.3): a method descriptor where it begins with `(`, else a
+/// field type. `None` exactly where it is neither. Every type of the standard is read, in this
+/// project's profile or not; `Err` is want of memory.
+pub fn descriptor(alloc: Global, text: &[u8]) -> Result<Option<Descriptor>, AllocError>
+    // The one descriptor that the text spells, or none where it spells none.
+    ensures exactly { IfOk result (λ found. Exactly found (IsDescriptor text.now)) }
+    ensures value { IfOk result (λ found. found ≡ descriptor_in text.now) }
+{
+    descriptor_in(alloc, text)
 }

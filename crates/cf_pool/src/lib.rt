@@ -9,7 +9,7 @@ pub use fault::{Numbered, ReadFault, Rule};
 pub use layout::{Places, PoolLayout};
 pub use names::{CLASS_INITIALIZER, INITIALIZER, is_class_name, is_method_name, is_name};
 pub use numbers::{read_i32, read_row, read_text, read_u8, read_u16, read_u32, skip};
-pub use pool::{Entry, MemberKind, MemberRef, NameAndTypeRef, Pool};
+pub use pool::{Entry, MemberKind, MemberRef, NameAndTypeRef, Pool, look_ups};
 pub use row::Row;
 pub use text::Text;
 pub use types::{Descriptor, ElementType, FieldType, MethodDescriptor};

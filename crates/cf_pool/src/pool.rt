@@ -1,6 +1,9 @@
 //! The constant pool (JVMS 4.4): its entries by index.
 
-ghost use Rattle.std.specs.Prelude.{◌≡◌, is_some, slice_get};
+ghost use Rattle.std.specs.Prelude.{◌≡◌, ℕ, List, is_some, slice_get};
+ghost use Rattle.cf_pool.specs.declared.pool.Entry.{Entry};
+ghost use Rattle.cf_pool.specs.LookUps.{Exactly, NamesClass, NamesInteger, NamesMember, NamesNameAndType, NamesText};
+ghost use Rattle.cf_pool.specs.Pools.{class_at, integer_at, member_at, name_and_type_at, utf8_at};
 
 use super::Text;
 use std::marker::Model;
@@ -71,7 +74,7 @@ pub struct MemberRef<'a> {
 
 impl Pool {
     ghost use Rattle.std.specs.Option.{option_and_then, option_copied, option_map};
-    ghost use Rattle.cf_pool.specs.Pools.{as_class, as_name_and_type, class_at, integer_at, member_at, name_and_type_at, utf8_at};
+    ghost use Rattle.cf_pool.specs.Pools.{as_class, as_name_and_type};
     ghost use Rattle.cf_pool.specs.PoolRefs.{named_member, named_type};
 
     /// The pool of these entries by index, from index 0 on. It takes no memory.
@@ -176,3 +179,13 @@ impl Pool {
         })
     }
 }
+
+/// What the look-ups of a pool find is what its indices name, and nothing else; they are `None` exactly
+/// where an index names no entry of the kind that is asked.
+pub fn look_ups()
+    ensures texts { (pool : List Entry) (index : ℕ) → Exactly (utf8_at pool index) (NamesText pool index) }
+    ensures integers { (pool : List Entry) (index : ℕ) → Exactly (integer_at pool index) (NamesInteger pool index) }
+    ensures classes { (pool : List Entry) (index : ℕ) → Exactly (class_at pool index) (NamesClass pool index) }
+    ensures names_and_types { (pool : List Entry) (index : ℕ) → Exactly (name_and_type_at pool index) (NamesNameAndType pool index) }
+    ensures members { (pool : List Entry) (index : ℕ) → Exactly (member_at pool index) (NamesMember pool index) }
+{}
