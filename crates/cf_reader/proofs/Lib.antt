@@ -5,4 +5,5 @@ pub mod Each
 pub mod Front
 pub mod FileLaws
 pub mod CodeLaws
+pub mod SaysLaws
 pub mod SpellsLaws

@@ -16,9 +16,14 @@ use Rattle.cf_reader.specs.Builds.{class_from, reading_of}
 use Rattle.cf_reader.specs.Checks.{demands}
 use Rattle.cf_reader.specs.Layouts.{file_at, layout_of}
 use Rattle.cf_reader.specs.FileFormat.{file_format}
-use Rattle.cf_reader.specs.Spells.{AreInProfile, AreSound, Breaks, IsAtFault, IsInProfile, LaysOut, Spells, WayToFail, is_profile}
-use Rattle.cf_reader.specs.Spells.WayToFail.{no_layout, no_demand, no_class}
+use Rattle.cf_reader.specs.Spells.{AreDemands, AreInProfile, AreSound, Breaks, IsAtFault, IsInProfile, LaysOut, Spells, WayToFail, is_profile}
+use Rattle.cf_reader.specs.Spells.WayToFail.{no_layout, no_demand}
+use Rattle.cf_reader.specs.CodeFormat.{Insides}
+use Rattle.cf_reader.specs.ReadInsides.{insides_of}
+use Rattle.cf_reader.specs.Says.{SaysClass}
+use Rattle.cf_reader.proofs.CodeLaws.{insides_read, one_inside}
 use Rattle.cf_reader.proofs.FileLaws.{file_reads}
+use Rattle.cf_reader.proofs.SaysLaws.{class_again, class_says}
 
 -- ---- verdicts
 
@@ -64,11 +69,32 @@ unfolding verdict Breaks
 verdict-breaks [] rule at e = absurd cc
 verdict-breaks (d ∷ ds) rule at e = judged_err d.holds d (verdict ds) rule at (Breaks ds rule at) (verdict-breaks ds rule at) e
 
+-- ---- what is demanded
+
+-- the demands that are judged
+abbrev asked_of : List ℕ → Layout → List Demand
+asked_of bytes layout = demands (insides_of bytes) layout
+
+demanded : (bytes : List ℕ) (layout : Layout) → AreDemands bytes layout (asked_of bytes layout)
+demanded bytes layout = (insides_of bytes, insides_read bytes, refl)
+
+one_demanded : (bytes : List ℕ) (layout : Layout) (asked : List Demand) → AreDemands bytes layout asked → asked ≡ asked_of bytes layout
+one_demanded bytes layout asked are = are.2 ∙ ap (λ (insides : Insides). demands insides layout) (one_inside bytes are.0 are.1)
+
 -- ---- the reading, from its parts
+
+equal : (c d : ClassFile) → made c ≡ made d → c ≡ d
+equal c d e = cc
+
+-- where all demands hold, the class that is made is the one that the layout says
+said : (bytes : List ℕ) (layout : Layout) (class : ClassFile) → verdict (asked_of bytes layout) ≡ ok → class_from bytes layout ≡ Ok class → SaysClass bytes layout class
+said bytes layout class holds is =
+    let says = class_says bytes layout holds in
+    subst (SaysClass bytes layout) (equal says.0 class (sym (class_again bytes layout says.0 says.1) ∙ is)) says.1
 
 -- what follows the layout
 abbrev rest_of : List ℕ → Layout → Result ClassFile ReadFault
-rest_of bytes layout = verdict (demands bytes layout) then (λ _. class_from bytes layout)
+rest_of bytes layout = verdict (asked_of bytes layout) then (λ _. class_from bytes layout)
 
 checked : (v : Result (Unit {0}) ReadFault) (says : Result ClassFile ReadFault) (class : ClassFile) → (v then (λ _. says)) ≡ Ok class → (v ≡ ok) × (says ≡ Ok class)
 checked (Ok x) says class e = (refl, e)
@@ -77,21 +103,40 @@ checked (Err fault) says class e = absurd cc
 found_by : (bytes : List ℕ) (r : Result (Layout × ℕ) ReadFault) → Reads r 0 (file_format bytes) → (class : ClassFile)
     → ((r then (λ file. Ok file.0)) then rest_of bytes) ≡ Ok class → (layout : Layout) × Spells bytes layout class × IsInProfile bytes layout
 found_by bytes (Ok x) reads class e =
-    let h = checked (verdict (demands bytes x.0)) (class_from bytes x.0) class e in
-    (x.0, record { laid_out = (x.1, reads.takes x refl); sound = verdict-sound (demands bytes x.0) h.0; says = h.1 }, verdict-in_profile (demands bytes x.0) h.0)
+    let asked = asked_of bytes x.0 in
+    let h = checked (verdict asked) (class_from bytes x.0) class e in (
+      x.0,
+      record {
+        laid_out = (x.1, reads.takes x refl);
+        asked = asked;
+        demanded = demanded bytes x.0;
+        sound = verdict-sound asked h.0;
+        says = said bytes x.0 class h.0 h.1;
+      },
+      (asked, demanded bytes x.0, verdict-in_profile asked h.0),
+    )
 found_by bytes (Err fault) reads class e = absurd cc
 
+-- a class can be made where all demands hold
+never_unmade : (bytes : List ℕ) (layout : Layout) (fault : ReadFault) → verdict (asked_of bytes layout) ≡ ok → class_from bytes layout ≡ Err fault → ⊥
+never_unmade bytes layout fault holds e =
+    let says = class_says bytes layout holds in
+    apart says.0 (sym (class_again bytes layout says.0 says.1) ∙ e)
+  where
+    apart : (class : ClassFile) → made class ≡ Err fault → ⊥
+    apart class e = cc
+
 -- a fault of the second pass
-unmade : (bytes : List ℕ) (layout : Layout) → LaysOut bytes layout → (v : Result (Unit {0}) ReadFault) → verdict (demands bytes layout) ≡ v → (rule : Rule) (at : ℕ)
+undemanded : (bytes : List ℕ) (layout : Layout) → LaysOut bytes layout → (v : Result (Unit {0}) ReadFault) → verdict (asked_of bytes layout) ≡ v → (rule : Rule) (at : ℕ)
     → (v then (λ _. class_from bytes layout)) ≡ Err (Broken rule at) → WayToFail bytes rule at
-unmade bytes layout laid_out (Ok x) is rule at e = no_class layout laid_out e
-unmade bytes layout laid_out (Err fault) is rule at e =
+undemanded bytes layout laid_out (Ok x) is rule at e = absurd (never_unmade bytes layout (Broken rule at) is e)
+undemanded bytes layout laid_out (Err fault) is rule at e =
     let same : fault ≡ Broken rule at = cc in
-    no_demand layout laid_out (verdict-breaks (demands bytes layout) rule at (is ∙ ap Err same))
+    no_demand layout (asked_of bytes layout) laid_out (demanded bytes layout) (verdict-breaks (asked_of bytes layout) rule at (is ∙ ap Err same))
 
 failed_by : (bytes : List ℕ) (r : Result (Layout × ℕ) ReadFault) → Reads r 0 (file_format bytes) → (rule : Rule) (at : ℕ)
     → ((r then (λ file. Ok file.0)) then rest_of bytes) ≡ Err (Broken rule at) → WayToFail bytes rule at
-failed_by bytes (Ok x) reads rule at e = unmade bytes x.0 (x.1, reads.takes x refl) (verdict (demands bytes x.0)) refl rule at e
+failed_by bytes (Ok x) reads rule at e = undemanded bytes x.0 (x.1, reads.takes x refl) (verdict (asked_of bytes x.0)) refl rule at e
 failed_by bytes (Err fault) reads rule at e =
     let same : fault ≡ Broken rule at = cc in
     no_layout (reads.fails (Broken rule at) (ap Err same))
@@ -104,8 +149,10 @@ reading-again : (bytes : List ℕ) (layout : Layout) (class : ClassFile) → Spe
 unfolding reading_of layout_of
 reading-again bytes layout class spells in_profile =
     let file : file_at bytes ≡ Ok (layout, spells.laid_out.0) = (file_reads bytes).again (layout, spells.laid_out.0) spells.laid_out.1 in
-    let holds : verdict (demands bytes layout) ≡ ok = verdict-ok (demands bytes layout) spells.sound in_profile in
-    rw (file, holds, spells.says) refl
+    let sound : AreSound (asked_of bytes layout) = subst AreSound (one_demanded bytes layout spells.asked spells.demanded) spells.sound in
+    let in_profile_too : AreInProfile (asked_of bytes layout) = subst AreInProfile (one_demanded bytes layout in_profile.0 in_profile.1) in_profile.2 in
+    let holds : verdict (asked_of bytes layout) ≡ ok = verdict-ok (asked_of bytes layout) sound in_profile_too in
+    rw (file, holds, class_again bytes layout class spells.says) refl
 
 reading-fails : (bytes : List ℕ) (rule : Rule) (at : ℕ) → reading_of bytes ≡ Err (Broken rule at) → WayToFail bytes rule at
 unfolding reading_of layout_of
@@ -135,7 +182,4 @@ one_layout bytes l m a b = ap (λ (x : Layout × ℕ). x.0) (one_stands (file_re
 pub one_class : (bytes : List ℕ) (l m : Layout) (c d : ClassFile) → Spells bytes l c → Spells bytes m d → c ≡ d
 one_class bytes l m c d a b =
     let same : l ≡ m = one_layout bytes l m a.laid_out b.laid_out in
-    equal c d (sym a.says ∙ ap (class_from bytes) same ∙ b.says)
-  where
-    equal : (c d : ClassFile) → made c ≡ made d → c ≡ d
-    equal c d e = cc
+    equal c d (sym (class_again bytes l c a.says) ∙ ap (class_from bytes) same ∙ class_again bytes m d b.says)

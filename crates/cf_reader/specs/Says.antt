@@ -1,8 +1,7 @@
 -- The class file that a layout says, part by part.
-use Rattle.std.specs.Prelude.{◌≡◌, ℕ, ℤ, List, [], ◌∷◌, Option, Some, None, Ok, codes}
+use Rattle.std.specs.Prelude.{◌≡◌, ℕ, ℤ, List, [], ◌∷◌, Option, Some, None, codes}
 use Rattle.cf_pool.specs.declared.pool.Entry.{Entry}
-use Rattle.cf_pool.specs.declared.types.FieldType.{FieldType}
-use Rattle.cf_pool.specs.Types.{field_descriptor_of, method_descriptor_of}
+use Rattle.cf_pool.specs.Descriptors.{IsFieldType, IsMethodType}
 use Rattle.cf_pool.specs.Pools.{class_at, integer_at, utf8_at}
 use Rattle.cf_reader.specs.declared.class_file.Code.{Code}
 use Rattle.cf_reader.specs.declared.class_file.Field.{Field}
@@ -46,14 +45,14 @@ pub record SaysField (bytes : List ℕ) (pool : List Entry) (member : Member) (f
   pub flags : field.flags.bits ≡ member.flags.value
   pub name : SaysText pool member.name field.name
   pub descriptor : SaysText pool member.descriptor field.descriptor
-  pub kind : field_descriptor_of member.descriptor.at field.descriptor ≡ Ok field.kind
+  pub kind : IsFieldType field.descriptor field.kind
   pub constant : SaysConstant bytes pool (constant_attribute pool member) field.constant
 
 pub record SaysMethod (bytes : List ℕ) (pool : List Entry) (member : Member) (method : Method) : Type 0 where
   pub flags : method.flags.bits ≡ member.flags.value
   pub name : SaysText pool member.name method.name
   pub descriptor : SaysText pool member.descriptor method.descriptor
-  pub types : method_descriptor_of member.descriptor.at method.descriptor ≡ Ok method.types
+  pub types : IsMethodType method.descriptor method.types
   pub code : SaysCode bytes pool (first_named pool (codes "Code") member.attributes) method.code
 
 pub record SaysClass (bytes : List ℕ) (layout : Layout) (class : ClassFile) : Type 0 where
