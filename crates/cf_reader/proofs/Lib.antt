@@ -6,4 +6,5 @@ pub mod Front
 pub mod FileLaws
 pub mod CodeLaws
 pub mod SaysLaws
+pub mod Spans
 pub mod SpellsLaws

@@ -8,5 +8,6 @@ pub mod Checks
 pub mod Builds
 pub mod Loads
 pub mod FileFormat
+pub mod Order
 pub mod Says
 pub mod Spells
