@@ -3,3 +3,4 @@ pub mod Made
 pub mod Refused
 pub mod Whole
 pub mod Within
+pub mod Commas

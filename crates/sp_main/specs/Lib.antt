@@ -1,3 +1,4 @@
+pub mod Arguments
 pub mod Reports
 pub mod Runs
 pub mod Statuses
