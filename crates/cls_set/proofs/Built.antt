@@ -3,19 +3,20 @@ use Rattle.std.specs.Prelude.{All, Contains, IsPermutation, IfSome, IsSome, OnSo
 use Rattle.std.specs.List.Sorted.{IsStrictlySortedBy}
 use Rattle.std.proofs.lemmas.List.{get_or-map, length-append, length-map}
 use Rattle.std.proofs.lemmas.List.Elements.{All-map, Contains-append_left}
-use Rattle.std.proofs.lemmas.List.Sorted.{IsPermutation-map, Contains-permutation, length_permutation, sum_by-IsPermutation}
+use Rattle.std.proofs.lemmas.List.Sorted.{IsPermutation-map, IsPermutation-sym, Contains-permutation, length_permutation, sum_by-IsPermutation}
 use Rattle.std.proofs.lemmas.Slice.Eq.{bytes_eq-Decides}
 use Rattle.cf_reader.specs.declared.class_file.ClassFile.{ClassFile}
 use Rattle.cls_set.specs.declared.class.Class.{Class}
 use Rattle.cls_set.specs.declared.fault.SetFault.{SetFault}
 use Rattle.cls_set.specs.declared.fault.SetFault.TheVariants.{Broken, Memory}
-use Rattle.cls_set.specs.declared.fault.SetRule.TheVariants.{Duplicate, AbsentClass}
+use Rattle.cls_set.specs.declared.fault.SetRule.TheVariants.{Duplicate, AbsentClass, Cycle}
 use Rattle.cls_set.specs.declared.members.Member.{Member}
 use Rattle.cls_set.specs.BuiltIn.{built_ins, built_in_files, file_of}
-use Rattle.cls_set.specs.Building.{ranked_from, kept, IsAbsentFault, IsDuplicateFault}
+use Rattle.cls_set.specs.Building.{ranked_from, kept, origins_of, IsAbsentFault, IsCycleFault, IsDuplicateFault}
 use Rattle.cls_set.specs.Classes.{name_cmp, names, number_from, number_of}
 use Rattle.cls_set.specs.Members.{classes_of, AreMembers, IsRanked}
 use Rattle.cls_set.specs.Sets.{Origin, origin, origins, origin_names, HasClasses, IsResolved, IsFirstDuplicate, IsSetFault, IsTooMany, IsWithoutDuplicates}
+use Rattle.cls_set.specs.Supers.{IsSuperFault}
 use Rattle.cls_set.proofs.Gathered.{length_ranked}
 use Rattle.cls_set.proofs.Resolved.{names_kept, length_kept}
 use Rattle.cls_set.proofs.Sorting.{matches, count_strict}
@@ -39,10 +40,21 @@ origins_from_kept : (members : List Member) → map origin_of members ≡ map (�
 origins_from_kept [] = refl
 origins_from_kept (m ∷ ms) = ap (λ os. origin m.class ∷ os) (origins_from_kept ms)
 
-pub absent_fault : (files : List ClassFile) (fault : SetFault) → IsAbsentFault fault → IsSetFault files fault
-absent_fault files (Broken AbsentClass name) h = tt
-absent_fault files Memory h = tt
-absent_fault files (Broken _ name) h = absurd h
+pub absent_fault : (files : List ClassFile) (ns : List (List ℕ)) (classes : List Origin) (fault : SetFault) → IsAbsentFault ns classes fault → IsSetFault files fault
+absent_fault files ns classes (Broken AbsentClass name) h = tt
+absent_fault files ns classes Memory h = tt
+absent_fault files ns classes (Broken _ name) h = absurd h
+
+pub cycle_fault : (files : List ClassFile) (classes : List Origin) (fault : SetFault) → IsCycleFault classes fault → IsSetFault files fault
+cycle_fault files classes (Broken Cycle name) h = tt
+cycle_fault files classes Memory h = tt
+cycle_fault files classes (Broken _ name) h = absurd h
+
+-- what is a fault by another rule
+pub no_super_fault : (files : List ClassFile) (ns : List (List ℕ)) (fault : SetFault) → IsDuplicateFault ns fault → IsSuperFault files fault
+no_super_fault files ns (Broken Duplicate name) h = tt
+no_super_fault files ns Memory h = tt
+no_super_fault files ns (Broken _ name) h = absurd h
 
 length_built_ins : length built_ins ≡ 29
 unfolding built_ins
@@ -98,6 +110,32 @@ module _ (files : List ClassFile) (members : List Member) (all : IsPermutation (
   duplicate_fault (Broken Duplicate name) h = duplicate_held name h
   duplicate_fault Memory h = tt
   duplicate_fault (Broken _ name) h = absurd h
+
+  pub absent_held : (fault : SetFault) → IsAbsentFault (names (classes_of members)) (origins_of members) fault → IsSuperFault files fault
+  absent_held (Broken AbsentClass name) h =
+      record {
+        class = h.class;
+        stands = Contains-permutation (map origin_of members) (origins files) h.class (IsPermutation-sym (origins files) (map origin_of members) origins_held) h.stands;
+        named = h.named;
+        absent = record {
+          super = h.absent.super;
+          declared = h.absent.declared;
+          absent = λ among. h.absent.absent (Contains-permutation (origin_names files) (names (classes_of members)) h.absent.super names_held among);
+        };
+      }
+  absent_held Memory h = tt
+  absent_held (Broken _ name) h = absurd h
+
+  pub cycle_held : (fault : SetFault) → IsCycleFault (origins_of members) fault → IsSuperFault files fault
+  cycle_held (Broken Cycle name) h =
+      record {
+        class = h.class;
+        stands = Contains-permutation (map origin_of members) (origins files) h.class (IsPermutation-sym (origins files) (map origin_of members) origins_held) h.stands;
+        named = h.named;
+        own = h.own;
+      }
+  cycle_held Memory h = tt
+  cycle_held (Broken _ name) h = absurd h
 
   pub distinct : IsStrictlySortedBy name_cmp (names (classes_of members)) → IsWithoutDuplicates (origin_names files)
   distinct ordered name twice =

@@ -1,3 +1,4 @@
+pub mod Absent
 pub mod Built
 pub mod Gathered
 pub mod Hierarchy

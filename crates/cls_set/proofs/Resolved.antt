@@ -5,10 +5,11 @@ use Rattle.std.proofs.lemmas.List.{length-map}
 use Rattle.std.proofs.lemmas.List.Elements.{All-append, All-cons, All-contains, All-nil, AllWithin-more, Contains-get_or, Contains-append_right}
 use Rattle.cls_set.specs.declared.class.ClassId.{ClassId}
 use Rattle.cls_set.specs.declared.members.Member.{Member}
-use Rattle.cls_set.specs.Building.{kept}
+use Rattle.cls_set.specs.declared.fault.SetFault.{SetFault}
+use Rattle.cls_set.specs.Building.{kept, origins_of, IsAbsentFault}
 use Rattle.cls_set.specs.Classes.{names, direct_supertypes}
 use Rattle.cls_set.specs.Members.{classes_of, IsLower, IsRanked}
-use Rattle.cls_set.specs.Sets.{Origin}
+use Rattle.cls_set.specs.Sets.{Origin, origin}
 
 names_from_kept : (members : List Member) → names (classes_of members) ≡ map (λ (k : Origin × ℕ). k.0.0.name) (map kept members)
 names_from_kept [] = refl
@@ -17,6 +18,18 @@ names_from_kept (m ∷ ms) = ap (λ ns. m.class.file.name ∷ ns) (names_from_ke
 -- resolving changes no name and no length
 pub names_kept : (xs ys : List Member) → map kept xs ≡ map kept ys → names (classes_of xs) ≡ names (classes_of ys)
 names_kept xs ys e = names_from_kept xs ∙ (ap (map (λ (k : Origin × ℕ). k.0.0.name)) e ∙ sym (names_from_kept ys))
+
+origins_from_kept : (members : List Member) → origins_of members ≡ map (λ (k : Origin × ℕ). k.0) (map kept members)
+origins_from_kept [] = refl
+origins_from_kept (m ∷ ms) = ap (λ os. origin m.class ∷ os) (origins_from_kept ms)
+
+pub origins_kept : (xs ys : List Member) → map kept xs ≡ map kept ys → origins_of xs ≡ origins_of ys
+origins_kept xs ys e = origins_from_kept xs ∙ (ap (map (λ (k : Origin × ℕ). k.0)) e ∙ sym (origins_from_kept ys))
+
+-- an absent supertype, where the members are those of before but for what resolving changes
+pub absent_kept : (xs ys : List Member) (e : SetFault) → map kept xs ≡ map kept ys → IsAbsentFault (names (classes_of xs)) (origins_of xs) e → IsAbsentFault (names (classes_of ys)) (origins_of ys) e
+absent_kept xs ys e same h =
+    subst (λ ns. IsAbsentFault ns (origins_of ys) e) (names_kept xs ys same) (subst (λ os. IsAbsentFault (names (classes_of xs)) os e) (origins_kept xs ys same) h)
 
 pub length_kept : (xs ys : List Member) → map kept xs ≡ map kept ys → length xs ≡ length ys
 length_kept xs ys e = sym (length-map xs kept) ∙ (ap length e ∙ length-map ys kept)

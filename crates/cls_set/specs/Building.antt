@@ -1,5 +1,5 @@
 -- How a set is built.
-use Rattle.std.specs.Prelude.{◌≡◌, ℕ, suc, None, All, List, [], ◌∷◌}
+use Rattle.std.specs.Prelude.{◌≡◌, ℕ, suc, None, Contains, List, [], ◌∷◌, map}
 use Rattle.std.specs.List.Sorted.{IsSortedBy}
 use Rattle.std.specs.Ordering.{is_lt}
 use Rattle.cls_set.specs.declared.class.Class.{Class}
@@ -10,7 +10,8 @@ use Rattle.cls_set.specs.declared.fault.SetRule.TheVariants.{Duplicate, AbsentCl
 use Rattle.cls_set.specs.declared.members.Member.{Member}
 use Rattle.cls_set.specs.Classes.{name_cmp}
 use Rattle.cls_set.specs.Sets.{Origin, origin, IsFirstDuplicate}
-use Rattle.cls_set.specs.Members.{IsRanked}
+use Rattle.cls_set.specs.Supers.{HasAbsent, IsAbsentAmong, IsOwnAmong}
+use Rattle.cf_reader.specs.declared.class_file.ClassFile.{ClassFile}
 
 -- a class whose supertypes are not resolved yet
 abbrev pub unresolved : Origin → Class
@@ -39,13 +40,30 @@ IsDuplicateFault names (Broken Duplicate name) = IsFirstDuplicate names name
 IsDuplicateFault names (Broken rule name) = ⊥
 IsDuplicateFault names Memory = Unit {0}
 
-abbrev pub IsRankFault : List Member → SetFault → Type 0
-IsRankFault members (Broken Cycle name) = ¬ All (IsRanked members) members
-IsRankFault members (Broken rule name) = ⊥
-IsRankFault members Memory = Unit {0}
+-- the classes of the members, as they come
+abbrev pub origins_of : List Member → List Origin
+origins_of members = map (λ m. origin m.class) members
 
--- a supertype is absent
-abbrev pub IsAbsentFault : SetFault → Type 0
-IsAbsentFault (Broken AbsentClass name) = Unit {0}
-IsAbsentFault (Broken rule name) = ⊥
-IsAbsentFault Memory = Unit {0}
+-- a class of this name names a supertype of which there is none, unless memory ran out
+abbrev pub IsMissing : List (List ℕ) → List ℕ → List ℕ → SetFault → Type 0
+IsMissing names super name (Broken AbsentClass n) = (n ≡ name) × (Contains names super → ⊥)
+IsMissing names super name (Broken rule n) = ⊥
+IsMissing names super name Memory = Unit {0}
+
+-- a class has an absent supertype, unless memory ran out
+abbrev pub IsClassFault : List (List ℕ) → ClassFile → SetFault → Type 0
+IsClassFault names file (Broken AbsentClass n) = (n ≡ file.name) × HasAbsent names file
+IsClassFault names file (Broken rule n) = ⊥
+IsClassFault names file Memory = Unit {0}
+
+-- one of the classes has, unless memory ran out
+abbrev pub IsAbsentFault : List (List ℕ) → List Origin → SetFault → Type 0
+IsAbsentFault names classes (Broken AbsentClass n) = IsAbsentAmong names classes n
+IsAbsentFault names classes (Broken rule n) = ⊥
+IsAbsentFault names classes Memory = Unit {0}
+
+-- one of the classes is its own supertype, unless memory ran out
+abbrev pub IsCycleFault : List Origin → SetFault → Type 0
+IsCycleFault classes (Broken Cycle n) = IsOwnAmong classes n
+IsCycleFault classes (Broken rule n) = ⊥
+IsCycleFault classes Memory = Unit {0}

@@ -3,14 +3,14 @@
 
 ghost use Rattle.std.specs.Prelude.{◌≡◌, ◌<◌, ◌++◌, ◌-◌, ◌≤◌, Some, OnOk, IfOk, IfErr, OnSome, IfSome, IfNone, All, IsPermutation, map, length, option_map, slice_get};
 ghost use Rattle.std.specs.List.Sorted.{IsStrictlySortedBy};
-ghost use Rattle.cls_set.specs.Building.{ranked_from, AscendByName, IsDuplicateFault, IsRankFault};
+ghost use Rattle.cls_set.specs.Building.{ranked_from, origins_of, AscendByName, IsCycleFault, IsDuplicateFault};
 ghost use Rattle.cls_set.specs.Classes.{name_cmp, names};
 ghost use Rattle.cls_set.specs.Members.{classes_of, IsRanked};
 ghost use Rattle.cls_set.specs.Sets.{origins, IsFirstDuplicate};
 
 use super::built_in::built_in_classes;
 use super::members::Member;
-use super::resolving::{broken, first_unranked};
+use super::resolving::{broken, first_own, first_unranked};
 use super::{Class, SetFault, SetRule};
 use cf_reader::{ClassFile, Row, Text};
 use std::alloc::{AllocError, Global};
@@ -100,13 +100,17 @@ pub(crate) fn refuse_duplicates(members: &[Member]) -> Result<(), SetFault>
     }
 }
 
-// Refuses a class that is among its own supertypes.
+// Refuses a class that is its own supertype. What else is ranked too high, which no class of one file
+// over the built-in ones is, is want of memory.
 pub(crate) fn refuse_cycles(members: &[Member]) -> Result<(), SetFault>
     ensures ok { OnOk result (All (IsRanked members.now) members.now) }
-    ensures fault { IfErr result (IsRankFault members.now) }
+    ensures fault { IfErr result (IsCycleFault (origins_of members.now)) }
 {
+    if let Some(place) = first_own(members) {
+        return Err(broken(SetRule::Cycle, &members[place].class.file.name));
+    }
     match first_unranked(members) {
-        Some(place) => Err(broken(SetRule::Cycle, &members[place].class.file.name)),
+        Some(_) => Err(SetFault::Memory),
         None => Ok(()),
     }
 }

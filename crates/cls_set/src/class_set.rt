@@ -33,18 +33,20 @@ impl ClassSet {
     ghost use Rattle.cls_set.specs.Classes.{name_at, number_of};
     ghost use Rattle.cls_set.specs.Sets.{HasClasses, IsClassSet, IsSetFault};
     ghost use Rattle.cls_set.specs.Subtypes.{IsRemote, IsSubclass, IsSubtype};
+    ghost use Rattle.cls_set.specs.Supers.{IsSuperFault};
 
     /// The set of the files' classes and the built-in ones. The files may come in any order, and
     /// nothing of them is handed back with a fault.
     ///
-    /// Faults are looked for in the order of their numbers, each over all classes. Of files that this
-    /// project's reader takes now, which extend java/lang/Object alone and have no fields, only
-    /// `Duplicate` and `TooMany` (more than one file) can come.
+    /// Faults are looked for in this order, each over all classes: `Duplicate`, `TooMany` (more than one
+    /// file), `AbsentClass`, `Cycle`. Of files that this project's reader takes now, which extend
+    /// java/lang/Object alone and have no fields, only the first two can come.
     pub fn build(alloc: Global, files: Vec<ClassFile>) -> Result<ClassSet, SetFault>
         ensures set { IfOk result (λ set. IsClassSet set) }
         ensures classes { IfOk result (λ set. HasClasses files.items set) }
         ensures few { OnOk result (length files.items ≤ 1) }
         ensures fault { IfErr result (IsSetFault files.items) }
+        ensures supers { IfErr result (IsSuperFault files.items) }
     {
         let last_of_many = last_of_many(files.as_slice())?;
         let mut members = gather(alloc, files)?;

@@ -1,16 +1,17 @@
 //! The supertypes of the classes of a set, found by name, and that no class is among its own.
 
-ghost use Rattle.std.specs.Prelude.{◌≡◌, ◌<◌, ◌≤◌, ◌↔◌, ◌≢◌, ℕ, Some, All, IsTrue, IfOk, IfErr, IfSome, IfNone, OnOk, map, length, option_map, slice_get, slice_index_or, HoldsAt};
+ghost use Rattle.std.specs.Prelude.{◌≡◌, ◌<◌, ◌≤◌, ◌↔◌, ◌≢◌, ℕ, Some, All, Contains, IsTrue, IfOk, IfErr, IfSome, IfNone, OnOk, map, length, option_map, slice_get, slice_index_or, HoldsAt};
 ghost use Rattle.std.specs.List.Sorted.{IsStrictlySortedBy};
-ghost use Rattle.cls_set.specs.Building.{IsAbsentFault, IsFaultOf, kept};
+ghost use Rattle.cls_set.specs.Building.{IsAbsentFault, IsClassFault, IsFaultOf, IsMissing, kept, origins_of};
 ghost use Rattle.cls_set.specs.Classes.{name_cmp, names, number_of};
 ghost use Rattle.cls_set.specs.Members.{classes_of, IsLower, IsRanked};
 ghost use Rattle.cls_set.specs.Sets.{IsResolved};
+ghost use Rattle.cls_set.specs.Supers.{super_names};
 ghost use Rattle.cls_set.specs.declared.members.Member.{Member};
 
 use super::members::{Member, find};
 use super::{Class, ClassId, SetFault, SetRule};
-use cf_reader::{Row, Text};
+use cf_reader::{ClassFile, Row, Text};
 use std::alloc::Global;
 
 // The fault of a class.
@@ -28,7 +29,7 @@ fn supertype(members: &[Member], name: &Text, class: &Class) -> Result<ClassId, 
     requires ordered { IsStrictlySortedBy name_cmp (names (classes_of members.now)) }
     requires few { length members.now ≤ 4096 }
     ensures ok { IfOk result (λ id. slice_get (names (classes_of members.now)) id.0 ≡ Some name.now) }
-    ensures absent { IfErr result IsAbsentFault }
+    ensures absent { IfErr result (IsMissing (names (classes_of members.now)) name.now class.now.file.name) }
 {
     match find(members, name.as_bytes()) {
         Some(id) => Ok(id),
@@ -40,7 +41,7 @@ fn superclass(members: &[Member], class: &Class) -> Result<Option<ClassId>, SetF
     requires ordered { IsStrictlySortedBy name_cmp (names (classes_of members.now)) }
     requires few { length members.now ≤ 4096 }
     ensures ok { IfOk result (λ id. option_map (λ id. slice_get (names (classes_of members.now)) id.0) id ≡ option_map (λ name. Some name) class.now.file.superclass) }
-    ensures absent { IfErr result IsAbsentFault }
+    ensures absent { IfErr result (IsClassFault (names (classes_of members.now)) class.now.file) }
 {
     match &class.file.superclass {
         Some(name) => Ok(Some(supertype(members, name, class)?)),
@@ -56,7 +57,7 @@ fn superinterfaces(
     requires ordered { IsStrictlySortedBy name_cmp (names (classes_of members.now)) }
     requires few { length members.now ≤ 4096 }
     ensures ok { IfOk result (λ ids. map (λ id. slice_get (names (classes_of members.now)) id.0) ids ≡ map (λ name. Some name) class.now.file.interfaces) }
-    ensures absent { IfErr result IsAbsentFault }
+    ensures absent { IfErr result (IsClassFault (names (classes_of members.now)) class.now.file) }
 {
     let mut ids = Vec::new(alloc);
     for name in class.file.interfaces.as_slice() {
@@ -73,7 +74,7 @@ fn resolve_at(alloc: Global, members: &mut Vec<Member>, place: usize) -> Result<
     ensures kept { map kept members.new.items ≡ map kept members.old.items }
     ensures others { (k : ℕ) (d : Member) → k ≢ place → slice_index_or members.new.items k d ≡ slice_index_or members.old.items k d }
     ensures resolved { OnOk result (HoldsAt (λ m. IsResolved (names (classes_of members.old.items)) m.class) members.new.items place) }
-    ensures absent { IfErr result IsAbsentFault }
+    ensures absent { IfErr result (IsAbsentFault (names (classes_of members.old.items)) (origins_of members.old.items)) }
 {
     let class = &members[place].class;
     let superclass = superclass(members.as_slice(), class)?;
@@ -90,7 +91,7 @@ pub(crate) fn resolve(alloc: Global, members: &mut Vec<Member>) -> Result<(), Se
     requires few { length members.old.items ≤ 4096 }
     ensures kept { map kept members.new.items ≡ map kept members.old.items }
     ensures resolved { OnOk result (All (λ m. IsResolved (names (classes_of members.old.items)) m.class) members.new.items) }
-    ensures absent { IfErr result IsAbsentFault }
+    ensures absent { IfErr result (IsAbsentFault (names (classes_of members.old.items)) (origins_of members.old.items)) }
 {
     for place in 0..members.len() {
         resolve_at(alloc, members, place)?;
@@ -129,6 +130,37 @@ fn is_ranked(members: &[Member], member: &Member) -> bool
         Some(superclass) => is_lower(members, superclass, member.rank),
         None => true,
     }
+}
+
+// Whether a class names itself as a direct supertype.
+fn names_itself(file: &ClassFile) -> bool
+    ensures { IsTrue result → Contains (super_names file.now) file.now.name }
+{
+    let name = file.name.as_bytes();
+    if let Some(superclass) = &file.superclass
+        && superclass.is(name)
+    {
+        return true;
+    }
+    for interface in file.interfaces.as_slice() {
+        if interface.is(name) {
+            return true;
+        }
+    }
+    false
+}
+
+// The place of the first class that names itself as a direct supertype.
+pub(crate) fn first_own(members: &[Member]) -> Option<usize>
+    ensures within { IfSome result (λ k. k < length members.now) }
+    ensures found { IfSome result (λ k. IfSome (slice_get members.now k) (λ m. Contains (super_names m.class.file) m.class.file.name)) }
+{
+    for place in 0..members.len() {
+        if names_itself(&members[place].class.file) {
+            return Some(place);
+        }
+    }
+    None
 }
 
 // The place of the first class with a supertype that is not ranked below it.

@@ -1,0 +1,55 @@
+"""Writes a class T with `static int f(int)` of nearly so many instructions, which returns its argument.
+
+Each 128 instructions begin at a declared frame and have a branch to the next 128. Word: how many
+instructions, a multiple of 64.
+"""
+
+import sys
+
+PUBLIC_SUPER, PUBLIC_STATIC = 0x21, 0x09
+
+
+def u2(number):
+    return number.to_bytes(2, "big")
+
+
+def u4(number):
+    return number.to_bytes(4, "big")
+
+
+def utf8(text):
+    return b"\x01" + u2(len(text)) + text.encode()
+
+
+def attribute(name, content):
+    return u2(name) + u4(len(content)) + content
+
+
+def main(size):
+    blocks = max(1, size // 128)
+    # iload_0; ifle to the next block; iload_0 and pop, 63 times.
+    block = b"\x1a\x9e" + u2(129) + b"\x1a\x57" * 63
+    code = block * blocks + b"\x1a\xac"
+    # Frames of the tag 251, which say the distance and change nothing.
+    frames = b"\xfb" + u2(130) + (b"\xfb" + u2(129)) * (blocks - 1)
+    table = attribute(8, u2(blocks) + frames)
+    body = u2(1) + u2(1) + u4(len(code)) + code + u2(0) + u2(1) + table
+    pool = [
+        utf8("T"),
+        b"\x07" + u2(1),
+        utf8("java/lang/Object"),
+        b"\x07" + u2(3),
+        utf8("f"),
+        utf8("(I)I"),
+        utf8("Code"),
+        utf8("StackMapTable"),
+    ]
+    method = u2(PUBLIC_STATIC) + u2(5) + u2(6) + u2(1) + attribute(7, body)
+    sys.stdout.buffer.write(
+        u4(0xCAFEBABE) + u2(0) + u2(52) + u2(len(pool) + 1) + b"".join(pool)
+        + u2(PUBLIC_SUPER) + u2(2) + u2(4) + u2(0) + u2(0) + u2(1) + method + u2(0)
+    )
+
+
+if __name__ == "__main__":
+    main(int(sys.argv[1]))
