@@ -7,3 +7,5 @@ pub mod PoolLaws
 pub mod LookLaws
 pub mod DescriptorLaws
 pub mod LookUpLaws
+pub mod Spans
+pub mod PoolOrder

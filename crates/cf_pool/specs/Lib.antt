@@ -11,3 +11,4 @@ pub mod PoolFormat
 pub mod Looks
 pub mod Descriptors
 pub mod LookUps
+pub mod Order

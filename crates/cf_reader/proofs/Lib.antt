@@ -6,5 +6,6 @@ pub mod Front
 pub mod FileLaws
 pub mod CodeLaws
 pub mod SaysLaws
-pub mod Spans
+pub mod PlacedLaws
+pub mod ClassOrder
 pub mod SpellsLaws

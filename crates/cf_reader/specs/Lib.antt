@@ -8,6 +8,5 @@ pub mod Checks
 pub mod Builds
 pub mod Loads
 pub mod FileFormat
-pub mod Order
 pub mod Says
 pub mod Spells

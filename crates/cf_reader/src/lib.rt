@@ -9,7 +9,7 @@ pub use class_file::{ClassFile, Code, Field, Method};
 pub use flags::Flags;
 pub use layout::MAX_LEN;
 pub use load_fault::LoadFault;
-pub use read::{one_reading, read_class};
+pub use read::{demands_rise, one_reading, read_class};
 pub use source::{load, read_bytes};
 
 mod attributes;

@@ -4,7 +4,9 @@ ghost use Rattle.std.specs.Prelude.{◌≡◌, ℕ, List, IfOk, IfErr};
 ghost use Rattle.cf_pool.specs.Reading.{Gives};
 ghost use Rattle.cf_reader.specs.declared.items.Layout.{Layout};
 ghost use Rattle.cf_reader.specs.Builds.{reading_of};
-ghost use Rattle.cf_reader.specs.Spells.{IsAtFault, IsInProfile, Spells};
+ghost use Rattle.cf_pool.specs.Demands.{Demand};
+ghost use Rattle.cf_pool.specs.Order.{Rises};
+ghost use Rattle.cf_reader.specs.Spells.{AreDemands, IsAtFault, IsInProfile, LaysOut, Spells};
 
 use super::ClassFile;
 use super::build::class_from;
@@ -48,4 +50,11 @@ fn reading_of(alloc: Global, bytes: &[u8]) -> Result<ClassFile, ReadFault>
 /// No bytes have two readings: what they spell, by any layout, is one class file.
 pub fn one_reading()
     ensures { (bytes : List ℕ) (l m : Layout) (c d : ClassFile) → Spells bytes l c → Spells bytes m d → c ≡ d }
+{}
+
+/// What is demanded of bytes that are laid out is asked in the order of bytes, and at one place in the
+/// order of the rules' numbers: so the first demand that does not hold is at the first place at fault,
+/// and of the rules that are broken there it is the one of the lowest number.
+pub fn demands_rise()
+    ensures { (bytes : List ℕ) (layout : Layout) (asked : List Demand) → LaysOut bytes layout → AreDemands bytes layout asked → Rises asked }
 {}

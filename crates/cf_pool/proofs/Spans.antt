@@ -6,7 +6,7 @@ use Rattle.cf_pool.specs.declared.fault.Rule.{Rule}
 use Rattle.cf_pool.specs.declared.fault.Rule.TheVariants as rules
 use Rattle.cf_pool.specs.Demands.{Demand, of_each}
 use Rattle.cf_pool.specs.Formats.{Format, many_format}
-use Rattle.cf_reader.specs.Order.{IsBefore, Rises, number_of}
+use Rattle.cf_pool.specs.Order.{IsBefore, Rises, number_of}
 
 -- a demand's place and its rule's number
 abbrev pub key : Demand → ℕ
