@@ -224,28 +224,29 @@ impl Machine {
         Flow::Ends(Ending::ReturnedInt(self.pop_int()))
     }
 
-    /// Makes one instruction, which does not get stuck.
+    /// Makes one instruction, which does not get stuck. It is read where it lies: an arm takes no more
+    /// of it than it uses.
     #[inline(always)]
-    pub fn act(&mut self, insn: LinkedInsn) -> Flow
+    pub fn act(&mut self, insn: &LinkedInsn) -> Flow
         requires place { self.old.place + 1 < 2 ^ 64 }
-        requires fits { NotStuck (act insn self.old) }
-        ensures does { Does (act insn self.old) result self.new }
+        requires fits { NotStuck (act insn.now self.old) }
+        ensures does { Does (act insn.now self.old) result self.new }
         ensures method { self.new.method ≡ self.old.method }
     {
         match insn {
             LinkedInsn::Nop => self.go_on(),
-            LinkedInsn::Constant(n) => self.constant(n),
-            LinkedInsn::Load(ValueKind::Int, place) => self.load(place),
-            LinkedInsn::Store(ValueKind::Int, place) => self.store(place),
-            LinkedInsn::Increment { local, by } => self.increment(local, by),
+            LinkedInsn::Constant(n) => self.constant(*n),
+            LinkedInsn::Load(ValueKind::Int, place) => self.load(*place),
+            LinkedInsn::Store(ValueKind::Int, place) => self.store(*place),
+            LinkedInsn::Increment { local, by } => self.increment(*local, *by),
             LinkedInsn::Stack(StackOperation::Pop) => self.pop(),
             LinkedInsn::Stack(StackOperation::Dup) => self.dup(),
             LinkedInsn::Stack(StackOperation::Swap) => self.swap(),
-            LinkedInsn::Unary(operator) => self.unary(operator),
-            LinkedInsn::Binary(operator) => self.binary(operator),
-            LinkedInsn::If { condition, target } => self.if_zero(condition, target),
-            LinkedInsn::IfCompare { condition, target } => self.if_compare(condition, target),
-            LinkedInsn::Goto { target } => self.branch(true, target),
+            LinkedInsn::Unary(operator) => self.unary(*operator),
+            LinkedInsn::Binary(operator) => self.binary(*operator),
+            LinkedInsn::If { condition, target } => self.if_zero(*condition, *target),
+            LinkedInsn::IfCompare { condition, target } => self.if_compare(*condition, *target),
+            LinkedInsn::Goto { target } => self.branch(true, *target),
             LinkedInsn::ReturnValue(ValueKind::Int) => self.return_int(),
             LinkedInsn::Return => Flow::Ends(Ending::ReturnedNothing),
         }
