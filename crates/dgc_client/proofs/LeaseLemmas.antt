@@ -1,15 +1,12 @@
-use Rattle.std.proofs.Common.{◌≡◌, ◌≢◌, ℕ, ◌+◌, ◌-◌, ◌*◌, ◌<◌, ◌≤◌, Bool, true, false, cond, eqb, List, [], ◌∷◌, ◌++◌, Option, None, Some, refl, sym, ap, subst, ◌∙◌, arith}
-use Rattle.std.specs.Prelude.{if◌then◌else◌, is_none, nat_lt, nat_le, ◌&&◌, ◌||◌}
-use Rattle.std.proofs.lemmas.Bool.{false≢true, eqb-true}
+use Rattle.std.proofs.Common.{◌≡◌, ◌≢◌, ℕ, Bool, true, false, cond, eqb, List, [], ◌∷◌, ◌++◌, Option, None, Some, refl, subst, arith}
+use Rattle.std.specs.Prelude.{if◌then◌else◌, is_none, nat_lt, ◌&&◌, ◌||◌}
+use Rattle.std.proofs.lemmas.Bool.{eqb-true}
 use Rattle.std.proofs.lemmas.Bool.Decides.{nat_tests}
 use Rattle.dgc_client.specs.declared.lease.ClientLease.{ClientLease}
-use Rattle.dgc_client.specs.declared.lease.Due.{Due}
 use Rattle.dgc_client.specs.declared.lease.Due.TheVariants.{Dirty, Clean as Clean_due}
 use Rattle.dgc_client.specs.declared.lease.Made.{Made}
-use Rattle.dgc_client.specs.declared.lease.Owed.{Owed}
 use Rattle.dgc_client.specs.declared.lease.Owed.TheVariants.{Nothing, Again}
-use Rattle.dgc_client.specs.declared.lease.Term.{Term}
-use Rattle.dgc_client.specs.Lease.{is_made, is_clean, standing, is_half_over, at_moment, after_moment, sent_at, answered, after_answer, after_failed_dirty, due_held, due_owed, due_unheld, due}
+use Rattle.dgc_client.specs.Lease.{is_made, is_clean, at_moment, sent_at, answered, due_held, due_unheld, due}
 use Rattle.dgc_client.specs.History.{Event, lease_of, MakesNoDirty, IsQuiet}
 use Rattle.dgc_client.specs.History.Event.{Held, Dropped, Moment, DirtyMade, CleanMade, DirtySent, DirtyAnswered, DirtyFailed, CleanAnswered, CleanFailed}
 

@@ -1,4 +1,4 @@
-use Rattle.std.specs.Prelude.{◌≡◌, ◌≢◌, ℕ, List, [], ◌∷◌}
+use Rattle.std.specs.Prelude.{◌≢◌, ℕ, List, [], ◌∷◌}
 use Rattle.dgc_client.specs.declared.lease.Change.{Change}
 use Rattle.dgc_client.specs.declared.lease.Change.TheVariants as change
 use Rattle.dgc_client.specs.declared.lease.ClientLease.{ClientLease}

@@ -1,9 +1,4 @@
-use Rattle.std.proofs.Common.{◌≡◌, ◌+◌, ◌++◌, ℕ, suc, List, take, drop, length, arith, ap, sym, ◌∙◌, subst}
-use Rattle.std.specs.Prelude.{map}
-use Rattle.indexmap.specs.IndexMap.{set_value_at}
-use Rattle.dgc_client.specs.declared.lease.ClientLease.{ClientLease}
-use Rattle.dgc_client.specs.declared.table.ForeignId.{ForeignId}
-use Rattle.dgc_client.specs.Lease.{after_moment}
+use Rattle.std.proofs.Common.{arith}
 use Rattle.dgc_client.proofs.TableLemmas.{pass-next}
 use Rattle.dgc_client.proofs.table.pass.Goals as goal
 

@@ -1,4 +1,4 @@
-use Rattle.std.proofs.Common.{◌∷◌, refl, sym, ap, ◌∙◌}
+use Rattle.std.proofs.Common.{refl, sym, ap, ◌∙◌}
 use Rattle.std.specs.Map.{keys_of}
 use Rattle.indexmap.proofs.SetLemmas.{keys_insert_entry}
 use Rattle.dgc_client.specs.Lease.{after_hold}

@@ -1,8 +1,8 @@
-use Rattle.std.proofs.Common.{◌≡◌, ◌∷◌, [], ◌++◌, refl, sym, ap, ◌∙◌}
+use Rattle.std.proofs.Common.{◌∷◌, [], ◌++◌, refl, sym, ap, ◌∙◌}
 use Rattle.std.specs.Prelude.{if◌then◌else◌}
 use Rattle.std.specs.Map.{keys_of}
 use Rattle.indexmap.proofs.SetLemmas.{keys_insert_entry}
-use Rattle.dgc_client.specs.Table.{is_same, is_among}
+use Rattle.dgc_client.specs.Table.{is_same}
 use Rattle.dgc_client.proofs.TableLemmas.{puts, known-among}
 use Rattle.dgc_client.proofs.table.Clients.put_known.Goals as goal
 
