@@ -1,5 +1,5 @@
 -- A whole body: what is read of it is what it spells, and a fault is the first rule that it breaks.
-use Rattle.std.proofs.Common.{◌≡◌, ◌≢◌, ℕ, zero, suc, ◌+◌, ◌<◌, ◌≤◌, Bool, true, false, cond, eqb, List, [], ◌∷◌, ◌++◌, length, get_or, Result, Ok, Err, refl, sym, ap, subst, ◌∙◌, arith, inl, inr, ◌⊎◌}
+use Rattle.std.proofs.Common.{◌≡◌, ◌≢◌, ℕ, zero, suc, ◌+◌, ◌<◌, ◌≤◌, false, cond, List, [], ◌∷◌, ◌++◌, length, get_or, Result, Ok, Err, refl, sym, ap, subst, ◌∙◌, arith, inl, inr, ◌⊎◌}
 use Rattle.std.specs.Prelude.{◌==◌}
 use Rattle.std.proofs.lemmas.Bool.{eqb-true, ne_eqb}
 use Rattle.std.proofs.lemmas.List.{append-nil, nil_from_length}
@@ -8,9 +8,9 @@ use Rattle.net_message.specs.declared.fault.WireFault.TheVariants as faults
 use Rattle.net_frames.specs.declared.kinds.FrameKind.{FrameKind}
 use Rattle.net_message.specs.declared.message.Message.{Message}
 use Rattle.net_message.specs.Wire.{body, IsInRange}
-use Rattle.net_frames.specs.Reading.{◌>>=◌, fields_at, all_kinds, kind_from, kind_at, message_at, whole_at}
+use Rattle.net_frames.specs.Reading.{fields_at, all_kinds, kind_from, kind_at, message_at, whole_at}
 use Rattle.net_frames.specs.Stream.{IsKind, BreaksIn}
-use Rattle.net_frames.proofs.FieldLaws.{IsBytes, IsBytes-rest, bind_ok, bind_err, passed_ok, passed_err, ok_is, ok_not_err, Takes}
+use Rattle.net_frames.proofs.FieldLaws.{IsBytes, IsBytes-rest, bind_ok, bind_err, passed_ok, passed_err, ok_is, ok_not_err}
 use Rattle.net_frames.proofs.MessageLaws.{number_of, fields_takes, fields_fails, message_again}
 
 -- ---- kinds

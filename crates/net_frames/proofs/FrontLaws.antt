@@ -1,23 +1,23 @@
 -- The front of a stream: what is read of it, and that it has one reading.
-use Rattle.std.proofs.Common.{◌≡◌, ◌≢◌, ℕ, zero, suc, ◌+◌, ◌-◌, ◌^◌, ◌<◌, ◌≤◌, Bool, true, false, cond, ltb, leb, List, [], ◌∷◌, ◌++◌, length, get_or, take, drop, Option, Some, None, Result, Ok, Err, refl, sym, ap, subst, ◌∙◌, append_assoc, arith, inl, inr, ◌⊎◌}
-use Rattle.std.specs.Prelude.{nat_le, ◌&&◌}
+use Rattle.std.proofs.Common.{◌≡◌, ℕ, ◌+◌, ◌-◌, ◌<◌, ◌≤◌, false, cond, ltb, List, [], ◌∷◌, ◌++◌, length, take, drop, Option, Some, None, Result, Ok, Err, refl, sym, ap, subst, ◌∙◌, append_assoc, arith, inl, inr, ◌⊎◌}
+use Rattle.std.specs.Prelude.{nat_le}
 use Rattle.std.proofs.lemmas.Bool.{cases_lt, lt-ltb, le-ltb, lt-leb, and_left, and_right}
-use Rattle.std.proofs.lemmas.List.{take_at, drop_at, take-take, take-append-drop, length-append, length-take, length-take-le, length-drop, drop-drop, drop-take}
-use Rattle.byteorder.specs.Endian.{big_bytes, big_number}
-use Rattle.byteorder.specs.Numbers.{big_number-reads_back, length-bytes_high_first, big_from-take}
+use Rattle.std.proofs.lemmas.List.{take_at, drop_at, take-take, take-append-drop, length-append, length-take-le, length-drop, drop-drop, drop-take}
+use Rattle.byteorder.specs.Endian.{big_bytes}
+use Rattle.byteorder.specs.Numbers.{big_number-reads_back, big_from-take}
 use Rattle.net_message.specs.declared.fault.WireFault.{WireFault}
 use Rattle.net_message.specs.declared.fault.WireFault.TheVariants as faults
 use Rattle.net_message.specs.declared.fault.WireError.{WireError}
 use Rattle.net_message.specs.declared.fault.WireError.TheVariants as errors
 use Rattle.net_message.specs.declared.message.Message.{Message}
-use Rattle.net_message.specs.Wire.{number_bytes, body, frame, IsInRange, IsWire, is_within}
+use Rattle.net_message.specs.Wire.{number_bytes, body, IsInRange, IsWire, is_within}
 use Rattle.net_frames.specs.Reading.{◌>>=◌, Fails, message_at, whole_at}
 use Rattle.net_frames.specs.Stream.{told_length, IsBodyLength, IsPartial, HasBody, first_body, BreaksIn, Breaks, ReadsBody, ReadsFront, known_end}
 use Rattle.net_message.proofs.Lengths.{length-number_bytes}
 use Rattle.net_frames.proofs.FieldLaws.{IsBytes, IsBytes-drop, IsBytes-take, width4}
 use Rattle.net_message.proofs.Names.{true_within}
 use Rattle.net_frames.proofs.MessageLaws.{message_again}
-use Rattle.net_frames.proofs.BodyLaws.{whole_takes, whole_again, whole_breaks, breaks_whole}
+use Rattle.net_frames.proofs.BodyLaws.{whole_again, whole_breaks, breaks_whole}
 
 -- ---- what the reader of the front answers
 

@@ -1,9 +1,6 @@
 -- Each message is read as it is spelled, and nothing else is read as it.
-use Rattle.std.proofs.Common.{◌≡◌, ℕ, zero, suc, ◌+◌, ◌^◌, ◌<◌, ◌≤◌, Bool, true, false, cond, eqb, List, [], ◌∷◌, ◌++◌, length, Option, Some, None, Result, Ok, Err, refl, sym, ap, subst, ◌∙◌, append_assoc, arith}
+use Rattle.std.proofs.Common.{◌≡◌, ℕ, ◌<◌, Bool, true, List, [], ◌∷◌, ◌++◌, length, Option, Result, Ok, Err, refl, arith}
 use Rattle.std.specs.Prelude.{IfSome}
-use Rattle.std.proofs.lemmas.Bool.{eqb-true}
-use Rattle.std.proofs.lemmas.List.{append-nil, nil_from_length}
-use Rattle.cls_set.specs.declared.class.ClassId.{ClassId}
 use Rattle.vm_heap.specs.declared.values.ObjId.{ObjId}
 use Rattle.vm_heap.specs.declared.values.Value.{Value}
 use Rattle.net_message.specs.declared.fault.WireFault.{WireFault}
@@ -13,9 +10,9 @@ use Rattle.net_frames.specs.declared.kinds.FrameKind.TheVariants as kinds
 use Rattle.net_message.specs.declared.message.Message.{Message}
 use Rattle.net_message.specs.declared.message.Message.TheVariants.{Hello, Call, Returned, Threw, Spent, Ack, Dirty, Lease, Clean, Cleaned, Lookup}
 use Rattle.net_message.specs.Wire.{number_bytes, id_bytes, class_bytes, row_bytes, value_bytes, result_bytes, flag_bytes, name_bytes, body, FitsBytes, IsId, IsClass, IsValue, AreArguments, AreObjects, IsName, IsInRange, is_within}
-use Rattle.net_frames.specs.Reading.{◌>>=◌, shown, tested, both, byte_at, raw_at, number_at, id_at, class_at, arguments_at, result_at, objects_at, flag_at, name_at, fields_at, all_kinds, kind_from, kind_at, message_at, whole_at}
+use Rattle.net_frames.specs.Reading.{tested, both, byte_at, raw_at, number_at, id_at, class_at, arguments_at, result_at, objects_at, flag_at, name_at, fields_at, message_at}
 use Rattle.net_message.proofs.Names.{within_true, true_within}
-use Rattle.net_frames.proofs.FieldLaws.{IsBytes, IsBytes-rest, bind_ok, passed_ok, ok_is, Takes, IsField, refit, headed_takes, shown_again, shown_fails, tested_field, both_field, width8, width4, number_field, raw_field, byte_field}
+use Rattle.net_frames.proofs.FieldLaws.{IsBytes, Takes, IsField, refit, headed_takes, shown_again, shown_fails, tested_field, both_field, width8, width4, number_field, raw_field, byte_field}
 use Rattle.net_frames.proofs.ValueLaws.{id_field, class_field, arguments_field, result_field, objects_field, flag_field, name_field}
 
 -- ---- the fields of each kind

@@ -1,5 +1,5 @@
 -- Streams of frames: one frame more, one reading, and any cut.
-use Rattle.std.proofs.Common.{◌≡◌, ◌≢◌, ℕ, zero, suc, ◌+◌, ◌<◌, ◌≤◌, List, [], ◌∷◌, ◌++◌, length, take, drop, Option, Some, None, Result, Ok, Err, refl, sym, ap, subst, ◌∙◌, append_assoc, arith, inl, inr, ◌⊎◌}
+use Rattle.std.proofs.Common.{◌≡◌, ℕ, ◌+◌, ◌<◌, ◌≤◌, List, [], ◌∷◌, ◌++◌, length, take, drop, Option, Some, None, Result, Ok, Err, refl, sym, ap, subst, ◌∙◌, append_assoc, arith, inl, inr}
 use Rattle.std.proofs.lemmas.List.{append-nil, take-append-drop, get_or-append-add, length-append, length-take, length-drop, drop-drop, drop-append-le, take-append-le}
 use Rattle.std.specs.List.{flat_map}
 use Rattle.byteorder.specs.Numbers.{big_from-append}
@@ -13,7 +13,7 @@ use Rattle.net_message.specs.Wire.{number_bytes, body, frame, IsWire}
 use Rattle.net_message.proofs.Lengths.{length-number_bytes}
 use Rattle.net_frames.proofs.FieldLaws.{IsBytes, ok_not_err}
 use Rattle.net_frames.proofs.FrontLaws.{front_at, partial_front, breaks_front, wire_front}
-use Rattle.net_frames.specs.Stream.{told_length, IsBodyLength, HasBody, first_body, BreaksIn, Reads, IsPartial, Breaks, Held, Rest, Stopped, Stream, held, IsNext, IsSplit, Feeds, Refuses}
+use Rattle.net_frames.specs.Stream.{told_length, IsBodyLength, HasBody, first_body, BreaksIn, Reads, IsPartial, Breaks, Held, Rest, Stopped, Stream, IsNext, IsSplit, Feeds, Refuses}
 
 -- what is read of the rest is read of all, behind the frames so far
 abbrev pub GoesOn : List ℕ → List Message → ℕ → Type 0

@@ -1,20 +1,17 @@
 -- Values, rows and names are read as they are spelled.
-use Rattle.std.proofs.Common.{◌≡◌, ℕ, zero, suc, ◌+◌, ◌^◌, ◌<◌, ◌≤◌, ℤ, Bool, true, false, cond, ltb, Fits, List, [], ◌∷◌, ◌++◌, length, Option, Some, None, Result, Ok, Err, refl, sym, ap, subst, ◌∙◌, arith, inl, inr}
-use Rattle.std.specs.Prelude.{◌&&◌, ◌==◌, nat_le, IfSome, IsTrue, FitsSigned}
+use Rattle.std.proofs.Common.{◌≡◌, ℕ, zero, suc, ◌<◌, Bool, true, false, Fits, List, [], ◌∷◌, ◌++◌, length, Option, Some, None, Ok, Err, refl, sym, ap, subst, ◌∙◌, arith, inl, inr}
+use Rattle.std.specs.Prelude.{◌==◌, IfSome, FitsSigned}
 use Rattle.std.specs.Int.{w32, cast_signed, cast_unsigned}
-use Rattle.std.specs.List.{flat_map, list_all, AllByRecursion}
+use Rattle.std.specs.List.{AllByRecursion}
 use Rattle.std.proofs.lemmas.Int.{to_z-of_z, of_z-to_z}
 use Rattle.std.proofs.Math.Facts.{sfits_to_z, Fits-of_z}
 use Rattle.std.proofs.lemmas.List.{append-nil}
-use Rattle.cls_set.specs.declared.class.ClassId.{ClassId}
-use Rattle.vm_heap.specs.declared.values.ObjId.{ObjId}
-use Rattle.vm_heap.specs.declared.values.Ref.{Ref}
 use Rattle.vm_heap.specs.declared.values.Value.{Value}
 use Rattle.vm_heap.specs.declared.values.Value.TheVariants as values
 use Rattle.net_message.specs.declared.fault.WireFault.{WireFault}
 use Rattle.net_message.specs.declared.fault.WireFault.TheVariants as faults
-use Rattle.net_message.specs.Wire.{number_bytes, int_bytes, id_bytes, class_bytes, reference_bytes, row_bytes, value_bytes, result_row, result_bytes, flag_bytes, name_bytes, FitsBytes, IsId, IsClass, IsReference, AreInts, IsValue, AreArguments, AreObjects, IsName, is_within, is_name_byte, is_name}
-use Rattle.net_frames.specs.Reading.{◌>>=◌, shown, tested, both, items_at, byte_at, raw_at, number_at, row_at, int_at, id_at, class_at, reference_at, ints_at, tagged_at, value_at, arguments_at, counted_result_at, result_at, objects_at, flag_at, name_at}
+use Rattle.net_message.specs.Wire.{number_bytes, int_bytes, id_bytes, class_bytes, reference_bytes, row_bytes, value_bytes, result_bytes, flag_bytes, name_bytes, FitsBytes, IsId, IsClass, IsReference, AreInts, IsValue, AreArguments, AreObjects, IsName, is_within, is_name}
+use Rattle.net_frames.specs.Reading.{◌>>=◌, tested, both, byte_at, raw_at, number_at, row_at, int_at, id_at, class_at, reference_at, ints_at, tagged_at, value_at, arguments_at, counted_result_at, result_at, objects_at, flag_at, name_at}
 use Rattle.net_message.proofs.Names.{within_true, true_within, name_true, true_name}
 use Rattle.net_frames.proofs.FieldLaws.{IsBytes, IsBytes-rest, bind_ok, passed_ok, ok_is, Takes, IsField, refit, headed_takes, shown_again, shown_fails, shown_field, bind_err, tested_field, both_field, width1, width2, width4, width8, number_field, raw_field, byte_field, row_field}
 

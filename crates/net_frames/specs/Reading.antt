@@ -1,7 +1,6 @@
 -- Reading the body of a frame from left to right, with the first fault that is met.
-use Rattle.std.specs.Prelude.{◌≡◌, ℕ, zero, suc, ℤ, List, [], ◌∷◌, ◌++◌, length, take, drop, Option, Some, None, Result, Ok, Err, Bool, true, false, nat_lt, nat_le, ◌==◌, ◌&&◌, if◌then◌else◌}
+use Rattle.std.specs.Prelude.{◌≡◌, ℕ, zero, suc, ℤ, List, [], ◌∷◌, length, take, drop, Option, Some, None, Result, Ok, Err, Bool, nat_lt, ◌==◌, if◌then◌else◌}
 use Rattle.std.specs.Int.{w32, cast_signed}
-use Rattle.std.specs.List.{list_all}
 use Rattle.byteorder.specs.Endian.{big_number}
 use Rattle.cls_set.specs.declared.class.ClassId.{ClassId}
 use Rattle.vm_heap.specs.declared.values.ObjId.{ObjId}

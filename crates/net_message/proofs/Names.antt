@@ -1,6 +1,6 @@
 -- Tests of numbers and of names pass exactly what is in range.
 use Rattle.std.proofs.Common.{◌≡◌, ℕ, ◌≤◌, Bool, true, List, [], ◌∷◌, length, refl}
-use Rattle.std.specs.Prelude.{◌&&◌, nat_le, IsTrue}
+use Rattle.std.specs.Prelude.{nat_le, IsTrue}
 use Rattle.std.specs.List.{list_all, AllByRecursion}
 use Rattle.std.proofs.lemmas.Bool.{leb-true, le-leb, and_parts, and_from}
 use Rattle.net_message.specs.Wire.{IsName, is_within, is_name_byte, is_name}

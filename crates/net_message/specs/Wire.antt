@@ -1,5 +1,5 @@
 -- The wire format, version 1 (a format of this project): the spelling of each kind of frame, and the ranges of its fields.
-use Rattle.std.specs.Prelude.{◌≡◌, ℕ, ◌+◌, ◌^◌, ◌<◌, ◌≤◌, nat_le, ◌==◌, ◌&&◌, ◌||◌, IsTrue, ℤ, List, [], ◌∷◌, ◌++◌, length, Option, Some, None, IfSome, Bool, true, false, FitsSigned}
+use Rattle.std.specs.Prelude.{◌≡◌, ℕ, ◌^◌, ◌<◌, ◌≤◌, nat_le, ◌==◌, ◌&&◌, ◌||◌, IsTrue, ℤ, List, [], ◌∷◌, ◌++◌, length, Option, Some, None, IfSome, Bool, true, false, FitsSigned}
 use Rattle.std.specs.Int.{w32, cast_unsigned}
 use Rattle.std.specs.List.{flat_map, list_all, AllByRecursion}
 use Rattle.byteorder.specs.Endian.{big_bytes}

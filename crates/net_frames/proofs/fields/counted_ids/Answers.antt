@@ -1,4 +1,3 @@
-use Rattle.std.proofs.Common.{◌≡◌, ◌++◌, ◌∷◌, []}
 use Rattle.std.proofs.lemmas.Result.{err_from_is_err_and}
 use Rattle.net_frames.specs.Reading.{items_at, id_at}
 use Rattle.net_frames.proofs.Loop.{goes_on, ends, is_done}

@@ -1,6 +1,5 @@
-use Rattle.std.proofs.Common.{◌∙◌, ap, sym, arith}
+use Rattle.std.proofs.Common.{arith}
 use Rattle.std.proofs.lemmas.Result.{err_from_is_err_and}
-use Rattle.net_message.specs.Wire.{body}
 use Rattle.net_frames.proofs.BodyLaws.{whole_takes}
 use Rattle.net_frames.proofs.FrontLaws.{body_fails}
 use Rattle.net_frames.proofs.front.frame_of.Goals as goal

@@ -1,6 +1,5 @@
-use Rattle.std.proofs.Common.{arith, ◌++◌, ◌∷◌, []}
-use Rattle.net_frames.proofs.StreamLaws.{GoesOn, wire_len, one_frame_more, is_split}
-use Rattle.std.proofs.lemmas.List.{length-drop}
+use Rattle.std.proofs.Common.{arith}
+use Rattle.net_frames.proofs.StreamLaws.{wire_len, one_frame_more, is_split}
 use Rattle.net_frames.proofs.reader.split_off_frames.Goals as goal
 
 pub loop-frames-smaller : goal.loop-frames-smaller

@@ -1,4 +1,4 @@
-use Rattle.std.proofs.Common.{◌≡◌, length, sym, ap, ◌∙◌}
+use Rattle.std.proofs.Common.{length, sym, ap, ◌∙◌}
 use Rattle.net_message.specs.Wire.{body}
 use Rattle.net_message.proofs.Lengths.{length-body}
 use Rattle.net_message.proofs.frame.Frame.body_len.Goals as goal
