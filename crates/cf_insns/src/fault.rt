@@ -47,6 +47,15 @@ pub enum CodeFault {
     Memory,
 }
 
+impl Numbered for CodeFault {
+    fn number(&self) -> u8 {
+        match self {
+            CodeFault::Broken { rule, .. } => rule.number(),
+            CodeFault::Memory => 15,
+        }
+    }
+}
+
 impl From<AllocError> for CodeFault {
     ghost from_gives = { λ _ fault. fault ≡ Memory };
 

@@ -127,9 +127,12 @@ fn faults_have_names_and_numbers(rt: HostRuntime) -> Result<(), Fail> {
         (Target, 24, "Target"),
         (OutOfProfile, 25, "OutOfProfile"),
     ] {
+        let fault = CodeFault::Broken { rule, at: 0 };
         assert_eq!(rt; rule.number(), number);
-        let text = format!(in rt.alloc(); "{}", CodeFault::Broken { rule, at: 0 })?;
+        assert_eq!(rt; fault.number(), number);
+        let text = format!(in rt.alloc(); "{fault}")?;
         assert_eq!(rt; text.as_str(), name);
     }
+    assert_eq!(rt; CodeFault::Memory.number(), 15);
     Ok(())
 }
