@@ -1,7 +1,7 @@
-"""Writes a class T with `static int f(int)` of nearly so many instructions, which returns its argument.
+"""Writes a class T with `static int f(int)` of so many instructions and two more, which returns its argument.
 
-Each 128 instructions begin at a declared frame and have a branch to the next 128. Word: how many
-instructions, a multiple of 64.
+Each 100 instructions but the first begin at a declared frame and have a branch to the next 100.
+Word: how many instructions, a multiple of 100 up to 64,000.
 """
 
 import sys
@@ -26,12 +26,13 @@ def attribute(name, content):
 
 
 def main(size):
-    blocks = max(1, size // 128)
-    # iload_0; ifle to the next block; iload_0 and pop, 63 times.
-    block = b"\x1a\x9e" + u2(129) + b"\x1a\x57" * 63
+    blocks = size // 100
+    # iload_0; ifle to the next block; iload_0 and pop, 49 times.
+    block = b"\x1a\x9e" + u2(101) + b"\x1a\x57" * 49
     code = block * blocks + b"\x1a\xac"
     # Frames of the tag 251, which say the distance and change nothing.
-    frames = b"\xfb" + u2(130) + (b"\xfb" + u2(129)) * (blocks - 1)
+    distances = [102] + [101] * (blocks - 1) if blocks else []
+    frames = b"".join(b"\xfb" + u2(distance) for distance in distances)
     table = attribute(8, u2(blocks) + frames)
     body = u2(1) + u2(1) + u4(len(code)) + code + u2(0) + u2(1) + table
     pool = [

@@ -3,7 +3,7 @@
 ghost use Rattle.std.specs.Prelude.{◌≡◌};
 ghost use Rattle.cf_insns.specs.declared.fault.CodeFault.TheVariants.{Memory};
 
-use cf_pool::Numbered;
+use cf_text::Numbered;
 use std::alloc::{AllocError, AllocFailed};
 use thiserror::Error;
 

@@ -2,13 +2,13 @@
 use Rattle.std.proofs.Common.{◌≡◌, ℕ, zero, suc, ◌+◌, ◌-◌, ◌<◌, ◌≤◌, Bool, eqb, List, [], ◌∷◌, ◌++◌, Result, Ok, Err, refl, sym, ap, ◌∙◌, append_assoc, arith, rules}
 use Rattle.std.proofs.lemmas.Bool.Decides.{nat_tests}
 use Rattle.std.proofs.lemmas.List.{append-nil}
-use Rattle.cf_pool.specs.declared.fault.ReadFault.{ReadFault}
-use Rattle.cf_pool.specs.declared.fault.ReadFault.TheVariants.{Broken, Memory}
+use Rattle.cf_text.specs.declared.fault.ReadFault.{ReadFault}
+use Rattle.cf_text.specs.declared.fault.ReadFault.TheVariants.{Broken, Memory}
 use Rattle.cf_pool.specs.declared.pool.Entry.{Entry}
 use Rattle.cf_pool.specs.declared.layout.Places.{Places}
 use Rattle.cf_pool.specs.declared.layout.PlacedEntry.{PlacedEntry}
 use Rattle.cf_pool.specs.declared.layout.PoolLayout.{PoolLayout}
-use Rattle.cf_pool.specs.Reading.{◌>>=◌, Fails}
+use Rattle.cf_text.specs.Reading.{◌>>=◌, Fails}
 use Rattle.cf_pool.specs.Pools.{cell_from, cells_from}
 
 -- what was read so far, and what is still read

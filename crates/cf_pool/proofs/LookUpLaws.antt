@@ -1,17 +1,13 @@
 -- Look-ups find exactly what indices name.
-use Rattle.std.proofs.Common.{◌≡◌, ℕ, ℤ, List, Option, Some, None, Result, Ok, Err, refl, sym, ap, ◌∙◌, subst}
-use Rattle.std.specs.Prelude.{IfOk, slice_get}
+use Rattle.std.proofs.Common.{◌≡◌, ℕ, ℤ, List, Option, Some, None, refl, sym, ap, ◌∙◌, subst}
+use Rattle.std.specs.Prelude.{slice_get}
 use Rattle.cf_pool.specs.declared.pool.MemberKind.{MemberKind}
 use Rattle.cf_pool.specs.declared.pool.Entry.{Entry}
 use Rattle.cf_pool.specs.declared.pool.Entry.TheVariants.{Utf8, Integer, Class, Member, NameAndType, Other, Unusable}
-use Rattle.cf_pool.specs.declared.fault.ReadFault.{ReadFault}
-use Rattle.cf_pool.specs.declared.types.Descriptor.{Descriptor}
-use Rattle.cf_pool.specs.declared.types.Descriptor.TheVariants.{Field, Method}
-use Rattle.cf_pool.specs.declared.types.FieldType.{FieldType}
-use Rattle.cf_pool.specs.declared.types.MethodDescriptor.{MethodDescriptor}
 use Rattle.std.specs.Option.{option_and_then}
 use Rattle.cf_pool.specs.Pools.{NamedMember, NamedType, as_class, as_integer, as_member, as_name_and_type, as_utf8, class_at, integer_at, member_at, name_and_type_at, utf8_at}
-use Rattle.cf_pool.specs.LookUps.{Exactly, NamesClass, NamesInteger, NamesMember, NamesNameAndType, NamesText}
+use Rattle.cf_text.specs.Looks.{Exactly}
+use Rattle.cf_pool.specs.LookUps.{NamesClass, NamesInteger, NamesMember, NamesNameAndType, NamesText}
 
 abbrev found : {A : Type 0} → A → Option A
 found x = Some x

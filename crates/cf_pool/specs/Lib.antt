@@ -1,14 +1,4 @@
-pub mod Reading
-pub mod Numbers
-pub mod Demands
-pub mod Names
-pub mod Utf8
-pub mod Types
 pub mod Pools
 pub mod PoolRefs
-pub mod Formats
 pub mod PoolFormat
-pub mod Looks
-pub mod Descriptors
 pub mod LookUps
-pub mod Order

@@ -5,11 +5,6 @@ use Rattle.cf_pool.specs.declared.pool.Entry.{Entry}
 use Rattle.cf_pool.specs.declared.pool.Entry.TheVariants.{Utf8, Integer, Class, Member, NameAndType}
 use Rattle.cf_pool.specs.Pools.{NamedMember, NamedType}
 
--- what is found is one, and the only one; nothing is found exactly where there is none
-abbrev pub Exactly : {A : Type 0} → Option A → (A → Type 0) → Type 0
-Exactly {A} (Some x) Is = Is x × ((y : A) → Is y → y ≡ x)
-Exactly {A} None Is = (y : A) → Is y → ⊥
-
 -- the text of a Utf8 entry
 abbrev pub NamesText : List Entry → ℕ → List ℕ → Type 0
 NamesText pool index text = slice_get pool index ≡ Some (Utf8 text)

@@ -1,7 +1,7 @@
 -- The constant pool as bytes lay it out (JVMS 4.4).
 use Rattle.std.specs.Prelude.{ℕ, zero, suc, Bool, true, false, ◌==◌, not, List, [], ◌∷◌, Option, Some, None}
 use Rattle.std.specs.Int.{w32, cast_signed}
-use Rattle.cf_pool.specs.declared.fault.Rule.TheVariants as rules
+use Rattle.cf_text.specs.declared.fault.Rule.TheVariants as rules
 use Rattle.cf_pool.specs.declared.pool.MemberKind.{MemberKind}
 use Rattle.cf_pool.specs.declared.pool.Entry.{Entry}
 use Rattle.cf_pool.specs.declared.pool.Entry.TheVariants.{Utf8, Integer, Class, Member, NameAndType, Other, Unusable}
@@ -10,7 +10,7 @@ use Rattle.cf_pool.specs.declared.layout.Shape.TheVariants as shapes
 use Rattle.cf_pool.specs.declared.layout.PlacedEntry.{PlacedEntry}
 use Rattle.cf_pool.specs.declared.layout.PoolLayout.{PoolLayout}
 use Rattle.cf_pool.specs.Pools.{shape_of}
-use Rattle.cf_pool.specs.Formats.{Format, ◌>>=◌, asking, done, number_format, refused, run_format}
+use Rattle.cf_text.specs.Formats.{Format, ◌>>=◌, asking, done, number_format, refused, run_format}
 
 -- a text: its length, and so many bytes
 unfoldable pub text_format : List ℕ → ℕ → Format PlacedEntry

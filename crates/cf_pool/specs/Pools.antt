@@ -2,9 +2,9 @@
 -- of them. A pool is the list of its entries by index, from index 0 on.
 use Rattle.std.specs.Prelude.{ℕ, ℤ, zero, suc, Bool, true, false, ◌==◌, ◌+◌, not, List, [], ◌∷◌, ◌++◌, Option, Some, None, is_some, Result, Ok, Err, slice_get, if◌then◌else◌}
 use Rattle.std.specs.Option.{option_and_then, option_copied}
-use Rattle.cf_pool.specs.declared.fault.ReadFault.{ReadFault}
-use Rattle.cf_pool.specs.declared.fault.ReadFault.TheVariants.{Broken}
-use Rattle.cf_pool.specs.declared.fault.Rule.TheVariants as rules
+use Rattle.cf_text.specs.declared.fault.ReadFault.{ReadFault}
+use Rattle.cf_text.specs.declared.fault.ReadFault.TheVariants.{Broken}
+use Rattle.cf_text.specs.declared.fault.Rule.TheVariants as rules
 use Rattle.cf_pool.specs.declared.pool.MemberKind.{MemberKind}
 use Rattle.cf_pool.specs.declared.pool.MemberKind.TheVariants as kinds
 use Rattle.cf_pool.specs.declared.pool.Entry.{Entry}
@@ -14,12 +14,12 @@ use Rattle.cf_pool.specs.declared.layout.Shape.TheVariants as shapes
 use Rattle.cf_pool.specs.declared.layout.Places.{Places}
 use Rattle.cf_pool.specs.declared.layout.PlacedEntry.{PlacedEntry}
 use Rattle.cf_pool.specs.declared.layout.PoolLayout.{PoolLayout}
-use Rattle.cf_pool.specs.Reading.{◌>>=◌}
-use Rattle.cf_pool.specs.Numbers.{bytes_at, number_at, signed_at, skip_at}
-use Rattle.cf_pool.specs.Demands.{Demand, of_each, where_some}
-use Rattle.cf_pool.specs.Names.{is_class_name, is_name}
-use Rattle.cf_pool.specs.Types.{begins_with, is_field_descriptor}
-use Rattle.cf_pool.specs.Utf8.{is_modified_utf8}
+use Rattle.cf_text.specs.Reading.{◌>>=◌}
+use Rattle.cf_text.specs.Numbers.{bytes_at, number_at, signed_at, skip_at}
+use Rattle.cf_text.specs.Demands.{Demand, of_each, where_some}
+use Rattle.cf_text.specs.Names.{is_class_name, is_name}
+use Rattle.cf_text.specs.Types.{begins_with, is_field_descriptor}
+use Rattle.cf_text.specs.Utf8.{is_modified_utf8}
 
 -- ---- what an index names
 

@@ -1,34 +1,21 @@
 //! What is demanded of a constant pool once it is read (JVMS 4.4): texts are modified UTF-8, and each
 //! index names an entry of the kind that is asked.
 
-ghost use Rattle.std.specs.Prelude.{◌≡◌, [], ◌∷◌, ◌++◌, IfErr, IfOk, is_some, slice_get};
-ghost use Rattle.std.specs.Option.{option_and_then};
-ghost use Rattle.cf_pool.specs.Reading.{Gives};
-ghost use Rattle.cf_pool.specs.Demands.{verdict};
-ghost use Rattle.cf_pool.specs.Names.{is_name};
-ghost use Rattle.cf_pool.specs.Types.{is_field_descriptor};
-ghost use Rattle.cf_pool.specs.Utf8.{is_modified_utf8};
-ghost use Rattle.cf_pool.specs.Pools.{as_class, as_name_and_type, entry_demands, index_demands, indexed, is_class_entry_name, named, pool_demands, utf8_at};
+ghost use Rattle.std.specs.Prelude.{◌≡◌, IfErr, IfOk};
+ghost use Rattle.cf_text.specs.Reading.{Gives};
+ghost use Rattle.cf_text.specs.Demands.{verdict};
+ghost use Rattle.cf_text.specs.Names.{is_name};
+ghost use Rattle.cf_text.specs.Types.{is_field_descriptor};
+ghost use Rattle.cf_pool.specs.Pools.{entry_demands, index_demands, is_class_entry_name, named, pool_demands, utf8_at};
 
-use super::{
-    Entry, Places, Pool, PoolLayout, ReadFault, Rule, begins_with, is_class_name, is_modified_utf8,
-    is_name, read_field_descriptor,
+use super::{Entry, Places, Pool, PoolLayout};
+use cf_text::{
+    ReadFault, Rule, begins_with, demand, is_class_name, is_modified_utf8, is_name,
+    read_field_descriptor,
 };
 use std::alloc::Global;
 
-/// The item at a place keeps a rule, or is a fault.
-#[tactic(auto, unfolding(crate::specs::Demands::verdict))]
-pub fn demand(holds: bool, rule: Rule, at: usize) -> Result<(), ReadFault>
-    ensures { result ≡ verdict (record { at = at; rule = rule; holds = holds } ∷ []) }
-{
-    if holds {
-        Ok(())
-    } else {
-        Err(ReadFault::Broken { rule, at })
-    }
-}
-
-#[tactic(auto, unfolding(crate::specs::Types::is_field_descriptor))]
+#[tactic(auto, unfolding(cf_text::specs::Types::is_field_descriptor))]
 fn is_field_descriptor(alloc: Global, text: &[u8]) -> Result<bool, ReadFault>
     ensures value { IfOk result (λ answer. answer ≡ is_field_descriptor text.now) }
     ensures memory { IfErr result (λ fault. fault ≡ ReadFault.Memory) }
@@ -53,7 +40,7 @@ fn is_class_entry_name(alloc: Global, text: &[u8]) -> Result<bool, ReadFault>
     }
 }
 
-#[tactic(auto, unfolding(crate::specs::Demands::verdict, crate::specs::Pools::named))]
+#[tactic(auto, unfolding(cf_text::specs::Demands::verdict, crate::specs::Pools::named))]
 fn check_class_name(alloc: Global, pool: &Pool, name: u16, at: usize) -> Result<(), ReadFault>
     ensures { Gives (verdict (named at (utf8_at pool.now name) is_class_entry_name)) result }
 {
@@ -67,7 +54,7 @@ fn check_class_name(alloc: Global, pool: &Pool, name: u16, at: usize) -> Result<
     demand(holds, Rule::Utf8, at)
 }
 
-#[tactic(auto, unfolding(crate::specs::Demands::verdict, crate::specs::Pools::named))]
+#[tactic(auto, unfolding(cf_text::specs::Demands::verdict, crate::specs::Pools::named))]
 fn check_name(pool: &Pool, name: u16, at: usize) -> Result<(), ReadFault>
     ensures { result ≡ verdict (named at (utf8_at pool.now name) is_name) }
 {
@@ -81,7 +68,7 @@ fn check_name(pool: &Pool, name: u16, at: usize) -> Result<(), ReadFault>
 }
 
 impl PoolLayout {
-    #[tactic(auto, unfolding(crate::specs::Demands::verdict, crate::specs::Pools::entry_demands, crate::specs::Pools::indexed), using(crate::proofs::Verdicts::verdicts))]
+    #[tactic(auto, unfolding(cf_text::specs::Demands::verdict, crate::specs::Pools::entry_demands, crate::specs::Pools::indexed), using(cf_text::proofs::Verdicts::verdicts))]
     fn check_entry(&self, alloc: Global, entry: &Entry, places: Places) -> Result<(), ReadFault>
         ensures { Gives (verdict (entry_demands self.now.pool entry.now places)) result }
     {
@@ -113,7 +100,7 @@ impl PoolLayout {
         }
     }
 
-    #[tactic(auto, unfolding(crate::specs::Demands::verdict, crate::specs::Pools::index_demands))]
+    #[tactic(auto, unfolding(cf_text::specs::Demands::verdict, crate::specs::Pools::index_demands))]
     fn check_index(&self, alloc: Global, index: usize, places: Places) -> Result<(), ReadFault>
         ensures { Gives (verdict (index_demands self.now.pool index places)) result }
     {

@@ -1,16 +1,14 @@
 //! Reading a constant pool: its entries, and where they stand.
 
 ghost use Rattle.std.specs.Prelude.{◌≡◌, ℕ, true, List, IfOk, IfErr};
-ghost use Rattle.cf_pool.specs.Reading.{Gives};
-ghost use Rattle.cf_pool.specs.Formats.{FailsBy};
+ghost use Rattle.cf_text.specs.Reading.{Gives};
+ghost use Rattle.cf_text.specs.Formats.{FailsBy};
 ghost use Rattle.cf_pool.specs.PoolFormat.{layout_format, pool_format};
 ghost use Rattle.cf_pool.specs.Pools.{cell_from, cells_from, class_entry, entry_from, integer_entry, layout_from, member_entry, name_and_type_entry, pool_from, shape_of, shaped_entry, skipped_entry, tagged, text_entry};
 
 use super::layout::{PlacedEntry, Shape};
-use super::{
-    Entry, MemberKind, Places, Pool, PoolLayout, ReadFault, Row, Rule, read_i32, read_text,
-    read_u8, read_u16, skip,
-};
+use super::{Entry, MemberKind, Places, Pool, PoolLayout};
+use cf_text::{ReadFault, Row, Rule, read_i32, read_text, read_u8, read_u16, skip};
 use std::alloc::Global;
 
 #[tactic(auto, unfolding(crate::specs::Pools::shape_of))]

@@ -2,7 +2,8 @@
 
 ghost use Rattle.std.specs.Prelude.{◌≡◌, false};
 
-use super::{Entry, MemberKind, Pool, Row};
+use super::{Entry, MemberKind, Pool};
+use cf_text::Row;
 
 /// What stands behind a tag (JVMS 4.4, table 4.4-A).
 #[derive(Clone, Copy, Debug, PartialEq, Eq)]

@@ -2,10 +2,11 @@
 
 ghost use Rattle.std.specs.Prelude.{◌≡◌, ℕ, List, is_some, slice_get};
 ghost use Rattle.cf_pool.specs.declared.pool.Entry.{Entry};
-ghost use Rattle.cf_pool.specs.LookUps.{Exactly, NamesClass, NamesInteger, NamesMember, NamesNameAndType, NamesText};
+ghost use Rattle.cf_text.specs.Looks.{Exactly};
+ghost use Rattle.cf_pool.specs.LookUps.{NamesClass, NamesInteger, NamesMember, NamesNameAndType, NamesText};
 ghost use Rattle.cf_pool.specs.Pools.{class_at, integer_at, member_at, name_and_type_at, utf8_at};
 
-use super::Text;
+use cf_text::Text;
 use std::marker::Model;
 
 /// Which kind of member an entry refers to (JVMS 4.4.2).

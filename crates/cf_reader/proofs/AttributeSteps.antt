@@ -1,12 +1,12 @@
 -- Judging attributes one after the other, as a loop does.
 use Rattle.std.proofs.Common.{◌≡◌, ℕ, ◌+◌, ◌<◌, ◌≤◌, Bool, false, ◌||◌, List, [], ◌∷◌, ◌++◌, length, get_or, drop, add-one, drop-cons, Result, Ok, Err, refl, sym, ap, ◌∙◌}
 use Rattle.std.proofs.Math.ListN.{drop_of_length-le}
-use Rattle.cf_pool.specs.declared.fault.ReadFault.{ReadFault}
+use Rattle.cf_text.specs.declared.fault.ReadFault.{ReadFault}
 use Rattle.cf_pool.specs.declared.pool.Entry.{Entry}
-use Rattle.cf_pool.specs.Reading.{Fails}
-use Rattle.cf_pool.specs.Demands.{Demand, verdict}
-use Rattle.cf_pool.proofs.Verdicts.{verdict-goes_on, Fails-so_far}
-use Rattle.cf_reader.specs.declared.items.Attribute.{Attribute}
+use Rattle.cf_text.specs.Reading.{Fails}
+use Rattle.cf_text.specs.Demands.{Demand, verdict}
+use Rattle.cf_text.proofs.Verdicts.{verdict-goes_on, Fails-so_far}
+use Rattle.cf_layout.specs.declared.items.Attribute.{Attribute}
 use Rattle.cf_reader.specs.Checks.{attribute_demands, one_attribute}
 
 -- what stands past the end of a row of attributes

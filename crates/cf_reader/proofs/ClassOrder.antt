@@ -1,34 +1,34 @@
 -- What is demanded of a class file stands in order.
 use Rattle.std.proofs.Common.{◌≡◌, ◌+◌, ◌*◌, ◌<◌, ◌≤◌, ◌&&◌, ◌||◌, ℕ, Bool, true, false, cond, eqb, not, List, [], ◌∷◌, ◌++◌, length, take, Option, Some, None, Result, Ok, Err, codes, refl, sym, ap, ◌∙◌, subst, arith}
 use Rattle.std.specs.Prelude.{is_some, is_none}
-use Rattle.cf_pool.specs.declared.fault.Rule.{Rule}
-use Rattle.cf_pool.specs.declared.fault.Rule.TheVariants as rules
-use Rattle.cf_pool.specs.declared.fault.ReadFault.{ReadFault}
-use Rattle.cf_pool.specs.declared.fault.ReadFault.TheVariants.{Broken, Memory}
+use Rattle.cf_text.specs.declared.fault.Rule.{Rule}
+use Rattle.cf_text.specs.declared.fault.Rule.TheVariants as rules
+use Rattle.cf_text.specs.declared.fault.ReadFault.{ReadFault}
+use Rattle.cf_text.specs.declared.fault.ReadFault.TheVariants.{Broken, Memory}
 use Rattle.cf_pool.specs.declared.pool.Entry.{Entry}
-use Rattle.cf_pool.specs.declared.types.FieldType.{FieldType}
-use Rattle.cf_pool.specs.declared.types.MethodDescriptor.{MethodDescriptor}
-use Rattle.cf_pool.specs.Demands.{Demand, of_each, of_read, of_some}
-use Rattle.cf_pool.specs.Descriptors.{IsFieldType, IsMethodType, spelling}
-use Rattle.cf_pool.specs.Looks.{Tells}
-use Rattle.cf_pool.specs.Names.{is_method_name, is_name}
+use Rattle.cf_text.specs.declared.types.FieldType.{FieldType}
+use Rattle.cf_text.specs.declared.types.MethodDescriptor.{MethodDescriptor}
+use Rattle.cf_text.specs.Demands.{Demand, of_each, of_read, of_some}
+use Rattle.cf_text.specs.Descriptors.{IsFieldType, IsMethodType, spelling}
+use Rattle.cf_text.specs.Looks.{Tells}
+use Rattle.cf_text.specs.Names.{is_method_name, is_name}
 use Rattle.cf_pool.specs.Pools.{class_at, indexed, named, pool_demands, utf8_at}
-use Rattle.cf_pool.specs.Types.{begins_with, field_descriptor_of, method_descriptor_of}
-use Rattle.cf_pool.proofs.DescriptorLaws.{field_descriptor_tells, method_descriptor_tells}
+use Rattle.cf_text.specs.Types.{begins_with, field_descriptor_of, method_descriptor_of}
+use Rattle.cf_text.proofs.DescriptorLaws.{field_descriptor_tells, method_descriptor_tells}
 use Rattle.cf_reader.specs.declared.flags.TheConstants.Flags.{STATIC}
-use Rattle.cf_reader.specs.declared.items.Item.{Item}
-use Rattle.cf_reader.specs.declared.items.Attribute.{Attribute}
-use Rattle.cf_reader.specs.declared.items.Member.{Member}
-use Rattle.cf_reader.specs.declared.items.Layout.{Layout}
+use Rattle.cf_layout.specs.declared.items.Item.{Item}
+use Rattle.cf_layout.specs.declared.items.Attribute.{Attribute}
+use Rattle.cf_layout.specs.declared.items.Member.{Member}
+use Rattle.cf_layout.specs.declared.items.Layout.{Layout}
 use Rattle.cf_reader.specs.declared.attributes.Known.TheVariants as known
 use Rattle.cf_reader.specs.Rules.{class_flags_fit, has}
 use Rattle.cf_reader.specs.Profile.{class_flags_in_profile, count_in_profile, field_type_in_profile, method_name_in_profile, method_type_in_profile, super_in_profile}
-use Rattle.cf_reader.specs.FileFormat.{attributes_format, body_format, file_format, member_format}
-use Rattle.cf_reader.specs.CodeFormat.{AreInsides, Insides}
-use Rattle.cf_reader.specs.Checks.{are_few, class_flag_demands, class_index_demands, demand, demands, field_demands, field_descriptor_demands, field_flag_demands, field_known, field_type_demands, fields_demands, flag_demands, head_demands, interfaces_demands, is_initializer, method_attribute_demands, method_demands, method_descriptor_demands, method_flag_demands, method_name_demands, method_type_demands, methods_demands, plain_demands, super_demands}
-use Rattle.cf_pool.specs.Order.{Rises, number_of}
-use Rattle.cf_reader.specs.Spells.{AreDemands, LaysOut}
-use Rattle.cf_pool.proofs.Spans.{Span, key, many_span, span_append, span_high, span_low, span_rises}
+use Rattle.cf_layout.specs.FileFormat.{LaysOut, attributes_format, body_format, file_format, member_format}
+use Rattle.cf_layout.specs.CodeFormat.{AreInsides, Insides}
+use Rattle.cf_reader.specs.Checks.{are_few, class_flag_demands, class_index_demands, demand, demands, field_demands, field_demands_if, field_descriptor_demands, field_flag_demands, field_known, field_type_demands, fields_demands, flag_demands, head_demands, interfaces_demands, is_initializer, method_attribute_demands, method_demands, method_demands_if, method_descriptor_demands, method_flag_demands, method_name_demands, method_type_demands, methods_demands, occurs, plain_demands, super_demands}
+use Rattle.cf_text.specs.Order.{Rises, number_of}
+use Rattle.cf_reader.specs.Spells.{AreDemands}
+use Rattle.cf_text.proofs.Spans.{Span, key, many_span, span_append, span_high, span_low, span_rises}
 use Rattle.cf_reader.proofs.PlacedLaws.{index_span, item_placed, method_attributes_span, plain_span}
 use Rattle.cf_pool.proofs.PoolOrder.{named_span, pool_span}
 
@@ -138,30 +138,30 @@ member_span bytes at to member placed flags name descriptor attributes one two t
     (span_append (16 * at) (16 * member.flags.at + 13) (16 * member.name.at + 13) flags name a b) c) d
 
 module _ (bytes : List ℕ) (pool : List Entry) (insides : Insides) (are : AreInsides bytes insides) where
-  field_flags_span : (class : ℕ) (earlier : List Member) (member : Member) → Span (16 * member.flags.at) (16 * member.flags.at + 13) (field_flag_demands pool class earlier member)
+  field_flags_span : (class : ℕ) (new : Bool) (member : Member) → Span (16 * member.flags.at) (16 * member.flags.at + 13) (field_flag_demands pool class new member)
   unfolding field_flag_demands
-  field_flags_span class earlier member = flags_span member.flags.at _ _ _
+  field_flags_span class new member = flags_span member.flags.at _ _ _
 
-  method_flags_span : (class : ℕ) (earlier : List Member) (member : Member) → Span (16 * member.flags.at) (16 * member.flags.at + 13) (method_flag_demands pool class earlier member)
+  method_flags_span : (class : ℕ) (new : Bool) (member : Member) → Span (16 * member.flags.at) (16 * member.flags.at + 13) (method_flag_demands pool class new member)
   unfolding method_flag_demands
-  method_flags_span class earlier member = flags_span member.flags.at _ _ _
+  method_flags_span class new member = flags_span member.flags.at _ _ _
 
   field_span : (class : ℕ) (fields : List Member) (index at to : ℕ) (member : Member) → (member_format bytes at).Stands at member to
       → Span (16 * at) (16 * to) (field_demands insides pool class fields index member)
-  unfolding field_demands
+  unfolding field_demands_if
   field_span class fields index at to member stands =
       let text = utf8_at pool member.name.value in
-      member_span bytes at to member (member_placed bytes at to member stands) (field_flag_demands pool class (take index fields) member) (named member.name.at text is_name) (field_descriptor_demands pool member.descriptor)
-      (plain_demands insides pool (field_known member.flags.value) member.attributes) (field_flags_span class (take index fields) member)
+      member_span bytes at to member (member_placed bytes at to member stands) (field_flag_demands pool class (not (occurs pool (take index fields) member)) member) (named member.name.at text is_name) (field_descriptor_demands pool member.descriptor)
+      (plain_demands insides pool (field_known member.flags.value) member.attributes) (field_flags_span class (not (occurs pool (take index fields) member)) member)
       (span_high (16 * member.name.at) (16 * member.name.at + 6) (16 * member.name.at + 13) (named member.name.at text is_name) (omega arith) (named_span member.name.at text is_name))
       (field_descriptor_span pool member.descriptor) (λ from there. plain_span bytes pool insides are (field_known member.flags.value) from to member.attributes there)
 
   method_span : (class : ℕ) (methods : List Member) (index at to : ℕ) (member : Member) → (member_format bytes at).Stands at member to
       → Span (16 * at) (16 * to) (method_demands insides pool class methods index member)
-  unfolding method_demands
+  unfolding method_demands_if
   method_span class methods index at to member stands =
-      member_span bytes at to member (member_placed bytes at to member stands) (method_flag_demands pool class (take index methods) member) (method_name_demands pool member.name) (method_descriptor_demands pool member)
-      (method_attribute_demands insides pool member.attributes) (method_flags_span class (take index methods) member) (method_name_span pool member.name)
+      member_span bytes at to member (member_placed bytes at to member stands) (method_flag_demands pool class (not (occurs pool (take index methods) member)) member) (method_name_demands pool member.name) (method_descriptor_demands pool member)
+      (method_attribute_demands insides pool member.attributes) (method_flags_span class (not (occurs pool (take index methods) member)) member) (method_name_span pool member.name)
       (method_descriptor_span pool member) (λ from there. method_attributes_span bytes pool insides are from to member.attributes there)
 
 -- ---- the class

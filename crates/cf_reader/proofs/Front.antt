@@ -4,14 +4,14 @@ use Rattle.std.specs.Prelude.{IfSome}
 use Rattle.std.specs.Io.KnownBytes.{Consumes, IsAtEnd}
 use Rattle.std.proofs.lemmas.Bool.{cases_lt, lt-leb}
 use Rattle.std.proofs.lemmas.List.{length-append, length-take, take_all, take_at}
-use Rattle.cf_pool.specs.declared.fault.ReadFault.{ReadFault}
-use Rattle.cf_pool.specs.declared.fault.ReadFault.TheVariants.{Broken}
-use Rattle.cf_pool.specs.declared.fault.Rule.TheVariants.{TooLarge}
-use Rattle.cf_pool.specs.Demands.{verdict}
+use Rattle.cf_text.specs.declared.fault.ReadFault.{ReadFault}
+use Rattle.cf_text.specs.declared.fault.ReadFault.TheVariants.{Broken}
+use Rattle.cf_text.specs.declared.fault.Rule.TheVariants.{TooLarge}
+use Rattle.cf_text.specs.Demands.{verdict}
 use Rattle.cf_reader.specs.declared.class_file.ClassFile.{ClassFile}
 use Rattle.cf_reader.specs.declared.load_fault.LoadFault.{LoadFault}
 use Rattle.cf_reader.specs.Builds.{reading_of}
-use Rattle.cf_reader.specs.Layouts.{file_at, layout_of}
+use Rattle.cf_layout.specs.Layouts.{file_at, layout_of}
 use Rattle.cf_reader.specs.Loads.{GivesPiece, Loads}
 
 -- what a source gave in two steps

@@ -1,11 +1,8 @@
-pub mod Blamed
-pub mod Skims
 pub mod AttributeSteps
 pub mod Each
 pub mod Front
-pub mod FileLaws
-pub mod CodeLaws
 pub mod SaysLaws
+pub mod SeenLaws
 pub mod PlacedLaws
 pub mod ClassOrder
 pub mod SpellsLaws

@@ -2,27 +2,27 @@
 use Rattle.std.proofs.Common.{◌≡◌, ℕ, Bool, true, false, cond, List, [], ◌∷◌, length, Result, Ok, Err, ◌⊎◌, refl, sym, ap, ◌∙◌, subst, inl, inr}
 use Rattle.std.specs.Prelude.{IfOk, IfErr}
 use Rattle.std.proofs.lemmas.Bool.{false≢true}
-use Rattle.cf_pool.specs.declared.fault.Rule.{Rule}
-use Rattle.cf_pool.specs.declared.fault.ReadFault.{ReadFault}
-use Rattle.cf_pool.specs.declared.fault.ReadFault.TheVariants.{Broken, Memory}
-use Rattle.cf_pool.specs.Reading.{Gives}
-use Rattle.cf_pool.specs.Reading.{◌>>=◌ as ◌then◌}
-use Rattle.cf_pool.specs.Demands.{Demand, verdict}
-use Rattle.cf_pool.specs.Formats.{Reads}
-use Rattle.cf_pool.proofs.FormatLaws.{one_stands}
+use Rattle.cf_text.specs.declared.fault.Rule.{Rule}
+use Rattle.cf_text.specs.declared.fault.ReadFault.{ReadFault}
+use Rattle.cf_text.specs.declared.fault.ReadFault.TheVariants.{Broken, Memory}
+use Rattle.cf_text.specs.Reading.{Gives}
+use Rattle.cf_text.specs.Reading.{◌>>=◌ as ◌then◌}
+use Rattle.cf_text.specs.Demands.{Demand, verdict}
+use Rattle.cf_text.specs.Formats.{Reads}
+use Rattle.cf_text.proofs.FormatLaws.{one_stands}
 use Rattle.cf_reader.specs.declared.class_file.ClassFile.{ClassFile}
-use Rattle.cf_reader.specs.declared.items.Layout.{Layout}
+use Rattle.cf_layout.specs.declared.items.Layout.{Layout}
 use Rattle.cf_reader.specs.Builds.{class_from, reading_of}
 use Rattle.cf_reader.specs.Checks.{demands}
-use Rattle.cf_reader.specs.Layouts.{file_at, layout_of}
-use Rattle.cf_reader.specs.FileFormat.{file_format}
-use Rattle.cf_reader.specs.Spells.{AreDemands, AreInProfile, AreSound, Breaks, IsAtFault, IsInProfile, LaysOut, Spells, WayToFail, is_profile}
+use Rattle.cf_layout.specs.Layouts.{file_at, layout_of}
+use Rattle.cf_layout.specs.FileFormat.{LaysOut, file_format}
+use Rattle.cf_reader.specs.Spells.{AreDemands, AreInProfile, AreSound, Breaks, IsAtFault, IsInProfile, Spells, WayToFail, is_profile}
 use Rattle.cf_reader.specs.Spells.WayToFail.{no_layout, no_demand}
-use Rattle.cf_reader.specs.CodeFormat.{Insides}
-use Rattle.cf_reader.specs.ReadInsides.{insides_of}
+use Rattle.cf_layout.specs.CodeFormat.{Insides}
+use Rattle.cf_layout.specs.ReadInsides.{insides_of}
 use Rattle.cf_reader.specs.Says.{SaysClass}
-use Rattle.cf_reader.proofs.CodeLaws.{insides_read, one_inside}
-use Rattle.cf_reader.proofs.FileLaws.{file_reads}
+use Rattle.cf_layout.proofs.CodeLaws.{insides_read, one_inside}
+use Rattle.cf_layout.proofs.FileLaws.{file_reads}
 use Rattle.cf_reader.proofs.SaysLaws.{class_again, class_says}
 
 -- ---- verdicts

@@ -1,12 +1,12 @@
 -- The class file that a layout says, once its demands hold.
-use Rattle.std.specs.Prelude.{ℕ, ℤ, Bool, ◌-◌, List, [], ◌∷◌, take, drop, Option, Some, None, Result, Ok, Err, codes, if◌then◌else◌}
-use Rattle.cf_pool.specs.declared.fault.ReadFault.{ReadFault}
-use Rattle.cf_pool.specs.declared.fault.ReadFault.TheVariants.{Broken}
-use Rattle.cf_pool.specs.declared.fault.Rule.TheVariants as rules
+use Rattle.std.specs.Prelude.{ℕ, ℤ, Bool, List, [], ◌∷◌, Option, Some, None, Result, Ok, Err, codes, if◌then◌else◌}
+use Rattle.cf_text.specs.declared.fault.ReadFault.{ReadFault}
+use Rattle.cf_text.specs.declared.fault.ReadFault.TheVariants.{Broken}
+use Rattle.cf_text.specs.declared.fault.Rule.TheVariants as rules
 use Rattle.cf_pool.specs.declared.pool.Entry.{Entry}
-use Rattle.cf_pool.specs.Reading.{◌>>=◌}
-use Rattle.cf_pool.specs.Demands.{verdict}
-use Rattle.cf_pool.specs.Types.{field_descriptor_of, method_descriptor_of}
+use Rattle.cf_text.specs.Reading.{◌>>=◌}
+use Rattle.cf_text.specs.Demands.{verdict}
+use Rattle.cf_text.specs.Types.{field_descriptor_of, method_descriptor_of}
 use Rattle.cf_pool.specs.Pools.{class_at, integer_at, utf8_at}
 use Rattle.cf_reader.specs.declared.flags.Flags.{Flags}
 use Rattle.cf_reader.specs.declared.flags.TheConstants.Flags.{STATIC}
@@ -14,14 +14,14 @@ use Rattle.cf_reader.specs.declared.class_file.Code.{Code}
 use Rattle.cf_reader.specs.declared.class_file.Field.{Field}
 use Rattle.cf_reader.specs.declared.class_file.Method.{Method}
 use Rattle.cf_reader.specs.declared.class_file.ClassFile.{ClassFile}
-use Rattle.cf_reader.specs.declared.items.Item.{Item}
-use Rattle.cf_reader.specs.declared.items.Attribute.{Attribute}
-use Rattle.cf_reader.specs.declared.items.CodeLayout.{CodeLayout}
-use Rattle.cf_reader.specs.declared.items.Member.{Member}
-use Rattle.cf_reader.specs.declared.items.Layout.{Layout}
-use Rattle.cf_reader.specs.Layouts.{layout_of}
-use Rattle.cf_reader.specs.Codes.{code_of, constant_of}
-use Rattle.cf_reader.specs.ReadInsides.{insides_of}
+use Rattle.cf_layout.specs.declared.items.Item.{Item}
+use Rattle.cf_layout.specs.declared.items.Attribute.{Attribute}
+use Rattle.cf_layout.specs.declared.items.CodeLayout.{CodeLayout}
+use Rattle.cf_layout.specs.declared.items.Member.{Member}
+use Rattle.cf_layout.specs.declared.items.Layout.{Layout}
+use Rattle.cf_layout.specs.Layouts.{between, layout_of}
+use Rattle.cf_layout.specs.Codes.{code_of, constant_of}
+use Rattle.cf_layout.specs.ReadInsides.{insides_of}
 use Rattle.cf_reader.specs.Checks.{demands, first_named}
 use Rattle.cf_reader.specs.Rules.{has}
 
@@ -44,10 +44,6 @@ text_of pool item = needed item.at (utf8_at pool item.value)
 
 abbrev pub class_name_of : List Entry → Item → Result (List ℕ) ReadFault
 class_name_of pool item = needed item.at (class_at pool item.value)
-
--- the bytes between two places
-abbrev pub between : List ℕ → ℕ → ℕ → List ℕ
-between bytes from to = drop from (take to bytes)
 
 -- the bytes of an attribute
 abbrev pub table_in : List ℕ → Option Attribute → Option (List ℕ)

@@ -5,27 +5,27 @@
 use Rattle.std.specs.Prelude.{ℕ, Bool, true, false, ◌==◌, ◌&&◌, ◌||◌, ◌+◌, ◌*◌, nat_le, not, List, [], ◌∷◌, ◌++◌, take, Option, Some, None, is_some, is_none, Result, Ok, codes, if◌then◌else◌, sum_by}
 use Rattle.std.specs.List.{list_any}
 use Rattle.std.specs.Str.{bytes_eq}
-use Rattle.cf_pool.specs.declared.fault.ReadFault.{ReadFault}
-use Rattle.cf_pool.specs.declared.fault.Rule.{Rule}
-use Rattle.cf_pool.specs.declared.fault.Rule.TheVariants as rules
+use Rattle.cf_text.specs.declared.fault.ReadFault.{ReadFault}
+use Rattle.cf_text.specs.declared.fault.Rule.{Rule}
+use Rattle.cf_text.specs.declared.fault.Rule.TheVariants as rules
 use Rattle.cf_pool.specs.declared.pool.Entry.{Entry}
-use Rattle.cf_pool.specs.declared.types.ElementType.{ElementType}
-use Rattle.cf_pool.specs.declared.types.ElementType.TheVariants as elements
-use Rattle.cf_pool.specs.declared.types.FieldType.{FieldType}
-use Rattle.cf_pool.specs.declared.types.MethodDescriptor.{MethodDescriptor}
-use Rattle.cf_pool.specs.Reading.{◌>>=◌}
-use Rattle.cf_pool.specs.Demands.{Demand, of_each, of_read, of_some}
-use Rattle.cf_pool.specs.Names.{is_method_name, is_name}
-use Rattle.cf_pool.specs.Types.{begins_with, field_descriptor_of, method_descriptor_of}
+use Rattle.cf_text.specs.declared.types.ElementType.{ElementType}
+use Rattle.cf_text.specs.declared.types.ElementType.TheVariants as elements
+use Rattle.cf_text.specs.declared.types.FieldType.{FieldType}
+use Rattle.cf_text.specs.declared.types.MethodDescriptor.{MethodDescriptor}
+use Rattle.cf_text.specs.Reading.{◌>>=◌}
+use Rattle.cf_text.specs.Demands.{Demand, of_each, of_read, of_some}
+use Rattle.cf_text.specs.Names.{is_method_name, is_name}
+use Rattle.cf_text.specs.Types.{begins_with, field_descriptor_of, method_descriptor_of}
 use Rattle.cf_pool.specs.Pools.{class_at, indexed, integer_at, named, pool_demands, utf8_at}
 use Rattle.cf_reader.specs.declared.flags.TheConstants.Flags.{INTERFACE, STATIC}
-use Rattle.cf_reader.specs.declared.items.Item.{Item}
-use Rattle.cf_reader.specs.declared.items.Attribute.{Attribute}
-use Rattle.cf_reader.specs.declared.items.Member.{Member}
-use Rattle.cf_reader.specs.declared.items.Layout.{Layout}
+use Rattle.cf_layout.specs.declared.items.Item.{Item}
+use Rattle.cf_layout.specs.declared.items.Attribute.{Attribute}
+use Rattle.cf_layout.specs.declared.items.Member.{Member}
+use Rattle.cf_layout.specs.declared.items.Layout.{Layout}
 use Rattle.cf_reader.specs.declared.attributes.Known.{Known}
 use Rattle.cf_reader.specs.declared.attributes.Known.TheVariants as known
-use Rattle.cf_reader.specs.CodeFormat.{Insides}
+use Rattle.cf_layout.specs.CodeFormat.{Insides}
 use Rattle.cf_reader.specs.Rules.{class_flags_fit, field_flags_fit, has, method_flags_fit}
 use Rattle.cf_reader.specs.Profile.{class_flags_in_profile, count_in_profile, field_flags_in_profile, field_type_in_profile, handlers_in_profile, method_flags_in_profile, method_name_in_profile, method_type_in_profile, super_in_profile}
 
@@ -119,9 +119,9 @@ flag_demands at fit new in_profile =
 unfoldable pub is_int_text : Option (List ℕ) → Bool
 is_int_text found = text_is (codes "I") found || text_is (codes "Z") found
 
-unfoldable pub field_flag_demands : List Entry → ℕ → List Member → Member → List Demand
-field_flag_demands pool class earlier field =
-    flag_demands field.flags.at (field_flags_fit (has class INTERFACE) field.flags.value) (not (occurs pool earlier field))
+unfoldable pub field_flag_demands : List Entry → ℕ → Bool → Member → List Demand
+field_flag_demands pool class new field =
+    flag_demands field.flags.at (field_flags_fit (has class INTERFACE) field.flags.value) new
     (field_flags_in_profile (is_int_text (utf8_at pool field.descriptor.value))
     (is_some (first_named pool (codes "ConstantValue") field.attributes)) field.flags.value)
 
@@ -137,23 +137,28 @@ field_descriptor_demands pool item =
 unfoldable pub field_known : ℕ → Known
 field_known bits = if has bits STATIC then known.ConstantValue else known.Nothing
 
-unfoldable pub field_demands : Insides → List Entry → ℕ → List Member → ℕ → Member → List Demand
-field_demands insides pool class fields index field =
-    field_flag_demands pool class (take index fields) field
+-- the demands of a field, where it is told whether it is new
+unfoldable pub field_demands_if : Insides → List Entry → ℕ → Bool → Member → List Demand
+field_demands_if insides pool class new field =
+    field_flag_demands pool class new field
     ++ named field.name.at (utf8_at pool field.name.value) is_name
     ++ field_descriptor_demands pool field.descriptor
     ++ plain_demands insides pool (field_known field.flags.value) field.attributes
+
+-- the demands of a field: it is new where none of its name and descriptor stood before
+abbrev pub field_demands : Insides → List Entry → ℕ → List Member → ℕ → Member → List Demand
+field_demands insides pool class fields index field = field_demands_if insides pool class (not (occurs pool (take index fields) field)) field
 
 -- ---- methods
 
 unfoldable pub is_initializer : List Entry → Item → Bool
 is_initializer pool name = text_is (codes "<init>") (utf8_at pool name.value)
 
-unfoldable pub method_flag_demands : List Entry → ℕ → List Member → Member → List Demand
-method_flag_demands pool class earlier method =
+unfoldable pub method_flag_demands : List Entry → ℕ → Bool → Member → List Demand
+method_flag_demands pool class new method =
     flag_demands method.flags.at
     (method_flags_fit class (is_some (first_named pool (codes "Code") method.attributes)) (is_initializer pool method.name) method.flags.value)
-    (not (occurs pool earlier method)) (method_flags_in_profile class method.flags.value)
+    new (method_flags_in_profile class method.flags.value)
 
 unfoldable pub method_name_demands : List Entry → Item → List Demand
 method_name_demands pool item =
@@ -192,12 +197,17 @@ method_descriptor_demands pool method =
     ++ of_some (utf8_at pool method.descriptor.value)
     (method_type_demands method.descriptor.at (has method.flags.value STATIC) (is_initializer pool method.name))
 
-unfoldable pub method_demands : Insides → List Entry → ℕ → List Member → ℕ → Member → List Demand
-method_demands insides pool class methods index method =
-    method_flag_demands pool class (take index methods) method
+-- the demands of a method, where it is told whether it is new
+unfoldable pub method_demands_if : Insides → List Entry → ℕ → Bool → Member → List Demand
+method_demands_if insides pool class new method =
+    method_flag_demands pool class new method
     ++ method_name_demands pool method.name
     ++ method_descriptor_demands pool method
     ++ method_attribute_demands insides pool method.attributes
+
+-- the demands of a method: it is new where none of its name and descriptor stood before
+abbrev pub method_demands : Insides → List Entry → ℕ → List Member → ℕ → Member → List Demand
+method_demands insides pool class methods index method = method_demands_if insides pool class (not (occurs pool (take index methods) method)) method
 
 -- ---- the class
 

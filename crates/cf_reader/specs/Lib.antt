@@ -1,12 +1,8 @@
-pub mod Layouts
-pub mod Codes
-pub mod CodeFormat
-pub mod ReadInsides
 pub mod Rules
 pub mod Profile
 pub mod Checks
+pub mod Seen
 pub mod Builds
 pub mod Loads
-pub mod FileFormat
 pub mod Says
 pub mod Spells

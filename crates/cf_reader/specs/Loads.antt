@@ -1,9 +1,9 @@
 -- Reading a class file from a source.
 use Rattle.std.specs.Prelude.{◌≡◌, ◌≤◌, ◌<◌, ℕ, Bool, true, false, List, ◌++◌, length, Option, Result, Ok, Err}
 use Rattle.std.specs.Io.KnownBytes.{Consumes, IsAtEnd}
-use Rattle.cf_pool.specs.declared.fault.ReadFault.{ReadFault}
-use Rattle.cf_pool.specs.declared.fault.ReadFault.TheVariants.{Broken, Memory}
-use Rattle.cf_pool.specs.Reading.{Fails}
+use Rattle.cf_text.specs.declared.fault.ReadFault.{ReadFault}
+use Rattle.cf_text.specs.declared.fault.ReadFault.TheVariants.{Broken, Memory}
+use Rattle.cf_text.specs.Reading.{Fails}
 use Rattle.cf_reader.specs.declared.load_fault.LoadFault.{LoadFault}
 use Rattle.cf_reader.specs.declared.load_fault.LoadFault.TheVariants.{Read, Device}
 

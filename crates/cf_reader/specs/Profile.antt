@@ -2,10 +2,10 @@
 use Rattle.std.specs.Prelude.{ℕ, Bool, true, false, ◌==◌, ◌&&◌, ◌||◌, not, List, Option, Some, None, codes}
 use Rattle.std.specs.List.{list_all}
 use Rattle.std.specs.Str.{bytes_eq}
-use Rattle.cf_pool.specs.declared.types.ElementType.{ElementType}
-use Rattle.cf_pool.specs.declared.types.ElementType.TheVariants.{Byte, Char, Double, Float, Int, Long, Short, Boolean, Class}
-use Rattle.cf_pool.specs.declared.types.FieldType.{FieldType}
-use Rattle.cf_pool.specs.declared.types.MethodDescriptor.{MethodDescriptor}
+use Rattle.cf_text.specs.declared.types.ElementType.{ElementType}
+use Rattle.cf_text.specs.declared.types.ElementType.TheVariants.{Byte, Char, Double, Float, Int, Long, Short, Boolean, Class}
+use Rattle.cf_text.specs.declared.types.FieldType.{FieldType}
+use Rattle.cf_text.specs.declared.types.MethodDescriptor.{MethodDescriptor}
 use Rattle.cf_reader.specs.declared.flags.TheConstants.Flags.{PUBLIC, PROTECTED, STATIC, FINAL, SYNCHRONIZED, NATIVE, INTERFACE, ABSTRACT, ANNOTATION, ENUM}
 use Rattle.cf_reader.specs.Rules.{has}
 

@@ -1,18 +1,18 @@
 -- The class file that a layout says, part by part.
 use Rattle.std.specs.Prelude.{◌≡◌, ℕ, ℤ, List, [], ◌∷◌, Option, Some, None, codes}
 use Rattle.cf_pool.specs.declared.pool.Entry.{Entry}
-use Rattle.cf_pool.specs.Descriptors.{IsFieldType, IsMethodType}
+use Rattle.cf_text.specs.Descriptors.{IsFieldType, IsMethodType}
 use Rattle.cf_pool.specs.Pools.{class_at, integer_at, utf8_at}
 use Rattle.cf_reader.specs.declared.class_file.Code.{Code}
 use Rattle.cf_reader.specs.declared.class_file.Field.{Field}
 use Rattle.cf_reader.specs.declared.class_file.Method.{Method}
 use Rattle.cf_reader.specs.declared.class_file.ClassFile.{ClassFile}
-use Rattle.cf_reader.specs.declared.items.Item.{Item}
-use Rattle.cf_reader.specs.declared.items.Attribute.{Attribute}
-use Rattle.cf_reader.specs.declared.items.CodeLayout.{CodeLayout}
-use Rattle.cf_reader.specs.declared.items.Member.{Member}
-use Rattle.cf_reader.specs.declared.items.Layout.{Layout}
-use Rattle.cf_reader.specs.CodeFormat.{code_look, constant_look}
+use Rattle.cf_layout.specs.declared.items.Item.{Item}
+use Rattle.cf_layout.specs.declared.items.Attribute.{Attribute}
+use Rattle.cf_layout.specs.declared.items.CodeLayout.{CodeLayout}
+use Rattle.cf_layout.specs.declared.items.Member.{Member}
+use Rattle.cf_layout.specs.declared.items.Layout.{Layout}
+use Rattle.cf_layout.specs.CodeFormat.{code_look, constant_look}
 use Rattle.cf_reader.specs.Checks.{first_named}
 use Rattle.cf_reader.specs.Builds.{code_in, constant_attribute}
 

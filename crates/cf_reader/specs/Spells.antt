@@ -2,16 +2,16 @@
 -- at fault.
 use Rattle.std.specs.Prelude.{◌≡◌, ℕ, Bool, true, false, ◌⊎◌, List, [], ◌∷◌}
 use Rattle.std.specs.List.{AllByRecursion}
-use Rattle.cf_pool.specs.declared.fault.Rule.{Rule}
-use Rattle.cf_pool.specs.declared.fault.Rule.TheVariants as rules
-use Rattle.cf_pool.specs.declared.fault.ReadFault.{ReadFault}
-use Rattle.cf_pool.specs.declared.fault.ReadFault.TheVariants.{Broken, Memory}
-use Rattle.cf_pool.specs.Demands.{Demand}
+use Rattle.cf_text.specs.declared.fault.Rule.{Rule}
+use Rattle.cf_text.specs.declared.fault.Rule.TheVariants as rules
+use Rattle.cf_text.specs.declared.fault.ReadFault.{ReadFault}
+use Rattle.cf_text.specs.declared.fault.ReadFault.TheVariants.{Broken, Memory}
+use Rattle.cf_text.specs.Demands.{Demand}
 use Rattle.cf_reader.specs.declared.class_file.ClassFile.{ClassFile}
-use Rattle.cf_reader.specs.declared.items.Layout.{Layout}
-use Rattle.cf_reader.specs.CodeFormat.{AreInsides, Insides}
+use Rattle.cf_layout.specs.declared.items.Layout.{Layout}
+use Rattle.cf_layout.specs.CodeFormat.{AreInsides, Insides}
 use Rattle.cf_reader.specs.Checks.{demands}
-use Rattle.cf_reader.specs.FileFormat.{file_format}
+use Rattle.cf_layout.specs.FileFormat.{LaysOut, file_format}
 use Rattle.cf_reader.specs.Says.{SaysClass}
 
 -- the rule of the profile, among those of the standard
@@ -37,10 +37,6 @@ AreSound = AllByRecursion (λ d. is_profile d.rule ≡ false → d.holds ≡ tru
 
 abbrev pub AreInProfile : List Demand → Type 0
 AreInProfile = AllByRecursion (λ d. is_profile d.rule ≡ true → d.holds ≡ true)
-
--- the bytes, all of them, lay out a file
-abbrev pub LaysOut : List ℕ → Layout → Type 0
-LaysOut bytes layout = (end : ℕ) × (file_format bytes).Stands 0 layout end
 
 -- these are demanded of bytes that are laid out so
 abbrev pub AreDemands : List ℕ → Layout → List Demand → Type 0

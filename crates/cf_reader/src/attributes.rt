@@ -2,16 +2,13 @@
 
 ghost use Rattle.std.specs.Prelude.{◌≡◌, false};
 ghost use Rattle.std.specs.Prelude.{codes};
-ghost use Rattle.cf_pool.specs.Reading.{Gives};
-ghost use Rattle.cf_pool.specs.Demands.{verdict};
-ghost use Rattle.cf_reader.specs.Codes.{constant_filling, constant_of, table_of};
-ghost use Rattle.cf_reader.specs.ReadInsides.{insides_of};
+ghost use Rattle.cf_text.specs.Reading.{Gives};
+ghost use Rattle.cf_text.specs.Demands.{verdict};
+ghost use Rattle.cf_layout.specs.ReadInsides.{insides_of};
 ghost use Rattle.cf_reader.specs.Checks.{attribute_demands, code_demands, first_named, is_known, is_named, known_demands, method_attribute_demands, one_attribute, plain_demands};
 
-use super::code::{blame, check_table, read_code, up_to};
-use super::items::{Attribute, Item};
-use super::layout::read_item;
 use super::profile::handlers_in_profile;
+use cf_layout::{Attribute, check_table, read_code, read_constant};
 use cf_pool::{Pool, ReadFault, Rule, demand};
 use std::alloc::Global;
 
@@ -55,28 +52,6 @@ pub(crate) fn first_named(pool: &Pool, name: &[u8], attributes: &[Attribute]) ->
     None
 }
 
-#[tactic(auto, unfolding(crate::specs::Codes::constant_filling, cf_pool::specs::Demands::verdict))]
-fn read_constant_filling(bytes: &[u8], at: usize, end: usize) -> Result<Item, ReadFault>
-    ensures { Gives (constant_filling bytes.now at end) result }
-{
-    let (index, to) = read_item(bytes, at)?;
-    demand(to == end, Rule::AttributeLength, at)?;
-    Ok(index)
-}
-
-/// A ConstantValue's index (JVMS 4.7.2). One that does not fill its length is AttributeLength at its
-/// name index.
-#[tactic(auto, unfolding(crate::specs::Codes::constant_of), using(crate::proofs::Blamed::blames))]
-pub(crate) fn read_constant(bytes: &[u8], attribute: Attribute) -> Result<Item, ReadFault>
-    ensures { Gives (constant_of bytes.now attribute) result }
-{
-    let inside = up_to(bytes, attribute.end);
-    blame(
-        read_constant_filling(inside, attribute.body, attribute.end),
-        attribute.name.at,
-    )
-}
-
 impl Known {
     #[tactic(auto, unfolding(crate::specs::Checks::is_known))]
     fn is(self, pool: &Pool, attribute: Attribute) -> bool
@@ -89,7 +64,7 @@ impl Known {
         }
     }
 
-    #[tactic(auto, unfolding(crate::specs::Checks::known_demands, cf_pool::specs::Demands::verdict, cf_pool::specs::Pools::indexed))]
+    #[tactic(auto, unfolding(crate::specs::Checks::known_demands, cf_text::specs::Demands::verdict, cf_pool::specs::Pools::indexed))]
     fn check(self, bytes: &[u8], pool: &Pool, attribute: Attribute) -> Result<(), ReadFault>
         ensures { Gives (verdict (known_demands (insides_of bytes.now) pool.now self attribute)) result }
     {
@@ -103,7 +78,7 @@ impl Known {
         }
     }
 
-    #[tactic(auto, unfolding(crate::specs::Checks::one_attribute, cf_pool::specs::Demands::verdict, cf_pool::specs::Pools::indexed))]
+    #[tactic(auto, unfolding(crate::specs::Checks::one_attribute, cf_text::specs::Demands::verdict, cf_pool::specs::Pools::indexed))]
     fn check_one(
         self,
         bytes: &[u8],
@@ -143,7 +118,7 @@ impl Known {
     }
 }
 
-#[tactic(auto, unfolding(crate::specs::Checks::code_demands, cf_pool::specs::Demands::verdict))]
+#[tactic(auto, unfolding(crate::specs::Checks::code_demands, cf_text::specs::Demands::verdict))]
 fn check_code(
     alloc: Global,
     bytes: &[u8],
@@ -162,7 +137,7 @@ fn check_code(
     Known::StackMapTable.check_all(bytes, pool, code.attributes.as_slice())
 }
 
-#[tactic(auto, unfolding(crate::specs::Checks::one_attribute, cf_pool::specs::Demands::verdict, cf_pool::specs::Pools::indexed))]
+#[tactic(auto, unfolding(crate::specs::Checks::one_attribute, cf_text::specs::Demands::verdict, cf_pool::specs::Pools::indexed))]
 fn check_method_attribute(
     alloc: Global,
     bytes: &[u8],

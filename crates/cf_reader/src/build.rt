@@ -1,13 +1,12 @@
 //! What a layout says, once its demands hold.
 
 ghost use Rattle.std.specs.Prelude.{◌≡◌};
-ghost use Rattle.cf_pool.specs.Reading.{Gives};
-ghost use Rattle.cf_reader.specs.Builds.{between, class_from, class_name_of, code_from, code_in, constant_attribute, constant_from, each, field_from, method_from, table_in, text_of};
+ghost use Rattle.cf_text.specs.Reading.{Gives};
+ghost use Rattle.cf_reader.specs.Builds.{class_from, class_name_of, code_from, code_in, constant_attribute, constant_from, each, field_from, method_from, table_in, text_of};
 
-use super::attributes::{CODE, CONSTANT_VALUE, STACK_MAP_TABLE, first_named, read_constant};
-use super::code::{read_code, up_to};
-use super::items::{Attribute, CodeLayout, Item, Layout, Member};
+use super::attributes::{CODE, CONSTANT_VALUE, STACK_MAP_TABLE, first_named};
 use super::{ClassFile, Code, Field, Flags, Method};
+use cf_layout::{Attribute, CodeLayout, Item, Layout, Member, between, read_code, read_constant};
 use cf_pool::{Pool, ReadFault, Row, Rule, Text, read_field_descriptor, read_method_descriptor};
 use std::alloc::Global;
 
@@ -36,19 +35,6 @@ fn class_name_of(pool: &Pool, item: Item) -> Result<Text, ReadFault>
         return Err(wrong_index(item.at));
     };
     Ok(name.copy()?)
-}
-
-// The bytes between two places.
-fn between(alloc: Global, bytes: &[u8], from: usize, to: usize) -> Result<Row<u8>, ReadFault>
-    ensures { Gives (Ok (between bytes.now from to)) result }
-{
-    let front = up_to(bytes, to);
-    let part = if from < front.len() {
-        &front[from..]
-    } else {
-        &[]
-    };
-    Ok(Row::new(Vec::from_slice(alloc, part)?))
 }
 
 fn table_in(

@@ -1,21 +1,21 @@
 //! The second pass: the first demand that does not hold, in the order of bytes.
 
 ghost use Rattle.std.specs.Prelude.{◌≡◌};
-ghost use Rattle.cf_pool.specs.Reading.{Gives};
-ghost use Rattle.cf_pool.specs.Demands.{of_each, verdict};
-ghost use Rattle.cf_reader.specs.ReadInsides.{insides_of};
+ghost use Rattle.cf_text.specs.Reading.{Gives};
+ghost use Rattle.cf_text.specs.Demands.{of_each, verdict};
+ghost use Rattle.cf_layout.specs.ReadInsides.{insides_of};
 ghost use Rattle.cf_reader.specs.Checks.{class_flag_demands, class_index_demands, demands, fields_demands, head_demands, interfaces_demands, methods_demands, super_demands};
 
 use super::Flags;
 use super::attributes::Known;
-use super::items::{Item, Layout};
-use super::members::{check_fields, check_methods};
+use super::members::{check_each_field, check_each_method};
 use super::profile::{class_flags_in_profile, count_in_profile, super_in_profile};
 use super::rules::class_flags_fit;
+use cf_layout::{Item, Layout};
 use cf_pool::{Pool, ReadFault, Rule, begins_with, demand};
 use std::alloc::Global;
 
-#[tactic(auto, unfolding(crate::specs::Checks::class_flag_demands, cf_pool::specs::Demands::verdict))]
+#[tactic(auto, unfolding(crate::specs::Checks::class_flag_demands, cf_text::specs::Demands::verdict))]
 fn check_class_flags(item: Item) -> Result<(), ReadFault>
     ensures { result ≡ verdict (class_flag_demands item) }
 {
@@ -30,7 +30,7 @@ fn check_class_flags(item: Item) -> Result<(), ReadFault>
 }
 
 // An index names a class, and no array.
-#[tactic(auto, unfolding(crate::specs::Checks::class_index_demands, cf_pool::specs::Demands::verdict, cf_pool::specs::Pools::named))]
+#[tactic(auto, unfolding(crate::specs::Checks::class_index_demands, cf_text::specs::Demands::verdict, cf_pool::specs::Pools::named))]
 fn check_class_index(pool: &Pool, item: Item) -> Result<(), ReadFault>
     ensures { result ≡ verdict (class_index_demands pool.now item) }
 {
@@ -43,7 +43,7 @@ fn check_class_index(pool: &Pool, item: Item) -> Result<(), ReadFault>
     demand(!begins_with(name.as_bytes(), b'['), Rule::Utf8, item.at)
 }
 
-#[tactic(auto, unfolding(crate::specs::Checks::super_demands, crate::specs::Checks::class_index_demands, cf_pool::specs::Demands::verdict, cf_pool::specs::Pools::named))]
+#[tactic(auto, unfolding(crate::specs::Checks::super_demands, crate::specs::Checks::class_index_demands, cf_text::specs::Demands::verdict, cf_pool::specs::Pools::named))]
 fn check_super(pool: &Pool, item: Item) -> Result<(), ReadFault>
     ensures { result ≡ verdict (super_demands pool.now item) }
 {
@@ -63,65 +63,69 @@ fn check_each_interface(pool: &Pool, interfaces: &[Item]) -> Result<(), ReadFaul
     Ok(())
 }
 
-impl Layout {
-    // The constant pool, the flags, this and super.
-    #[tactic(auto, unfolding(crate::specs::Checks::head_demands), using(cf_pool::proofs::Verdicts::verdicts))]
-    fn check_head(&self, alloc: Global) -> Result<(), ReadFault>
-        ensures { Gives (verdict (head_demands self.now)) result }
-    {
-        let pool = &self.pool.pool;
-        self.pool.check(alloc)?;
-        check_class_flags(self.flags)?;
-        check_class_index(pool, self.this)?;
-        check_super(pool, self.superclass)
-    }
+// The constant pool, the flags, this and super.
+#[tactic(auto, unfolding(crate::specs::Checks::head_demands), using(cf_text::proofs::Verdicts::verdicts))]
+fn check_head(alloc: Global, layout: &Layout) -> Result<(), ReadFault>
+    ensures { Gives (verdict (head_demands layout.now)) result }
+{
+    let pool = &layout.pool.pool;
+    layout.pool.check(alloc)?;
+    check_class_flags(layout.flags)?;
+    check_class_index(pool, layout.this)?;
+    check_super(pool, layout.superclass)
+}
 
-    #[tactic(auto, unfolding(crate::specs::Checks::interfaces_demands, cf_pool::specs::Demands::verdict))]
-    fn check_interfaces(&self) -> Result<(), ReadFault>
-        ensures { Gives (verdict (interfaces_demands self.now)) result }
-    {
-        let count = self.interface_count;
-        demand(count_in_profile(count.value), Rule::OutOfProfile, count.at)?;
-        check_each_interface(&self.pool.pool, self.interfaces.as_slice())
-    }
+#[tactic(auto, unfolding(crate::specs::Checks::interfaces_demands, cf_text::specs::Demands::verdict))]
+fn check_interfaces(layout: &Layout) -> Result<(), ReadFault>
+    ensures { Gives (verdict (interfaces_demands layout.now)) result }
+{
+    let count = layout.interface_count;
+    demand(count_in_profile(count.value), Rule::OutOfProfile, count.at)?;
+    check_each_interface(&layout.pool.pool, layout.interfaces.as_slice())
+}
 
-    #[tactic(auto, unfolding(crate::specs::Checks::fields_demands, cf_pool::specs::Demands::verdict))]
-    fn check_fields(&self, alloc: Global, bytes: &[u8]) -> Result<(), ReadFault>
-        ensures { Gives (verdict (fields_demands (insides_of bytes.now) self.now)) result }
-    {
-        let count = self.field_count;
-        demand(count_in_profile(count.value), Rule::OutOfProfile, count.at)?;
-        let class = Flags {
-            bits: self.flags.value,
-        };
-        check_fields(alloc, bytes, &self.pool.pool, class, self.fields.as_slice())
-    }
+#[tactic(auto, unfolding(crate::specs::Checks::fields_demands, cf_text::specs::Demands::verdict))]
+fn check_fields(alloc: Global, bytes: &[u8], layout: &Layout) -> Result<(), ReadFault>
+    ensures { Gives (verdict (fields_demands (insides_of bytes.now) layout.now)) result }
+{
+    let count = layout.field_count;
+    demand(count_in_profile(count.value), Rule::OutOfProfile, count.at)?;
+    let class = Flags {
+        bits: layout.flags.value,
+    };
+    check_each_field(
+        alloc,
+        bytes,
+        &layout.pool.pool,
+        class,
+        layout.fields.as_slice(),
+    )
+}
 
-    #[tactic(auto, unfolding(crate::specs::Checks::methods_demands))]
-    fn check_methods(&self, alloc: Global, bytes: &[u8]) -> Result<(), ReadFault>
-        ensures { Gives (verdict (methods_demands (insides_of bytes.now) self.now)) result }
-    {
-        let class = Flags {
-            bits: self.flags.value,
-        };
-        check_methods(
-            alloc,
-            bytes,
-            &self.pool.pool,
-            class,
-            self.methods.as_slice(),
-        )
-    }
+#[tactic(auto, unfolding(crate::specs::Checks::methods_demands))]
+fn check_methods(alloc: Global, bytes: &[u8], layout: &Layout) -> Result<(), ReadFault>
+    ensures { Gives (verdict (methods_demands (insides_of bytes.now) layout.now)) result }
+{
+    let class = Flags {
+        bits: layout.flags.value,
+    };
+    check_each_method(
+        alloc,
+        bytes,
+        &layout.pool.pool,
+        class,
+        layout.methods.as_slice(),
+    )
+}
 
-    /// The first demand of this layout of these bytes that does not hold.
-    #[tactic(auto, unfolding(crate::specs::Checks::demands), using(cf_pool::proofs::Verdicts::verdicts))]
-    pub(crate) fn check(&self, alloc: Global, bytes: &[u8]) -> Result<(), ReadFault>
-        ensures { Gives (verdict (demands (insides_of bytes.now) self.now)) result }
-    {
-        self.check_head(alloc)?;
-        self.check_interfaces()?;
-        self.check_fields(alloc, bytes)?;
-        self.check_methods(alloc, bytes)?;
-        Known::Nothing.check_all(bytes, &self.pool.pool, self.attributes.as_slice())
-    }
+/// The first demand of a layout of these bytes that does not hold.
+#[tactic(auto, unfolding(crate::specs::Checks::demands), using(cf_text::proofs::Verdicts::verdicts))]
+pub(crate) fn check_layout(alloc: Global, bytes: &[u8], layout: &Layout) -> Result<(), ReadFault>
+    ensures { Gives (verdict (demands (insides_of bytes.now) layout.now)) result }
+{
+    check_head(alloc, layout)?;
+    check_interfaces(layout)?;
+    check_fields(alloc, bytes, layout)?;
+    check_methods(alloc, bytes, layout)?;
+    Known::Nothing.check_all(bytes, &layout.pool.pool, layout.attributes.as_slice())
 }

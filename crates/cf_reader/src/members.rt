@@ -1,58 +1,29 @@
 //! What is demanded of fields and methods (JVMS 4.5, 4.6).
 
-ghost use Rattle.std.specs.Prelude.{◌≡◌, ◌≤◌, length};
-ghost use Rattle.cf_pool.specs.Reading.{Gives};
-ghost use Rattle.cf_pool.specs.Demands.{of_each, verdict};
-ghost use Rattle.cf_pool.specs.Names.{is_method_name, is_name};
+ghost use Rattle.std.specs.Prelude.{◌≡◌, ◌≤◌};
+ghost use Rattle.cf_text.specs.Reading.{Gives};
+ghost use Rattle.cf_text.specs.Demands.{of_each, verdict};
+ghost use Rattle.cf_text.specs.Names.{is_method_name, is_name};
 ghost use Rattle.cf_pool.specs.Pools.{named, utf8_at};
-ghost use Rattle.cf_reader.specs.ReadInsides.{insides_of};
-ghost use Rattle.cf_reader.specs.Checks.{are_few, field_demands, field_descriptor_demands, field_flag_demands, field_known, field_type_demands, flag_demands, is_initializer, is_int_text, method_demands, method_descriptor_demands, method_flag_demands, method_name_demands, method_type_demands, occurs, same_member, same_text, words_of};
+ghost use Rattle.cf_layout.specs.ReadInsides.{insides_of};
+ghost use Rattle.cf_reader.specs.Checks.{are_few, field_demands, field_demands_if, field_descriptor_demands, field_flag_demands, field_known, field_type_demands, flag_demands, is_initializer, is_int_text, method_demands, method_demands_if, method_descriptor_demands, method_flag_demands, method_name_demands, method_type_demands, words_of};
 
 use super::Flags;
 use super::attributes::{CODE, CONSTANT_VALUE, Known, check_method_attributes, first_named};
-use super::items::{Item, Member};
 use super::profile::{
     field_flags_in_profile, field_type_in_profile, method_flags_in_profile, method_name_in_profile,
     method_type_in_profile,
 };
 use super::rules::{field_flags_fit, method_flags_fit};
+use super::seen::Seen;
+use cf_layout::{Item, Member};
 use cf_pool::{
     ElementType, FieldType, INITIALIZER, Pool, ReadFault, Rule, demand, is_method_name, is_name,
     read_field_descriptor, read_method_descriptor,
 };
 use std::alloc::Global;
 
-fn same_text(pool: &Pool, a: u16, b: u16) -> bool
-    ensures { result ≡ same_text (utf8_at pool.now a) (utf8_at pool.now b) }
-{
-    match (pool.utf8(a), pool.utf8(b)) {
-        (Some(a), Some(b)) => a.as_bytes() == b.as_bytes(),
-        _ => false,
-    }
-}
-
-#[tactic(auto, unfolding(crate::specs::Checks::same_member))]
-fn same_member(pool: &Pool, a: &Member, b: &Member) -> bool
-    ensures { result ≡ same_member pool.now a.now b.now }
-{
-    same_text(pool, a.name.value, b.name.value)
-        && same_text(pool, a.descriptor.value, b.descriptor.value)
-}
-
-// Whether a member's name and descriptor stood before.
-#[tactic(auto, unfolding(crate::specs::Checks::occurs))]
-fn occurs(pool: &Pool, earlier: &[Member], member: &Member) -> bool
-    ensures { result ≡ occurs pool.now earlier.now member.now }
-{
-    for other in earlier {
-        if same_member(pool, member, other) {
-            return true;
-        }
-    }
-    false
-}
-
-#[tactic(auto, unfolding(crate::specs::Checks::flag_demands, cf_pool::specs::Demands::verdict))]
+#[tactic(auto, unfolding(crate::specs::Checks::flag_demands, cf_text::specs::Demands::verdict))]
 fn check_flags(at: usize, fit: bool, is_new: bool, is_in_profile: bool) -> Result<(), ReadFault>
     ensures { result ≡ verdict (flag_demands at fit is_new is_in_profile) }
 {
@@ -75,10 +46,10 @@ fn is_int_text(pool: &Pool, descriptor: u16) -> bool
 fn check_field_flags(
     pool: &Pool,
     class: Flags,
-    earlier: &[Member],
+    is_new: bool,
     field: &Member,
 ) -> Result<(), ReadFault>
-    ensures { result ≡ verdict (field_flag_demands pool.now class.bits earlier.now field.now) }
+    ensures { result ≡ verdict (field_flag_demands pool.now class.bits is_new field.now) }
 {
     let flags = Flags {
         bits: field.flags.value,
@@ -86,12 +57,11 @@ fn check_field_flags(
     let has_constant = first_named(pool, CONSTANT_VALUE, field.attributes.as_slice()).is_some();
     let is_int = is_int_text(pool, field.descriptor.value);
     let fit = field_flags_fit(class.has(Flags::INTERFACE), flags);
-    let is_new = !occurs(pool, earlier, field);
     let is_in_profile = field_flags_in_profile(is_int, has_constant, flags);
     check_flags(field.flags.at, fit, is_new, is_in_profile)
 }
 
-#[tactic(auto, unfolding(cf_pool::specs::Demands::verdict, cf_pool::specs::Pools::named))]
+#[tactic(auto, unfolding(cf_text::specs::Demands::verdict, cf_pool::specs::Pools::named))]
 fn check_field_name(pool: &Pool, name: Item) -> Result<(), ReadFault>
     ensures { result ≡ verdict (named name.at (utf8_at pool.now name.value) is_name) }
 {
@@ -104,7 +74,7 @@ fn check_field_name(pool: &Pool, name: Item) -> Result<(), ReadFault>
     demand(is_name(text.as_bytes()), Rule::Utf8, name.at)
 }
 
-#[tactic(auto, unfolding(crate::specs::Checks::field_type_demands, cf_pool::specs::Demands::verdict))]
+#[tactic(auto, unfolding(crate::specs::Checks::field_type_demands, cf_text::specs::Demands::verdict))]
 fn check_field_type(alloc: Global, at: usize, text: &[u8]) -> Result<(), ReadFault>
     ensures { Gives (verdict (field_type_demands at text.now)) result }
 {
@@ -112,7 +82,7 @@ fn check_field_type(alloc: Global, at: usize, text: &[u8]) -> Result<(), ReadFau
     demand(field_type_in_profile(&kind), Rule::OutOfProfile, at)
 }
 
-#[tactic(auto, unfolding(crate::specs::Checks::field_descriptor_demands, cf_pool::specs::Demands::verdict, cf_pool::specs::Pools::indexed))]
+#[tactic(auto, unfolding(crate::specs::Checks::field_descriptor_demands, cf_text::specs::Demands::verdict, cf_pool::specs::Pools::indexed))]
 fn check_field_descriptor(alloc: Global, pool: &Pool, descriptor: Item) -> Result<(), ReadFault>
     ensures { Gives (verdict (field_descriptor_demands pool.now descriptor)) result }
 {
@@ -136,20 +106,18 @@ fn field_known(flags: Flags) -> Known
     }
 }
 
-#[tactic(auto, unfolding(crate::specs::Checks::field_demands), using(cf_pool::proofs::Verdicts::verdicts))]
+#[tactic(auto, unfolding(crate::specs::Checks::field_demands_if), using(cf_text::proofs::Verdicts::verdicts))]
 fn check_field(
     alloc: Global,
     bytes: &[u8],
     pool: &Pool,
     class: Flags,
-    fields: &[Member],
-    index: usize,
+    is_new: bool,
     field: &Member,
 ) -> Result<(), ReadFault>
-    requires { index ≤ length fields.now }
-    ensures { Gives (verdict (field_demands (insides_of bytes.now) pool.now class.bits fields.now index field.now)) result }
+    ensures { Gives (verdict (field_demands_if (insides_of bytes.now) pool.now class.bits is_new field.now)) result }
 {
-    check_field_flags(pool, class, &fields[..index], field)?;
+    check_field_flags(pool, class, is_new, field)?;
     check_field_name(pool, field.name)?;
     check_field_descriptor(alloc, pool, field.descriptor)?;
     let known = field_known(Flags {
@@ -159,7 +127,7 @@ fn check_field(
 }
 
 /// The first demand of these fields, of a class of these flags, that does not hold.
-pub(crate) fn check_fields(
+pub(crate) fn check_each_field(
     alloc: Global,
     bytes: &[u8],
     pool: &Pool,
@@ -168,8 +136,10 @@ pub(crate) fn check_fields(
 ) -> Result<(), ReadFault>
     ensures { Gives (verdict (of_each (field_demands (insides_of bytes.now) pool.now class.bits fields.now) 0 fields.now)) result }
 {
-    for (index, field) in fields.iter().enumerate() {
-        check_field(alloc, bytes, pool, class, fields, index, field)?;
+    let mut seen = Seen::new(alloc);
+    for field in fields {
+        let is_new = seen.add(pool, field)?;
+        check_field(alloc, bytes, pool, class, is_new, field)?;
     }
     Ok(())
 }
@@ -188,22 +158,21 @@ fn is_initializer(pool: &Pool, name: Item) -> bool
 fn check_method_flags(
     pool: &Pool,
     class: Flags,
-    earlier: &[Member],
+    is_new: bool,
     method: &Member,
 ) -> Result<(), ReadFault>
-    ensures { result ≡ verdict (method_flag_demands pool.now class.bits earlier.now method.now) }
+    ensures { result ≡ verdict (method_flag_demands pool.now class.bits is_new method.now) }
 {
     let flags = Flags {
         bits: method.flags.value,
     };
     let has_code = first_named(pool, CODE, method.attributes.as_slice()).is_some();
     let fit = method_flags_fit(class, has_code, is_initializer(pool, method.name), flags);
-    let is_new = !occurs(pool, earlier, method);
     let is_in_profile = method_flags_in_profile(class, flags);
     check_flags(method.flags.at, fit, is_new, is_in_profile)
 }
 
-#[tactic(auto, unfolding(crate::specs::Checks::method_name_demands, cf_pool::specs::Demands::verdict, cf_pool::specs::Pools::named))]
+#[tactic(auto, unfolding(crate::specs::Checks::method_name_demands, cf_text::specs::Demands::verdict, cf_pool::specs::Pools::named))]
 fn check_method_name(pool: &Pool, name: Item) -> Result<(), ReadFault>
     ensures { result ≡ verdict (method_name_demands pool.now name) }
 {
@@ -247,7 +216,7 @@ fn are_few(is_static: bool, parameters: &[FieldType]) -> bool
     true
 }
 
-#[tactic(auto, unfolding(crate::specs::Checks::method_type_demands, cf_pool::specs::Demands::verdict))]
+#[tactic(auto, unfolding(crate::specs::Checks::method_type_demands, cf_text::specs::Demands::verdict))]
 fn check_method_type(
     alloc: Global,
     at: usize,
@@ -264,7 +233,7 @@ fn check_method_type(
     demand(method_type_in_profile(&kind), Rule::OutOfProfile, at)
 }
 
-#[tactic(auto, unfolding(crate::specs::Checks::method_descriptor_demands, cf_pool::specs::Demands::verdict, cf_pool::specs::Pools::indexed))]
+#[tactic(auto, unfolding(crate::specs::Checks::method_descriptor_demands, cf_text::specs::Demands::verdict, cf_pool::specs::Pools::indexed))]
 fn check_method_descriptor(alloc: Global, pool: &Pool, method: &Member) -> Result<(), ReadFault>
     ensures { Gives (verdict (method_descriptor_demands pool.now method.now)) result }
 {
@@ -287,27 +256,25 @@ fn check_method_descriptor(alloc: Global, pool: &Pool, method: &Member) -> Resul
     )
 }
 
-#[tactic(auto, unfolding(crate::specs::Checks::method_demands), using(cf_pool::proofs::Verdicts::verdicts))]
+#[tactic(auto, unfolding(crate::specs::Checks::method_demands_if), using(cf_text::proofs::Verdicts::verdicts))]
 fn check_method(
     alloc: Global,
     bytes: &[u8],
     pool: &Pool,
     class: Flags,
-    methods: &[Member],
-    index: usize,
+    is_new: bool,
     method: &Member,
 ) -> Result<(), ReadFault>
-    requires { index ≤ length methods.now }
-    ensures { Gives (verdict (method_demands (insides_of bytes.now) pool.now class.bits methods.now index method.now)) result }
+    ensures { Gives (verdict (method_demands_if (insides_of bytes.now) pool.now class.bits is_new method.now)) result }
 {
-    check_method_flags(pool, class, &methods[..index], method)?;
+    check_method_flags(pool, class, is_new, method)?;
     check_method_name(pool, method.name)?;
     check_method_descriptor(alloc, pool, method)?;
     check_method_attributes(alloc, bytes, pool, method.attributes.as_slice())
 }
 
 /// The first demand of these methods, of a class of these flags, that does not hold.
-pub(crate) fn check_methods(
+pub(crate) fn check_each_method(
     alloc: Global,
     bytes: &[u8],
     pool: &Pool,
@@ -316,8 +283,10 @@ pub(crate) fn check_methods(
 ) -> Result<(), ReadFault>
     ensures { Gives (verdict (of_each (method_demands (insides_of bytes.now) pool.now class.bits methods.now) 0 methods.now)) result }
 {
-    for (index, method) in methods.iter().enumerate() {
-        check_method(alloc, bytes, pool, class, methods, index, method)?;
+    let mut seen = Seen::new(alloc);
+    for method in methods {
+        let is_new = seen.add(pool, method)?;
+        check_method(alloc, bytes, pool, class, is_new, method)?;
     }
     Ok(())
 }

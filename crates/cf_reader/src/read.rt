@@ -1,16 +1,18 @@
 //! Reading a class file from its bytes.
 
 ghost use Rattle.std.specs.Prelude.{◌≡◌, ℕ, List, IfOk, IfErr};
-ghost use Rattle.cf_pool.specs.Reading.{Gives};
-ghost use Rattle.cf_reader.specs.declared.items.Layout.{Layout};
+ghost use Rattle.cf_text.specs.Reading.{Gives};
+ghost use Rattle.cf_layout.specs.declared.items.Layout.{Layout};
+ghost use Rattle.cf_layout.specs.FileFormat.{LaysOut};
 ghost use Rattle.cf_reader.specs.Builds.{reading_of};
-ghost use Rattle.cf_pool.specs.Demands.{Demand};
-ghost use Rattle.cf_pool.specs.Order.{Rises};
-ghost use Rattle.cf_reader.specs.Spells.{AreDemands, IsAtFault, IsInProfile, LaysOut, Spells};
+ghost use Rattle.cf_text.specs.Demands.{Demand};
+ghost use Rattle.cf_text.specs.Order.{Rises};
+ghost use Rattle.cf_reader.specs.Spells.{AreDemands, IsAtFault, IsInProfile, Spells};
 
 use super::ClassFile;
 use super::build::class_from;
-use super::layout::layout_of;
+use super::check::check_layout;
+use cf_layout::read_layout;
 use cf_pool::ReadFault;
 use std::alloc::Global;
 
@@ -42,8 +44,8 @@ pub fn read_class(alloc: Global, bytes: &[u8]) -> Result<ClassFile, ReadFault>
 fn reading_of(alloc: Global, bytes: &[u8]) -> Result<ClassFile, ReadFault>
     ensures { Gives (reading_of bytes.now) result }
 {
-    let layout = layout_of(alloc, bytes)?;
-    layout.check(alloc, bytes)?;
+    let layout = read_layout(alloc, bytes)?;
+    check_layout(alloc, bytes, &layout)?;
     class_from(alloc, bytes, layout)
 }
 

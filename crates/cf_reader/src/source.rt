@@ -6,9 +6,9 @@ ghost use Rattle.cf_reader.specs.Builds.{reading_of};
 ghost use Rattle.cf_reader.specs.Loads.{GivesPiece, IsWant, Loads, LoadsPassed};
 
 use super::ClassFile;
-use super::layout::MAX_LEN;
 use super::load_fault::LoadFault;
 use super::read::read_class;
+use cf_layout::MAX_LEN;
 use cf_pool::ReadFault;
 use dev_io::Source;
 use std::alloc::Global;

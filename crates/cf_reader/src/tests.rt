@@ -73,30 +73,6 @@ fn a_class_is_read(rt: HostRuntime) -> Result<(), Fail> {
 }
 
 #[test]
-fn every_beginning_is_cut(rt: HostRuntime) -> Result<(), Fail> {
-    for end in 0..SUM.len() {
-        let fault = read_class(rt.alloc(), part(0, end)).err();
-        let is_cut = matches!(
-            fault,
-            Some(ReadFault::Broken {
-                rule: Rule::Truncated,
-                ..
-            })
-        );
-        assert!(rt; is_cut, "at {end}");
-    }
-    for (end, at) in [(0, 0), (3, 0), (9, 8), (143, 142)] {
-        let beginning = altered(rt.alloc(), &[])?;
-        let (beginning, _) = beginning.split_at(end.min(beginning.len()));
-        assert_eq!(rt;
-            read_class(rt.alloc(), beginning).err(),
-            broken(Rule::Truncated, at)
-        );
-    }
-    Ok(())
-}
-
-#[test]
 fn an_altered_byte_is_named(rt: HostRuntime) -> Result<(), Fail> {
     for (place, value, rule, at) in [
         (0, 0x00, Rule::Magic, 0),

@@ -170,6 +170,12 @@ module _ (cs classes : List Class) (class : ClassId) (c : Class) (f : ℕ) (item
       let below = number_below cs class.0 c place within (sym here) own in
       omega (arith, below, start, all, few)
 
+  pub method_within : (place count : ℕ) → place < length items → count ≡ length (declared_from 0 cs) → f + place < count
+  method_within place count small all =
+      let own : place < length c.file.methods = subst (λ ms. place < length ms) methods small in
+      let below = number_below cs class.0 c place within (sym here) own in
+      omega (arith, below, start, all)
+
 pub zip_length : (ds : List Declared) (ms : List LinkedMethod) → AllZip IsLinked ds ms → length ds ≡ length ms
 zip_length [] [] all = refl
 zip_length [] (m ∷ ms) all = absurd all

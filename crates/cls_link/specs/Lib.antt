@@ -1,3 +1,5 @@
 pub mod Links
 pub mod Numbers
+pub mod Searches
+pub mod Selections
 pub mod Targets

@@ -1,5 +1,5 @@
 //! Linking (JVMS 5.4): the instructions of each method with their branch targets and references
-//! resolved before anything runs.
+//! resolved before anything runs, and the look-ups of members by name and descriptor.
 #![tactic(auto)]
 
 pub use cf_insns::{BinaryOperator, CodeRule, Condition, StackOperation, UnaryOperator, ValueKind};
@@ -8,10 +8,13 @@ pub use cls_set::{
     MethodDescriptor, Numbered, Pool, Row, SetFault, SetRule, Text,
 };
 pub use fault::{LinkFault, LinkRule};
-pub use linked::{LinkedCode, LinkedInsn, LinkedMethod, MethodId};
+pub use linked::{LinkedCode, LinkedInsn, LinkedMethod, MethodId, Selection};
 pub use links::{Linked, link};
 
 mod fault;
 mod linked;
 mod linking;
 mod links;
+mod methods;
+#[cfg(test)]
+mod tests;

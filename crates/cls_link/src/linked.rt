@@ -7,6 +7,18 @@ use cls_set::{ClassId, Row};
 #[derive(Clone, Copy, Debug, PartialEq, Eq)]
 pub struct MethodId(pub u32);
 
+/// The method that a call runs (JVMS 5.4.6).
+#[derive(Clone, Copy, Debug, PartialEq, Eq)]
+pub enum Selection {
+    /// One with code.
+    Runs(MethodId),
+    /// An abstract one: AbstractMethodError is thrown, or before it the error of a method that is
+    /// not public.
+    Abstract(MethodId),
+    /// There is none: AbstractMethodError is thrown.
+    Absent,
+}
+
 /// An instruction whose branch target is an index into the method's list of instructions.
 #[derive(Clone, Copy, Debug, PartialEq, Eq)]
 pub enum LinkedInsn {

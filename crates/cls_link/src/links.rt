@@ -3,9 +3,11 @@
 ghost use Rattle.std.specs.Prelude.{◌≡◌, ◌<◌, ◌&&◌, IfOk, IfErr, IfSome, bytes_eq, length};
 ghost use Rattle.cls_link.specs.Links.{declared_methods, AreLinks, IsLinkFault};
 ghost use Rattle.cls_link.specs.Numbers.{place_from};
+ghost use Rattle.cls_link.specs.Selections as selections;
 
 use super::linking::link_class;
-use super::{LinkFault, LinkedMethod, MethodId};
+use super::methods::{in_interfaces, in_superclasses, selected};
+use super::{LinkFault, LinkedMethod, MethodId, Selection};
 use cls_set::{ClassId, ClassSet, Method};
 use std::alloc::Global;
 use std::marker::Model;
@@ -33,8 +35,9 @@ impl Model for Linked {
 }
 
 impl Linked {
-    ghost use Rattle.std.specs.Prelude.{◌≡◌, ◌<◌, Some, length, slice_get};
+    ghost use Rattle.std.specs.Prelude.{◌≡◌, ◌<◌, Some, IfSome, length, slice_get};
     ghost use Rattle.cls_link.specs.Links.{AreLinks, method_at, number_of};
+    ghost use Rattle.cls_link.specs.Selections.{IsSelection, ResolvesMethod, Selects};
 
     /// How many methods it has.
     pub fn len(&self) -> usize
@@ -51,11 +54,17 @@ impl Linked {
         &self.set
     }
 
-    /// The number of the method that a class declares with this name and descriptor: `None` where it
-    /// declares none.
-    pub fn method(&self, class: ClassId, name: &[u8], descriptor: &[u8]) -> Option<MethodId>
+    /// The number of the method that a class itself declares with this name and descriptor: `None`
+    /// where it declares none.
+    pub fn declared_method(
+        &self,
+        class: ClassId,
+        name: &[u8],
+        descriptor: &[u8],
+    ) -> Option<MethodId>
         requires { class.0 < length self.now.classes }
-        ensures { result ≡ number_of self.now.classes class name.now descriptor.now }
+        ensures number { result ≡ number_of self.now.classes class name.now descriptor.now }
+        ensures within { IfSome result (λ id. id.0 < length self.now.methods) }
     {
         let first = self.first[usize::from(class.0)];
         let methods = self.set.class(class).file.methods.as_slice();
@@ -65,6 +74,65 @@ impl Linked {
         }
     }
 
+    /// The number of the method that a name and a descriptor mean in a class or an interface (JVMS
+    /// 5.4.3.3, 5.4.3.4): that of the class or its first superclass that declares one, else that of the
+    /// first of its superinterfaces, depth first; an `<init>` is that of the class alone. `None` where
+    /// none of these declares one. Access is not looked at.
+    pub fn method(&self, class: ClassId, name: &[u8], descriptor: &[u8]) -> Option<MethodId>
+        requires { class.0 < length self.now.classes }
+        ensures resolved { ResolvesMethod self.now.classes class name.now descriptor.now result }
+        ensures within { IfSome result (λ id. id.0 < length self.now.methods) }
+    {
+        if is_initializer(name) {
+            return self.declared_method(class, name, descriptor);
+        }
+        if self.set.class(class).is_interface() {
+            return in_interfaces(self, class, name, descriptor);
+        }
+        match in_superclasses(self, class, name, descriptor) {
+            Some(method) => Some(method),
+            None => in_interfaces(self, class, name, descriptor),
+        }
+    }
+
+    /// The method that a call of a resolved method runs (JVMS 5.4.6): the first instance method of its
+    /// name and descriptor from this class up its superclasses, a private one too. The class is that of
+    /// the receiver, or for invokespecial that with which its rule begins (JVMS 6.5).
+    pub fn select(&self, class: ClassId, method: MethodId) -> Selection
+        requires class { class.0 < length self.now.classes }
+        requires method { method.0 < length self.now.methods }
+        ensures { Selects self.now.classes class method result }
+    {
+        let resolved = self.declaration(method);
+        let name = resolved.name.as_bytes();
+        match selected(self, class, name, resolved.descriptor.as_bytes()) {
+            Some(method) => self.selection(method),
+            None => Selection::Absent,
+        }
+    }
+
+    // What a call that comes to this method runs.
+    fn selection(&self, method: MethodId) -> Selection
+        requires { method.0 < length self.now.methods }
+        ensures { IsSelection self.now.classes (Some method) result }
+    {
+        match &self.declaration(method).code {
+            Some(_) => Selection::Runs(method),
+            None => Selection::Abstract(method),
+        }
+    }
+
+    // The method with this number, as declared.
+    pub(crate) fn declaration(&self, method: MethodId) -> &Method
+        requires { method.0 < length self.now.methods }
+        ensures declared { method_at self.now.classes method ≡ Some result.now }
+        ensures links { AreLinks self.now }
+    {
+        let entry = &self.methods[method.0 as usize];
+        let class = self.set.class(entry.class);
+        &class.file.methods.as_slice()[usize::from(entry.place)]
+    }
+
     /// The method with this number, linked.
     pub fn linked_method(&self, method: MethodId) -> &LinkedMethod
         requires { method.0 < length self.now.methods }
@@ -72,6 +140,12 @@ impl Linked {
     {
         &self.methods[method.0 as usize]
     }
+}
+
+fn is_initializer(name: &[u8]) -> bool
+    ensures { result ≡ selections.is_initializer name.now }
+{
+    name == b"<init>".as_slice()
 }
 
 fn is_named(method: &Method, name: &[u8], descriptor: &[u8]) -> bool

@@ -9,17 +9,23 @@ use Rattle.cf_reader.specs.declared.class_file.ClassFile.{ClassFile}
 use Rattle.cls_set.specs.declared.class.Class.{Class}
 use Rattle.cls_set.specs.declared.fault.SetFault.{SetFault}
 use Rattle.cls_set.specs.declared.fault.SetFault.TheVariants.{Broken, Memory}
-use Rattle.cls_set.specs.declared.fault.SetRule.TheVariants.{Duplicate, AbsentClass, Cycle}
+use Rattle.cls_set.specs.declared.fault.SetRule.TheVariants.{Duplicate, AbsentClass, Cycle, TooMany}
 use Rattle.cls_set.specs.declared.members.Member.{Member}
 use Rattle.cls_set.specs.BuiltIn.{built_ins, built_in_files, file_of}
-use Rattle.cls_set.specs.Building.{ranked_from, kept, origins_of, IsAbsentFault, IsCycleFault, IsDuplicateFault}
+use Rattle.cls_set.specs.Building.{ranked_from, kept, origins_of, IsAbsentFault, IsCycleFault, IsDuplicateFault, IsFaultOf}
 use Rattle.cls_set.specs.Classes.{name_cmp, names, number_from, number_of}
 use Rattle.cls_set.specs.Members.{classes_of, AreMembers, IsRanked}
-use Rattle.cls_set.specs.Sets.{Origin, origin, origins, origin_names, HasClasses, IsResolved, IsFirstDuplicate, IsSetFault, IsTooMany, IsWithoutDuplicates}
-use Rattle.cls_set.specs.Supers.{IsSuperFault}
+use Rattle.cls_set.specs.Sets.{Origin, origin, origins, origin_names, HasClasses, HasAbsent, IsResolved, IsFirstCycle, IsFirstDuplicate, IsSetFault, IsTooMany, IsWithoutAbsent, IsWithoutCycles, IsWithoutDuplicates}
+use Rattle.cls_set.specs.Subtypes.{IsDirectSupertype}
+use Rattle.cls_set.specs.Walks.{IsFirstOwn}
+use Rattle.std.proofs.lemmas.Option.{slice_get-map}
+use Rattle.cls_set.proofs.Absent.{cycle_fault}
+use Rattle.cls_set.proofs.Cycles.{first_cycle, more_named, none_absent, none_own}
 use Rattle.cls_set.proofs.Gathered.{length_ranked}
-use Rattle.cls_set.proofs.Resolved.{names_kept, length_kept}
+use Rattle.cls_set.proofs.Resolved.{names_kept, length_kept, origins_kept}
 use Rattle.cls_set.proofs.Sorting.{matches, count_strict}
+use Rattle.cls_set.proofs.Hierarchy.{class_of_read, rank_of}
+use Rattle.cls_set.proofs.Supertypes.{ranks}
 
 abbrev pub origin_of : Member → Origin
 origin_of m = origin m.class
@@ -32,7 +38,7 @@ names_from_origins : (members : List Member) → names (classes_of members) ≡ 
 names_from_origins [] = refl
 names_from_origins (m ∷ ms) = ap (λ ns. m.class.file.name ∷ ns) (names_from_origins ms)
 
-origins_of_classes : (members : List Member) → map origin (classes_of members) ≡ map origin_of members
+pub origins_of_classes : (members : List Member) → map origin (classes_of members) ≡ map origin_of members
 origins_of_classes [] = refl
 origins_of_classes (m ∷ ms) = ap (λ os. origin m.class ∷ os) (origins_of_classes ms)
 
@@ -40,21 +46,14 @@ origins_from_kept : (members : List Member) → map origin_of members ≡ map (�
 origins_from_kept [] = refl
 origins_from_kept (m ∷ ms) = ap (λ os. origin m.class ∷ os) (origins_from_kept ms)
 
-pub absent_fault : (files : List ClassFile) (ns : List (List ℕ)) (classes : List Origin) (fault : SetFault) → IsAbsentFault ns classes fault → IsSetFault files fault
-absent_fault files ns classes (Broken AbsentClass name) h = tt
-absent_fault files ns classes Memory h = tt
-absent_fault files ns classes (Broken _ name) h = absurd h
-
-pub cycle_fault : (files : List ClassFile) (classes : List Origin) (fault : SetFault) → IsCycleFault classes fault → IsSetFault files fault
-cycle_fault files classes (Broken Cycle name) h = tt
-cycle_fault files classes Memory h = tt
-cycle_fault files classes (Broken _ name) h = absurd h
-
--- what is a fault by another rule
-pub no_super_fault : (files : List ClassFile) (ns : List (List ℕ)) (fault : SetFault) → IsDuplicateFault ns fault → IsSuperFault files fault
-no_super_fault files ns (Broken Duplicate name) h = tt
-no_super_fault files ns Memory h = tt
-no_super_fault files ns (Broken _ name) h = absurd h
+-- the first class on a cycle, named
+pub cycle_named : (old new : List Member) (k : ℕ) (m : Member) (e : SetFault) → classes_of new ≡ classes_of old → IsStrictlySortedBy name_cmp (names (classes_of old)) → All (IsResolved (names (classes_of old))) (classes_of old) → IsFirstOwn (classes_of old) k → m ≡ get_or new k m → IsFaultOf Cycle m.class.file.name e → IsCycleFault (origins_of old) e
+cycle_named old new k m e same ordered resolved own is fault =
+    let name = m.class.file.name in
+    let within : k < length new = subst (λ n. k < n) (length-map new (λ m. m.class)) (subst (λ (cs : List Class). k < length cs) (sym same) own.within) in
+    let there : slice_get (classes_of new) k ≡ Some m.class = class_of_read new m k k refl within is in
+    let called : slice_get (names (classes_of old)) k ≡ Some name = subst (λ cs. slice_get (names cs) k ≡ Some name) same (slice_get-map (λ (c : Class). c.file.name) (classes_of new) k ∙ ap (option_map (λ (c : Class). c.file.name)) there) in
+    cycle_fault (origins_of old) name e (subst (λ os. IsFirstCycle os name) (origins_of_classes old) (first_cycle (classes_of old) ordered resolved k name called own)) fault
 
 length_built_ins : length built_ins ≡ 29
 unfolding built_ins
@@ -111,68 +110,136 @@ module _ (files : List ClassFile) (members : List Member) (all : IsPermutation (
   duplicate_fault Memory h = tt
   duplicate_fault (Broken _ name) h = absurd h
 
-  pub absent_held : (fault : SetFault) → IsAbsentFault (names (classes_of members)) (origins_of members) fault → IsSuperFault files fault
-  absent_held (Broken AbsentClass name) h =
-      record {
-        class = h.class;
-        stands = Contains-permutation (map origin_of members) (origins files) h.class (IsPermutation-sym (origins files) (map origin_of members) origins_held) h.stands;
-        named = h.named;
-        absent = record {
-          super = h.absent.super;
-          declared = h.absent.declared;
-          absent = λ among. h.absent.absent (Contains-permutation (origin_names files) (names (classes_of members)) h.absent.super names_held among);
-        };
-      }
-  absent_held Memory h = tt
-  absent_held (Broken _ name) h = absurd h
-
-  pub cycle_held : (fault : SetFault) → IsCycleFault (origins_of members) fault → IsSuperFault files fault
-  cycle_held (Broken Cycle name) h =
-      record {
-        class = h.class;
-        stands = Contains-permutation (map origin_of members) (origins files) h.class (IsPermutation-sym (origins files) (map origin_of members) origins_held) h.stands;
-        named = h.named;
-        own = h.own;
-      }
-  cycle_held Memory h = tt
-  cycle_held (Broken _ name) h = absurd h
-
   pub distinct : IsStrictlySortedBy name_cmp (names (classes_of members)) → IsWithoutDuplicates (origin_names files)
   distinct ordered name twice =
       let once = count_strict name (names (classes_of members)) ordered in
       let same = same_count name in
       absurd (omega (arith, once, same, twice))
 
+  all_long : length members ≡ length (origins files)
+  all_long = length_permutation (ranked_from 0 (origins files)) members all ∙ length_ranked 0 (origins files)
+
   pub few_held : length files ≤ 1 → length members ≤ 4096
   few_held few =
-      let whole = length_permutation (ranked_from 0 (origins files)) members all in
-      let start = length_ranked 0 (origins files) in
+      let whole = all_long in
       let both = length_origins files in
-      omega (arith, whole, start, both)
+      omega (arith, whole, both)
 
-  pub too_many : IsStrictlySortedBy name_cmp (names (classes_of members)) → (given : List ClassFile) → given ≡ files → (last : Option (List ℕ)) (name : List ℕ) → last ≡ Some name → OnSome last (1 < length given) → IfSome last (λ n. option_map (λ (file : ClassFile). file.name) (slice_get given (length given - 1)) ≡ Some n) → IsTooMany files name
-  too_many ordered given same last name is many end =
+  forth : (o : Origin) → Contains (origins files) o → Contains (origins_of members) o
+  forth o among = Contains-permutation (origins files) (origins_of members) o origins_held among
+
+  back : (o : Origin) → Contains (origins_of members) o → Contains (origins files) o
+  back o among = Contains-permutation (origins_of members) (origins files) o (IsPermutation-sym (origins files) (origins_of members) origins_held) among
+
+  absent_out : (file : ClassFile) → HasAbsent (names (classes_of members)) file → HasAbsent (origin_names files) file
+  absent_out file h = record { super = h.super; declared = h.declared; absent = λ among. h.absent (Contains-permutation (origin_names files) (names (classes_of members)) h.super names_held among) }
+
+  absent_in : (file : ClassFile) → HasAbsent (origin_names files) file → HasAbsent (names (classes_of members)) file
+  absent_in file h =
       record {
-        distinct = distinct ordered;
-        many = subst (λ fs. 1 < length fs) same (subst (λ o. OnSome o (1 < length given)) is many);
-        last = subst (λ (fs : List ClassFile). option_map (λ file. file.name) (slice_get fs (length fs - 1)) ≡ Some name) same (subst (λ o. IfSome o (λ n. option_map (λ (file : ClassFile). file.name) (slice_get given (length given - 1)) ≡ Some n)) is end);
+        super = h.super;
+        declared = h.declared;
+        absent = λ among. h.absent (Contains-permutation (names (classes_of members)) (origin_names files) h.super (IsPermutation-sym (origin_names files) (names (classes_of members)) names_held) among);
       }
 
+  pub absent_fault : IsStrictlySortedBy name_cmp (names (classes_of members)) → (fault : SetFault) → IsAbsentFault (names (classes_of members)) (origins_of members) fault → IsSetFault files fault
+  absent_fault ordered (Broken AbsentClass name) h =
+      record {
+        distinct = distinct ordered;
+        absent = record {
+          class = h.class;
+          stands = back h.class h.stands;
+          named = h.named;
+          absent = absent_out h.class.0 h.absent;
+          first = λ other among less a. h.first other (forth other among) less (absent_in other.0 a);
+        };
+      }
+  absent_fault ordered Memory h = tt
+  absent_fault ordered (Broken _ name) h = absurd h
+
+  -- the last file's name, where there are more than one
+  module _ (given : List ClassFile) (is_given : given ≡ files) (last : Option (List ℕ)) (name : List ℕ) (is : last ≡ Some name) (many : OnSome last (1 < length given)) (end : IfSome last (λ n. option_map (λ (file : ClassFile). file.name) (slice_get given (length given - 1)) ≡ Some n)) where
+    too_many : IsWithoutDuplicates (origin_names files) → (length (origins files) ≤ 4096 → IsWithoutAbsent (origin_names files) (origins files)) → (length (origins files) ≤ 4096 → IsWithoutCycles (origins files)) → IsTooMany files name
+    too_many d complete acyclic =
+        record {
+          distinct = d;
+          complete = complete;
+          acyclic = acyclic;
+          many = subst (λ fs. 1 < length fs) is_given (subst (λ o. OnSome o (1 < length given)) is many);
+          last = subst (λ (fs : List ClassFile). option_map (λ file. file.name) (slice_get fs (length fs - 1)) ≡ Some name) is_given (subst (λ o. IfSome o (λ n. option_map (λ (file : ClassFile). file.name) (slice_get given (length given - 1)) ≡ Some n)) is end);
+        }
+
+    many_fault : (fault : SetFault) → IsTooMany files name → IsFaultOf TooMany name fault → IsSetFault files fault
+    many_fault (Broken rule n) t h = subst (λ r. IsSetFault files (Broken r n)) (sym h.0) (subst (IsTooMany files) (sym h.1) t)
+    many_fault Memory t h = tt
+
+    -- more than can be numbered
+    pub unnumbered : IsStrictlySortedBy name_cmp (names (classes_of members)) → (fault : SetFault) → 4096 < length members → IsFaultOf TooMany name fault → IsSetFault files fault
+    unnumbered ordered fault over h =
+        let whole = all_long in
+        many_fault fault (too_many (distinct ordered) (λ few. absurd (omega (arith, few, whole, over))) (λ few. absurd (omega (arith, few, whole, over)))) h
+
+    -- more than one
+    pub numbered : IsWithoutDuplicates (origin_names files) → IsWithoutAbsent (origin_names files) (origins files) → IsWithoutCycles (origins files) → (fault : SetFault) → IsFaultOf TooMany name fault → IsSetFault files fault
+    numbered d complete acyclic fault h = many_fault fault (too_many d (λ _. complete) (λ _. acyclic)) h
+
   -- the members once they are resolved
-  module _ (resolved : List Member) (same : map kept resolved ≡ map kept members) where
+  module _ (resolved : List Member) (same : map kept resolved ≡ map kept members) (ordered : IsStrictlySortedBy name_cmp (names (classes_of members))) (found : All (λ m. IsResolved (names (classes_of members)) m.class) resolved) where
     pub has_classes : HasClasses files (classes_of resolved)
     has_classes =
         subst (IsPermutation (origins files)) (sym (origins_of_classes resolved ∙ (origins_from_kept resolved ∙ (ap (map (λ (k : Origin × ℕ). k.0)) same ∙ sym (origins_from_kept members))))) origins_held
 
-    pub are_members : IsStrictlySortedBy name_cmp (names (classes_of members)) → length files ≤ 1 → All (λ m. IsResolved (names (classes_of members)) m.class) resolved → All (IsRanked resolved) resolved → AreMembers resolved
-    are_members ordered few found ranked =
-        let ns = names_kept resolved members same in
+    pub ordered_kept : IsStrictlySortedBy name_cmp (names (classes_of resolved))
+    ordered_kept = subst (IsStrictlySortedBy name_cmp) (sym (names_kept resolved members same)) ordered
+
+    pub found_kept : All (IsResolved (names (classes_of resolved))) (classes_of resolved)
+    found_kept =
+        All-map (IsResolved (names (classes_of resolved))) (λ (m : Member). m.class) resolved (subst (λ n. All (λ m. IsResolved n m.class) resolved) (sym (names_kept resolved members same)) found)
+
+    inside : (o : Origin) → Contains (origins files) o → Contains (map origin (classes_of resolved)) o
+    inside o among = subst (λ os. Contains os o) (sym (origins_of_classes resolved ∙ origins_kept resolved members same)) (forth o among)
+
+    pub complete : IsWithoutAbsent (origin_names files) (origins files)
+    complete o among a =
+        none_absent (classes_of resolved) ordered_kept found_kept o (inside o among)
+        (subst (λ ns. HasAbsent ns o.0) (sym (names_kept resolved members same)) (absent_in o.0 a))
+
+    outside : (o : Origin) → Contains (origins_of resolved) o → Contains (origins files) o
+    outside o among = back o (subst (λ os. Contains os o) (origins_kept resolved members same) among)
+
+    pub cycle_held : (fault : SetFault) → IsCycleFault (origins_of resolved) fault → IsSetFault files fault
+    cycle_held (Broken Cycle name) h =
         record {
-          set = record {
-            ordered = subst (IsStrictlySortedBy name_cmp) (sym ns) ordered;
-            few = subst (λ n. n ≤ 4096) (sym (length-map resolved (λ m. m.class) ∙ length_kept resolved members same)) (few_held few);
-            resolved = All-map (IsResolved (names (classes_of resolved))) (λ (m : Member). m.class) resolved (subst (λ n. All (λ m. IsResolved n m.class) resolved) (sym ns) found);
-            built_in = built_in_stands files (classes_of resolved) has_classes;
+          distinct = distinct ordered;
+          complete = complete;
+          cycle = record {
+            cycle = more_named (origins_of resolved) (origins files) outside name name h.cycle;
+            first = λ other less s. h.first other less (more_named (origins files) (origins_of resolved) (λ o among. subst (λ os. Contains os o) (origins_of_classes resolved) (inside o among)) other other s);
           };
-          ranked = ranked;
         }
+    cycle_held Memory h = tt
+    cycle_held (Broken _ name) h = absurd h
+
+    -- once they are ranked too
+    module _ (final : List Member) (is_final : classes_of final ≡ classes_of resolved) (ranked : All (IsRanked final) final) where
+      pub acyclic : IsWithoutCycles (origins files)
+      acyclic x s =
+          none_own (classes_of resolved) ordered_kept found_kept (rank_of final) (λ sub sup d. ranks final ranked sub sup (subst (λ cs. IsDirectSupertype cs sub sup) (sym is_final) d)) x
+          (more_named (origins files) (map origin (classes_of resolved)) inside x x s)
+
+      pub has_classes_ranked : HasClasses files (classes_of final)
+      has_classes_ranked = subst (HasClasses files) (sym is_final) has_classes
+
+      pub are_members : length files ≤ 1 → AreMembers final
+      are_members few =
+          record {
+            set = record {
+              ordered = subst (λ cs. IsStrictlySortedBy name_cmp (names cs)) (sym is_final) ordered_kept;
+              few = subst (λ (cs : List Class). length cs ≤ 4096) (sym is_final) (subst (λ n. n ≤ 4096) (sym (length-map resolved (λ m. m.class) ∙ length_kept resolved members same)) (few_held few));
+              resolved = subst (λ cs. All (IsResolved (names cs)) cs) (sym is_final) found_kept;
+              built_in = built_in_stands files (classes_of final) has_classes_ranked;
+              rank = rank_of final;
+              ranked = ranks final ranked;
+            };
+            ranked = ranked;
+          }

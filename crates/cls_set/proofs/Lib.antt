@@ -5,3 +5,7 @@ pub mod Hierarchy
 pub mod Names
 pub mod Resolved
 pub mod Sorting
+pub mod Supertypes
+pub mod Cycles
+pub mod Heights
+pub mod Walks

@@ -38,19 +38,3 @@ length_kept xs ys e = sym (length-map xs kept) ∙ (ap length e ∙ length-map y
 pub AllWithin-next : (P : Member → Type 0) (old new : List Member) (i : ℕ) → AllWithin P old 0 i → ((k : ℕ) (d : Member) → k ≢ i → get_or new k d ≡ get_or old k d) → HoldsAt P new i → AllWithin P new 0 (i + 1)
 AllWithin-next P old new i all others here =
     AllWithin-more P new 0 i (λ k d low high. let ne : k ≢ i = omega arith in subst P (sym (others k d ne)) (all k d low high)) here
-
--- the direct supertypes are the superclass and the superinterfaces
-pub ranked_by_parts : (members : List Member) (m : Member) → IfSome m.class.superclass (IsLower members m.rank) → All (IsLower members m.rank) m.class.interfaces → IsRanked members m
-ranked_by_parts members m superclass interfaces =
-    All-append (IsLower members m.rank) (option_to_list m.class.superclass) m.class.interfaces (of_option m.class.superclass superclass) interfaces where
-      of_option : (o : Option ClassId) → IfSome o (IsLower members m.rank) → All (IsLower members m.rank) (option_to_list o)
-      of_option None h = All-nil (IsLower members m.rank)
-      of_option (Some s) h = All-cons (IsLower members m.rank) s [] h (All-nil (IsLower members m.rank))
-
-pub ranked_superclass : (members : List Member) (m : Member) (s : ClassId) → m.class.superclass ≡ Some s → IsRanked members m → IsLower members m.rank s
-ranked_superclass members m s is ranked =
-    All-contains (IsLower members m.rank) (direct_supertypes m.class) s ranked (subst (λ o. Contains (option_to_list o ++ m.class.interfaces) s) (sym is) (0, omega arith, refl))
-
-pub ranked_superinterfaces : (members : List Member) (m : Member) → IsRanked members m → All (IsLower members m.rank) m.class.interfaces
-ranked_superinterfaces members m ranked k d h =
-    All-contains (IsLower members m.rank) (direct_supertypes m.class) (get_or m.class.interfaces k d) ranked (Contains-append_right (option_to_list m.class.superclass) m.class.interfaces (get_or m.class.interfaces k d) (Contains-get_or m.class.interfaces k d h))

@@ -9,8 +9,7 @@ use Rattle.cls_set.specs.declared.fault.SetRule.{SetRule}
 use Rattle.cls_set.specs.declared.fault.SetRule.TheVariants.{Duplicate, AbsentClass, Cycle}
 use Rattle.cls_set.specs.declared.members.Member.{Member}
 use Rattle.cls_set.specs.Classes.{name_cmp}
-use Rattle.cls_set.specs.Sets.{Origin, origin, IsFirstDuplicate}
-use Rattle.cls_set.specs.Supers.{HasAbsent, IsAbsentAmong, IsOwnAmong}
+use Rattle.cls_set.specs.Sets.{Origin, origin, HasAbsent, IsFirstAbsent, IsFirstCycle, IsFirstDuplicate}
 use Rattle.cf_reader.specs.declared.class_file.ClassFile.{ClassFile}
 
 -- a class whose supertypes are not resolved yet
@@ -56,14 +55,14 @@ IsClassFault names file (Broken AbsentClass n) = (n ≡ file.name) × HasAbsent 
 IsClassFault names file (Broken rule n) = ⊥
 IsClassFault names file Memory = Unit {0}
 
--- one of the classes has, unless memory ran out
+-- the first of the classes by name that has, unless memory ran out
 abbrev pub IsAbsentFault : List (List ℕ) → List Origin → SetFault → Type 0
-IsAbsentFault names classes (Broken AbsentClass n) = IsAbsentAmong names classes n
+IsAbsentFault names classes (Broken AbsentClass n) = IsFirstAbsent names classes n
 IsAbsentFault names classes (Broken rule n) = ⊥
 IsAbsentFault names classes Memory = Unit {0}
 
--- one of the classes is its own supertype, unless memory ran out
+-- the first of the classes by name that is its own supertype, unless memory ran out
 abbrev pub IsCycleFault : List Origin → SetFault → Type 0
-IsCycleFault classes (Broken Cycle n) = IsOwnAmong classes n
+IsCycleFault classes (Broken Cycle n) = IsFirstCycle classes n
 IsCycleFault classes (Broken rule n) = ⊥
 IsCycleFault classes Memory = Unit {0}

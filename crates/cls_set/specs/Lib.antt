@@ -4,4 +4,4 @@ pub mod Classes
 pub mod Members
 pub mod Sets
 pub mod Subtypes
-pub mod Supers
+pub mod Walks

@@ -1,12 +1,14 @@
-use Rattle.std.specs.Prelude.{◌≡◌, ◌≤◌, ◌<◌, ◌-◌, ℕ, Bool, true, false, Some, List, ◌++◌, map, option_map, length, All, IsSome, IsPermutation, bytes_eq, count_by, slice_get}
+use Rattle.std.specs.Prelude.{◌≡◌, ◌≤◌, ◌<◌, ◌-◌, ℕ, Bool, true, false, Some, List, ◌++◌, map, option_map, option_to_list, length, All, Contains, IsSome, IsPermutation, bytes_eq, count_by, slice_get}
 use Rattle.std.specs.declared.cmp.Ordering.TheVariants.{Less}
 use Rattle.std.specs.List.Sorted.{IsStrictlySortedBy}
 use Rattle.cf_reader.specs.declared.class_file.ClassFile.{ClassFile}
 use Rattle.cls_set.specs.declared.class.Class.{Class}
+use Rattle.cls_set.specs.declared.class.ClassId.{ClassId}
 use Rattle.cls_set.specs.declared.fault.SetFault.{SetFault}
 use Rattle.cls_set.specs.declared.fault.SetFault.TheVariants.{Broken, Memory}
 use Rattle.cls_set.specs.declared.fault.SetRule.TheVariants.{Duplicate, AbsentClass, Cycle, BadSuper, FinalSuper, RemoteField, RemoteMethod, Override, TooMany}
 use Rattle.cls_set.specs.Classes.{name_cmp, names, number_of}
+use Rattle.cls_set.specs.Subtypes.{IsDirectSupertype}
 use Rattle.cls_set.specs.BuiltIn.{BuiltIn, built_ins, built_in_files}
 
 -- the supertypes of a class, by number among these names, are those that its file names
@@ -22,6 +24,9 @@ pub record IsClassSet (classes : List Class) : Type 0 where
   pub resolved : All (IsResolved (names classes)) classes
   -- each class that stands in every set stands in it
   pub built_in : All (λ (b : BuiltIn). IsSome (number_of classes b.name)) built_ins
+  -- no class is its own supertype (JVMS 5.3.5): they can be ranked, each above its direct supertypes
+  pub rank : ClassId → ℕ
+  pub ranked : (sub sup : ClassId) → IsDirectSupertype classes sub sup → rank sup < rank sub
 
 -- where a class comes from: what its file says, and whether it stands in every set
 abbrev pub Origin : Type 0
@@ -55,18 +60,75 @@ pub record IsFirstDuplicate (names : List (List ℕ)) (name : List ℕ) : Type 0
 abbrev pub IsWithoutDuplicates : List (List ℕ) → Type 0
 IsWithoutDuplicates names = (name : List ℕ) → ¬ IsTwice names name
 
+-- the names of the direct supertypes of a class
+abbrev pub super_names : ClassFile → List (List ℕ)
+super_names file = option_to_list file.superclass ++ file.interfaces
+
+-- a direct supertype has none of these names
+pub record HasAbsent (names : List (List ℕ)) (file : ClassFile) : Type 0 where
+  pub super : List ℕ
+  pub declared : Contains (super_names file) super
+  pub absent : ¬ Contains names super
+
+-- a class of this name has a direct supertype of none of these names, and no class before it by name has one
+pub record IsFirstAbsent (names : List (List ℕ)) (classes : List Origin) (name : List ℕ) : Type 0 where
+  pub class : Origin
+  pub stands : Contains classes class
+  pub named : name ≡ class.0.name
+  pub absent : HasAbsent names class.0
+  pub first : (other : Origin) → Contains classes other → name_cmp other.0.name name ≡ Less → ¬ HasAbsent names other.0
+
+-- no class has a direct supertype of none of these names
+abbrev pub IsWithoutAbsent : List (List ℕ) → List Origin → Type 0
+IsWithoutAbsent names classes = (class : Origin) → Contains classes class → ¬ HasAbsent names class.0
+
+-- a class of the name sub names sup as a direct supertype
+pub record NamesSupertype (classes : List Origin) (sub sup : List ℕ) : Type 0 where
+  pub class : Origin
+  pub stands : Contains classes class
+  pub named : class.0.name ≡ sub
+  pub declared : Contains (super_names class.0) sup
+
+-- sup is a supertype of sub by name: the least transitive relation that holds the direct supertypes that classes name
+pub data IsSupertypeByName (classes : List Origin) : List ℕ → List ℕ → Type 0 where
+  direct : (sub sup : List ℕ) → NamesSupertype classes sub sup → IsSupertypeByName classes sub sup
+  through : (sub mid sup : List ℕ) → IsSupertypeByName classes sub mid → IsSupertypeByName classes mid sup → IsSupertypeByName classes sub sup
+
+-- the class of this name is its own supertype (JVMS 5.3.5), and no class before it by name is
+pub record IsFirstCycle (classes : List Origin) (name : List ℕ) : Type 0 where
+  pub cycle : IsSupertypeByName classes name name
+  pub first : (other : List ℕ) → name_cmp other name ≡ Less → ¬ IsSupertypeByName classes other other
+
+-- no class is its own supertype
+abbrev pub IsWithoutCycles : List Origin → Type 0
+IsWithoutCycles classes = (name : List ℕ) → ¬ IsSupertypeByName classes name name
+
 -- more files than this stage takes, the last of which has this name (a rule of this project)
 pub record IsTooMany (files : List ClassFile) (name : List ℕ) : Type 0 where
   pub distinct : IsWithoutDuplicates (origin_names files)
+  -- more classes than can be numbered are refused before their supertypes are looked for
+  pub complete : length (origins files) ≤ 4096 → IsWithoutAbsent (origin_names files) (origins files)
+  pub acyclic : length (origins files) ≤ 4096 → IsWithoutCycles (origins files)
   pub many : 1 < length files
   pub last : option_map (λ file. file.name) (slice_get files (length files - 1)) ≡ Some name
+
+-- a supertype is not there
+pub record IsAbsent (files : List ClassFile) (name : List ℕ) : Type 0 where
+  pub distinct : IsWithoutDuplicates (origin_names files)
+  pub absent : IsFirstAbsent (origin_names files) (origins files) name
+
+-- a class is its own supertype
+pub record IsCycle (files : List ClassFile) (name : List ℕ) : Type 0 where
+  pub distinct : IsWithoutDuplicates (origin_names files)
+  pub complete : IsWithoutAbsent (origin_names files) (origins files)
+  pub cycle : IsFirstCycle (origins files) name
 
 -- the fault of files that make no set, unless memory ran out
 abbrev pub IsSetFault : List ClassFile → SetFault → Type 0
 IsSetFault files Memory = Unit {0}
 IsSetFault files (Broken Duplicate name) = IsFirstDuplicate (origin_names files) name
-IsSetFault files (Broken AbsentClass name) = Unit {0}
-IsSetFault files (Broken Cycle name) = Unit {0}
+IsSetFault files (Broken AbsentClass name) = IsAbsent files name
+IsSetFault files (Broken Cycle name) = IsCycle files name
 IsSetFault files (Broken TooMany name) = IsTooMany files name
 IsSetFault files (Broken BadSuper name) = ⊥
 IsSetFault files (Broken FinalSuper name) = ⊥

@@ -6,11 +6,12 @@ ghost use Rattle.std.specs.List.Sorted.{IsStrictlySortedBy};
 ghost use Rattle.cls_set.specs.Building.{ranked_from, origins_of, AscendByName, IsCycleFault, IsDuplicateFault};
 ghost use Rattle.cls_set.specs.Classes.{name_cmp, names};
 ghost use Rattle.cls_set.specs.Members.{classes_of, IsRanked};
-ghost use Rattle.cls_set.specs.Sets.{origins, IsFirstDuplicate};
+ghost use Rattle.cls_set.specs.Sets.{origins, IsFirstDuplicate, IsResolved};
 
 use super::built_in::built_in_classes;
 use super::members::Member;
-use super::resolving::{broken, first_own, first_unranked};
+use super::resolving::broken;
+use super::walking::rank;
 use super::{Class, SetFault, SetRule};
 use cf_reader::{ClassFile, Row, Text};
 use std::alloc::{AllocError, Global};
@@ -100,17 +101,17 @@ pub(crate) fn refuse_duplicates(members: &[Member]) -> Result<(), SetFault>
     }
 }
 
-// Refuses a class that is its own supertype. What else is ranked too high, which no class of one file
-// over the built-in ones is, is want of memory.
-pub(crate) fn refuse_cycles(members: &[Member]) -> Result<(), SetFault>
-    ensures ok { OnOk result (All (IsRanked members.now) members.now) }
-    ensures fault { IfErr result (IsCycleFault (origins_of members.now)) }
+// Ranks the classes, and refuses one that is its own supertype.
+pub(crate) fn refuse_cycles(alloc: Global, members: &mut Vec<Member>) -> Result<(), SetFault>
+    requires ordered { IsStrictlySortedBy name_cmp (names (classes_of members.old.items)) }
+    requires few { length members.old.items ≤ 4096 }
+    requires resolved { All (IsResolved (names (classes_of members.old.items))) (classes_of members.old.items) }
+    ensures classes { classes_of members.new.items ≡ classes_of members.old.items }
+    ensures ok { OnOk result (All (IsRanked members.new.items) members.new.items) }
+    ensures fault { IfErr result (IsCycleFault (origins_of members.old.items)) }
 {
-    if let Some(place) = first_own(members) {
-        return Err(broken(SetRule::Cycle, &members[place].class.file.name));
-    }
-    match first_unranked(members) {
-        Some(_) => Err(SetFault::Memory),
+    match rank(alloc, members)? {
+        Some(place) => Err(broken(SetRule::Cycle, &members[place].class.file.name)),
         None => Ok(()),
     }
 }

@@ -2,11 +2,14 @@
 
 use super::building::{gather, last_of_many, refuse_cycles, refuse_duplicates};
 use super::members::{Member, find, is_below, leads_to};
-use super::resolving::resolve;
+use super::resolving::{broken, resolve};
 use super::{Class, ClassId, SetFault, SetRule};
 use cf_reader::{ClassFile, Text};
 use std::alloc::Global;
 use std::marker::Model;
+
+// How many classes of a set are numbered.
+const MAX_CLASSES: usize = 4096;
 
 /// Classes in the order of their names, with the built-in ones. A contract sees it as the list of its
 /// classes: the class with number k is item k.
@@ -31,32 +34,38 @@ impl Model for ClassSet {
 impl ClassSet {
     ghost use Rattle.std.specs.Prelude.{◌≡◌, ◌<◌, ◌≤◌, ◌↔◌, Some, IsTrue, IfOk, IfErr, IfSome, OnOk, length, slice_get};
     ghost use Rattle.cls_set.specs.Classes.{name_at, number_of};
+    ghost use Rattle.cls_set.specs.declared.class.ClassId.{ClassId};
     ghost use Rattle.cls_set.specs.Sets.{HasClasses, IsClassSet, IsSetFault};
-    ghost use Rattle.cls_set.specs.Subtypes.{IsRemote, IsSubclass, IsSubtype};
-    ghost use Rattle.cls_set.specs.Supers.{IsSuperFault};
+    ghost use Rattle.cls_set.specs.Subtypes.{IsProperSubtype, IsRemote, IsSubclass, IsSubtype};
 
     /// The set of the files' classes and the built-in ones. The files may come in any order, and
     /// nothing of them is handed back with a fault.
     ///
-    /// Faults are looked for in this order, each over all classes: `Duplicate`, `TooMany` (more than one
-    /// file), `AbsentClass`, `Cycle`. Of files that this project's reader takes now, which extend
-    /// java/lang/Object alone and have no fields, only the first two can come.
+    /// Faults are looked for in this order, each over all classes: `Duplicate`, `AbsentClass`, `Cycle`,
+    /// `TooMany` (more than one file). Of the classes at fault the first by name is named. More classes than
+    /// can be numbered, 4,096, are `TooMany` before their supertypes are looked for. Of files that this
+    /// project's reader takes now, which extend java/lang/Object alone and have no fields, only `Duplicate`
+    /// and `TooMany` can come.
     pub fn build(alloc: Global, files: Vec<ClassFile>) -> Result<ClassSet, SetFault>
         ensures set { IfOk result (λ set. IsClassSet set) }
         ensures classes { IfOk result (λ set. HasClasses files.items set) }
         ensures few { OnOk result (length files.items ≤ 1) }
         ensures fault { IfErr result (IsSetFault files.items) }
-        ensures supers { IfErr result (IsSuperFault files.items) }
     {
         let last_of_many = last_of_many(files.as_slice())?;
         let mut members = gather(alloc, files)?;
         refuse_duplicates(members.as_slice())?;
-        if let Some(class) = last_of_many {
-            let rule = SetRule::TooMany;
-            return Err(SetFault::Broken { rule, class });
+        if members.len() > MAX_CLASSES {
+            let Some(name) = &last_of_many else {
+                unreachable!()
+            };
+            return Err(broken(SetRule::TooMany, name));
         }
         resolve(alloc, &mut members)?;
-        refuse_cycles(members.as_slice())?;
+        refuse_cycles(alloc, &mut members)?;
+        if let Some(name) = &last_of_many {
+            return Err(broken(SetRule::TooMany, name));
+        }
         Ok(ClassSet { members })
     }
 
@@ -64,6 +73,7 @@ impl ClassSet {
     pub fn len(&self) -> usize
         ensures count { result ≡ length self.now }
         ensures set { IsClassSet self.now }
+        ensures acyclic { (class : ClassId) → ¬ IsProperSubtype self.now class class }
     {
         self.members.len()
     }

@@ -19,3 +19,4 @@ mod members;
 mod resolving;
 #[cfg(test)]
 mod tests;
+mod walking;

@@ -106,6 +106,97 @@ fn faults_name_the_class(rt: HostRuntime) -> Result<(), Fail> {
     Ok(())
 }
 
+// A class with this superclass and these superinterfaces.
+fn under(
+    alloc: Global,
+    name: &[u8],
+    superclass: &[u8],
+    interfaces: &[&[u8]],
+) -> Result<ClassFile, AllocError> {
+    let mut file = file(alloc, name)?;
+    let mut names = Vec::new(alloc);
+    for interface in interfaces {
+        names.push(Text::new(interface.to_vec(alloc)?))?;
+    }
+    file.superclass = Some(Text::new(superclass.to_vec(alloc)?));
+    file.interfaces = Row::new(names);
+    Ok(file)
+}
+
+// The set of classes, each with its superclass and its superinterfaces.
+fn set_of(
+    alloc: Global,
+    rows: &[(&[u8], &[u8], &[&[u8]])],
+) -> Result<Result<ClassSet, SetFault>, AllocError> {
+    let mut files = Vec::new(alloc);
+    for (name, superclass, interfaces) in rows {
+        files.push(under(alloc, name, superclass, interfaces)?)?;
+    }
+    Ok(ClassSet::build(alloc, files))
+}
+
+#[test]
+fn absent_supertypes_are_refused(rt: HostRuntime) -> Result<(), Fail> {
+    let alloc = rt.alloc();
+    let superclass = set_of(alloc, &[(b"T", b"No", &[])])?;
+    refused(&rt, superclass, 31, b"T");
+    let interface = set_of(alloc, &[(b"T", b"T", &[b"java/rmi/Remote", b"No"])])?;
+    refused(&rt, interface, 31, b"T");
+    let first = set_of(
+        alloc,
+        &[
+            (b"V", b"No", &[]),
+            (b"T", b"U", &[]),
+            (b"U", b"T", &[b"No"]),
+        ],
+    )?;
+    refused(&rt, first, 31, b"U");
+    let twice = set_of(
+        alloc,
+        &[(b"V", b"V", &[]), (b"T", b"No", &[]), (b"V", b"V", &[])],
+    )?;
+    refused(&rt, twice, 30, b"V");
+    Ok(())
+}
+
+#[test]
+fn classes_on_cycles_are_refused(rt: HostRuntime) -> Result<(), Fail> {
+    let alloc = rt.alloc();
+    let superclass = set_of(alloc, &[(b"T", b"T", &[])])?;
+    refused(&rt, superclass, 32, b"T");
+    let interface = set_of(
+        alloc,
+        &[(b"T", b"java/lang/Object", &[b"java/rmi/Remote", b"T"])],
+    )?;
+    refused(&rt, interface, 32, b"T");
+    let two = set_of(alloc, &[(b"B", b"A", &[]), (b"A", b"B", &[])])?;
+    refused(&rt, two, 32, b"A");
+    // A is below the cycle, and not on it.
+    let below = set_of(
+        alloc,
+        &[
+            (b"A", b"C", &[]),
+            (b"C", b"java/lang/Object", &[b"D"]),
+            (b"D", b"java/lang/Object", &[b"B"]),
+            (b"B", b"C", &[]),
+        ],
+    )?;
+    refused(&rt, below, 32, b"B");
+    Ok(())
+}
+
+#[test]
+fn classes_that_cannot_be_numbered_are_too_many(rt: HostRuntime) -> Result<(), Fail> {
+    let alloc = rt.alloc();
+    let mut files = Vec::new(alloc);
+    for place in 0..4068 {
+        let name = format!(in alloc; "T{place}")?;
+        files.push(under(alloc, name.as_bytes(), b"No", &[])?)?;
+    }
+    refused(&rt, ClassSet::build(alloc, files), 38, b"T4067");
+    Ok(())
+}
+
 #[test]
 fn rules_have_names_and_numbers(rt: HostRuntime) -> Result<(), Fail> {
     let rules = [

@@ -1,3 +1,5 @@
+ghost use Rattle.std.specs.Prelude.{◌<◌};
+
 use super::*;
 use std::alloc::Global;
 use std::process::Abort;
@@ -218,12 +220,40 @@ fn fields_out_of_range_make_no_frame(rt: HostRuntime) -> Result<(), Fail> {
     Ok(())
 }
 
+// Fed in pieces of so many bytes, the frame comes once, with the last piece, and nothing is held
+// then: the next byte begins a frame.
+fn comes_whole_in_pieces(
+    rt: &impl Abort,
+    alloc: Global,
+    bytes: &[u8],
+    piece: usize,
+) -> Result<(), Fail>
+    requires { 0 < piece }
+{
+    let mut reader = FrameReader::new(alloc);
+    let mut fed: usize = 0;
+    for piece in bytes.chunks(piece) {
+        let frames = reader.feed(piece)?;
+        fed = fed.saturating_add(piece.len());
+        assert_eq!(rt; frames.len() == 1, fed == bytes.len());
+        for frame in &frames {
+            assert_eq!(rt; encode(alloc, frame)?.as_slice(), bytes);
+        }
+    }
+    assert_eq!(rt; reader.feed(b"\0\0\0\x09\x06\0\0\0\0\0\0\0\x05")?.len(), 1);
+    Ok(())
+}
+
 #[test]
 fn a_body_over_the_limit_has_no_bytes(rt: HostRuntime) -> Result<(), Fail> {
     let alloc = rt.alloc();
     let two = Frame::call(1, ObjId(2), 7, 99, arguments(alloc, 2)?)?;
     assert_eq!(rt; two.body_len(), 64_040);
-    assert_eq!(rt; encode(alloc, &two)?.len(), 64_044);
+    let bytes = encode(alloc, &two)?;
+    assert_eq!(rt; bytes.len(), 64_044);
+    for piece in [64_044, 64_043, 1000, 7] {
+        comes_whole_in_pieces(&rt, alloc, bytes.as_slice(), piece)?;
+    }
     let three = Frame::call(1, ObjId(2), 7, 99, arguments(alloc, 3)?)?;
     assert_eq!(rt; three.body_len(), 96_045);
     assert_eq!(rt; fault(encode(alloc, &three)), Some(WireFault::Length));

@@ -3,7 +3,7 @@
 ghost use Rattle.std.specs.Prelude.{◌≡◌};
 ghost use Rattle.net_message.specs.declared.fault.WireError.TheVariants.{Memory};
 
-use cf_pool::Numbered;
+use cf_text::Numbered;
 use std::alloc::{AllocError, AllocFailed};
 use thiserror::Error;
 

@@ -2,7 +2,7 @@
 //! says, the ranges of its fields, and its one spelling in bytes.
 #![tactic(auto)]
 
-pub use cf_pool::Numbered;
+pub use cf_text::Numbered;
 pub use encoding::{MAX_BODY, encode};
 pub use fault::{WireError, WireFault};
 pub use frame::Frame;

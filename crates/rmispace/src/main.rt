@@ -13,7 +13,7 @@ fn main(rt: HostRuntime) -> ExitCode {
         Ok(words) => command(
             alloc,
             &words,
-            &Disk::new(&rt),
+            &Disk { runtime: &rt },
             &mut rt.reader(),
             &mut io::writer(&rt.stdout()),
             &mut io::writer(&rt.stderr()),

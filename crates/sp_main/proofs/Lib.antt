@@ -3,4 +3,5 @@ pub mod Made
 pub mod Refused
 pub mod Whole
 pub mod Within
+pub mod Below
 pub mod Commas

@@ -1,4 +1,5 @@
 pub mod Arguments
+pub mod Folders
 pub mod Reports
 pub mod Runs
 pub mod Statuses

@@ -3,7 +3,7 @@ use Rattle.std.specs.Prelude.{◌≡◌, ◌≢◌, ◌+◌, ◌≤◌, ◌==◌
 use Rattle.std.specs.List.{AllZip, position}
 use Rattle.cf_reader.specs.declared.class_file.ClassFile.{ClassFile}
 use Rattle.cf_reader.specs.declared.class_file.Code.{Code}
-use Rattle.cf_reader.specs.declared.items.Layout.{Layout}
+use Rattle.cf_layout.specs.declared.items.Layout.{Layout}
 use Rattle.cf_reader.specs.Spells.{IsAtFault, IsInProfile, Spells}
 use Rattle.cf_reader.specs.declared.load_fault.LoadFault.{LoadFault}
 use Rattle.cf_reader.specs.declared.load_fault.LoadFault.TheVariants as load

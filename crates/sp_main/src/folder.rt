@@ -1,9 +1,11 @@
 //! Where the program finds class files: a trait, so that tests read from memory, and the disk.
 
-use std::alloc::{AllocError, AllocFailed};
-use std::fs::ReadDir;
+ghost use Rattle.std.specs.Prelude.{◌≡◌, ◌++◌, ℕ, List, All, IfOk, IfErr, OnOk, IsSorted, string_bytes};
+ghost use Rattle.sp_main.specs.declared.folder.FolderFault.TheVariants as fault;
+ghost use Rattle.sp_main.specs.Folders.{AreBelow, IsBelow, IsClassPath, NamesBelow};
+
+use std::alloc::{AllocError, AllocFailed, Global};
 use std::io::Read;
-use std::path::Path;
 use std::rt::Files;
 use std::{fs, io};
 use thiserror::Error;
@@ -19,12 +21,16 @@ pub enum FolderFault {
 }
 
 impl From<AllocError> for FolderFault {
+    ghost from_gives = { λ _ told. told ≡ fault.Memory };
+
     fn from(_: AllocError) -> FolderFault {
         FolderFault::Memory
     }
 }
 
 impl<T: Drop> From<AllocFailed<T>> for FolderFault {
+    ghost from_gives = { λ _ told. told ≡ fault.Memory };
+
     fn from(_: AllocFailed<T>) -> FolderFault {
         FolderFault::Memory
     }
@@ -45,25 +51,21 @@ pub trait Folder {
 /// The file system of the process.
 #[derive(Drop)]
 pub struct Disk<'a, R> {
-    runtime: &'a R,
-}
-
-impl<'a, R> Disk<'a, R> {
-    pub fn new(runtime: &'a R) -> Disk<'a, R> {
-        Disk { runtime }
-    }
+    pub runtime: &'a R,
 }
 
 impl<'a, R: Files + AllocGlobal + Clone + Drop> Folder for Disk<'a, R> {
     type File = R::File;
 
-    fn paths(&self, folder: &str) -> Result<Vec<String>, FolderFault> {
+    fn paths(&self, folder: &str) -> Result<Vec<String>, FolderFault>
+        // Whatever the file system holds, no file elsewhere is named.
+        ensures class_files { IfOk result (λ paths. All (λ path. IsClassPath folder.now (string_bytes path)) paths.items) }
+        ensures sorted { IfOk result (λ paths. IsSorted ⟦<String as Ord>⟧.cmp paths.items) }
+        // A fault names the folder, or one below it.
+        ensures fault { IfErr result (NamesBelow folder.now) }
+    {
         let alloc = self.runtime.alloc();
-        let mut found = Found {
-            files: Vec::new(alloc),
-            folders: Vec::new(alloc),
-        };
-        found.folders.push(String::from_str(alloc, folder)?)?;
+        let mut found = Found::new(alloc, folder)?;
         for _ in 0..u64::MAX {
             match found.folders.pop() {
                 Some(next) => list_folder(self.runtime, &mut found, next)?,
@@ -88,12 +90,81 @@ struct Found {
     folders: Vec<String>,
 }
 
+impl Found {
+    // No file, and the folder itself to be listed.
+    fn new(alloc: Global, folder: &str) -> Result<Found, AllocError>
+        ensures { IfOk result (AreBelow folder.now) }
+    {
+        let mut folders = Vec::new(alloc);
+        folders.push(String::from_str(alloc, folder)?)?;
+        Ok(Found {
+            files: Vec::new(alloc),
+            folders,
+        })
+    }
+
+    // A folder has a file or a folder of this name.
+    fn add(
+        &mut self,
+        alloc: Global,
+        folder: &str,
+        name: &str,
+        is_folder: bool,
+    ) -> Result<(), AllocError>
+        ensures { OnOk result ((root : List ℕ) → IsBelow root folder.now → AreBelow root self.old → AreBelow root self.new) }
+    {
+        if is_folder {
+            self.add_folder(alloc, folder, name)
+        } else {
+            self.add_file(alloc, folder, name)
+        }
+    }
+
+    // A folder has a folder of this name.
+    fn add_folder(&mut self, alloc: Global, folder: &str, name: &str) -> Result<(), AllocError>
+        ensures { OnOk result ((root : List ℕ) → IsBelow root folder.now → AreBelow root self.old → AreBelow root self.new) }
+    {
+        let path = path_in(alloc, folder, name)?;
+        self.folders.push(path)?;
+        Ok(())
+    }
+
+    // A folder has a file of this name: it counts where it is a class file.
+    fn add_file(&mut self, alloc: Global, folder: &str, name: &str) -> Result<(), AllocError>
+        ensures { OnOk result ((root : List ℕ) → IsBelow root folder.now → AreBelow root self.old → AreBelow root self.new) }
+    {
+        if name.as_bytes().ends_with(b".class") {
+            let path = path_in(alloc, folder, name)?;
+            self.files.push(path)?;
+        }
+        Ok(())
+    }
+}
+
+// The path of a name in a folder.
+fn path_in(alloc: Global, folder: &str, name: &str) -> Result<String, AllocError>
+    ensures { IfOk result (λ path. (slash : List ℕ) × (string_bytes path ≡ folder.now ++ (slash ++ name.now))) }
+{
+    let mut path = String::from_str(alloc, folder)?;
+    if !folder.ends_with('/') {
+        path.push('/')?;
+    }
+    path.push_str(name)?;
+    Ok(path)
+}
+
+// Lists one folder: its class files are found, and its folders wait.
 fn list_folder<R: Files + AllocGlobal + Clone + Drop>(
     runtime: &R,
     found: &mut Found,
     folder: String,
-) -> Result<(), FolderFault> {
-    let Ok(entries) = fs::read_dir(runtime, folder.as_str()) else {
+) -> Result<(), FolderFault>
+    ensures found { OnOk result ((root : List ℕ) → IsBelow root (string_bytes folder) → AreBelow root found.old → AreBelow root found.new) }
+    ensures fault { IfErr result (λ fault. (root : List ℕ) → IsBelow root (string_bytes folder) → NamesBelow root fault) }
+{
+    let alloc = runtime.alloc();
+    let path = folder.as_str();
+    let Ok(entries) = fs::read_dir(runtime, path) else {
         return Err(FolderFault::CannotRead(folder));
     };
     for entry in entries {
@@ -103,12 +174,7 @@ fn list_folder<R: Files + AllocGlobal + Clone + Drop>(
         let Ok(kind) = entry.file_type() else {
             return Err(FolderFault::CannotRead(folder));
         };
-        let path = String::from_str(runtime.alloc(), entry.path().as_str())?;
-        if kind.is_dir() {
-            found.folders.push(path)?;
-        } else if entry.file_name().ends_with(".class") {
-            found.files.push(path)?;
-        }
+        found.add(alloc, path, entry.file_name(), kind.is_dir())?;
     }
     Ok(())
 }

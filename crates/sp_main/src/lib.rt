@@ -9,7 +9,6 @@ pub use refusal::Refusal;
 pub use report::Report;
 pub use running::{ClassBytes, Content, RunOutcome, run_classes};
 pub use status::Status;
-pub use words::{Request, RunRequest, request_of};
 
 mod argument;
 mod entry;

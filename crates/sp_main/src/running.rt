@@ -113,7 +113,7 @@ fn find_method(accepted: &Accepted, class: &[u8], method: &[u8]) -> Option<Metho
     let linked = accepted.linked();
     let class = linked.set().number(class)?;
     let (name, descriptor) = method.split_at(descriptor_place(method)?);
-    linked.method(class, name, descriptor)
+    linked.declared_method(class, name, descriptor)
 }
 
 // Where the descriptor begins.

@@ -104,10 +104,7 @@ fn link_report(alloc: Global, fault: &LinkFault) -> Result<Report, AllocError> {
             method,
             descriptor,
             at,
-        } => {
-            let line = refused_method(alloc, class, method, descriptor)?.display(at)?;
-            with_fault(line, rule)?.report(Status::Refused)
-        }
+        } => method_report(alloc, [class, method, descriptor], usize::from(*at), rule),
     }
 }
 
@@ -120,10 +117,7 @@ fn check_report(alloc: Global, fault: &CheckFault) -> Result<Report, AllocError>
             method,
             descriptor,
             at,
-        } => {
-            let line = refused_method(alloc, class, method, descriptor)?.display(at)?;
-            with_fault(line, rule)?.report(Status::Refused)
-        }
+        } => method_report(alloc, [class, method, descriptor], *at, rule),
     }
 }
 
@@ -138,19 +132,21 @@ fn refused(alloc: Global) -> Result<Line, AllocError> {
     Line::new(alloc).text("refused ")
 }
 
-// A refusal of a method, up to the offset.
-fn refused_method(
+// What is reported of a method, by its class, name and descriptor, that breaks a rule at an offset.
+fn method_report<F: Numbered>(
     alloc: Global,
-    class: &Text,
-    method: &Text,
-    descriptor: &Text,
-) -> Result<Line, AllocError> {
-    refused(alloc)?
+    [class, method, descriptor]: [&Text; 3],
+    at: usize,
+    rule: &F,
+) -> Result<Report, AllocError> {
+    let line = refused(alloc)?
         .bytes(class.as_bytes())?
         .text(".")?
         .bytes(method.as_bytes())?
         .bytes(descriptor.as_bytes())?
-        .text(" at ")
+        .text(" at ")?
+        .display(&at)?;
+    with_fault(line, rule)?.report(Status::Refused)
 }
 
 // A fault's number and name behind the line.

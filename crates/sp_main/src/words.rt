@@ -8,7 +8,7 @@ use vm_heap::Value;
 
 /// What the words of a command line ask for.
 #[derive(Drop)]
-pub enum Request<'a> {
+pub(crate) enum Request<'a> {
     /// To run a method.
     Run(RunRequest<'a>),
     /// A text that was asked for, as help or the version: for standard output.
@@ -19,7 +19,7 @@ pub enum Request<'a> {
 
 /// `run FOLDER CLASS METHOD [ARGUMENT..] [--fuel N]`.
 #[derive(Drop)]
-pub struct RunRequest<'a> {
+pub(crate) struct RunRequest<'a> {
     pub folder: &'a str,
     pub class: &'a str,
     /// A method's name and descriptor, as they are written.
@@ -30,7 +30,10 @@ pub struct RunRequest<'a> {
 }
 
 /// What the words ask for; the first is the program's own name.
-pub fn request_of<'a>(alloc: Global, words: &'a [String]) -> Result<Request<'a>, AllocError> {
+pub(crate) fn request_of<'a>(
+    alloc: Global,
+    words: &'a [String],
+) -> Result<Request<'a>, AllocError> {
     match whole_command(alloc)?.try_get_matches_from(words) {
         Ok(matches) => asked(alloc, &matches),
         Err(error) => match error.kind() {

@@ -3,7 +3,7 @@
 ghost use Rattle.std.specs.Prelude.{◌≡◌};
 ghost use Rattle.sp_registry.specs.declared.fault.BindFault.TheVariants.{Memory, Denied};
 
-use cf_pool::Numbered;
+use cf_text::Numbered;
 use std::alloc::{AllocError, AllocFailed};
 use thiserror::Error;
 

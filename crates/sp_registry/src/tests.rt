@@ -1,5 +1,5 @@
 use super::*;
-use cf_pool::Numbered;
+use cf_text::Numbered;
 use std::process::Abort;
 use std::test::Fail;
 use vm_heap::ObjId;

@@ -1,9 +1,10 @@
 pub mod Accepts
 pub mod Faults
 pub mod Flows
+pub mod FrameIndices
 pub mod Links
-pub mod Lookups
 pub mod Outcomes
+pub mod Starts
 pub mod Stops
 pub mod Typings
 pub mod Within

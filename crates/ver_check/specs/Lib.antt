@@ -3,6 +3,7 @@ pub mod Bodies
 pub mod Effects
 pub mod Faults
 pub mod Flow
+pub mod Indices
 pub mod Listed
 pub mod Makes
 pub mod Offsets

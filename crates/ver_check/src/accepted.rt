@@ -49,6 +49,9 @@ impl Accepted {
 /// from the top, the method's result, the room on the stack, its targets in order, and what is behind
 /// it. `NoFrame` names the offset at which the frame is missing, every other rule the instruction
 /// that breaks it.
+///
+/// The pass goes once over the instructions, and finds the frame that is declared at one by its
+/// index: a table of a method's frames is laid beside its instructions once.
 pub fn accept(alloc: Global, linked: Linked) -> Result<Accepted, CheckFault>
     ensures exact { SettlesSet result (λ accepted. (accepted ≡ linked) × AreSafe linked) (¬ AreSafe linked) }
     ensures fault { IfErr result (IsCheckFault linked) }

@@ -10,6 +10,7 @@ ghost use Rattle.ver_check.specs.Settled.{SettlesBody};
 
 use super::body::BodyView;
 use super::check::BodyFault;
+use super::indices::find_frames;
 use super::{
     CheckFault, CheckRule, ClassSet, Linked, LinkedMethod, MethodId, MethodView, StackMapFault,
     Text,
@@ -62,9 +63,13 @@ fn check_code(alloc: Global, method: &MethodView) -> Result<(), BodyFault>
         }
         Err(StackMapFault::Memory) => return Err(BodyFault::Memory),
     };
+    let declared = frames.as_slice();
+    let offsets = method.linked.offsets.as_slice();
+    let indices = find_frames(alloc, offsets, declared)?;
     let body = BodyView {
         method,
-        declared: &frames,
+        declared,
+        indices: &indices,
     };
     body.check(alloc)
 }

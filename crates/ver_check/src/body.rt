@@ -9,6 +9,8 @@ use ver_frames::{MethodView, TypeFrame};
 pub(crate) struct BodyView<'a> {
     pub(crate) method: &'a MethodView<'a>,
     pub(crate) declared: &'a [(u16, TypeFrame)],
+    // For each instruction the index of the frame that is declared at it.
+    pub(crate) indices: &'a [Option<u16>],
 }
 
 impl<'a> Model for BodyView<'a> {
@@ -16,10 +18,9 @@ impl<'a> Model for BodyView<'a> {
 
     ghost Value = { Body };
 
-    ghost use Rattle.std.specs.List.Sorted.{IsStrictlyIncreasing};
-    ghost use Rattle.ver_check.specs.Offsets.{declared_offsets};
+    ghost use Rattle.ver_check.specs.Indices.{AreIndices};
 
     ghost view = { λ b. body_of b.method.now b.declared.now };
 
-    ghost invariant = { λ b. IsStrictlyIncreasing (declared_offsets b.declared.now) };
+    ghost invariant = { λ b. AreIndices b.declared.now b.method.now.linked.offsets b.indices.now };
 }

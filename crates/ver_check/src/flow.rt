@@ -1,26 +1,12 @@
 //! The pass over the instructions of a body, with the frame at the current one.
 
-ghost use Rattle.std.specs.Prelude.{◌≡◌, ◌<◌, option_copied, length, ℕ};
-ghost use Rattle.std.specs.List.Sorted.{IsStrictlyIncreasing};
-ghost use Rattle.ver_check.specs.Bodies.{frame_at_offset};
+ghost use Rattle.std.specs.Prelude.{◌≡◌};
 ghost use Rattle.ver_check.specs.Effects.{falls_through};
-ghost use Rattle.ver_check.specs.Offsets.{declared_offsets};
 
 use super::body::BodyView;
 use super::stop::Stop;
 use super::{CheckRule, LinkedInsn, TypeFrame};
 use ver_frames::frame_assignable;
-
-// The frame that is declared at an offset.
-fn frame_at_offset(declared: &[(u16, TypeFrame)], offset: u16) -> Option<&TypeFrame>
-    requires { IsStrictlyIncreasing (declared_offsets declared.now) }
-    ensures { option_copied result ≡ frame_at_offset declared.now offset }
-{
-    match declared.binary_search_by_key(&offset, |frame| frame.0) {
-        Ok(index) => Some(&declared[index].1),
-        Err(_) => None,
-    }
-}
 
 // Whether the next instruction may come after it.
 fn falls_through(insn: LinkedInsn) -> bool
@@ -38,6 +24,7 @@ impl BodyView<'_> {
     ghost use Rattle.ver_check.specs.Effects.{targets};
     ghost use Rattle.ver_check.specs.Faults.{IsWrongAmong, IsWrongAt, IsWrongEntry, IsWrongNext, IsWrongTarget};
     ghost use Rattle.ver_check.specs.Flow.{ComesIn, GoesTo, LandsOnAll, Passes, Settles};
+    ghost use Rattle.ver_check.specs.Indices.{frame_of};
     ghost use Rattle.ver_check.specs.Typing.{Lands};
 
     // How many instructions there are.
@@ -48,14 +35,24 @@ impl BodyView<'_> {
         method.linked.insns.as_slice().len()
     }
 
-    // The frame that is declared at the instruction at a place.
+    // The index of the frame that is declared at the instruction at a place.
     #[tactic(auto, unfolding(crate::specs::Bodies::declared_at))]
+    fn index_at(&self, place: usize) -> Option<u16>
+        ensures { frame_of self.now.declared result ≡ declared_at self.now place }
+    {
+        match self.indices.get(place) {
+            Some(index) => *index,
+            None => None,
+        }
+    }
+
+    // The frame that is declared at the instruction at a place.
     fn declared_at(&self, place: usize) -> Option<&TypeFrame>
         ensures { option_copied result ≡ declared_at self.now place }
     {
-        let method = self.method;
-        let offset = method.linked.offsets.as_slice().get(place)?;
-        frame_at_offset(self.declared, *offset)
+        let index = self.index_at(place)?;
+        let declared = self.declared.get(usize::from(index))?;
+        Some(&declared.1)
     }
 
     // A frame comes in at a place, and becomes the one that is declared there, where one is.

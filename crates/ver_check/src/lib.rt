@@ -18,6 +18,7 @@ mod check;
 mod effects;
 mod fault;
 mod flow;
+mod indices;
 mod laws;
 mod stop;
 #[cfg(test)]

@@ -214,5 +214,10 @@ fn of_two_faults_in_an_instruction_the_first_counts(rt: HostRuntime) -> Result<(
         ..make_case(&[0xac], &none)
     };
     assert_eq!(rt; checked(rt.alloc(), void)?, (60, 0));
+    // ifne has no operand, and no frame where it goes.
+    assert_eq!(rt;
+        checked(rt.alloc(), make_case(&[0x9a, 0, 3, 0xb1], &none))?,
+        (60, 0)
+    );
     Ok(())
 }

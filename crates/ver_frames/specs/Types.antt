@@ -1,8 +1,8 @@
 use Rattle.std.specs.Prelude.{Bool, true, false, ◌==◌, ◌&&◌, if◌then◌else◌, List}
 use Rattle.std.specs.Option.{option_map_or}
-use Rattle.cf_pool.specs.declared.types.ElementType.{ElementType}
-use Rattle.cf_pool.specs.declared.types.ElementType.TheVariants as element
-use Rattle.cf_pool.specs.declared.types.FieldType.{FieldType}
+use Rattle.cf_text.specs.declared.types.ElementType.{ElementType}
+use Rattle.cf_text.specs.declared.types.ElementType.TheVariants as element
+use Rattle.cf_text.specs.declared.types.FieldType.{FieldType}
 use Rattle.cls_set.specs.declared.class.Class.{Class}
 use Rattle.cls_set.specs.Classes.{number_of}
 use Rattle.ver_frames.specs.declared.vtype.VType.{VType}

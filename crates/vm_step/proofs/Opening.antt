@@ -4,9 +4,9 @@ use Rattle.std.proofs.lemmas.List.{length-map}
 use Rattle.std.specs.Prelude.{not, ◌&&◌, ◌==◌, nat_le, slice_get, replicate, bytes_eq, codes, option_map, if◌then◌else◌, IsTrue}
 use Rattle.std.specs.List.{list_all}
 use Rattle.std.specs.Option.{option_map_or}
-use Rattle.cf_pool.specs.declared.types.ElementType.{ElementType}
-use Rattle.cf_pool.specs.declared.types.ElementType.TheVariants as element
-use Rattle.cf_pool.specs.declared.types.FieldType.{FieldType}
+use Rattle.cf_text.specs.declared.types.ElementType.{ElementType}
+use Rattle.cf_text.specs.declared.types.ElementType.TheVariants as element
+use Rattle.cf_text.specs.declared.types.FieldType.{FieldType}
 use Rattle.cf_reader.specs.declared.class_file.Code.{Code}
 use Rattle.cf_reader.specs.declared.class_file.Method.{Method}
 use Rattle.cls_link.specs.Links.{Links, AreLinks, declared_methods}

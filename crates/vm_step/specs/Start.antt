@@ -2,10 +2,10 @@
 use Rattle.std.specs.Prelude.{◌-◌, Bool, true, false, not, ◌&&◌, ◌==◌, nat_le, if◌then◌else◌, Option, Some, None, Result, Ok, Err, List, [], ◌∷◌, ◌++◌, length, map, replicate, bytes_eq, codes, option_and_then}
 use Rattle.std.specs.List.{list_all}
 use Rattle.std.specs.Option.{option_map_or}
-use Rattle.cf_pool.specs.declared.types.ElementType.{ElementType}
-use Rattle.cf_pool.specs.declared.types.ElementType.TheVariants as element
-use Rattle.cf_pool.specs.declared.types.FieldType.{FieldType}
-use Rattle.cf_pool.specs.declared.types.MethodDescriptor.{MethodDescriptor}
+use Rattle.cf_text.specs.declared.types.ElementType.{ElementType}
+use Rattle.cf_text.specs.declared.types.ElementType.TheVariants as element
+use Rattle.cf_text.specs.declared.types.FieldType.{FieldType}
+use Rattle.cf_text.specs.declared.types.MethodDescriptor.{MethodDescriptor}
 use Rattle.cf_reader.specs.declared.class_file.Code.{Code}
 use Rattle.cf_reader.specs.declared.class_file.Method.{Method}
 use Rattle.cls_link.specs.Links.{Links}

@@ -3,7 +3,7 @@
 ghost use Rattle.std.specs.Prelude.{◌≡◌};
 ghost use Rattle.vm_step.specs.declared.fault.StartFault.TheVariants.{Memory};
 
-use cf_pool::Numbered;
+use cf_text::Numbered;
 use std::alloc::AllocError;
 use thiserror::Error;
 

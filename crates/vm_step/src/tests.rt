@@ -2,8 +2,8 @@ ghost use Rattle.std.specs.Prelude.{◌≡◌, ◌+◌, ◌<◌, ◌^◌, IfOk};
 
 use super::start::refuses;
 use super::*;
-use cf_pool::Row;
 use cf_reader::read_class;
+use cf_text::Row;
 use cls_link::{ElementType, FieldType, Flags, Method, MethodDescriptor, Text, link};
 use cls_set::ClassSet;
 use std::alloc::{AllocError, Global};

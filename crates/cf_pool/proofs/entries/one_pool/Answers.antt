@@ -1,4 +1,4 @@
-use Rattle.cf_pool.proofs.FormatLaws.{one_stands}
+use Rattle.cf_text.proofs.FormatLaws.{one_stands}
 use Rattle.cf_pool.proofs.PoolLaws.{pool_reads}
 use Rattle.cf_pool.proofs.entries.one_pool.Goals as goal
 

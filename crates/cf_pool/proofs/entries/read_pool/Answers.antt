@@ -1,4 +1,4 @@
-use Rattle.cf_pool.proofs.FormatLaws.{found, only, faults}
+use Rattle.cf_text.proofs.FormatLaws.{found, only, faults}
 use Rattle.cf_pool.proofs.PoolLaws.{pool_reads}
 use Rattle.cf_pool.proofs.entries.read_pool.Goals as goal
 

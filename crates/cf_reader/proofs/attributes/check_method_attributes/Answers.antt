@@ -1,6 +1,6 @@
 use Rattle.std.proofs.Common.{refl, rules, codes}
 use Rattle.std.proofs.lemmas.Result.{err_from_is_err_and}
-use Rattle.cf_reader.specs.ReadInsides.{insides_of}
+use Rattle.cf_layout.specs.ReadInsides.{insides_of}
 use Rattle.cf_reader.specs.Checks.{is_named, code_demands, method_attribute_demands}
 use Rattle.cf_reader.proofs.AttributeSteps.{attributes-go_on, attributes-fail, attributes-end}
 use Rattle.cf_reader.proofs.attributes.check_method_attributes.Goals as goal

@@ -1,6 +1,6 @@
 use Rattle.std.proofs.Common.{get_or, refl, sym, rules}
 use Rattle.std.proofs.lemmas.Result.{err_from_is_err_and}
-use Rattle.cf_reader.specs.declared.items.Item.{Item}
+use Rattle.cf_layout.specs.declared.items.Item.{Item}
 use Rattle.cf_reader.specs.Builds.{field_from}
 use Rattle.cf_reader.proofs.Each.{each-goes_on, each-fails, each-end}
 use Rattle.cf_reader.proofs.build.fields_from.Goals as goal

@@ -1,7 +1,7 @@
 use Rattle.std.proofs.Common.{ℕ, get_or, refl, rules}
 use Rattle.std.proofs.lemmas.Result.{err_from_is_err_and}
-use Rattle.cf_pool.proofs.Verdicts.{of_each-goes_on, of_each-fails, of_each-end}
-use Rattle.cf_reader.specs.declared.items.Item.{Item}
+use Rattle.cf_text.proofs.Verdicts.{of_each-goes_on, of_each-fails, of_each-end}
+use Rattle.cf_layout.specs.declared.items.Item.{Item}
 use Rattle.cf_reader.specs.Checks.{class_index_demands}
 use Rattle.cf_reader.proofs.check.check_each_interface.Goals as goal
 

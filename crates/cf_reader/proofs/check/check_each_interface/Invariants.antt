@@ -1,6 +1,6 @@
 use Rattle.std.proofs.Common.{◌≡◌, ℕ, drop}
-use Rattle.cf_pool.specs.Demands.{of_each, verdict}
-use Rattle.cf_reader.specs.declared.items.Item.{Item}
+use Rattle.cf_text.specs.Demands.{of_each, verdict}
+use Rattle.cf_layout.specs.declared.items.Item.{Item}
 use Rattle.cf_reader.specs.Checks.{class_index_demands}
 use Rattle.cf_reader.proofs.check.check_each_interface.Given as goal
 

@@ -1,17 +1,16 @@
-use Rattle.std.proofs.Common.{length, refl, sym, subst}
-use Rattle.std.specs.Prelude.{Contains, IfSome}
-use Rattle.std.proofs.lemmas.Option.{slice_get_read}
-use Rattle.cls_set.specs.declared.members.Member.{Member}
-use Rattle.cls_set.specs.declared.fault.SetRule.TheVariants.{Cycle}
-use Rattle.cls_set.specs.Building.{origins_of, IsFaultOf}
-use Rattle.cls_set.specs.Sets.{origin}
-use Rattle.cls_set.specs.Supers.{super_names}
-use Rattle.cls_set.proofs.Absent.{cycle_fault, stands_among}
+use Rattle.std.proofs.Common.{subst}
+use Rattle.std.specs.Prelude.{IfSome}
+use Rattle.cls_set.specs.Members.{classes_of}
+use Rattle.cls_set.specs.Walks.{IsFirstOwn}
+use Rattle.cls_set.proofs.Built.{cycle_named}
+use Rattle.cls_set.proofs.Supertypes.{are_within}
 use Rattle.cls_set.proofs.building.refuse_cycles.Goals as goal
+
+pub rank-requires-clause-within : goal.rank-requires-clause-within
+rank-requires-clause-within c = are_within c.args.members.now.items c.requires.resolved
 
 pub returns-in-Some-clause-fault : goal.returns-in-Some-clause-fault
 returns-in-Some-clause-fault c =
-    let members = c.args.members.now in
-    let m = c.index-members-place.result in
-    let own = subst (λ o. IfSome o (λ (m : Member). Contains (super_names m.class.file) m.class.file.name)) (slice_get_read members (length members) c.in-Some.place m refl c.in-Some.ensures.within c.index-members-place.is) c.in-Some.ensures.found in
-    cycle_fault (origins_of members) (origin m.class) c.broken.result (stands_among members c.in-Some.place m c.in-Some.ensures.within c.index-members-place.is) own (subst (λ (x : Member). IsFaultOf Cycle x.class.file.name c.broken.result) (sym c.index-members-place.is) c.broken.ensures)
+    let old = c.args.members.now.items in
+    cycle_named old c.rank.new.members.items c.in-Some.place c.index.result.now c.broken.result c.rank.ensures.classes c.requires.ordered c.requires.resolved
+    (subst (λ o. IfSome o (IsFirstOwn (classes_of old))) c.in-Some.is c.in_ok-place.ensures.own) c.index.ensures c.broken.ensures

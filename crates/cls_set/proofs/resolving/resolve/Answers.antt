@@ -1,11 +1,13 @@
-use Rattle.std.proofs.Common.{◌∙◌, get_or, sym, subst}
+use Rattle.std.proofs.Common.{◌∙◌, get_or, sym, subst, arith}
 use Rattle.std.specs.List.Sorted.{IsStrictlySortedBy}
 use Rattle.cls_set.specs.declared.members.Member.{Member}
 use Rattle.cls_set.specs.Classes.{name_cmp, names}
 use Rattle.cls_set.specs.Members.{classes_of}
 use Rattle.cls_set.specs.Sets.{IsResolved}
 use Rattle.std.proofs.lemmas.Result.{err_from_is_err_and}
-use Rattle.cls_set.proofs.Resolved.{absent_kept, names_kept, AllWithin-next}
+use Rattle.std.specs.List.{AllWithin}
+use Rattle.cls_set.proofs.Absent.{first_absent_at}
+use Rattle.cls_set.proofs.Resolved.{absent_kept, length_kept, names_kept, AllWithin-next}
 use Rattle.cls_set.proofs.resolving.resolve.Goals as goal
 
 pub resolve_at-requires-clause-ordered : goal.resolve_at-requires-clause-ordered
@@ -26,4 +28,12 @@ loop-place-preserved c =
 pub returns-in_err-resolve_at-clause-absent : goal.returns-in_err-resolve_at-clause-absent
 returns-in_err-resolve_at-clause-absent c =
     let p = err_from_is_err_and c.from_residual.result c.from_residual.ensures.1 in
-    rw (p.1, p.2) (absent_kept c.loop-place.members.items c.args.members.now.items c.in_err-resolve_at.field-0.0 c.loop-place.invariant.0 c.in_err-resolve_at.ensures.absent)
+    let start = c.args.members.now.items in
+    let old = c.loop-place.members.items in
+    let k = c.loop-place.place in
+    let e = c.in_err-resolve_at.field-0.0 in
+    let same = names_kept old start c.loop-place.invariant.0 in
+    let long = length_kept old start c.loop-place.invariant.0 in
+    rw (p.1, p.2) (absent_kept old start e c.loop-place.invariant.0
+    (first_absent_at old k e (subst (IsStrictlySortedBy name_cmp) (sym same) c.requires.ordered) (omega (arith, c.loop-place-test.true, long))
+    (subst (λ ns. AllWithin (λ m. IsResolved ns m.class) old 0 k) (sym same) c.loop-place.invariant.1) c.in_err-resolve_at.ensures.absent))

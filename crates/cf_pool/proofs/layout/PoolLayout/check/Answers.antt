@@ -2,7 +2,7 @@ use Rattle.std.proofs.Common.{◌≡◌, ◌<◌, ℕ, length, get_or, refl, rul
 use Rattle.std.proofs.lemmas.Result.{err_from_is_err_and}
 use Rattle.cf_pool.specs.declared.layout.Places.{Places}
 use Rattle.cf_pool.specs.Pools.{index_demands, pool_demands}
-use Rattle.cf_pool.proofs.Verdicts.{of_each-goes_on, of_each-fails, of_each-end}
+use Rattle.cf_text.proofs.Verdicts.{of_each-goes_on, of_each-fails, of_each-end}
 use Rattle.cf_pool.proofs.layout.PoolLayout.check.Goals as goal
 
 -- what stands past the end of a row of places

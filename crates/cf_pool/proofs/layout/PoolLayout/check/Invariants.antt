@@ -1,5 +1,5 @@
 use Rattle.std.proofs.Common.{◌≡◌, drop}
-use Rattle.cf_pool.specs.Demands.{of_each, verdict}
+use Rattle.cf_text.specs.Demands.{of_each, verdict}
 use Rattle.cf_pool.specs.Pools.{index_demands, pool_demands}
 use Rattle.cf_pool.proofs.layout.PoolLayout.check.Given as goal
 

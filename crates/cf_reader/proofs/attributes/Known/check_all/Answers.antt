@@ -1,6 +1,6 @@
 use Rattle.std.proofs.Common.{refl, rules, codes}
 use Rattle.std.proofs.lemmas.Result.{err_from_is_err_and}
-use Rattle.cf_reader.specs.ReadInsides.{insides_of}
+use Rattle.cf_layout.specs.ReadInsides.{insides_of}
 use Rattle.cf_reader.specs.Checks.{is_known, known_demands, plain_demands}
 use Rattle.cf_reader.proofs.AttributeSteps.{attributes-go_on, attributes-fail, attributes-end}
 use Rattle.cf_reader.proofs.attributes.Known.check_all.Goals as goal

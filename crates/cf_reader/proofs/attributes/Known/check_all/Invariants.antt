@@ -1,6 +1,6 @@
 use Rattle.std.proofs.Common.{◌≡◌, drop, false, codes}
-use Rattle.cf_pool.specs.Demands.{verdict}
-use Rattle.cf_reader.specs.ReadInsides.{insides_of}
+use Rattle.cf_text.specs.Demands.{verdict}
+use Rattle.cf_layout.specs.ReadInsides.{insides_of}
 use Rattle.cf_reader.specs.Checks.{is_known, known_demands, attribute_demands}
 use Rattle.cf_reader.proofs.attributes.Known.check_all.Given as goal
 

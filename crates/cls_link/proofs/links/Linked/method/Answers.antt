@@ -1,56 +1,33 @@
-use Rattle.std.proofs.Common.{◌≡◌, ◌<◌, List, length, sym, subst, ap, arith}
-use Rattle.std.proofs.lemmas.Option.{get_or_from_slice_get}
-use Rattle.cls_set.specs.declared.class.Class.{Class}
-use Rattle.cls_link.specs.Links.{Links, declared_from}
-use Rattle.cls_link.proofs.MethodNumbers.{length_starts, start_read, method_found, method_absent, method_small, zip_length}
+use Rattle.std.proofs.Common.{◌≡◌, Some, ◌∙◌, ap, sym, subst}
+use Rattle.std.specs.Prelude.{slice_get}
+use Rattle.cls_set.specs.Sets.{IsClassSet}
+use Rattle.cls_link.specs.Links.{Links}
+use Rattle.cls_link.specs.Selections as selections
+use Rattle.cls_link.proofs.Interfaces.{not_true, interface_true, interface_false}
 use Rattle.cls_link.proofs.links.Linked.method.Goals as goal
 
-pub index-first-requires : goal.index-first-requires
-index-first-requires c =
-    let set = c.self.inside.set in
-    let same : set ≡ c.args.self.now.classes = ap (λ (l : Links). l.classes) c.self.view_is in
-    let within : c.args.class.0 < length set = subst (λ (cs : List Class). c.args.class.0 < length cs) (sym same) c.requires in
-    let kept = ap length c.self.invariant.1 in
-    let all = length_starts 0 set in
-    let whole = c.self.inside.first.ok.0 in
-    omega (arith, within, kept, all, whole, c.from.ensures)
+pub returns-then-is_initializer-clause-resolved : goal.returns-then-is_initializer-clause-resolved
+returns-then-is_initializer-clause-resolved c =
+    subst (selections.ResolvesMethod c.args.self.now.classes c.args.class c.args.name.now c.args.descriptor.now) (sym c.declared_method.ensures.number)
+    (selections.ResolvesMethod.of_class_alone (sym c.is_initializer.ensures ∙ c.if-is_initializer.true))
 
-pub overflow_add-result : goal.overflow_add-result
-overflow_add-result c =
-    let set = c.self.inside.set in
-    let same : set ≡ c.args.self.now.classes = ap (λ (l : Links). l.classes) c.self.view_is in
-    let within : c.args.class.0 < length set = subst (λ (cs : List Class). c.args.class.0 < length cs) (sym same) c.requires in
-    let here = get_or_from_slice_get set c.args.class.0 c.class.result.now c.class.result.now c.class.ensures in
-    let start = start_read set c.self.inside.first.items c.args.class.0 c.from.result c.index-first.result.now c.self.invariant.1 within c.from.ensures c.index-first.ensures in
-    let all = zip_length (declared_from 0 set) c.self.inside.methods.items c.self.invariant.0.methods in
-    let small = method_small set c.args.self.now.classes c.args.class c.class.result.now c.index-first.result.now c.as_slice-methods.result.now c.args.name.now c.args.descriptor.now same within here start c.as_slice-methods.ensures c.in-Some.place (length c.self.inside.methods.items) c.in-Some.ensures.within (sym all) c.self.invariant.0.few in
-    omega (arith, small)
+pub returns-then-is_interface-clause-resolved : goal.returns-then-is_interface-clause-resolved
+returns-then-is_interface-clause-resolved c =
+    let same = ap (λ (l : Links). l.classes) c.self.view_is in
+    let at = subst (λ cs. slice_get cs c.args.class.0 ≡ Some c.class.result.now) same c.class.ensures in
+    selections.ResolvesMethod.in_interfaces c.in_interfaces.result (not_true _ (sym c.is_initializer.ensures ∙ c.if-is_initializer.false))
+    (interface_true c.args.self.now.classes c.args.class c.class.result.now at (c.is_interface.ensures.0 c.if-is_interface.true)) c.in_interfaces.ensures.found
 
-pub overflow_cast-result : goal.overflow_cast-result
-overflow_cast-result c =
-    let set = c.self.inside.set in
-    let same : set ≡ c.args.self.now.classes = ap (λ (l : Links). l.classes) c.self.view_is in
-    let within : c.args.class.0 < length set = subst (λ (cs : List Class). c.args.class.0 < length cs) (sym same) c.requires in
-    let here = get_or_from_slice_get set c.args.class.0 c.class.result.now c.class.result.now c.class.ensures in
-    let start = start_read set c.self.inside.first.items c.args.class.0 c.from.result c.index-first.result.now c.self.invariant.1 within c.from.ensures c.index-first.ensures in
-    let all = zip_length (declared_from 0 set) c.self.inside.methods.items c.self.invariant.0.methods in
-    let small = method_small set c.args.self.now.classes c.args.class c.class.result.now c.index-first.result.now c.as_slice-methods.result.now c.args.name.now c.args.descriptor.now same within here start c.as_slice-methods.ensures c.in-Some.place (length c.self.inside.methods.items) c.in-Some.ensures.within (sym all) c.self.invariant.0.few in
-    omega (arith, small)
+pub returns-in-Some-clause-resolved : goal.returns-in-Some-clause-resolved
+returns-in-Some-clause-resolved c =
+    let same = ap (λ (l : Links). l.classes) c.self.view_is in
+    let at = subst (λ cs. slice_get cs c.args.class.0 ≡ Some c.class.result.now) same c.class.ensures in
+    selections.ResolvesMethod.in_superclasses c.in-Some.method (not_true _ (sym c.is_initializer.ensures ∙ c.if-is_initializer.false))
+    (interface_false c.args.self.now.classes c.args.class c.class.result.now at (λ is. not_true _ c.if-is_interface.false (c.is_interface.ensures.1 is))) c.in-Some.ensures.found
 
-pub returns-in-Some : goal.returns-in-Some
-returns-in-Some c =
-    let set = c.self.inside.set in
-    let same : set ≡ c.args.self.now.classes = ap (λ (l : Links). l.classes) c.self.view_is in
-    let within : c.args.class.0 < length set = subst (λ (cs : List Class). c.args.class.0 < length cs) (sym same) c.requires in
-    let here = get_or_from_slice_get set c.args.class.0 c.class.result.now c.class.result.now c.class.ensures in
-    let start = start_read set c.self.inside.first.items c.args.class.0 c.from.result c.index-first.result.now c.self.invariant.1 within c.from.ensures c.index-first.ensures in
-    method_found set c.args.self.now.classes c.args.class c.class.result.now c.index-first.result.now c.as_slice-methods.result.now c.args.name.now c.args.descriptor.now same within here start c.as_slice-methods.ensures c.in-Some.place c.in-Some.ensures.found
-
-pub returns-in-None : goal.returns-in-None
-returns-in-None c =
-    let set = c.self.inside.set in
-    let same : set ≡ c.args.self.now.classes = ap (λ (l : Links). l.classes) c.self.view_is in
-    let within : c.args.class.0 < length set = subst (λ (cs : List Class). c.args.class.0 < length cs) (sym same) c.requires in
-    let here = get_or_from_slice_get set c.args.class.0 c.class.result.now c.class.result.now c.class.ensures in
-    let start = start_read set c.self.inside.first.items c.args.class.0 c.from.result c.index-first.result.now c.self.invariant.1 within c.from.ensures c.index-first.ensures in
-    method_absent set c.args.self.now.classes c.args.class c.class.result.now c.index-first.result.now c.as_slice-methods.result.now c.args.name.now c.args.descriptor.now same within here start c.as_slice-methods.ensures c.in-None.ensures.found
+pub returns-in-None-clause-resolved : goal.returns-in-None-clause-resolved
+returns-in-None-clause-resolved c =
+    let same = ap (λ (l : Links). l.classes) c.self.view_is in
+    let at = subst (λ cs. slice_get cs c.args.class.0 ≡ Some c.class.result.now) same c.class.ensures in
+    selections.ResolvesMethod.in_superinterfaces c.in_interfaces-in-None.result (not_true _ (sym c.is_initializer.ensures ∙ c.if-is_initializer.false))
+    (interface_false c.args.self.now.classes c.args.class c.class.result.now at (λ is. not_true _ c.if-is_interface.false (c.is_interface.ensures.1 is))) c.in-None.ensures.found c.in_interfaces-in-None.ensures.found

@@ -1,0 +1,4 @@
+pub mod Blamed
+pub mod Skims
+pub mod FileLaws
+pub mod CodeLaws

@@ -1,0 +1,5 @@
+pub mod Layouts
+pub mod FileFormat
+pub mod CodeFormat
+pub mod Codes
+pub mod ReadInsides

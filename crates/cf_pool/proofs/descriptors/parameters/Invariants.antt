@@ -1,9 +1,0 @@
-use Rattle.std.proofs.Common.{◌≡◌, ◌-◌}
-use Rattle.cf_pool.specs.Types.{parameters_of}
-use Rattle.cf_pool.proofs.Loops.{with_front}
-use Rattle.cf_pool.proofs.descriptors.parameters.Given as goal
-
--- the types so far and those that follow are all of them
-abbrev pub invariant-loop : goal.invariant-loop
-invariant-loop l =
-    with_front l.types.items (parameters_of (l.most - l.counter) l.at l.rest) ≡ parameters_of l.most l.at l.text

@@ -1,7 +1,0 @@
-use Rattle.std.proofs.Common.{◌≡◌, drop, true}
-use Rattle.cf_pool.specs.Names.{are_parts}
-use Rattle.cf_pool.proofs.names.is_class_name.Given as goal
-
--- what is left are parts exactly where all are
-abbrev pub invariant-loop-byte : goal.invariant-loop-byte
-invariant-loop-byte l = are_parts l.begins (drop l.byte-index l.text) ≡ are_parts true l.text

@@ -1,7 +1,0 @@
-use Rattle.std.proofs.Common.{◌≡◌, ◌-◌}
-use Rattle.cf_reader.specs.Codes.{skim_item, skim_many}
-use Rattle.cf_reader.proofs.code.skim_items.Given as goal
-
--- those that are left decide
-abbrev pub invariant-loop : goal.invariant-loop
-invariant-loop l = skim_many (skim_item l.bytes) (l.count - l.counter) l.place ≡ skim_many (skim_item l.bytes) l.count l.at

@@ -1,0 +1,20 @@
+use Rattle.std.proofs.Common.{ap, inl, inr, not, rules, sym, ◌∙◌}
+use Rattle.cf_reader.specs.Seen.{Key}
+use Rattle.cf_reader.proofs.SeenLaws.{key-put, key-tells, none-tells}
+use Rattle.cf_reader.proofs.seen.Seen.add.Goals as goal
+
+pub returns-in_default-clause-value : goal.returns-in_default-clause-value
+returns-in_default-clause-value c = λ members are. none-tells c.args.pool.now c.args.member.now (inl (search rules)) members
+
+pub returns-in_default-utf8-clause-value : goal.returns-in_default-utf8-clause-value
+returns-in_default-utf8-clause-value c = λ members are. none-tells c.args.pool.now c.args.member.now (inr (search rules)) members
+
+pub returns-in-Ok-clause-value : goal.returns-in-Ok-clause-value
+returns-in-Ok-clause-value c = λ members are.
+    let key : Key = (c.as_bytes.result, c.as_bytes-2.result) in
+    c.in-Ok.ensures.added ∙ ap not (key-tells c.args.pool.now c.args.member.now key (search rules) (search rules) c.args.self.now members are)
+
+pub returns-in-Ok-clause-added : goal.returns-in-Ok-clause-added
+returns-in-Ok-clause-added c = λ members are.
+    let key : Key = (c.as_bytes.result, c.as_bytes-2.result) in
+    key-put c.args.pool.now c.args.member.now key (search rules) (search rules) c.args.self.now (record { keys = c.insert.new.self }) members c.in-Ok.ensures.updates.0 are

@@ -1,0 +1,46 @@
+//! Which members stood before: a table of their descriptors and names.
+
+ghost use Rattle.std.specs.Prelude.{◌≡◌, ◌∷◌, ◌++◌, [], List, IfErr, IfOk, OnOk, not};
+ghost use Rattle.cf_pool.specs.declared.pool.Entry.{Entry};
+ghost use Rattle.cf_text.specs.declared.fault.ReadFault.TheVariants.{Memory};
+ghost use Rattle.cf_reader.specs.Checks.{occurs};
+ghost use Rattle.cf_reader.specs.Seen.{AreSeen};
+
+use cf_layout::Member;
+use cf_pool::{Pool, ReadFault};
+use std::alloc::Global;
+use std::collections::BTreeSet;
+
+/// The descriptors and names of members so far.
+#[derive(Drop)]
+pub(crate) struct Seen<'a> {
+    keys: BTreeSet<(&'a [u8], &'a [u8])>,
+}
+
+impl<'a> Seen<'a> {
+    pub(crate) fn new(alloc: Global) -> Seen<'a>
+        ensures { (pool : List Entry) → AreSeen pool result [] }
+    {
+        Seen {
+            keys: BTreeSet::new(alloc),
+        }
+    }
+
+    /// Puts a member behind those so far, and tells whether it is new among them.
+    pub(crate) fn add(&mut self, pool: &'a Pool, member: &Member) -> Result<bool, ReadFault>
+        ensures value { IfOk result (λ new. (members : List Member) → AreSeen pool.now self.old members → new ≡ not (occurs pool.now members member.now)) }
+        ensures added { OnOk result ((members : List Member) → AreSeen pool.now self.old members → AreSeen pool.now self.new (members ++ member.now ∷ [])) }
+        ensures want { IfErr result (λ fault. fault ≡ Memory) }
+    {
+        let Some(descriptor) = pool.utf8(member.descriptor.value) else {
+            return Ok(true);
+        };
+        let Some(name) = pool.utf8(member.name.value) else {
+            return Ok(true);
+        };
+        match self.keys.insert((descriptor.as_bytes(), name.as_bytes())) {
+            Ok(is_new) => Ok(is_new),
+            Err(_) => Err(ReadFault::Memory),
+        }
+    }
+}

@@ -1,0 +1,59 @@
+-- Reading one after the other, as a loop does: what was read so far stands in front of what is still read.
+use Rattle.std.proofs.Common.{◌≡◌, ℕ, zero, suc, ◌+◌, ◌-◌, ◌<◌, ◌≤◌, List, [], ◌∷◌, ◌++◌, Result, Ok, Err, refl, sym, ap, ◌∙◌, append_assoc, arith}
+use Rattle.std.proofs.lemmas.List.{append-nil}
+use Rattle.cf_text.specs.declared.fault.ReadFault.{ReadFault}
+use Rattle.cf_text.specs.declared.fault.ReadFault.TheVariants.{Broken, Memory}
+use Rattle.cf_text.specs.Reading.{◌>>=◌, Fails, many}
+
+abbrev pub with_front : {A R : Type 0} → List A → Result (List A × R) ReadFault → Result (List A × R) ReadFault
+with_front front reading = reading >>= λ x. Ok (front ++ x.0, x.1)
+
+-- one more of them in front
+pub with_front-push : {A R : Type 0} (front : List A) (first : A) (others : Result (List A × R) ReadFault)
+    → with_front front (others >>= λ x. Ok (first ∷ x.0, x.1)) ≡ with_front (front ++ first ∷ []) others
+with_front-push front first (Ok x) = ap (λ items. Ok (items, x.1)) (simp append_assoc)
+with_front-push front first (Err fault) = refl
+
+-- nothing more
+pub with_front-end : {A R : Type 0} (front : List A) (rest : R) → with_front front (Ok ([], rest)) ≡ Ok (front, rest)
+with_front-end front rest = ap (λ items. Ok (items, rest)) (append-nil front)
+
+-- a step that fails is how all of it fails
+pub with_front-fails : {A B R : Type 0} (fault : ReadFault) (front : List A) (step : Result B ReadFault) (others : B → Result (List A × R) ReadFault)
+    → Fails step fault → Fails (with_front front (step >>= others)) fault
+with_front-fails (Broken rule at) front step others fails = rw fails refl
+with_front-fails Memory front step others fails = tt
+
+-- a fault of the one reading is a fault of an equal one
+pub Fails-along : {A : Type 0} (fault : ReadFault) (one other : Result A ReadFault) → one ≡ other → Fails one fault → Fails other fault
+Fails-along (Broken rule at) one other same fails = rw (← same) fails
+Fails-along Memory one other same fails = tt
+
+-- Of so many values, `done` were read, and stand in front.
+module _ {A : Type 0} (read : ℕ → Result (A × ℕ) ReadFault) (front : List A) (count done at : ℕ) (all : Result (List A × ℕ) ReadFault)
+    (so_far : with_front front (many read (count - done) at) ≡ all) where
+  -- one more is read
+  pub many-goes_on : (first : A) (after : ℕ) → done < count → read at ≡ Ok (first, after) → with_front (front ++ first ∷ []) (many read (count - (done + 1)) after) ≡ all
+  unfolding many
+  many-goes_on first after more step =
+      let left : count - done ≡ suc (count - (done + 1)) = omega arith in
+      let one : with_front front (many read (count - done) at) ≡ with_front (front ++ first ∷ []) (many read (count - (done + 1)) after) =
+      rw (left, step) (with_front-push front first (many read (count - (done + 1)) after)) in
+      sym one ∙ so_far
+
+  -- the next one fails, and so do all
+  pub many-fails : (fault : ReadFault) → done < count → Fails (read at) fault → Fails all fault
+  unfolding many
+  many-fails (Broken rule place) more fails =
+      let left : count - done ≡ suc (count - (done + 1)) = omega arith in
+      let one : with_front front (many read (count - done) at) ≡ Err (Broken rule place) = rw (left, fails) refl in
+      sym so_far ∙ one
+  many-fails Memory more fails = tt
+
+  -- all were read
+  pub many-end : count ≤ done → all ≡ Ok (front, at)
+  unfolding many
+  many-end none =
+      let left : count - done ≡ 0 = omega arith in
+      let one : with_front front (many read (count - done) at) ≡ Ok (front, at) = rw left (with_front-end front at) in
+      sym so_far ∙ one

@@ -1,0 +1,10 @@
+pub mod Reading
+pub mod Numbers
+pub mod Demands
+pub mod Names
+pub mod Utf8
+pub mod Types
+pub mod Formats
+pub mod Looks
+pub mod Descriptors
+pub mod Order

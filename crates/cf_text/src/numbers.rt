@@ -1,0 +1,84 @@
+//! Items of a class file: big-endian numbers and runs of bytes, each read from a place on, with the
+//! place behind it. Places count from the start of the file. An item that is cut is a fault at its
+//! first byte.
+
+ghost use Rattle.cf_text.specs.Reading.{Gives};
+ghost use Rattle.cf_text.specs.Numbers.{bytes_at, number_at, signed_at, skip_at};
+
+use super::{ReadFault, Row, Rule, Text};
+use byteorder::{BigEndian, ByteOrder};
+use std::alloc::Global;
+
+/// The place behind the next `len` bytes.
+pub fn skip(bytes: &[u8], at: usize, len: usize) -> Result<usize, ReadFault>
+    ensures { Gives (skip_at len bytes.now at) result }
+{
+    if at > bytes.len() || bytes.len() - at < len {
+        return Err(ReadFault::Broken {
+            rule: Rule::Truncated,
+            at,
+        });
+    }
+    Ok(at + len)
+}
+
+/// A number of one byte.
+pub fn read_u8(bytes: &[u8], at: usize) -> Result<(u8, usize), ReadFault>
+    ensures { Gives (number_at 1 bytes.now at) result }
+{
+    let to = skip(bytes, at, 1)?;
+    Ok((bytes[at], to))
+}
+
+/// A number of two bytes.
+pub fn read_u16(bytes: &[u8], at: usize) -> Result<(u16, usize), ReadFault>
+    ensures { Gives (number_at 2 bytes.now at) result }
+{
+    let to = skip(bytes, at, 2)?;
+    Ok((BigEndian::read_u16(&bytes[at..]), to))
+}
+
+/// A number of four bytes.
+pub fn read_u32(bytes: &[u8], at: usize) -> Result<(u32, usize), ReadFault>
+    ensures { Gives (number_at 4 bytes.now at) result }
+{
+    let to = skip(bytes, at, 4)?;
+    Ok((BigEndian::read_u32(&bytes[at..]), to))
+}
+
+/// A signed number of four bytes, in two's complement.
+#[tactic(auto, unfolding(crate::specs::Numbers::signed_at))]
+pub fn read_i32(bytes: &[u8], at: usize) -> Result<(i32, usize), ReadFault>
+    ensures { Gives (signed_at bytes.now at) result }
+{
+    let (bits, to) = read_u32(bytes, at)?;
+    Ok((bits.cast_signed(), to))
+}
+
+/// The next `len` bytes, as a text.
+pub fn read_text(
+    alloc: Global,
+    bytes: &[u8],
+    at: usize,
+    len: usize,
+) -> Result<(Text, usize), ReadFault>
+    ensures { Gives (bytes_at len bytes.now at) result }
+{
+    let to = skip(bytes, at, len)?;
+    let text = Vec::from_slice(alloc, &bytes[at..to])?;
+    Ok((Text::new(text), to))
+}
+
+/// The next `len` bytes, as a row.
+pub fn read_row(
+    alloc: Global,
+    bytes: &[u8],
+    at: usize,
+    len: usize,
+) -> Result<(Row<u8>, usize), ReadFault>
+    ensures { Gives (bytes_at len bytes.now at) result }
+{
+    let to = skip(bytes, at, len)?;
+    let row = Vec::from_slice(alloc, &bytes[at..to])?;
+    Ok((Row::new(row), to))
+}

@@ -1,0 +1,23 @@
+use Rattle.std.proofs.Common.{◌<◌, ◌∙◌, List, [], ◌∷◌, length, get_or, take, sym, subst, ap}
+use Rattle.std.proofs.lemmas.List.{take_more}
+use Rattle.cls_set.specs.declared.class.ClassId.{ClassId}
+use Rattle.cls_set.specs.Walks.{Met, met_by, meet_all, meet_one}
+use Rattle.cls_set.proofs.Walks.{long_all, meet_append}
+use Rattle.cls_set.proofs.walking.meet_each.Goals as goal
+
+pub meet-requires : goal.meet-requires
+meet-requires c =
+    let cs = c.args.classes.now in
+    let i = c.loop-class.class-index in
+    let same = ap (λ (m : Met). length m.0) c.loop-class.invariant ∙ long_all (met_by c.args.walk.now) (take i cs) in
+    subst (λ n. (get_or cs i (record { 0 = 0 })).0 < n) (sym same) (c.requires i (record { 0 = 0 }) c.loop-class-test.true)
+
+pub loop-class-preserved : goal.loop-class-preserved
+loop-class-preserved c =
+    let cs = c.args.classes.now in
+    let i = c.loop-class.class-index in
+    let start = met_by c.args.walk.now in
+    let s : ClassId = get_or cs i (record { 0 = 0 }) in
+    c.in_ok-meet.ensures
+    ∙ (ap (λ m. meet_one m s) c.loop-class.invariant
+    ∙ (sym (meet_append start (take i cs) (s ∷ [])) ∙ ap (meet_all start) (sym (take_more cs i (record { 0 = 0 }) c.loop-class-test.true))))

@@ -1,0 +1,93 @@
+//! Walks up the supertypes of classes: each class is ranked by the number of its supertypes, and none may
+//! be among its own.
+
+ghost use Rattle.std.specs.Prelude.{◌≡◌, ◌<◌, ◌≤◌, All, IfOk, IfSome, IfNone, OnOk, length};
+ghost use Rattle.cls_set.specs.Members.{classes_of, IsRanked};
+ghost use Rattle.cls_set.specs.Walks.{met_by, meet_one, meet_all, ups_at, AreWithin, IsWalked, IsFirstOwn};
+
+use super::ClassId;
+use super::members::Member;
+use std::alloc::{AllocError, Global};
+
+// The classes that a walk up has met: whether it has, by number, and in the order in which it has.
+#[derive(Debug, Drop)]
+pub(crate) struct Walk {
+    pub(crate) met: Vec<bool>,
+    pub(crate) order: Vec<ClassId>,
+}
+
+fn meet(class: ClassId, walk: &mut Walk) -> Result<(), AllocError>
+    requires { class.0 < length walk.old.met.items }
+    ensures { OnOk result (met_by walk.new ≡ meet_one (met_by walk.old) class) }
+{
+    let place = usize::from(class.0);
+    if walk.met[place] {
+        return Ok(());
+    }
+    walk.met[place] = true;
+    walk.order.push(class)?;
+    Ok(())
+}
+
+fn meet_each(classes: &[ClassId], walk: &mut Walk) -> Result<(), AllocError>
+    requires { All (λ s. s.0 < length walk.old.met.items) classes.now }
+    ensures { OnOk result (met_by walk.new ≡ meet_all (met_by walk.old) classes.now) }
+{
+    for class in classes {
+        meet(*class, walk)?;
+    }
+    Ok(())
+}
+
+// Meets the direct supertypes of a class.
+fn meet_supertypes(members: &[Member], class: ClassId, walk: &mut Walk) -> Result<(), AllocError>
+    requires in_set { class.0 < length members.now }
+    requires within { AreWithin (length walk.old.met.items) (classes_of members.now) }
+    ensures { OnOk result (met_by walk.new ≡ meet_all (met_by walk.old) (ups_at (classes_of members.now) class)) }
+{
+    let class = &members[usize::from(class.0)].class;
+    meet_each(class.interfaces.as_slice(), walk)?;
+    match class.superclass {
+        Some(superclass) => meet(superclass, walk),
+        None => Ok(()),
+    }
+}
+
+// Meets each supertype of a class once.
+fn walk_up(alloc: Global, members: &[Member], from: ClassId) -> Result<Walk, AllocError>
+    requires in_set { from.0 < length members.now }
+    requires within { AreWithin (length members.now) (classes_of members.now) }
+    ensures { IfOk result (IsWalked (classes_of members.now) from) }
+{
+    let mut walk = Walk {
+        met: vec![in alloc; false; members.len()]?,
+        order: Vec::new(alloc),
+    };
+    meet_supertypes(members, from, &mut walk)?;
+    let mut next = 0;
+    'up: while next < walk.order.len() {
+        let class = walk.order[next];
+        meet_supertypes(members, class, &mut walk)?;
+        next += 1;
+    }
+    Ok(walk)
+}
+
+// Ranks the classes, up to the first that is its own supertype, and gives its place. It takes a step for
+// each class and each supertype of it.
+pub(crate) fn rank(alloc: Global, members: &mut Vec<Member>) -> Result<Option<usize>, AllocError>
+    requires few { length members.old.items ≤ 4096 }
+    requires within { AreWithin (length members.old.items) (classes_of members.old.items) }
+    ensures classes { classes_of members.new.items ≡ classes_of members.old.items }
+    ensures own { IfOk result (λ own. IfSome own (IsFirstOwn (classes_of members.old.items))) }
+    ensures ranked { IfOk result (λ own. IfNone own (All (IsRanked members.new.items) members.new.items)) }
+{
+    for place in 0..members.len() {
+        let walk = walk_up(alloc, members.as_slice(), ClassId(place as u16))?;
+        if walk.met[place] {
+            return Ok(Some(place));
+        }
+        members[place].rank = walk.order.len();
+    }
+    Ok(None)
+}

@@ -1,0 +1,170 @@
+//! The path from bytes to an outcome: command lines over a folder in memory.
+
+use super::Tally;
+use cf_reader::{LoadFault, ReadFault};
+use cls_link::LinkFault;
+use cls_set::SetFault;
+use sp_main::{
+    ClassBytes, Content, Folder, FolderFault, Refusal, RunOutcome, command, run_classes,
+};
+use std::alloc::{AllocError, Global};
+use std::io;
+use std::io::ErrorKind;
+use ver_check::CheckFault;
+use vm_heap::Value;
+use vm_step::{Limits, StartFault};
+
+// The class of examples/sum.
+const SUM: &[u8; 144] = b"\xca\xfe\xba\xbe\x00\x00\x00\x34\x00\x09\
+\x01\x00\x01T\x07\x00\x01\x01\x00\x10java/lang/Object\x07\x00\x03\
+\x01\x00\x01f\x01\x00\x04(I)I\x01\x00\x04Code\x01\x00\x0dStackMapTable\
+\x00\x21\x00\x02\x00\x04\x00\x00\x00\x00\x00\x01\
+\x00\x09\x00\x05\x00\x06\x00\x01\
+\x00\x07\x00\x00\x00\x2b\x00\x02\x00\x02\x00\x00\x00\x12\
+\x03\x3c\x1a\x9e\x00\x0d\x1b\x1a\x60\x3c\x84\x00\xff\xa7\xff\xf5\x1b\xac\
+\x00\x00\x00\x01\x00\x08\x00\x00\x00\x07\x00\x02\xfc\x00\x02\x01\x0d\x00\x00";
+
+// A line of words, with the status and the text that it owes. Most of its memory goes into the words.
+const LINE: (&str, u8, &str) = ("run box T f(I)I 4 --fuel 38", 0, "returned 10\n");
+
+const WANT: (u8, &str) = (3, "no memory\n");
+
+// A folder with the class in one file.
+#[derive(Drop)]
+struct Shelf {
+    alloc: Global,
+}
+
+impl Folder for Shelf {
+    type File = &'static [u8];
+
+    fn paths(&self, folder: &str) -> Result<Vec<String>, FolderFault> {
+        let mut path = String::from_str(self.alloc, folder)?;
+        path.push_str("/T.class")?;
+        let mut paths = Vec::new(self.alloc);
+        paths.push(path)?;
+        Ok(paths)
+    }
+
+    fn open(&self, path: &str) -> io::Result<&'static [u8]> {
+        match path {
+            "box/T.class" => Ok(SUM.as_slice()),
+            _ => Err(io::Error::from(ErrorKind::NotFound)),
+        }
+    }
+}
+
+// What a line of words came to.
+#[derive(Drop)]
+struct Said {
+    status: u8,
+    out: Vec<u8>,
+    err: Vec<u8>,
+}
+
+impl Said {
+    // This status, and this text on the output of the status alone.
+    fn is(&self, status: u8, text: &str) -> bool {
+        let (told, other) = if status < 2 {
+            (&self.out, &self.err)
+        } else {
+            (&self.err, &self.out)
+        };
+        self.status == status && told.as_slice() == text.as_bytes() && other.is_empty()
+    }
+}
+
+fn say(alloc: Global, line: &str) -> Result<Said, AllocError> {
+    let mut words = Vec::new(alloc);
+    words.push(String::from_str(alloc, "rmispace")?)?;
+    for word in line.split(' ') {
+        words.push(String::from_str(alloc, word)?)?;
+    }
+    // With room for every text, so that to write takes no memory.
+    let mut out = Vec::with_capacity(alloc, 256)?;
+    let mut err = Vec::with_capacity(alloc, 256)?;
+    let status = command(
+        alloc,
+        &words,
+        &Shelf { alloc },
+        &mut b"".as_slice(),
+        &mut out,
+        &mut err,
+    );
+    Ok(Said { status, out, err })
+}
+
+// Gives a line to the program.
+fn play_line(alloc: Global, tally: &mut Tally) -> Result<(), AllocError> {
+    let (line, status, text) = LINE;
+    let mut said = say(alloc, line)?;
+    if said.is(WANT.0, WANT.1) {
+        tally.want();
+        said = say(alloc, line)?;
+    }
+    tally.answer(said.is(status, text));
+    Ok(())
+}
+
+type Answer = Result<RunOutcome, Refusal>;
+
+fn run(alloc: Global, file: &[u8], method: &[u8], argument: i32) -> Result<Answer, AllocError> {
+    let mut files = Vec::new(alloc);
+    files.push(ClassBytes {
+        path: String::new(alloc),
+        content: Content::Bytes(file.to_vec(alloc)?),
+    })?;
+    let mut arguments = Vec::new(alloc);
+    arguments.push(Value::Int(argument))?;
+    Ok(run_classes(alloc, &files, b"T", method, arguments, Limits::default()))
+}
+
+fn is_want(answer: &Answer) -> bool {
+    match answer {
+        Err(Refusal::Memory)
+        | Err(
+            Refusal::File {
+                fault: LoadFault::Read(ReadFault::Memory),
+                ..
+            },
+        )
+        | Err(Refusal::Set(SetFault::Memory))
+        | Err(Refusal::Link(LinkFault::Memory))
+        | Err(Refusal::Check(CheckFault::Memory))
+        | Err(Refusal::Start(StartFault::Memory)) => true,
+        _ => false,
+    }
+}
+
+fn run_again(
+    alloc: Global,
+    file: &[u8],
+    method: &[u8],
+    argument: i32,
+    tally: &mut Tally,
+) -> Result<Answer, AllocError> {
+    let answer = run(alloc, file, method, argument)?;
+    if is_want(&answer) {
+        tally.want();
+        return run(alloc, file, method, argument);
+    }
+    Ok(answer)
+}
+
+/// Gives a line to the program, and runs the class whole, cut, and by a name that it has not.
+pub fn play(alloc: Global, tally: &mut Tally) -> Result<(), AllocError> {
+    play_line(alloc, tally)?;
+    let answer = run_again(alloc, SUM, b"f(I)I", 100, tally)?;
+    tally.answer(matches!(answer, Ok(RunOutcome::Returned(Some(Value::Int(5050))))));
+    let answer = run_again(alloc, &SUM[..143], b"f(I)I", 100, tally)?;
+    tally.answer(matches!(
+        answer,
+        Err(Refusal::File {
+            place: 0,
+            fault: LoadFault::Read(ReadFault::Broken { at: 142, .. })
+        })
+    ));
+    let answer = run_again(alloc, SUM, b"g(I)I", 100, tally)?;
+    tally.answer(matches!(answer, Err(Refusal::Start(StartFault::AbsentMethod))));
+    Ok(())
+}

@@ -1,0 +1,24 @@
+use Rattle.std.proofs.Common.{string_bytes}
+use Rattle.std.proofs.lemmas.List.Sorted.{All-permutation}
+use Rattle.sp_main.specs.Folders.{IsBelow, IsClassPath, NamesBelow}
+use Rattle.sp_main.proofs.Below.{popped}
+use Rattle.sp_main.proofs.Files.{known_error}
+use Rattle.sp_main.proofs.folder.DiskFolder.paths.Goals as goal
+
+pub returns-in_err-list_folder-in-Some-clause-fault : goal.returns-in_err-list_folder-in-Some-clause-fault
+returns-in_err-list_folder-in-Some-clause-fault g c =
+    let next = popped (λ path. IsBelow c.args.folder.now (string_bytes path)) c.loop.found.folders.items c.pop.new.self.items c.pop.result c.in-Some.next
+    c.pop.ensures.items c.in-Some.is c.loop.invariant.1 in
+    known_error c.from_residual-in_err-list_folder-in-Some.result c.in_err-list_folder-in-Some.field-0.0 (NamesBelow c.args.folder.now)
+    c.from_residual-in_err-list_folder-in-Some.ensures.1 ((c.in_err-list_folder-in-Some.ensures).fault c.args.folder.now next.1)
+
+pub returns-in-None-clause-class_files : goal.returns-in-None-clause-class_files
+returns-in-None-clause-class_files g c =
+    All-permutation (λ path. IsClassPath c.args.folder.now (string_bytes path)) c.loop.found.files.items c.sort.new.self.items
+    c.sort.ensures.permutation c.loop.invariant.0
+
+pub loop-preserved : goal.loop-preserved
+loop-preserved g c =
+    let next = popped (λ path. IsBelow c.args.folder.now (string_bytes path)) c.loop.found.folders.items c.pop.new.self.items c.pop.result c.in-Some.next
+    c.pop.ensures.items c.in-Some.is c.loop.invariant.1 in
+    (c.in_ok-list_folder-in-Some.ensures).found c.args.folder.now next.1 (c.loop.invariant.0, next.0)

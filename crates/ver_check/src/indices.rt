@@ -1,0 +1,51 @@
+//! Which declared frame stands at each instruction.
+
+ghost use Rattle.std.specs.Prelude.{◌≡◌, ◌==◌, ◌<◌, false, IfOk, length, slice_get, true};
+ghost use Rattle.std.specs.List.{AllByRecursion, list_any};
+ghost use Rattle.std.specs.List.Sorted.{IsStrictlyIncreasing};
+ghost use Rattle.std.specs.Option.{option_map_or};
+ghost use Rattle.ver_check.specs.Indices.{AreIndices};
+ghost use Rattle.ver_check.specs.Offsets.{declared_offsets};
+
+use super::TypeFrame;
+use std::alloc::{AllocError, Global};
+
+// Whether the frame at an index is declared at an offset.
+fn is_at(declared: &[(u16, TypeFrame)], index: usize, offset: u16) -> bool
+    ensures test { result ≡ option_map_or (λ frame. frame.0 == offset) (slice_get declared.now index) false }
+    ensures inside { result ≡ true → index < length declared.now }
+{
+    match declared.get(index) {
+        Some(frame) => frame.0 == offset,
+        None => false,
+    }
+}
+
+// For each instruction, by its offset, the index of the frame that is declared there: one pass over
+// the instructions and the frames, each of which stands at one of them. More frames than two bytes
+// count are want of memory.
+pub(crate) fn find_frames(
+    alloc: Global,
+    offsets: &[u16],
+    declared: &[(u16, TypeFrame)],
+) -> Result<Vec<Option<u16>>, AllocError>
+    requires offsets { IsStrictlyIncreasing offsets.now }
+    requires declared { IsStrictlyIncreasing (declared_offsets declared.now) }
+    requires starts { AllByRecursion (λ frame. list_any (λ start. start == frame.0) offsets.now ≡ true) declared.now }
+    ensures { IfOk result (λ indices. AreIndices declared.now offsets.now indices.items) }
+{
+    if declared.len() > usize::from(u16::MAX) {
+        return Err(AllocError);
+    }
+    let mut indices = Vec::with_capacity(alloc, offsets.len())?;
+    let mut next = 0;
+    for offset in offsets {
+        if is_at(declared, next, *offset) {
+            indices.push(Some(next as u16))?;
+            next += 1;
+        } else {
+            indices.push(None)?;
+        }
+    }
+    Ok(indices)
+}
