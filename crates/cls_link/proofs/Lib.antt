@@ -1,4 +1,5 @@
 pub mod Declarations
+pub mod FieldCounts
 pub mod Found
 pub mod Heights
 pub mod Indices

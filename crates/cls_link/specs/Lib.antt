@@ -1,3 +1,4 @@
+pub mod Fields
 pub mod Links
 pub mod Numbers
 pub mod Searches

@@ -8,10 +8,11 @@ pub use cls_set::{
     MethodDescriptor, Numbered, Pool, Row, SetFault, SetRule, Text,
 };
 pub use fault::{LinkFault, LinkRule};
-pub use linked::{LinkedCode, LinkedInsn, LinkedMethod, MethodId, Selection};
+pub use linked::{FieldSlot, LinkedCode, LinkedInsn, LinkedMethod, MethodId, Selection};
 pub use links::{Linked, link};
 
 mod fault;
+mod fields;
 mod linked;
 mod linking;
 mod links;

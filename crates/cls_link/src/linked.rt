@@ -19,6 +19,12 @@ pub enum Selection {
     Absent,
 }
 
+/// Where an object keeps an instance field: its place, from 0, among the fields of an object of the class
+/// that declares it, those of its superclasses first. So the fields of an object have different slots,
+/// and an inherited field has the same one in each subclass.
+#[derive(Clone, Copy, Debug, PartialEq, Eq)]
+pub struct FieldSlot(pub u32);
+
 /// An instruction whose branch target is an index into the method's list of instructions.
 #[derive(Clone, Copy, Debug, PartialEq, Eq)]
 pub enum LinkedInsn {

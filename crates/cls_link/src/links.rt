@@ -5,9 +5,10 @@ ghost use Rattle.cls_link.specs.Links.{declared_methods, AreLinks, IsLinkFault};
 ghost use Rattle.cls_link.specs.Numbers.{place_from};
 ghost use Rattle.cls_link.specs.Selections as selections;
 
+use super::fields::{FieldPlace, count_all, find_field, slot_in};
 use super::linking::link_class;
 use super::methods::{in_interfaces, in_superclasses, selected};
-use super::{LinkFault, LinkedMethod, MethodId, Selection};
+use super::{FieldSlot, LinkFault, LinkedMethod, MethodId, Selection};
 use cls_set::{ClassId, ClassSet, Method};
 use std::alloc::Global;
 use std::marker::Model;
@@ -20,10 +21,13 @@ pub struct Linked {
     methods: Vec<LinkedMethod>,
     // The number of the first method of each class, by class number.
     first: Vec<usize>,
+    // How many fields an object of each class has, by class number.
+    field_counts: Vec<u32>,
 }
 
 impl Model for Linked {
     ghost use Rattle.std.specs.Prelude.{◌≡◌};
+    ghost use Rattle.cls_link.specs.Fields.{AreFieldCounts};
     ghost use Rattle.cls_link.specs.Links.{Links, AreLinks};
     ghost use Rattle.cls_link.specs.Numbers.{starts};
 
@@ -31,11 +35,12 @@ impl Model for Linked {
 
     ghost view = { λ linked. record { classes = linked.set; methods = linked.methods.items } };
 
-    ghost invariant = { λ linked. AreLinks (record { classes = linked.set; methods = linked.methods.items }) × (linked.first.items ≡ starts 0 linked.set) };
+    ghost invariant = { λ linked. AreLinks (record { classes = linked.set; methods = linked.methods.items }) × (linked.first.items ≡ starts 0 linked.set) × AreFieldCounts linked.set linked.field_counts.items };
 }
 
 impl Linked {
-    ghost use Rattle.std.specs.Prelude.{◌≡◌, ◌<◌, Some, IfSome, length, slice_get};
+    ghost use Rattle.std.specs.Prelude.{◌≡◌, ◌<◌, Some, IfSome, IsSome, length, slice_get};
+    ghost use Rattle.cls_link.specs.Fields.{field_at, IsFieldSlot, IsSlot};
     ghost use Rattle.cls_link.specs.Links.{AreLinks, method_at, number_of};
     ghost use Rattle.cls_link.specs.Selections.{IsSelection, ResolvesMethod, Selects};
 
@@ -93,6 +98,29 @@ impl Linked {
             Some(method) => Some(method),
             None => in_interfaces(self, class, name, descriptor),
         }
+    }
+
+    /// Where an object keeps the instance field that a name and a descriptor mean in a class (JVMS
+    /// 5.4.3.2): that of the class, else that of the first of its superinterfaces, depth first, and then
+    /// of its superclass. `None` where what is found is static, or nothing is. Access is not looked at.
+    pub fn field_slot(&self, class: ClassId, name: &[u8], descriptor: &[u8]) -> Option<FieldSlot>
+        requires { class.0 < length self.now.classes }
+        ensures { IsSlot self.now.classes class name.now descriptor.now result }
+    {
+        match find_field(&self.set, class, name, descriptor) {
+            Some(field) => self.slot_of(field),
+            None => None,
+        }
+    }
+
+    // Where an object keeps a field: nowhere, where it is static.
+    fn slot_of(&self, field: FieldPlace) -> Option<FieldSlot>
+        requires { IsSome (field_at self.now.classes field) }
+        ensures { IsFieldSlot self.now.classes field result }
+    {
+        let fields = self.set().class(field.class).file.fields.as_slice();
+        let count = self.field_counts[usize::from(field.class.0)];
+        slot_in(fields, field.place, count)
     }
 
     /// The method that a call of a resolved method runs (JVMS 5.4.6): the first instance method of its
@@ -172,12 +200,13 @@ fn find(methods: &[Method], name: &[u8], descriptor: &[u8]) -> Option<usize>
 ///
 /// The first method at fault counts, by class number and then as declared. In this project's profile
 /// of now, whose instructions name nothing, only `Code` faults can come. Memory is also what is
-/// wanting for code or a number of methods that no class file holds (JVMS 4.11).
+/// wanting for code or a number of methods or of fields that no class file holds (JVMS 4.11).
 pub fn link(alloc: Global, set: ClassSet) -> Result<Linked, LinkFault>
     ensures classes { IfOk result (λ linked. linked.classes ≡ set) }
     ensures links { IfOk result AreLinks }
     ensures fault { IfErr result (IsLinkFault (declared_methods set)) }
 {
+    let field_counts = count_all(alloc, &set)?;
     let mut methods = Vec::new(alloc);
     let mut first = Vec::with_capacity(alloc, set.len())?;
     for number in 0..set.len() {
@@ -192,5 +221,6 @@ pub fn link(alloc: Global, set: ClassSet) -> Result<Linked, LinkFault>
         set,
         methods,
         first,
+        field_counts,
     })
 }

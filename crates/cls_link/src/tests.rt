@@ -34,12 +34,31 @@ fn method(alloc: Global, flags: u16, name: &[u8]) -> Result<Method, AllocError> 
     })
 }
 
-// The class or interface T, with the methods static f, g and abstract h, numbered 0, 1 and 2.
+// A field of an int.
+fn field(alloc: Global, flags: u16, name: &[u8]) -> Result<Field, AllocError> {
+    Ok(Field {
+        flags: Flags { bits: flags },
+        name: text(alloc, name)?,
+        descriptor: text(alloc, b"I")?,
+        kind: FieldType {
+            dimensions: 0,
+            element: ElementType::Int,
+        },
+        constant: None,
+    })
+}
+
+// The class or interface T, with the methods static f, g and abstract h, numbered 0, 1 and 2, and the
+// fields a, static b and c.
 fn linked(alloc: Global, flags: u16, superclass: &[u8]) -> Result<Linked, Fail> {
     let mut methods = Vec::new(alloc);
     methods.push(method(alloc, Flags::PUBLIC | Flags::STATIC, b"f")?)?;
     methods.push(method(alloc, Flags::PUBLIC, b"g")?)?;
     methods.push(method(alloc, Flags::PUBLIC | Flags::ABSTRACT, b"h")?)?;
+    let mut fields = Vec::new(alloc);
+    fields.push(field(alloc, Flags::PUBLIC, b"a")?)?;
+    fields.push(field(alloc, Flags::PUBLIC | Flags::STATIC, b"b")?)?;
+    fields.push(field(alloc, Flags::PUBLIC, b"c")?)?;
     let mut interfaces = Vec::new(alloc);
     interfaces.push(text(alloc, b"java/rmi/Remote")?)?;
     let file = ClassFile {
@@ -48,7 +67,7 @@ fn linked(alloc: Global, flags: u16, superclass: &[u8]) -> Result<Linked, Fail> 
         name: text(alloc, b"T")?,
         superclass: Some(text(alloc, superclass)?),
         interfaces: Row::new(interfaces),
-        fields: Row::new(Vec::new(alloc)),
+        fields: Row::new(fields),
         methods: Row::new(methods),
     };
     let mut files = Vec::new(alloc);
@@ -134,5 +153,18 @@ fn a_call_runs_the_first_instance_method(rt: HostRuntime) -> Result<(), Fail> {
     // Any class's `<init>` has the name and the descriptor of that of T's superclass.
     let inherited = selected(&rt, &linked, b"T", MethodId(4))?;
     assert_eq!(rt; inherited, Selection::Runs(MethodId(3)));
+    Ok(())
+}
+
+#[test]
+fn instance_fields_have_slots(rt: HostRuntime) -> Result<(), Fail> {
+    let linked = linked(rt.alloc(), Flags::PUBLIC, b"java/io/IOException")?;
+    let class = linked.set().number(b"T").ok_or("no class")?;
+    assert!(rt; usize::from(class.0) < linked.set().len());
+    assert_eq!(rt; linked.field_slot(class, b"a", b"I"), Some(FieldSlot(0)));
+    assert_eq!(rt; linked.field_slot(class, b"c", b"I"), Some(FieldSlot(1)));
+    assert_eq!(rt; linked.field_slot(class, b"b", b"I"), None);
+    assert_eq!(rt; linked.field_slot(class, b"c", b"Z"), None);
+    assert_eq!(rt; linked.field_slot(class, b"d", b"I"), None);
     Ok(())
 }

@@ -1,0 +1,58 @@
+use Rattle.std.proofs.Common.{◌≡◌, Some, None, [], ◌∙◌, sym, subst, arith}
+use Rattle.std.specs.Prelude.{Contains, slice_index_or}
+use Rattle.std.proofs.lemmas.List.Elements.{Contains-get_or}
+use Rattle.cls_set.specs.declared.class.ClassId.{ClassId}
+use Rattle.cls_link.specs.Fields.{own_field}
+use Rattle.cls_link.specs.Searches as searches
+use Rattle.cls_link.proofs.Found.{through_interface, interface_passed, through_superclass, through_none}
+use Rattle.cls_link.proofs.Heights.{superclass_above, interface_above}
+use Rattle.cls_link.proofs.fields.+find_field.Goals as goal
+
+pub returns-in-Some-clause-found : goal.returns-in-Some-clause-found
+returns-in-Some-clause-found t c = searches.Finds.here c.args.class [] c.in-Some.field (sym c.in-Some.ensures.found)
+
+pub superinterfaces-init : goal.superinterfaces-init
+superinterfaces-init t c = searches.Finds.nothing
+
+pub find_field-requires : goal.find_field-requires
+find_field-requires t c =
+    let classes = c.args.set.now in
+    let items = c.as_slice-superinterface-items.result.now in
+    let i = c.superinterfaces.superinterface-index in
+    let s : ClassId = slice_index_or items i (record { 0 = 0 }) in
+    let among = Contains-get_or items i (record { 0 = 0 }) c.superinterfaces-test.true in
+    let up = interface_above classes c.requires.set c.args.class s c.class-entry.result.now c.class-entry.ensures (subst (λ xs. Contains xs s) c.as_slice-superinterface-items.ensures among) in
+    (omega (arith, up.lower, c.decreases), (c.requires.set, up.in_set))
+
+pub returns-in-Some-find_field-clause-found : goal.returns-in-Some-find_field-clause-found
+returns-in-Some-find_field-clause-found t c =
+    let classes = c.args.set.now in
+    through_interface classes (own_field classes c.args.name.now c.args.descriptor.now) c.args.class c.class-entry.result.now c.class-entry.ensures
+    c.as_slice-superinterface-items.result.now c.as_slice-superinterface-items.ensures c.superinterfaces.superinterface-index (record { 0 = 0 }) c.in-Some-find_field.field
+    c.superinterfaces-test.true (sym c.in_default.ensures.found) c.superinterfaces.invariant c.in-Some-find_field.ensures.found
+
+pub superinterfaces-preserved : goal.superinterfaces-preserved
+superinterfaces-preserved t c =
+    let classes = c.args.set.now in
+    interface_passed classes (own_field classes c.args.name.now c.args.descriptor.now) c.args.class c.class-entry.result.now c.class-entry.ensures
+    c.as_slice-superinterface-items.result.now c.as_slice-superinterface-items.ensures c.superinterfaces.superinterface-index (record { 0 = 0 })
+    c.superinterfaces-test.true c.superinterfaces.invariant c.in_default-find_field.ensures.found
+
+pub find_field-requires-in-Some-superclass : goal.find_field-requires-in-Some-superclass
+find_field-requires-in-Some-superclass t c =
+    let up = superclass_above c.args.set.now c.requires.set c.args.class c.in-Some-superclass.superclass c.class-entry.result.now c.class-entry.ensures c.in-Some-superclass.is in
+    (omega (arith, up.lower, c.decreases), (c.requires.set, up.in_set))
+
+pub returns-in-Some-superclass-clause-found : goal.returns-in-Some-superclass-clause-found
+returns-in-Some-superclass-clause-found t c =
+    let classes = c.args.set.now in
+    through_superclass classes (own_field classes c.args.name.now c.args.descriptor.now) c.args.class c.class-entry.result.now c.class-entry.ensures
+    c.as_slice-superinterface-items.result.now c.as_slice-superinterface-items.ensures c.superinterfaces.superinterface-index c.in-Some-superclass.superclass _
+    c.superinterfaces-test.false (sym c.in_default.ensures.found) c.in-Some-superclass.is c.superinterfaces.invariant c.find_field-in-Some-superclass.ensures.found
+
+pub returns-in-None-clause-found : goal.returns-in-None-clause-found
+returns-in-None-clause-found t c =
+    let classes = c.args.set.now in
+    through_none classes (own_field classes c.args.name.now c.args.descriptor.now) c.args.class c.class-entry.result.now c.class-entry.ensures
+    c.as_slice-superinterface-items.result.now c.as_slice-superinterface-items.ensures c.superinterfaces.superinterface-index
+    c.superinterfaces-test.false (sym c.in_default.ensures.found) c.in-None.is c.superinterfaces.invariant

@@ -1,0 +1,155 @@
+//! Searches for fields, and how many of them objects have.
+
+ghost use Rattle.std.specs.Prelude.{◌≡◌, ◌+◌, ◌-◌, ◌<◌, ◌≤◌, ◌&&◌, Some, IfSome, IfNone, IfOk, IfErr, IsSome, IsTrue, bytes_eq, count_by, drop, length, slice_get};
+ghost use Rattle.cls_link.specs.Fields as spec;
+ghost use Rattle.cls_link.specs.Fields.{place_from, is_instance, field_at, AreFieldCounts, CountsFields, ResolvesField};
+ghost use Rattle.cf_reader.specs.declared.class_file.Field.{Field};
+ghost use Rattle.cls_link.specs.declared.fault.LinkFault.TheVariants.{Memory};
+ghost use Rattle.cls_set.specs.Sets.{IsClassSet};
+
+use super::{FieldSlot, LinkFault};
+use cls_set::{ClassId, ClassSet, Field, Flags};
+use std::alloc::Global;
+
+// A field: the class that declares it, and its place among the fields of that class.
+#[derive(Clone, Copy)]
+pub(crate) struct FieldPlace {
+    pub(crate) class: ClassId,
+    pub(crate) place: usize,
+}
+
+fn is_named(field: &Field, name: &[u8], descriptor: &[u8]) -> bool
+    ensures { result ≡ (bytes_eq field.now.name name.now && bytes_eq field.now.descriptor descriptor.now) }
+{
+    field.name.as_bytes() == name && field.descriptor.as_bytes() == descriptor
+}
+
+// The place of the first field with this name and descriptor.
+fn find(fields: &[Field], name: &[u8], descriptor: &[u8]) -> Option<usize>
+    ensures found { result ≡ place_from 0 fields.now name.now descriptor.now }
+    ensures within { IfSome result (λ place. place < length fields.now) }
+{
+    for (place, field) in fields.iter().enumerate() {
+        if is_named(field, name, descriptor) {
+            return Some(place);
+        }
+    }
+    None
+}
+
+// The field that a class declares with this name and descriptor.
+fn own_field(set: &ClassSet, class: ClassId, name: &[u8], descriptor: &[u8]) -> Option<FieldPlace>
+    requires in_set { class.0 < length set.now }
+    ensures found { result ≡ spec.own_field set.now name.now descriptor.now class }
+    ensures within { IfSome result (λ f. IsSome (field_at set.now f)) }
+{
+    let fields = set.class(class).file.fields.as_slice();
+    match find(fields, name, descriptor) {
+        Some(place) => Some(FieldPlace { class, place }),
+        None => None,
+    }
+}
+
+// The field that a name and a descriptor mean in a class.
+pub(crate) fn find_field(
+    set: &ClassSet,
+    class: ClassId,
+    name: &[u8],
+    descriptor: &[u8],
+) -> Option<FieldPlace>
+    requires set { IsClassSet set.now }
+    requires in_set { class.0 < length set.now }
+    ensures found { ResolvesField set.now class name.now descriptor.now result }
+    ensures within { IfSome result (λ f. IsSome (field_at set.now f)) }
+{
+    if let Some(field) = own_field(set, class, name, descriptor) {
+        return Some(field);
+    }
+    let entry = set.class(class);
+    'superinterfaces: for superinterface in entry.interfaces.as_slice() {
+        if let Some(field) = find_field(set, *superinterface, name, descriptor) {
+            return Some(field);
+        }
+    }
+    match entry.superclass {
+        Some(superclass) => find_field(set, superclass, name, descriptor),
+        None => None,
+    }
+}
+
+fn is_of_instances(field: &Field) -> bool
+    ensures { result ≡ is_instance field.now }
+{
+    !field.flags.has(Flags::STATIC)
+}
+
+// How many of the fields are instance fields.
+fn count_instance_fields(fields: &[Field]) -> usize
+    ensures { result ≡ count_by is_instance fields.now }
+{
+    let mut count = 0;
+    for field in fields {
+        if is_of_instances(field) {
+            count += 1;
+        }
+    }
+    count
+}
+
+// The slot of the field at a place among those that a class declares, which are the last of so many that
+// its objects have: none for a static one.
+pub(crate) fn slot_in(fields: &[Field], place: usize, count: u32) -> Option<FieldSlot>
+    requires within { place < length fields.now }
+    requires few { count_by is_instance (drop place fields.now) ≤ count }
+    ensures of_static { IfNone result ((f : Field) → slice_get fields.now place ≡ Some f → ¬ IsTrue (is_instance f)) }
+    ensures of_instance { IfSome result (λ _. (f : Field) → slice_get fields.now place ≡ Some f → IsTrue (is_instance f)) }
+    ensures slot { IfSome result (λ slot. slot.0 ≡ count - count_by is_instance (drop place fields.now)) }
+{
+    if !is_of_instances(&fields[place]) {
+        return None;
+    }
+    let (_, last) = fields.split_at(place);
+    Some(FieldSlot(count - count_instance_fields(last) as u32))
+}
+
+// The fields that a class inherits and its own, counted.
+fn sum(inherited: u32, own: usize) -> Option<u32>
+    ensures { IfSome result (λ n. n ≡ inherited + own) }
+{
+    match u32::try_from(own) {
+        Ok(own) => inherited.checked_add(own),
+        Err(_) => None,
+    }
+}
+
+// How many fields an object of a class has.
+fn count_fields(set: &ClassSet, class: ClassId) -> Option<u32>
+    requires set { IsClassSet set.now }
+    requires in_set { class.0 < length set.now }
+    ensures { IfSome result (CountsFields set.now class) }
+{
+    let entry = set.class(class);
+    let own = count_instance_fields(entry.file.fields.as_slice());
+    match entry.superclass {
+        Some(superclass) => match count_fields(set, superclass) {
+            Some(inherited) => sum(inherited, own),
+            None => None,
+        },
+        None => sum(0, own),
+    }
+}
+
+// How many fields an object of each class has. More than a u32 holds are want of memory.
+pub(crate) fn count_all(alloc: Global, set: &ClassSet) -> Result<Vec<u32>, LinkFault>
+    ensures counts { IfOk result (λ counts. AreFieldCounts set.now counts.items) }
+    ensures fault { IfErr result (λ fault. fault ≡ Memory) }
+{
+    let mut counts = Vec::with_capacity(alloc, set.len())?;
+    for number in 0..set.len() {
+        match count_fields(set, ClassId(number as u16)) {
+            Some(count) => counts.push(count)?,
+            None => return Err(LinkFault::Memory),
+        }
+    }
+    Ok(counts)
+}
