@@ -16,7 +16,7 @@ fn listing_of(alloc: Global, code: &[u8]) -> Result<Vec<(u16, Insn)>, CodeFault>
     ensures exact { MatchResult result (λ listing. listing_from 0 0 code.now ≡ Ok listing.items) (λ fault. Fails fault (listing_from 0 0 code.now)) }
     ensures rises { IfOk result (λ listing. Rises (offsets listing.items)) }
 {
-    let mut listing = Vec::new(alloc);
+    let mut listing = Vec::with_capacity(alloc, code.len())?;
     let mut at = 0;
     while at < code.len() {
         let offset = at as u16;
