@@ -5,3 +5,4 @@ pub mod Whole
 pub mod Within
 pub mod Below
 pub mod Commas
+pub mod Written

@@ -1,13 +1,12 @@
 -- A task that was started and run to its end is a whole run of the tagged machine.
-use Rattle.std.proofs.Common.{◌≡◌, ◌∙◌, ℕ, zero, suc, ◌+◌, ◌-◌, ◌≤◌, ◌++◌, Bool, true, false, List, [], ◌∷◌, length, refl, ap, sym, subst, arith, Option, Some, None}
+use Rattle.std.proofs.Common.{◌≡◌, ◌∙◌, ℕ, ◌-◌, ◌≤◌, Bool, true, false, List, [], ◌∷◌, length, refl, ap, sym, subst, arith, Option, Some, None}
 use Rattle.std.specs.Prelude.{Ok, Err, map, replicate, nat_le, if◌then◌else◌}
 use Rattle.std.proofs.lemmas.List.{length-append, length-map, length-replicate}
 use Rattle.cf_reader.specs.declared.class_file.Code.{Code}
 use Rattle.cls_link.specs.Links.{Links, AreLinks}
 use Rattle.cls_link.specs.declared.linked.MethodId.{MethodId}
-use Rattle.cls_set.specs.Classes.{name_at}
 use Rattle.cls_set.specs.declared.class.Class.{Class}
-use Rattle.sp_main.specs.Runs.{IsNamed, IsTold, KeepsWithin, Runs, made}
+use Rattle.sp_main.specs.Runs.{IsNamed, IsTold, KeepsWithin, Runs}
 use Rattle.sp_main.specs.declared.running.RunOutcome.{RunOutcome}
 use Rattle.sp_main.specs.declared.running.RunOutcome.TheVariants as told
 use Rattle.sp_main.proofs.Made.{made-fuel}

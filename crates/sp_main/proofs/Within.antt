@@ -4,7 +4,6 @@ use Rattle.std.specs.Prelude.{ℤ, pos, nat_lt, slice_get, slice_set, if◌then�
 use Rattle.std.specs.Int.{int_wrapping_add}
 use mir.Syntax.{w32}
 use Rattle.std.proofs.lemmas.Bool.{ltb-true}
-use Rattle.cf_insns.specs.declared.insn.StackOperation.{StackOperation}
 use Rattle.cf_insns.specs.declared.insn.StackOperation.TheVariants.{Pop, Dup, Swap}
 use Rattle.cf_insns.specs.declared.insn.ValueKind.TheVariants as kind
 use Rattle.cf_reader.specs.declared.class_file.Code.{Code}
@@ -15,7 +14,7 @@ use Rattle.sp_main.specs.Runs.{KeepsWithin}
 use Rattle.vm_heap.specs.Tagged.{Tagged, Int, Null, Local, Own, Foreign, Fresh, This, Unset}
 use Rattle.vm_stack.specs.Frames.{pushed, with_local}
 use Rattle.vm_step.specs.Arithmetic.{unary_result, binary_result, condition_holds}
-use Rattle.vm_step.specs.Machine.{Next, On, Ends, Stuck, act, go_on, jump, branch, on_int, on_top, pop, pop_int, push, load_int, on_local, store, push_result, with_operands, act_on_stack}
+use Rattle.vm_step.specs.Machine.{Next, On, Ends, Stuck, act, go_on, jump, branch, on_int, on_top, pop, pop_int, push, load_int, on_local, store, push_result, with_operands}
 use Rattle.vm_step.specs.Run.{State, Running, Over, Lost, code_of, next, run, step, after}
 use Rattle.vm_step.specs.declared.ending.Ending.TheVariants.{ReturnedInt}
 use Rattle.vm_step.specs.declared.machine.Machine.{Machine}

@@ -3,3 +3,4 @@ pub mod Folders
 pub mod Reports
 pub mod Runs
 pub mod Statuses
+pub mod Texts

@@ -1,5 +1,5 @@
 -- What a report leaves on the two outputs.
-use Rattle.std.specs.Prelude.{◌≡◌, ℕ, List, Option}
+use Rattle.std.specs.Prelude.{◌≡◌, ◌++◌, ◌∷◌, [], ℕ, List, Option}
 use Rattle.std.specs.Io.KnownBytes.{Appends}
 use Rattle.sp_main.specs.declared.status.Status.{Status}
 use Rattle.sp_main.specs.declared.status.Status.TheVariants.{Done, Ended, Refused, Failed}
@@ -17,3 +17,15 @@ LeavesOther Done out out' err err' = err' ≡ err
 LeavesOther Ended out out' err err' = err' ≡ err
 LeavesOther Refused out out' err err' = out' ≡ out
 LeavesOther Failed out out' err err' = out' ≡ out
+
+-- a line: what stands in it, and the newline that ends it
+abbrev pub line_of : List ℕ → List ℕ
+line_of text = text ++ (10 ∷ [])
+
+-- a text is a line
+abbrev pub IsLine : List ℕ → Type 0
+IsLine text = (line : List ℕ) × (text ≡ line_of line)
+
+-- an output that holds known bytes has a line behind them, and nothing more
+abbrev pub TellsLine : (before after : Option (List ℕ)) → Type 0
+TellsLine before after = (line : List ℕ) × Appends before after (line_of line)

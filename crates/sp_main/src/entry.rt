@@ -1,8 +1,9 @@
 //! The program as a function of its words, a folder and its standard streams.
 
-ghost use Rattle.std.specs.Prelude.{◌≡◌, ◌<◌, ◌≤◌};
+ghost use Rattle.std.specs.Prelude.{◌≡◌, ◌<◌, ◌≤◌, IfOk};
+ghost use Rattle.sp_main.specs.Reports.{IsLine, TellsLine};
 
-use super::texts::{outcome_report, refusal_report, unreadable_report};
+use super::texts::{outcome_report, refusal_report, text_report, unreadable_report};
 use super::words::{Request, RunRequest, request_of};
 use super::{ClassBytes, Content, Folder, FolderFault, Report, Status, run_classes};
 use cf_reader::{LoadFault, read_bytes};
@@ -27,8 +28,10 @@ pub fn command<F: Folder, I: Read, O: Write, E: Write>(
 ) -> u8
     ensures statuses { result ≤ 3 }
 
-    // Answers go to the one output, faults to the other.
+    // Answers go to the one output, faults to the other: a whole line or more, and nothing else.
+    ensures answered { result < 2 → TellsLine (O.contents out.old) (O.contents out.new) }
     ensures answers { result < 2 → E.contents err.new ≡ E.contents err.old }
+    ensures told { result ≡ 2 → TellsLine (E.contents err.old) (E.contents err.new) }
     ensures refused { result ≡ 2 → O.contents out.new ≡ O.contents out.old }
 {
     match report_of(alloc, words, folder) {
@@ -40,16 +43,12 @@ pub fn command<F: Folder, I: Read, O: Write, E: Write>(
     }
 }
 
-fn report_of<F: Folder>(alloc: Global, words: &[String], folder: &F) -> Result<Report, AllocError> {
+fn report_of<F: Folder>(alloc: Global, words: &[String], folder: &F) -> Result<Report, AllocError>
+    ensures { IfOk result (λ report. IsLine report.text.items) }
+{
     match request_of(alloc, words)? {
-        Request::Tell(text) => Ok(Report {
-            text: text.into_bytes(),
-            status: Status::Done,
-        }),
-        Request::Refuse(text) => Ok(Report {
-            text: text.into_bytes(),
-            status: Status::Failed,
-        }),
+        Request::Tell(text) => text_report(alloc, &text, Status::Done),
+        Request::Refuse(text) => text_report(alloc, &text, Status::Failed),
         Request::Run(request) => run_report(alloc, request, folder),
     }
 }
@@ -58,7 +57,9 @@ fn run_report<F: Folder>(
     alloc: Global,
     request: RunRequest,
     folder: &F,
-) -> Result<Report, AllocError> {
+) -> Result<Report, AllocError>
+    ensures { IfOk result (λ report. IsLine report.text.items) }
+{
     let paths = match folder.paths(request.folder) {
         Ok(paths) => paths,
         Err(FolderFault::CannotRead(path)) => return unreadable_report(alloc, &path),

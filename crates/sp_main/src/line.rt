@@ -1,8 +1,12 @@
 //! A line of text in the making.
 
+ghost use Rattle.std.specs.Prelude.{◌≡◌, ◌++◌, ◌∷◌, [], IfOk, IfSome};
+ghost use Rattle.sp_main.specs.Reports.{line_of};
+
 use super::{Report, Status};
 use std::alloc::{AllocError, Global};
 use std::fmt::Display;
+use std::marker::Model;
 
 /// A line of text in the making: bytes, since names of classes are in modified UTF-8.
 #[derive(Drop)]
@@ -11,9 +15,19 @@ pub struct Line {
     bytes: Vec<u8>,
 }
 
+impl Model for Line {
+    ghost use Rattle.std.specs.Prelude.{ℕ, List};
+
+    ghost Value = { List ℕ };
+
+    ghost view = { λ line. line.bytes.items };
+}
+
 impl Line {
     /// An empty line.
-    pub fn new(alloc: Global) -> Line {
+    pub fn new(alloc: Global) -> Line
+        ensures { result ≡ [] }
+    {
         Line {
             alloc,
             bytes: Vec::new(alloc),
@@ -21,24 +35,33 @@ impl Line {
     }
 
     /// The line with these bytes behind it.
-    pub fn bytes(mut self, bytes: &[u8]) -> Result<Line, AllocError> {
+    pub fn bytes(mut self, bytes: &[u8]) -> Result<Line, AllocError>
+        ensures { IfOk result (λ line. line ≡ self ++ bytes.now) }
+    {
         self.bytes.extend_from_slice(bytes)?;
         Ok(self)
     }
 
     /// The line with this text behind it.
-    pub fn text(self, text: &str) -> Result<Line, AllocError> {
+    pub fn text(self, text: &str) -> Result<Line, AllocError>
+        ensures { IfOk result (λ line. line ≡ self ++ text.now) }
+    {
         self.bytes(text.as_bytes())
     }
 
     /// The line with what is displayed behind it.
-    pub fn display<D: Display>(self, shown: &D) -> Result<Line, AllocError> {
+    pub fn display<D: Display>(self, shown: &D) -> Result<Line, AllocError>
+        ensures { IfOk result (λ line. IfSome (D.output shown.now) (λ text. line ≡ self ++ text)) }
+    {
         let text = shown.to_string(self.alloc)?;
         self.text(text.as_str())
     }
 
     /// The line, ended: a report with this status.
-    pub fn report(self, status: Status) -> Result<Report, AllocError> {
+    pub fn report(self, status: Status) -> Result<Report, AllocError>
+        ensures status { IfOk result (λ report. report.status ≡ status) }
+        ensures text { IfOk result (λ report. report.text.items ≡ line_of self) }
+    {
         let line = self.text("\n")?;
         Ok(Report {
             text: line.bytes,

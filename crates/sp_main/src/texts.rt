@@ -1,5 +1,11 @@
 //! What is printed of outcomes and refusals.
 
+ghost use Rattle.std.specs.Prelude.{◌≡◌, ◌++◌, IfOk};
+ghost use Rattle.std.specs.Str.{trim_end};
+ghost use Rattle.sp_main.specs.Reports.{IsLine, line_of};
+ghost use Rattle.sp_main.specs.Statuses.{file_status, outcome_status, refusal_status};
+ghost use Rattle.sp_main.specs.Texts.{ints_text, outcome_text, value_text};
+
 use super::line::Line;
 use super::{ClassBytes, Refusal, Report, RunOutcome, Status};
 use cf_reader::{LoadFault, Numbered, ReadFault, Text};
@@ -10,8 +16,19 @@ use ver_check::CheckFault;
 use vm_heap::Value;
 use vm_step::StartFault;
 
+/// A text, with one newline at its end.
+pub fn text_report(alloc: Global, text: &str, status: Status) -> Result<Report, AllocError>
+    ensures status { IfOk result (λ report. report.status ≡ status) }
+    ensures text { IfOk result (λ report. report.text.items ≡ line_of (trim_end text.now)) }
+{
+    Line::new(alloc).text(text.trim_end())?.report(status)
+}
+
 /// What is reported of how a method ended.
-pub fn outcome_report(alloc: Global, outcome: &RunOutcome) -> Result<Report, AllocError> {
+pub fn outcome_report(alloc: Global, outcome: &RunOutcome) -> Result<Report, AllocError>
+    ensures status { IfOk result (λ report. report.status ≡ outcome_status outcome.now) }
+    ensures text { IfOk result (λ report. report.text.items ≡ line_of (outcome_text outcome.now)) }
+{
     let line = Line::new(alloc);
     match outcome {
         RunOutcome::Returned(None) => line.text("returned")?.report(Status::Done),
@@ -26,7 +43,9 @@ pub fn outcome_report(alloc: Global, outcome: &RunOutcome) -> Result<Report, All
     }
 }
 
-fn with_value(line: Line, value: &Value) -> Result<Line, AllocError> {
+fn with_value(line: Line, value: &Value) -> Result<Line, AllocError>
+    ensures { IfOk result (λ longer. longer ≡ line ++ value_text value.now) }
+{
     match value {
         Value::Null => line.text("null"),
         Value::Int(int) => line.display(int),
@@ -36,7 +55,9 @@ fn with_value(line: Line, value: &Value) -> Result<Line, AllocError> {
     }
 }
 
-fn with_ints(line: Line, ints: &[i32]) -> Result<Line, AllocError> {
+fn with_ints(line: Line, ints: &[i32]) -> Result<Line, AllocError>
+    ensures { IfOk result (λ longer. longer ≡ line ++ ints_text ints.now) }
+{
     let mut line = line.text("[")?;
     for (place, int) in ints.iter().enumerate() {
         if place > 0 {
@@ -52,7 +73,10 @@ pub fn refusal_report(
     alloc: Global,
     files: &[ClassBytes],
     refusal: &Refusal,
-) -> Result<Report, AllocError> {
+) -> Result<Report, AllocError>
+    ensures status { IfOk result (λ report. report.status ≡ refusal_status refusal.now) }
+    ensures line { IfOk result (λ report. IsLine report.text.items) }
+{
     match refusal {
         Refusal::File { place, fault } => match files.get(*place) {
             Some(file) => file_report(alloc, &file.path, *fault),
@@ -66,7 +90,10 @@ pub fn refusal_report(
     }
 }
 
-fn file_report(alloc: Global, path: &str, fault: LoadFault) -> Result<Report, AllocError> {
+fn file_report(alloc: Global, path: &str, fault: LoadFault) -> Result<Report, AllocError>
+    ensures status { IfOk result (λ report. report.status ≡ file_status fault) }
+    ensures line { IfOk result (λ report. IsLine report.text.items) }
+{
     match fault {
         LoadFault::Device => unreadable_report(alloc, path),
         LoadFault::Read(ReadFault::Memory) => Err(AllocError),
@@ -78,14 +105,20 @@ fn file_report(alloc: Global, path: &str, fault: LoadFault) -> Result<Report, Al
 }
 
 /// What is reported where a file or a folder cannot be read.
-pub fn unreadable_report(alloc: Global, path: &str) -> Result<Report, AllocError> {
+pub fn unreadable_report(alloc: Global, path: &str) -> Result<Report, AllocError>
+    ensures status { IfOk result (λ report. report.status ≡ Status.Failed) }
+    ensures line { IfOk result (λ report. IsLine report.text.items) }
+{
     Line::new(alloc)
         .text("cannot read ")?
         .text(path)?
         .report(Status::Failed)
 }
 
-fn set_report(alloc: Global, fault: &SetFault) -> Result<Report, AllocError> {
+fn set_report(alloc: Global, fault: &SetFault) -> Result<Report, AllocError>
+    ensures status { IfOk result (λ report. report.status ≡ Status.Refused) }
+    ensures line { IfOk result (λ report. IsLine report.text.items) }
+{
     match fault {
         SetFault::Memory => Err(AllocError),
         SetFault::Broken { rule, class } => {
@@ -95,7 +128,10 @@ fn set_report(alloc: Global, fault: &SetFault) -> Result<Report, AllocError> {
     }
 }
 
-fn link_report(alloc: Global, fault: &LinkFault) -> Result<Report, AllocError> {
+fn link_report(alloc: Global, fault: &LinkFault) -> Result<Report, AllocError>
+    ensures status { IfOk result (λ report. report.status ≡ Status.Refused) }
+    ensures line { IfOk result (λ report. IsLine report.text.items) }
+{
     match fault {
         LinkFault::Memory => Err(AllocError),
         LinkFault::Broken {
@@ -108,7 +144,10 @@ fn link_report(alloc: Global, fault: &LinkFault) -> Result<Report, AllocError> {
     }
 }
 
-fn check_report(alloc: Global, fault: &CheckFault) -> Result<Report, AllocError> {
+fn check_report(alloc: Global, fault: &CheckFault) -> Result<Report, AllocError>
+    ensures status { IfOk result (λ report. report.status ≡ Status.Refused) }
+    ensures line { IfOk result (λ report. IsLine report.text.items) }
+{
     match fault {
         CheckFault::Memory => Err(AllocError),
         CheckFault::Broken {
@@ -121,7 +160,10 @@ fn check_report(alloc: Global, fault: &CheckFault) -> Result<Report, AllocError>
     }
 }
 
-fn start_report(alloc: Global, fault: StartFault) -> Result<Report, AllocError> {
+fn start_report(alloc: Global, fault: StartFault) -> Result<Report, AllocError>
+    ensures status { IfOk result (λ report. report.status ≡ Status.Failed) }
+    ensures line { IfOk result (λ report. IsLine report.text.items) }
+{
     match fault {
         StartFault::Memory => Err(AllocError),
         _ => with_fault(refused(alloc)?.text("start")?, &fault)?.report(Status::Failed),
@@ -135,10 +177,14 @@ fn refused(alloc: Global) -> Result<Line, AllocError> {
 // What is reported of a method, by its class, name and descriptor, that breaks a rule at an offset.
 fn method_report<F: Numbered>(
     alloc: Global,
-    [class, method, descriptor]: [&Text; 3],
+    subject: [&Text; 3],
     at: usize,
     rule: &F,
-) -> Result<Report, AllocError> {
+) -> Result<Report, AllocError>
+    ensures status { IfOk result (λ report. report.status ≡ Status.Refused) }
+    ensures line { IfOk result (λ report. IsLine report.text.items) }
+{
+    let [class, method, descriptor] = subject;
     let line = refused(alloc)?
         .bytes(class.as_bytes())?
         .text(".")?

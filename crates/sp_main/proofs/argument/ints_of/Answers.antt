@@ -1,4 +1,4 @@
-use Rattle.std.proofs.Common.{◌++◌, ◌∷◌, [], List, Some, None, lit<, rules, subst, sym, ap, ◌∙◌, ◌<◌}
+use Rattle.std.proofs.Common.{◌++◌, ◌∷◌, [], Some, None, lit<, rules, subst, sym, ap, ◌∙◌}
 use Rattle.std.proofs.lemmas.Str.Pattern.{split_once_first}
 use Rattle.sp_main.specs.Arguments.{IsList, AreNumbers}
 use Rattle.sp_main.proofs.Commas.{first_word, last_word, word_done, more_numbers, no_list, whole_list, nonempty, pushed}

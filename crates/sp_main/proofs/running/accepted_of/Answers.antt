@@ -1,6 +1,5 @@
-use Rattle.std.proofs.Common.{◌≡◌, sym, subst, List}
-use Rattle.cls_set.specs.Sets.{HasClasses, IsClassSet}
-use Rattle.cls_set.specs.declared.class.Class.{Class}
+use Rattle.std.proofs.Common.{sym, subst}
+use Rattle.cls_set.specs.Sets.{HasClasses}
 use Rattle.sp_main.specs.Runs.{IsNoProgram, unread, no_set, not_linked, not_safe}
 use Rattle.sp_main.specs.declared.refusal.Refusal.TheVariants.{Set, Link, Check}
 use Rattle.sp_main.proofs.Files.{known_error}

@@ -1,7 +1,5 @@
 use Rattle.std.proofs.Common.{◌∙◌, sym}
 use Rattle.sp_main.specs.Runs.{IsRefused, no_program, absent}
-use Rattle.sp_main.specs.declared.refusal.Refusal.TheVariants.{Start}
-use Rattle.vm_step.specs.declared.fault.StartFault.TheVariants.{AbsentMethod}
 use Rattle.sp_main.proofs.Files.{known_error}
 use Rattle.sp_main.proofs.Refused.{run_refused}
 use Rattle.sp_main.proofs.running.run_classes.Goals as goal

@@ -1,4 +1,4 @@
-use Rattle.std.proofs.Common.{◌≡◌, Ok, sym, subst, List, ℕ}
+use Rattle.std.proofs.Common.{◌≡◌, Ok, subst, List, ℕ}
 use Rattle.cls_link.specs.Links.{Links}
 use Rattle.vm_step.specs.Run.{run}
 use Rattle.vm_step.specs.Start.{started}

@@ -1,0 +1,35 @@
+-- What is printed of how a method ended.
+use Rattle.std.specs.Prelude.{◌++◌, ◌∷◌, [], ℕ, ℤ, Some, None, List, codes}
+use Rattle.std.specs.Fmt.{signed_decimal}
+use Rattle.sp_main.specs.declared.running.RunOutcome.{RunOutcome}
+use Rattle.sp_main.specs.declared.running.RunOutcome.TheVariants.{Returned, Threw, Spent}
+use Rattle.vm_heap.specs.declared.values.Value.{Value}
+use Rattle.vm_heap.specs.declared.values.Value.TheVariants.{Null, Int, Ints, Ref}
+
+-- numbers, each behind a comma
+abbrev pub behind_commas : List ℤ → List ℕ
+behind_commas [] = []
+behind_commas (n ∷ ns) = 44 ∷ (signed_decimal n ++ behind_commas ns)
+
+-- numbers, with commas between them
+abbrev pub between_commas : List ℤ → List ℕ
+between_commas [] = []
+between_commas (n ∷ ns) = signed_decimal n ++ behind_commas ns
+
+-- numbers between brackets, with commas between them
+abbrev pub ints_text : List ℤ → List ℕ
+ints_text ns = 91 ∷ (between_commas ns ++ (93 ∷ []))
+
+-- a value, as it is written for the command line; no method of the profile gives a reference yet
+abbrev pub value_text : Value → List ℕ
+value_text Null = codes "null"
+value_text (Int n) = signed_decimal n
+value_text (Ints ns) = ints_text ns
+value_text (Ref r) = codes "ref"
+
+-- how a method ended
+abbrev pub outcome_text : RunOutcome → List ℕ
+outcome_text (Returned None) = codes "returned"
+outcome_text (Returned (Some value)) = codes "returned " ++ value_text value
+outcome_text (Threw class) = codes "threw " ++ class
+outcome_text Spent = codes "spent"
