@@ -1,7 +1,7 @@
 """Writes a class T with `static int f(int)` of so many instructions and two more, which returns its argument.
 
 Each 100 instructions but the first begin at a declared frame and have a branch to the next 100.
-Word: how many instructions, a multiple of 100 up to 64,000.
+Words: how many instructions, a multiple of 100 up to 64,000, and how many such methods (1 if not said): f, f1, f2 and on.
 """
 
 import sys
@@ -25,7 +25,7 @@ def attribute(name, content):
     return u2(name) + u4(len(content)) + content
 
 
-def main(size):
+def main(size, methods):
     blocks = size // 100
     # iload_0; ifle to the next block; iload_0 and pop, 49 times.
     block = b"\x1a\x9e" + u2(101) + b"\x1a\x57" * 49
@@ -45,12 +45,14 @@ def main(size):
         utf8("Code"),
         utf8("StackMapTable"),
     ]
-    method = u2(PUBLIC_STATIC) + u2(5) + u2(6) + u2(1) + attribute(7, body)
+    names = [5] + list(range(len(pool) + 1, len(pool) + methods))
+    pool += [utf8(f"f{place}") for place in range(1, methods)]
+    rows = [u2(PUBLIC_STATIC) + u2(name) + u2(6) + u2(1) + attribute(7, body) for name in names]
     sys.stdout.buffer.write(
         u4(0xCAFEBABE) + u2(0) + u2(52) + u2(len(pool) + 1) + b"".join(pool)
-        + u2(PUBLIC_SUPER) + u2(2) + u2(4) + u2(0) + u2(0) + u2(1) + method + u2(0)
+        + u2(PUBLIC_SUPER) + u2(2) + u2(4) + u2(0) + u2(0) + u2(methods) + b"".join(rows) + u2(0)
     )
 
 
 if __name__ == "__main__":
-    main(int(sys.argv[1]))
+    main(int(sys.argv[1]), int(sys.argv[2]) if len(sys.argv) > 2 else 1)
