@@ -1,12 +1,12 @@
 -- What is true of all declared frames: their offsets rise, and they have no more local variables and operands than the
 -- method.
 use Rattle.std.proofs.Common.{◌≡◌, ℕ, zero, suc, ◌+◌, ◌-◌, ◌<◌, ◌≤◌, Bool, true, false, Option, Some, None, Result, Ok, Err, List, [], ◌∷◌, ◌++◌, length, take, reverse, replicate, unwrap_or, refl, ap, sym, subst, arith, add-one}
-use Rattle.std.specs.Prelude.{nat_le, if◌then◌else◌, map, option_map, option_and_then, slice_index}
+use Rattle.std.specs.Prelude.{nat_le, map, option_map, option_and_then, slice_index}
 use Rattle.std.specs.List.{AllByRecursion}
 use Rattle.std.specs.List.Sorted.{IsStrictlyIncreasing}
 use Rattle.std.specs.Option.{option_map_or}
 use Rattle.std.proofs.lemmas.Bool.Decides.{nat_tests}
-use Rattle.std.proofs.lemmas.List.{length-append, length-replicate, length-take-le, length-reverse}
+use Rattle.std.proofs.lemmas.List.{length-append, length-replicate, length-reverse}
 use Rattle.ver_frames.specs.Frames.{Frame, filled}
 use Rattle.ver_frames.specs.Limits.{FitsMethod}
 use Rattle.ver_frames.specs.Method.{Subject, argument_types}

@@ -95,10 +95,16 @@ impl TypeFrame {
         self.locals[usize::from(number)] = kind;
     }
 
-    /// Becomes a copy of the other frame. Where memory runs out, what it then says is not told.
+    /// Becomes a copy of the other frame. Where memory runs out, nothing changes.
     pub fn copy_from(&mut self, other: &TypeFrame) -> Result<(), AllocError>
-        ensures { OnOk result (self.new ≡ other.now) }
+        ensures ok { OnOk result (self.new ≡ other.now) }
+        ensures err { OnErr result (self.new ≡ self.old) }
     {
+        let locals_missing = other.locals.len().saturating_sub(self.locals.len());
+        self.locals.reserve(locals_missing)?;
+        let stack_missing = other.stack.len().saturating_sub(self.stack.len());
+        self.stack.reserve(stack_missing)?;
+        // From here on there is room for all.
         self.locals.clear();
         self.locals.extend_from_slice(&other.locals)?;
         self.stack.clear();
