@@ -226,7 +226,9 @@ named at found test =
 unfoldable pub indexed : {A : Type 0} → ℕ → Option A → List Demand
 indexed at found = record { at = at; rule = rules.Index; holds = is_some found } ∷ []
 
--- the demands of an entry: a text is modified UTF-8, and what an index names is of its kind
+-- The demands of an entry: a text is modified UTF-8, and what an index names is of its kind. That the indices of an Other entry,
+-- as a String, and the text of a NameAndType's descriptor are not looked at is a rule of this project: nothing of its profile
+-- uses them.
 unfoldable pub entry_demands : List Entry → Entry → Places → List Demand
 entry_demands pool (Utf8 text) places = record { at = places.second; rule = rules.Utf8; holds = is_modified_utf8 text } ∷ []
 entry_demands pool (Class name) places = named places.first (utf8_at pool name) is_class_entry_name

@@ -1,16 +1,18 @@
 use super::*;
 use std::test::Fail;
 
-// Six entries: a text, a class of that name, an integer, a long, which takes two indices, a name and
-// type, a method of the class.
+// Eight entries: a text, a class of that name, an integer, a long, which takes two indices, a name and
+// type, a method of the class, a field of it, a method of it as an interface.
 const POOL: &[u8] = b"\
-    \x00\x08\
+    \x00\x0a\
     \x01\x00\x01T\
     \x07\x00\x01\
     \x03\xff\xff\xff\xfe\
     \x05\x00\x00\x00\x00\x00\x00\x00\x07\
     \x0c\x00\x01\x00\x01\
     \x0a\x00\x02\x00\x06\
+    \x09\x00\x02\x00\x06\
+    \x0b\x00\x02\x00\x06\
     \x2a";
 
 fn broken(rule: Rule, at: usize) -> Option<ReadFault> {
@@ -21,7 +23,7 @@ fn broken(rule: Rule, at: usize) -> Option<ReadFault> {
 fn a_pool_is_read_and_looked_up(rt: HostRuntime) -> Result<(), Fail> {
     let (pool, to) = read_pool(rt.alloc(), POOL, 0).ok().ok_or("refused")?;
     assert_eq!(rt; to, POOL.len() - 1);
-    for index in [0, 1, 2, 3, 4, 5, 6, 7, 8, 65_535] {
+    for index in [0, 1, 2, 3, 4, 5, 6, 7, 8, 9, 10, 65_535] {
         assert_eq!(rt; pool.utf8(index).is_some(), index == 1, "text {index}");
         assert_eq!(rt; pool.class(index).is_some(), index == 2, "class {index}");
         assert_eq!(rt;
@@ -29,13 +31,23 @@ fn a_pool_is_read_and_looked_up(rt: HostRuntime) -> Result<(), Fail> {
             index == 6,
             "name and type {index}"
         );
-        assert_eq!(rt; pool.member(index).is_some(), index == 7, "member {index}");
+        assert_eq!(rt;
+            pool.member(index).is_some(),
+            matches!(index, 7..=9),
+            "member {index}"
+        );
         let integer = if index == 3 { Some(-2) } else { None };
         assert_eq!(rt; pool.integer(index), integer, "integer {index}");
     }
-    let method = pool.member(7).ok_or("no member")?;
-    assert_eq!(rt; method.kind, MemberKind::Method);
-    assert!(rt; method.class.is(b"T") && method.name.is(b"T") && method.descriptor.is(b"T"));
+    for (index, kind) in [
+        (7, MemberKind::Method),
+        (8, MemberKind::Field),
+        (9, MemberKind::InterfaceMethod),
+    ] {
+        let member = pool.member(index).ok_or("no member")?;
+        assert_eq!(rt; member.kind, kind);
+        assert!(rt; member.class.is(b"T") && member.name.is(b"T") && member.descriptor.is(b"T"));
+    }
     Ok(())
 }
 

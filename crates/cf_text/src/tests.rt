@@ -47,17 +47,40 @@ fn an_array_has_at_most_255_dimensions(rt: HostRuntime) -> Result<(), Fail> {
     Ok(())
 }
 
+fn is_class_type(element: &ElementType, name: &[u8]) -> bool {
+    match element {
+        ElementType::Class(class) => class.is(name),
+        _ => false,
+    }
+}
+
 #[test]
 fn what_takes_memory_is_read(rt: HostRuntime) -> Result<(), Fail> {
-    let bytes = b"\x07ab(I)V";
+    let bytes = b"\x07ab";
     let (text, to) = read_text(rt.alloc(), bytes, 1, 2).ok().ok_or("no text")?;
     assert_eq!(rt; to, 3);
     assert!(rt; text.is(b"ab") && text.copy()?.is(b"ab"));
     let (row, to) = read_row(rt.alloc(), bytes, 0, 3).ok().ok_or("no row")?;
     assert_eq!(rt; to, 3);
     assert!(rt; row.as_slice() == b"\x07ab".as_slice() && row.into_vec().len() == 3);
-    assert!(rt; read_method_descriptor(rt.alloc(), &bytes[3..], 9).is_ok());
-    assert!(rt; read_field_descriptor(rt.alloc(), b"[I", 9).is_ok());
+    let method = read_method_descriptor(rt.alloc(), b"(I[[La/b;)V", 9)?;
+    let [number, table] = method.parameters.as_slice() else {
+        return Err("not two parameters".into());
+    };
+    assert!(rt; matches!((number.dimensions, &number.element), (0, ElementType::Int)));
+    assert!(rt; table.dimensions == 2 && is_class_type(&table.element, b"a/b"));
+    assert!(rt; method.result.is_none());
+    let method = read_method_descriptor(rt.alloc(), b"()[Z", 9)?;
+    let result = method.result.ok_or("no result")?;
+    assert!(rt; method.parameters.as_slice().is_empty());
+    assert!(rt;
+        matches!(
+            (result.dimensions, result.element),
+            (1, ElementType::Boolean)
+        )
+    );
+    let field = read_field_descriptor(rt.alloc(), b"[I", 9)?;
+    assert!(rt; matches!((field.dimensions, field.element), (1, ElementType::Int)));
     Ok(())
 }
 
