@@ -38,7 +38,8 @@ member_format bytes at = do
   attributes ← attributes_format bytes descriptor.1
   done (record { flags = flags.0; name = name.0; descriptor = descriptor.0; attributes = attributes.0 })
 
--- CAFEBABE, minor version 0, and a major version from 50 to 52
+-- CAFEBABE, minor version 0, and a major version from 50 to 52. The versions are a rule of this project: code is checked by
+-- declared frames from 50 on (JVMS 4.10), and the standard that is followed, Java SE 8, ends at 52.
 unfoldable pub header_format : List ℕ → Format ℕ
 header_format bytes =
     number_format 4 bytes >>= λ magic. asking (magic.0 == 0xcafebabe) rules.Magic 0 (
@@ -73,7 +74,8 @@ body_format bytes at = do
     attributes = attributes.0;
   })
 
--- a file that is not too large: a header, what follows it, and nothing behind
+-- A file that is not too large: a header, what follows it, and nothing behind. How large is a rule of this project, so that a
+-- file that does not end takes bounded memory.
 unfoldable pub file_format : List ℕ → Format Layout
 file_format bytes =
     asking (nat_le (length bytes) max_length) rules.TooLarge max_length (

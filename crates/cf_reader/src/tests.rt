@@ -216,6 +216,20 @@ fn a_file_of_one_mebibyte_is_looked_at_and_a_longer_one_is_not(
 }
 
 #[test]
+fn all_bytes_of_a_source_are_read(rt: HostRuntime) -> Result<(), Fail> {
+    for step in [1, 7, 144, 5000] {
+        let mut source = MemSource::new(Vec::from_slice(rt.alloc(), SUM)?, step);
+        let bytes = read_bytes(rt.alloc(), &mut source)?;
+        assert_eq!(rt; bytes.as_slice(), part(0, 144), "at {step}");
+    }
+    // Of a source that is too long one byte more than a class file may have.
+    let zeros = vec![in rt.alloc(); 0u8; 1_048_600]?;
+    let bytes = read_bytes(rt.alloc(), &mut MemSource::new(zeros, 60_000))?;
+    assert_eq!(rt; bytes.len(), 1_048_577);
+    Ok(())
+}
+
+#[test]
 fn a_class_is_loaded_in_pieces_of_any_size(rt: HostRuntime) -> Result<(), Fail> {
     for step in [1, 7, 144, 5000] {
         let mut source = MemSource::new(Vec::from_slice(rt.alloc(), SUM)?, step);
