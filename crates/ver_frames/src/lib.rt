@@ -22,4 +22,6 @@ mod layout;
 mod method;
 mod raw_frame;
 mod stack_map;
+#[cfg(test)]
+mod tests;
 mod vtype;
