@@ -96,6 +96,36 @@ fn pieces_of_one_instruction_take_one_unit_of_fuel_each(rt: HostRuntime) -> Resu
     Ok(())
 }
 
+// A task with no fuel turns until an instruction comes: then it is spent, and stays so.
+#[test]
+fn a_piece_of_no_instruction_spends_nothing(rt: HostRuntime) -> Result<(), Fail> {
+    let program = sum(rt.alloc())?;
+    let mut task = begin(rt.alloc(), &program, &[4], limits(8, 0))?;
+    assert_eq!(rt; task.run(&program, 0), Pause::Turn);
+    assert!(rt; task.outcome().is_none());
+    assert_eq!(rt; task.run(&program, 1), Pause::Ended);
+    assert!(rt; matches!(task.outcome(), Some(Outcome::Spent)));
+    assert_eq!(rt; task.run(&program, 1), Pause::Ended);
+    assert!(rt; matches!(task.outcome(), Some(Outcome::Spent)));
+    Ok(())
+}
+
+#[test]
+fn a_task_that_ended_answers_its_end_again(rt: HostRuntime) -> Result<(), Fail> {
+    let program = sum(rt.alloc())?;
+    let mut task = begin(rt.alloc(), &program, &[4], limits(8, 100))?;
+    assert_eq!(rt; task.run(&program, 100), Pause::Ended);
+    assert_eq!(rt; task.run(&program, 0), Pause::Ended);
+    assert_eq!(rt; task.run(&program, 100), Pause::Ended);
+    assert!(rt;
+        matches!(
+            task.outcome(),
+            Some(Outcome::Returned(Some(Value::Int(10))))
+        )
+    );
+    Ok(())
+}
+
 // The first frame takes two local variables, two operands and four words more.
 #[test]
 fn a_first_frame_that_does_not_fit_throws(rt: HostRuntime) -> Result<(), Fail> {
