@@ -67,60 +67,53 @@ fn check_name(pool: &Pool, name: u16, at: usize) -> Result<(), ReadFault>
     demand(is_name(text.as_bytes()), Rule::Utf8, at)
 }
 
-impl PoolLayout {
-    #[tactic(auto, unfolding(cf_text::specs::Demands::verdict, crate::specs::Pools::entry_demands, crate::specs::Pools::indexed), using(cf_text::proofs::Verdicts::verdicts))]
-    fn check_entry(&self, alloc: Global, entry: &Entry, places: Places) -> Result<(), ReadFault>
-        ensures { Gives (verdict (entry_demands self.now.pool entry.now places)) result }
-    {
-        let pool = &self.pool;
-        match entry {
-            Entry::Utf8(text) => demand(
-                is_modified_utf8(text.as_bytes()),
-                Rule::Utf8,
+#[tactic(auto, unfolding(cf_text::specs::Demands::verdict, crate::specs::Pools::entry_demands, crate::specs::Pools::indexed), using(cf_text::proofs::Verdicts::verdicts))]
+fn check_entry(alloc: Global, pool: &Pool, entry: &Entry, places: Places) -> Result<(), ReadFault>
+    ensures { Gives (verdict (entry_demands pool.now entry.now places)) result }
+{
+    match entry {
+        Entry::Utf8(text) => demand(is_modified_utf8(text.as_bytes()), Rule::Utf8, places.second),
+        Entry::Class { name } => check_class_name(alloc, pool, *name, places.first),
+        Entry::Member {
+            class,
+            name_and_type,
+            ..
+        } => {
+            demand(pool.is_class(*class), Rule::Index, places.first)?;
+            demand(
+                pool.is_name_and_type(*name_and_type),
+                Rule::Index,
                 places.second,
-            ),
-            Entry::Class { name } => check_class_name(alloc, pool, *name, places.first),
-            Entry::Member {
-                class,
-                name_and_type,
-                ..
-            } => {
-                demand(pool.is_class(*class), Rule::Index, places.first)?;
-                demand(
-                    pool.is_name_and_type(*name_and_type),
-                    Rule::Index,
-                    places.second,
-                )
-            }
-            Entry::NameAndType { name, descriptor } => {
-                check_name(pool, *name, places.first)?;
-                demand(pool.utf8(*descriptor).is_some(), Rule::Index, places.second)
-            }
-            Entry::Integer(_) | Entry::Other | Entry::Unusable => Ok(()),
+            )
         }
+        Entry::NameAndType { name, descriptor } => {
+            check_name(pool, *name, places.first)?;
+            demand(pool.utf8(*descriptor).is_some(), Rule::Index, places.second)
+        }
+        Entry::Integer(_) | Entry::Other | Entry::Unusable => Ok(()),
     }
+}
 
-    #[tactic(auto, unfolding(cf_text::specs::Demands::verdict, crate::specs::Pools::index_demands))]
-    fn check_index(&self, alloc: Global, index: usize, places: Places) -> Result<(), ReadFault>
-        ensures { Gives (verdict (index_demands self.now.pool index places)) result }
-    {
-        match self.pool.entry(index) {
-            None => Ok(()),
-            Some(entry) => self.check_entry(alloc, entry, places),
-        }
+#[tactic(auto, unfolding(cf_text::specs::Demands::verdict, crate::specs::Pools::index_demands))]
+fn check_index(alloc: Global, pool: &Pool, index: usize, places: Places) -> Result<(), ReadFault>
+    ensures { Gives (verdict (index_demands pool.now index places)) result }
+{
+    match pool.entry(index) {
+        None => Ok(()),
+        Some(entry) => check_entry(alloc, pool, entry, places),
     }
+}
 
-    /// The first entry at fault in the order of bytes, if any: a text that is no modified UTF-8 is Utf8
-    /// at its bytes, an index that names no entry of the kind that is asked is Index there, and a name
-    /// that is not allowed is Utf8 at the index that names it. Indices of a String, MethodHandle,
-    /// MethodType or InvokeDynamic, and the descriptors of a NameAndType, are not followed: nothing of
-    /// the profile uses them.
-    pub fn check(&self, alloc: Global) -> Result<(), ReadFault>
-        ensures { Gives (verdict (pool_demands self.now)) result }
-    {
-        for (index, places) in self.places.as_slice().iter().enumerate() {
-            self.check_index(alloc, index, *places)?;
-        }
-        Ok(())
+/// The first entry at fault in the order of bytes, if any: a text that is no modified UTF-8 is Utf8
+/// at its bytes, an index that names no entry of the kind that is asked is Index there, and a name
+/// that is not allowed is Utf8 at the index that names it. Indices of a String, MethodHandle,
+/// MethodType or InvokeDynamic, and the descriptors of a NameAndType, are not followed: nothing of
+/// the profile uses them.
+pub fn check_pool(alloc: Global, layout: &PoolLayout) -> Result<(), ReadFault>
+    ensures { Gives (verdict (pool_demands layout.now)) result }
+{
+    for (index, places) in layout.places.as_slice().iter().enumerate() {
+        check_index(alloc, &layout.pool, index, *places)?;
     }
+    Ok(())
 }

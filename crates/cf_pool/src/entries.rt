@@ -226,7 +226,7 @@ fn layout_from(alloc: Global, bytes: &[u8], at: usize) -> Result<(PoolLayout, us
 /// The constant pool from its count at `at` on, with the places of its entries, and the place behind
 /// it. A cut item is Truncated at its first byte, an unknown tag is Tag, and a count of 0, or a Long
 /// or Double with no second index, is Index: the first of these in the order of bytes. Texts and the
-/// entries' own indices are not looked at: that is for `PoolLayout::check`.
+/// entries' own indices are not looked at: that is for `check_pool`.
 pub fn read_layout(alloc: Global, bytes: &[u8], at: usize) -> Result<(PoolLayout, usize), ReadFault>
     // What is read stands there, what stands there is read, and a fault is one of what stands there.
     ensures found { IfOk result (λ x. (layout_format bytes.now at).Stands at x.0 x.1) }

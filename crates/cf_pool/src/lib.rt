@@ -7,6 +7,7 @@ pub use cf_text::{
     is_modified_utf8, is_name, read_field_descriptor, read_i32, read_method_descriptor, read_row,
     read_text, read_u8, read_u16, read_u32, skip,
 };
+pub use check::check_pool;
 pub use entries::{one_pool, read_layout, read_pool};
 pub use layout::{Places, PoolLayout};
 pub use pool::{Entry, MemberKind, MemberRef, NameAndTypeRef, Pool, look_ups};

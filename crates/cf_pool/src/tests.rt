@@ -105,7 +105,7 @@ fn a_pool_at_fault_is_named(rt: HostRuntime) -> Result<(), Fail> {
 fn what_entries_say_is_checked(rt: HostRuntime) -> Result<(), Fail> {
     let check = |bytes: &[u8]| {
         let (layout, _) = read_layout(rt.alloc(), bytes, 0)?;
-        layout.check(rt.alloc())
+        check_pool(rt.alloc(), &layout)
     };
     for (bytes, fault) in [
         (POOL, None),

@@ -12,7 +12,7 @@ use super::members::{check_each_field, check_each_method};
 use super::profile::{class_flags_in_profile, count_in_profile, super_in_profile};
 use super::rules::class_flags_fit;
 use cf_layout::{Item, Layout};
-use cf_pool::{Pool, ReadFault, Rule, begins_with, demand};
+use cf_pool::{Pool, ReadFault, Rule, begins_with, check_pool, demand};
 use std::alloc::Global;
 
 #[tactic(auto, unfolding(crate::specs::Checks::class_flag_demands, cf_text::specs::Demands::verdict))]
@@ -69,7 +69,7 @@ fn check_head(alloc: Global, layout: &Layout) -> Result<(), ReadFault>
     ensures { Gives (verdict (head_demands layout.now)) result }
 {
     let pool = &layout.pool.pool;
-    layout.pool.check(alloc)?;
+    check_pool(alloc, &layout.pool)?;
     check_class_flags(layout.flags)?;
     check_class_index(pool, layout.this)?;
     check_super(pool, layout.superclass)
