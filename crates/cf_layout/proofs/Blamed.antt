@@ -1,5 +1,5 @@
 -- Faults in a known attribute, put on its length.
-use Rattle.std.proofs.Common.{◌≡◌, ℕ, Result, Ok, Err, ap}
+use Rattle.std.proofs.Common.{ℕ, Result, Ok, Err, ap}
 use Rattle.cf_text.specs.declared.fault.ReadFault.{ReadFault}
 use Rattle.cf_text.specs.declared.fault.ReadFault.TheVariants.{Broken, Memory}
 use Rattle.cf_text.specs.Reading.{Gives}

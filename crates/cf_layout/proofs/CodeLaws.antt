@@ -1,5 +1,5 @@
 -- What stands inside attributes is read as their looks say.
-use Rattle.std.proofs.Common.{◌≡◌, ◌&&◌, ◌*◌, ◌-◌, ℕ, zero, suc, Bool, true, false, cond, eqb, leb, List, take, Option, Some, None, Result, Ok, Err, refl, sym, ap, subst}
+use Rattle.std.proofs.Common.{◌≡◌, ◌&&◌, ◌*◌, ◌-◌, ℕ, zero, suc, eqb, leb, List, take, Option, Some, None, Result, Ok, Err, refl, sym, ap, subst}
 use Rattle.std.specs.Prelude.{IfErr, IfOk}
 use Rattle.cf_text.specs.declared.fault.Rule.{Rule}
 use Rattle.cf_text.specs.declared.fault.Rule.TheVariants as rules
@@ -7,13 +7,11 @@ use Rattle.cf_text.specs.declared.fault.ReadFault.{ReadFault}
 use Rattle.cf_text.specs.declared.fault.ReadFault.TheVariants.{Broken, Memory}
 use Rattle.cf_text.specs.Reading.{Gives}
 use Rattle.cf_text.specs.Reading.{◌>>=◌ as ◌then◌}
-use Rattle.cf_text.specs.Looks.{Finds, Look, Tells, ◌>>=◌, known}
+use Rattle.cf_text.specs.Looks.{Look, Tells}
 use Rattle.cf_text.proofs.FormatLaws.{number_reads, broken_is}
 use Rattle.cf_text.proofs.LookLaws.{choosing_tells, found_by, keeping_tells, known_tells, only_found, passing_tells, standing_tells, tells_along, then_tells}
-use Rattle.cf_layout.specs.declared.items.Item.{Item}
 use Rattle.cf_layout.specs.declared.items.Attribute.{Attribute}
 use Rattle.cf_layout.specs.declared.items.CodeHead.{CodeHead}
-use Rattle.cf_layout.specs.declared.items.CodeLayout.{CodeLayout}
 use Rattle.cf_layout.specs.Codes.{and_then, blamed, code_filling, code_head_at, code_of, code_rest_at, constant_filling, constant_of, skim_frame, skim_item, skim_list, skim_lists, skim_many, skim_table, skim_tagged, table_of}
 use Rattle.cf_layout.specs.CodeFormat.{AreInsides, Insides, MissesBy, behind_some, code_head_look, code_inside, code_look, code_rest_look, constant_inside, constant_look, filling, frame_look, going_on, item_look, items_look, lists_look, many_looks, reaches, table_inside, table_look, tagged_look}
 use Rattle.cf_layout.specs.ReadInsides.{insides_of}

@@ -1,17 +1,16 @@
 -- The layout of a class file is read exactly where its format stands.
-use Rattle.std.proofs.Common.{◌≡◌, ◌&&◌, ℕ, Bool, true, false, cond, eqb, leb, List, [], ◌∷◌, length, Result, Ok, Err, refl, ap, subst}
+use Rattle.std.proofs.Common.{◌≡◌, ◌&&◌, ℕ, Bool, true, false, cond, eqb, leb, List, length, Result, Ok, Err, refl, ap, subst}
 use Rattle.std.specs.Prelude.{IfErr, IfOk}
 use Rattle.cf_text.specs.declared.fault.Rule.{Rule}
 use Rattle.cf_text.specs.declared.fault.Rule.TheVariants as rules
 use Rattle.cf_text.specs.declared.fault.ReadFault.{ReadFault}
 use Rattle.cf_text.specs.declared.fault.ReadFault.TheVariants.{Broken, Memory}
-use Rattle.cf_text.specs.Reading.{Gives, many}
+use Rattle.cf_text.specs.Reading.{Gives}
 use Rattle.cf_text.specs.Reading.{◌>>=◌ as ◌then◌}
 use Rattle.cf_text.specs.Demands.{verdict}
-use Rattle.cf_text.specs.Formats.{FailsBy, Format, Reads, asking, many_format}
+use Rattle.cf_text.specs.Formats.{FailsBy, Format, Reads, asking}
 use Rattle.cf_text.proofs.FormatLaws.{along_reads, asking_reads, done_reads, many_reads, number_reads, skip_reads, then_reads}
 use Rattle.cf_pool.proofs.PoolLaws.{layout_reads}
-use Rattle.cf_layout.specs.declared.items.Attribute.{Attribute}
 use Rattle.cf_layout.specs.declared.items.Layout.{Layout}
 use Rattle.cf_layout.specs.Layouts.{attribute_at, attributes_at, body_at, file_at, header_at, item_at, keeps, layout_of, max_length, member_at}
 use Rattle.cf_layout.specs.FileFormat.{LaysOut, attribute_format, attributes_format, body_format, file_format, header_format, item_format, member_format}

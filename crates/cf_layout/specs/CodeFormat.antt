@@ -1,6 +1,6 @@
 -- What stands inside the attributes that are entered (JVMS 4.7.2, 4.7.3, 4.7.4): a ConstantValue, a Code, and a
 -- StackMapTable inside a Code, apart from how they are read.
-use Rattle.std.specs.Prelude.{◌≡◌, ℕ, zero, suc, Bool, true, ◌==◌, ◌&&◌, ◌-◌, ◌*◌, nat_le, List, take, Option, Some, None, Result}
+use Rattle.std.specs.Prelude.{ℕ, zero, suc, Bool, true, ◌==◌, ◌&&◌, ◌-◌, ◌*◌, nat_le, List, take, Option, Some, None, Result}
 use Rattle.cf_text.specs.declared.fault.Rule.TheVariants as rules
 use Rattle.cf_text.specs.declared.fault.ReadFault.{ReadFault}
 use Rattle.cf_text.specs.declared.fault.ReadFault.TheVariants.{Broken, Memory}

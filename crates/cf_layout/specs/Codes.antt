@@ -1,9 +1,9 @@
 -- How a Code attribute is read, and how a StackMapTable inside it is looked through (JVMS 4.7.3, 4.7.4).
-use Rattle.std.specs.Prelude.{ℕ, zero, suc, Bool, true, ◌==◌, ◌&&◌, ◌+◌, ◌-◌, ◌*◌, nat_le, List, [], ◌∷◌, take, Option, Some, None, Result, Ok, Err, if◌then◌else◌}
+use Rattle.std.specs.Prelude.{ℕ, zero, suc, ◌==◌, ◌&&◌, ◌-◌, ◌*◌, nat_le, List, take, Option, Some, None, Result, Ok, Err, if◌then◌else◌}
 use Rattle.cf_text.specs.declared.fault.ReadFault.{ReadFault}
 use Rattle.cf_text.specs.declared.fault.ReadFault.TheVariants.{Broken, Memory}
 use Rattle.cf_text.specs.declared.fault.Rule.TheVariants as rules
-use Rattle.cf_text.specs.Reading.{◌>>=◌, many}
+use Rattle.cf_text.specs.Reading.{◌>>=◌}
 use Rattle.cf_text.specs.Numbers.{number_at, skip_at}
 use Rattle.cf_layout.specs.declared.items.Item.{Item}
 use Rattle.cf_layout.specs.declared.items.Attribute.{Attribute}

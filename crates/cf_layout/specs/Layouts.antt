@@ -1,11 +1,11 @@
 -- How the layout of a class file is read (JVMS 4.1, 4.5, 4.6, 4.7): the first pass.
-use Rattle.std.specs.Prelude.{ℕ, Bool, ◌==◌, ◌&&◌, nat_le, List, [], ◌∷◌, length, take, drop, Result, Ok, Err, if◌then◌else◌}
+use Rattle.std.specs.Prelude.{ℕ, Bool, ◌==◌, ◌&&◌, nat_le, List, [], ◌∷◌, length, take, drop, Result, Ok}
 use Rattle.cf_text.specs.declared.fault.ReadFault.{ReadFault}
 use Rattle.cf_text.specs.declared.fault.Rule.{Rule}
 use Rattle.cf_text.specs.declared.fault.Rule.TheVariants as rules
 use Rattle.cf_text.specs.Reading.{◌>>=◌, many}
 use Rattle.cf_text.specs.Numbers.{number_at, skip_at}
-use Rattle.cf_text.specs.Demands.{Demand, verdict}
+use Rattle.cf_text.specs.Demands.{verdict}
 use Rattle.cf_pool.specs.Pools.{layout_from}
 use Rattle.cf_layout.specs.declared.items.Item.{Item}
 use Rattle.cf_layout.specs.declared.items.Attribute.{Attribute}

@@ -1,19 +1,17 @@
 -- A constant pool is read exactly where its format stands.
-use Rattle.std.proofs.Common.{◌≡◌, ℕ, ℤ, zero, suc, Bool, true, false, cond, eqb, not, List, [], ◌∷◌, Option, Some, None, Result, Ok, Err, refl, sym, ap, ◌∙◌}
+use Rattle.std.proofs.Common.{◌≡◌, ℕ, ℤ, zero, suc, Bool, true, false, cond, eqb, not, List, Option, Some, None, Result, Ok, Err, refl}
 use Rattle.std.specs.Int.{w32, cast_signed}
 use Rattle.cf_text.specs.declared.fault.ReadFault.{ReadFault}
 use Rattle.cf_text.specs.declared.fault.ReadFault.TheVariants.{Broken}
 use Rattle.cf_text.specs.declared.fault.Rule.TheVariants as rules
 use Rattle.cf_pool.specs.declared.pool.MemberKind.{MemberKind}
-use Rattle.cf_pool.specs.declared.pool.Entry.TheVariants.{Utf8, Integer, Class, Member, NameAndType, Other, Unusable}
+use Rattle.cf_pool.specs.declared.pool.Entry.TheVariants.{Other}
 use Rattle.cf_pool.specs.declared.layout.Shape.{Shape}
 use Rattle.cf_pool.specs.declared.layout.Shape.TheVariants as shapes
-use Rattle.cf_pool.specs.declared.layout.PlacedEntry.{PlacedEntry}
-use Rattle.cf_pool.specs.declared.layout.PoolLayout.{PoolLayout}
 use Rattle.cf_text.specs.Reading.{◌>>=◌ as ◌then◌}
-use Rattle.cf_text.specs.Numbers.{bytes_at, number_at, signed_at}
+use Rattle.cf_text.specs.Numbers.{number_at, signed_at}
 use Rattle.cf_pool.specs.Pools.{cell_from, cells_from, class_entry, entry_from, integer_entry, layout_from, member_entry, name_and_type_entry, pool_from, shape_of, shaped_entry, skipped_entry, tagged, text_entry}
-use Rattle.cf_text.specs.Formats.{Reads, asking}
+use Rattle.cf_text.specs.Formats.{Reads}
 use Rattle.cf_pool.specs.PoolFormat.{cell_format, cells_format, class_format, entry_format, integer_format, layout_format, member_format, name_and_type_format, pool_format, shaped_format, skipped_format, tagged_format, text_format}
 use Rattle.cf_text.proofs.FormatLaws.{along_reads, asking_reads, done_reads, number_reads, refused_reads, run_reads, skip_reads, then_reads}
 

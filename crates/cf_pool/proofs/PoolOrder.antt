@@ -1,24 +1,18 @@
 -- What is demanded of a constant pool stands in order.
-use Rattle.std.proofs.Common.{◌≡◌, ◌+◌, ◌*◌, ◌<◌, ◌≤◌, ◌&&◌, ℕ, zero, suc, Bool, true, false, cond, eqb, not, List, [], ◌∷◌, ◌++◌, length, take, Option, Some, None, Result, Ok, Err, refl, sym, ap, ◌∙◌, subst, arith, append_assoc}
-use Rattle.std.specs.Prelude.{is_some, slice_get}
+use Rattle.std.proofs.Common.{◌≡◌, ◌+◌, ◌*◌, ℕ, zero, suc, Bool, true, false, eqb, List, [], ◌∷◌, ◌++◌, length, Option, Some, None, refl, sym, ap, ◌∙◌, subst, arith, append_assoc}
+use Rattle.std.specs.Prelude.{slice_get}
 use Rattle.std.proofs.lemmas.List.{length-append}
-use Rattle.cf_text.specs.declared.fault.Rule.{Rule}
-use Rattle.cf_text.specs.declared.fault.Rule.TheVariants as rules
-use Rattle.cf_text.specs.declared.fault.ReadFault.{ReadFault}
-use Rattle.cf_text.specs.declared.fault.ReadFault.TheVariants.{Broken, Memory}
 use Rattle.cf_pool.specs.declared.pool.MemberKind.{MemberKind}
 use Rattle.cf_pool.specs.declared.pool.Entry.{Entry}
-use Rattle.cf_pool.specs.declared.pool.Entry.TheVariants.{Utf8, Integer, Class, Member, NameAndType, Other, Unusable}
 use Rattle.cf_pool.specs.declared.layout.Places.{Places}
 use Rattle.cf_pool.specs.declared.layout.PlacedEntry.{PlacedEntry}
 use Rattle.cf_pool.specs.declared.layout.PoolLayout.{PoolLayout}
 use Rattle.cf_pool.specs.declared.layout.Shape.{Shape}
 use Rattle.cf_pool.specs.declared.layout.Shape.TheVariants as shapes
-use Rattle.cf_text.specs.Demands.{Demand, of_each, of_read, of_some}
-use Rattle.cf_text.specs.Formats.{Format, many_format}
+use Rattle.cf_text.specs.Demands.{Demand, of_each}
 use Rattle.cf_pool.specs.PoolFormat.{cell_format, cells_format, class_format, entry_format, integer_format, layout_format, member_format, name_and_type_format, shaped_format, skipped_format, tagged_format, text_format}
-use Rattle.cf_pool.specs.Pools.{entry_demands, index_demands, indexed, named, pool_demands, shape_of, utf8_at}
-use Rattle.cf_text.proofs.Spans.{Span, key, many_span, span_append, span_high, span_low, span_rises}
+use Rattle.cf_pool.specs.Pools.{entry_demands, index_demands, indexed, named, pool_demands, shape_of}
+use Rattle.cf_text.proofs.Spans.{Span, span_append, span_high, span_low}
 
 -- ---- the constant pool
 

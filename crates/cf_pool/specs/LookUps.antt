@@ -1,6 +1,5 @@
 -- What the indices of a constant pool name (JVMS 4.4), apart from how it is looked up.
-use Rattle.std.specs.Prelude.{◌≡◌, ℕ, ℤ, List, Option, Some, None, slice_get}
-use Rattle.cf_pool.specs.declared.pool.MemberKind.{MemberKind}
+use Rattle.std.specs.Prelude.{◌≡◌, ℕ, ℤ, List, Some, slice_get}
 use Rattle.cf_pool.specs.declared.pool.Entry.{Entry}
 use Rattle.cf_pool.specs.declared.pool.Entry.TheVariants.{Utf8, Integer, Class, Member, NameAndType}
 use Rattle.cf_pool.specs.Pools.{NamedMember, NamedType}

@@ -1,19 +1,16 @@
 -- What is demanded of a class file stands in order.
-use Rattle.std.proofs.Common.{◌≡◌, ◌+◌, ◌*◌, ◌<◌, ◌≤◌, ◌&&◌, ◌||◌, ℕ, Bool, true, false, cond, eqb, not, List, [], ◌∷◌, ◌++◌, length, take, Option, Some, None, Result, Ok, Err, codes, refl, sym, ap, ◌∙◌, subst, arith}
-use Rattle.std.specs.Prelude.{is_some, is_none}
-use Rattle.cf_text.specs.declared.fault.Rule.{Rule}
+use Rattle.std.proofs.Common.{◌≡◌, ◌+◌, ◌*◌, ◌≤◌, ◌&&◌, ◌||◌, ℕ, Bool, not, List, ◌++◌, take, Option, Some, None, Result, Ok, Err, refl, sym, ap, ◌∙◌, subst, arith}
+use Rattle.std.specs.Prelude.{is_none}
 use Rattle.cf_text.specs.declared.fault.Rule.TheVariants as rules
 use Rattle.cf_text.specs.declared.fault.ReadFault.{ReadFault}
 use Rattle.cf_text.specs.declared.fault.ReadFault.TheVariants.{Broken, Memory}
 use Rattle.cf_pool.specs.declared.pool.Entry.{Entry}
-use Rattle.cf_text.specs.declared.types.FieldType.{FieldType}
-use Rattle.cf_text.specs.declared.types.MethodDescriptor.{MethodDescriptor}
 use Rattle.cf_text.specs.Demands.{Demand, of_each, of_read, of_some}
 use Rattle.cf_text.specs.Descriptors.{IsFieldType, IsMethodType, spelling}
 use Rattle.cf_text.specs.Looks.{Tells}
 use Rattle.cf_text.specs.Names.{is_method_name, is_name}
 use Rattle.cf_pool.specs.Pools.{class_at, indexed, named, pool_demands, utf8_at}
-use Rattle.cf_text.specs.Types.{begins_with, field_descriptor_of, method_descriptor_of}
+use Rattle.cf_text.specs.Types.{field_descriptor_of, method_descriptor_of}
 use Rattle.cf_text.proofs.DescriptorLaws.{field_descriptor_tells, method_descriptor_tells}
 use Rattle.cf_reader.specs.declared.flags.TheConstants.Flags.{STATIC}
 use Rattle.cf_layout.specs.declared.items.Item.{Item}
@@ -21,14 +18,14 @@ use Rattle.cf_layout.specs.declared.items.Attribute.{Attribute}
 use Rattle.cf_layout.specs.declared.items.Member.{Member}
 use Rattle.cf_layout.specs.declared.items.Layout.{Layout}
 use Rattle.cf_reader.specs.declared.attributes.Known.TheVariants as known
-use Rattle.cf_reader.specs.Rules.{class_flags_fit, has}
-use Rattle.cf_reader.specs.Profile.{class_flags_in_profile, count_in_profile, field_type_in_profile, method_name_in_profile, method_type_in_profile, super_in_profile}
+use Rattle.cf_reader.specs.Rules.{has}
+use Rattle.cf_reader.specs.Profile.{count_in_profile, field_type_in_profile, method_name_in_profile, method_type_in_profile, super_in_profile}
 use Rattle.cf_layout.specs.FileFormat.{LaysOut, attributes_format, body_format, file_format, member_format}
 use Rattle.cf_layout.specs.CodeFormat.{AreInsides, Insides}
 use Rattle.cf_reader.specs.Checks.{are_few, class_flag_demands, class_index_demands, demand, demands, field_demands, field_demands_if, field_descriptor_demands, field_flag_demands, field_known, field_type_demands, fields_demands, flag_demands, head_demands, interfaces_demands, is_initializer, method_attribute_demands, method_demands, method_demands_if, method_descriptor_demands, method_flag_demands, method_name_demands, method_type_demands, methods_demands, occurs, plain_demands, super_demands}
 use Rattle.cf_text.specs.Order.{Rises, number_of}
 use Rattle.cf_reader.specs.Spells.{AreDemands}
-use Rattle.cf_text.proofs.Spans.{Span, key, many_span, span_append, span_high, span_low, span_rises}
+use Rattle.cf_text.proofs.Spans.{Span, many_span, span_append, span_high, span_low, span_rises}
 use Rattle.cf_reader.proofs.PlacedLaws.{index_span, item_placed, method_attributes_span, plain_span}
 use Rattle.cf_pool.proofs.PoolOrder.{named_span, pool_span}
 

@@ -1,5 +1,5 @@
 -- The demands of members and attributes lie where these stand.
-use Rattle.std.proofs.Common.{◌≡◌, ◌+◌, ◌*◌, ◌<◌, ◌≤◌, ◌⊎◌, ◌&&◌, ◌||◌, ℕ, zero, suc, Bool, true, false, cond, eqb, leb, List, [], ◌∷◌, ◌++◌, length, take, Option, Some, None, Result, Ok, Err, codes, refl, sym, ap, ◌∙◌, subst, inl, inr, arith}
+use Rattle.std.proofs.Common.{◌≡◌, ◌+◌, ◌*◌, ◌≤◌, ◌⊎◌, ◌||◌, ℕ, zero, suc, Bool, true, false, cond, List, [], ◌∷◌, ◌++◌, length, take, Option, Result, Ok, Err, codes, refl, sym, ap, ◌∙◌, subst, inl, inr, arith}
 use Rattle.std.proofs.lemmas.Bool.{eqb-true}
 use Rattle.std.proofs.lemmas.List.{length-take}
 use Rattle.cf_text.specs.declared.fault.Rule.{Rule}
@@ -7,10 +7,10 @@ use Rattle.cf_text.specs.declared.fault.Rule.TheVariants as rules
 use Rattle.cf_text.specs.declared.fault.ReadFault.{ReadFault}
 use Rattle.cf_text.specs.declared.fault.ReadFault.TheVariants.{Broken, Memory}
 use Rattle.cf_pool.specs.declared.pool.Entry.{Entry}
-use Rattle.cf_text.specs.Demands.{Demand, of_each, of_read, of_some}
-use Rattle.cf_text.specs.Formats.{Format, IsItem, many_format, number_format, run_format}
-use Rattle.cf_text.specs.Looks.{Finds, Look}
-use Rattle.cf_pool.specs.Pools.{indexed, integer_at, named, utf8_at}
+use Rattle.cf_text.specs.Demands.{Demand, of_read}
+use Rattle.cf_text.specs.Formats.{many_format}
+use Rattle.cf_text.specs.Looks.{Finds}
+use Rattle.cf_pool.specs.Pools.{indexed, integer_at, utf8_at}
 use Rattle.cf_layout.specs.declared.items.Item.{Item}
 use Rattle.cf_layout.specs.declared.items.Attribute.{Attribute}
 use Rattle.cf_layout.specs.declared.items.CodeHead.{CodeHead}
@@ -18,11 +18,11 @@ use Rattle.cf_layout.specs.declared.items.CodeLayout.{CodeLayout}
 use Rattle.cf_reader.specs.declared.attributes.Known.{Known}
 use Rattle.cf_reader.specs.declared.attributes.Known.TheVariants as known
 use Rattle.cf_layout.specs.FileFormat.{attribute_format, attributes_format, item_format}
-use Rattle.cf_layout.specs.CodeFormat.{AreInsides, Insides, code_head_look, code_inside, code_look, code_rest_look, constant_inside, constant_look, filling, table_look}
+use Rattle.cf_layout.specs.CodeFormat.{AreInsides, Insides, code_head_look, code_inside, code_look, code_rest_look, constant_inside, constant_look, table_look}
 use Rattle.cf_reader.specs.Checks.{attribute_demands, code_demands, is_known, is_named, known_demands, method_attribute_demands, one_attribute, plain_demands}
 use Rattle.cf_reader.specs.Profile.{handlers_in_profile}
 use Rattle.cf_text.specs.Order.{number_of}
-use Rattle.cf_text.proofs.Spans.{Span, key, span_append, span_high, span_low}
+use Rattle.cf_text.proofs.Spans.{Span, span_append, span_low}
 
 -- ---- where items and attributes stand
 

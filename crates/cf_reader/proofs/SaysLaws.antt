@@ -3,19 +3,14 @@ use Rattle.std.proofs.Common.{◌≡◌, ◌+◌, ℕ, ℤ, Bool, true, false, c
 use Rattle.std.specs.Prelude.{is_some}
 use Rattle.std.specs.List.{AllByRecursion}
 use Rattle.std.proofs.lemmas.Bool.{false≢true}
-use Rattle.cf_text.specs.declared.fault.Rule.TheVariants as rules
 use Rattle.cf_text.specs.declared.fault.ReadFault.{ReadFault}
 use Rattle.cf_text.specs.declared.fault.ReadFault.TheVariants.{Broken, Memory}
 use Rattle.cf_pool.specs.declared.pool.Entry.{Entry}
-use Rattle.cf_text.specs.declared.types.FieldType.{FieldType}
-use Rattle.cf_text.specs.declared.types.MethodDescriptor.{MethodDescriptor}
-use Rattle.cf_text.specs.Reading.{◌>>=◌}
 use Rattle.cf_text.specs.Demands.{Demand, of_each, of_read, of_some, verdict}
-use Rattle.cf_text.specs.Descriptors.{IsFieldType, IsMethodType}
 use Rattle.cf_text.specs.Looks.{Look, Tells}
 use Rattle.cf_text.specs.Names.{is_method_name, is_name}
-use Rattle.cf_pool.specs.Pools.{class_at, indexed, integer_at, named, pool_demands, utf8_at}
-use Rattle.cf_text.specs.Types.{begins_with, field_descriptor_of, method_descriptor_of}
+use Rattle.cf_pool.specs.Pools.{class_at, indexed, integer_at, named, utf8_at}
+use Rattle.cf_text.specs.Types.{field_descriptor_of, method_descriptor_of}
 use Rattle.cf_text.proofs.DescriptorLaws.{field_descriptor_tells, method_descriptor_tells}
 use Rattle.cf_reader.specs.declared.flags.TheConstants.Flags.{STATIC}
 use Rattle.cf_reader.specs.declared.class_file.Code.{Code}
@@ -24,16 +19,15 @@ use Rattle.cf_reader.specs.declared.class_file.Method.{Method}
 use Rattle.cf_reader.specs.declared.class_file.ClassFile.{ClassFile}
 use Rattle.cf_layout.specs.declared.items.Item.{Item}
 use Rattle.cf_layout.specs.declared.items.Attribute.{Attribute}
-use Rattle.cf_layout.specs.declared.items.CodeLayout.{CodeLayout}
 use Rattle.cf_layout.specs.declared.items.Member.{Member}
 use Rattle.cf_layout.specs.declared.items.Layout.{Layout}
 use Rattle.cf_reader.specs.declared.attributes.Known.TheVariants as known
 use Rattle.cf_reader.specs.Rules.{has}
 use Rattle.cf_layout.specs.Codes.{code_of, constant_of}
 use Rattle.cf_layout.specs.ReadInsides.{insides_of}
-use Rattle.cf_reader.specs.Checks.{attribute_demands, class_flag_demands, class_index_demands, code_demands, demands, field_demands, field_demands_if, field_descriptor_demands, field_flag_demands, field_known, field_type_demands, fields_demands, first_named, head_demands, interfaces_demands, is_initializer, is_known, is_named, known_demands, method_attribute_demands, method_demands, method_demands_if, method_descriptor_demands, method_flag_demands, method_name_demands, method_type_demands, methods_demands, one_attribute, plain_demands, super_demands}
+use Rattle.cf_reader.specs.Checks.{attribute_demands, class_index_demands, code_demands, demands, field_demands, field_demands_if, field_descriptor_demands, field_known, field_type_demands, fields_demands, first_named, head_demands, interfaces_demands, is_initializer, is_known, is_named, known_demands, method_attribute_demands, method_demands, method_demands_if, method_descriptor_demands, method_name_demands, method_type_demands, methods_demands, one_attribute, plain_demands, super_demands}
 use Rattle.cf_reader.specs.Builds.{class_from, class_name_of, code_from, code_in, constant_attribute, constant_from, each, field_from, method_from}
-use Rattle.cf_reader.specs.Says.{EachSays, SaysClass, SaysClassName, SaysCode, SaysConstant, SaysField, SaysMethod, SaysText}
+use Rattle.cf_reader.specs.Says.{EachSays, SaysClass, SaysClassName, SaysCode, SaysConstant, SaysField, SaysMethod}
 use Rattle.cf_layout.proofs.CodeLaws.{code_tells, constant_tells}
 
 -- ---- what a layout says is made of it

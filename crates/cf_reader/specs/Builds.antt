@@ -1,5 +1,5 @@
 -- The class file that a layout says, once its demands hold.
-use Rattle.std.specs.Prelude.{ℕ, ℤ, Bool, List, [], ◌∷◌, Option, Some, None, Result, Ok, Err, codes, if◌then◌else◌}
+use Rattle.std.specs.Prelude.{ℕ, ℤ, List, [], ◌∷◌, Option, Some, None, Result, Ok, Err, codes, if◌then◌else◌}
 use Rattle.cf_text.specs.declared.fault.ReadFault.{ReadFault}
 use Rattle.cf_text.specs.declared.fault.ReadFault.TheVariants.{Broken}
 use Rattle.cf_text.specs.declared.fault.Rule.TheVariants as rules
@@ -8,7 +8,6 @@ use Rattle.cf_text.specs.Reading.{◌>>=◌}
 use Rattle.cf_text.specs.Demands.{verdict}
 use Rattle.cf_text.specs.Types.{field_descriptor_of, method_descriptor_of}
 use Rattle.cf_pool.specs.Pools.{class_at, integer_at, utf8_at}
-use Rattle.cf_reader.specs.declared.flags.Flags.{Flags}
 use Rattle.cf_reader.specs.declared.flags.TheConstants.Flags.{STATIC}
 use Rattle.cf_reader.specs.declared.class_file.Code.{Code}
 use Rattle.cf_reader.specs.declared.class_file.Field.{Field}

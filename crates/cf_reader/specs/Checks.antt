@@ -2,18 +2,15 @@
 -- order of the rules' numbers (JVMS 4.1, 4.5, 4.6, 4.7, 4.8): the second pass. A demand that another one
 -- covers is not made: flags that the profile leaves out need not go together, a Code of a wrong length need
 -- not fill its attribute, and a second attribute of a known kind is not entered.
-use Rattle.std.specs.Prelude.{ℕ, Bool, true, false, ◌==◌, ◌&&◌, ◌||◌, ◌+◌, ◌*◌, nat_le, not, List, [], ◌∷◌, ◌++◌, take, Option, Some, None, is_some, is_none, Result, Ok, codes, if◌then◌else◌, sum_by}
+use Rattle.std.specs.Prelude.{ℕ, Bool, false, ◌==◌, ◌&&◌, ◌||◌, ◌+◌, nat_le, not, List, [], ◌∷◌, ◌++◌, take, Option, Some, None, is_some, is_none, codes, if◌then◌else◌, sum_by}
 use Rattle.std.specs.List.{list_any}
 use Rattle.std.specs.Str.{bytes_eq}
-use Rattle.cf_text.specs.declared.fault.ReadFault.{ReadFault}
 use Rattle.cf_text.specs.declared.fault.Rule.{Rule}
 use Rattle.cf_text.specs.declared.fault.Rule.TheVariants as rules
 use Rattle.cf_pool.specs.declared.pool.Entry.{Entry}
 use Rattle.cf_text.specs.declared.types.ElementType.{ElementType}
 use Rattle.cf_text.specs.declared.types.ElementType.TheVariants as elements
 use Rattle.cf_text.specs.declared.types.FieldType.{FieldType}
-use Rattle.cf_text.specs.declared.types.MethodDescriptor.{MethodDescriptor}
-use Rattle.cf_text.specs.Reading.{◌>>=◌}
 use Rattle.cf_text.specs.Demands.{Demand, of_each, of_read, of_some}
 use Rattle.cf_text.specs.Names.{is_method_name, is_name}
 use Rattle.cf_text.specs.Types.{begins_with, field_descriptor_of, method_descriptor_of}

@@ -1,7 +1,7 @@
 -- Descriptors are read exactly where the grammar has them.
-use Rattle.std.proofs.Common.{◌≡◌, ◌≤◌, ◌<◌, ◌+◌, ◌&&◌, ◌||◌, ℕ, zero, suc, Bool, true, false, cond, eqb, leb, ltb, not, List, [], ◌∷◌, ◌++◌, length, take, drop, Option, Some, None, Result, Ok, Err, ◌⊎◌, refl, sym, ap, ◌∙◌, subst, inl, inr, arith, add-one, append_assoc, append-nil}
+use Rattle.std.proofs.Common.{◌≡◌, ◌≤◌, ◌<◌, ◌+◌, ◌&&◌, ℕ, zero, suc, Bool, true, false, cond, eqb, ltb, not, List, [], ◌∷◌, ◌++◌, length, take, drop, Option, Some, None, Result, Ok, Err, refl, sym, ap, ◌∙◌, subst, arith, add-one, append_assoc, append-nil}
 use Rattle.std.proofs.Math.ListN.{replicate}
-use Rattle.std.proofs.lemmas.Bool.{false≢true, eqb-true, and_parts, and_from, ltb-true, ltb-false, lt-ltb, le-ltb, ne_eqb, eq-eqb, cases_Bool, cases_lt, not-true}
+use Rattle.std.proofs.lemmas.Bool.{false≢true, eqb-true, and_parts, ltb-true, ltb-false, lt-ltb, le-ltb, ne_eqb}
 use Rattle.std.proofs.lemmas.List.{length-append, take_at, drop_at}
 use Rattle.cf_text.specs.declared.fault.Rule.{Rule}
 use Rattle.cf_text.specs.declared.fault.Rule.TheVariants as rules
@@ -16,10 +16,10 @@ use Rattle.cf_text.specs.declared.types.Descriptor.TheVariants.{Field, Method}
 use Rattle.cf_text.specs.Reading.{◌>>=◌}
 use Rattle.cf_text.specs.Names.{are_parts, is_class_name, is_name_byte}
 use Rattle.std.specs.Prelude.{IfOk}
-use Rattle.cf_text.specs.Looks.{Exactly, Look, Tells}
+use Rattle.cf_text.specs.Looks.{Exactly, Tells}
 use Rattle.cf_text.specs.Types.{as_found, begins_with, class_type_of, descriptor_in, descriptor_of, dimensions_of, element_type_of, field_descriptor_of, field_type_of, letter_type, malformed, method_descriptor_of, name_length, parameters_of, plain_type_of, result_of}
 use Rattle.cf_text.specs.Descriptors.{AreFieldTypes, IsDescriptor, IsElementType, IsFieldType, IsMethodType, IsResultType, spelling}
-use Rattle.cf_text.proofs.FormatLaws.{broken_is, pair_is}
+use Rattle.cf_text.proofs.FormatLaws.{broken_is}
 
 abbrev answered : {A : Type 0} → A → Result A ReadFault
 answered x = Ok x

@@ -1,15 +1,15 @@
 -- Readings of looks, put together.
 use Rattle.std.proofs.Common.{◌≡◌, ◌+◌, ℕ, Bool, true, false, cond, leb, List, [], ◌∷◌, length, Result, Ok, Err, refl, sym, ap, ◌∙◌, inl, inr, arith}
-use Rattle.std.proofs.lemmas.Bool.{false≢true, leb-true, leb-false, le-leb, lt-leb}
+use Rattle.std.proofs.lemmas.Bool.{false≢true, leb-true, leb-false}
 use Rattle.cf_text.specs.declared.fault.Rule.{Rule}
 use Rattle.cf_text.specs.declared.fault.Rule.TheVariants.{Truncated}
 use Rattle.cf_text.specs.declared.fault.ReadFault.{ReadFault}
 use Rattle.cf_text.specs.declared.fault.ReadFault.TheVariants.{Broken, Memory}
 use Rattle.cf_text.specs.Reading.{◌>>=◌ as ◌then◌}
 use Rattle.cf_text.specs.Numbers.{skip_at}
-use Rattle.cf_text.specs.Demands.{Demand, verdict}
-use Rattle.cf_text.specs.Formats.{Format, Reads, IsCut, IsItem}
-use Rattle.cf_text.specs.Looks.{Look, Tells, Finds, standing, passing, known, ◌>>=◌, keeping, choosing, blaming}
+use Rattle.cf_text.specs.Demands.{verdict}
+use Rattle.cf_text.specs.Formats.{Format, Reads}
+use Rattle.cf_text.specs.Looks.{Look, Tells, Finds, standing, passing, known, ◌>>=◌, keeping, choosing}
 use Rattle.cf_text.proofs.FormatLaws.{broken_is}
 
 -- an answer that is no fault

@@ -1,9 +1,9 @@
 -- Reading parameters one after the other, as the loop does.
-use Rattle.std.proofs.Common.{◌≡◌, ℕ, zero, suc, ◌+◌, ◌-◌, ◌<◌, ◌≤◌, List, [], ◌∷◌, ◌++◌, drop, true, false, Result, Ok, Err, refl, sym, ap, ◌∙◌, arith}
+use Rattle.std.proofs.Common.{◌≡◌, ℕ, suc, ◌+◌, ◌-◌, ◌<◌, ◌≤◌, List, [], ◌∷◌, ◌++◌, drop, true, false, Result, Ok, Err, refl, sym, ◌∙◌, arith}
 use Rattle.cf_text.specs.declared.fault.ReadFault.{ReadFault}
 use Rattle.cf_text.specs.declared.fault.ReadFault.TheVariants.{Broken, Memory}
 use Rattle.cf_text.specs.declared.types.FieldType.{FieldType}
-use Rattle.cf_text.specs.Reading.{◌>>=◌, Fails}
+use Rattle.cf_text.specs.Reading.{Fails}
 use Rattle.cf_text.specs.Types.{begins_with, field_type_of, malformed, parameters_of}
 use Rattle.cf_text.proofs.Loops.{with_front, with_front-push, with_front-end}
 

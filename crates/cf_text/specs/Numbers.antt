@@ -1,5 +1,5 @@
 -- Numbers and runs of bytes from a place on.
-use Rattle.std.specs.Prelude.{◌≡◌, ◌≤◌, ◌+◌, ℕ, List, length, take, drop, Result, Ok, Err, nat_le, if◌then◌else◌}
+use Rattle.std.specs.Prelude.{◌+◌, ℕ, List, length, take, drop, Result, Ok, Err, nat_le, if◌then◌else◌}
 use Rattle.std.specs.Prelude.{ℤ}
 use Rattle.std.specs.Int.{w32, cast_signed}
 use Rattle.cf_text.specs.Reading.{◌>>=◌}

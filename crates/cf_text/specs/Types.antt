@@ -1,9 +1,8 @@
 -- Descriptors (JVMS 4.3), read from the front of a text: what is read, and the text behind it. A fault
 -- is at the place where the text is used.
-use Rattle.std.specs.Prelude.{ℕ, zero, suc, Bool, true, false, ◌==◌, ◌&&◌, ◌+◌, ◌*◌, not, nat_lt, List, [], ◌∷◌, length, take, drop, Option, Some, None, Result, Ok, Err, is_ok, if◌then◌else◌}
+use Rattle.std.specs.Prelude.{ℕ, zero, suc, Bool, false, ◌==◌, ◌&&◌, ◌+◌, not, nat_lt, List, [], ◌∷◌, length, take, drop, Option, Some, None, Result, Ok, Err, is_ok, if◌then◌else◌}
 use Rattle.cf_text.specs.declared.fault.ReadFault.{ReadFault}
 use Rattle.cf_text.specs.declared.fault.ReadFault.TheVariants.{Broken}
-use Rattle.cf_text.specs.declared.fault.Rule.{Rule}
 use Rattle.cf_text.specs.declared.fault.Rule.TheVariants as rules
 use Rattle.cf_text.specs.declared.types.FieldType.{FieldType}
 use Rattle.cf_text.specs.declared.types.ElementType.{ElementType}

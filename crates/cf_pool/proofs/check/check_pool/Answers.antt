@@ -1,4 +1,4 @@
-use Rattle.std.proofs.Common.{◌≡◌, ◌<◌, ℕ, length, get_or, refl, rules}
+use Rattle.std.proofs.Common.{get_or, refl, rules}
 use Rattle.std.proofs.lemmas.Result.{err_from_is_err_and}
 use Rattle.cf_pool.specs.declared.layout.Places.{Places}
 use Rattle.cf_pool.specs.Pools.{index_demands, pool_demands}

@@ -1,4 +1,4 @@
-use Rattle.std.proofs.Common.{◌-◌, eqb, true, length, rules}
+use Rattle.std.proofs.Common.{◌-◌, eqb, true}
 use Rattle.std.proofs.lemmas.Result.{err_from_is_err_and}
 use Rattle.cf_pool.specs.Pools.{cells_from}
 use Rattle.cf_pool.proofs.Cells.{cells-go_on, cells-fail, cells-end, is_last}

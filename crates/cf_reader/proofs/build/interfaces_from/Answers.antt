@@ -1,4 +1,4 @@
-use Rattle.std.proofs.Common.{get_or, refl, sym, rules}
+use Rattle.std.proofs.Common.{get_or, refl, rules}
 use Rattle.std.proofs.lemmas.Result.{err_from_is_err_and}
 use Rattle.cf_layout.specs.declared.items.Item.{Item}
 use Rattle.cf_reader.specs.Builds.{class_name_of}

@@ -1,4 +1,4 @@
-use Rattle.std.proofs.Common.{refl, rules, codes}
+use Rattle.std.proofs.Common.{rules}
 use Rattle.std.proofs.lemmas.Result.{err_from_is_err_and}
 use Rattle.cf_layout.specs.ReadInsides.{insides_of}
 use Rattle.cf_reader.specs.Checks.{is_known, known_demands, plain_demands}

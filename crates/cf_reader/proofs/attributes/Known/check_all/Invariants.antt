@@ -1,4 +1,4 @@
-use Rattle.std.proofs.Common.{◌≡◌, drop, false, codes}
+use Rattle.std.proofs.Common.{◌≡◌, drop, false}
 use Rattle.cf_text.specs.Demands.{verdict}
 use Rattle.cf_layout.specs.ReadInsides.{insides_of}
 use Rattle.cf_reader.specs.Checks.{is_known, known_demands, attribute_demands}

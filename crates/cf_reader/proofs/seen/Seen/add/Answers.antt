@@ -1,4 +1,4 @@
-use Rattle.std.proofs.Common.{ap, inl, inr, not, rules, sym, ◌∙◌}
+use Rattle.std.proofs.Common.{ap, inl, inr, not, rules, ◌∙◌}
 use Rattle.cf_reader.specs.Seen.{Key}
 use Rattle.cf_reader.proofs.SeenLaws.{key-put, key-tells, none-tells}
 use Rattle.cf_reader.proofs.seen.Seen.add.Goals as goal
