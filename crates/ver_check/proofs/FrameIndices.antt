@@ -1,6 +1,6 @@
 -- The indices of the declared frames, found by one pass over them and the offsets of the instructions.
 use Rattle.std.proofs.Common.{◌≡◌, ◌≢◌, ℕ, zero, suc, ◌+◌, ◌<◌, ◌≤◌, Bool, true, false, Option, Some, None, List, [], ◌∷◌, length, refl, sym, ap, subst, ◌∙◌, arith, true≢false, add-one, append_assoc, drop-cons, drop, get_or, ◌++◌}
-use Rattle.std.specs.Prelude.{◌==◌, if◌then◌else◌, map, slice_get, slice_index, option_and_then, option_map}
+use Rattle.std.specs.Prelude.{◌==◌, if◌then◌else◌, map, slice_get, slice_index, option_and_then}
 use Rattle.std.specs.Option.{option_map_or}
 use Rattle.std.specs.List.{AllByRecursion, list_any}
 use Rattle.std.specs.List.Sorted.{IsStrictlyIncreasing}
@@ -19,7 +19,7 @@ same_heads : {A : Type 0} (x y : A) (xs ys : List A) → x ∷ xs ≡ y ∷ ys �
 same_heads x y xs ys e = (cc, cc)
 
 -- the frame of the index of an instruction is the one that is declared at its offset
-pub index_finds : (declared : List (ℕ × Frame)) (offsets : List ℕ) (indices : List (Option ℕ)) (place : ℕ) → AreIndices declared offsets indices
+pub index_finds : (declared : List (ℕ × Frame)) (offsets : List ℕ) (indices : List ℕ) (place : ℕ) → AreIndices declared offsets indices
     → option_and_then (frame_of declared) (slice_get indices place) ≡ option_and_then (frame_at_offset declared) (slice_get offsets place)
 index_finds declared [] [] place e = refl
 index_finds declared [] (i ∷ is) place e = absurd (cc)
@@ -29,18 +29,22 @@ index_finds declared (o ∷ os) (i ∷ is) (suc place) e =
     index_finds declared os is place (same_heads (frame_of declared i) (frame_at_offset declared o) (map (frame_of declared) is) (map (frame_at_offset declared) os) e).1
 
 -- the same of the index that was read at a place
-pub read_index : (declared : List (ℕ × Frame)) (offsets : List ℕ) (indices : List (Option ℕ)) (place : ℕ) (index : Option ℕ) → AreIndices declared offsets indices → place < length indices → index ≡ get_or indices place index
+pub read_index : (declared : List (ℕ × Frame)) (offsets : List ℕ) (indices : List ℕ) (place : ℕ) (index : ℕ) → AreIndices declared offsets indices → place < length indices → index ≡ get_or indices place index
     → frame_of declared index ≡ option_and_then (frame_at_offset declared) (slice_get offsets place)
 read_index declared offsets indices place index are within e =
     let at : slice_get indices place ≡ Some index = slice_get_read indices (length indices) place index refl within e in
     rw at at (index_finds declared offsets indices place are)
 
 -- past the indices no frame is declared
-pub past_indices : (declared : List (ℕ × Frame)) (offsets : List ℕ) (indices : List (Option ℕ)) (place : ℕ) → AreIndices declared offsets indices → length indices ≤ place
+pub past_indices : (declared : List (ℕ × Frame)) (offsets : List ℕ) (indices : List ℕ) (place : ℕ) → AreIndices declared offsets indices → length indices ≤ place
     → None ≡ option_and_then (frame_at_offset declared) (slice_get offsets place)
 past_indices declared offsets indices place are past =
     let at : slice_get indices place ≡ None = slice_get_past indices place past in
     rw at at (index_finds declared offsets indices place are)
+
+-- past the last frame there is none
+pub past_last : (declared : List (ℕ × Frame)) → frame_of declared (length declared) ≡ None
+past_last declared = rw (slice_get_past declared (length declared) (omega arith))
 
 -- ---- the pass
 
@@ -49,10 +53,10 @@ abbrev pub is_at : List (ℕ × Frame) → ℕ → ℕ → Bool
 is_at declared next offset = option_map_or (λ (d : ℕ × Frame). d.0 == offset) (slice_get declared next) false
 
 -- the indices of the instructions at these offsets, where the frames before an index are those of earlier ones
-unfoldable pub found_from : List (ℕ × Frame) → ℕ → List ℕ → List (Option ℕ)
+unfoldable pub found_from : List (ℕ × Frame) → ℕ → List ℕ → List ℕ
 found_from declared next [] = []
 found_from declared next (o ∷ os) =
-    if is_at declared next o then Some next ∷ found_from declared (suc next) os else None ∷ found_from declared next os
+    if is_at declared next o then next ∷ found_from declared (suc next) os else length declared ∷ found_from declared next os
 
 -- numbers that rise from above one
 abbrev RiseAbove : ℕ → List ℕ → Type 0
@@ -139,7 +143,7 @@ Finds declared next ds os =
 by_test : (declared : List (ℕ × Frame)) (next : ℕ) (d : ℕ × Frame) (ds : List (ℕ × Frame)) (o : ℕ) (os : List ℕ) (test : Bool) → (d.0 == o) ≡ test
     → Finds declared (suc next) ds os → Finds declared next (d ∷ ds) os
     → Left declared next (d ∷ ds) → RiseAbove d.0 (declared_offsets ds) → RiseAbove o os → Stand (o ∷ os) (d ∷ ds)
-    → map (frame_of declared) (if test then Some next ∷ found_from declared (suc next) os else None ∷ found_from declared next os) ≡ map (frame_at_offset (d ∷ ds)) (o ∷ os)
+    → map (frame_of declared) (if test then next ∷ found_from declared (suc next) os else length declared ∷ found_from declared next os) ≡ map (frame_at_offset (d ∷ ds)) (o ∷ os)
 unfolding frame_at_offset
 by_test declared next d ds o os true e hit miss left rises rising stand =
     let same : d.0 ≡ o = grind (arith, nat_tests, e) in
@@ -153,7 +157,7 @@ by_test declared next d ds o os false e hit miss left rises rising stand =
     let others : map (frame_of declared) (found_from declared next os) ≡ map (frame_at_offset (d ∷ ds)) os =
     miss left rises (above_rise o os rising) (stand_later o os (d ∷ ds) (later, rises) stand) in
     let none : frame_at_offset ds o ≡ None = none_above o ds (lower o d.0 (declared_offsets ds) (omega (arith, later)) rises) in
-    rw (e, none) (ap (λ (fs : List (Option Frame)). None ∷ fs) others)
+    rw (e, none, past_last declared) (ap (λ (fs : List (Option Frame)). None ∷ fs) others)
 
 found_all : (declared : List (ℕ × Frame)) (next : ℕ) (ds : List (ℕ × Frame)) (os : List ℕ) → Finds declared next ds os
 unfolding found_from
@@ -161,7 +165,7 @@ found_all declared next ds [] left rises rising stand = refl
 found_all declared next [] (o ∷ os) left rises rising stand =
     let others : map (frame_of declared) (found_from declared next os) ≡ map (frame_at_offset []) os = found_all declared next [] os left tt (above_rise o os rising) tt in
     let here : frame_at_offset [] o ≡ None = none_above o [] tt in
-    rw (first_left declared next [] left, here, others)
+    rw (first_left declared next [] left, here, past_last declared, others)
 found_all declared next (d ∷ ds) (o ∷ os) left rises rising stand =
     let tested : is_at declared next o ≡ (d.0 == o) = rw (first_left declared next (d ∷ ds) left) in
     rw tested (by_test declared next d ds o os (d.0 == o) refl (found_all declared (suc next) ds os) (found_all declared next (d ∷ ds) os) left rises rising stand)
@@ -175,26 +179,26 @@ pass_finds declared offsets rises rising stand = found_all declared 0 declared o
     from_start j = let e : 0 + j ≡ j = omega arith in rw e
 
 -- the pass after an instruction at which a frame is declared
-pub step_hit : (front : List (Option ℕ)) (declared : List (ℕ × Frame)) (next : ℕ) (offsets : List ℕ) (k : ℕ) (total : List (Option ℕ)) → k < length offsets → is_at declared next (get_or offsets k 0) ≡ true
+pub step_hit : (front : List ℕ) (declared : List (ℕ × Frame)) (next : ℕ) (offsets : List ℕ) (k : ℕ) (total : List ℕ) → k < length offsets → is_at declared next (get_or offsets k 0) ≡ true
     → front ++ found_from declared next (drop k offsets) ≡ total
-    → (front ++ Some next ∷ []) ++ found_from declared (next + 1) (drop (k + 1) offsets) ≡ total
+    → (front ++ next ∷ []) ++ found_from declared (next + 1) (drop (k + 1) offsets) ≡ total
 unfolding found_from
 step_hit front declared next offsets k total below hit so_far =
     rw (add-one next, add-one k) (simp append_assoc (rw (drop-cons offsets k 0, hit) at so_far))
 
 -- and after any other
-pub step_miss : (front : List (Option ℕ)) (declared : List (ℕ × Frame)) (next : ℕ) (offsets : List ℕ) (k : ℕ) (total : List (Option ℕ)) → k < length offsets → is_at declared next (get_or offsets k 0) ≡ false
+pub step_miss : (front : List ℕ) (declared : List (ℕ × Frame)) (next : ℕ) (offsets : List ℕ) (k : ℕ) (total : List ℕ) → k < length offsets → is_at declared next (get_or offsets k 0) ≡ false
     → front ++ found_from declared next (drop k offsets) ≡ total
-    → (front ++ None ∷ []) ++ found_from declared next (drop (k + 1) offsets) ≡ total
+    → (front ++ length declared ∷ []) ++ found_from declared next (drop (k + 1) offsets) ≡ total
 unfolding found_from
 step_miss front declared next offsets k total below miss so_far =
     rw (add-one k) (simp append_assoc (rw (drop-cons offsets k 0, miss) at so_far))
 
 -- the end of the pass
-pub pass_ends : (front : List (Option ℕ)) (declared : List (ℕ × Frame)) (next : ℕ) (offsets : List ℕ) (k : ℕ) → length offsets ≤ k
+pub pass_ends : (front : List ℕ) (declared : List (ℕ × Frame)) (next : ℕ) (offsets : List ℕ) (k : ℕ) → length offsets ≤ k
     → IsStrictlyIncreasing (declared_offsets declared) → IsStrictlyIncreasing offsets → AllByRecursion (λ (d : ℕ × Frame). list_any (λ start. start == d.0) offsets ≡ true) declared
     → front ++ found_from declared next (drop k offsets) ≡ found_from declared 0 offsets → AreIndices declared offsets front
 unfolding found_from
 pass_ends front declared next offsets k le rises rising stand so_far =
     let all : front ≡ found_from declared 0 offsets = sym (append-nil front) ∙ (rw (drop_all k offsets le) at so_far) in
-    subst (λ (is : List (Option ℕ)). AreIndices declared offsets is) (sym all) (pass_finds declared offsets rises rising stand)
+    subst (λ (is : List ℕ). AreIndices declared offsets is) (sym all) (pass_finds declared offsets rises rising stand)

@@ -9,8 +9,8 @@ use ver_frames::{MethodView, TypeFrame};
 pub(crate) struct BodyView<'a> {
     pub(crate) method: &'a MethodView<'a>,
     pub(crate) declared: &'a [(u16, TypeFrame)],
-    // For each instruction the index of the frame that is declared at it.
-    pub(crate) indices: &'a [Option<u16>],
+    // For each instruction the index of the frame that is declared at it, past the last where none is.
+    pub(crate) indices: &'a [u16],
 }
 
 impl<'a> Model for BodyView<'a> {

@@ -35,14 +35,14 @@ impl BodyView<'_> {
         method.linked.insns.as_slice().len()
     }
 
-    // The index of the frame that is declared at the instruction at a place.
+    // The index of the frame that is declared at the instruction at a place, past the last where none is.
     #[tactic(auto, unfolding(crate::specs::Bodies::declared_at))]
-    fn index_at(&self, place: usize) -> Option<u16>
+    fn index_at(&self, place: usize) -> usize
         ensures { frame_of self.now.declared result ≡ declared_at self.now place }
     {
         match self.indices.get(place) {
-            Some(index) => *index,
-            None => None,
+            Some(index) => usize::from(*index),
+            None => self.declared.len(),
         }
     }
 
@@ -50,8 +50,7 @@ impl BodyView<'_> {
     fn declared_at(&self, place: usize) -> Option<&TypeFrame>
         ensures { option_copied result ≡ declared_at self.now place }
     {
-        let index = self.index_at(place)?;
-        let declared = self.declared.get(usize::from(index))?;
+        let declared = self.declared.get(self.index_at(place))?;
         Some(&declared.1)
     }
 

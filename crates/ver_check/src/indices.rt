@@ -21,14 +21,14 @@ fn is_at(declared: &[(u16, TypeFrame)], index: usize, offset: u16) -> bool
     }
 }
 
-// For each instruction, by its offset, the index of the frame that is declared there: one pass over
-// the instructions and the frames, each of which stands at one of them. More frames than two bytes
-// count are want of memory.
+// For each instruction, by its offset, the index of the frame that is declared there, which is past the
+// last where none is: one pass over the instructions and the frames, each of which stands at one of
+// them. More frames than two bytes count are want of memory.
 pub(crate) fn find_frames(
     alloc: Global,
     offsets: &[u16],
     declared: &[(u16, TypeFrame)],
-) -> Result<Vec<Option<u16>>, AllocError>
+) -> Result<Vec<u16>, AllocError>
     requires offsets { IsStrictlyIncreasing offsets.now }
     requires declared { IsStrictlyIncreasing (declared_offsets declared.now) }
     requires starts { AllByRecursion (λ frame. list_any (λ start. start == frame.0) offsets.now ≡ true) declared.now }
@@ -41,10 +41,10 @@ pub(crate) fn find_frames(
     let mut next = 0;
     for offset in offsets {
         if is_at(declared, next, *offset) {
-            indices.push(Some(next as u16))?;
+            indices.push(next as u16)?;
             next += 1;
         } else {
-            indices.push(None)?;
+            indices.push(declared.len() as u16)?;
         }
     }
     Ok(indices)

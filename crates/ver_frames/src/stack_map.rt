@@ -164,7 +164,8 @@ fn frames(
     requires { IsStrictlyIncreasing method.now.linked.offsets }
     ensures { Gives (λ v. v.items) result (frames method.now count None (argument_types method.now) bytes.now) }
 {
-    let mut declared = Vec::new(alloc);
+    // A frame takes a byte at least.
+    let mut declared = Vec::with_capacity(alloc, usize::from(count).min(bytes.len()))?;
     let mut last = None;
     let mut locals = method.argument_types(alloc)?;
     let mut rest = bytes;

@@ -40,9 +40,11 @@ AreWithin total free link (below ∷ links) =
     × (below.limit + (free + (link.limit - link.bottom) + 4) + 4 * length links ≤ total)
     × AreWithin total (free + (link.limit - link.bottom) + 4) below links
 
--- the frames lie in a row of `total` words, and `free` words are left; `room` is how many links were reserved
-pub record IsLaidOut (total : ℕ) (link : Link) (top : ℕ) (links : List Link) (free room : ℕ) : Type 0 where
+-- the frames lie in a row of `total` words, and `free` words are left; the others are among the first `written`, which were written;
+-- `room` is how many links were reserved
+pub record IsLaidOut (total written : ℕ) (link : Link) (top : ℕ) (links : List Link) (free room : ℕ) : Type 0 where
   pub placed : IsPlaced link top
   pub within : link.limit + free + 4 * length links ≤ total
+  pub used : total ≤ written + free
   pub below : AreWithin total free link (reverse links)
   pub reserved : total ≤ 4 * room + 3

@@ -1,5 +1,5 @@
 //! The stack of a task.
-ghost use Rattle.std.specs.Prelude.{◌≡◌, ℕ, ◌+◌, ◌<◌, ◌≤◌, ◌↔◌, List, [], ◌∷◌, ◌++◌, length, take, replicate, vec_len, IsTrue, IfOk, slice_get};
+ghost use Rattle.std.specs.Prelude.{◌≡◌, ℕ, ◌+◌, ◌<◌, ◌≤◌, ◌↔◌, List, [], ◌∷◌, ◌++◌, length, take, replicate, vec_capacity, vec_len, IsTrue, IfOk, slice_get};
 ghost use Rattle.vm_heap.specs.Tagged.{Unset};
 ghost use Rattle.std.specs.Bool.{OnTrue, OnFalse};
 ghost use Rattle.vm_stack.specs.Frames.{empty_frame, frame_cost, pushed, with_local, entered};
@@ -9,7 +9,8 @@ use std::alloc::{AllocError, Global};
 use std::marker::Model;
 use vm_heap::Word;
 
-/// The frames of a task, on one row of words that is reserved when it is made.
+/// The frames of a task, on one row of words that is reserved when it is made. A word is written first
+/// when a frame comes to it.
 #[derive(Drop)]
 pub struct Stack {
     words: Vec<Word>,
@@ -32,7 +33,7 @@ impl Model for Stack {
 
     ghost view = { λ s. frames_of s.words.items s.link s.top s.links.items s.free };
 
-    ghost invariant = { λ s. IsLaidOut (vec_len s.words) s.link s.top s.links.items s.free (vec_capacity s.links) };
+    ghost invariant = { λ s. IsLaidOut (vec_capacity s.words) (vec_len s.words) s.link s.top s.links.items s.free (vec_capacity s.links) };
 }
 
 impl Stack {
@@ -41,12 +42,8 @@ impl Stack {
         ensures { IfOk result (λ stack. stack ≡ record { frame = empty_frame; callers = []; free = words }) }
     {
         let links = Vec::with_capacity(alloc, words / 4)?;
-        let mut row = Vec::with_capacity(alloc, words)?;
-        for _ in 0..words {
-            row.push(Word::unset())?;
-        }
         Ok(Stack {
-            words: row,
+            words: Vec::with_capacity(alloc, words)?,
             link: Link {
                 bottom: 0,
                 base: 0,
@@ -107,6 +104,9 @@ impl Stack {
         if self.free < cost {
             return false;
         }
+        self.free -= cost;
+        let used = self.words.capacity() - self.free;
+        write_up_to(&mut self.words, used);
         let base = self.top + max_locals as usize;
         clear(&mut self.words, self.top, max_locals as usize);
         let Ok(()) = self.links.push(self.link) else {
@@ -118,7 +118,6 @@ impl Stack {
             limit: base + max_stack as usize,
         };
         self.top = base;
-        self.free -= cost;
         true
     }
 
@@ -138,10 +137,23 @@ impl Stack {
     }
 }
 
+// Writes the words up to `count` that are not written yet, for which there is room: they hold nothing.
+fn write_up_to(words: &mut Vec<Word>, count: usize)
+    requires { count ≤ vec_capacity words.old }
+    ensures capacity { vec_capacity words.new ≡ vec_capacity words.old }
+    ensures written { count ≤ vec_len words.new }
+    ensures front { take (vec_len words.old) words.new.items ≡ words.old.items }
+{
+    for _ in words.len()..count {
+        words.push_reserved(Word::unset());
+    }
+}
+
 // Lets `count` words from `from` on hold nothing.
 fn clear(words: &mut Vec<Word>, from: usize, count: usize)
     requires { from + count ≤ vec_len words.old }
     ensures len { vec_len words.new ≡ vec_len words.old }
+    ensures capacity { vec_capacity words.new ≡ vec_capacity words.old }
     ensures front { take from words.new.items ≡ take from words.old.items }
     ensures cleared { take (from + count) words.new.items ≡ take from words.old.items ++ replicate count Unset }
 {

@@ -30,4 +30,4 @@ pub returns-in-len1-up : goal.returns-in-len1-up
 returns-in-len1-up c =
     let m = c.args.method.now in
     let over = frames_over m c.args.count c.loop.counter c.loop.declared.items c.loop.last c.loop.locals.items c.loop.rest.now (frames m c.args.count None (argument_types m) c.args.bytes.now) c.loop-test.false c.in-len1-up.len_at_least c.loop.invariant in
-    rw (c.broken.ensures, c.from.ensures, c.unwrap_or.ensures) over
+    rw (c.broken.ensures, c.from-in-len1-up.ensures, c.unwrap_or.ensures) over
