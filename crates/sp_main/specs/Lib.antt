@@ -1,5 +1,6 @@
 pub mod Arguments
 pub mod Folders
+pub mod RefusalTexts
 pub mod Reports
 pub mod Runs
 pub mod Statuses

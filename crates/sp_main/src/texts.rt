@@ -1,7 +1,8 @@
 //! What is printed of outcomes and refusals.
 
-ghost use Rattle.std.specs.Prelude.{◌≡◌, ◌++◌, IfOk};
+ghost use Rattle.std.specs.Prelude.{◌≡◌, ◌++◌, codes, IfOk};
 ghost use Rattle.std.specs.Str.{trim_end};
+ghost use Rattle.sp_main.specs.RefusalTexts.{TellsCheck, TellsFile, TellsLink, TellsRefusal, TellsRule, TellsSet, TellsStart, refused_method, unreadable_text};
 ghost use Rattle.sp_main.specs.Reports.{IsLine, line_of};
 ghost use Rattle.sp_main.specs.Statuses.{file_status, outcome_status, refusal_status};
 ghost use Rattle.sp_main.specs.Texts.{ints_text, outcome_text, value_text};
@@ -75,6 +76,7 @@ pub fn refusal_report(
     refusal: &Refusal,
 ) -> Result<Report, AllocError>
     ensures status { IfOk result (λ report. report.status ≡ refusal_status refusal.now) }
+    ensures text { IfOk result (λ report. TellsRefusal files.now refusal.now report.text.items) }
     ensures line { IfOk result (λ report. IsLine report.text.items) }
 {
     match refusal {
@@ -92,6 +94,7 @@ pub fn refusal_report(
 
 fn file_report(alloc: Global, path: &str, fault: LoadFault) -> Result<Report, AllocError>
     ensures status { IfOk result (λ report. report.status ≡ file_status fault) }
+    ensures text { IfOk result (λ report. TellsFile path.now fault report.text.items) }
     ensures line { IfOk result (λ report. IsLine report.text.items) }
 {
     match fault {
@@ -99,7 +102,7 @@ fn file_report(alloc: Global, path: &str, fault: LoadFault) -> Result<Report, Al
         LoadFault::Read(ReadFault::Memory) => Err(AllocError),
         LoadFault::Read(ReadFault::Broken { rule, at }) => {
             let line = refused(alloc)?.text(path)?.text(" at ")?.display(&at)?;
-            with_fault(line, &rule)?.report(Status::Refused)
+            fault_report(line, &rule, Status::Refused)
         }
     }
 }
@@ -107,6 +110,7 @@ fn file_report(alloc: Global, path: &str, fault: LoadFault) -> Result<Report, Al
 /// What is reported where a file or a folder cannot be read.
 pub fn unreadable_report(alloc: Global, path: &str) -> Result<Report, AllocError>
     ensures status { IfOk result (λ report. report.status ≡ Status.Failed) }
+    ensures text { IfOk result (λ report. report.text.items ≡ line_of (unreadable_text path.now)) }
     ensures line { IfOk result (λ report. IsLine report.text.items) }
 {
     Line::new(alloc)
@@ -117,19 +121,21 @@ pub fn unreadable_report(alloc: Global, path: &str) -> Result<Report, AllocError
 
 fn set_report(alloc: Global, fault: &SetFault) -> Result<Report, AllocError>
     ensures status { IfOk result (λ report. report.status ≡ Status.Refused) }
+    ensures text { IfOk result (λ report. TellsSet fault.now report.text.items) }
     ensures line { IfOk result (λ report. IsLine report.text.items) }
 {
     match fault {
         SetFault::Memory => Err(AllocError),
         SetFault::Broken { rule, class } => {
             let line = refused(alloc)?.bytes(class.as_bytes())?;
-            with_fault(line, rule)?.report(Status::Refused)
+            fault_report(line, rule, Status::Refused)
         }
     }
 }
 
 fn link_report(alloc: Global, fault: &LinkFault) -> Result<Report, AllocError>
     ensures status { IfOk result (λ report. report.status ≡ Status.Refused) }
+    ensures text { IfOk result (λ report. TellsLink fault.now report.text.items) }
     ensures line { IfOk result (λ report. IsLine report.text.items) }
 {
     match fault {
@@ -140,12 +146,13 @@ fn link_report(alloc: Global, fault: &LinkFault) -> Result<Report, AllocError>
             method,
             descriptor,
             at,
-        } => method_report(alloc, [class, method, descriptor], usize::from(*at), rule),
+        } => method_report(alloc, class, method, descriptor, usize::from(*at), rule),
     }
 }
 
 fn check_report(alloc: Global, fault: &CheckFault) -> Result<Report, AllocError>
     ensures status { IfOk result (λ report. report.status ≡ Status.Refused) }
+    ensures text { IfOk result (λ report. TellsCheck fault.now report.text.items) }
     ensures line { IfOk result (λ report. IsLine report.text.items) }
 {
     match fault {
@@ -156,35 +163,40 @@ fn check_report(alloc: Global, fault: &CheckFault) -> Result<Report, AllocError>
             method,
             descriptor,
             at,
-        } => method_report(alloc, [class, method, descriptor], *at, rule),
+        } => method_report(alloc, class, method, descriptor, *at, rule),
     }
 }
 
 fn start_report(alloc: Global, fault: StartFault) -> Result<Report, AllocError>
     ensures status { IfOk result (λ report. report.status ≡ Status.Failed) }
+    ensures text { IfOk result (λ report. TellsStart fault report.text.items) }
     ensures line { IfOk result (λ report. IsLine report.text.items) }
 {
     match fault {
         StartFault::Memory => Err(AllocError),
-        _ => with_fault(refused(alloc)?.text("start")?, &fault)?.report(Status::Failed),
+        _ => fault_report(refused(alloc)?.text("start")?, &fault, Status::Failed),
     }
 }
 
-fn refused(alloc: Global) -> Result<Line, AllocError> {
+fn refused(alloc: Global) -> Result<Line, AllocError>
+    ensures { IfOk result (λ line. line ≡ codes "refused ") }
+{
     Line::new(alloc).text("refused ")
 }
 
-// What is reported of a method, by its class, name and descriptor, that breaks a rule at an offset.
+// What is reported of a method that breaks a rule at an offset of its code.
 fn method_report<F: Numbered>(
     alloc: Global,
-    subject: [&Text; 3],
+    class: &Text,
+    method: &Text,
+    descriptor: &Text,
     at: usize,
     rule: &F,
 ) -> Result<Report, AllocError>
     ensures status { IfOk result (λ report. report.status ≡ Status.Refused) }
+    ensures text { IfOk result (λ report. TellsRule (refused_method class.now method.now descriptor.now at) report.text.items) }
     ensures line { IfOk result (λ report. IsLine report.text.items) }
 {
-    let [class, method, descriptor] = subject;
     let line = refused(alloc)?
         .bytes(class.as_bytes())?
         .text(".")?
@@ -192,13 +204,18 @@ fn method_report<F: Numbered>(
         .bytes(descriptor.as_bytes())?
         .text(" at ")?
         .display(&at)?;
-    with_fault(line, rule)?.report(Status::Refused)
+    fault_report(line, rule, Status::Refused)
 }
 
-// A fault's number and name behind the line.
-fn with_fault<F: Numbered>(line: Line, fault: &F) -> Result<Line, AllocError> {
+// The line, ended by a fault's number and name.
+fn fault_report<F: Numbered>(line: Line, fault: &F, status: Status) -> Result<Report, AllocError>
+    ensures status { IfOk result (λ report. report.status ≡ status) }
+    ensures text { IfOk result (λ report. TellsRule line report.text.items) }
+    ensures line { IfOk result (λ report. IsLine report.text.items) }
+{
     line.text(": ")?
         .display(&fault.number())?
         .text(" ")?
-        .display(fault)
+        .display(fault)?
+        .report(status)
 }
