@@ -4,3 +4,4 @@ pub mod Opcodes
 pub mod Operands
 pub mod Reading
 pub mod Spelling
+pub mod FaultNames

@@ -1,36 +1,49 @@
 //! Faults of decoding: the rule that is broken, and the instruction that breaks it.
 
-ghost use Rattle.std.specs.Prelude.{◌≡◌};
+ghost use Rattle.std.specs.Prelude.{◌≡◌, Some};
 ghost use Rattle.cf_insns.specs.declared.fault.CodeFault.TheVariants.{Memory};
+ghost use Rattle.cf_insns.specs.FaultNames.{code_rule_number, code_rule_name, code_fault_number};
 
 use cf_text::Numbered;
 use std::alloc::{AllocError, AllocFailed};
+use std::fmt;
 use thiserror::Error;
 
 /// A rule on the bytes of a method's code (JVMS 4.9.1, 6.5) or of this project's profile.
 #[derive(Clone, Copy, Debug, PartialEq, Eq, Error)]
 pub enum CodeRule {
     /// The opcode is none: 202 to 255.
-    #[error("Opcode")]
     Opcode = 20,
     /// The code ends inside the instruction.
-    #[error("Cut")]
     Cut = 21,
     /// A byte that has to be 0 is not.
-    #[error("Padding")]
     Padding = 22,
     /// The keys of a switch are not as they have to be.
-    #[error("Keys")]
     Keys = 23,
     /// A branch goes to no instruction's first byte.
-    #[error("Target")]
     Target = 24,
     /// The instruction is not in this project's profile.
-    #[error("OutOfProfile")]
     OutOfProfile = 25,
 }
 
+impl fmt::Display for CodeRule {
+    ghost output = { λ rule. Some (code_rule_name rule) };
+
+    fn fmt<W: fmt::Write>(&self, f: &mut fmt::Formatter<W>) -> fmt::Result {
+        f.write_str(match self {
+            CodeRule::Opcode => "Opcode",
+            CodeRule::Cut => "Cut",
+            CodeRule::Padding => "Padding",
+            CodeRule::Keys => "Keys",
+            CodeRule::Target => "Target",
+            CodeRule::OutOfProfile => "OutOfProfile",
+        })
+    }
+}
+
 impl Numbered for CodeRule {
+    ghost number = { code_rule_number };
+
     fn number(&self) -> u8 {
         *self as u8
     }
@@ -48,6 +61,8 @@ pub enum CodeFault {
 }
 
 impl Numbered for CodeFault {
+    ghost number = { code_fault_number };
+
     fn number(&self) -> u8 {
         match self {
             CodeFault::Broken { rule, .. } => rule.number(),

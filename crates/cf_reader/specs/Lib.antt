@@ -6,3 +6,4 @@ pub mod Builds
 pub mod Loads
 pub mod Says
 pub mod Spells
+pub mod FaultNames

@@ -2,6 +2,7 @@
 
 ghost use Rattle.std.specs.Prelude.{◌≡◌};
 ghost use Rattle.cf_reader.specs.declared.load_fault.LoadFault.TheVariants.{Read};
+ghost use Rattle.cf_reader.specs.FaultNames.{load_fault_number};
 
 use cf_pool::{Numbered, ReadFault};
 use thiserror::Error;
@@ -18,6 +19,8 @@ pub enum LoadFault {
 }
 
 impl Numbered for LoadFault {
+    ghost number = { load_fault_number };
+
     fn number(&self) -> u8 {
         match self {
             LoadFault::Read(fault) => fault.number(),

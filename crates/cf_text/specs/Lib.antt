@@ -8,3 +8,4 @@ pub mod Formats
 pub mod Looks
 pub mod Descriptors
 pub mod Order
+pub mod FaultNames

@@ -4,3 +4,4 @@ pub mod Numbers
 pub mod Searches
 pub mod Selections
 pub mod Targets
+pub mod FaultNames

@@ -1,49 +1,62 @@
 //! Faults of linking: the rule that is broken, and the instruction that breaks it.
 
-ghost use Rattle.std.specs.Prelude.{◌≡◌};
+ghost use Rattle.std.specs.Prelude.{◌≡◌, Some};
 ghost use Rattle.cls_link.specs.declared.fault.LinkFault.TheVariants.{Memory};
+ghost use Rattle.cls_link.specs.FaultNames.{link_rule_number, link_rule_name, link_fault_number};
 
 use cf_insns::CodeRule;
 use cls_set::{Numbered, Text};
 use std::alloc::{AllocError, AllocFailed};
+use std::fmt;
 use thiserror::Error;
 
 /// A rule on the code of the methods of a class set (JVMS 4.9.1, 5.4.3, 5.4.4, 6.5) or of this project's profile.
 #[derive(Clone, Copy, Debug, PartialEq, Eq, Error)]
 pub enum LinkRule {
     /// The bytes of the code are no instructions.
-    #[error("{0}")]
     Code(CodeRule),
     /// No class that is looked at declares the field.
-    #[error("AbsentField")]
     AbsentField,
     /// No class that is looked at declares the method.
-    #[error("AbsentMethod")]
     AbsentMethod,
     /// The class or the member is not accessible.
-    #[error("Access")]
     Access,
     /// A static member where the instruction asks for one of an instance, or the other way round.
-    #[error("StaticMismatch")]
     StaticMismatch,
     /// A final field is written outside an `<init>` of its class.
-    #[error("FinalField")]
     FinalField,
     /// `new` of an abstract class or of an interface.
-    #[error("Abstract")]
     Abstract,
     /// The entry of the constant pool is of a kind that the instruction does not take.
-    #[error("WrongRefKind")]
     WrongRefKind,
     /// The class that is named is not in the set.
-    #[error("AbsentClass")]
     AbsentClass,
     /// invokevirtual of a private method.
-    #[error("PrivateVirtual")]
     PrivateVirtual,
 }
 
+impl fmt::Display for LinkRule {
+    ghost output = { λ rule. Some (link_rule_name rule) };
+
+    fn fmt<W: fmt::Write>(&self, f: &mut fmt::Formatter<W>) -> fmt::Result {
+        match self {
+            LinkRule::Code(rule) => rule.fmt(f),
+            LinkRule::AbsentField => f.write_str("AbsentField"),
+            LinkRule::AbsentMethod => f.write_str("AbsentMethod"),
+            LinkRule::Access => f.write_str("Access"),
+            LinkRule::StaticMismatch => f.write_str("StaticMismatch"),
+            LinkRule::FinalField => f.write_str("FinalField"),
+            LinkRule::Abstract => f.write_str("Abstract"),
+            LinkRule::WrongRefKind => f.write_str("WrongRefKind"),
+            LinkRule::AbsentClass => f.write_str("AbsentClass"),
+            LinkRule::PrivateVirtual => f.write_str("PrivateVirtual"),
+        }
+    }
+}
+
 impl Numbered for LinkRule {
+    ghost number = { link_rule_number };
+
     fn number(&self) -> u8 {
         match self {
             LinkRule::Code(rule) => rule.number(),
@@ -79,6 +92,8 @@ pub enum LinkFault {
 }
 
 impl Numbered for LinkFault {
+    ghost number = { link_fault_number };
+
     fn number(&self) -> u8 {
         match self {
             LinkFault::Broken { rule, .. } => rule.number(),

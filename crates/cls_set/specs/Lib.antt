@@ -5,3 +5,4 @@ pub mod Members
 pub mod Sets
 pub mod Subtypes
 pub mod Walks
+pub mod FaultNames

@@ -1,3 +1,4 @@
 pub mod Wire
 pub mod Sizes
 pub mod Frame
+pub mod FaultNames

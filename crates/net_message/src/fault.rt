@@ -2,6 +2,7 @@
 
 ghost use Rattle.std.specs.Prelude.{◌≡◌};
 ghost use Rattle.net_message.specs.declared.fault.WireError.TheVariants.{Memory};
+ghost use Rattle.net_message.specs.FaultNames.{wire_fault_number};
 
 use cf_text::Numbered;
 use std::alloc::{AllocError, AllocFailed};
@@ -25,6 +26,8 @@ pub enum WireFault {
 }
 
 impl Numbered for WireFault {
+    ghost number = { wire_fault_number };
+
     fn number(&self) -> u8 {
         *self as u8
     }

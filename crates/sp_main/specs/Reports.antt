@@ -26,10 +26,6 @@ line_of text = text ++ (10 ∷ [])
 abbrev pub IsLine : List ℕ → Type 0
 IsLine text = (line : List ℕ) × (text ≡ line_of line)
 
--- the new text is the old one with something behind it
-abbrev pub Extends : (old new : List ℕ) → Type 0
-Extends old new = (more : List ℕ) × (new ≡ old ++ more)
-
 -- an output that holds known bytes has a line behind them, and nothing more
 abbrev pub TellsLine : (before after : Option (List ℕ)) → Type 0
 TellsLine before after = (line : List ℕ) × Appends before after (line_of line)

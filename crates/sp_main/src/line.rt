@@ -1,7 +1,7 @@
 //! A line of text in the making.
 
 ghost use Rattle.std.specs.Prelude.{◌≡◌, ◌++◌, ◌∷◌, [], IfOk, IfSome};
-ghost use Rattle.sp_main.specs.Reports.{Extends, line_of};
+ghost use Rattle.sp_main.specs.Reports.{line_of};
 
 use super::{Report, Status};
 use std::alloc::{AllocError, Global};
@@ -51,8 +51,7 @@ impl Line {
 
     /// The line with what is displayed behind it.
     pub fn display<D: Display>(self, shown: &D) -> Result<Line, AllocError>
-        ensures behind { IfOk result (Extends self) }
-        ensures shown { IfOk result (λ line. IfSome (D.output shown.now) (λ text. line ≡ self ++ text)) }
+        ensures { IfOk result (λ line. IfSome (D.output shown.now) (λ text. line ≡ self ++ text)) }
     {
         let text = shown.to_string(self.alloc)?;
         self.text(text.as_str())

@@ -1,8 +1,8 @@
 //! What is printed of outcomes and refusals.
 
-ghost use Rattle.std.specs.Prelude.{◌≡◌, ◌++◌, codes, IfOk};
+ghost use Rattle.std.specs.Prelude.{◌≡◌, ◌++◌, codes, IfOk, IfSome};
 ghost use Rattle.std.specs.Str.{trim_end};
-ghost use Rattle.sp_main.specs.RefusalTexts.{TellsCheck, TellsFile, TellsLink, TellsRefusal, TellsRule, TellsSet, TellsStart, refused_method, unreadable_text};
+ghost use Rattle.sp_main.specs.RefusalTexts.{TellsCheck, TellsFile, TellsLink, TellsRefusal, TellsSet, TellsStart, refused_method, rule_text, unreadable_text};
 ghost use Rattle.sp_main.specs.Reports.{IsLine, line_of};
 ghost use Rattle.sp_main.specs.Statuses.{file_status, outcome_status, refusal_status};
 ghost use Rattle.sp_main.specs.Texts.{ints_text, outcome_text, value_text};
@@ -194,7 +194,8 @@ fn method_report<F: Numbered>(
     rule: &F,
 ) -> Result<Report, AllocError>
     ensures status { IfOk result (λ report. report.status ≡ Status.Refused) }
-    ensures text { IfOk result (λ report. TellsRule (refused_method class.now method.now descriptor.now at) report.text.items) }
+    ensures text { IfOk result (λ report. IfSome (F.output rule.now) (λ name.
+        report.text.items ≡ line_of (rule_text (refused_method class.now method.now descriptor.now at) (F.number rule.now) name))) }
     ensures line { IfOk result (λ report. IsLine report.text.items) }
 {
     let line = refused(alloc)?
@@ -210,7 +211,8 @@ fn method_report<F: Numbered>(
 // The line, ended by a fault's number and name.
 fn fault_report<F: Numbered>(line: Line, fault: &F, status: Status) -> Result<Report, AllocError>
     ensures status { IfOk result (λ report. report.status ≡ status) }
-    ensures text { IfOk result (λ report. TellsRule line report.text.items) }
+    ensures text { IfOk result (λ report. IfSome (F.output fault.now) (λ name.
+        report.text.items ≡ line_of (rule_text line (F.number fault.now) name))) }
     ensures line { IfOk result (λ report. IsLine report.text.items) }
 {
     line.text(": ")?

@@ -2,6 +2,7 @@
 
 ghost use Rattle.std.specs.Prelude.{◌≡◌};
 ghost use Rattle.sp_registry.specs.declared.fault.BindFault.TheVariants.{Memory, Denied};
+ghost use Rattle.sp_registry.specs.FaultNames.{registry_fault_number};
 
 use cf_text::Numbered;
 use std::alloc::{AllocError, AllocFailed};
@@ -26,6 +27,8 @@ pub enum RegistryFault {
 }
 
 impl Numbered for RegistryFault {
+    ghost number = { registry_fault_number };
+
     fn number(&self) -> u8 {
         *self as u8
     }

@@ -11,3 +11,4 @@ pub mod Outcomes
 pub mod Refusals
 pub mod Settled
 pub mod Typing
+pub mod FaultNames

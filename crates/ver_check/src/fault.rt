@@ -1,9 +1,11 @@
 //! Faults of checking: the rule that is broken, and the instruction that breaks it.
 
-ghost use Rattle.std.specs.Prelude.{◌≡◌};
+ghost use Rattle.std.specs.Prelude.{◌≡◌, Some};
 ghost use Rattle.ver_check.specs.declared.fault.CheckFault.TheVariants.{Memory};
+ghost use Rattle.ver_check.specs.FaultNames.{check_rule_number, check_rule_name, check_fault_number};
 
 use std::alloc::{AllocError, AllocFailed};
+use std::fmt;
 use thiserror::Error;
 use ver_frames::{Numbered, StackMapRule, Text};
 
@@ -11,39 +13,50 @@ use ver_frames::{Numbered, StackMapRule, Text};
 #[derive(Clone, Copy, Debug, PartialEq, Eq, Error)]
 pub enum CheckRule {
     /// The StackMapTable declares no frames.
-    #[error("{0}")]
     StackMap(StackMapRule),
     /// There is no operand to take.
-    #[error("Underflow")]
     Underflow,
     /// There is no room for one more operand.
-    #[error("Overflow")]
     Overflow,
     /// An operand is of another type.
-    #[error("Mismatch")]
     Mismatch,
     /// An `<init>` that has called no other `<init>` returns.
-    #[error("Uninitialized")]
     Uninitialized,
     /// No frame is declared where a branch goes, or behind an instruction that the next one does not
     /// follow.
-    #[error("NoFrame")]
     NoFrame,
     /// What comes in at a declared frame is not assignable to it.
-    #[error("NotAssignable")]
     NotAssignable,
     /// The code ends with an instruction that goes on to the next.
-    #[error("FallsOff")]
     FallsOff,
     /// A local variable is of another type, or there is none of this number.
-    #[error("Local")]
     Local,
     /// The result of the method is of another type.
-    #[error("Return")]
     Return,
 }
 
+impl fmt::Display for CheckRule {
+    ghost output = { λ rule. Some (check_rule_name rule) };
+
+    fn fmt<W: fmt::Write>(&self, f: &mut fmt::Formatter<W>) -> fmt::Result {
+        match self {
+            CheckRule::StackMap(rule) => rule.fmt(f),
+            CheckRule::Underflow => f.write_str("Underflow"),
+            CheckRule::Overflow => f.write_str("Overflow"),
+            CheckRule::Mismatch => f.write_str("Mismatch"),
+            CheckRule::Uninitialized => f.write_str("Uninitialized"),
+            CheckRule::NoFrame => f.write_str("NoFrame"),
+            CheckRule::NotAssignable => f.write_str("NotAssignable"),
+            CheckRule::FallsOff => f.write_str("FallsOff"),
+            CheckRule::Local => f.write_str("Local"),
+            CheckRule::Return => f.write_str("Return"),
+        }
+    }
+}
+
 impl Numbered for CheckRule {
+    ghost number = { check_rule_number };
+
     fn number(&self) -> u8 {
         match self {
             CheckRule::StackMap(rule) => rule.number(),
@@ -79,6 +92,8 @@ pub enum CheckFault {
 }
 
 impl Numbered for CheckFault {
+    ghost number = { check_fault_number };
+
     fn number(&self) -> u8 {
         match self {
             CheckFault::Broken { rule, .. } => rule.number(),

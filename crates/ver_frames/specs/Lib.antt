@@ -5,3 +5,4 @@ pub mod Limits
 pub mod Method
 pub mod StackMap
 pub mod Types
+pub mod FaultNames

@@ -1,34 +1,47 @@
 //! Faults of a StackMapTable: the rule that is broken, and where.
 
-ghost use Rattle.std.specs.Prelude.{◌≡◌};
+ghost use Rattle.std.specs.Prelude.{◌≡◌, Some};
 ghost use Rattle.ver_frames.specs.declared.fault.StackMapFault.TheVariants.{Memory};
+ghost use Rattle.ver_frames.specs.FaultNames.{stack_map_rule_number, stack_map_rule_name, stack_map_fault_number};
 
 use cls_link::Numbered;
 use std::alloc::{AllocError, AllocFailed};
+use std::fmt;
 use thiserror::Error;
 
 /// A rule of the StackMapTable attribute (JVMS 4.7.4).
 #[derive(Clone, Copy, Debug, PartialEq, Eq, Error)]
 pub enum StackMapRule {
     /// The tag of a frame is one of the reserved ones, 128 to 246.
-    #[error("Reserved")]
     Reserved = 50,
     /// A frame takes away more local variables than there are.
-    #[error("Chop")]
     Chop = 51,
     /// A frame has more local variables or operands than the method.
-    #[error("Locals")]
     Locals = 52,
     /// A frame stands at no instruction.
-    #[error("Offset")]
     Offset = 53,
     /// The type of a local variable or operand is none of this project's profile, names no class of
     /// the class set, or no `new`.
-    #[error("Kind")]
     Kind = 54,
 }
 
+impl fmt::Display for StackMapRule {
+    ghost output = { λ rule. Some (stack_map_rule_name rule) };
+
+    fn fmt<W: fmt::Write>(&self, f: &mut fmt::Formatter<W>) -> fmt::Result {
+        f.write_str(match self {
+            StackMapRule::Reserved => "Reserved",
+            StackMapRule::Chop => "Chop",
+            StackMapRule::Locals => "Locals",
+            StackMapRule::Offset => "Offset",
+            StackMapRule::Kind => "Kind",
+        })
+    }
+}
+
 impl Numbered for StackMapRule {
+    ghost number = { stack_map_rule_number };
+
     fn number(&self) -> u8 {
         *self as u8
     }
@@ -47,6 +60,8 @@ pub enum StackMapFault {
 }
 
 impl Numbered for StackMapFault {
+    ghost number = { stack_map_fault_number };
+
     fn number(&self) -> u8 {
         match self {
             StackMapFault::Broken { rule, .. } => rule.number(),

@@ -7,3 +7,4 @@ pub mod Subjects
 pub mod Task
 pub mod Start
 pub mod Found
+pub mod FaultNames
