@@ -6,3 +6,11 @@ pub mod Within
 pub mod Below
 pub mod Commas
 pub mod Written
+pub mod Spelled
+pub mod Parser
+pub mod Said
+pub mod Asked
+pub mod Requested
+pub mod Contents
+pub mod Replied
+pub mod CommandRows

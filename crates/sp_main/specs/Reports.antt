@@ -25,7 +25,3 @@ line_of text = text ++ (10 ∷ [])
 -- a text is a line
 abbrev pub IsLine : List ℕ → Type 0
 IsLine text = (line : List ℕ) × (text ≡ line_of line)
-
--- an output that holds known bytes has a line behind them, and nothing more
-abbrev pub TellsLine : (before after : Option (List ℕ)) → Type 0
-TellsLine before after = (line : List ℕ) × Appends before after (line_of line)

@@ -1,7 +1,10 @@
 //! The program as a function of its words, a folder and its standard streams.
 
-ghost use Rattle.std.specs.Prelude.{◌≡◌, ◌<◌, ◌≤◌, IfOk};
-ghost use Rattle.sp_main.specs.Reports.{IsLine, TellsLine};
+ghost use Rattle.std.specs.Prelude.{◌≡◌, ◌<◌, ◌≤◌, ◌^◌, ℕ, List, map, string_bytes, IfOk, IfSome};
+ghost use Rattle.sp_main.specs.CommandLine.{AsksRun};
+ghost use Rattle.sp_main.specs.Folders.{AreRead, IsContent, told_by};
+ghost use Rattle.sp_main.specs.Replies.{IsReply, Replies};
+ghost use Rattle.sp_main.specs.Requests.{run_words};
 
 use super::texts::{outcome_report, refusal_report, text_report, unreadable_report};
 use super::words::{Request, RunRequest, request_of};
@@ -27,11 +30,12 @@ pub fn command<F: Folder, I: Read, O: Write, E: Write>(
     err: &mut E,
 ) -> u8
     ensures statuses { result ≤ 3 }
+    // What is said is what the words ask for: a text, or how the method ended, or why it is not run.
+    ensures replied { result < 3 → Replies (told_by (F.lists folder.now) (F.gives folder.now)) (map string_bytes words.now) result
+        (O.contents out.old) (O.contents out.new) (E.contents err.old) (E.contents err.new) }
 
-    // Answers go to the one output, faults to the other: a whole line or more, and nothing else.
-    ensures answered { result < 2 → TellsLine (O.contents out.old) (O.contents out.new) }
+    // Answers go to the one output, faults to the other.
     ensures answers { result < 2 → E.contents err.new ≡ E.contents err.old }
-    ensures told { result ≡ 2 → TellsLine (E.contents err.old) (E.contents err.new) }
     ensures refused { result ≡ 2 → O.contents out.new ≡ O.contents out.old }
 {
     match report_of(alloc, words, folder) {
@@ -44,7 +48,7 @@ pub fn command<F: Folder, I: Read, O: Write, E: Write>(
 }
 
 fn report_of<F: Folder>(alloc: Global, words: &[String], folder: &F) -> Result<Report, AllocError>
-    ensures { IfOk result (λ report. IsLine report.text.items) }
+    ensures { IfOk result (λ report. IsReply (told_by (F.lists folder.now) (F.gives folder.now)) (map string_bytes words.now) report.status report.text.items) }
 {
     match request_of(alloc, words)? {
         Request::Tell(text) => text_report(alloc, &text, Status::Done),
@@ -58,7 +62,8 @@ fn run_report<F: Folder>(
     request: RunRequest,
     folder: &F,
 ) -> Result<Report, AllocError>
-    ensures { IfOk result (λ report. IsLine report.text.items) }
+    requires { IfSome request.fuel (λ fuel. fuel < 2 ^ 63) }
+    ensures { IfOk result (λ report. (words : List (List ℕ)) → AsksRun words (run_words request.entry) → IsReply (told_by (F.lists folder.now) (F.gives folder.now)) words report.status report.text.items) }
 {
     let paths = match folder.paths(request.folder) {
         Ok(paths) => paths,
@@ -67,9 +72,7 @@ fn run_report<F: Folder>(
     };
     let files = read_contents(alloc, folder, paths)?;
     let mut limits = Limits::default();
-    if let Some(fuel) = request.fuel {
-        limits.fuel = fuel.min(i64::MAX as u64);
-    }
+    limits.fuel = request.fuel.unwrap_or(limits.fuel);
     let class = request.class.as_bytes();
     let method = request.method.as_bytes();
     match run_classes(alloc, &files, class, method, request.arguments, limits) {
@@ -83,20 +86,24 @@ fn read_contents<F: Folder>(
     alloc: Global,
     folder: &F,
     paths: Vec<String>,
-) -> Result<Vec<ClassBytes>, AllocError> {
+) -> Result<Vec<ClassBytes>, AllocError>
+    ensures { IfOk result (λ files. AreRead (F.gives folder.now) paths.items files.items) }
+{
     let mut files = Vec::new(alloc);
     for path in paths {
         let content = read_content(alloc, folder, &path)?;
-        let is_last = matches!(content, Content::Unreadable);
-        files.push(ClassBytes { path, content })?;
-        if is_last {
-            break;
+        if let Content::Unreadable = content {
+            files.push(ClassBytes { path, content })?;
+            return Ok(files);
         }
+        files.push(ClassBytes { path, content })?;
     }
     Ok(files)
 }
 
-fn read_content<F: Folder>(alloc: Global, folder: &F, path: &str) -> Result<Content, AllocError> {
+fn read_content<F: Folder>(alloc: Global, folder: &F, path: &str) -> Result<Content, AllocError>
+    ensures { IfOk result (IsContent (F.gives folder.now path.now)) }
+{
     let Ok(file) = folder.open(path) else {
         return Ok(Content::Unreadable);
     };

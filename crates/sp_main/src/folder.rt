@@ -1,6 +1,7 @@
 //! Where the program finds class files: a trait, so that tests read from memory, and the disk.
 
-ghost use Rattle.std.specs.Prelude.{◌≡◌, ◌++◌, ℕ, List, All, IfOk, IfErr, OnOk, IsSorted, string_bytes};
+ghost use Rattle.std.specs.Prelude.{◌≡◌, ◌++◌, ℕ, List, String, Option, ⊤, All, IfOk, IfErr, OnOk, IsSorted, string_bytes};
+ghost use Rattle.std.specs.Global.{Global};
 ghost use Rattle.sp_main.specs.declared.folder.FolderFault.TheVariants as fault;
 ghost use Rattle.sp_main.specs.Folders.{AreBelow, IsBelow, IsClassPath, NamesBelow};
 
@@ -40,12 +41,20 @@ impl<T: Drop> From<AllocFailed<T>> for FolderFault {
 pub trait Folder {
     type File: Read + Drop;
 
+    // What a listing says of a folder, by its path and the paths that are listed.
+    ghost lists: { Self → List ℕ → List (String Global) → Type 0 } = { λ _ _ _. ⊤ };
+
+    // What is known of the bytes that are read of the file at a path.
+    ghost gives: { Self → List ℕ → Option (List ℕ) → Type 0 } = { λ _ _ _. ⊤ };
+
     /// The paths of all files in the folder, and in the folders below it, whose name ends in
     /// `.class`: each with the folder's own path in front, in the order of their bytes.
-    fn paths(&self, folder: &str) -> Result<Vec<String>, FolderFault>;
+    fn paths(&self, folder: &str) -> Result<Vec<String>, FolderFault>
+        ensures { IfOk result (λ paths. lists self.now folder.now paths.items) };
 
     /// Opens the file at such a path.
-    fn open(&self, path: &str) -> io::Result<Self::File>;
+    fn open(&self, path: &str) -> io::Result<Self::File>
+        ensures { IfOk result (λ file. gives self.now path.now (Self.File.remaining file)) };
 }
 
 /// The file system of the process.
@@ -57,10 +66,12 @@ pub struct Disk<'a, R> {
 impl<'a, R: Files + AllocGlobal + Clone + Drop> Folder for Disk<'a, R> {
     type File = R::File;
 
+    // Whatever the file system holds, no file elsewhere is named.
+    ghost lists = { λ _ folder paths. All (λ path. IsClassPath folder (string_bytes path)) paths × IsSorted ⟦<String as Ord>⟧.cmp paths };
+
     fn paths(&self, folder: &str) -> Result<Vec<String>, FolderFault>
-        // Whatever the file system holds, no file elsewhere is named.
-        ensures class_files { IfOk result (λ paths. All (λ path. IsClassPath folder.now (string_bytes path)) paths.items) }
-        ensures sorted { IfOk result (λ paths. IsSorted ⟦<String as Ord>⟧.cmp paths.items) }
+        // What the trait's clause says of it: class files of the folder, in the order of their bytes.
+        ensures listed { IfOk result (λ paths. All (λ path. IsClassPath folder.now (string_bytes path)) paths.items × IsSorted ⟦<String as Ord>⟧.cmp paths.items) }
         // A fault names the folder, or one below it.
         ensures fault { IfErr result (NamesBelow folder.now) }
     {

@@ -1,8 +1,19 @@
 //! The words of a command line.
 
+ghost use Rattle.std.specs.Prelude.{◌≡◌, ℕ, List, map, slice_get, Some, string_bytes, codes, Option, IfOk, IfSome, MatchOption, MatchResult};
+ghost use Rattle.std.specs.List.{AllZip};
+ghost use Rattle.clap.specs.Matches.{found_of};
+ghost use Rattle.clap.specs.Simple.{app_of, new_shape, subcommand_rows_of};
+ghost use Rattle.clap.specs.Values.{kind_of};
+ghost use Rattle.clap.specs.Walk.{first_of, rows_of};
+ghost use Rattle.vm_heap.specs.declared.values.Value.{Value};
+ghost use Rattle.sp_main.specs.Arguments.{Spells};
+ghost use Rattle.sp_main.specs.CommandLine.{IsComing, IsFuel, IsSaidFuel, arguments_rule, fuel_rule, program, run_shape, wanted_rule};
+ghost use Rattle.sp_main.specs.Requests.{IsArgument, IsAsked, IsCommand, IsRefusing, IsRequest, IsRunRequest, IsUnasked};
+
 use super::argument_of;
 use clap::error::ErrorKind;
-use clap::{Arg, ArgAction, ArgMatches, Command, value_parser};
+use clap::{Arg, ArgAction, ArgMatches, Command, Error};
 use std::alloc::{AllocError, Global};
 use vm_heap::Value;
 
@@ -30,23 +41,44 @@ pub(crate) struct RunRequest<'a> {
 }
 
 /// What the words ask for; the first is the program's own name.
-pub(crate) fn request_of<'a>(
-    alloc: Global,
-    words: &'a [String],
-) -> Result<Request<'a>, AllocError> {
+pub(crate) fn request_of<'a>(alloc: Global, words: &'a [String]) -> Result<Request<'a>, AllocError>
+    ensures { IfOk result (IsRequest (map string_bytes words.now)) }
+{
+    if let Some(name) = coming_name(words) {
+        let text = format!(in alloc; "error: the command '{name}' has not come yet\n")?;
+        return Ok(Request::Refuse(text));
+    }
     match whole_command(alloc)?.try_get_matches_from(words) {
         Ok(matches) => asked(alloc, &matches),
-        Err(error) => match error.kind() {
-            ErrorKind::OutOfMemory => Err(AllocError),
-            ErrorKind::DisplayHelp | ErrorKind::DisplayVersion => {
-                Ok(Request::Tell(error.to_string(alloc)?))
-            }
-            _ => Ok(Request::Refuse(error.to_string(alloc)?)),
-        },
+        Err(error) => unasked(alloc, &error),
     }
 }
 
-fn asked<'a>(alloc: Global, matches: &ArgMatches<'a>) -> Result<Request<'a>, AllocError> {
+// The name of a command that has not come yet, where the words begin with it: whatever follows it.
+fn coming_name(words: &[String]) -> Option<&str>
+    ensures { IfSome result (λ name. (slice_get (map string_bytes words.now) 1 ≡ Some name.now) × IsComing name.now) }
+{
+    let name = words.get(1)?.as_str();
+    matches!(name, "check" | "sim" | "serve").then_some(name)
+}
+
+// What words ask for that the parser does not take.
+fn unasked<'a>(alloc: Global, error: &Error) -> Result<Request<'a>, AllocError>
+    ensures { IfOk result (IsUnasked (kind_of error.now)) }
+{
+    match error.kind() {
+        ErrorKind::OutOfMemory => Err(AllocError),
+        ErrorKind::DisplayHelp | ErrorKind::DisplayVersion => {
+            Ok(Request::Tell(error.to_string(alloc)?))
+        }
+        _ => Ok(Request::Refuse(error.to_string(alloc)?)),
+    }
+}
+
+// What words ask for that the parser takes.
+fn asked<'a>(alloc: Global, matches: &ArgMatches<'a>) -> Result<Request<'a>, AllocError>
+    ensures { IfOk result (IsAsked (subcommand_rows_of matches.now)) }
+{
     match matches.subcommand() {
         Some(("run", found)) => asked_run(alloc, found),
         Some((name, _)) => Ok(Request::Refuse(format!(in alloc;
@@ -56,7 +88,9 @@ fn asked<'a>(alloc: Global, matches: &ArgMatches<'a>) -> Result<Request<'a>, All
     }
 }
 
-fn asked_run<'a>(alloc: Global, found: &ArgMatches<'a>) -> Result<Request<'a>, AllocError> {
+fn asked_run<'a>(alloc: Global, found: &ArgMatches<'a>) -> Result<Request<'a>, AllocError>
+    ensures { IfOk result (IsRunRequest (rows_of (found_of found.now))) }
+{
     let (Some(folder), Some(class), Some(method)) = (
         found.get_str("folder"),
         found.get_str("class"),
@@ -64,36 +98,78 @@ fn asked_run<'a>(alloc: Global, found: &ArgMatches<'a>) -> Result<Request<'a>, A
     ) else {
         return refuse(alloc, "error: a word is missing\n");
     };
-    let fuel = match found.get_str("fuel") {
-        Some(word) if word.starts_with('+') => return refuse(alloc, NO_FUEL),
-        _ => found.get_one::<u64>("fuel"),
+    let Some(fuel) = fuel_said(found) else {
+        return refuse(alloc, NO_FUEL);
     };
-    let mut arguments = Vec::new(alloc);
-    for word in found.get_strs("arguments").unwrap_or(&[]) {
-        match argument_of(alloc, word)? {
-            Some(value) => arguments.push(value)?,
-            None => {
-                let text = format!(in alloc; "error: '{word}' is no number, array or null\n")?;
-                return Ok(Request::Refuse(text));
-            }
-        }
+    match values_of(alloc, found.get_strs("arguments").unwrap_or(&[]))? {
+        Ok(arguments) => Ok(Request::Run(RunRequest {
+            folder,
+            class,
+            method,
+            arguments,
+            fuel,
+        })),
+        Err(word) => Ok(Request::Refuse(format!(in alloc;
+            "error: '{word}' is no number, array or null\n"
+        )?)),
     }
-    Ok(Request::Run(RunRequest {
-        folder,
-        class,
-        method,
-        arguments,
-        fuel,
-    }))
 }
 
 const NO_FUEL: &str = "error: the fuel is a whole number from 0 to 9223372036854775807\n";
 
-fn refuse<'a>(alloc: Global, text: &str) -> Result<Request<'a>, AllocError> {
+// The fuel where it is said, and nothing where what is said is no fuel.
+fn fuel_said(found: &ArgMatches) -> Option<Option<u64>>
+    ensures { MatchOption result
+        ((fuel : Option ℕ) → IsSaidFuel (first_of (codes "fuel") (rows_of (found_of found.now))) fuel → ⊥)
+        (IsSaidFuel (first_of (codes "fuel") (rows_of (found_of found.now)))) }
+{
+    match found.get_str("fuel") {
+        Some(word) => Some(Some(fuel_of(word)?)),
+        None => Some(None),
+    }
+}
+
+// The fuel that a word stands for: digits alone, of a number below 2^63.
+fn fuel_of(word: &str) -> Option<u64>
+    ensures { MatchOption result ((n : ℕ) → IsFuel word.now n → ⊥) (IsFuel word.now) }
+{
+    if word.starts_with('+') {
+        return None;
+    }
+    match word.parse::<u64>() {
+        Ok(fuel) if fuel <= i64::MAX as u64 => Some(fuel),
+        _ => None,
+    }
+}
+
+// The values that the words stand for, or a word that stands for none.
+fn values_of<'a>(
+    alloc: Global,
+    words: &[&'a str],
+) -> Result<Result<Vec<Value>, &'a str>, AllocError>
+    ensures { IfOk result (λ spelled. MatchResult spelled
+        (λ values. AllZip Spells (map (λ word. word.now) words.now) values.items)
+        (λ word. (values : List Value) → AllZip Spells (map (λ word. word.now) words.now) values → ⊥)) }
+{
+    let mut values = Vec::new(alloc);
+    for word in words {
+        match argument_of(alloc, word)? {
+            Some(value) => values.push(value)?,
+            None => return Ok(Err(word)),
+        }
+    }
+    Ok(Ok(values))
+}
+
+fn refuse<'a>(alloc: Global, text: &str) -> Result<Request<'a>, AllocError>
+    ensures { IfOk result IsRefusing }
+{
     Ok(Request::Refuse(String::from_str(alloc, text)?))
 }
 
-fn whole_command<'a>(alloc: Global) -> Result<Command<'a>, AllocError> {
+fn whole_command<'a>(alloc: Global) -> Result<Command<'a>, AllocError>
+    ensures { IfOk result (λ command. app_of command ≡ program) }
+{
     Command::new(alloc, "rmispace")
         .version("0.1.0")
         .about("Runs methods of Java class files that were checked, under fuel")
@@ -104,48 +180,71 @@ fn whole_command<'a>(alloc: Global) -> Result<Command<'a>, AllocError> {
             alloc,
             "check",
             "Checks the class files of a folder (has not come yet)",
-        )?)?
-        .subcommand(coming(alloc, "sim", "Plays a script of spaces (has not come yet)")?)?
-        .subcommand(coming(alloc, "serve", "Serves a space over TCP (has not come yet)")?)
+        ))?
+        .subcommand(coming(alloc, "sim", "Plays a script of spaces (has not come yet)"))?
+        .subcommand(coming(alloc, "serve", "Serves a space over TCP (has not come yet)"))
 }
 
-fn run_command<'a>(alloc: Global) -> Result<Command<'a>, AllocError> {
-    let folder = Arg::new(alloc, "folder")
-        .value_name("FOLDER")
+fn run_command<'a>(alloc: Global) -> Result<Command<'a>, AllocError>
+    ensures { IfOk result (IsCommand run_shape) }
+{
+    Command::new(alloc, "run")
+        .about("Runs a method and prints how it ended")
+        .arg(wanted(
+            alloc,
+            "folder",
+            "FOLDER",
+            "The folder whose files *.class, in it and below it, are the class set",
+        ))?
+        .arg(wanted(
+            alloc,
+            "class",
+            "CLASS",
+            "The class's name, as java/lang/Object",
+        ))?
+        .arg(wanted(
+            alloc,
+            "method",
+            "METHOD",
+            "A static method's name and descriptor, as 'f(I)I'",
+        ))?
+        .arg(arguments(alloc))?
+        .arg(fuel(alloc))
+}
+
+// A word that has to be there.
+fn wanted<'a>(alloc: Global, id: &'a str, name: &'a str, help: &'a str) -> Arg<'a>
+    ensures { IsArgument (wanted_rule id.now) result }
+{
+    Arg::new(alloc, id)
+        .value_name(name)
         .required(true)
-        .help("The folder whose files *.class, in it and below it, are the class set");
-    let class = Arg::new(alloc, "class")
-        .value_name("CLASS")
-        .required(true)
-        .help("The class's name, as java/lang/Object");
-    let method = Arg::new(alloc, "method")
-        .value_name("METHOD")
-        .required(true)
-        .help("A static method's name and descriptor, as 'f(I)I'");
-    let arguments = Arg::new(alloc, "arguments")
+        .help(help)
+}
+
+// `[ARGUMENT..]`.
+fn arguments<'a>(alloc: Global) -> Arg<'a>
+    ensures { IsArgument arguments_rule result }
+{
+    Arg::new(alloc, "arguments")
         .value_name("ARGUMENT")
         .num_args(0..)
         .action(ArgAction::Append)
-        .help("A number, [1,2], [] or null; negative numbers follow --");
-    let fuel = Arg::new(alloc, "fuel")
-        .long("fuel")
-        .value_name("N")
-        .value_parser(value_parser!(u64).range(0..=i64::MAX))
-        .help("How many instructions may run (1000000 if it is not said)");
-    Command::new(alloc, "run")
-        .about("Runs a method and prints how it ended")
-        .arg(folder)?
-        .arg(class)?
-        .arg(method)?
-        .arg(arguments)?
-        .arg(fuel)
+        .help("A number, [1,2], [] or null; negative numbers follow --")
 }
 
-// A command that has not come yet: it takes any words.
-fn coming<'a>(alloc: Global, name: &'a str, about: &'a str) -> Result<Command<'a>, AllocError> {
-    let words = Arg::new(alloc, "words")
-        .num_args(0..)
-        .action(ArgAction::Append)
-        .allow_hyphen_values(true);
-    Command::new(alloc, name).about(about).arg(words)
+// `[--fuel N]`.
+fn fuel<'a>(alloc: Global) -> Arg<'a>
+    ensures { IsArgument fuel_rule result }
+{
+    Arg::new(alloc, "fuel").long("fuel").value_name("N").help(
+        "How many instructions may run (1000000 if it is not said)",
+    )
+}
+
+// A command that has not come yet.
+fn coming<'a>(alloc: Global, name: &'a str, about: &'a str) -> Command<'a>
+    ensures { IsCommand (new_shape name.now) result }
+{
+    Command::new(alloc, name).about(about)
 }

@@ -46,6 +46,23 @@ fn words_that_do_not_parse_are_usage_faults(rt: HostRuntime) -> Result<(), Fail>
 }
 
 #[test]
+fn commands_that_have_not_come_say_so(rt: HostRuntime) -> Result<(), Fail> {
+    for (line, name) in [
+        ("check box", "check"),
+        ("check --deep box", "check"),
+        ("sim", "sim"),
+        ("serve --help", "serve"),
+    ] {
+        let said = said_to(rt.alloc(), line)?;
+        is_usage_fault(&rt, &said, line);
+        let text = String::from_utf8(said.err).map_err(|_| AllocError)?;
+        let told = format!(in rt.alloc(); "error: the command '{name}' has not come yet\n")?;
+        assert_eq!(rt; text, told, "{line}");
+    }
+    Ok(())
+}
+
+#[test]
 fn help_and_version_are_told(rt: HostRuntime) -> Result<(), Fail> {
     for (line, part) in [
         ("--help", "Runs a method and prints how it ended"),

@@ -1,4 +1,4 @@
-use Rattle.std.proofs.Common.{string_bytes}
+use Rattle.std.proofs.Common.{rules, string_bytes}
 use Rattle.std.proofs.lemmas.List.Sorted.{All-permutation}
 use Rattle.sp_main.specs.Folders.{IsBelow, IsClassPath, NamesBelow}
 use Rattle.sp_main.proofs.Below.{popped}
@@ -12,10 +12,12 @@ returns-in_err-list_folder-in-Some-clause-fault g c =
     known_error c.from_residual-in_err-list_folder-in-Some.result c.in_err-list_folder-in-Some.field-0.0 (NamesBelow c.args.folder.now)
     c.from_residual-in_err-list_folder-in-Some.ensures.1 ((c.in_err-list_folder-in-Some.ensures).fault c.args.folder.now next.1)
 
-pub returns-in-None-clause-class_files : goal.returns-in-None-clause-class_files
-returns-in-None-clause-class_files g c =
-    All-permutation (λ path. IsClassPath c.args.folder.now (string_bytes path)) c.loop.found.files.items c.sort.new.self.items
-    c.sort.ensures.permutation c.loop.invariant.0
+pub returns-in-None-clause-listed : goal.returns-in-None-clause-listed
+returns-in-None-clause-listed g c = (
+  All-permutation (λ path. IsClassPath c.args.folder.now (string_bytes path)) c.loop.found.files.items c.sort.new.self.items
+      c.sort.ensures.permutation c.loop.invariant.0,
+  search rules,
+)
 
 pub loop-preserved : goal.loop-preserved
 loop-preserved g c =

@@ -1,0 +1,36 @@
+-- What is asked for behind `run`.
+use Rattle.std.proofs.Common.{◌≡◌, ℕ, List, [], Option, Result, Ok, Err, IfOk, MatchResult, sym, subst}
+use Rattle.std.specs.List.{AllZip}
+use Rattle.std.specs.Prelude.{unwrap_or}
+use Rattle.clap.specs.Walk.{Row}
+use Rattle.sp_main.specs.Arguments.{Spells}
+use Rattle.sp_main.specs.CommandLine.{AreRunWords, RunWords}
+use Rattle.sp_main.specs.Requests.{IsRefusing, IsRunRequest}
+use Rattle.sp_main.specs.declared.words.Request.{Request}
+use Rattle.sp_main.specs.declared.words.Request.TheVariants.{Run, Tell, Refuse}
+use Rattle.vm_heap.specs.declared.values.Value.{Value}
+
+-- a refusal is right where no run is asked for
+pub refusing : {E : Type 0} (rows : List Row) (answer : Result Request E) → IfOk answer IsRefusing → ((run : RunWords) → AreRunWords rows run → ⊥)
+    → IfOk answer (IsRunRequest rows)
+refusing rows (Ok (Run request)) is not = absurd is
+refusing rows (Ok (Tell text)) is not = absurd is
+refusing rows (Ok (Refuse text)) is not = not
+refusing rows (Err e) is not = tt
+
+-- words that stand for no values
+pub no_arguments : (words : List (List ℕ)) (said : Option (List (List ℕ))) → words ≡ unwrap_or said []
+    → ((values : List Value) → AllZip Spells words values → ⊥) → (values : List Value) → AllZip Spells (unwrap_or said []) values → ⊥
+no_arguments words said is not values spells = not values (subst (λ (w : List (List ℕ)). AllZip Spells w values) (sym is) spells)
+
+-- what holds of a result, where it is known which
+pub of_ok : {A E : Type 0} (P : A → Type 0) (Q : E → Type 0) (r : Result A E) (value : A) → r ≡ Ok value → MatchResult r P Q → P value
+of_ok P Q r value is holds = subst (λ r. MatchResult r P Q) is holds
+
+pub of_err : {A E : Type 0} (P : A → Type 0) (Q : E → Type 0) (r : Result A E) (error : E) → r ≡ Err error → MatchResult r P Q → Q error
+of_err P Q r error is holds = subst (λ r. MatchResult r P Q) is holds
+
+-- words that stand for values
+pub some_arguments : (words : List (List ℕ)) (said : Option (List (List ℕ))) (values : List Value) → words ≡ unwrap_or said []
+    → AllZip Spells words values → AllZip Spells (unwrap_or said []) values
+some_arguments words said values is spells = subst (λ (w : List (List ℕ)). AllZip Spells w values) is spells

@@ -1,0 +1,108 @@
+-- A report is a reply.
+use Rattle.std.proofs.Common.{◌≡◌, ◌⊎◌, ◌<◌, ◌∙◌, ℕ, List, Option, Result, Ok, Err, IfOk, ap, arith, inl, inr, subst}
+use Rattle.sp_main.specs.CommandLine.{AsksRun, AsksText, IsUsageFault, RunWords}
+use Rattle.sp_main.specs.Folders.{AreFilesOf, Telling}
+use Rattle.sp_main.specs.RefusalTexts.{TellsRefusal, unreadable_text}
+use Rattle.sp_main.specs.Replies.{IsReply, Replies, limits_of, mistaken, ran, refused, told, unreadable}
+use Rattle.sp_main.specs.Reports.{LeavesOther, Tells, line_of}
+use Rattle.sp_main.specs.Requests.{IsRequest, run_words}
+use Rattle.sp_main.specs.Runs.{IsRefused, IsRun}
+use Rattle.sp_main.specs.Statuses.{code_of, outcome_status, refusal_status}
+use Rattle.sp_main.specs.Texts.{outcome_text}
+use Rattle.sp_main.specs.declared.refusal.Refusal.{Refusal}
+use Rattle.sp_main.specs.declared.report.Report.{Report}
+use Rattle.sp_main.specs.declared.running.ClassBytes.{ClassBytes}
+use Rattle.sp_main.specs.declared.running.RunOutcome.{RunOutcome}
+use Rattle.sp_main.specs.declared.status.Status.{Status}
+use Rattle.sp_main.specs.declared.status.Status.TheVariants.{Done, Failed}
+use Rattle.sp_main.specs.declared.words.Request.{Request}
+use Rattle.sp_main.specs.declared.words.Request.TheVariants.{Run, Tell, Refuse}
+use Rattle.sp_main.specs.declared.words.RunRequest.{RunRequest}
+use Rattle.vm_step.specs.declared.limits.Limits.{Limits}
+
+module _ {E : Type 0} (telling : Telling) (run : RunWords) (answer : Result Report E) where
+  -- the report is the reply to all words that ask for this run
+  abbrev pub IsRunReply : Type 0
+  IsRunReply = IfOk answer (λ report. (words : List (List ℕ)) → AsksRun words run → IsReply telling words report.status report.text.items)
+
+-- a file or a folder that cannot be read
+pub unreadable_replied : {E : Type 0} (telling : Telling) (run : RunWords) (path : List ℕ) (answer : Result Report E)
+    → IfOk answer (λ report. report.status ≡ Failed) → IfOk answer (λ report. report.text.items ≡ line_of (unreadable_text path))
+    → IsRunReply telling run answer
+unreadable_replied telling run path (Ok report) status text = λ words asks. unreadable run path asks status text
+unreadable_replied telling run path (Err e) status text = tt
+
+-- a run
+pub run_replied : {E : Type 0} (telling : Telling) (run : RunWords) (files read : List ClassBytes) (class method : List ℕ) (limits : Limits)
+    (outcome : RunOutcome) (answer : Result Report E) → AreFilesOf telling run.folder read → files ≡ read → class ≡ run.class → method ≡ run.method → limits ≡ limits_of run.fuel
+    → IsRun files class method run.arguments limits outcome → IfOk answer (λ report. report.status ≡ outcome_status outcome)
+    → IfOk answer (λ report. report.text.items ≡ line_of (outcome_text outcome)) → IsRunReply telling run answer
+run_replied telling run files read class method limits outcome (Ok report) listed ef ec em el is status text =
+    λ words asks. ran run read outcome asks listed
+    (subst (λ (l : Limits). IsRun read run.class run.method run.arguments l outcome) el
+    (subst (λ (m : List ℕ). IsRun read run.class m run.arguments limits outcome) em
+    (subst (λ (n : List ℕ). IsRun read n method run.arguments limits outcome) ec
+    (subst (λ (f : List ClassBytes). IsRun f class method run.arguments limits outcome) ef is)))) status text
+run_replied telling run files read class method limits outcome (Err e) listed ef ec em el is status text = tt
+
+-- a refusal
+pub refusal_replied : {E : Type 0} (telling : Telling) (run : RunWords) (files read : List ClassBytes) (class method : List ℕ) (limits : Limits)
+    (refusal : Refusal) (answer : Result Report E) → AreFilesOf telling run.folder read → files ≡ read → class ≡ run.class → method ≡ run.method → limits ≡ limits_of run.fuel
+    → IsRefused files class method run.arguments limits refusal → IfOk answer (λ report. report.status ≡ refusal_status refusal)
+    → IfOk answer (λ report. TellsRefusal read refusal report.text.items) → IsRunReply telling run answer
+refusal_replied telling run files read class method limits refusal (Ok report) listed ef ec em el is status text =
+    λ words asks. refused run read refusal asks listed
+    (subst (λ (l : Limits). IsRefused read run.class run.method run.arguments l refusal) el
+    (subst (λ (m : List ℕ). IsRefused read run.class m run.arguments limits refusal) em
+    (subst (λ (n : List ℕ). IsRefused read n method run.arguments limits refusal) ec
+    (subst (λ (f : List ClassBytes). IsRefused f class method run.arguments limits refusal) ef is)))) status text
+refusal_replied telling run files read class method limits refusal (Err e) listed ef ec em el is status text = tt
+
+module _ {E : Type 0} (telling : Telling) (words : List (List ℕ)) (request : Request) (answer : Result Report E) where
+  -- a text that was asked for
+  pub told_replied : (text said : _) → IsRequest words request → request ≡ Tell text → IfOk answer (λ report. report.status ≡ Done)
+      → IfOk answer (λ report. report.text.items ≡ line_of said) → IfOk answer (λ report. IsReply telling words report.status report.text.items)
+  told_replied text said asks is status line = go answer status line
+    where
+      asks_text : AsksText words
+      asks_text = subst (λ (r : Request). IsRequest words r) is asks
+
+      go : (answer : Result Report E) → IfOk answer (λ report. report.status ≡ Done) → IfOk answer (λ report. report.text.items ≡ line_of said)
+          → IfOk answer (λ report. IsReply telling words report.status report.text.items)
+      go (Ok report) status line = told asks_text status said line
+      go (Err e) status line = tt
+
+  -- a usage fault
+  pub mistaken_replied : (text said : _) → IsRequest words request → request ≡ Refuse text → IfOk answer (λ report. report.status ≡ Failed)
+      → IfOk answer (λ report. report.text.items ≡ line_of said) → IfOk answer (λ report. IsReply telling words report.status report.text.items)
+  mistaken_replied text said asks is status line = go answer status line
+    where
+      is_fault : IsUsageFault words
+      is_fault = subst (λ (r : Request). IsRequest words r) is asks
+
+      go : (answer : Result Report E) → IfOk answer (λ report. report.status ≡ Failed) → IfOk answer (λ report. report.text.items ≡ line_of said)
+          → IfOk answer (λ report. IsReply telling words report.status report.text.items)
+      go (Ok report) status line = mistaken is_fault status said line
+      go (Err e) status line = tt
+
+  -- a run that was asked for
+  pub asked_replied : (run : RunRequest) → IsRequest words request → request ≡ Run run → IsRunReply telling (run_words run) answer
+      → IfOk answer (λ report. IsReply telling words report.status report.text.items)
+  asked_replied run asks is replies = go answer replies
+    where
+      asks_run : AsksRun words (run_words run)
+      asks_run = subst (λ (r : Request). IsRequest words r) is asks
+
+      go : (answer : Result Report E) → IsRunReply telling (run_words run) answer → IfOk answer (λ report. IsReply telling words report.status report.text.items)
+      go (Ok report) replies = replies words asks_run
+      go (Err e) replies = tt
+
+-- a report that was written
+pub written_replied : (telling : Telling) (words : List (List ℕ)) (report : Report) (status : Status) (number : ℕ) (out out' err err' : Option (List ℕ))
+    → IsReply telling words report.status report.text.items → number ≡ code_of status → LeavesOther report.status out out' err err'
+    → (status ≡ Failed) ⊎ ((status ≡ report.status) × Tells report.status report.text.items out out' err err') → number < 3
+    → Replies telling words number out out' err err'
+written_replied telling words report status number out out' err err' reply is left (inl failed) below =
+    let three : number ≡ 3 = is ∙ ap code_of failed in absurd (omega (arith, three, below))
+written_replied telling words report status number out out' err err' reply is left (inr done) below =
+    record { status = report.status; text = report.text.items; reply = reply; code = is ∙ ap code_of done.0; told = done.1; left = left }

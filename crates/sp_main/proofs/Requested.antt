@@ -1,0 +1,60 @@
+-- What words ask for, by what the parser answers to them.
+use Rattle.std.proofs.Common.{◌≡◌, ◌∙◌, ℕ, List, [], true, Option, Result, Ok, Err, IfOk, inl, inr, ap, sym, subst, refl}
+use Rattle.clap.proofs.OnLiterals.{clap_on_literals}
+use Rattle.clap.specs.Faults.{fault_of, is_simple_and_free}
+use Rattle.clap.specs.Kinds.{HasKind, IsAmong}
+use Rattle.clap.specs.Simple.{App, HasMatchesOf, app_of, is_simple, subcommand_of, subcommand_rows_of}
+use Rattle.clap.specs.Values.{kind_of}
+use Rattle.clap.specs.Walk.{Row}
+use Rattle.clap.specs.declared.builder.command.Command.{Command}
+use Rattle.clap.specs.declared.error.Error.{Error}
+use Rattle.clap.specs.declared.error.kind.ErrorKind.{ErrorKind}
+use Rattle.clap.specs.declared.error.kind.ErrorKind.TheVariants.{DisplayHelp, DisplayVersion, OutOfMemory}
+use Rattle.clap.specs.declared.parser.matches.ArgMatches.{ArgMatches}
+use Rattle.sp_main.specs.CommandLine.{mistaken, program, senseless}
+use Rattle.sp_main.specs.Requests.{IsAsked, IsRequest, IsUnasked}
+use Rattle.sp_main.specs.declared.words.Request.{Request}
+use Rattle.sp_main.specs.declared.words.Request.TheVariants.{Run, Tell, Refuse}
+
+-- the program is a command of which the parser's answer is known
+program_is_simple : is_simple program ≡ true
+unfolding clap_on_literals
+program_is_simple = refl
+
+program_is_free : is_simple_and_free program ≡ true
+unfolding clap_on_literals
+program_is_free = refl
+
+asked_request : (words : List (List ℕ)) (found : Option (List ℕ × List Row)) (request : Request) → fault_of program words ≡ [] → found ≡ subcommand_of program words
+    → IsAsked found request → IsRequest words request
+asked_request words found (Run request) taken is asked = record { taken = taken; rows = asked.0; command = sym is ∙ asked.1; asked = asked.2 }
+asked_request words found (Tell text) taken is asked = absurd asked
+asked_request words found (Refuse text) taken is asked = senseless taken (λ run asks. asked asks.rows (is ∙ asks.command) run asks.asked)
+
+-- the parser takes the words
+pub taken_words : {E : Type 0} (words : List (List ℕ)) (command : Command) (matches : ArgMatches) (answer : Result Request E) → app_of command ≡ program
+    → HasMatchesOf (app_of command) words matches → (is_simple_and_free (app_of command) ≡ true → fault_of (app_of command) words ≡ [])
+    → IfOk answer (IsAsked (subcommand_rows_of matches)) → IfOk answer (IsRequest words)
+taken_words words command matches (Err e) is matched taken asked = tt
+taken_words words command matches (Ok request) is matched taken asked =
+    asked_request words (subcommand_rows_of matches) request (sym (ap (λ (a : App). fault_of a words) is) ∙ taken (ap is_simple_and_free is ∙ program_is_free))
+    ((matched (ap is_simple is ∙ program_is_simple)).1 ∙ ap (λ (a : App). subcommand_of a words) is) asked
+
+-- a kind that is told is among those that may come
+kind_among : (kind : ErrorKind) (error : Error) (kinds : List ErrorKind) → (kind ≡ OutOfMemory → ⊥) → kind_of error ≡ kind → HasKind kinds error → IsAmong kind kinds
+kind_among kind error kinds has is (inl none) = absurd (has (sym is ∙ none))
+kind_among kind error kinds has is (inr among) = subst (λ (k : ErrorKind). IsAmong k kinds) is among
+
+unasked_request : (words : List (List ℕ)) (error : Error) (request : Request) → HasKind (fault_of program words) error → IsUnasked (kind_of error) request → IsRequest words request
+unasked_request words error (Run request) has unasked = absurd unasked
+unasked_request words error (Tell text) has (inl help) = inl (kind_among DisplayHelp error _ (λ e. cc) help has)
+unasked_request words error (Tell text) has (inr version) = inr (kind_among DisplayVersion error _ (λ e. cc) version has)
+unasked_request words error (Refuse text) has unasked = mistaken (kind_of error) (kind_among (kind_of error) error _ unasked.0 refl has) unasked.1 unasked.2
+
+-- the parser does not take the words
+pub untaken_words : {E : Type 0} (words : List (List ℕ)) (command : Command) (error : Error) (answer : Result Request E) → app_of command ≡ program
+    → (is_simple_and_free (app_of command) ≡ true → HasKind (fault_of (app_of command) words) error)
+    → IfOk answer (IsUnasked (kind_of error)) → IfOk answer (IsRequest words)
+untaken_words words command error (Err e) is untaken unasked = tt
+untaken_words words command error (Ok request) is untaken unasked =
+    unasked_request words error request (subst (λ (a : App). HasKind (fault_of a words) error) is (untaken (ap is_simple_and_free is ∙ program_is_free))) unasked
