@@ -47,7 +47,7 @@ pub enum RunOutcome {
 /// Runs the static method of this name and descriptor, as `f(I)I`, over the class set of the files.
 /// The first refusal counts: files in order, then the set, links, checks, and the start. Want of
 /// memory may come in place of any answer. The limits' heap words and references are together below
-/// 2^32, and the fuel below the largest number.
+/// 2^32.
 pub fn run_classes(
     alloc: Global,
     files: &[ClassBytes],
@@ -57,7 +57,6 @@ pub fn run_classes(
     limits: Limits,
 ) -> Result<RunOutcome, Refusal>
     requires memory { limits.heap_words + limits.references < 2 ^ 32 }
-    requires fuel { limits.fuel < 2 ^ 64 - 1 }
     // From the bytes to the outcome: the classes that the bytes spell are type safe, and the tagged
     // machine runs the method to this end, never stuck and within its bounds.
     ensures run { IfOk result (IsRun files.now class.now method.now arguments.items limits) }
@@ -135,13 +134,13 @@ fn run_method(
     requires linked { AreLinks accepted.now }
     requires safe { AreSafe accepted.now }
     requires memory { limits.heap_words + limits.references < 2 ^ 32 }
-    requires fuel { limits.fuel < 2 ^ 64 - 1 }
     ensures run { IfOk result (Runs accepted.now method arguments.items limits) }
     ensures refused { IfErr result (IsNotRun accepted.now method arguments.items limits) }
 {
     let mut task = Task::start(alloc, accepted, Uuid::nil(), method, arguments, limits)?;
-    // More instructions than there is fuel for: the task ends.
+    // As many instructions as there can be fuel for, and one more: the task ends.
     let _ = task.run(accepted, u64::MAX);
+    let _ = task.run(accepted, 1);
     match task.outcome() {
         Some(outcome) => Ok(named(accepted, outcome)?),
         None => unreachable!(),
