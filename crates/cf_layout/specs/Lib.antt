@@ -3,3 +3,4 @@ pub mod FileFormat
 pub mod CodeFormat
 pub mod Codes
 pub mod ReadInsides
+pub mod CodeLengths

@@ -3,6 +3,7 @@
 ghost use Rattle.std.specs.Prelude.{◌≤◌, IfErr, IfOk};
 ghost use Rattle.cf_text.specs.Reading.{Gives};
 ghost use Rattle.cf_layout.specs.CodeFormat.{MissesBy, code_look, reaches, table_look};
+ghost use Rattle.cf_layout.specs.CodeLengths.{EndsAfter, IsShort};
 ghost use Rattle.cf_layout.specs.Codes.{code_filling, code_head_at, code_of, code_rest_at, skim_frame, skim_item, skim_list, skim_lists, skim_many, skim_table, skim_tagged, table_of};
 
 use super::inside::{blame, up_to};
@@ -33,7 +34,8 @@ fn read_code_rest(
     bytes: &[u8],
     head: CodeHead,
 ) -> Result<(CodeLayout, usize), ReadFault>
-    ensures { Gives (code_rest_at bytes.now head) result }
+    ensures exact { Gives (code_rest_at bytes.now head) result }
+    ensures ends { IfOk result (λ rest. EndsAfter head rest.0) }
 {
     let code_end = skip(bytes, head.code, head.length as usize)?;
     let (handler_count, after) = read_item(bytes, code_end)?;
@@ -55,7 +57,8 @@ fn read_code_filling(
     head: CodeHead,
     end: usize,
 ) -> Result<CodeLayout, ReadFault>
-    ensures { Gives (code_filling bytes.now head end) result }
+    ensures exact { Gives (code_filling bytes.now head end) result }
+    ensures ends { IfOk result (EndsAfter head) }
 {
     let (code, to) = read_code_rest(alloc, bytes, head)?;
     demand(to == end, Rule::AttributeLength, to)?;
@@ -65,7 +68,8 @@ fn read_code_filling(
 // The reading behind `read_code`, with the first fault.
 #[tactic(auto, unfolding(crate::specs::Codes::code_of, cf_text::specs::Demands::verdict), using(crate::proofs::Blamed::blames))]
 fn code_of(alloc: Global, bytes: &[u8], attribute: Attribute) -> Result<CodeLayout, ReadFault>
-    ensures { Gives (code_of bytes.now attribute) result }
+    ensures exact { Gives (code_of bytes.now attribute) result }
+    ensures short { IfOk result IsShort }
 {
     let inside = up_to(bytes, attribute.end);
     let head = blame(read_code_head(inside, attribute.body), attribute.name.at)?;
@@ -88,6 +92,8 @@ pub fn read_code(alloc: Global, bytes: &[u8], attribute: Attribute) -> Result<Co
     ensures found { IfOk result (code_look bytes.now attribute).Is }
     ensures only { (code : CodeLayout) → (code_look bytes.now attribute).Is code → Gives (Ok code) result }
     ensures fault { IfErr result (MissesBy (code_look bytes.now attribute)) }
+    // Its code has 65,535 bytes at most.
+    ensures short { IfOk result IsShort }
     // Which fault it is.
     ensures exact { Gives (code_of bytes.now attribute) result }
 {

@@ -1,6 +1,6 @@
 //! The bytes inside an attribute, and where a fault in them is told.
 
-ghost use Rattle.std.specs.Prelude.{◌≡◌, take};
+ghost use Rattle.std.specs.Prelude.{◌≡◌, ◌-◌, ◌≤◌, IfOk, length, take};
 ghost use Rattle.cf_text.specs.Reading.{Gives};
 ghost use Rattle.cf_layout.specs.Layouts.{between};
 ghost use Rattle.cf_layout.specs.Codes.{blamed};
@@ -23,6 +23,7 @@ pub(crate) fn up_to(bytes: &[u8], end: usize) -> &[u8]
 /// The only fault is want of memory.
 pub fn between(alloc: Global, bytes: &[u8], from: usize, to: usize) -> Result<Row<u8>, ReadFault>
     ensures exact { Gives (Ok (between bytes.now from to)) result }
+    ensures within { IfOk result (λ part. length part ≤ to - from) }
 {
     let front = up_to(bytes, to);
     let part = if from < front.len() {

@@ -1,6 +1,6 @@
 //! The raw items of a class file, with their places.
 
-use cf_pool::{PoolLayout, Row};
+use cf_pool::{PoolLayout, Table};
 
 /// A number of two bytes, and where it stands.
 #[derive(Clone, Copy, Debug, PartialEq, Eq)]
@@ -23,7 +23,7 @@ pub struct Member {
     pub flags: Item,
     pub name: Item,
     pub descriptor: Item,
-    pub attributes: Row<Attribute>,
+    pub attributes: Table<Attribute>,
 }
 
 /// A class file (JVMS 4.1) behind its version.
@@ -34,12 +34,12 @@ pub struct Layout {
     pub this: Item,
     pub superclass: Item,
     pub interface_count: Item,
-    pub interfaces: Row<Item>,
+    pub interfaces: Table<Item>,
     pub field_count: Item,
-    pub fields: Row<Member>,
+    pub fields: Table<Member>,
     pub method_count: Item,
-    pub methods: Row<Member>,
-    pub attributes: Row<Attribute>,
+    pub methods: Table<Member>,
+    pub attributes: Table<Attribute>,
 }
 
 /// What stands at the front of a Code attribute (JVMS 4.7.3).
@@ -60,5 +60,5 @@ pub struct CodeLayout {
     /// Where the code ends.
     pub code_end: usize,
     pub handler_count: Item,
-    pub attributes: Row<Attribute>,
+    pub attributes: Table<Attribute>,
 }

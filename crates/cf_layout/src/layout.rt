@@ -8,7 +8,7 @@ ghost use Rattle.cf_layout.specs.FileFormat.{LaysOut, file_format};
 ghost use Rattle.cf_layout.specs.Layouts.{attribute_at, attributes_at, body_at, header_at, item_at, layout_of, member_at};
 
 use super::items::{Attribute, Item, Layout, Member};
-use cf_pool::{ReadFault, Row, Rule, demand, read_u16, read_u32, skip};
+use cf_pool::{ReadFault, Rule, Table, demand, read_u16, read_u32, skip};
 use std::alloc::Global;
 
 /// The most bytes that a class file may have: 1 MiB, a limit of this project.
@@ -27,7 +27,7 @@ fn read_items(
     count: u16,
     bytes: &[u8],
     at: usize,
-) -> Result<(Row<Item>, usize), ReadFault>
+) -> Result<(Table<Item>, usize), ReadFault>
     ensures { Gives (many (item_at bytes.now) count at) result }
 {
     let mut items = Vec::new(alloc);
@@ -37,7 +37,7 @@ fn read_items(
         items.push(item)?;
         place = after;
     }
-    Ok((Row::new(items), place))
+    Ok((Table::new(items), place))
 }
 
 #[tactic(auto, unfolding(crate::specs::Layouts::attribute_at))]
@@ -55,7 +55,7 @@ fn read_many_attributes(
     count: u16,
     bytes: &[u8],
     at: usize,
-) -> Result<(Row<Attribute>, usize), ReadFault>
+) -> Result<(Table<Attribute>, usize), ReadFault>
     ensures { Gives (many (attribute_at bytes.now) count at) result }
 {
     let mut attributes = Vec::new(alloc);
@@ -65,7 +65,7 @@ fn read_many_attributes(
         attributes.push(attribute)?;
         place = after;
     }
-    Ok((Row::new(attributes), place))
+    Ok((Table::new(attributes), place))
 }
 
 #[tactic(auto, unfolding(crate::specs::Layouts::attributes_at))]
@@ -73,7 +73,7 @@ pub(crate) fn read_attributes(
     alloc: Global,
     bytes: &[u8],
     at: usize,
-) -> Result<(Row<Attribute>, usize), ReadFault>
+) -> Result<(Table<Attribute>, usize), ReadFault>
     ensures { Gives (attributes_at bytes.now at) result }
 {
     let (count, first) = read_u16(bytes, at)?;
@@ -104,7 +104,7 @@ fn read_members(
     count: u16,
     bytes: &[u8],
     at: usize,
-) -> Result<(Row<Member>, usize), ReadFault>
+) -> Result<(Table<Member>, usize), ReadFault>
     ensures { Gives (many (member_at bytes.now) count at) result }
 {
     let mut members = Vec::new(alloc);
@@ -114,7 +114,7 @@ fn read_members(
         members.push(member)?;
         place = after;
     }
-    Ok((Row::new(members), place))
+    Ok((Table::new(members), place))
 }
 
 // CAFEBABE, and a version of the profile: the major version, and the place behind it.

@@ -1,5 +1,6 @@
 -- Making one of each item of a list, as a loop does.
-use Rattle.std.proofs.Common.{◌≡◌, ℕ, ◌+◌, ◌<◌, ◌≤◌, List, [], ◌∷◌, ◌++◌, length, get_or, drop, add-one, drop-cons, Result, Ok, Err, refl, sym, ap, ◌∙◌, append_assoc}
+use Rattle.std.proofs.Common.{◌≡◌, ℕ, suc, ◌+◌, ◌<◌, ◌≤◌, List, [], ◌∷◌, ◌++◌, length, get_or, drop, add-one, drop-cons, Result, Ok, Err, refl, sym, ap, ◌∙◌, append_assoc}
+use Rattle.std.specs.Prelude.{IfOk}
 use Rattle.std.proofs.lemmas.List.{append-nil}
 use Rattle.std.proofs.Math.ListN.{drop_of_length-le}
 use Rattle.cf_text.specs.declared.fault.ReadFault.{ReadFault}
@@ -42,3 +43,23 @@ unfolding each
 each-end read items front index all so_far =
     let one : before front (each read (drop index items)) ≡ Ok front = ap (λ left. before front (each read left)) (drop_of_length-le items all) ∙ ap Ok (append-nil front) in
     sym so_far ∙ one
+
+-- a list of so many
+abbrev IsLong : {B : Type 0} → ℕ → List B → Type 0
+IsLong n ys = length ys ≡ n
+
+if_bound : {A B : Type 0} (Q : B → Type 0) (reading : Result A ReadFault) (next : A → Result B ReadFault) → ((x : A) → IfOk (next x) Q) → IfOk (reading >>= next) Q
+if_bound Q (Ok x) next then = then x
+if_bound Q (Err fault) next then = tt
+
+one_more_long : {B : Type 0} (n : ℕ) (first : B) (others : Result (List B) ReadFault) → IfOk others (IsLong n) → IfOk {T = List B} (others >>= λ rest. Ok (first ∷ rest)) (IsLong (suc n))
+one_more_long n first (Ok rest) long = ap suc long
+one_more_long n first (Err fault) long = tt
+
+-- as many are made as there are items
+pub each-long : {A B : Type 0} (read : A → Result B ReadFault) (items : List A) → IfOk {T = List B} (each read items) (λ ys. length ys ≡ length items)
+unfolding each
+each-long read [] = refl
+each-long {A} {B} read (item ∷ items) =
+    if_bound (IsLong {B = B} (suc (length items))) (read item) (λ first. each read items >>= λ others. Ok (first ∷ others))
+    (λ first. one_more_long (length items) first (each read items) (each-long read items))

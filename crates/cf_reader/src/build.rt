@@ -1,13 +1,16 @@
 //! What a layout says, once its demands hold.
 
-ghost use Rattle.std.specs.Prelude.{◌≡◌};
+ghost use Rattle.std.specs.Prelude.{◌≡◌, ◌≤◌, length};
 ghost use Rattle.cf_text.specs.Reading.{Gives};
+ghost use Rattle.cf_layout.specs.CodeLengths.{IsShort};
 ghost use Rattle.cf_reader.specs.Builds.{class_from, class_name_of, code_from, code_in, constant_attribute, constant_from, each, field_from, method_from, table_in, text_of};
 
 use super::attributes::{CODE, CONSTANT_VALUE, STACK_MAP_TABLE, first_named};
 use super::{ClassFile, Code, Field, Flags, Method};
 use cf_layout::{Attribute, CodeLayout, Item, Layout, Member, between, read_code, read_constant};
-use cf_pool::{Pool, ReadFault, Row, Rule, Text, read_field_descriptor, read_method_descriptor};
+use cf_pool::{
+    Pool, ReadFault, Row, Rule, Table, Text, read_field_descriptor, read_method_descriptor,
+};
 use std::alloc::Global;
 
 fn wrong_index(at: usize) -> ReadFault
@@ -52,6 +55,7 @@ fn table_in(
 
 #[tactic(auto, unfolding(crate::specs::Builds::code_in))]
 fn code_in(alloc: Global, bytes: &[u8], pool: &Pool, code: &CodeLayout) -> Result<Code, ReadFault>
+    requires short { IsShort code.now }
     ensures { Gives (Ok (code_in bytes.now pool.now code.now)) result }
 {
     let head = code.head;
@@ -61,7 +65,7 @@ fn code_in(alloc: Global, bytes: &[u8], pool: &Pool, code: &CodeLayout) -> Resul
     Ok(Code {
         max_stack: head.max_stack,
         max_locals: head.max_locals,
-        bytes,
+        bytes: Table::new(bytes.into_vec()),
         stack_map_table,
     })
 }
@@ -162,7 +166,8 @@ fn field_from(alloc: Global, bytes: &[u8], pool: &Pool, field: &Member) -> Resul
     })
 }
 
-fn interfaces_from(alloc: Global, pool: &Pool, items: &[Item]) -> Result<Row<Text>, ReadFault>
+fn interfaces_from(alloc: Global, pool: &Pool, items: &[Item]) -> Result<Table<Text>, ReadFault>
+    requires few { length items.now ≤ 65535 }
     ensures { Gives (each (class_name_of pool.now) items.now) result }
 {
     let mut names = Vec::new(alloc);
@@ -170,7 +175,7 @@ fn interfaces_from(alloc: Global, pool: &Pool, items: &[Item]) -> Result<Row<Tex
         let name = class_name_of(pool, *item)?;
         names.push(name)?;
     }
-    Ok(Row::new(names))
+    Ok(Table::new(names))
 }
 
 fn fields_from(
@@ -178,7 +183,8 @@ fn fields_from(
     bytes: &[u8],
     pool: &Pool,
     items: &[Member],
-) -> Result<Row<Field>, ReadFault>
+) -> Result<Table<Field>, ReadFault>
+    requires few { length items.now ≤ 65535 }
     ensures { Gives (each (field_from bytes.now pool.now) items.now) result }
 {
     let mut fields = Vec::new(alloc);
@@ -186,7 +192,7 @@ fn fields_from(
         let field = field_from(alloc, bytes, pool, item)?;
         fields.push(field)?;
     }
-    Ok(Row::new(fields))
+    Ok(Table::new(fields))
 }
 
 fn methods_from(
@@ -194,7 +200,8 @@ fn methods_from(
     bytes: &[u8],
     pool: &Pool,
     items: &[Member],
-) -> Result<Row<Method>, ReadFault>
+) -> Result<Table<Method>, ReadFault>
+    requires few { length items.now ≤ 65535 }
     ensures { Gives (each (method_from bytes.now pool.now) items.now) result }
 {
     let mut methods = Vec::new(alloc);
@@ -202,7 +209,7 @@ fn methods_from(
         let method = method_from(alloc, bytes, pool, item)?;
         methods.push(method)?;
     }
-    Ok(Row::new(methods))
+    Ok(Table::new(methods))
 }
 
 /// The class file that a layout of these bytes says.

@@ -1,7 +1,7 @@
 //! What a class file says, as far as this project uses it.
 
 use super::Flags;
-use cf_pool::{FieldType, MethodDescriptor, Pool, Row, Text};
+use cf_pool::{FieldType, MethodDescriptor, Pool, Row, Table, Text};
 
 /// A class or interface (JVMS 4.1).
 #[derive(Debug, Drop)]
@@ -12,9 +12,9 @@ pub struct ClassFile {
     /// The name of the direct superclass: `None` for java/lang/Object alone, which no file holds.
     pub superclass: Option<Text>,
     /// The names of the direct superinterfaces, as declared.
-    pub interfaces: Row<Text>,
-    pub fields: Row<Field>,
-    pub methods: Row<Method>,
+    pub interfaces: Table<Text>,
+    pub fields: Table<Field>,
+    pub methods: Table<Method>,
 }
 
 /// A field (JVMS 4.5).
@@ -47,7 +47,7 @@ pub struct Code {
     pub max_stack: u16,
     pub max_locals: u16,
     /// The bytes of the instructions, 1 to 65,535.
-    pub bytes: Row<u8>,
+    pub bytes: Table<u8>,
     /// The bytes of the StackMapTable attribute behind its length (JVMS 4.7.4), where there is one.
     pub stack_map_table: Option<Row<u8>>,
 }

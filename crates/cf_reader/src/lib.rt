@@ -4,7 +4,7 @@
 pub use cf_layout::MAX_LEN;
 pub use cf_pool::{
     Descriptor, ElementType, Entry, FieldType, MemberKind, MethodDescriptor, Numbered, Pool,
-    ReadFault, Row, Rule, Text,
+    ReadFault, Row, Rule, Table, Text,
 };
 pub use class_file::{ClassFile, Code, Field, Method};
 pub use flags::Flags;

@@ -1,5 +1,6 @@
 -- Reading one after the other, as a loop does: what was read so far stands in front of what is still read.
-use Rattle.std.proofs.Common.{◌≡◌, ℕ, suc, ◌+◌, ◌-◌, ◌<◌, ◌≤◌, List, [], ◌∷◌, ◌++◌, Result, Ok, Err, refl, sym, ap, ◌∙◌, append_assoc, arith}
+use Rattle.std.proofs.Common.{◌≡◌, ℕ, zero, suc, ◌+◌, ◌-◌, ◌<◌, ◌≤◌, List, [], ◌∷◌, ◌++◌, Result, Ok, Err, refl, sym, ap, ◌∙◌, append_assoc, arith}
+use Rattle.std.specs.Prelude.{IfOk, length}
 use Rattle.std.proofs.lemmas.List.{append-nil}
 use Rattle.cf_text.specs.declared.fault.ReadFault.{ReadFault}
 use Rattle.cf_text.specs.declared.fault.ReadFault.TheVariants.{Broken, Memory}
@@ -57,3 +58,23 @@ module _ {A : Type 0} (read : ℕ → Result (A × ℕ) ReadFault) (front : List
       let left : count - done ≡ 0 = omega arith in
       let one : with_front front (many read (count - done) at) ≡ Ok (front, at) = rw left (with_front-end front at) in
       sym so_far ∙ one
+
+-- a list of so many
+abbrev IsLong : {A : Type 0} → ℕ → List A × ℕ → Type 0
+IsLong n x = length x.0 ≡ n
+
+if_bound : {A B : Type 0} (Q : B → Type 0) (reading : Result A ReadFault) (next : A → Result B ReadFault) → ((x : A) → IfOk (next x) Q) → IfOk (reading >>= next) Q
+if_bound Q (Ok x) next then = then x
+if_bound Q (Err fault) next then = tt
+
+one_more_long : {A : Type 0} (n : ℕ) (first : A) (others : Result (List A × ℕ) ReadFault) → IfOk others (IsLong n) → IfOk {T = List A × ℕ} (others >>= λ x. Ok (first ∷ x.0, x.1)) (IsLong (suc n))
+one_more_long n first (Ok x) long = ap suc long
+one_more_long n first (Err fault) long = tt
+
+-- as many are read as are asked for
+pub many-long : {A : Type 0} (read : ℕ → Result (A × ℕ) ReadFault) (count at : ℕ) → IfOk {T = List A × ℕ} (many read count at) (λ x. length x.0 ≡ count)
+unfolding many
+many-long read zero at = refl
+many-long {A} read (suc n) at =
+    if_bound (IsLong {A = A} (suc n)) (read at) (λ first. many read n first.1 >>= λ others. Ok (first.0 ∷ others.0, others.1))
+    (λ first. one_more_long n first.0 (many read n first.1) (many-long read n first.1))

@@ -9,6 +9,7 @@ pub use fault::{Numbered, ReadFault, Rule};
 pub use names::{CLASS_INITIALIZER, INITIALIZER, is_class_name, is_method_name, is_name};
 pub use numbers::{read_i32, read_row, read_text, read_u8, read_u16, read_u32, skip};
 pub use row::Row;
+pub use table::Table;
 pub use text::Text;
 pub use types::{Descriptor, ElementType, FieldType, MethodDescriptor};
 pub use utf8::is_modified_utf8;
@@ -19,6 +20,7 @@ mod fault;
 mod names;
 mod numbers;
 mod row;
+mod table;
 #[cfg(test)]
 mod tests;
 mod text;

@@ -75,7 +75,7 @@ added class k (f ∷ fs) =
     ]
 
 module _ (classes : List Class) (class : ClassId) (c : Class) (at : slice_get classes class.0 ≡ Some c) where
-  pub counts_root : (n : ℕ) → c.superclass ≡ None → n ≡ 0 + count_by is_instance c.file.fields → CountsFields classes class n
+  pub counts_root : (n : ℕ) → c.superclass ≡ None → n ≡ count_by is_instance c.file.fields → CountsFields classes class n
   counts_root n is e =
       let more = added class 0 c.file.fields in
       record { fields = instance_fields class 0 c.file.fields; has = fields.HasFields.of_root class c at is; counted = omega (arith, more, e) }
@@ -87,11 +87,6 @@ module _ (classes : List Class) (class : ClassId) (c : Class) (at : slice_get cl
       let more = added class 0 c.file.fields in
       let few = h.counted in
       record { fields = h.fields ++ own; has = fields.HasFields.of_subclass class s c h.fields at is h.has; counted = omega (arith, both, more, few, e) }
-
--- a fact of what is there, where there is something
-pub implies : {A : Type 0} {P Q : A → Type 0} (o : Option A) → ((x : A) → P x → Q x) → IfSome o P → IfSome o Q
-implies None h p = tt
-implies (Some x) h p = h x p
 
 least : (a n : ℕ) → a < n + 1 → (a ≡ n) ⊎ (a < n)
 least zero zero h = inl refl

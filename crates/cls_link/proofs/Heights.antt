@@ -11,6 +11,7 @@ use Rattle.cls_set.specs.declared.class.Class.{Class}
 use Rattle.cls_set.specs.declared.class.ClassId.{ClassId}
 use Rattle.cls_set.specs.Sets.{IsClassSet}
 use Rattle.cls_set.specs.Subtypes.{IsDirectSupertype}
+use Rattle.cls_link.specs.Fields.{IsRanking}
 use Rattle.cls_link.specs.Searches.{supertypes_of}
 
 abbrev pub total : (ClassId → ℕ) → List ClassId → ℕ
@@ -156,3 +157,12 @@ module _ (classes : List Class) (set : IsClassSet classes) where
   interface_above c s k e among =
       falls_above c s (subst (λ o. Contains (option_map_or (λ (c : Class). c.interfaces ++ option_to_list c.superclass) o []) s) (sym e)
       (Contains-append_left k.interfaces (option_to_list k.superclass) s among))
+
+-- a ranking by numbers that are no more than the classes
+pub record HasLowRanks (classes : List Class) : Type 0 where
+  pub rank : ClassId → ℕ
+  pub ranking : IsRanking classes rank
+  pub low : (class : ClassId) → rank class ≤ length classes
+
+pub low_ranks : (classes : List Class) (set : IsClassSet classes) → HasLowRanks classes
+low_ranks classes set = record { rank = rank classes set; ranking = falls classes set; low = λ class. below_most set.rank (length classes) (set.rank class) }

@@ -32,7 +32,7 @@ same_number n = grind (arith, nat_tests)
 start : (n : ℕ) → 0 + n ≡ n + 0
 start n = omega arith
 
-length_in : (class : ClassId) (name : List ℕ) (p : ℕ) (ms : List Method) → length (declared_in class name p ms) ≡ length ms
+pub length_in : (class : ClassId) (name : List ℕ) (p : ℕ) (ms : List Method) → length (declared_in class name p ms) ≡ length ms
 length_in class name p [] = refl
 length_in class name p (m ∷ ms) = ap suc (length_in class name (suc p) ms)
 

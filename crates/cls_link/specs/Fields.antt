@@ -5,6 +5,7 @@ use Rattle.cf_reader.specs.declared.class_file.Field.{Field}
 use Rattle.cf_reader.specs.declared.flags.TheConstants.Flags.{STATIC}
 use Rattle.cls_set.specs.declared.class.Class.{Class}
 use Rattle.cls_set.specs.declared.class.ClassId.{ClassId}
+use Rattle.cls_set.specs.Subtypes.{IsDirectSupertype}
 use Rattle.cls_link.specs.declared.linked.FieldSlot.{FieldSlot}
 use Rattle.cls_link.specs.declared.fields.FieldPlace.{FieldPlace}
 use Rattle.cls_link.specs.Searches.{Finds, supertypes_of}
@@ -67,3 +68,7 @@ pub record CountsFields (classes : List Class) (class : ClassId) (count : ℕ) :
 pub record AreFieldCounts (classes : List Class) (counts : List ℕ) : Type 0 where
   pub one_each : length counts ≡ length classes
   pub counted : (class : ClassId) → class.0 < length classes → CountsFields classes class (get_or counts class.0 0)
+
+-- each class has a higher number than its direct supertypes
+abbrev pub IsRanking : List Class → (ClassId → ℕ) → Type 0
+IsRanking classes rank = (sub sup : ClassId) → IsDirectSupertype classes sub sup → rank sup < rank sub

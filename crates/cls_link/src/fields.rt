@@ -1,15 +1,15 @@
 //! Searches for fields, and how many of them objects have.
 
-ghost use Rattle.std.specs.Prelude.{◌≡◌, ◌+◌, ◌-◌, ◌<◌, ◌≤◌, ◌&&◌, Some, IfSome, IfNone, IfOk, IfErr, IsSome, IsTrue, bytes_eq, count_by, drop, length, slice_get};
+ghost use Rattle.std.specs.Prelude.{◌≡◌, ◌+◌, ◌-◌, ◌*◌, ◌<◌, ◌≤◌, ◌&&◌, ℕ, suc, Some, IfSome, IfNone, IfOk, IsSome, IsTrue, bytes_eq, count_by, drop, length, slice_get};
 ghost use Rattle.cls_link.specs.Fields as spec;
-ghost use Rattle.cls_link.specs.Fields.{place_from, is_instance, field_at, AreFieldCounts, CountsFields, ResolvesField};
+ghost use Rattle.cls_link.specs.Fields.{place_from, is_instance, field_at, AreFieldCounts, CountsFields, IsRanking, ResolvesField};
 ghost use Rattle.cf_reader.specs.declared.class_file.Field.{Field};
-ghost use Rattle.cls_link.specs.declared.fault.LinkFault.TheVariants.{Memory};
+ghost use Rattle.cls_set.specs.declared.class.ClassId.{ClassId};
 ghost use Rattle.cls_set.specs.Sets.{IsClassSet};
 
-use super::{FieldSlot, LinkFault};
+use super::FieldSlot;
 use cls_set::{ClassId, ClassSet, Field, Flags};
-use std::alloc::Global;
+use std::alloc::{AllocError, Global};
 
 // A field: the class that declares it, and its place among the fields of that class.
 #[derive(Clone, Copy)]
@@ -112,44 +112,28 @@ pub(crate) fn slot_in(fields: &[Field], place: usize, count: u32) -> Option<Fiel
     Some(FieldSlot(count - count_instance_fields(last) as u32))
 }
 
-// The fields that a class inherits and its own, counted.
-fn sum(inherited: u32, own: usize) -> Option<u32>
-    ensures { IfSome result (λ n. n ≡ inherited + own) }
-{
-    match u32::try_from(own) {
-        Ok(own) => inherited.checked_add(own),
-        Err(_) => None,
-    }
-}
-
-// How many fields an object of a class has.
-fn count_fields(set: &ClassSet, class: ClassId) -> Option<u32>
+// How many fields an object of a class has: 65,535 at most of each class on the way up.
+fn count_fields(set: &ClassSet, class: ClassId) -> u32
     requires set { IsClassSet set.now }
     requires in_set { class.0 < length set.now }
-    ensures { IfSome result (CountsFields set.now class) }
+    ensures counts { CountsFields set.now class result }
+    ensures few { (rank : ClassId → ℕ) → IsRanking set.now rank → result ≤ 65535 * suc (rank class) }
 {
     let entry = set.class(class);
-    let own = count_instance_fields(entry.file.fields.as_slice());
+    let own = count_instance_fields(entry.file.fields.as_slice()) as u32;
     match entry.superclass {
-        Some(superclass) => match count_fields(set, superclass) {
-            Some(inherited) => sum(inherited, own),
-            None => None,
-        },
-        None => sum(0, own),
+        Some(superclass) => count_fields(set, superclass) + own,
+        None => own,
     }
 }
 
-// How many fields an object of each class has. More than a u32 holds are want of memory.
-pub(crate) fn count_all(alloc: Global, set: &ClassSet) -> Result<Vec<u32>, LinkFault>
-    ensures counts { IfOk result (λ counts. AreFieldCounts set.now counts.items) }
-    ensures fault { IfErr result (λ fault. fault ≡ Memory) }
+// How many fields an object of each class has.
+pub(crate) fn count_all(alloc: Global, set: &ClassSet) -> Result<Vec<u32>, AllocError>
+    ensures { IfOk result (λ counts. AreFieldCounts set.now counts.items) }
 {
     let mut counts = Vec::with_capacity(alloc, set.len())?;
     for number in 0..set.len() {
-        match count_fields(set, ClassId(number as u16)) {
-            Some(count) => counts.push(count)?,
-            None => return Err(LinkFault::Memory),
-        }
+        counts.push(count_fields(set, ClassId(number as u16)))?;
     }
     Ok(counts)
 }

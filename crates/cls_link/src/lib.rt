@@ -5,7 +5,7 @@
 pub use cf_insns::{BinaryOperator, CodeRule, Condition, StackOperation, UnaryOperator, ValueKind};
 pub use cls_set::{
     Class, ClassFile, ClassId, ClassSet, Code, ElementType, Field, FieldType, Flags, Method,
-    MethodDescriptor, Numbered, Pool, Row, SetFault, SetRule, Text,
+    MethodDescriptor, Numbered, Pool, Row, SetFault, SetRule, Table, Text,
 };
 pub use fault::{LinkFault, LinkRule};
 pub use linked::{FieldSlot, LinkedCode, LinkedInsn, LinkedMethod, MethodId, Selection};

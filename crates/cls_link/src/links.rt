@@ -199,8 +199,7 @@ fn find(methods: &[Method], name: &[u8], descriptor: &[u8]) -> Option<usize>
 /// instruction that it goes to.
 ///
 /// The first method at fault counts, by class number and then as declared. In this project's profile
-/// of now, whose instructions name nothing, only `Code` faults can come. Memory is also what is
-/// wanting for code or a number of methods or of fields that no class file holds (JVMS 4.11).
+/// of now, whose instructions name nothing, only `Code` faults can come.
 pub fn link(alloc: Global, set: ClassSet) -> Result<Linked, LinkFault>
     ensures classes { IfOk result (λ linked. linked.classes ≡ set) }
     ensures links { IfOk result AreLinks }
@@ -213,9 +212,6 @@ pub fn link(alloc: Global, set: ClassSet) -> Result<Linked, LinkFault>
         first.push(methods.len())?;
         let class = ClassId(number as u16);
         link_class(alloc, class, &set.class(class).file, &mut methods)?;
-    }
-    if u32::try_from(methods.len()).is_err() {
-        return Err(LinkFault::Memory);
     }
     Ok(Linked {
         set,

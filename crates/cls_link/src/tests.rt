@@ -14,7 +14,7 @@ fn method(alloc: Global, flags: u16, name: &[u8]) -> Result<Method, AllocError> 
         code = Some(Code {
             max_stack: 1,
             max_locals: 1,
-            bytes: Row::new([0x03, 0xac].to_vec(alloc)?),
+            bytes: Table::new([0x03, 0xac].to_vec(alloc)?),
             stack_map_table: None,
         });
     }
@@ -66,9 +66,9 @@ fn linked(alloc: Global, flags: u16, superclass: &[u8]) -> Result<Linked, Fail> 
         flags: Flags { bits: flags },
         name: text(alloc, b"T")?,
         superclass: Some(text(alloc, superclass)?),
-        interfaces: Row::new(interfaces),
-        fields: Row::new(fields),
-        methods: Row::new(methods),
+        interfaces: Table::new(interfaces),
+        fields: Table::new(fields),
+        methods: Table::new(methods),
     };
     let mut files = Vec::new(alloc);
     files.push(file)?;

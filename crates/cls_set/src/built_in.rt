@@ -4,7 +4,7 @@
 ghost use Rattle.std.specs.Prelude.{◌≡◌, ◌++◌, IfOk, OnOk, map};
 ghost use Rattle.cls_set.specs.BuiltIn.{built_in_files, built_in_init, built_in_methods, built_in_flags, file_of};
 
-use cf_reader::{ClassFile, Code, Flags, Method, MethodDescriptor, Pool, Row, Text};
+use cf_reader::{ClassFile, Code, Flags, Method, MethodDescriptor, Pool, Row, Table, Text};
 use std::alloc::{AllocError, Global};
 
 // What a built-in class is.
@@ -170,20 +170,20 @@ fn init(alloc: Global) -> Result<Method, AllocError>
         code: Some(Code {
             max_stack: 0,
             max_locals: 1,
-            bytes: Row::new(Vec::from_slice(alloc, &[0xb1])?),
+            bytes: Table::new(Vec::from_slice(alloc, &[0xb1])?),
             stack_map_table: None,
         }),
     })
 }
 
-fn methods(alloc: Global, kind: Kind) -> Result<Row<Method>, AllocError>
+fn methods(alloc: Global, kind: Kind) -> Result<Table<Method>, AllocError>
     ensures { IfOk result (λ methods. methods ≡ built_in_methods kind) }
 {
     let mut methods = Vec::new(alloc);
     if kind != Kind::Interface {
         methods.push(init(alloc)?)?;
     }
-    Ok(Row::new(methods))
+    Ok(Table::new(methods))
 }
 
 fn flags(kind: Kind) -> Flags
@@ -211,8 +211,8 @@ fn file(
         flags: flags(kind),
         name: text(alloc, name)?,
         superclass,
-        interfaces: Row::new(Vec::new(alloc)),
-        fields: Row::new(Vec::new(alloc)),
+        interfaces: Table::new(Vec::new(alloc)),
+        fields: Table::new(Vec::new(alloc)),
         methods: methods(alloc, kind)?,
     })
 }

@@ -4,7 +4,7 @@
 
 pub use cf_reader::{
     ClassFile, Code, ElementType, Field, FieldType, Flags, Method, MethodDescriptor, Numbered,
-    Pool, Row, Text,
+    Pool, Row, Table, Text,
 };
 pub use class::{Class, ClassId};
 pub use class_set::ClassSet;

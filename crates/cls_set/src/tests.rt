@@ -12,9 +12,9 @@ fn file(alloc: Global, name: &[u8]) -> Result<ClassFile, AllocError> {
         },
         name: Text::new(name.to_vec(alloc)?),
         superclass: Some(Text::new(b"java/lang/Object".to_vec(alloc)?)),
-        interfaces: Row::new(Vec::new(alloc)),
-        fields: Row::new(Vec::new(alloc)),
-        methods: Row::new(Vec::new(alloc)),
+        interfaces: Table::new(Vec::new(alloc)),
+        fields: Table::new(Vec::new(alloc)),
+        methods: Table::new(Vec::new(alloc)),
     })
 }
 
@@ -112,14 +112,17 @@ fn under(
     name: &[u8],
     superclass: &[u8],
     interfaces: &[&[u8]],
-) -> Result<ClassFile, AllocError> {
+) -> Result<ClassFile, Fail> {
     let mut file = file(alloc, name)?;
     let mut names = Vec::new(alloc);
     for interface in interfaces {
         names.push(Text::new(interface.to_vec(alloc)?))?;
     }
     file.superclass = Some(Text::new(superclass.to_vec(alloc)?));
-    file.interfaces = Row::new(names);
+    if names.len() > 65_535 {
+        return Err(Fail::from("too many interfaces"));
+    }
+    file.interfaces = Table::new(names);
     Ok(file)
 }
 
@@ -127,7 +130,7 @@ fn under(
 fn set_of(
     alloc: Global,
     rows: &[(&[u8], &[u8], &[&[u8]])],
-) -> Result<Result<ClassSet, SetFault>, AllocError> {
+) -> Result<Result<ClassSet, SetFault>, Fail> {
     let mut files = Vec::new(alloc);
     for (name, superclass, interfaces) in rows {
         files.push(under(alloc, name, superclass, interfaces)?)?;

@@ -1,6 +1,9 @@
+use Rattle.std.proofs.Common.{◌≡◌, ℕ, List, length, subst, arith, rules}
+use Rattle.std.specs.Prelude.{IfOk}
 use Rattle.std.proofs.lemmas.Result.{err_from_is_err_and}
 use Rattle.cf_text.specs.Reading.{many}
-use Rattle.cf_text.proofs.Loops.{many-goes_on, many-fails, many-end}
+use Rattle.cf_text.proofs.Loops.{many-goes_on, many-fails, many-end, many-long}
+use Rattle.cf_layout.specs.declared.items.Member.{Member}
 use Rattle.cf_layout.specs.Layouts.{member_at}
 use Rattle.cf_layout.proofs.layout.read_members.Goals as goal
 
@@ -19,3 +22,10 @@ pub returns : goal.returns
 returns c =
     let read = member_at c.args.bytes.now in
     rw c.new.ensures (many-end read c.loop.members.items c.args.count c.loop.counter c.loop.place (many read c.args.count c.args.at) c.loop.invariant c.loop-test.false)
+
+pub new-requires : goal.new-requires
+new-requires c =
+    let read = member_at c.args.bytes.now in
+    let all = many-end read c.loop.members.items c.args.count c.loop.counter c.loop.place (many read c.args.count c.args.at) c.loop.invariant c.loop-test.false in
+    let long : length c.loop.members.items ≡ c.args.count = subst (λ r. IfOk {T = List Member × ℕ} r (λ x. length x.0 ≡ c.args.count)) all (many-long read c.args.count c.args.at) in
+    omega (arith, long)

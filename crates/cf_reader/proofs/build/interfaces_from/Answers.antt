@@ -1,8 +1,9 @@
-use Rattle.std.proofs.Common.{get_or, refl, rules}
+use Rattle.std.proofs.Common.{◌≡◌, ℕ, List, length, subst, arith, get_or, refl, rules}
+use Rattle.std.specs.Prelude.{IfOk}
 use Rattle.std.proofs.lemmas.Result.{err_from_is_err_and}
 use Rattle.cf_layout.specs.declared.items.Item.{Item}
 use Rattle.cf_reader.specs.Builds.{class_name_of}
-use Rattle.cf_reader.proofs.Each.{each-goes_on, each-fails, each-end}
+use Rattle.cf_reader.proofs.Each.{each-goes_on, each-fails, each-end, each-long}
 use Rattle.cf_reader.proofs.build.interfaces_from.Goals as goal
 
 -- what stands past the end of a row of items
@@ -20,3 +21,11 @@ loop-item-preserved c =
 
 pub returns : goal.returns
 returns c = rw c.new.ensures (each-end (class_name_of c.args.pool.now) c.args.items.now c.loop-item.names.items c.loop-item.item-index (search rules) c.loop-item.invariant)
+
+pub new-requires : goal.new-requires
+new-requires c =
+    let read = (class_name_of c.args.pool.now) in
+    let all = each-end read c.args.items.now c.loop-item.names.items c.loop-item.item-index (search rules) c.loop-item.invariant in
+    let long : length c.loop-item.names.items ≡ length c.args.items.now = subst (λ r. IfOk {T = List (List ℕ)} r (λ ys. length ys ≡ length c.args.items.now)) all (each-long read c.args.items.now) in
+    let few = c.requires in
+    omega (arith, long, few)

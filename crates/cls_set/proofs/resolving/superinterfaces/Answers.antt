@@ -12,5 +12,5 @@ returns-in_err-supertype-clause-absent c =
     let p = err_from_is_err_and c.from_residual.result c.from_residual.ensures.1 in
     let file = c.args.class.now.file in
     let name = c.name-item.result in
-    let among = Contains-append_right (option_to_list file.superclass) file.interfaces name (subst (λ (xs : List (List ℕ)). Contains xs name) c.as_slice-name-items.ensures (c.loop-name.name-index, c.loop-name-test.true, sym c.name-item.is)) in
+    let among = Contains-append_right (option_to_list file.superclass) file.interfaces name (subst (λ (xs : List (List ℕ)). Contains xs name) c.as_slice-name-items.ensures.items (c.loop-name.name-index, c.loop-name-test.true, sym c.name-item.is)) in
     rw (p.1, p.2) (class_missing (names (classes_of c.args.members.now)) file name c.in_err-supertype.field-0.0 among c.in_err-supertype.ensures.absent)
