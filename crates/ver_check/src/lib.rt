@@ -7,8 +7,8 @@ pub use laws::one_typing;
 pub use ver_frames::{
     BinaryOperator, Class, ClassFile, ClassId, ClassSet, Code, Condition, ElementType, Field,
     FieldType, Flags, Linked, LinkedCode, LinkedInsn, LinkedMethod, Method, MethodDescriptor,
-    MethodId, MethodView, Numbered, Pool, Row, StackMapFault, StackMapRule, StackOperation, Text,
-    TypeFrame, UnaryOperator, VType, ValueKind,
+    MethodId, MethodView, Numbered, Pool, Row, StackMapFault, StackMapRule, StackOperation, Table,
+    Text, TypeFrame, UnaryOperator, VType, ValueKind,
 };
 
 mod accepted;

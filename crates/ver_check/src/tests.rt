@@ -41,7 +41,14 @@ fn text(alloc: Global, bytes: &[u8]) -> Result<Text, AllocError> {
     Ok(Text::new(bytes.to_vec(alloc)?))
 }
 
-fn method(alloc: Global, case: Case) -> Result<Method, AllocError> {
+fn code_bytes(alloc: Global, bytes: &[u8]) -> Result<Table<u8>, Fail> {
+    if bytes.len() > 65_535 {
+        return Err(Fail::from("too many bytes"));
+    }
+    Ok(Table::new(bytes.to_vec(alloc)?))
+}
+
+fn method(alloc: Global, case: Case) -> Result<Method, Fail> {
     let mut parameters = Vec::new(alloc);
     for _ in 0..case.parameters {
         parameters.push(int())?;
@@ -58,7 +65,7 @@ fn method(alloc: Global, case: Case) -> Result<Method, AllocError> {
         code: Some(Code {
             max_stack: case.max_stack,
             max_locals: case.max_locals,
-            bytes: Row::new(case.bytes.to_vec(alloc)?),
+            bytes: code_bytes(alloc, case.bytes)?,
             stack_map_table: Some(Row::new(case.frames.to_vec(alloc)?)),
         }),
     })
@@ -75,9 +82,9 @@ fn checked(alloc: Global, case: Case) -> Result<(u8, usize), Fail> {
         },
         name: text(alloc, b"T")?,
         superclass: Some(text(alloc, b"java/lang/Object")?),
-        interfaces: Row::new(Vec::new(alloc)),
-        fields: Row::new(Vec::new(alloc)),
-        methods: Row::new(methods),
+        interfaces: Table::new(Vec::new(alloc)),
+        fields: Table::new(Vec::new(alloc)),
+        methods: Table::new(methods),
     };
     let mut files = Vec::new(alloc);
     files.push(file)?;

@@ -6,7 +6,7 @@ pub use assignability::{assignable, frame_assignable};
 pub use cls_link::{
     BinaryOperator, Class, ClassFile, ClassId, ClassSet, Code, Condition, ElementType, Field,
     FieldType, Flags, Linked, LinkedCode, LinkedInsn, LinkedMethod, Method, MethodDescriptor,
-    MethodId, Numbered, Pool, Row, StackOperation, Text, UnaryOperator, ValueKind,
+    MethodId, Numbered, Pool, Row, StackOperation, Table, Text, UnaryOperator, ValueKind,
 };
 pub use fault::{StackMapFault, StackMapRule};
 pub use frame::TypeFrame;
