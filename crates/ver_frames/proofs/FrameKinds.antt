@@ -385,14 +385,14 @@ module _ (m : Subject) (last : Option ℕ) (before : List VType) where
         rest = high ∷ low ∷ rest;
         bytes_are = refl;
         parts = bare (251 - gone) (length kept_ones) (high ∷ low ∷ rest) (two_bytes high low, rest) kept_ones (far_given (251 - gone) (high ∷ low ∷ rest) (omega (arith, le)) (omega arith))
-        keeps (omega arith) (pushes_none (251 - gone) rest (omega (arith, le)) (omega arith)) taken;
+            keeps (omega arith) (pushes_none (251 - gone) rest (omega (arith, le)) (omega arith)) taken;
       }
   spelled_parts (same_frame_extended high low rest) = record {
     tag = 251;
     rest = high ∷ low ∷ rest;
     bytes_are = refl;
     parts = bare 251 (length before) (high ∷ low ∷ rest) (two_bytes high low, rest) before (far_given 251 (high ∷ low ∷ rest) (omega arith) (omega arith))
-    (keeps_high 251 (length before) (omega arith) (omega arith)) (omega arith) (pushes_none 251 rest (omega arith) (omega arith)) all_alone;
+        (keeps_high 251 (length before) (omega arith) (omega arith)) (omega arith) (pushes_none 251 rest (omega arith) (omega arith)) all_alone;
   }
   spelled_parts (append_frame high low bytes rest additional ge le say) =
       let count : ℕ = length additional in

@@ -126,7 +126,7 @@ frame_parts m last before tag rest read e =
         stack_is = stack_say;
         read_is = same;
       },
-      subst (λ (p : Spelled × List ℕ). IsFrameOf m p.0) same suited,
+      subst (λ (p : Spelled × List ℕ). IsFrameOf m p.0) {x = (spelled, stack.0.1)} same suited,
     )
 
 -- ---- from the parts to the reading
