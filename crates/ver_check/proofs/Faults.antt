@@ -25,6 +25,7 @@ use Rattle.ver_frames.specs.Assignable.{IsFrameAssignable}
 use Rattle.ver_frames.specs.Frames.{Frame}
 use Rattle.ver_frames.specs.Method.{Subject}
 use Rattle.ver_frames.specs.StackMap.{declared_frames}
+use Rattle.ver_frames.proofs.StackMapLaws.{declares_again}
 use Rattle.ver_frames.specs.declared.fault.StackMapFault.{StackMapFault}
 
 -- a frame that is not assignable to the one declared does not come in
@@ -87,7 +88,7 @@ fault_with m (Err broken) rule at declared wrong e safe = absurd (cc)
 
 -- a method that is at fault is not type safe
 pub method_unsafe : (m : Subject) (rule : CheckRule) (at : ℕ) → IsMethodFault m rule at → ¬ IsSafe m
-method_unsafe m rule at wrong safe = fault_with m (declared_frames m) rule at safe.declared wrong safe.spelled safe.body
+method_unsafe m rule at wrong safe = fault_with m (declared_frames m) rule at safe.declared wrong (declares_again m safe.declared safe.spelled) safe.body
 
 safe_subject : (o : Option Subject) (m : Subject) → o ≡ Some m → MatchOption o (Unit {0}) IsSafe → IsSafe m
 safe_subject None m e safe = absurd (cc)

@@ -5,7 +5,8 @@ use Rattle.std.specs.List.{AllByRecursion, list_any}
 use Rattle.std.specs.Option.{option_map_or}
 use Rattle.ver_frames.specs.Frames.{Frame}
 use Rattle.ver_frames.specs.Method.{Subject, argument_types}
-use Rattle.ver_frames.specs.StackMap.{◌>>=◌, or_broken, demand, Spelled, kept, added, operands, after_items, delta, is_start, items, frame_behind, frame, frames, next_offset, declared_frame, declared_frames, frames_of, frames_of_table, u2}
+use Rattle.ver_frames.specs.StackMap.{◌>>=◌, or_broken, demand, kept, added, operands, after_items, delta, is_start, items, frame_behind, frame, frames, declared_frames, frames_of, frames_of_table, u2}
+use Rattle.ver_frames.specs.StackMapFormat.{Spelled, next_offset, declared_frame}
 use Rattle.ver_frames.specs.declared.fault.StackMapFault.{StackMapFault}
 use Rattle.ver_frames.specs.declared.fault.StackMapRule.{StackMapRule}
 use Rattle.ver_frames.specs.declared.fault.StackMapRule.TheVariants.{Reserved, Chop, Locals, Offset, Kind}

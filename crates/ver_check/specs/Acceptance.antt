@@ -1,4 +1,4 @@
-use Rattle.std.specs.Prelude.{◌≡◌, ◌<◌, ℕ, length, Option, Some, Ok, List, slice_get, option_and_then, MatchOption}
+use Rattle.std.specs.Prelude.{◌<◌, ℕ, length, Option, Some, List, slice_get, option_and_then, MatchOption}
 use Rattle.cf_reader.specs.declared.class_file.Code.{Code}
 use Rattle.cf_reader.specs.declared.class_file.Method.{Method}
 use Rattle.cls_link.specs.Links.{Links}
@@ -9,7 +9,7 @@ use Rattle.ver_check.specs.Bodies.{body_of}
 use Rattle.ver_check.specs.Typing.{IsTypeSafe}
 use Rattle.ver_frames.specs.Frames.{Frame}
 use Rattle.ver_frames.specs.Method.{Subject}
-use Rattle.ver_frames.specs.StackMap.{declared_frames}
+use Rattle.ver_frames.specs.StackMapFormat.{DeclaresFrames}
 
 -- a method as declared and as linked: none where it has no code
 unfoldable pub subject_of : List Class → LinkedMethod → Option Subject
@@ -21,11 +21,11 @@ subject_of classes m =
     Some (record { classes = classes; class_id = m.class; class = class; method = method; code = code; linked = linked }))
     method.code) (slice_get class.file.methods m.place)) (slice_get classes m.class.0)) m.code
 
--- a method with code is type safe (JVMS 4.10.1.6): its StackMapTable declares frames, and the body
+-- a method with code is type safe (JVMS 4.10.1.6): it declares frames by its StackMapTable, and the body
 -- with them is type safe
 pub record IsSafe (m : Subject) : Type 0 where
   pub declared : List (ℕ × Frame)
-  pub spelled : declared_frames m ≡ Ok declared
+  pub spelled : DeclaresFrames m declared
   pub body : IsTypeSafe (body_of m declared)
 
 -- a method is type safe: without code it is

@@ -97,10 +97,7 @@ fn check_at(alloc: Global, linked: &Linked, index: usize) -> Result<(), CheckFau
     ensures fault { IfErr result (IsFaultAt linked.now index) }
 {
     // There are no more methods than numbers of methods.
-    let Ok(number) = u32::try_from(index) else {
-        return Err(CheckFault::Memory);
-    };
-    let method = linked.linked_method(MethodId(number));
+    let method = linked.linked_method(MethodId(index as u32));
     check_method(alloc, linked.set(), method)
 }
 

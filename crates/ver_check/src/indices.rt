@@ -1,6 +1,6 @@
 //! Which declared frame stands at each instruction.
 
-ghost use Rattle.std.specs.Prelude.{◌≡◌, ◌==◌, ◌<◌, false, IfOk, length, slice_get, true};
+ghost use Rattle.std.specs.Prelude.{◌≡◌, ◌==◌, ◌<◌, ◌≤◌, false, IfOk, length, slice_get, true};
 ghost use Rattle.std.specs.List.{AllByRecursion, list_any};
 ghost use Rattle.std.specs.List.Sorted.{IsStrictlyIncreasing};
 ghost use Rattle.std.specs.Option.{option_map_or};
@@ -23,7 +23,7 @@ fn is_at(declared: &[(u16, TypeFrame)], index: usize, offset: u16) -> bool
 
 // For each instruction, by its offset, the index of the frame that is declared there, which is past the
 // last where none is: one pass over the instructions and the frames, each of which stands at one of
-// them. More frames than two bytes count are want of memory.
+// them.
 pub(crate) fn find_frames(
     alloc: Global,
     offsets: &[u16],
@@ -32,11 +32,9 @@ pub(crate) fn find_frames(
     requires offsets { IsStrictlyIncreasing offsets.now }
     requires declared { IsStrictlyIncreasing (declared_offsets declared.now) }
     requires starts { AllByRecursion (λ frame. list_any (λ start. start == frame.0) offsets.now ≡ true) declared.now }
+    requires few { length declared.now ≤ 65535 }
     ensures { IfOk result (λ indices. AreIndices declared.now offsets.now indices.items) }
 {
-    if declared.len() > usize::from(u16::MAX) {
-        return Err(AllocError);
-    }
     let mut indices = Vec::with_capacity(alloc, offsets.len())?;
     let mut next = 0;
     for offset in offsets {

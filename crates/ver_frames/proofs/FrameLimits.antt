@@ -10,7 +10,8 @@ use Rattle.std.proofs.lemmas.List.{length-append, length-replicate, length-rever
 use Rattle.ver_frames.specs.Frames.{Frame, filled}
 use Rattle.ver_frames.specs.Limits.{FitsMethod}
 use Rattle.ver_frames.specs.Method.{Subject, argument_types}
-use Rattle.ver_frames.specs.StackMap.{◌>>=◌, or_broken, demand, Spelled, kept, added, operands, after_items, delta, is_start, items, item, frame_behind, frame, frames, next_offset, declared_frame, declared_frames, frames_of, frames_of_table, u2}
+use Rattle.ver_frames.specs.StackMap.{◌>>=◌, or_broken, demand, kept, added, operands, after_items, delta, is_start, items, item, frame_behind, frame, frames, declared_frames, frames_of, frames_of_table, u2}
+use Rattle.ver_frames.specs.StackMapFormat.{Spelled, next_offset, declared_frame}
 use Rattle.ver_frames.specs.declared.fault.StackMapFault.{StackMapFault}
 use Rattle.ver_frames.specs.declared.fault.StackMapRule.{StackMapRule}
 use Rattle.ver_frames.specs.declared.fault.StackMapRule.TheVariants.{Reserved, Chop, Locals, Offset, Kind}
@@ -18,19 +19,19 @@ use Rattle.ver_frames.specs.declared.vtype.VType.{VType}
 use Rattle.ver_frames.specs.declared.vtype.VType.TheVariants.{Top}
 
 -- what passes one step and then another
-both : {A B : Type 0} (r : Result A StackMapFault) (f : A → Result B StackMapFault) (y : B) → (r >>= f) ≡ Ok y → (x : A) × ((r ≡ Ok x) × (f x ≡ Ok y))
+pub both : {A B : Type 0} (r : Result A StackMapFault) (f : A → Result B StackMapFault) (y : B) → (r >>= f) ≡ Ok y → (x : A) × ((r ≡ Ok x) × (f x ≡ Ok y))
 both (Ok x) f y e = (x, (refl, e))
 both (Err fault) f y e = absurd (cc)
 
-there : {A : Type 0} (rule : StackMapRule) (at : ℕ) (o : Option A) (x : A) → or_broken rule at o ≡ Ok x → o ≡ Some x
+pub there : {A : Type 0} (rule : StackMapRule) (at : ℕ) (o : Option A) (x : A) → or_broken rule at o ≡ Ok x → o ≡ Some x
 there rule at None x e = absurd (cc)
 there rule at (Some y) x e = let same : y ≡ x = cc in ap (λ z. Some z) same
 
-passed : (rule : StackMapRule) (at : ℕ) (test : Bool) (x : Unit {0}) → demand rule at test ≡ Ok x → test ≡ true
+pub passed : (rule : StackMapRule) (at : ℕ) (test : Bool) (x : Unit {0}) → demand rule at test ≡ Ok x → test ≡ true
 passed rule at true x e = refl
 passed rule at false x e = absurd (cc)
 
-both_options : {A B : Type 0} (o : Option A) (f : A → Option B) (y : B) → option_and_then f o ≡ Some y → (x : A) × ((o ≡ Some x) × (f x ≡ Some y))
+pub both_options : {A B : Type 0} (o : Option A) (f : A → Option B) (y : B) → option_and_then f o ≡ Some y → (x : A) × ((o ≡ Some x) × (f x ≡ Some y))
 both_options (Some x) f y e = (x, (refl, e))
 both_options None f y e = absurd (cc)
 
@@ -63,13 +64,13 @@ few_operands most (Some q) p is e =
     let same : ◌≡◌ {A = ℕ × List ℕ} q p = cc in
     subst (λ (r : ℕ × List ℕ). r.0 ≤ most) same (grind (arith, nat_tests))
 
-same_read : (p q : Spelled × List ℕ) → ◌≡◌ {A = Result (Spelled × List ℕ) StackMapFault} (Ok p) (Ok q) → p ≡ q
+pub same_read : (p q : Spelled × List ℕ) → ◌≡◌ {A = Result (Spelled × List ℕ) StackMapFault} (Ok p) (Ok q) → p ≡ q
 same_read p q e = cc
 
-same_frames : (p q : List (ℕ × Frame)) → ◌≡◌ {A = Result (List (ℕ × Frame)) StackMapFault} (Ok p) (Ok q) → p ≡ q
+pub same_frames : (p q : List (ℕ × Frame)) → ◌≡◌ {A = Result (List (ℕ × Frame)) StackMapFault} (Ok p) (Ok q) → p ≡ q
 same_frames p q e = cc
 
-at_most : (n most : ℕ) → nat_le n most ≡ true → n ≤ most
+pub at_most : (n most : ℕ) → nat_le n most ≡ true → n ≤ most
 at_most n most e = grind (arith, nat_tests)
 
 short : (keeps : ℕ) (before : List VType) → length (take keeps before) ≤ keeps
@@ -150,6 +151,19 @@ frames_fit m (suc n) last before bytes ds e =
     let deep : length (reverse first.0.0.stack) ≡ length first.0.0.stack = length-reverse first.0.0.stack in
     subst (λ (fs : List (ℕ × Frame)). RiseAndFit m last fs) same
     (fits.after, omega arith, omega (arith, fits.stack), frames_fit m n (Some first.0.0.offset) first.0.0.locals first.0.1 others.0 others.1.0)
+
+-- there are as many declared frames as were read
+pub frames_long : (m : Subject) (n : ℕ) (last : Option ℕ) (before : List VType) (bytes : List ℕ) (ds : List (ℕ × Frame)) → frames m n last before bytes ≡ Ok ds → length ds ≡ n
+unfolding frames
+frames_long m zero last before [] ds e =
+    let same : ◌≡◌ {A = List (ℕ × Frame)} [] ds = cc in
+    subst (λ (fs : List (ℕ × Frame)). length fs ≡ 0) same refl
+frames_long m zero last before (byte ∷ bytes) ds e = absurd (cc)
+frames_long m (suc n) last before bytes ds e =
+    let first = both (frame m last before bytes) _ ds e in
+    let others = both (frames m n (Some first.0.0.offset) first.0.0.locals first.0.1) _ ds first.1.1 in
+    subst (λ (fs : List (ℕ × Frame)). length fs ≡ suc n) (same_frames _ ds others.1.1)
+    (ap suc (frames_long m n (Some first.0.0.offset) first.0.0.locals first.0.1 others.0 others.1.0))
 
 table_fits : (m : Subject) (o : Option (List ℕ)) (ds : List (ℕ × Frame)) → frames_of m o ≡ Ok ds → RiseAndFit m None ds
 unfolding frames_of_table

@@ -4,7 +4,8 @@ use Rattle.std.proofs.lemmas.List.{append-nil}
 use Rattle.ver_frames.specs.Frames.{Frame}
 use Rattle.ver_frames.specs.Gives.{Fails}
 use Rattle.ver_frames.specs.Method.{Subject}
-use Rattle.ver_frames.specs.StackMap.{◌>>=◌, Spelled, frame, frames, declared_frame}
+use Rattle.ver_frames.specs.StackMap.{◌>>=◌, frame, frames}
+use Rattle.ver_frames.specs.StackMapFormat.{Spelled, declared_by}
 use Rattle.ver_frames.specs.declared.fault.StackMapFault.{StackMapFault}
 use Rattle.ver_frames.specs.declared.fault.StackMapFault.TheVariants as fault
 use Rattle.ver_frames.specs.declared.fault.StackMapRule.TheVariants.{Reserved}
@@ -16,10 +17,6 @@ Frames = List (ℕ × Frame)
 -- what was read before, and what is still read
 abbrev pub with_frames : Frames → Result Frames StackMapFault → Result Frames StackMapFault
 with_frames front read = read >>= λ others. Ok (front ++ others)
-
--- a frame with its offset
-abbrev pub declared_by : Subject → Spelled → ℕ × Frame
-declared_by m s = (s.offset, declared_frame m.code.max_locals s.locals s.stack)
 
 regroup : (front : Frames) (first : ℕ × Frame) (read : Result Frames StackMapFault) → with_frames front (read >>= λ others. Ok (first ∷ others)) ≡ with_frames (front ++ first ∷ []) read
 regroup front first (Ok others) = ap (λ (fs : Frames). Ok fs) (simp append_assoc)

@@ -1,6 +1,10 @@
+pub mod FrameKinds
 pub mod FrameLimits
 pub mod FrameLoops
+pub mod FrameParts
 pub mod Loops
+pub mod StackMapItems
+pub mod StackMapLaws
 pub mod Starts
 pub mod Subclasses
 pub mod Zips

@@ -4,5 +4,6 @@ pub mod Gives
 pub mod Limits
 pub mod Method
 pub mod StackMap
+pub mod StackMapFormat
 pub mod Types
 pub mod FaultNames

@@ -1,18 +1,17 @@
-use Rattle.std.specs.Prelude.{ℕ, zero, suc, ◌+◌, ◌-◌, ◌*◌, Bool, true, false, ◌&&◌, ◌||◌, ◌==◌, nat_lt, nat_le, if◌then◌else◌, Option, Some, None, option_and_then, option_map, Result, Ok, Err, List, [], ◌∷◌, ◌++◌, length, take, reverse, bytes_eq, codes, unwrap_or}
+use Rattle.std.specs.Prelude.{ℕ, zero, suc, ◌+◌, ◌-◌, ◌*◌, Bool, true, ◌&&◌, ◌||◌, ◌==◌, nat_lt, nat_le, if◌then◌else◌, Option, Some, None, option_and_then, option_map, Result, Ok, Err, List, [], ◌∷◌, ◌++◌, length, take, unwrap_or}
 use Rattle.std.specs.List.{list_any}
 use Rattle.std.specs.Option.{option_map_or}
-use Rattle.cf_pool.specs.Pools.{class_at}
-use Rattle.ver_frames.specs.Frames.{Frame, filled}
-use Rattle.cls_set.specs.Classes.{number_of}
+use Rattle.ver_frames.specs.Frames.{Frame}
 use Rattle.ver_frames.specs.Method.{Subject, argument_types}
+use Rattle.ver_frames.specs.StackMapFormat.{Spelled, declared_by, next_offset, object_type}
 use Rattle.ver_frames.specs.declared.fault.StackMapFault.{StackMapFault}
 use Rattle.ver_frames.specs.declared.fault.StackMapFault.TheVariants.{Broken}
 use Rattle.ver_frames.specs.declared.fault.StackMapRule.{StackMapRule}
 use Rattle.ver_frames.specs.declared.fault.StackMapRule.TheVariants.{Reserved, Chop, Locals, Offset, Kind}
 use Rattle.ver_frames.specs.declared.vtype.VType.{VType}
-use Rattle.ver_frames.specs.declared.vtype.VType.TheVariants.{Top, Int, Null, Object, IntArray, UninitializedThis}
+use Rattle.ver_frames.specs.declared.vtype.VType.TheVariants.{Top, Int, Null, UninitializedThis}
 
--- The frames that a StackMapTable declares (JVMS 4.7.4), read from left to right with the first
+-- How the frames that a StackMapTable declares (JVMS 4.7.4) are read, from left to right, with the first
 -- fault that is met. What is read is a value and the bytes after it.
 
 infixl 10 ◌>>=◌
@@ -33,14 +32,6 @@ demand rule at test = if test then Ok tt else Err (Broken rule at)
 abbrev pub u2 : List ℕ → Option (ℕ × List ℕ)
 u2 (high ∷ low ∷ rest) = Some (256 * high + low, rest)
 u2 _ = None
-
--- the type that a Class entry of the constant pool says: an array of ints, or a class of the set
-unfoldable pub object_type : Subject → ℕ → Option VType
-object_type m index = option_and_then named (class_at m.class.file.pool index)
-  where
-    named : List ℕ → Option VType
-    named name =
-        if bytes_eq name (codes "[I") then Some IntArray else option_map Object (number_of m.classes name)
 
 -- the type that an item says. An item of a long, a float or a double says none of this project's
 -- profile; one of a `new` says none, since no instruction of the profile is one yet
@@ -76,12 +67,12 @@ unfoldable pub after_items : ℕ → List ℕ → Option (List ℕ)
 after_items zero bytes = Some bytes
 after_items (suc n) bytes = option_and_then (after_items n) (after_item bytes)
 
--- how far a frame is from the one before it, by its tag
+-- how far a frame is from the one before it, by its tag: none where the tag is reserved, or no byte
 unfoldable pub delta : ℕ → List ℕ → Option (ℕ × List ℕ)
 delta tag rest =
     if nat_lt tag 64 then Some (tag, rest)
     else (if nat_lt tag 128 then Some (tag - 64, rest)
-    else (if nat_lt tag 247 then None else u2 rest))
+    else (if nat_lt tag 247 || nat_lt 255 tag then None else u2 rest))
 
 -- of so many local variables of the frame before, how many a frame keeps
 unfoldable pub kept : ℕ → ℕ → Option ℕ
@@ -102,13 +93,6 @@ operands tag rest =
     if tag == 255 then u2 rest
     else (if (tag == 247) || (nat_le 64 tag && nat_lt tag 128) then Some (1, rest) else Some (0, rest))
 
--- a frame as it is spelled: its offset, its local variables before they are filled with top, and its
--- operands, the one on top last
-pub record Spelled : Type 0 where
-  pub offset : ℕ
-  pub locals : List VType
-  pub stack : List VType
-
 -- whether an instruction stands at the offset
 abbrev pub is_start : Subject → ℕ → Bool
 is_start m offset = list_any (λ start. start == offset) m.linked.offsets
@@ -127,31 +111,12 @@ frame_behind m at before tag rest = do
   stack ← or_broken Kind at (items m pushes.0 pushes.1)
   Ok (record { offset = at; locals = take keeps before ++ locals.0; stack = stack.0 }, stack.1)
 
--- the offset of a frame so far from the one before
-abbrev pub next_offset : Option ℕ → ℕ → ℕ
-next_offset None delta = delta
-next_offset (Some last) delta = last + delta + 1
-
 -- the next frame
 unfoldable pub frame : Subject → Option ℕ → List VType → List ℕ → Result (Spelled × List ℕ) StackMapFault
 frame m last before [] = Err (Broken Reserved (unwrap_or last 0))
 frame m last before (tag ∷ rest) = do
   distance ← or_broken Reserved (unwrap_or last 0) (delta tag rest)
   frame_behind m (next_offset last distance.0) before tag distance.1
-
--- whether a type is that of the receiver before another <init> has run on it
-abbrev pub is_uninit_this : VType → Bool
-is_uninit_this UninitializedThis = true
-is_uninit_this _ = false
-
--- the frame that is declared by one with these local variables and operands, the one on top last:
--- its flag is set exactly where a local variable is uninitializedThis
-abbrev pub declared_frame : ℕ → List VType → List VType → Frame
-declared_frame max_locals locals stack = record {
-  locals = filled max_locals locals;
-  stack = reverse stack;
-  flag_this_uninit = list_any is_uninit_this locals;
-}
 
 -- so many frames, each with its offset, and no byte after them
 unfoldable pub frames : Subject → ℕ → Option ℕ → List VType → List ℕ → Result (List (ℕ × Frame)) StackMapFault
@@ -160,7 +125,7 @@ frames m zero last before (byte ∷ rest) = Err (Broken Reserved (unwrap_or last
 frames m (suc n) last before bytes = do
   first ← frame m last before bytes
   others ← frames m n (Some first.0.offset) first.0.locals first.1
-  Ok ((first.0.offset, declared_frame m.code.max_locals first.0.locals first.0.stack) ∷ others)
+  Ok (declared_by m first.0 ∷ others)
 
 -- the frames of a StackMapTable behind its length
 unfoldable pub frames_of_table : Subject → List ℕ → Result (List (ℕ × Frame)) StackMapFault

@@ -2,14 +2,15 @@
 
 ghost use Rattle.std.specs.Prelude.{◌≡◌, IfOk, MatchOption, None, Some};
 ghost use Rattle.ver_frames.specs.Gives.{Finds};
-ghost use Rattle.ver_frames.specs.StackMap.{object_type, item, items, with_front};
+ghost use Rattle.ver_frames.specs.StackMap.{item, items, with_front};
+ghost use Rattle.ver_frames.specs.StackMapFormat.{object_type};
 
 use super::layout::u2;
 use super::{MethodView, VType};
 use std::alloc::AllocError;
 
 // The type that a Class entry of the constant pool says: an array of ints, or a class of the set.
-#[tactic(auto, unfolding(crate::specs::StackMap::object_type))]
+#[tactic(auto, unfolding(crate::specs::StackMapFormat::object_type))]
 fn object_type(method: &MethodView, index: u16) -> Option<VType>
     ensures { result ≡ object_type method.now index }
 {

@@ -13,7 +13,7 @@ pub(crate) struct RawFrame {
 }
 
 impl Model for RawFrame {
-    ghost use Rattle.ver_frames.specs.StackMap.{Spelled};
+    ghost use Rattle.ver_frames.specs.StackMapFormat.{Spelled};
 
     ghost Value = { Spelled };
 

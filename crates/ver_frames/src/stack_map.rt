@@ -1,13 +1,15 @@
 //! The frames that a StackMapTable declares (JVMS 4.7.4).
 
-ghost use Rattle.std.specs.Prelude.{◌≡◌, ◌==◌, IfOk, None, Some, map, if◌then◌else◌};
+ghost use Rattle.std.specs.Prelude.{◌≡◌, ◌==◌, ◌≤◌, ℕ, List, IfOk, None, Some, Ok, length, map, if◌then◌else◌};
 ghost use Rattle.std.specs.List.{AllByRecursion, list_any};
 ghost use Rattle.std.specs.List.Sorted.{IsStrictlyIncreasing};
+ghost use Rattle.ver_frames.specs.Frames.{Frame};
 ghost use Rattle.ver_frames.specs.Gives.{Gives};
 ghost use Rattle.ver_frames.specs.Limits.{FitsMethod};
 ghost use Rattle.ver_frames.specs.Method.{argument_types};
 ghost use Rattle.ver_frames.specs.declared.fault.StackMapFault.TheVariants.{Broken};
-ghost use Rattle.ver_frames.specs.StackMap.{declared_frame, declared_frames, frame, frame_behind, frames, frames_of_table, is_start, is_uninit_this};
+ghost use Rattle.ver_frames.specs.StackMap.{declared_frames, frame, frame_behind, frames, frames_of_table, is_start};
+ghost use Rattle.ver_frames.specs.StackMapFormat.{DeclaresFrames, declared_frame, is_uninit_this};
 
 use super::frame::fill;
 use super::items::push_items;
@@ -162,7 +164,8 @@ fn frames(
     bytes: &[u8],
 ) -> Result<Vec<(u16, TypeFrame)>, StackMapFault>
     requires { IsStrictlyIncreasing method.now.linked.offsets }
-    ensures { Gives (λ v. v.items) result (frames method.now count None (argument_types method.now) bytes.now) }
+    ensures frames { Gives (λ v. v.items) result (frames method.now count None (argument_types method.now) bytes.now) }
+    ensures few { IfOk result (λ v. length v.items ≤ 65535) }
 {
     // A frame takes a byte at least.
     let mut declared = Vec::with_capacity(alloc, usize::from(count).min(bytes.len()))?;
@@ -195,7 +198,8 @@ fn declared_or_none(
     method: &MethodView,
 ) -> Result<Vec<(u16, TypeFrame)>, StackMapFault>
     requires { IsStrictlyIncreasing method.now.linked.offsets }
-    ensures { Gives (λ v. v.items) result (declared_frames method.now) }
+    ensures declared { Gives (λ v. v.items) result (declared_frames method.now) }
+    ensures few { IfOk result (λ v. length v.items ≤ 65535) }
 {
     let Some(table) = &method.code.stack_map_table else {
         return Ok(Vec::new(alloc));
@@ -212,9 +216,16 @@ fn declared_or_none(
 pub fn declared(alloc: Global, method: &MethodView) -> Result<Vec<(u16, TypeFrame)>, StackMapFault>
     // The offsets of the method's instructions rise.
     requires { IsStrictlyIncreasing method.now.linked.offsets }
+    // What is answered the method declares.
+    ensures found { IfOk result (λ v. DeclaresFrames method.now v.items) }
+    // What the method declares is answered, unless memory runs out.
+    ensures only { (ds : List (ℕ × Frame)) → DeclaresFrames method.now ds → Gives (λ v. v.items) result (Ok ds) }
+    // Which fault it is: the first that is met in reading.
     ensures declared { Gives (λ v. v.items) result (declared_frames method.now) }
     ensures rising { IfOk result (λ v. IsStrictlyIncreasing (map (λ declared. declared.0) v.items)) }
     ensures within { IfOk result (λ v. AllByRecursion (FitsMethod method.now) v.items) }
+    // Their number is one of two bytes.
+    ensures few { IfOk result (λ v. length v.items ≤ 65535) }
 {
     declared_or_none(alloc, method)
 }

@@ -1,6 +1,6 @@
 use Rattle.std.proofs.Common.{◌≡◌, drop}
 use Rattle.std.specs.List.{list_any}
-use Rattle.ver_frames.specs.StackMap.{is_uninit_this}
+use Rattle.ver_frames.specs.StackMapFormat.{is_uninit_this}
 use Rattle.ver_frames.proofs.stack_map.has_uninit_this.Given as goal
 
 abbrev pub invariant-loop-kind : goal.invariant-loop-kind
