@@ -167,3 +167,11 @@ fn faults_have_their_numbers_and_names(rt: HostRuntime) -> Result<(), Fail> {
     );
     Ok(())
 }
+
+#[test]
+fn a_table_gives_its_items_back(rt: HostRuntime) -> Result<(), Fail> {
+    let table = Table::new([3, 1, 2].to_vec(rt.alloc())?);
+    assert_eq!(rt; table.as_slice(), [3, 1, 2].as_slice());
+    assert_eq!(rt; table.into_vec().as_slice(), [3, 1, 2].as_slice());
+    Ok(())
+}

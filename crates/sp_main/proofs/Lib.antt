@@ -10,6 +10,7 @@ pub mod Spelled
 pub mod Parser
 pub mod Said
 pub mod Asked
+pub mod Commands
 pub mod Requested
 pub mod Contents
 pub mod Replied

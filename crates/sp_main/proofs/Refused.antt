@@ -1,9 +1,11 @@
--- A method of a program that does not run is refused as such.
+-- A method of a program that does not run is refused as such, and a refusal of files is one of these files.
 use Rattle.std.proofs.Common.{◌≡◌, ℕ, List, Some}
 use Rattle.std.specs.Prelude.{Result, Ok, Err, IfErr}
+use Rattle.std.proofs.lemmas.Option.{slice_get_within}
 use Rattle.cls_link.specs.Links.{Links}
 use Rattle.cls_link.specs.declared.linked.MethodId.{MethodId}
-use Rattle.sp_main.specs.Runs.{IsNotRun, IsProgram, IsRefused, method_named, no_memory, not_started}
+use Rattle.sp_main.specs.RefusalTexts.{IsRefusalOf}
+use Rattle.sp_main.specs.Runs.{IsNoProgram, IsNotRun, IsProgram, IsRefused, IsUnread, absent, at_fault, method_named, no_memory, no_memory_to_read, no_program, no_set, not_linked, not_safe, not_started, unread}
 use Rattle.sp_main.specs.declared.refusal.Refusal.{Refusal}
 use Rattle.sp_main.specs.declared.refusal.Refusal.TheVariants as refusal
 use Rattle.sp_main.specs.declared.running.ClassBytes.{ClassBytes}
@@ -20,3 +22,20 @@ pub run_refused : {A : Type 0} (files : List ClassBytes) (class text : List ℕ)
     → IsProgram files program → method_named program class text ≡ Some method → (r : Result A Refusal) → IfErr r (IsNotRun program method arguments limits) → IfErr r (IsRefused files class text arguments limits)
 run_refused files class text arguments limits program method is named (Ok a) why = tt
 run_refused files class text arguments limits program method is named (Err r) why = refused files class text arguments limits program method is named r why
+
+-- a file that is at fault stands in the list
+unread_file : (files : List ClassBytes) (r : Refusal) → IsUnread files r → IsRefusalOf files r
+unread_file files r (at_fault place file fault before at spelled why) = slice_get_within files place file at
+unread_file files r no_memory_to_read = tt
+
+no_program_file : (files : List ClassBytes) (r : Refusal) → IsNoProgram files r → IsRefusalOf files r
+no_program_file files r (unread refused why) = unread_file files refused why
+no_program_file files r (no_set classes fault spelled why) = tt
+no_program_file files r (not_linked classes set fault spelled has is why) = tt
+no_program_file files r (not_safe classes linked fault spelled has is why) = tt
+
+pub refused_file : (files : List ClassBytes) (class text : List ℕ) (arguments : List Value) (limits : Limits) (r : Refusal) → IsRefused files class text arguments limits r → IsRefusalOf files r
+refused_file files class text arguments limits r (no_program refused why) = no_program_file files refused why
+refused_file files class text arguments limits r (absent program is named) = tt
+refused_file files class text arguments limits r (not_started program method fault is named why) = tt
+refused_file files class text arguments limits r no_memory = tt

@@ -1,5 +1,5 @@
 -- What words ask for, by what the parser answers to them.
-use Rattle.std.proofs.Common.{◌≡◌, ◌∙◌, ℕ, List, [], true, Option, Result, Ok, Err, IfOk, inl, inr, ap, sym, subst, refl}
+use Rattle.std.proofs.Common.{◌≡◌, ◌∙◌, ℕ, List, [], true, Option, Some, Result, Ok, Err, IfOk, codes, slice_get, inl, inr, ap, sym, subst, refl}
 use Rattle.clap.proofs.OnLiterals.{clap_on_literals}
 use Rattle.clap.specs.Faults.{fault_of, is_simple_and_free}
 use Rattle.clap.specs.Kinds.{HasKind, IsAmong}
@@ -11,8 +11,9 @@ use Rattle.clap.specs.declared.error.Error.{Error}
 use Rattle.clap.specs.declared.error.kind.ErrorKind.{ErrorKind}
 use Rattle.clap.specs.declared.error.kind.ErrorKind.TheVariants.{DisplayHelp, DisplayVersion, OutOfMemory}
 use Rattle.clap.specs.declared.parser.matches.ArgMatches.{ArgMatches}
-use Rattle.sp_main.specs.CommandLine.{mistaken, program, senseless}
-use Rattle.sp_main.specs.Requests.{IsAsked, IsRequest, IsUnasked}
+use Rattle.sp_main.specs.CommandLine.{IsComing, mistaken, program, senseless}
+use Rattle.sp_main.specs.Requests.{IsAsked, IsRequest, IsRunFound, IsUnasked}
+use Rattle.sp_main.proofs.Commands.{Enters, IsCommandName, taken_enters}
 use Rattle.sp_main.specs.declared.words.Request.{Request}
 use Rattle.sp_main.specs.declared.words.Request.TheVariants.{Run, Tell, Refuse}
 
@@ -39,6 +40,21 @@ taken_words words command matches (Err e) is matched taken asked = tt
 taken_words words command matches (Ok request) is matched taken asked =
     asked_request words (subcommand_rows_of matches) request (sym (ap (λ (a : App). fault_of a words) is) ∙ taken (ap is_simple_and_free is ∙ program_is_free))
     ((matched (ap is_simple is ∙ program_is_simple)).1 ∙ ap (λ (a : App). subcommand_of a words) is) asked
+
+-- where the words begin with no command that has not come yet, the parser that takes them found `run`
+pub run_found : (words : List (List ℕ)) (command : Command) (matches : ArgMatches) → app_of command ≡ program → HasMatchesOf (app_of command) words matches
+    → (is_simple_and_free (app_of command) ≡ true → fault_of (app_of command) words ≡ []) → ((name : List ℕ) → slice_get words 1 ≡ Some name → IsComing name → ⊥)
+    → IsRunFound (subcommand_rows_of matches)
+run_found words command matches is matched taken none =
+    let begun : Enters words = taken_enters words (sym (ap (λ (a : App). fault_of a words) is) ∙ taken (ap is_simple_and_free is ∙ program_is_free)) in
+    let found : subcommand_rows_of matches ≡ subcommand_of program words = (matched (ap is_simple is ∙ program_is_simple)).1 ∙ ap (λ (a : App). subcommand_of a words) is in (
+      begun.rows,
+      found ∙ begun.enters ∙ ap (λ (name : List ℕ). Some (name, begun.rows)) (only_run begun.name begun.is (none begun.name begun.first)),
+    )
+  where
+    only_run : (name : List ℕ) → IsCommandName name → (IsComing name → ⊥) → name ≡ codes "run"
+    only_run name (inl run) not = run
+    only_run name (inr coming) not = absurd (not coming)
 
 -- a kind that is told is among those that may come
 kind_among : (kind : ErrorKind) (error : Error) (kinds : List ErrorKind) → (kind ≡ OutOfMemory → ⊥) → kind_of error ≡ kind → HasKind kinds error → IsAmong kind kinds

@@ -1,7 +1,8 @@
 -- What is printed of a refusal, a line each: `cannot read PATH`, `refused PATH at OFFSET: N NAME`, `refused CLASS: N NAME`,
 -- `refused CLASS.METHODDESCRIPTOR at OFFSET: N NAME` or `refused start: N NAME`.
-use Rattle.std.specs.Prelude.{◌≡◌, ◌≢◌, ◌++◌, ℕ, List, codes, slice_get, IfSome}
+use Rattle.std.specs.Prelude.{◌≡◌, ◌≢◌, ◌<◌, ◌++◌, ℕ, List, codes, length, slice_get}
 use Rattle.std.specs.Fmt.{decimal}
+use Rattle.std.specs.Option.{IsSomeAnd}
 use Rattle.std.specs.String.{string_bytes}
 use Rattle.cf_reader.specs.declared.load_fault.LoadFault.{LoadFault}
 use Rattle.cf_reader.specs.declared.load_fault.LoadFault.TheVariants as load
@@ -62,9 +63,14 @@ TellsCheck check.Memory text = ⊥
 abbrev pub TellsStart : StartFault → (text : List ℕ) → Type 0
 TellsStart fault text = (fault ≢ start.Memory) × (text ≡ line_of (rule_text (codes "refused start") (start_fault_number fault) (start_fault_name fault)))
 
--- a refusal of these files; the one that is at fault goes by its path, and nothing is said where there is none at that place
+-- a refusal is one of these files: the place of a file that is refused is a place of the list
+abbrev pub IsRefusalOf : List ClassBytes → Refusal → Type 0
+IsRefusalOf files (refusal.File place fault) = place < length files
+IsRefusalOf files _ = Unit {0}
+
+-- a refusal of these files; the one that is at fault goes by its path
 abbrev pub TellsRefusal : List ClassBytes → Refusal → (text : List ℕ) → Type 0
-TellsRefusal files (refusal.File place fault) text = IfSome (slice_get files place) (λ file. TellsFile (string_bytes file.path) fault text)
+TellsRefusal files (refusal.File place fault) text = IsSomeAnd (slice_get files place) (λ file. TellsFile (string_bytes file.path) fault text)
 TellsRefusal files (refusal.Set fault) text = TellsSet fault text
 TellsRefusal files (refusal.Link fault) text = TellsLink fault text
 TellsRefusal files (refusal.Check fault) text = TellsCheck fault text

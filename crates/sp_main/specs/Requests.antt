@@ -34,6 +34,10 @@ IsRunRequest rows (Run request) = AreRunWords rows (run_words request)
 IsRunRequest rows (Tell text) = ⊥
 IsRunRequest rows (Refuse text) = (run : RunWords) → AreRunWords rows run → ⊥
 
+-- the parser found `run`, and words behind it
+abbrev pub IsRunFound : Option (List ℕ × List Row) → Type 0
+IsRunFound found = (rows : List Row) × (found ≡ Some (codes "run", rows))
+
 -- the request is what words ask for in which the parser found this command, and the words behind it
 abbrev pub IsAsked : Option (List ℕ × List Row) → Request → Type 0
 IsAsked found (Run request) = (rows : List Row) × (found ≡ Some (codes "run", rows)) × AreRunWords rows (run_words request)

@@ -9,7 +9,7 @@ ghost use Rattle.sp_main.specs.Requests.{run_words};
 use super::texts::{outcome_report, refusal_report, text_report, unreadable_report};
 use super::words::{Request, RunRequest, request_of};
 use super::{ClassBytes, Content, Folder, FolderFault, Report, Status, run_classes};
-use cf_reader::{LoadFault, read_bytes};
+use cf_reader::{LoadFault, ReadFault, read_bytes};
 use dev_io::StdSource;
 use std::alloc::{AllocError, Global};
 use std::io::{Read, Write};
@@ -110,6 +110,8 @@ fn read_content<F: Folder>(alloc: Global, folder: &F, path: &str) -> Result<Cont
     match read_bytes(alloc, &mut StdSource::new(file)) {
         Ok(bytes) => Ok(Content::Bytes(bytes)),
         Err(LoadFault::Device) => Ok(Content::Unreadable),
-        Err(LoadFault::Read(_)) => Err(AllocError),
+        Err(LoadFault::Read(ReadFault::Memory)) => Err(AllocError),
+        // What the bytes spell is not looked at here.
+        Err(LoadFault::Read(ReadFault::Broken { .. })) => unreachable!(),
     }
 }

@@ -2,7 +2,7 @@
 
 ghost use Rattle.std.specs.Prelude.{◌≡◌, ◌++◌, codes, IfOk, IfSome};
 ghost use Rattle.std.specs.Str.{trim_end};
-ghost use Rattle.sp_main.specs.RefusalTexts.{TellsCheck, TellsFile, TellsLink, TellsRefusal, TellsSet, TellsStart, refused_method, rule_text, unreadable_text};
+ghost use Rattle.sp_main.specs.RefusalTexts.{IsRefusalOf, TellsCheck, TellsFile, TellsLink, TellsRefusal, TellsSet, TellsStart, refused_method, rule_text, unreadable_text};
 ghost use Rattle.sp_main.specs.Reports.{IsLine, line_of};
 ghost use Rattle.sp_main.specs.Statuses.{file_status, outcome_status, refusal_status};
 ghost use Rattle.sp_main.specs.Texts.{ints_text, outcome_text, value_text};
@@ -69,21 +69,20 @@ fn with_ints(line: Line, ints: &[i32]) -> Result<Line, AllocError>
     line.text("]")
 }
 
-/// What is reported of why a class set is not run. `files` are those that were handed in.
+/// What is reported of why a class set is not run. `files` are those that were handed in: a refusal
+/// of a file names one of them.
 pub fn refusal_report(
     alloc: Global,
     files: &[ClassBytes],
     refusal: &Refusal,
 ) -> Result<Report, AllocError>
+    requires file { IsRefusalOf files.now refusal.now }
     ensures status { IfOk result (λ report. report.status ≡ refusal_status refusal.now) }
     ensures text { IfOk result (λ report. TellsRefusal files.now refusal.now report.text.items) }
     ensures line { IfOk result (λ report. IsLine report.text.items) }
 {
     match refusal {
-        Refusal::File { place, fault } => match files.get(*place) {
-            Some(file) => file_report(alloc, &file.path, *fault),
-            None => Err(AllocError),
-        },
+        Refusal::File { place, fault } => file_report(alloc, &files[*place].path, *fault),
         Refusal::Set(fault) => set_report(alloc, fault),
         Refusal::Link(fault) => link_report(alloc, fault),
         Refusal::Check(fault) => check_report(alloc, fault),

@@ -1,6 +1,6 @@
 //! The words of a command line.
 
-ghost use Rattle.std.specs.Prelude.{◌≡◌, ℕ, List, map, slice_get, Some, string_bytes, codes, Option, IfOk, IfSome, MatchOption, MatchResult};
+ghost use Rattle.std.specs.Prelude.{◌≡◌, ℕ, List, map, slice_get, Some, string_bytes, codes, Option, IfOk, MatchOption, MatchResult};
 ghost use Rattle.std.specs.List.{AllZip};
 ghost use Rattle.clap.specs.Matches.{found_of};
 ghost use Rattle.clap.specs.Simple.{app_of, new_shape, subcommand_rows_of};
@@ -9,7 +9,7 @@ ghost use Rattle.clap.specs.Walk.{first_of, rows_of};
 ghost use Rattle.vm_heap.specs.declared.values.Value.{Value};
 ghost use Rattle.sp_main.specs.Arguments.{Spells};
 ghost use Rattle.sp_main.specs.CommandLine.{IsComing, IsFuel, IsSaidFuel, arguments_rule, fuel_rule, program, run_shape, wanted_rule};
-ghost use Rattle.sp_main.specs.Requests.{IsArgument, IsAsked, IsCommand, IsRefusing, IsRequest, IsRunRequest, IsUnasked};
+ghost use Rattle.sp_main.specs.Requests.{IsArgument, IsAsked, IsCommand, IsRefusing, IsRequest, IsRunFound, IsRunRequest, IsUnasked};
 
 use super::argument_of;
 use clap::error::ErrorKind;
@@ -56,7 +56,9 @@ pub(crate) fn request_of<'a>(alloc: Global, words: &'a [String]) -> Result<Reque
 
 // The name of a command that has not come yet, where the words begin with it: whatever follows it.
 fn coming_name(words: &[String]) -> Option<&str>
-    ensures { IfSome result (λ name. (slice_get (map string_bytes words.now) 1 ≡ Some name.now) × IsComing name.now) }
+    ensures { MatchOption result
+        ((name : List ℕ) → slice_get (map string_bytes words.now) 1 ≡ Some name → IsComing name → ⊥)
+        (λ name. (slice_get (map string_bytes words.now) 1 ≡ Some name.now) × IsComing name.now) }
 {
     let name = words.get(1)?.as_str();
     matches!(name, "check" | "sim" | "serve").then_some(name)
@@ -75,16 +77,14 @@ fn unasked<'a>(alloc: Global, error: &Error) -> Result<Request<'a>, AllocError>
     }
 }
 
-// What words ask for that the parser takes.
+// What words ask for that the parser takes: it found `run`, since no other command comes this far.
 fn asked<'a>(alloc: Global, matches: &ArgMatches<'a>) -> Result<Request<'a>, AllocError>
+    requires run { IsRunFound (subcommand_rows_of matches.now) }
     ensures { IfOk result (IsAsked (subcommand_rows_of matches.now)) }
 {
     match matches.subcommand() {
         Some(("run", found)) => asked_run(alloc, found),
-        Some((name, _)) => Ok(Request::Refuse(format!(in alloc;
-            "error: the command '{name}' has not come yet\n"
-        )?)),
-        None => refuse(alloc, "error: a command is missing\n"),
+        _ => unreachable!(),
     }
 }
 

@@ -111,7 +111,7 @@ pub fn says(rt: &impl Abort, shelf: Shelf, line: &str, status: u8, text: &str) -
     } else {
         (said.err, said.out)
     };
-    let told = String::from_utf8(told).map_err(|_| AllocError)?;
+    let told = String::from_utf8(told)?;
     assert_eq!(rt; told.strip_suffix('\n'), Some(text), "{line}");
     assert_eq!(rt; said.status, status, "{line}");
     assert!(rt; other.is_empty(), "{line}");

@@ -55,7 +55,7 @@ fn commands_that_have_not_come_say_so(rt: HostRuntime) -> Result<(), Fail> {
     ] {
         let said = said_to(rt.alloc(), line)?;
         is_usage_fault(&rt, &said, line);
-        let text = String::from_utf8(said.err).map_err(|_| AllocError)?;
+        let text = String::from_utf8(said.err)?;
         let told = format!(in rt.alloc(); "error: the command '{name}' has not come yet\n")?;
         assert_eq!(rt; text, told, "{line}");
     }
@@ -72,7 +72,7 @@ fn help_and_version_are_told(rt: HostRuntime) -> Result<(), Fail> {
         let said = said_to(rt.alloc(), line)?;
         assert_eq!(rt; said.status, 0, "{line}");
         assert!(rt; said.err.is_empty(), "{line}");
-        let text = String::from_utf8(said.out).map_err(|_| AllocError)?;
+        let text = String::from_utf8(said.out)?;
         assert!(rt; text.contains(part), "{line}");
     }
     Ok(())

@@ -1,7 +1,9 @@
-use Rattle.std.proofs.Common.{◌≡◌, rules, sym}
+use Rattle.std.proofs.Common.{◌≡◌, ◌∙◌, rules, subst, sym}
 use Rattle.sp_main.specs.Folders.{AreFilesOf, told_by}
+use Rattle.sp_main.specs.RefusalTexts.{IsRefusalOf}
 use Rattle.sp_main.specs.Replies.{limits_of}
 use Rattle.sp_main.specs.Requests.{run_words}
+use Rattle.sp_main.proofs.Refused.{refused_file}
 use Rattle.sp_main.proofs.Replied.{refusal_replied, run_replied, unreadable_replied}
 use Rattle.sp_main.proofs.entry.run_report.Goals as goal
 
@@ -16,6 +18,11 @@ returns-in-Ok-run_classes g c =
     run_replied (told_by (g.F.Folder.lists c.args.folder.now) (g.F.Folder.gives c.args.folder.now)) (run_words c.args.request) _ c.in_ok-files.files.items _ _ _ c.in-Ok-run_classes.outcome c.outcome_report.result read
     (c.deref-2.ensures).value (c.as_bytes-class.ensures).value (c.as_bytes-method.ensures).value limits (c.in-Ok-run_classes.ensures).run
     (c.outcome_report.ensures).status (c.outcome_report.ensures).text
+
+pub refusal_report-requires : goal.refusal_report-requires
+refusal_report-requires g c = record {
+  file = subst (λ files. IsRefusalOf files c.in-Err.refusal) ((c.deref-2.ensures).value ∙ sym (c.deref-in-Err.ensures).value) (refused_file _ _ _ _ _ c.in-Err.refusal (c.in-Err.ensures).refused);
+}
 
 pub returns : goal.returns
 returns g c =
