@@ -32,6 +32,7 @@ loop-number-preserved c =
     c.in_ok-link_class.ensures.linked before c.loop-number.invariant.0 in (
       subst (λ ds. AllZip IsLinked ds c.link_class.new.methods.items) (sym (declared_class classes n c.class.result.now within))
           (subst (λ (k : Class). AllZip IsLinked (before ++ declared_in (record { 0 = n }) k.file.name 0 k.file.methods) c.link_class.new.methods.items) (sym here) linked),
-      starts_pushed classes n c.loop-number.first.items c.push.new.self.items c.len-in-loop-number.result c.loop-number.methods.items within c.loop-number.invariant.1 c.loop-number.invariant.0 (c.len-in-loop-number.ensures ∙ c.loop-number.methods.ok.0) c.in_ok-push.ensures.items,      omega (arith, within),
+      starts_pushed classes n c.loop-number.first.items c.push.new.self.items c.len-in-loop-number.result c.loop-number.methods.items within c.loop-number.invariant.1 c.loop-number.invariant.0 (c.len-in-loop-number.ensures ∙ c.loop-number.methods.ok.0) c.in_ok-push.ensures.items,
+      omega (arith, within),
       omega (arith, zip_length (before ++ declared_in (record { 0 = n }) c.class.result.now.file.name 0 c.class.result.now.file.methods) c.link_class.new.methods.items linked, length-append before (declared_in (record { 0 = n }) c.class.result.now.file.name 0 c.class.result.now.file.methods), zip_length before c.loop-number.methods.items c.loop-number.invariant.0, length_in (record { 0 = n }) c.class.result.now.file.name 0 c.class.result.now.file.methods, c.in_ok-link_class.ensures.few, c.loop-number.invariant.3),
     )
