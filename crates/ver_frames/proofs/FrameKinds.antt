@@ -88,6 +88,7 @@ pushes_all rest = refl
 
 -- ---- the kinds
 
+-- a number is at most k, or above it
 split_by : {P : Type 0} (n k : ℕ) (test : Bool) → nat_le n k ≡ test → (n ≤ k → P) → (suc k ≤ n → P) → P
 split_by n k true e below above = below (grind (arith, nat_tests, e))
 split_by n k false e below above = above (grind (arith, nat_tests, e))
@@ -105,6 +106,7 @@ so_same offset offset' locals locals' stack stack' end end' e f g h =
     ap (λ (n : ℕ). spelled_so n locals stack end) e ∙ ap (λ (l : List VType). spelled_so offset' l stack end) f ∙ ap (λ (s : List VType). spelled_so offset' locals' s end) g
     ∙ ap (λ (r : List ℕ). spelled_so offset' locals' stack' r) h
 
+-- how many local variables a chop takes away, and its tag
 taken_from : (gone all keeps less : ℕ) → gone ≡ all - keeps → keeps ≡ all - less → less ≤ all → gone ≡ less
 taken_from gone all keeps less e f le = omega (arith, e, f, le)
 
@@ -132,19 +134,20 @@ module _ (m : Subject) (last : Option ℕ) (before : List VType) where
   kept_all keeps locals e f =
       sym (ap (λ (ls : List VType). take keeps before ++ ls) f ∙ append-nil (take keeps before) ∙ ap (λ (n : ℕ). take n before) e ∙ take_all (length before) before (omega arith))
 
-  -- the two numbers of a part
+  -- an option has one value
   first_is : {A B : Type 0} (o : Option (A × B)) (p q : A × B) → o ≡ Some p → o ≡ Some q → p ≡ q
   first_is o p q e f = same_some p q (sym e ∙ f)
 
   number_is : (o : Option ℕ) (p q : ℕ) → o ≡ Some p → o ≡ Some q → p ≡ q
   number_is o p q e f = same_some p q (sym e ∙ f)
 
-  -- nothing is said where there is no item
+  -- no type is said where there is no item
   nothing : (part : ℕ × List ℕ) (rest : List ℕ) (types : List VType × List ℕ) → part ≡ (0, rest) → SayMany m part.0 part.1 types → (types.0 ≡ []) × (types.1 ≡ rest)
   nothing part rest types e say =
       let none_say = say_none m part.1 types.1 types.0 say.0 (say.1 ∙ ap (λ (p : ℕ × List ℕ). p.0) e) in
       (none_say.0, none_say.1 ∙ ap (λ (p : ℕ × List ℕ). p.1) e)
 
+  -- one type is said where there is one item
   single : (part : ℕ × List ℕ) (rest : List ℕ) (types : List VType × List ℕ) → part ≡ (1, rest) → SayMany m part.0 part.1 types
       → (type : VType) × (types.0 ≡ type ∷ []) × SaysType m rest type types.1
   single part rest types e say =
@@ -181,7 +184,7 @@ module _ (m : Subject) (last : Option ℕ) (before : List VType) where
       (so_same _ _ _ _ _ _ _ _ (ap (λ (d : ℕ × List ℕ). next_offset last d.0) (sym distance)) (kept_all p.keeps p.locals.0 keeps locals.0) (sym stack.1) refl ∙ p.read_is)
       (same_locals_1_stack_item_frame (tag - 64) rest p.stack.1 stack.0 (omega (arith, le)) says)
 
-  -- an offset_delta that is given
+  -- the two bytes of an offset_delta that is given
   record Given (rest : List ℕ) (distance : ℕ × List ℕ) : Type 0 where
     high : ℕ
     low : ℕ
@@ -273,6 +276,7 @@ module _ (m : Subject) (last : Option ℕ) (before : List VType) where
       (so_same _ _ _ _ _ _ _ _ (ap (λ (n : ℕ). next_offset last n) two.delta_is) kept_is refl refl ∙ p.read_is)
       (full_frame two.high two.low adds.0 adds.1 pushes.0 pushes.1 p.adds.1 p.pushes.1 p.stack.1 p.locals.0 p.stack.0 (p.locals_are.1 ∙ adds.3) locals (p.stack_is.1 ∙ pushes.3) p.stack_is.0)
 
+  -- a fact of the frames of a tag is one of this tag, where it is that
   at_tag : (tag number : ℕ) (rest : List ℕ) (read : Spelled × List ℕ) → number ≤ tag → tag ≤ number → (Parts m last before number rest read → Spells (number ∷ rest) read)
       → Parts m last before tag rest read → Spells (tag ∷ rest) read
   at_tag tag number rest read ge le of p =

@@ -23,7 +23,7 @@ object_type m index = option_and_then named (class_at m.class.file.pool index)
         if bytes_eq name (codes "[I") then Some IntArray else option_map Object (number_of m.classes name)
 
 -- The bytes begin with an item that says the type, and these bytes are behind it. An item of a long, a float or a double
--- says none of this project's profile; one of a `new` says none, since no instruction of the profile is one yet.
+-- says no type of this project's profile; one of a `new` says none, since no instruction of the profile is one yet.
 pub data SaysType (m : Subject) : List ℕ → VType → List ℕ → Type 0 where
   -- Top_variable_info
   top : (rest : List ℕ) → SaysType m (0 ∷ rest) Top rest
@@ -34,7 +34,8 @@ pub data SaysType (m : Subject) : List ℕ → VType → List ℕ → Type 0 whe
   -- UninitializedThis_variable_info
   uninitialized_this : (rest : List ℕ) → SaysType m (6 ∷ rest) UninitializedThis rest
   -- Object_variable_info: behind the tag the index of a Class entry
-  object : (high low : ℕ) (rest : List ℕ) (type : VType) → object_type m (two_bytes high low) ≡ Some type → SaysType m (7 ∷ high ∷ low ∷ rest) type rest
+  object : (high low : ℕ) (rest : List ℕ) (type : VType) → object_type m (two_bytes high low) ≡ Some type
+      → SaysType m (7 ∷ high ∷ low ∷ rest) type rest
 
 -- the bytes begin with items that say the types, one behind the other, and these bytes are behind them
 pub data SayTypes (m : Subject) : List ℕ → List VType → List ℕ → Type 0 where
@@ -57,6 +58,10 @@ abbrev pub next_offset : Option ℕ → ℕ → ℕ
 next_offset None delta = delta
 next_offset (Some last) delta = last + delta + 1
 
+-- the frame with this offset_delta behind the last one, with these local variables and operands
+abbrev pub spelled_frame : Option ℕ → ℕ → List VType → List VType → Spelled
+spelled_frame last delta locals stack = record { offset = next_offset last delta; locals = locals; stack = stack }
+
 -- The bytes begin with a frame behind one at this last offset with these local variables, and these bytes are behind it.
 -- Before the first frame there is no last offset, and the local variables are those of the method's arguments. Each kind
 -- of frame has its tags; a tag of none of them (128 to 246) is reserved, and spells no frame.
@@ -64,33 +69,34 @@ pub data SpellsFrame (m : Subject) (last : Option ℕ) (before : List VType) : L
   -- Tags 0 to 63: the frame has exactly the same local variables as the one before it, and no operand. The offset_delta
   -- is the tag.
   same_frame : (tag : ℕ) (rest : List ℕ) → tag ≤ 63
-      → SpellsFrame m last before (tag ∷ rest) (record { offset = next_offset last tag; locals = before; stack = [] }) rest
+      → SpellsFrame m last before (tag ∷ rest) (spelled_frame last tag before []) rest
   -- Tags 64 to 127: the same local variables, and one operand. The offset_delta is the tag less 64.
   same_locals_1_stack_item_frame : (delta : ℕ) (bytes rest : List ℕ) (operand : VType) → delta ≤ 63 → SaysType m bytes operand rest
-      → SpellsFrame m last before ((64 + delta) ∷ bytes) (record { offset = next_offset last delta; locals = before; stack = operand ∷ [] }) rest
+      → SpellsFrame m last before ((64 + delta) ∷ bytes) (spelled_frame last delta before (operand ∷ [])) rest
   -- Tag 247: the same, and the offset_delta is given.
   same_locals_1_stack_item_frame_extended : (high low : ℕ) (bytes rest : List ℕ) (operand : VType) → SaysType m bytes operand rest
-      → SpellsFrame m last before (247 ∷ high ∷ low ∷ bytes) (record { offset = next_offset last (two_bytes high low); locals = before; stack = operand ∷ [] }) rest
+      → SpellsFrame m last before (247 ∷ high ∷ low ∷ bytes) (spelled_frame last (two_bytes high low) before (operand ∷ [])) rest
   -- Tags 248 to 250: the same local variables, except that the last k of them are absent, and no operand. k is 251 less
   -- the tag.
   chop_frame : (high low : ℕ) (rest : List ℕ) (kept absent : List VType) → 1 ≤ length absent → length absent ≤ 3 → before ≡ kept ++ absent
-      → SpellsFrame m last before ((251 - length absent) ∷ high ∷ low ∷ rest) (record { offset = next_offset last (two_bytes high low); locals = kept; stack = [] }) rest
+      → SpellsFrame m last before ((251 - length absent) ∷ high ∷ low ∷ rest) (spelled_frame last (two_bytes high low) kept []) rest
   -- Tag 251: the same local variables, and no operand. The offset_delta is given.
   same_frame_extended : (high low : ℕ) (rest : List ℕ)
-      → SpellsFrame m last before (251 ∷ high ∷ low ∷ rest) (record { offset = next_offset last (two_bytes high low); locals = before; stack = [] }) rest
+      → SpellsFrame m last before (251 ∷ high ∷ low ∷ rest) (spelled_frame last (two_bytes high low) before []) rest
   -- Tags 252 to 254: the same local variables, and k additional ones behind them, and no operand. k is the tag less 251.
   append_frame : (high low : ℕ) (bytes rest : List ℕ) (additional : List VType) → 1 ≤ length additional → length additional ≤ 3 → SayTypes m bytes additional rest
-      → SpellsFrame m last before ((251 + length additional) ∷ high ∷ low ∷ bytes) (record { offset = next_offset last (two_bytes high low); locals = before ++ additional; stack = [] }) rest
+      → SpellsFrame m last before ((251 + length additional) ∷ high ∷ low ∷ bytes) (spelled_frame last (two_bytes high low) (before ++ additional) []) rest
   -- Tag 255: all local variables behind their number, and all operands behind theirs, the one on top last.
   full_frame : (high low locals_high locals_low stack_high stack_low : ℕ) (bytes between rest : List ℕ) (locals stack : List VType)
       → length locals ≡ two_bytes locals_high locals_low → SayTypes m bytes locals (stack_high ∷ stack_low ∷ between)
       → length stack ≡ two_bytes stack_high stack_low → SayTypes m between stack rest
-      → SpellsFrame m last before (255 ∷ high ∷ low ∷ locals_high ∷ locals_low ∷ bytes) (record { offset = next_offset last (two_bytes high low); locals = locals; stack = stack }) rest
+      → SpellsFrame m last before (255 ∷ high ∷ low ∷ locals_high ∷ locals_low ∷ bytes) (spelled_frame last (two_bytes high low) locals stack) rest
 
 -- the bytes are frames, each behind the one before it, and no byte is behind the last
 pub data SpellFrames (m : Subject) : Option ℕ → List VType → List ℕ → List Spelled → Type 0 where
   none : (last : Option ℕ) (before : List VType) → SpellFrames m last before [] []
-  one_more : (last : Option ℕ) (before : List VType) (bytes rest : List ℕ) (first : Spelled) (others : List Spelled) → SpellsFrame m last before bytes first rest
+  one_more : (last : Option ℕ) (before : List VType) (bytes rest : List ℕ) (first : Spelled) (others : List Spelled)
+      → SpellsFrame m last before bytes first rest
       → SpellFrames m (Some first.offset) first.locals rest others → SpellFrames m last before bytes (first ∷ others)
 
 -- ---- the table
