@@ -12,5 +12,3 @@ mod groups;
 mod insn;
 pub mod laws;
 mod operands;
-#[cfg(test)]
-mod tests;

@@ -13,5 +13,3 @@ mod constant;
 mod inside;
 mod items;
 mod layout;
-#[cfg(test)]
-mod tests;

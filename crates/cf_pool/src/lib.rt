@@ -16,5 +16,3 @@ mod check;
 mod entries;
 mod layout;
 mod pool;
-#[cfg(test)]
-mod tests;

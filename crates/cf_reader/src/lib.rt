@@ -24,5 +24,3 @@ mod read;
 mod rules;
 mod seen;
 mod source;
-#[cfg(test)]
-mod tests;

@@ -21,8 +21,6 @@ mod names;
 mod numbers;
 mod row;
 mod table;
-#[cfg(test)]
-mod tests;
 mod text;
 mod types;
 mod utf8;

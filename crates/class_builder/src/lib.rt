@@ -4,11 +4,11 @@
 //! What is asked is written, right or wrong, so that a test can also make what is to be refused.
 #![tactic(auto)]
 
+pub use examples::SUM;
 pub use parts::{AttributeParts, ClassParts, CodeParts, MethodParts};
 pub use write::{BuildFault, class_bytes};
 
+mod examples;
 mod parts;
 mod pool;
-#[cfg(test)]
-mod tests;
 mod write;

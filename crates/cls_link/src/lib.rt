@@ -17,5 +17,3 @@ mod linked;
 mod linking;
 mod links;
 mod methods;
-#[cfg(test)]
-mod tests;

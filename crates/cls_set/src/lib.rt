@@ -17,6 +17,4 @@ mod class_set;
 mod fault;
 mod members;
 mod resolving;
-#[cfg(test)]
-mod tests;
 mod walking;

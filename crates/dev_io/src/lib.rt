@@ -20,8 +20,6 @@ mod memory_sink;
 mod memory_source;
 mod standard_sink;
 mod standard_source;
-#[cfg(test)]
-mod tests;
 
 /// A call of a device failed. From then on each call of that device fails.
 #[derive(Clone, Copy, Debug, PartialEq, Eq, Error)]

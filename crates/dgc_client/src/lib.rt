@@ -14,5 +14,3 @@ mod groups;
 pub mod laws;
 mod lease;
 mod table;
-#[cfg(test)]
-mod tests;

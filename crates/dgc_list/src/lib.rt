@@ -16,5 +16,3 @@ pub mod laws;
 mod list;
 mod objects;
 mod remembered;
-#[cfg(test)]
-mod tests;

@@ -7,8 +7,6 @@ pub use outbound::{Outbound, WriteFailed};
 
 mod inbound;
 mod outbound;
-#[cfg(test)]
-mod tests;
 
 /// The bytes that the longest frame has: its length, and a body of 65,536.
 pub const MAX_FRAME: usize = 65_540;

@@ -16,5 +16,3 @@ mod front;
 mod kinds;
 pub mod laws;
 mod reader;
-#[cfg(test)]
-mod tests;

@@ -18,7 +18,5 @@ mod refusal;
 mod report;
 mod running;
 mod status;
-#[cfg(test)]
-mod tests;
 mod texts;
 mod words;

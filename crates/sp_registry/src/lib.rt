@@ -13,5 +13,3 @@ mod fault;
 pub mod laws;
 mod name;
 mod registry;
-#[cfg(test)]
-mod tests;

@@ -21,5 +21,3 @@ mod flow;
 mod indices;
 mod laws;
 mod stop;
-#[cfg(test)]
-mod tests;

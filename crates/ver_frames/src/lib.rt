@@ -22,6 +22,4 @@ mod layout;
 mod method;
 mod raw_frame;
 mod stack_map;
-#[cfg(test)]
-mod tests;
 mod vtype;

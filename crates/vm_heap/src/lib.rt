@@ -7,7 +7,5 @@ pub use uuid::Uuid;
 pub use values::{ObjId, Ref, Value};
 pub use word::Word;
 
-#[cfg(test)]
-mod tests;
 mod values;
 mod word;

@@ -6,5 +6,3 @@ pub use vm_heap::Word;
 
 mod link;
 mod stack;
-#[cfg(test)]
-mod tests;

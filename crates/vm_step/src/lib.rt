@@ -23,5 +23,3 @@ mod phase;
 mod run;
 mod start;
 mod task;
-#[cfg(test)]
-mod tests;

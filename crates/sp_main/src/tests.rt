@@ -1,5 +1,0 @@
-mod classes;
-mod refusals;
-mod rows;
-mod shelf;
-mod usage;

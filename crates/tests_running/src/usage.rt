@@ -1,0 +1,138 @@
+//! Words of the command line, and outputs that fail.
+
+use super::shelf::{Said, Shelf, say, words_of};
+use sp_main::{argument_of, command};
+use std::alloc::{AllocError, Global};
+use std::io;
+use std::io::{ErrorKind, Write};
+use std::process::Abort;
+use std::test::Fail;
+use vm_heap::Value;
+
+fn said_to(alloc: Global, line: &str) -> Result<Said, AllocError> {
+    say(Shelf { alloc, files: &[] }, line)
+}
+
+fn is_usage_fault(rt: &impl Abort, said: &Said, line: &str) {
+    assert_eq!(rt; said.status, 3, "{line}");
+    assert!(rt; said.out.is_empty(), "{line}");
+    assert!(rt; !said.err.is_empty(), "{line}");
+}
+
+#[test]
+fn words_that_do_not_parse_are_usage_faults(rt: HostRuntime) -> Result<(), Fail> {
+    for line in [
+        "walk",
+        "run box T",
+        "run box T f(I)I +1",
+        "run box T f(I)I 2147483648",
+        "run box T f(I)I -- -2147483649",
+        "run box T f(I)I [1, 2]",
+        "run box T f(I)I [1,]",
+        "run box T f(I)I -1",
+        "run box T f(I)I four",
+        "run box T f(I)I --fuel",
+        "run box T f(I)I --fuel +4",
+        "run box T f(I)I --fuel -1",
+        "run box T f(I)I --fuel 9223372036854775808",
+        "run box T f(I)I --fuel 1 --fuel 2",
+        "check box",
+        "sim box script",
+        "serve box --workers 2",
+    ] {
+        is_usage_fault(&rt, &said_to(rt.alloc(), line)?, line);
+    }
+    Ok(())
+}
+
+#[test]
+fn commands_that_have_not_come_say_so(rt: HostRuntime) -> Result<(), Fail> {
+    for (line, name) in [
+        ("check box", "check"),
+        ("check --deep box", "check"),
+        ("sim", "sim"),
+        ("serve --help", "serve"),
+    ] {
+        let said = said_to(rt.alloc(), line)?;
+        is_usage_fault(&rt, &said, line);
+        let text = String::from_utf8(said.err)?;
+        let told = format!(in rt.alloc(); "error: the command '{name}' has not come yet\n")?;
+        assert_eq!(rt; text, told, "{line}");
+    }
+    Ok(())
+}
+
+#[test]
+fn help_and_version_are_told(rt: HostRuntime) -> Result<(), Fail> {
+    for (line, part) in [
+        ("--help", "Runs a method and prints how it ended"),
+        ("run --help", "--fuel <N>"),
+        ("--version", "rmispace 0.1.0\n"),
+    ] {
+        let said = said_to(rt.alloc(), line)?;
+        assert_eq!(rt; said.status, 0, "{line}");
+        assert!(rt; said.err.is_empty(), "{line}");
+        let text = String::from_utf8(said.out)?;
+        assert!(rt; text.contains(part), "{line}");
+    }
+    Ok(())
+}
+
+#[test]
+fn words_are_values(rt: HostRuntime) -> Result<(), Fail> {
+    for (word, int) in [
+        ("-2147483648", i32::MIN),
+        ("2147483647", i32::MAX),
+        ("0", 0),
+    ] {
+        let value = argument_of(rt.alloc(), word)?;
+        assert!(rt;
+            matches!(value, Some(Value::Int(found)) if found == int),
+            "{word}"
+        );
+    }
+    for (word, ints) in [("[]", [].as_slice()), ("[1,-2]", &[1, -2]), ("[7]", &[7])] {
+        match argument_of(rt.alloc(), word)? {
+            Some(Value::Ints(row)) => assert_eq!(rt; row.as_slice(), ints, "{word}"),
+            _ => assert!(rt; false, "{word}"),
+        }
+    }
+    assert!(rt; matches!(argument_of(rt.alloc(), "null")?, Some(Value::Null)));
+    for word in ["", "-", "+1", "1.0", "[1,]", "[1", "[ 1]", "2147483648"] {
+        assert!(rt; argument_of(rt.alloc(), word)?.is_none(), "{word}");
+    }
+    Ok(())
+}
+
+// A device that takes nothing.
+#[derive(Drop)]
+struct Broken;
+
+impl Write for Broken {
+    fn write(&mut self, _bytes: &[u8]) -> io::Result<usize> {
+        Err(io::Error::from(ErrorKind::BrokenPipe))
+    }
+
+    fn flush(&mut self) -> io::Result<()> {
+        Ok(())
+    }
+}
+
+#[test]
+fn an_answer_that_cannot_be_written_is_a_failure(rt: HostRuntime) -> Result<(), Fail> {
+    let alloc = rt.alloc();
+    let words = words_of(alloc, "--version")?;
+    let shelf = Shelf { alloc, files: &[] };
+    let mut err = Vec::new(alloc);
+    let status = command(
+        alloc,
+        &words,
+        &shelf,
+        &mut b"".as_slice(),
+        &mut Broken,
+        &mut err,
+    );
+    assert_eq!(rt; status, 3);
+    assert!(rt; err.is_empty());
+    Ok(())
+}
