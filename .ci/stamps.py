@@ -1,4 +1,4 @@
-"""What a full trial of a crate's edits rests on, as one stamp a crate, and the file .ci/tried that keeps the stamps of the last full trials."""
+"""What a full trial of a crate's edits rests on, as one stamp a crate, and the files that keep a line for each crate."""
 
 import contextlib
 import fcntl
@@ -64,26 +64,28 @@ def stamp(crate, root):
     return sum.hexdigest()[:32]
 
 
-class Tried:
-    """The file .ci/tried: a line a crate, its name and the stamp of the last full trial in which all its edits were refused."""
+class Lines:
+    """A file of lines, a crate's name and a word each: .ci/tried with the stamp of the last full trial in which all its edits were refused, and
+    .ci/out/seconds with the time that its proof took."""
 
-    def __init__(self, root):
-        self.folder, self.file = f"{root}/.ci", f"{root}/.ci/tried"
+    def __init__(self, file):
+        self.file = file
 
     def read(self):
         return dict(it.split() for it in (rt.rtlib.text_of(self.file) or "").splitlines())
 
-    def write(self, name, value):
-        """Puts the crate's stamp in place of its last one, or takes that one away if there is none; the lines of other crates stay, also where another run writes at the same time."""
+    def write(self, name, word):
+        """Puts a crate's word in place of its last one, or takes that one away if there is none. The lines of others stay, also if another run writes at the same time."""
+        os.makedirs(os.path.dirname(self.file), exist_ok=True)
         with self.held():
-            tried = {**self.read(), name: value}
+            lines = {**self.read(), name: word}
             with open(f"{self.file}.new", "w", encoding="utf-8") as it:
-                it.writelines(f"{name} {tried[name]}\n" for name in sorted(tried) if tried[name])
+                it.writelines(f"{name} {lines[name]}\n" for name in sorted(lines) if lines[name])
             os.replace(f"{self.file}.new", self.file)
 
     @contextlib.contextmanager
     def held(self):
-        lock = os.open(self.folder, os.O_RDONLY)
+        lock = os.open(os.path.dirname(self.file), os.O_RDONLY)
         try:
             fcntl.flock(lock, fcntl.LOCK_EX)
             yield

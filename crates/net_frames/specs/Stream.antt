@@ -108,6 +108,12 @@ StopsAtOnce [] (Stopped fault) = Unit {0}
 StopsAtOnce [] (Rest rest) = ⊥
 StopsAtOnce (message ∷ messages) held = ⊥
 
+-- there are no messages, and the error is the fault behind them
+abbrev pub Tells : List Message → Option WireFault → WireError → Type 0
+Tells [] (Some fault) error = error ≡ errors.Fault fault
+Tells [] None error = ⊥
+Tells (message ∷ messages) fault error = ⊥
+
 -- A piece after what is held gives these messages. A fault behind them is held for the next call.
 abbrev pub Feeds : Held → List ℕ → List Message → Held → Type 0
 Feeds (Rest rest) piece messages new = Stream (rest ++ piece) messages new × (¬ (StopsAtOnce messages new))

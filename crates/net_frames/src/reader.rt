@@ -1,6 +1,6 @@
 //! Reading a stream of frames that comes in pieces.
 
-ghost use Rattle.std.specs.Prelude.{◌≡◌, IfOk, IfErr};
+ghost use Rattle.std.specs.Prelude.{◌≡◌, IfOk, IfErr, List, ℕ};
 ghost use Rattle.net_frames.specs.Stream.{IsNext, IsSplit};
 
 use crate::front::{Front, read_front};
@@ -50,6 +50,22 @@ struct Split {
     frames: Vec<Frame>,
     taken: usize,
     fault: Option<WireFault>,
+}
+
+impl Split {
+    ghost use Rattle.net_frames.specs.Stream.{StopsAtOnce, Tells, held};
+
+    // The frames, or if there are none the fault behind them.
+    fn answer(self) -> Result<Vec<Frame>, WireError>
+        ensures frames { IfOk result (λ frames. frames ≡ self.frames) }
+        ensures goes_on { IfOk result (λ frames. (bytes : List ℕ) → ¬ (StopsAtOnce frames.items (held bytes self.fault))) }
+        ensures fault { IfErr result (λ error. Tells self.frames.items self.fault error) }
+    {
+        match self.fault {
+            Some(fault) if self.frames.is_empty() => Err(WireError::Fault(fault)),
+            _ => Ok(self.frames),
+        }
+    }
 }
 
 fn split_off_frames(alloc: Global, bytes: &[u8]) -> Result<Split, AllocError>
@@ -103,25 +119,12 @@ impl FrameReader {
         }
         let before = self.buffer.len();
         self.buffer.extend_from_slice(piece)?;
-        match split_off_frames(self.alloc, self.buffer.as_slice()) {
-            Ok(
-                Split {
-                    frames,
-                    taken,
-                    fault,
-                },
-            ) => {
-                self.buffer.advance(taken);
-                self.fault = fault;
-                match fault {
-                    Some(fault) if frames.is_empty() => Err(WireError::Fault(fault)),
-                    _ => Ok(frames),
-                }
-            }
-            Err(AllocError) => {
-                self.buffer.truncate(before);
-                Err(WireError::Memory)
-            }
-        }
+        let Ok(split) = split_off_frames(self.alloc, self.buffer.as_slice()) else {
+            self.buffer.truncate(before);
+            return Err(WireError::Memory);
+        };
+        self.buffer.advance(split.taken);
+        self.fault = split.fault;
+        split.answer()
     }
 }

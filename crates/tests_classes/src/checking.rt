@@ -4,8 +4,8 @@ use cls_link::link;
 use std::alloc::{AllocError, Global};
 use std::test::Fail;
 use ver_check::{
-    CheckFault, ClassFile, ClassSet, Code, ElementType, FieldType, Flags, Method,
-    MethodDescriptor, Numbered, Pool, Row, Table, Text, accept,
+    CheckFault, ClassFile, ClassSet, Code, ElementType, FieldType, Flags, Method, MethodDescriptor,
+    Numbered, Pool, Row, Table, Text, accept,
 };
 
 // A method of the class T, with the code that is checked.
@@ -128,72 +128,6 @@ fn a_loop_is_accepted(rt: HostRuntime) -> Result<(), Fail> {
 }
 
 #[test]
-fn tables_that_declare_no_frames(rt: HostRuntime) -> Result<(), Fail> {
-    // The second frame's tag is reserved: told at the frame before.
-    let reserved = [0, 2, 0xfc, 0, 2, 1, 0x80];
-    assert_eq!(rt; checked(rt.alloc(), sum(&reserved))?, (50, 2));
-    let chop = [0, 1, 0xf9, 0, 2];
-    assert_eq!(rt; checked(rt.alloc(), sum(&chop))?, (51, 2));
-    let locals = [0, 1, 0xfd, 0, 2, 1, 1];
-    assert_eq!(rt; checked(rt.alloc(), sum(&locals))?, (52, 2));
-    let offset = [0, 1, 4];
-    assert_eq!(rt; checked(rt.alloc(), sum(&offset))?, (53, 4));
-    let double = [0, 1, 0xfc, 0, 2, 3];
-    assert_eq!(rt; checked(rt.alloc(), sum(&double))?, (54, 2));
-    Ok(())
-}
-
-#[test]
-fn instructions_at_fault(rt: HostRuntime) -> Result<(), Fail> {
-    let none = [0, 0];
-    // iadd; iconst_0, iconst_0.
-    assert_eq!(rt;
-        checked(rt.alloc(), make_case(&[0x60, 0xac], &none))?,
-        (60, 0)
-    );
-    assert_eq!(rt;
-        checked(rt.alloc(), make_case(&[0x03, 0x03, 0x60, 0xac], &none))?,
-        (61, 1)
-    );
-    // Behind ireturn a frame with null on the stack, and ineg.
-    let null = [0, 1, 0x42, 5];
-    assert_eq!(rt;
-        checked(rt.alloc(), make_case(&[0x03, 0xac, 0x74, 0xac], &null))?,
-        (62, 2)
-    );
-    // goto 3 without a frame there; goto 4 with one there, and none behind it.
-    assert_eq!(rt;
-        checked(rt.alloc(), make_case(&[0xa7, 0, 3, 0x03, 0xac], &none))?,
-        (64, 3)
-    );
-    let behind = [0, 1, 4];
-    assert_eq!(rt;
-        checked(rt.alloc(), make_case(&[0xa7, 0, 4, 0, 0x03, 0xac], &behind))?,
-        (64, 3)
-    );
-    // ifne to a frame with an int that is not there yet.
-    let int = [0, 1, 0xfc, 0, 4, 1];
-    assert_eq!(rt;
-        checked(rt.alloc(), make_case(&[0x03, 0x9a, 0, 3, 0x03, 0xac], &int))?,
-        (65, 1)
-    );
-    assert_eq!(rt;
-        checked(rt.alloc(), make_case(&[0x00, 0x03], &none))?,
-        (66, 1)
-    );
-    // iload_1, which holds nothing.
-    assert_eq!(rt;
-        checked(rt.alloc(), make_case(&[0x1b, 0xac], &none))?,
-        (67, 0)
-    );
-    assert_eq!(rt;
-        checked(rt.alloc(), make_case(&[0x00, 0xb1], &none))?,
-        (68, 1)
-    );
-    Ok(())
-}
-
-#[test]
 fn methods_at_fault(rt: HostRuntime) -> Result<(), Fail> {
     let none = [0, 0];
     let init = Case {
@@ -209,27 +143,5 @@ fn methods_at_fault(rt: HostRuntime) -> Result<(), Fail> {
         ..make_case(&[0x60], &none)
     };
     assert_eq!(rt; checked(rt.alloc(), arguments)?, (67, 0));
-    Ok(())
-}
-
-#[test]
-fn of_two_faults_in_an_instruction_the_first_counts(rt: HostRuntime) -> Result<(), Fail> {
-    let none = [0, 0];
-    // istore 5 has no such local variable, and no operand.
-    assert_eq!(rt;
-        checked(rt.alloc(), make_case(&[0x36, 5, 0xb1], &none))?,
-        (67, 0)
-    );
-    // ireturn of a void method has no operand.
-    let void = Case {
-        is_void: true,
-        ..make_case(&[0xac], &none)
-    };
-    assert_eq!(rt; checked(rt.alloc(), void)?, (60, 0));
-    // ifne has no operand, and no frame where it goes.
-    assert_eq!(rt;
-        checked(rt.alloc(), make_case(&[0x9a, 0, 3, 0xb1], &none))?,
-        (60, 0)
-    );
     Ok(())
 }

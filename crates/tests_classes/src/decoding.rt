@@ -1,15 +1,11 @@
 //! Code as instructions.
 
-use cf_insns::{
-    BinaryOperator, CodeFault, CodeRule, Condition, Insn, Numbered, StackOperation, UnaryOperator,
-    ValueKind, decode,
-};
-use CodeRule::{Cut, Opcode, OutOfProfile, Target};
 use Insn::{
     Binary, Constant, Goto, If, IfCompare, Increment, Load, Nop, Return, ReturnValue, Stack, Store,
     Unary,
 };
 use ValueKind::Int;
+use cf_insns::{BinaryOperator, Condition, Insn, StackOperation, UnaryOperator, ValueKind, decode};
 use std::test::Fail;
 
 #[test]
@@ -84,60 +80,8 @@ fn each_form_is_read(rt: HostRuntime) -> Result<(), Fail> {
 }
 
 #[test]
-fn the_first_instruction_at_fault_is_named(rt: HostRuntime) {
-    for (code, rule, at) in [
-        (b"\x00\xca".as_slice(), Opcode, 1),
-        (b"\x00\xff", Opcode, 1),
-        (b"\x00\x00\x11\x01", Cut, 2),
-        (b"\xc4", Cut, 0),
-        (b"\xc4\x84\x00\x01\x00", Cut, 0),
-        (b"\xc8\x00\x00\x00", Cut, 0),
-        // a branch into an instruction, before and behind the code
-        (b"\x00\xa7\x00\x01", Target, 1),
-        (b"\x00\xa7\xff\xfe", Target, 1),
-        (b"\x00\xa7\x00\x03", Target, 1),
-        (b"\xc8\x80\x00\x00\x00", Target, 0),
-        // all is read before a target is looked at
-        (b"\xa7\x00\x01\xca", Opcode, 3),
-        // aload_0, putstatic, wide ret, invokedynamic
-        (b"\x00\x2a", OutOfProfile, 1),
-        (b"\xb3", OutOfProfile, 0),
-        (b"\xc4\xa9\x00\x00", OutOfProfile, 0),
-        (b"\xba", OutOfProfile, 0),
-    ] {
-        if code.len() <= 6 {
-            assert_eq!(rt;
-                decode(rt.alloc(), code).err(),
-                Some(CodeFault::Broken { rule, at }),
-                "{rule} at {at}"
-            );
-        }
-    }
-}
-
-#[test]
 fn code_may_be_empty_and_may_fall_through(rt: HostRuntime) -> Result<(), Fail> {
     assert_eq!(rt; decode(rt.alloc(), b"")?.len(), 0);
     assert_eq!(rt; decode(rt.alloc(), b"\x00\x00")?.len(), 2);
-    Ok(())
-}
-
-#[test]
-fn faults_have_names_and_numbers(rt: HostRuntime) -> Result<(), Fail> {
-    for (rule, number, name) in [
-        (Opcode, 20, "Opcode"),
-        (Cut, 21, "Cut"),
-        (CodeRule::Padding, 22, "Padding"),
-        (CodeRule::Keys, 23, "Keys"),
-        (Target, 24, "Target"),
-        (OutOfProfile, 25, "OutOfProfile"),
-    ] {
-        let fault = CodeFault::Broken { rule, at: 0 };
-        assert_eq!(rt; rule.number(), number);
-        assert_eq!(rt; fault.number(), number);
-        let text = format!(in rt.alloc(); "{fault}")?;
-        assert_eq!(rt; text.as_str(), name);
-    }
-    assert_eq!(rt; CodeFault::Memory.number(), 15);
     Ok(())
 }

@@ -3,8 +3,6 @@
 use cf_layout::{
     Attribute, CodeHead, Item, between, check_table, read_code, read_constant, read_layout,
 };
-use cf_pool::{ReadFault, Rule};
-use std::alloc::{AllocError, Global};
 use std::test::Fail;
 
 // A class of no constants, with an interface, a field that has a ConstantValue, and a method whose
@@ -36,19 +34,6 @@ const TABLE: Attribute = Attribute {
     body: 75,
     end: 82,
 };
-
-// The class with a byte changed.
-fn altered(alloc: Global, at: usize, value: u8) -> Result<Vec<u8>, AllocError> {
-    let mut bytes = Vec::from_slice(alloc, CLASS)?;
-    if at < bytes.len() {
-        bytes[at] = value;
-    }
-    Ok(bytes)
-}
-
-fn broken(rule: Rule, at: usize) -> Option<ReadFault> {
-    Some(ReadFault::Broken { rule, at })
-}
 
 #[test]
 fn a_class_is_laid_out(rt: HostRuntime) -> Result<(), Fail> {
@@ -106,50 +91,6 @@ fn bytes_are_taken_up_to_an_end(rt: HostRuntime) -> Result<(), Fail> {
     ] {
         let part = between(rt.alloc(), CLASS, from, to).ok().ok_or("refused")?;
         assert_eq!(rt; part.as_slice(), bytes, "from {from}");
-    }
-    Ok(())
-}
-
-#[test]
-fn every_beginning_is_cut(rt: HostRuntime) -> Result<(), Fail> {
-    let bytes: &[u8] = CLASS;
-    for end in 0..bytes.len() {
-        let (beginning, _) = bytes.split_at(end.min(bytes.len()));
-        let fault = read_layout(rt.alloc(), beginning).err();
-        let is_cut = matches!(
-            fault,
-            Some(ReadFault::Broken {
-                rule: Rule::Truncated,
-                ..
-            })
-        );
-        assert!(rt; is_cut, "at {end}");
-    }
-    for (end, at) in [(0, 0), (3, 0), (9, 8), (37, 36), (70, 54), (83, 82)] {
-        let (beginning, _) = bytes.split_at(end.min(bytes.len()));
-        assert_eq!(rt;
-            read_layout(rt.alloc(), beginning).err(),
-            broken(Rule::Truncated, at)
-        );
-    }
-    Ok(())
-}
-
-#[test]
-fn a_table_is_looked_through_as_far_as_its_tags_are_known(rt: HostRuntime) -> Result<(), Fail> {
-    for (at, value, fault) in [
-        // Another frame than the length has room for, or none.
-        (76, 3, broken(Rule::AttributeLength, 69)),
-        (76, 1, broken(Rule::AttributeLength, 69)),
-        // An item of a class takes two bytes more.
-        (80, 7, broken(Rule::AttributeLength, 69)),
-        // An item's tag above 8, and a reserved frame's.
-        (80, 9, None),
-        (77, 128, None),
-        (77, 246, None),
-    ] {
-        let bytes = altered(rt.alloc(), at, value)?;
-        assert_eq!(rt; check_table(&bytes, TABLE).err(), fault, "{at}: {value}");
     }
     Ok(())
 }

@@ -79,31 +79,6 @@ fn every_kind_of_entry_is_read(rt: HostRuntime) -> Result<(), Fail> {
 }
 
 #[test]
-fn a_pool_at_fault_is_named(rt: HostRuntime) -> Result<(), Fail> {
-    for (bytes, rule, at) in [
-        (b"".as_slice(), Rule::Truncated, 0),
-        (b"\x00", Rule::Truncated, 0),
-        (b"\x00\x00", Rule::Index, 0),
-        (b"\x00\x02", Rule::Truncated, 2),
-        (b"\x00\x02\x02", Rule::Tag, 2),
-        (b"\x00\x02\x01\x00", Rule::Truncated, 3),
-        (b"\x00\x02\x01\x00\x02T", Rule::Truncated, 5),
-        // A long that stands last, before its bytes are looked for.
-        (b"\x00\x02\x05", Rule::Index, 2),
-        (b"\x00\x03\x06\x00", Rule::Truncated, 3),
-        (b"\x00\x02\x09\x00\x01\x00", Rule::Truncated, 5),
-        (b"\x00\x02\x0f\x00\x01", Rule::Truncated, 3),
-    ] {
-        assert_eq!(rt;
-            read_pool(rt.alloc(), bytes, 0).err(),
-            broken(rule, at),
-            "{bytes:?}"
-        );
-    }
-    Ok(())
-}
-
-#[test]
 fn what_entries_say_is_checked(rt: HostRuntime) -> Result<(), Fail> {
     let check = |bytes: &[u8]| {
         let (layout, _) = read_layout(rt.alloc(), bytes, 0)?;

@@ -203,25 +203,3 @@ fn classes_that_cannot_be_numbered_are_too_many(rt: HostRuntime) -> Result<(), F
     refused(&rt, ClassSet::build(alloc, files), 38, b"T4067");
     Ok(())
 }
-
-#[test]
-fn rules_have_names_and_numbers(rt: HostRuntime) -> Result<(), Fail> {
-    let rules = [
-        (SetRule::Duplicate, "30 Duplicate"),
-        (SetRule::AbsentClass, "31 AbsentClass"),
-        (SetRule::Cycle, "32 Cycle"),
-        (SetRule::BadSuper, "33 BadSuper"),
-        (SetRule::FinalSuper, "34 FinalSuper"),
-        (SetRule::RemoteField, "35 RemoteField"),
-        (SetRule::RemoteMethod, "36 RemoteMethod"),
-        (SetRule::Override, "37 Override"),
-        (SetRule::TooMany, "38 TooMany"),
-    ];
-    for (rule, text) in rules {
-        let number = rule.number();
-        assert_eq!(rt; format!(in rt.alloc(); "{number} {rule}")?.as_str(), text);
-    }
-    let memory = SetFault::Memory;
-    assert_eq!(rt; memory.number(), 15);
-    Ok(())
-}

@@ -1,9 +1,8 @@
 //! Names, texts, descriptors and tables of class files.
 
 use cf_text::{
-    Descriptor, ElementType, Numbered, ReadFault, Rule, Table, descriptor, is_class_name,
-    is_method_name, is_modified_utf8, is_name, read_field_descriptor, read_method_descriptor,
-    read_row, read_text,
+    Descriptor, ElementType, Table, descriptor, is_class_name, is_method_name, is_modified_utf8,
+    is_name, read_field_descriptor, read_method_descriptor, read_row, read_text,
 };
 use std::test::Fail;
 
@@ -141,37 +140,6 @@ fn names_are_told_from_other_texts(rt: HostRuntime) {
         let found = (is_name(text), is_method_name(text), is_class_name(text));
         assert_eq!(rt; found, (is_plain, is_of_method, is_of_class), "{text:?}");
     }
-}
-
-#[test]
-fn faults_have_their_numbers_and_names(rt: HostRuntime) -> Result<(), Fail> {
-    let alloc = rt.alloc();
-    for (rule, number, name) in [
-        (Rule::Truncated, 1, "Truncated"),
-        (Rule::Magic, 2, "Magic"),
-        (Rule::Version, 3, "Version"),
-        (Rule::Tag, 4, "Tag"),
-        (Rule::Utf8, 5, "Utf8"),
-        (Rule::Index, 6, "Index"),
-        (Rule::Descriptor, 7, "Descriptor"),
-        (Rule::Flags, 8, "Flags"),
-        (Rule::CodeLength, 9, "CodeLength"),
-        (Rule::AttributeLength, 10, "AttributeLength"),
-        (Rule::Duplicate, 11, "Duplicate"),
-        (Rule::Trailing, 12, "Trailing"),
-        (Rule::OutOfProfile, 13, "OutOfProfile"),
-        (Rule::TooLarge, 14, "TooLarge"),
-    ] {
-        let fault = ReadFault::Broken { rule, at: 7 };
-        assert_eq!(rt; (rule.number(), fault.number()), (number, number));
-        assert_eq!(rt; format!(in alloc; "{fault}")?.as_str(), name);
-    }
-    assert_eq!(rt; ReadFault::Memory.number(), 15);
-    assert_eq!(rt;
-        format!(in alloc; "{}", ReadFault::Memory)?.as_str(),
-        "Memory"
-    );
-    Ok(())
 }
 
 #[test]

@@ -24,10 +24,10 @@ fn sum(alloc: Global) -> Result<Accepted, Fail> {
     Ok(accept(alloc, link(alloc, set)?)?)
 }
 
-fn method(program: &Accepted, name: &[u8]) -> Option<MethodId> {
+fn method(program: &Accepted, descriptor: &[u8]) -> Option<MethodId> {
     let linked = program.linked();
     let class = linked.set().number(b"T")?;
-    linked.method(class, name, b"(I)I")
+    linked.method(class, b"f", descriptor)
 }
 
 fn limits(stack_words: u32, fuel: u64) -> Limits
@@ -59,7 +59,7 @@ fn begin(
     ensures { IfOk result (λ task. task.program ≡ program.now) }
 {
     let values = ints(alloc, arguments)?;
-    let method = method(program, b"f").ok_or(StartFault::AbsentMethod)?;
+    let method = method(program, b"(I)I").ok_or(StartFault::AbsentMethod)?;
     Task::start(alloc, program, Uuid::nil(), method, values, limits)
 }
 
@@ -160,8 +160,17 @@ fn a_task_does_not_start(rt: HostRuntime) -> Result<(), Fail> {
     let empty = begin(alloc, &program, &[], limits(8, 1));
     assert!(rt; matches!(empty, Err(StartFault::BadArgument)));
     // No class file of the profile has such a method so far.
-    let byte = method_of(alloc, ElementType::Byte)?;
-    assert_eq!(rt; refuses(&byte, &[]), Some(StartFault::BadSignature));
+    let bytes = program_of_bytes(alloc)?;
+    let method = method(&bytes, b"(B)V").ok_or("no method")?;
+    let refused = Task::start(
+        alloc,
+        &bytes,
+        Uuid::nil(),
+        method,
+        Vec::new(alloc),
+        limits(8, 1),
+    );
+    assert!(rt; matches!(refused, Err(StartFault::BadSignature)));
     for (fault, number) in [
         (StartFault::AbsentMethod, 85),
         (StartFault::BadSignature, 86),
@@ -173,23 +182,42 @@ fn a_task_does_not_start(rt: HostRuntime) -> Result<(), Fail> {
     Ok(())
 }
 
-// A static method that takes one value of this type.
-fn method_of(alloc: Global, element: ElementType) -> Result<Method, AllocError> {
+// The class T, whose one method `f` takes a byte and gives nothing.
+fn program_of_bytes(alloc: Global) -> Result<Accepted, Fail> {
     let mut parameters = Vec::new(alloc);
     parameters.push(FieldType {
         dimensions: 0,
-        element,
+        element: ElementType::Byte,
     })?;
-    Ok(Method {
+    let mut methods = Vec::new(alloc);
+    methods.push(Method {
         flags: Flags {
             bits: Flags::STATIC,
         },
-        name: Text::new(Vec::new(alloc)),
-        descriptor: Text::new(Vec::new(alloc)),
+        name: Text::new(b"f".to_vec(alloc)?),
+        descriptor: Text::new(b"(B)V".to_vec(alloc)?),
         types: MethodDescriptor {
             parameters: Row::new(parameters),
             result: None,
         },
-        code: None,
-    })
+        code: Some(Code {
+            max_stack: 0,
+            max_locals: 1,
+            bytes: Table::new([0xb1].to_vec(alloc)?),
+            stack_map_table: None,
+        }),
+    })?;
+    let mut files = Vec::new(alloc);
+    files.push(ClassFile {
+        pool: Pool::new(Vec::new(alloc)),
+        flags: Flags {
+            bits: Flags::PUBLIC,
+        },
+        name: Text::new(b"T".to_vec(alloc)?),
+        superclass: Some(Text::new(b"java/lang/Object".to_vec(alloc)?)),
+        interfaces: Table::new(Vec::new(alloc)),
+        fields: Table::new(Vec::new(alloc)),
+        methods: Table::new(methods),
+    })?;
+    Ok(accept(alloc, link(alloc, ClassSet::build(alloc, files)?)?)?)
 }

@@ -3,7 +3,7 @@
 ghost use Rattle.std.specs.Prelude.{◌<◌};
 
 use dev_io::{MemSink, MemSource};
-use net_engine::{Frame, Inbound, Inflow, Outbound, WriteFailed};
+use net_engine::{Frame, Inbound, Inflow, Outbound, WireFault, WriteFailed};
 use net_frames::{ClassId, ObjId, Ref, Row, Uuid, Value, encode};
 use std::alloc::Global;
 use std::test::Fail;

@@ -2,7 +2,7 @@
 
 ghost use Rattle.std.specs.Prelude.{◌<◌, ◌^◌};
 
-use dgc_list::RefList;
+use dgc_list::{LONGEST_LEASE, RefList};
 use std::alloc::{AllocError, Global};
 use std::process::Abort;
 use std::test::Fail;
