@@ -1,15 +1,9 @@
-//! The tests of tasks and of the program's library, in one crate above both, since a crate with tests is
+//! The tests of tasks and of the program's words, in one crate above both, since a crate with tests is
 //! proved a second time.
 #![tactic(auto)]
 
 #[cfg(test)]
-mod classes;
-#[cfg(test)]
-mod refusals;
-#[cfg(test)]
-mod rows;
-#[cfg(test)]
-mod shelf;
+mod said;
 #[cfg(test)]
 mod stacks;
 #[cfg(test)]

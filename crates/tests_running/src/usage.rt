@@ -1,17 +1,12 @@
 //! Words of the command line, and outputs that fail.
 
-use super::shelf::{Said, Shelf, say, words_of};
+use super::said::{EmptyFolder, Said, say, words_of};
 use sp_main::{argument_of, command};
-use std::alloc::{AllocError, Global};
 use std::io;
 use std::io::{ErrorKind, Write};
 use std::process::Abort;
 use std::test::Fail;
 use vm_heap::Value;
-
-fn said_to(alloc: Global, line: &str) -> Result<Said, AllocError> {
-    say(Shelf { alloc, files: &[] }, line)
-}
 
 fn is_usage_fault(rt: &impl Abort, said: &Said, line: &str) {
     assert_eq!(rt; said.status, 3, "{line}");
@@ -40,24 +35,7 @@ fn words_that_do_not_parse_are_usage_faults(rt: HostRuntime) -> Result<(), Fail>
         "sim box script",
         "serve box --workers 2",
     ] {
-        is_usage_fault(&rt, &said_to(rt.alloc(), line)?, line);
-    }
-    Ok(())
-}
-
-#[test]
-fn commands_that_have_not_come_say_so(rt: HostRuntime) -> Result<(), Fail> {
-    for (line, name) in [
-        ("check box", "check"),
-        ("check --deep box", "check"),
-        ("sim", "sim"),
-        ("serve --help", "serve"),
-    ] {
-        let said = said_to(rt.alloc(), line)?;
-        is_usage_fault(&rt, &said, line);
-        let text = String::from_utf8(said.err)?;
-        let told = format!(in rt.alloc(); "error: the command '{name}' has not come yet\n")?;
-        assert_eq!(rt; text, told, "{line}");
+        is_usage_fault(&rt, &say(rt.alloc(), line)?, line);
     }
     Ok(())
 }
@@ -69,7 +47,7 @@ fn help_and_version_are_told(rt: HostRuntime) -> Result<(), Fail> {
         ("run --help", "--fuel <N>"),
         ("--version", "rmispace 0.1.0\n"),
     ] {
-        let said = said_to(rt.alloc(), line)?;
+        let said = say(rt.alloc(), line)?;
         assert_eq!(rt; said.status, 0, "{line}");
         assert!(rt; said.err.is_empty(), "{line}");
         let text = String::from_utf8(said.out)?;
@@ -122,12 +100,11 @@ impl Write for Broken {
 fn an_answer_that_cannot_be_written_is_a_failure(rt: HostRuntime) -> Result<(), Fail> {
     let alloc = rt.alloc();
     let words = words_of(alloc, "--version")?;
-    let shelf = Shelf { alloc, files: &[] };
     let mut err = Vec::new(alloc);
     let status = command(
         alloc,
         &words,
-        &shelf,
+        &EmptyFolder { alloc },
         &mut b"".as_slice(),
         &mut Broken,
         &mut err,

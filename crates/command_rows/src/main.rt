@@ -1,0 +1,61 @@
+//! Plays command lines of `rmispace` over folders in memory and on the disk, as the script on the
+//! standard input says, and prints what the program said to each. So a further test case is a line.
+//!
+//! | A line of the script | What it does |
+//! |---|---|
+//! | an empty one, or `# TEXT` | is copied to the output |
+//! | `folder` | begins a new, empty folder in memory |
+//! | `file PATH sum` | adds a file: the class T of examples/sum |
+//! | `file PATH empty`, `file PATH zeros N` | adds a file of no bytes, or of N zeros |
+//! | `file PATH absent` | the path is listed, and its file cannot be opened |
+//! | `class PATH NAME` | adds a class file: a public class below java/lang/Object |
+//! | `method FLAGS NAME DESCRIPTOR MAX_STACK MAX_LOCALS CODE [FRAMES]` | adds a method to that class; flags, code and the bytes of its StackMapTable in hex digits |
+//! | `byte OFFSET VALUE` | sets a byte of the last file, to two hex digits |
+//! | `cut N`, `append HEX` | keeps the first N bytes of the last file, or adds bytes to it |
+//! | `again FROM TO` | appends the last file's own bytes from FROM up to TO |
+//! | `torn` | the device of the last file fails after its bytes |
+//! | `> WORDS` | runs `rmispace` with these words over the folder |
+//! | `@ WORDS` | runs it over the file system |
+//!
+//! Single spaces part the words of a line, and numbers are decimal. A line that runs is printed; the
+//! exit status follows it, and then each line of the two outputs, after `out: ` or `err: `. A line
+//! that is none of these, or that finds no file to change, is printed after `bad line: `.
+#![tactic(auto)]
+
+use fault::LineFault;
+use script::{Reply, Script};
+use std::io;
+use std::io::{BufRead, BufReader, BufWriter, ErrorKind, Write};
+
+mod class_draft;
+mod fault;
+mod line;
+mod said;
+mod script;
+mod shelf;
+
+fn main(rt: HostRuntime) -> io::Result<()> {
+    let alloc = rt.alloc();
+    let mut out = BufWriter::new(alloc, io::writer(&rt))?;
+    let mut script = Script::new(alloc);
+    for text in BufReader::new(alloc, rt.reader())?.lines(alloc) {
+        let text = text?;
+        let reply = script.play(&rt, &text);
+        put_reply(&mut out, &text, reply)?;
+    }
+    out.flush()
+}
+
+// Prints what a line of the script came to.
+fn put_reply<W: Write>(out: &mut W, text: &str, reply: Result<Reply, LineFault>) -> io::Result<()> {
+    match reply {
+        Ok(Reply::Silent) => Ok(()),
+        Ok(Reply::Copy) => writeln!(out, "{text}"),
+        Ok(Reply::Said(said)) => {
+            writeln!(out, "{text}")?;
+            said.write(out)
+        }
+        Err(LineFault::Bad) => writeln!(out, "bad line: {text}"),
+        Err(LineFault::Memory) => Err(io::Error::from(ErrorKind::OutOfMemory)),
+    }
+}

@@ -1,0 +1,90 @@
+//! A script as it is played: the folder that its lines make, and what the program says over it.
+
+use super::class_draft::{ClassDraft, Method};
+use super::fault::LineFault;
+use super::line::{Line, line_of};
+use super::said::Said;
+use super::shelf::Shelf;
+use sp_main::Disk;
+use std::alloc::Global;
+use std::rt::Files;
+
+/// What a line of a script comes to.
+#[derive(Drop)]
+pub enum Reply {
+    /// The line made or changed the folder.
+    Silent,
+    /// The line is a heading.
+    Copy,
+    /// The line ran the program.
+    Said(Said),
+}
+
+/// A script, with the folder that its lines so far have made.
+#[derive(Drop)]
+pub struct Script {
+    alloc: Global,
+    shelf: Shelf,
+    // The class of the last file, while nothing else has changed that file.
+    draft: Option<ClassDraft>,
+}
+
+impl Script {
+    /// A script of which no line was played.
+    pub fn new(alloc: Global) -> Script {
+        Script {
+            alloc,
+            shelf: Shelf::new(alloc),
+            draft: None,
+        }
+    }
+
+    /// Plays the next line. `LineFault::Bad` if it is no line of a script, or has nothing to change.
+    pub fn play<R: Files + AllocGlobal + Clone + Drop>(
+        &mut self,
+        runtime: &R,
+        text: &str,
+    ) -> Result<Reply, LineFault> {
+        let alloc = self.alloc;
+        match line_of(alloc, text)? {
+            Line::Heading => return Ok(Reply::Copy),
+            Line::InMemory(words) => {
+                let folder = &self.shelf;
+                return Ok(Reply::Said(Said::of(alloc, &folder, words)?));
+            }
+            Line::OnDisk(words) => {
+                return Ok(Reply::Said(Said::of(alloc, &Disk { runtime }, words)?));
+            }
+            Line::Folder => {
+                self.draft = None;
+                self.shelf = Shelf::new(alloc);
+            }
+            Line::File(path, bytes) => {
+                self.draft = None;
+                self.shelf.add(path, bytes)?;
+            }
+            Line::Class { path, name } => self.begin_class(path, name)?,
+            Line::Method(method) => self.add_method(method)?,
+            Line::Change(change) => {
+                self.draft = None;
+                self.shelf.change(change)?;
+            }
+        }
+        Ok(Reply::Silent)
+    }
+
+    fn begin_class(&mut self, path: &str, name: &str) -> Result<(), LineFault> {
+        let draft = ClassDraft::new(self.alloc, name)?;
+        self.shelf.add(path, Some(draft.bytes()?))?;
+        self.draft = Some(draft);
+        Ok(())
+    }
+
+    fn add_method(&mut self, method: Method) -> Result<(), LineFault> {
+        let Some(draft) = &mut self.draft else {
+            return Err(LineFault::Bad);
+        };
+        draft.add(method)?;
+        self.shelf.replace(draft.bytes()?)
+    }
+}
