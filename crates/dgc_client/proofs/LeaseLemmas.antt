@@ -6,7 +6,7 @@ use Rattle.dgc_client.specs.declared.lease.ClientLease.{ClientLease}
 use Rattle.dgc_client.specs.declared.lease.Due.TheVariants.{Dirty, Clean as Clean_due}
 use Rattle.dgc_client.specs.declared.lease.Made.{Made}
 use Rattle.dgc_client.specs.declared.lease.Owed.TheVariants.{Nothing, Strong, Again}
-use Rattle.dgc_client.specs.Lease.{is_made, is_clean, at_moment, sent_at, answered, one_more, one_less, after_hold, after_failed_dirty, after_failed_clean, due_held, due_unheld, is_waiting, due}
+use Rattle.dgc_client.specs.Lease.{is_made, is_clean, at_moment, sent_at, answered, one_more, one_less, after_hold, after_failed_clean, due_held, due_unheld, is_waiting, due}
 use Rattle.dgc_client.specs.History.{Event, lease_of, holders_of, MakesNoDirty, IsQuiet}
 use Rattle.dgc_client.specs.History.Event.{Held, Dropped, Moment, DirtyMade, CleanMade, DirtySent, DirtyAnswered, DirtyFailed, CleanAnswered, CleanFailed}
 
