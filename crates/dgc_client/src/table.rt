@@ -3,6 +3,7 @@
 ghost use Rattle.std.specs.Prelude.{◌≡◌, ◌≤◌, ◌<◌, ◌+◌, ◌^◌, ℕ, List, [], ◌∷◌, OnOk, OnErr, IfOk, IfSome, IfNone, IsTrue, false, map, filter};
 ghost use Rattle.std.specs.List.{filter_map, IsDistinct};
 ghost use Rattle.std.specs.Map.{keys_of};
+ghost use Rattle.indexmap.specs.IndexMap.{spare};
 ghost use Rattle.dgc_client.specs.Lease.{after_moment, due, is_renewed_at, lapses_at};
 ghost use Rattle.dgc_client.specs.Table.{due_call, is_same};
 
@@ -99,7 +100,8 @@ impl Clients {
 
     /// The reference has one holder less, where it has one.
     pub fn drop_holder(&mut self, reference: &ForeignId)
-        ensures { (h : List Told) → IsAfter h self.old → IsAfter (On reference.now Dropped ∷ h) self.new }
+        ensures dropped { (h : List Told) → IsAfter h self.old → IsAfter (On reference.now Dropped ∷ h) self.new }
+        ensures room { room self.new ≡ room self.old }
     {
         self.change(reference, Change::Dropped);
     }
@@ -134,7 +136,8 @@ impl Clients {
     /// The group's call was made, under this number: by it the group is known until its answer. A
     /// clean call ends the leases of its references.
     pub fn made(&mut self, group: &Group, call: u64)
-        ensures { (h : List Told) → IsAfter h self.old → IsAfter (made group.now call h) self.new }
+        ensures made { (h : List Told) → IsAfter h self.old → IsAfter (made group.now call h) self.new }
+        ensures room { room self.new ≡ room self.old }
     {
         match group.kind {
             Due::Dirty => self.tell(group, Change::DirtyMade(call)),
@@ -150,6 +153,7 @@ impl Clients {
         ensures some { IfSome result (λ number. (h : List Told) → IsAfter h self.old → IsAfter (sent group.now call h) self.new) }
         ensures worn { IfNone result ((h : List Told) → IsAfter h self.old → 2 ^ 63 ≤ numbers_of h + 1) }
         ensures none { IfNone result (self.new ≡ self.old) }
+        ensures room { room self.new ≡ room self.old }
     {
         if self.numbers >= (1 << 63) - 1 {
             return None;
@@ -170,35 +174,40 @@ impl Clients {
 
     /// The group's dirty call was answered by a lease for this period, in milliseconds.
     pub fn dirty_answered(&mut self, group: &Group, call: u64, period: u64)
-        ensures { (h : List Told) → IsAfter h self.old → IsAfter (told group.now (DirtyAnswered call period) h) self.new }
+        ensures answered { (h : List Told) → IsAfter h self.old → IsAfter (told group.now (DirtyAnswered call period) h) self.new }
+        ensures room { room self.new ≡ room self.old }
     {
         self.tell(group, Change::DirtyAnswered { call, period });
     }
 
     /// The group's dirty call failed.
     pub fn dirty_failed(&mut self, group: &Group, call: u64)
-        ensures { (h : List Told) → IsAfter h self.old → IsAfter (told group.now (DirtyFailed call) h) self.new }
+        ensures failed { (h : List Told) → IsAfter h self.old → IsAfter (told group.now (DirtyFailed call) h) self.new }
+        ensures room { room self.new ≡ room self.old }
     {
         self.tell(group, Change::DirtyFailed(call));
     }
 
     /// The group's clean call was answered.
     pub fn clean_answered(&mut self, group: &Group, call: u64)
-        ensures { (h : List Told) → IsAfter h self.old → IsAfter (told group.now (CleanAnswered call) h) self.new }
+        ensures answered { (h : List Told) → IsAfter h self.old → IsAfter (told group.now (CleanAnswered call) h) self.new }
+        ensures room { room self.new ≡ room self.old }
     {
         self.tell(group, Change::CleanAnswered(call));
     }
 
     /// The group's clean call failed.
     pub fn clean_failed(&mut self, group: &Group, call: u64)
-        ensures { (h : List Told) → IsAfter h self.old → IsAfter (told group.now (CleanFailed call) h) self.new }
+        ensures failed { (h : List Told) → IsAfter h self.old → IsAfter (told group.now (CleanFailed call) h) self.new }
+        ensures room { room self.new ≡ room self.old }
     {
         self.tell(group, Change::CleanFailed(call));
     }
 
     /// The moment is now, in milliseconds. A moment below the last changes nothing.
     pub fn moment(&mut self, moment: u64)
-        ensures { (h : List Told) → IsAfter h self.old → IsAfter (At moment ∷ h) self.new }
+        ensures moment { (h : List Told) → IsAfter h self.old → IsAfter (At moment ∷ h) self.new }
+        ensures room { room self.new ≡ room self.old }
     {
         pass(&mut self.references, moment);
         self.moment = self.moment.max(moment);
@@ -208,6 +217,7 @@ impl Clients {
     fn tell(&mut self, group: &Group, change: Change)
         ensures told { (h : List Told) → IsAfter h self.old → IsAfter (told group.now (event_of change) h) self.new }
         ensures numbers { self.new.numbers ≡ self.old.numbers }
+        ensures room { room self.new ≡ room self.old }
     {
         for id in group.ids.as_slice() {
             let reference = ForeignId {
@@ -222,6 +232,7 @@ impl Clients {
     fn change(&mut self, reference: &ForeignId, change: Change)
         ensures told { (h : List Told) → IsAfter h self.old → IsAfter (On reference.now (event_of change) ∷ h) self.new }
         ensures numbers { self.new.numbers ≡ self.old.numbers }
+        ensures room { room self.new ≡ room self.old }
     {
         let mut lease = self.lease(reference);
         lease.change(change);
@@ -233,11 +244,10 @@ impl Clients {
         ensures known { IsTrue (is_known self.old reference.now) → Puts reference.now lease self.old self.new }
         ensures unknown { is_known self.old reference.now ≡ false → self.new ≡ self.old }
         ensures numbers { self.new.numbers ≡ self.old.numbers }
+        ensures room { room self.new ≡ room self.old }
     {
-        if self.references.contains_key(reference) {
-            let Ok(_) = self.references.insert(*reference, lease) else {
-                unreachable!();
-            };
+        if let Some(at) = self.references.get_index_of(reference) {
+            self.references[at] = lease;
         }
     }
 }
@@ -303,7 +313,8 @@ fn lapsed_at(
 
 // The moment comes for each reference.
 fn pass(references: &mut IndexMap<ForeignId, ClientLease>, moment: u64)
-    ensures { references.new.entries ≡ map (λ entry. (entry.0, after_moment moment entry.1)) references.old.entries }
+    ensures each { references.new.entries ≡ map (λ entry. (entry.0, after_moment moment entry.1)) references.old.entries }
+    ensures room { spare references.new ≡ spare references.old }
 {
     for at in 0..references.len() {
         let mut lease = references[at];

@@ -12,4 +12,5 @@ loop-id-preserved c =
           (sym (told-next c.args.group.now.peer c.args.group.now.ids c.as_slice-id-items.result.now c.loop-id.id-index nowhere (event_of c.args.change) h c.as_slice-id-items.ensures c.loop-id-test.true))
           (c.change.ensures.told _ (c.loop-id.invariant.0 h was)),
       c.change.ensures.numbers ∙ c.loop-id.invariant.1,
+      c.change.ensures.room ∙ c.loop-id.invariant.2,
     )
