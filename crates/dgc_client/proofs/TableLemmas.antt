@@ -1,5 +1,6 @@
 use Rattle.std.proofs.Common.{◌≡◌, ℕ, Bool, true, false, cond, ◌&&◌, ◌||◌, eqb, List, [], ◌∷◌, ◌++◌, zero, suc, ◌+◌, ◌<◌, length, get_or, take, drop, filter, max, is_some, Option, None, Some, refl, sym, ap, subst, ◌∙◌, arith}
-use Rattle.std.specs.Prelude.{All, unwrap_or, if◌then◌else◌, map, slice_get, nat_lt}
+use Rattle.std.specs.Prelude.{All, unwrap_or, if◌then◌else◌, map, position, slice_get, nat_lt}
+use Rattle.std.proofs.lemmas.List.Quantifiers.{position-Some}
 use Rattle.std.specs.Cmp.{IsEquivalence}
 use Rattle.std.specs.List.{IsDistinct, filter_map, cons_option}
 use Rattle.std.specs.Map.{lookup, keys_of, values_of}
@@ -65,6 +66,17 @@ same-laws = record {
   symm = same-swap;
   congr = λ a b c h. ap (λ (x : ForeignId). is_same x c) (same-reference a b h);
 }
+
+entry-here : (r : ForeignId) (es : List (ForeignId × ClientLease)) (i : ℕ) (v : ClientLease) → i < length (keys_of es) → r ≡ get_or (keys_of es) i r → slice_get (values_of es) i ≡ Some v → slice_get es i ≡ Some (r, v)
+entry-here r [] i v within key value = absurd (omega arith)
+entry-here r (e ∷ es) zero v within key value = let mine : e.1 ≡ v = cc in λ j. Some (sym key j, mine j)
+entry-here r (e ∷ es) (suc i) v within key value = entry-here r es i v (omega arith) key value
+
+-- what stands at the place of a reference
+pub entry-at : (r : ForeignId) (es : List (ForeignId × ClientLease)) (i : ℕ) (v : ClientLease) → position (is_same r) (keys_of es) ≡ Some i → slice_get (values_of es) i ≡ Some v → slice_get es i ≡ Some (r, v)
+entry-at r es i v place value =
+    let at = position-Some (is_same r) (keys_of es) i r place in
+    entry-here r es i v at.0 (same-reference r (get_or (keys_of es) i r) at.1) value
 
 -- a reference has a place in the table where it is among the keys
 pub known-among : (r : ForeignId) (es : List (ForeignId × ClientLease)) → is_some (lookup (is_same r) es) ≡ is_among r (keys_of es)

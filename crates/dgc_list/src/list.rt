@@ -1,6 +1,6 @@
 //! The reference lists of a space.
 
-ghost use Rattle.std.specs.Prelude.{◌≡◌, ◌<◌, ◌^◌, List, [], ◌∷◌, IfOk, OnOk, OnErr, length};
+ghost use Rattle.std.specs.Prelude.{◌≡◌, ◌<◌, ◌^◌, List, [], ◌∷◌, false, IsOk, IfOk, OnOk, OnErr, length};
 ghost use Rattle.vm_heap.specs.declared.values.ObjId.{ObjId};
 
 use crate::calls::{add_expiries, expire, make_room, tell_clean, tell_dirty};
@@ -75,6 +75,7 @@ impl RefList {
         strong: bool,
     ) -> Result<(), AllocError>
         ensures ok { OnOk result ((h : List Call) → IsAfter h self.old → IsAfter (Clean client.now objects.now number strong ∷ h) self.new) }
+        ensures weak { strong ≡ false → IsOk result }
         ensures err { OnErr result ((h : List Call) → IsAfter h self.old → IsAfter h self.new) }
     {
         if strong {

@@ -1,13 +1,15 @@
 -- Bytes that move from a source into a buffer, and from a buffer into a sink.
-use Rattle.std.proofs.Common.{◌≡◌, ℕ, ◌+◌, ◌-◌, ◌<◌, ◌≤◌, List, [], ◌∷◌, ◌++◌, length, take, drop, Option, Some, None, refl, sym, ap, subst, ◌∙◌, append_assoc, arith, inl, inr}
+use Rattle.std.proofs.Common.{◌≡◌, ℕ, ◌+◌, ◌<◌, ◌≤◌, List, ◌++◌, length, take, drop, Option, Some, None, refl, sym, ap, subst, ◌∙◌, append_assoc, arith, inl, inr}
 use Rattle.std.specs.Io.KnownBytes.{Appends, Consumes, Keeps, prepend_known}
 use Rattle.std.proofs.KnownBytes.{Appends-trans}
 use Rattle.std.proofs.lemmas.List.{take-append-drop, take-append-le, take-take, drop-take, take_at, drop_at, length-take, length-take-le, length-append}
 use borrow.Rule.Slice.PartMut.{put_mid, post_of}
 use Rattle.std.proofs.lemmas.Bool.{cases_lt, lt-ltb, le-ltb}
-use Rattle.net_frames.specs.Stream.{told_length, IsPartial, known_end}
+use Rattle.net_message.specs.declared.fault.WireFault.{WireFault}
+use Rattle.net_message.specs.declared.fault.WireFault.TheVariants as faults
+use Rattle.net_frames.specs.Stream.{told_length, IsPartial, IsBodyLength, HasBody, Breaks, known_end}
 use Rattle.net_frames.proofs.StreamLaws.{told_stays}
-use Rattle.net_engine.specs.Engine.{known, IsWithinFirst}
+use Rattle.net_engine.specs.Engine.{known, IsWithinFirst, fault_end}
 
 take_add : (n m : ℕ) (xs : List ℕ) → take (n + m) xs ≡ take n xs ++ take m (drop n xs)
 take_add n m xs =
@@ -48,7 +50,7 @@ end_fits held (inr begun) =
     ]
 
 -- bytes that were missing do not go past the first frame
-stays_within : (held more : List ℕ) → length (held ++ more) ≤ known_end held → IsWithinFirst (held ++ more)
+stays_within : (held more : List ℕ) → length (held ++ more) ≤ known_end held → length (held ++ more) ≤ known_end (held ++ more)
 stays_within held more within =
     elim (cases_lt (length held) 4) [
       | inl short ↦
@@ -63,9 +65,36 @@ stays_within held more within =
           rw (le-ltb (length (held ++ more)) 4 there, told_stays held more long) at_most
     ]
 
+-- bytes are read behind a length only if a body has it
+stays_told : (held more : List ℕ) → IsPartial held → length (held ++ more) ≤ known_end held → 4 < length (held ++ more) → IsBodyLength (told_length (held ++ more))
+stays_told held more partial within past =
+    elim (cases_lt (length held) 4) [
+      | inl short ↦ let at_most : length (held ++ more) ≤ 4 = rw (lt-ltb (length held) 4 short) at within in absurd (omega arith)
+      | inr long ↦ elim partial [
+        | inl short ↦ absurd (omega arith)
+        | inr begun ↦ rw (told_stays held more long) begun.0
+      ]
+    ]
+
 -- the same of a buffer whose front stayed
-pub read_within : (old new : List ℕ) (filled count missing : ℕ) → take filled new ≡ take filled old → filled ≤ length old → count ≤ missing → length (take filled old) + missing ≡ known_end (take filled old) → IsWithinFirst (take (filled + count) new)
-read_within old new filled count missing front fits most ends =
+pub read_within : (old new : List ℕ) (filled count missing : ℕ) → IsPartial (take filled old) → take filled new ≡ take filled old → filled ≤ length old → count ≤ missing
+    → length (take filled old) + missing ≡ known_end (take filled old) → IsWithinFirst (take (filled + count) new)
+read_within old new filled count missing partial front fits most ends =
     let parts : take (filled + count) new ≡ take filled old ++ take count (drop filled new) = take_add filled count new ∙ ap (λ (x : List ℕ). x ++ take count (drop filled new)) front in
-    subst IsWithinFirst (sym parts) (stays_within (take filled old) (take count (drop filled new))
-    (omega (arith, length-append (take filled old) (take count (drop filled new)), length-take count (drop filled new), ends)))
+    let within : length (take filled old ++ take count (drop filled new)) ≤ known_end (take filled old) =
+    omega (arith, length-append (take filled old) (take count (drop filled new)), length-take count (drop filled new), ends) in
+    subst IsWithinFirst (sym parts) (stays_within (take filled old) (take count (drop filled new)) within, stays_told (take filled old) (take count (drop filled new)) partial within)
+
+whole_at_once : (held : List ℕ) → IsWithinFirst held → HasBody held → length held ≡ 4 + told_length held
+whole_at_once held within has =
+    let ends : length held ≤ 4 + told_length held = rw (le-ltb (length held) 4 (omega (arith, has.1))) at within.0 in
+    omega (arith, has.1)
+
+-- a fault is told as soon as it can be
+pub at_once : (fault : WireFault) (held : List ℕ) → IsWithinFirst held → Breaks fault held → length held ≡ fault_end fault held
+unfolding Breaks
+at_once faults.Length held within b =
+    elim (cases_lt 4 (length held)) [ inl past ↦ absurd (b.1 (within.1 past)) | inr short ↦ omega (arith, b.0) ]
+at_once faults.Kind held within b = whole_at_once held within b.0
+at_once faults.Body held within b = whole_at_once held within b.0
+at_once faults.Trailing held within b = whole_at_once held within b.0

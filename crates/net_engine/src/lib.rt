@@ -6,6 +6,7 @@ pub use net_frames::{Frame, WireFault};
 pub use outbound::{Outbound, WriteFailed};
 
 mod inbound;
+pub mod laws;
 mod outbound;
 
 /// The bytes that the longest frame has: its length, and a body of 65,536.
