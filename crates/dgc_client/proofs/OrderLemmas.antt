@@ -9,9 +9,8 @@ use Rattle.std.proofs.lemmas.Slice.Eq.{bytes_eq-Decides}
 use Rattle.dgc_client.specs.declared.groups.DueCall.{DueCall}
 use Rattle.dgc_client.specs.declared.lease.Due.{Due}
 use Rattle.dgc_client.specs.declared.lease.Due.TheVariants.{Dirty, Clean}
-use Rattle.dgc_client.specs.Groups.{is_same_answer, is_same_kind, is_of, is_clean_kind, is_clean, with_peer, peers_of, cleans_of_peer, in_order, calls_of, IsGrouping}
-use Rattle.dgc_client.specs.declared.groups.Group.{Group}
-use Rattle.dgc_client.proofs.GroupsLemmas.{same-kind, left-true, right-true}
+use Rattle.dgc_client.specs.Groups.{is_same_answer, is_same_kind, is_of, is_clean_kind, is_clean, with_peer, peers_of, cleans_of_peer, in_order, calls_of, grouped}
+use Rattle.dgc_client.proofs.GroupsLemmas.{same-kind, left-true, right-true, are-grouping}
 
 same-bytes : (p q : List ℕ) → bytes_eq p q ≡ true → p ≡ q
 same-bytes p q h = (bytes_eq-Decides p q).0 h
@@ -227,5 +226,5 @@ order-keeps p (Clean s) calls =
     ∙ append-nil (filter (is_of p (Clean s)) calls)
 
 -- The groups of a peer and kind, joined, are the calls of that peer and kind.
-pub groups-keep : (p : List ℕ) (k : Due) (calls : List DueCall) (groups : List Group) → IsGrouping (in_order calls) groups → filter (is_of p k) (flat_map calls_of groups) ≡ filter (is_of p k) calls
-groups-keep p k calls groups grouped = ap (filter (is_of p k)) grouped.joined ∙ order-keeps p k calls
+pub groups-keep : (p : List ℕ) (k : Due) (calls : List DueCall) → filter (is_of p k) (flat_map calls_of (grouped (in_order calls))) ≡ filter (is_of p k) calls
+groups-keep p k calls = ap (filter (is_of p k)) (are-grouping (in_order calls)).joined ∙ order-keeps p k calls

@@ -1,4 +1,4 @@
-use Rattle.std.specs.Prelude.{◌≡◌, ◌≤◌, ℕ, Bool, true, false, List, [], ◌∷◌, ◌++◌, length, filter, fold, map, All, not, ◌&&◌, nat_lt, if◌then◌else◌}
+use Rattle.std.specs.Prelude.{◌≡◌, ◌≤◌, ℕ, zero, suc, Bool, true, false, List, [], ◌∷◌, ◌++◌, length, filter, fold, map, take, drop, All, not, ◌&&◌, if◌then◌else◌}
 use Rattle.std.specs.List.{list_any, flat_map}
 use Rattle.std.specs.Str.{bytes_eq}
 use Rattle.vm_heap.specs.declared.values.ObjId.{ObjId}
@@ -48,23 +48,65 @@ in_order calls =
     flat_map (cleans_of_peer calls) (peers_of true calls)
     ++ flat_map (λ peer. filter (is_of peer Dirty) calls) (peers_of false calls)
 
+-- the call of this kind of an object of a peer
+abbrev pub call_of : List ℕ → Due → ObjId → DueCall
+call_of peer kind id = record { reference = record { space = peer; id = id }; kind = kind }
+
 -- the calls that a group stands for
 abbrev pub calls_of : Group → List DueCall
-calls_of group = map (λ (id : ObjId). record { reference = record { space = group.peer; id = id }; kind = group.kind }) group.ids.items
+calls_of group = map (call_of group.peer group.kind) group.ids
 
--- whether the call has a place in the group
-abbrev pub takes : Group → DueCall → Bool
-takes group call = is_of group.peer group.kind call && nat_lt (length group.ids.items) 1024
+-- the group of one call alone
+abbrev pub group_of : DueCall → Group
+group_of call = record { peer = call.reference.space; kind = call.kind; ids = call.reference.id ∷ [] }
 
--- Where two groups of one peer and kind follow each other the first is full.
-abbrev pub AreFull : List Group → Type 0
-AreFull [] = Unit {0}
-AreFull (group ∷ []) = Unit {0}
-AreFull (group ∷ next ∷ more) = (group.peer ≡ next.peer → group.kind ≡ next.kind → length group.ids.items ≡ 1024) × AreFull (next ∷ more)
+-- a call before some groups: in the first, where that is of its peer and kind, else in one of its own
+abbrev pub with_call : DueCall → List Group → List Group
+with_call call [] = group_of call ∷ []
+with_call call (group ∷ groups) =
+    if is_of group.peer group.kind call then record group { ids = call.reference.id ∷ group.ids } ∷ groups else group_of call ∷ group ∷ groups
 
--- The groups stand for the calls, in their order; each has 1 to 1,024 references, and no more groups are made than need be.
+-- The calls in groups: those of one peer and kind that follow each other stand in one.
+abbrev pub grouped : List DueCall → List Group
+grouped [] = []
+grouped (call ∷ calls) = with_call call (grouped calls)
+
+-- The first of the groups, where there is one, is of another peer or kind.
+abbrev pub IsApartFrom : List ℕ → Due → List Group → Type 0
+IsApartFrom peer kind [] = Unit {0}
+IsApartFrom peer kind (next ∷ more) = peer ≡ next.peer → kind ≡ next.kind → ⊥
+
+-- Groups that follow each other are of two peers or of two kinds.
+abbrev pub AreApart : List Group → Type 0
+AreApart [] = Unit {0}
+AreApart (group ∷ more) = IsApartFrom group.peer group.kind more × AreApart more
+
+-- The groups stand for the calls, in their order; each has a reference, and no more groups are made than need be.
 pub record IsGrouping (calls : List DueCall) (groups : List Group) : Type 0 where
   pub joined : flat_map calls_of groups ≡ calls
-  pub some : All (λ (group : Group). 1 ≤ length group.ids.items) groups
-  pub most : All (λ (group : Group). length group.ids.items ≤ 1024) groups
-  pub full : AreFull groups
+  pub some : All (λ (group : Group). 1 ≤ length group.ids) groups
+  pub apart : AreApart groups
+
+-- the first pieces of a row, at most `count` of them, each of `most` ids but the last, which may be shorter
+abbrev pub pieces_within : (count most : ℕ) → List ObjId → List (List ObjId)
+pieces_within zero most ids = []
+pieces_within (suc count) most [] = []
+pieces_within (suc count) most (id ∷ ids) = take most (id ∷ ids) ∷ pieces_within count most (drop most (id ∷ ids))
+
+-- the pieces of a row, each of `most` ids but the last, which may be shorter
+abbrev pub pieces : ℕ → List ObjId → List (List ObjId)
+pieces most ids = pieces_within (length ids) most ids
+
+-- the group of some of the ids
+abbrev pub part_of : Group → List ObjId → Group
+part_of group ids = record group { ids = ids }
+
+-- what the frames say in which the group goes out, where each names at most `most` objects
+abbrev pub parts_of : ℕ → Group → List Group
+parts_of most group = map (part_of group) (pieces most group.ids)
+
+-- each group but the last has so many references
+abbrev pub AreFull : ℕ → List Group → Type 0
+AreFull most [] = Unit {0}
+AreFull most (group ∷ []) = Unit {0}
+AreFull most (group ∷ next ∷ more) = (length group.ids ≡ most) × AreFull most (next ∷ more)

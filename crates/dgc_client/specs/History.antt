@@ -1,4 +1,4 @@
-use Rattle.std.specs.Prelude.{◌≢◌, ℕ, List, [], ◌∷◌}
+use Rattle.std.specs.Prelude.{◌≢◌, ℕ, ◌+◌, ◌-◌, List, [], ◌∷◌}
 use Rattle.dgc_client.specs.declared.lease.Change.{Change}
 use Rattle.dgc_client.specs.declared.lease.Change.TheVariants as change
 use Rattle.dgc_client.specs.declared.lease.ClientLease.{ClientLease}
@@ -45,6 +45,20 @@ after (CleanFailed call) l = after_failed_clean call l
 abbrev pub lease_of : List Event → ClientLease
 lease_of [] = fresh 0
 lease_of (event ∷ h) = after event (lease_of h)
+
+-- how many holders came and are not gone
+abbrev pub holders_of : List Event → ℕ
+holders_of [] = 0
+holders_of (Held ∷ h) = holders_of h + 1
+holders_of (Dropped ∷ h) = holders_of h - 1
+holders_of (Moment moment ∷ h) = holders_of h
+holders_of (DirtyMade call ∷ h) = holders_of h
+holders_of (CleanMade call ∷ h) = holders_of h
+holders_of (DirtySent call ∷ h) = holders_of h
+holders_of (DirtyAnswered call period ∷ h) = holders_of h
+holders_of (DirtyFailed call ∷ h) = holders_of h
+holders_of (CleanAnswered call ∷ h) = holders_of h
+holders_of (CleanFailed call ∷ h) = holders_of h
 
 -- none of these events makes the dirty call anew
 abbrev pub MakesNoDirty : ℕ → List Event → Type 0

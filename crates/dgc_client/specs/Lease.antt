@@ -1,4 +1,4 @@
-use Rattle.std.specs.Prelude.{ℕ, ◌+◌, ◌-◌, Bool, true, false, Option, None, Some, is_none, is_some, ◌&&◌, ◌||◌, ◌==◌, nat_lt, nat_le, if◌then◌else◌}
+use Rattle.std.specs.Prelude.{ℕ, ◌+◌, ◌-◌, Bool, true, false, Option, None, Some, is_none, is_some, ◌&&◌, ◌||◌, ◌==◌, nat_lt, nat_le, not, if◌then◌else◌}
 use Rattle.dgc_client.specs.declared.lease.ClientLease.{ClientLease}
 use Rattle.dgc_client.specs.declared.lease.Due.{Due}
 use Rattle.dgc_client.specs.declared.lease.Due.TheVariants.{Dirty, Clean as Clean_due}
@@ -20,11 +20,19 @@ abbrev pub is_clean : Option ℕ → ℕ → Bool
 is_clean None call = false
 is_clean (Some clean) call = clean == call
 
+-- One holder more. Above 2^64 - 1 holders are not counted.
+abbrev pub one_more : ℕ → ℕ
+one_more holders = if nat_lt holders 18446744073709551615 then holders + 1 else holders
+
+-- One holder less. Where there were 2^64 - 1 or more nobody knows how many are left, and the reference keeps them.
+abbrev pub one_less : ℕ → ℕ
+one_less holders = if nat_lt holders 18446744073709551615 then holders - 1 else holders
+
 abbrev pub after_hold : ClientLease → ClientLease
-after_hold l = record l { holders = l.holders + 1 }
+after_hold l = record l { holders = one_more l.holders }
 
 abbrev pub after_drop : ClientLease → ClientLease
-after_drop l = record l { holders = l.holders - 1 }
+after_drop l = record l { holders = one_less l.holders }
 
 -- The lease where it stands: its period, counted from the moment at which its dirty call was sent, is not over.
 abbrev pub standing : Option Term → ℕ → Option Term
@@ -108,6 +116,16 @@ due_owed Again l = due_again l.last l.moment
 abbrev pub due_unheld : ClientLease → Option Due
 due_unheld l = due_owed l.owed l
 
+abbrev pub is_again : Owed → Bool
+is_again Nothing = false
+is_again Clean = false
+is_again Strong = false
+is_again Again = true
+
+-- Where a call failed nothing is due before the next moment, but for the dirty call of a new holder after a clean call that failed.
+abbrev pub is_waiting : ClientLease → Bool
+is_waiting l = l.waits && not (nat_lt 0 l.holders && is_again l.owed)
+
 -- the call that is due
 abbrev pub due : ClientLease → Option Due
-due l = if l.waits then None else (if nat_lt 0 l.holders then due_held l else due_unheld l)
+due l = if is_waiting l then None else (if nat_lt 0 l.holders then due_held l else due_unheld l)

@@ -2,6 +2,7 @@ use Rattle.std.specs.Prelude.{◌≡◌, ℕ, ◌+◌, Bool, true, false, List, 
 use Rattle.std.specs.List.{list_any, filter_map}
 use Rattle.std.specs.Map.{lookup, keys_of}
 use Rattle.std.specs.Str.{bytes_eq}
+use Rattle.indexmap.specs.IndexMap.{spare}
 use Rattle.vm_heap.specs.declared.values.ObjId.{ObjId}
 use Rattle.dgc_client.specs.declared.groups.DueCall.{DueCall}
 use Rattle.dgc_client.specs.declared.groups.Group.{Group}
@@ -82,7 +83,7 @@ references_at peer ids = map (λ (id : ObjId). record { space = peer; id = id })
 
 -- the event of each reference of a group
 abbrev pub told : Group → Event → List Told → List Told
-told group event h = on_each (references_at group.peer group.ids.items) event h
+told group event h = on_each (references_at group.peer group.ids) event h
 
 -- that a call of this kind is made
 abbrev pub making : Due → ℕ → Event
@@ -97,7 +98,7 @@ abbrev pub sent_as : Due → Group → ℕ → List Told → List Told
 sent_as Dirty group call h = told group (DirtySent call) h
 sent_as (Clean strong) group call h = h
 
--- a group's call goes out: it gets a number, and its leases count from now where it is a dirty call
+-- a group, or a part of one, goes out: it gets a number, and its leases count from now where it is a dirty call
 abbrev pub sent : Group → ℕ → List Told → List Told
 sent group call h = Numbered ∷ sent_as group.kind group call h
 
@@ -108,6 +109,10 @@ due_call reference (Some kind) = Some (record { reference = reference; kind = ki
 -- the calls that are due, in the order in which the references were first held
 abbrev pub due_of : List Told → List DueCall
 due_of h = filter_map (λ reference. due_call reference (due (lease_of (own reference h)))) (held h)
+
+-- how many references that were never held the table has room for
+abbrev pub room : Clients → ℕ
+room clients = spare clients.references
 
 -- what is kept of a reference
 abbrev pub lease_at : Clients → ForeignId → ClientLease

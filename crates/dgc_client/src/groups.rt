@@ -1,34 +1,31 @@
 //! The calls that are due, in groups.
 
-ghost use Rattle.std.specs.Prelude.{◌≡◌, ◌++◌, ◌∷◌, [], List, OnOk, IfOk, filter, map};
+ghost use Rattle.std.specs.Prelude.{◌≡◌, ◌<◌, ◌++◌, ◌∷◌, [], List, OnOk, IfOk, filter, map};
 ghost use Rattle.std.specs.List.{list_any, flat_map};
 ghost use Rattle.std.specs.Str.{bytes_eq};
-ghost use Rattle.dgc_client.specs.Groups.{is_same_kind, is_of, is_clean, takes, peers_of, with_peer, cleans_of_peer, in_order, IsGrouping};
+ghost use Rattle.dgc_client.specs.Groups.{is_same_kind, is_of, is_clean, peers_of, with_peer, cleans_of_peer, in_order, group_of, grouped, IsGrouping, part_of, parts_of};
 
 use crate::{Due, ForeignId};
 use std::alloc::{AllocError, Global};
 use uuid::Uuid;
-use vm_heap::ObjId;
-
-/// The most references of a group.
-pub const MOST: usize = 1024;
+use vm_heap::{ObjId, Row};
 
 /// A call that is due of one reference.
-#[derive(Clone, Copy)]
-pub(crate) struct DueCall {
+#[derive(Clone, Copy, Debug, PartialEq, Eq)]
+pub struct DueCall {
     pub reference: ForeignId,
     pub kind: Due,
 }
 
-/// References of one peer of which one call is due: what one frame says.
+/// References of one peer of which one call is due. It goes out in [parts](Group::parts), one a frame.
 #[derive(Debug, Drop)]
 pub struct Group {
     /// The space that owns the objects.
     pub peer: Uuid,
     /// Which call it is.
     pub kind: Due,
-    /// The objects: 1 to [`MOST`].
-    pub ids: Vec<ObjId>,
+    /// The objects.
+    pub ids: Row<ObjId>,
 }
 
 // Whether two calls are of one kind.
@@ -60,24 +57,56 @@ impl DueCall {
 impl Group {
     // A group of one call alone.
     fn of(alloc: Global, call: &DueCall) -> Result<Group, AllocError>
-        ensures peer { IfOk result (λ group. group.peer ≡ call.now.reference.space) }
-        ensures kind { IfOk result (λ group. group.kind ≡ call.now.kind) }
-        ensures ids { IfOk result (λ group. group.ids.items ≡ call.now.reference.id ∷ []) }
+        ensures { IfOk result (λ group. group ≡ group_of call.now) }
     {
         let mut ids = Vec::new(alloc);
         ids.push(call.reference.id)?;
         Ok(Group {
             peer: call.reference.space,
             kind: call.kind,
-            ids,
+            ids: Row::new(ids),
         })
     }
 
-    // Whether the call has a place in the group.
-    fn takes(&self, call: &DueCall) -> bool
-        ensures { result ≡ takes self.now call.now }
+    // The group with one more object behind the others.
+    fn with(self, id: ObjId) -> Result<Group, AllocError>
+        ensures { IfOk result (λ group. group ≡ record self { ids = self.ids ++ id ∷ [] }) }
     {
-        call.is_of(&self.peer, self.kind) && self.ids.len() < MOST
+        let Group { peer, kind, ids } = self;
+        let mut ids = ids.into_vec();
+        ids.push(id)?;
+        Ok(Group {
+            peer,
+            kind,
+            ids: Row::new(ids),
+        })
+    }
+
+    // The group of these of its objects.
+    fn part(&self, alloc: Global, ids: &[ObjId]) -> Result<Group, AllocError>
+        ensures { IfOk result (λ part. part ≡ part_of self.now ids.now) }
+    {
+        Ok(Group {
+            peer: self.peer,
+            kind: self.kind,
+            ids: Row::new(ids.to_vec(alloc)?),
+        })
+    }
+
+    /// The group in parts of `most` objects, the last of which may have fewer: what the frames say in
+    /// which it goes out. `most` is the largest number of objects that a frame names to this peer.
+    pub fn parts(&self, alloc: Global, most: usize) -> Result<Vec<Group>, AllocError>
+        requires { 0 < most }
+        ensures { IfOk result (λ parts. parts.items ≡ parts_of most self.now) }
+    {
+        let mut parts = Vec::new(alloc);
+        let mut rest = self.ids.as_slice();
+        while !rest.is_empty() {
+            let (ids, more) = rest.split_at(most.min(rest.len()));
+            parts.push(self.part(alloc, ids)?)?;
+            rest = more;
+        }
+        Ok(parts)
     }
 }
 
@@ -169,17 +198,16 @@ pub(crate) fn in_order(alloc: Global, calls: &[DueCall]) -> Result<Vec<DueCall>,
     Ok(ordered)
 }
 
-// Puts a call into the last group, or into a new one where it has no place there.
+// Puts a call into the last group, or into a new one where that is of another peer or kind.
 fn put(alloc: Global, groups: &mut Vec<Group>, call: &DueCall) -> Result<(), AllocError>
     ensures { OnOk result ((calls : List DueCall) → IsGrouping calls groups.old.items → IsGrouping (calls ++ call.now ∷ []) groups.new.items) }
 {
-    let Some(mut last) = groups.pop() else {
+    let Some(last) = groups.pop() else {
         groups.push(Group::of(alloc, call)?)?;
         return Ok(());
     };
-    if last.takes(call) {
-        last.ids.push(call.reference.id)?;
-        groups.push(last)?;
+    if call.is_of(&last.peer, last.kind) {
+        groups.push(last.with(call.reference.id)?)?;
     } else {
         groups.push(last)?;
         groups.push(Group::of(alloc, call)?)?;
@@ -189,7 +217,7 @@ fn put(alloc: Global, groups: &mut Vec<Group>, call: &DueCall) -> Result<(), All
 
 /// The calls in groups.
 pub(crate) fn grouped(alloc: Global, calls: &[DueCall]) -> Result<Vec<Group>, AllocError>
-    ensures { IfOk result (λ groups. IsGrouping calls.now groups.items) }
+    ensures { IfOk result (λ groups. groups.items ≡ grouped calls.now) }
 {
     let mut groups = Vec::new(alloc);
     for call in calls {

@@ -1,7 +1,7 @@
 //! One foreign reference: its holders, its lease, and the call that is due.
 
-ghost use Rattle.std.specs.Prelude.{◌≡◌, ◌+◌, ◌<◌, ◌^◌};
-ghost use Rattle.dgc_client.specs.Lease.{fresh, is_made, after_hold, after_drop, standing, is_half_over, after_moment, after_dirty, after_clean, after_sent, after_answer, after_failed_dirty, after_answered_clean, after_failed_clean, due_held, due_unheld, due, is_renewed_at, lapses_at};
+ghost use Rattle.std.specs.Prelude.{◌≡◌};
+ghost use Rattle.dgc_client.specs.Lease.{fresh, is_made, after_hold, after_drop, standing, is_half_over, after_moment, after_dirty, after_clean, after_sent, after_answer, after_failed_dirty, after_answered_clean, after_failed_clean, due_held, due_unheld, is_waiting, due, is_renewed_at, lapses_at};
 ghost use Rattle.dgc_client.specs.History.{after, event_of};
 
 /// The period that each dirty call asks for, in milliseconds.
@@ -105,19 +105,23 @@ impl ClientLease {
         }
     }
 
-    /// The reference has one more holder.
+    /// The reference has one more holder. Above 2^64 - 1 holders are not counted: the reference then
+    /// keeps them for good, so that it is never taken for one that nobody holds.
     pub fn hold(&mut self)
-        requires { self.old.holders + 1 < 2 ^ 64 }
         ensures { self.new ≡ after_hold self.old }
     {
-        self.holders += 1;
+        if self.holders < u64::MAX {
+            self.holders += 1;
+        }
     }
 
-    /// The reference has one holder less, where it has one.
+    /// The reference has one holder less, where it has one and they were all counted.
     pub fn drop_holder(&mut self)
         ensures { self.new ≡ after_drop self.old }
     {
-        self.holders = self.holders.saturating_sub(1);
+        if self.holders < u64::MAX {
+            self.holders = self.holders.saturating_sub(1);
+        }
     }
 
     /// The moment is now. A lease is due for renewal as soon as not more than half of its period is
@@ -268,13 +272,21 @@ impl ClientLease {
     pub fn due(&self) -> Option<Due>
         ensures { result ≡ due self.now }
     {
-        if self.waits {
+        if self.is_waiting() {
             None
         } else if self.holders > 0 {
             self.due_held()
         } else {
             self.due_unheld()
         }
+    }
+
+    // Whether nothing is due before the next moment: a call failed. A new holder does not wait for the
+    // repetition of a clean call.
+    fn is_waiting(&self) -> bool
+        ensures { result ≡ is_waiting self.now }
+    {
+        self.waits && !(self.holders > 0 && matches!(self.owed, Owed::Again))
     }
 
     // The call that is due where there are holders.

@@ -3,10 +3,10 @@
 //!
 //! [`ClientLease`] is the machine of one reference. Its history is the list of what happened to it,
 //! newest first, with the moments. [`Clients`] is the table of these machines, in the order in which
-//! the references were first held; it answers the calls that are due in [`Group`]s, one a frame.
+//! the references were first held; it answers the calls that are due in [`Group`]s.
 #![tactic(auto)]
 
-pub use groups::{Group, MOST};
+pub use groups::{DueCall, Group};
 pub use lease::{ClientLease, Due, LONGEST_LEASE, Made, Owed, Term};
 pub use table::{Clients, ForeignId};
 

@@ -1,6 +1,6 @@
 //! All foreign references of a space.
 
-ghost use Rattle.std.specs.Prelude.{◌≡◌, ◌≤◌, ◌+◌, ◌^◌, ℕ, List, [], ◌∷◌, OnOk, OnErr, IfOk, IfSome, IfNone, IsTrue, false, map, filter};
+ghost use Rattle.std.specs.Prelude.{◌≡◌, ◌≤◌, ◌<◌, ◌+◌, ◌^◌, ℕ, List, [], ◌∷◌, OnOk, OnErr, IfOk, IfSome, IfNone, IsTrue, false, map, filter};
 ghost use Rattle.std.specs.List.{filter_map, IsDistinct};
 ghost use Rattle.std.specs.Map.{keys_of};
 ghost use Rattle.dgc_client.specs.Lease.{after_moment, due, is_renewed_at, lapses_at};
@@ -35,8 +35,8 @@ pub struct Clients {
 impl Clients {
     ghost use Rattle.dgc_client.specs.History.{Event, lease_of, event_of};
     ghost use Rattle.dgc_client.specs.History.Event.{Held, Dropped, DirtyAnswered, DirtyFailed, CleanAnswered, CleanFailed};
-    ghost use Rattle.dgc_client.specs.Groups.{IsGrouping, in_order};
-    ghost use Rattle.dgc_client.specs.Table.{Told, IsAfter, own, held, numbers_of, told, made, sent, due_of, is_known, Puts};
+    ghost use Rattle.dgc_client.specs.Groups.{grouped, in_order};
+    ghost use Rattle.dgc_client.specs.Table.{Told, IsAfter, room, own, held, is_among, numbers_of, told, made, sent, due_of, is_known, Puts};
     ghost use Rattle.dgc_client.specs.Table.Told.{On, At};
 
     /// No reference was held and no number given, at moment 0.
@@ -60,19 +60,41 @@ impl Clients {
         }
     }
 
+    /// Makes room for this many references that were never held before.
+    pub fn reserve(&mut self, references: usize) -> Result<(), AllocError>
+        ensures ok { OnOk result (references ≤ room self.new) }
+        ensures same { (h : List Told) → IsAfter h self.old → IsAfter h self.new }
+        ensures kept { room self.old ≤ room self.new }
+    {
+        self.references.reserve(references)
+    }
+
     /// The reference has one more holder: a parked frame, a task, a field, or a result that nobody
-    /// has acknowledged. At want of memory, and where 2^64 - 1 hold it, nothing happens.
+    /// has acknowledged. At want of memory, which only a reference that was never held meets where
+    /// there is no room for it, nothing happens.
     pub fn hold(&mut self, reference: &ForeignId) -> Result<(), AllocError>
         ensures ok { OnOk result ((h : List Told) → IsAfter h self.old → IsAfter (On reference.now Held ∷ h) self.new) }
         ensures err { OnErr result ((h : List Told) → IsAfter h self.old → IsAfter h self.new) }
+        ensures unknown { OnErr result ((h : List Told) → IsAfter h self.old → is_among reference.now (held h) ≡ false) }
+        ensures no_room { OnErr result (room self.old ≡ 0) }
+        ensures room { room self.old ≤ room self.new + 1 }
     {
         let mut lease = self.lease(reference);
-        if lease.holders == u64::MAX {
-            return Err(AllocError);
-        }
         lease.hold();
         self.references.insert(*reference, lease)?;
         Ok(())
+    }
+
+    /// The reference has one more holder, as [`hold`](Clients::hold) does, and takes no memory: the
+    /// caller has made [room](Clients::reserve) for it.
+    pub fn hold_reserved(&mut self, reference: &ForeignId)
+        requires { 0 < room self.old }
+        ensures held { (h : List Told) → IsAfter h self.old → IsAfter (On reference.now Held ∷ h) self.new }
+        ensures room { room self.old ≤ room self.new + 1 }
+    {
+        let Ok(()) = self.hold(reference) else {
+            unreachable!();
+        };
     }
 
     /// The reference has one holder less, where it has one.
@@ -87,7 +109,7 @@ impl Clients {
     /// which they were first held, and peers in the order of their first reference. Changes nothing:
     /// each group that is answered is to be [`made`](Clients::made).
     pub fn due(&self, alloc: Global) -> Result<Vec<Group>, AllocError>
-        ensures { IfOk result (λ groups. (h : List Told) → IsAfter h self.now → IsGrouping (in_order (due_of h)) groups.items) }
+        ensures { IfOk result (λ groups. (h : List Told) → IsAfter h self.now → groups.items ≡ grouped (in_order (due_of h))) }
     {
         let calls = due_calls(alloc, &self.references)?;
         let ordered = in_order(alloc, calls.as_slice())?;
@@ -120,10 +142,11 @@ impl Clients {
         }
     }
 
-    /// The group's call goes out now. Answers the number of its frame, one above the last that was
-    /// given to any group; none, and nothing happens, where that would be 2^63.
+    /// The group goes out now, or a [part](Group::parts) of it, in one frame. Answers the number of the
+    /// frame, one above the last that was given; none, and nothing happens, where that would be 2^63.
     pub fn sent(&mut self, group: &Group, call: u64) -> Option<u64>
         ensures number { IfSome result (λ number. (h : List Told) → IsAfter h self.old → number ≡ numbers_of h + 1) }
+        ensures below { IfSome result (λ number. number < 2 ^ 63) }
         ensures some { IfSome result (λ number. (h : List Told) → IsAfter h self.old → IsAfter (sent group.now call h) self.new) }
         ensures worn { IfNone result ((h : List Told) → IsAfter h self.old → 2 ^ 63 ≤ numbers_of h + 1) }
         ensures none { IfNone result (self.new ≡ self.old) }
@@ -136,6 +159,13 @@ impl Clients {
         }
         self.numbers += 1;
         Some(self.numbers)
+    }
+
+    /// The number that was given last, 0 where none was.
+    pub fn last_number(&self) -> u64
+        ensures { (h : List Told) → IsAfter h self.now → result ≡ numbers_of h }
+    {
+        self.numbers
     }
 
     /// The group's dirty call was answered by a lease for this period, in milliseconds.
@@ -179,7 +209,7 @@ impl Clients {
         ensures told { (h : List Told) → IsAfter h self.old → IsAfter (told group.now (event_of change) h) self.new }
         ensures numbers { self.new.numbers ≡ self.old.numbers }
     {
-        for id in &group.ids {
+        for id in group.ids.as_slice() {
             let reference = ForeignId {
                 space: group.peer,
                 id: *id,

@@ -195,20 +195,49 @@ fn calls_are_due_in_groups(rt: HostRuntime) -> Result<(), Fail> {
 }
 
 #[test]
-fn lists_are_cut_at_1024(rt: HostRuntime) -> Result<(), Fail> {
+fn groups_go_out_in_parts(rt: HostRuntime) -> Result<(), Fail> {
     let mut clients = Clients::new(rt.alloc());
+    clients.reserve(2500)?;
     for id in 0..2500 {
         clients.hold(&reference(7, id))?;
     }
-    assert_eq!(rt; settle(&mut clients, rt.alloc(), LONGEST_LEASE)?, Some(3));
+    let groups = clients.due(rt.alloc())?;
+    assert_eq!(rt; groups.len(), 1);
+    let Some(group) = groups.first() else {
+        return Ok(());
+    };
+    clients.made(group, 1);
+    let parts = group.parts(rt.alloc(), 1024)?;
+    assert_eq!(rt; parts.len(), 3);
+    for (part, length) in parts.iter().zip([1024, 1024, 452]) {
+        assert_eq!(rt; part.ids.as_slice().len(), length);
+        let _ = clients.sent(part, 1);
+        clients.dirty_answered(part, 1, LONGEST_LEASE);
+    }
+    assert_eq!(rt; clients.last_number(), 3);
     clients.moment(299_999);
     assert!(rt; clients.due(rt.alloc())?.is_empty());
     clients.moment(300_000);
-    let groups = clients.due(rt.alloc())?;
-    assert_eq!(rt; groups.len(), 3);
-    for (group, length) in groups.iter().zip([1024, 1024, 452]) {
-        assert_eq!(rt; group.ids.len(), length);
-    }
-    assert_eq!(rt; settle(&mut clients, rt.alloc(), 1)?, Some(6));
+    assert_eq!(rt; clients.due(rt.alloc())?.len(), 1);
+    assert_eq!(rt; settle(&mut clients, rt.alloc(), 1)?, Some(4));
+    Ok(())
+}
+
+#[test]
+fn a_new_holder_does_not_wait_for_a_failed_clean_call(rt: HostRuntime) -> Result<(), Fail> {
+    let mut lease = leased();
+    lease.drop_holder();
+    lease.clean_made(2);
+    lease.clean_failed(2);
+    assert_eq!(rt; lease.due(), None);
+    lease.hold();
+    assert_eq!(rt; lease.due(), DIRTY);
+    lease.dirty_made(3);
+    lease.dirty_failed(3);
+    assert_eq!(rt; lease.due(), None);
+    lease.hold();
+    assert_eq!(rt; lease.due(), None);
+    lease.moment(1050);
+    assert_eq!(rt; lease.due(), DIRTY);
     Ok(())
 }

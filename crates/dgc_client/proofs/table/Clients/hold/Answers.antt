@@ -1,10 +1,12 @@
 use Rattle.std.proofs.Common.{refl, sym, ap, ◌∙◌}
+use Rattle.std.specs.Prelude.{is_some}
 use Rattle.std.specs.Map.{keys_of}
+use Rattle.std.proofs.lemmas.Result.{err_from_is_err_and}
 use Rattle.indexmap.proofs.SetLemmas.{keys_insert_entry}
 use Rattle.dgc_client.specs.Lease.{after_hold}
 use Rattle.dgc_client.specs.History.Event.{Held}
-use Rattle.dgc_client.specs.Table.{is_same}
-use Rattle.dgc_client.proofs.TableLemmas.{after-held}
+use Rattle.dgc_client.specs.Table.{is_same, is_among}
+use Rattle.dgc_client.proofs.TableLemmas.{after-held, known-among}
 use Rattle.dgc_client.proofs.table.Clients.hold.Goals as goal
 
 pub returns-clause-ok : goal.returns-clause-ok
@@ -12,3 +14,8 @@ returns-clause-ok c = λ h was.
     after-held h c.args.self.now _ c.args.reference.now Held c.hold.new.self refl refl refl
     (ap keys_of c.in_ok-insert.ensures.entries ∙ keys_insert_entry is_same c.args.self.now.references.entries c.args.reference.now c.hold.new.self) c.in_ok-insert.ensures.updates.0
     (c.hold.ensures ∙ ap after_hold (c.lease-lease.ensures h was ∙ sym (was.each c.args.reference.now))) was
+
+pub returns-in_err-insert-clause-unknown : goal.returns-in_err-insert-clause-unknown
+returns-in_err-insert-clause-unknown c =
+    let p = err_from_is_err_and c.from_residual.result c.from_residual.ensures.1 in
+    rw p.1 (λ h was. sym (ap (is_among c.args.reference.now) was.held) ∙ sym (known-among c.args.reference.now c.args.self.now.references.entries) ∙ ap is_some c.in_err-insert.ensures.absent)

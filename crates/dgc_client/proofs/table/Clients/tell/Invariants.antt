@@ -6,5 +6,5 @@ use Rattle.dgc_client.proofs.table.Clients.tell.Given as goal
 -- the references so far are told, and no number is given
 abbrev pub invariant-loop-id : goal.invariant-loop-id
 invariant-loop-id l =
-    ((h : List Told) → IsAfter h l.initial.self → IsAfter (on_each (references_at l.group.peer (take l.id-index l.group.ids.items)) (event_of l.change) h) l.self)
+    ((h : List Told) → IsAfter h l.initial.self → IsAfter (on_each (references_at l.group.peer (take l.id-index l.group.ids)) (event_of l.change) h) l.self)
     × (l.self.numbers ≡ l.initial.self.numbers)
