@@ -5,6 +5,7 @@ use Rattle.cls_set.specs.declared.class.ClassId.{ClassId}
 use Rattle.dgc_client.specs.Lease as lease
 use Rattle.dgc_client.specs.History as lease_events
 use Rattle.dgc_client.specs.Table as client
+use Rattle.dgc_client.specs.declared.groups.Group.{Group}
 use Rattle.dgc_client.specs.declared.lease.Due.{Due}
 use Rattle.dgc_client.specs.declared.lease.Due.TheVariants as due
 use Rattle.dgc_client.specs.declared.table.ForeignId.{ForeignId}
@@ -19,7 +20,7 @@ use Rattle.sp_rules.specs.Lists.{each, with_some}
 use Rattle.sp_rules.specs.LivingTasks.{reply_to}
 use Rattle.sp_rules.specs.ParkedFrames.{is_out_on, remove_requests, take_parked, fail_parked, names}
 use Rattle.sp_rules.specs.Requests.{waits_for}
-use Rattle.sp_rules.specs.State.{CallGroup, State, Request, Asked, Calls, LooksUp, Tells, Until, RootAcked, Acked, Passed, KeptResult, Connection, ParkedFrame, connection_at, say}
+use Rattle.sp_rules.specs.State.{State, Request, Asked, Calls, LooksUp, Tells, Until, RootAcked, Acked, Passed, KeptResult, Connection, ParkedFrame, connection_at, say}
 
 -- ---- dirty and clean calls fail
 
@@ -33,7 +34,7 @@ fail_dirty g call s r =
 abbrev pub fail_clean : ℕ → State → ForeignId → State
 fail_clean call s r = record s { leases = client.On r (lease_events.CleanFailed call) ∷ s.leases }
 
-abbrev pub fail_group : Setting → Due → CallGroup → ℕ → State → State
+abbrev pub fail_group : Setting → Due → Group → ℕ → State → State
 fail_group g due.Dirty group call s = each (fail_dirty g call) (client.references_at group.peer group.ids) s
 fail_group g (due.Clean strong) group call s = each (fail_clean call) (client.references_at group.peer group.ids) s
 
@@ -58,7 +59,7 @@ unfoldable pub end_requests : Setting → (Request → Bool) → (Asked → Clas
 end_requests g is why s =
     let ending = filter is s.requests in
     each (end_request g why) (filter (λ r. is_group r.asked) ending)
-      (each (end_request g why) (filter (λ r. not (is_group r.asked)) ending) (remove_requests is s))
+    (each (end_request g why) (filter (λ r. not (is_group r.asked)) ending) (remove_requests is s))
 
 -- ---- a connection ends
 
@@ -89,7 +90,7 @@ without_connection conn s = record s {
 unfoldable pub end_connection : Setting → (Asked → ClassId) → ℕ → State → State
 end_connection g why conn s = with_some (connection_at s conn) s (λ c.
     end_requests g (is_of_connection conn c.dialled) why
-      (each unpark (filter (λ (p : ParkedFrame). p.conn == conn) s.parked) (without_connection conn s)))
+    (each unpark (filter (λ (p : ParkedFrame). p.conn == conn) s.parked) (without_connection conn s)))
 
 -- Closed, ReadFailed, Bad and any closing but for a wrong first Hello end all calls of the connection with UnmarshalException.
 abbrev pub by_unmarshal : Setting → Asked → ClassId

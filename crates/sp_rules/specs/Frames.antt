@@ -24,7 +24,7 @@ use Rattle.sp_rules.specs.Lists.{each, with_some}
 use Rattle.sp_rules.specs.LivingTasks.{keep, reply_to}
 use Rattle.sp_rules.specs.ParkedFrames.{is_asked_on, is_call_on, is_unanswered_on, remove_requests, answer_threw, park_frame, go_all}
 use Rattle.sp_rules.specs.References.{references_in, references_of, foreign_ids, is_id_in}
-use Rattle.sp_rules.specs.Requests.{told, flush_waiting}
+use Rattle.sp_rules.specs.Requests.{flush_waiting}
 use Rattle.sp_rules.specs.State.{State, Request, Asked, Calls, LooksUp, Tells, Stage, Waits, Out, Answered, Until, RootAcked, Acked, Passed, KeptResult, Connection, Frame, CallFrame, ReturnedFrame, ParkedFrame, Object, standing, object_at, set_connection, tell_owner, send}
 
 -- ---- Hello
@@ -41,7 +41,7 @@ unfoldable pub first_frame : Setting → Connection → Message → State → St
 first_frame g c (message.Hello version space digest) s = with_some c.dialled
     (if bytes_eq digest g.digest then greeted space c.number s else close g g.classes.unmarshal c.number s)
     (λ peer. if bytes_eq digest g.digest && bytes_eq space peer then flush_waiting peer c.number (greeted space c.number s)
-      else close g g.classes.connect c.number s)
+    else close g g.classes.connect c.number s)
 first_frame g c m s = close g g.classes.unmarshal c.number s
 
 -- ---- at the end that answers: Call
@@ -58,11 +58,11 @@ is_busy s = nat_le 4096 (length s.tasks + length (filter (λ (p : ParkedFrame). 
 abbrev pub call_of : Setting → ℕ → ℕ → Object → ℕ → ℕ → List Value → State → State
 call_of g conn number o method fuel arguments s =
     if not (g.classes.may_call o.class method) || (not (fit_kinds (g.classes.parameters method) arguments)
-        || list_any (is_refused g s) (references_of arguments))
+    || list_any (is_refused g s) (references_of arguments))
     then answer_threw conn number g.classes.unmarshal s
     else (if is_busy s then answer_threw conn number g.classes.server_error s
     else park_frame g conn number (CallFrame o.id method fuel arguments)
-      (fold client.with_reference [] (foreign_ids g.id (references_of arguments))) s)
+    (fold client.with_reference [] (foreign_ids g.id (references_of arguments))) s)
 
 -- A call whose target does not stand throws NoSuchObjectException, before all else is looked at.
 abbrev pub call_on : Setting → ℕ → ℕ → Option Object → ℕ → ℕ → List Value → State → State
@@ -133,12 +133,12 @@ that_stand s ids = filter (is_id_in (map (λ (o : Object). o.id) (standing s.sto
 unfoldable pub got_dirty : Setting → Connection → ℕ → ℕ → List ObjId → State → State
 got_dirty g c sequence period ids s =
     send Replies c.number (message.Lease sequence (min period 600000))
-      (tell_owner (owner.Dirty (client_of c.peer g.id) (that_stand s ids) sequence period) s)
+    (tell_owner (owner.Dirty (client_of c.peer g.id) (that_stand s ids) sequence period) s)
 
 unfoldable pub got_clean : Setting → Connection → ℕ → Bool → List ObjId → State → State
 got_clean g c sequence strong ids s =
     send Replies c.number (message.Cleaned sequence)
-      (tell_owner (owner.Clean (client_of c.peer g.id) (that_stand s ids) sequence strong) s)
+    (tell_owner (owner.Clean (client_of c.peer g.id) (that_stand s ids) sequence strong) s)
 
 -- ---- at the end that dialled: Returned, Threw, Spent
 
@@ -208,13 +208,13 @@ tells_on dirty conn sequence r = is_unanswered_on conn r.stage && (has_sequence 
 abbrev pub group_told : (ℕ → lease_events.Event) → Asked → State → State
 group_told event (Calls n task lent kind m) s = s
 group_told event (LooksUp n task name) s = s
-group_told event (Tells call group) s = record s { leases = told group.peer group.ids (event call) s.leases }
+group_told event (Tells call group) s = record s { leases = client.told group (event call) s.leases }
 
 -- The Lease that answers an overtaken dirty call gives no lease. Frames that waited for the leases go.
 unfoldable pub told_by : Setting → Connection → Bool → ℕ → (ℕ → lease_events.Event) → State → State
 told_by g c dirty sequence event s =
     with_some (find (tells_on dirty c.number sequence) s.requests) (close g g.classes.unmarshal c.number s) (λ r.
-      go_all g (group_told event r.asked (remove_requests (tells_on dirty c.number sequence) s)))
+    go_all g (group_told event r.asked (remove_requests (tells_on dirty c.number sequence) s)))
 
 -- ---- all frames
 

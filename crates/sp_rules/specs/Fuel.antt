@@ -52,7 +52,7 @@ note_units n = output_units (output_of n)
 abbrev pub units : State → ℕ
 units s =
     s.retired + (total task_units s.tasks + (total request_units s.requests
-      + (total parked_units s.parked + (total fresh_units s.fresh + total note_units s.notes))))
+    + (total parked_units s.parked + (total fresh_units s.fresh + total note_units s.notes))))
 
 -- the fuel that comes into a space with an event
 abbrev pub event_units : Event → ℕ

@@ -77,23 +77,26 @@ OnlySweepsWithdraw = (g : Setting) (e : Event) (s : State) (o : Object) → is_s
 
 -- ---- tasks
 
-abbrev pub AllRecorded : List Space → Type 0
-AllRecorded [] = Unit {0}
-AllRecorded (s ∷ ss) = AreRecorded s.setting s.state.tasks × AllRecorded ss
+-- each of these is so
+abbrev pub AllOf : {A : Type 0} → (A → Type 0) → List A → Type 0
+AllOf Is [] = Unit {0}
+AllOf Is (x ∷ xs) = Is x × AllOf Is xs
+
+abbrev pub HasRuns : Space → Type 0
+HasRuns s = AreRecorded s.setting s.state.tasks
 
 -- In every run of every world each living task is where its start and its own record bring it.
 abbrev pub TasksAreRuns : Type 0
-TasksAreRuns = (settings : List Setting) (events : List WorldEvent) → AllRecorded (run (new_world settings) events).spaces
+TasksAreRuns = (settings : List Setting) (events : List WorldEvent) → AllOf HasRuns (run (new_world settings) events).spaces
 
 -- ---- histories
 
-abbrev pub HaveHistories : List Space → Type 0
-HaveHistories [] = Unit {0}
-HaveHistories (s ∷ ss) = (s.state ≡ state_of s.setting s.history) × HaveHistories ss
+abbrev pub HasHistory : Space → Type 0
+HasHistory s = s.state ≡ state_of s.setting s.history
 
 -- In every run of every world the state of a space is what its history leaves.
 abbrev pub StatesAreHistories : Type 0
-StatesAreHistories = (settings : List Setting) (events : List WorldEvent) → HaveHistories (run (new_world settings) events).spaces
+StatesAreHistories = (settings : List Setting) (events : List WorldEvent) → AllOf HasHistory (run (new_world settings) events).spaces
 
 -- One more entry of a book is one more event.
 abbrev pub BooksGrow : Type 0

@@ -1,5 +1,5 @@
--- Words of lists in which the rules of a space are written: something is done for each of a list in turn, one row of a table is changed, a list is cut into parts. (No rule of a space stands here.)
-use Rattle.std.specs.Prelude.{ℕ, zero, suc, ◌+◌, Bool, List, [], ◌∷◌, ◌++◌, Option, None, Some, fold, length, nat_lt, if◌then◌else◌}
+-- Words of lists in which the rules of a space are written: something is done for each of a list in turn, one row of a table is changed. (No rule of a space stands here.)
+use Rattle.std.specs.Prelude.{ℕ, zero, suc, ◌+◌, Bool, List, [], ◌∷◌, ◌++◌, Option, None, Some, fold, if◌then◌else◌}
 
 -- what is left of a state after something is done for each of these, in turn
 unfoldable pub each : {S A : Type 0} → (S → A → S) → List A → S → S
@@ -20,16 +20,6 @@ abbrev pub at_index : {A : Type 0} → (A → A) → ℕ → List A → List A
 at_index f n [] = []
 at_index f zero (x ∷ xs) = f x ∷ xs
 at_index f (suc n) (x ∷ xs) = x ∷ at_index f n xs
-
--- an item goes into the last part where that has room, else into a part of its own
-abbrev pub put_in_parts : {A : Type 0} → ℕ → List (List A) → A → List (List A)
-put_in_parts most [] x = (x ∷ []) ∷ []
-put_in_parts most (part ∷ []) x = if nat_lt (length part) most then (part ++ x ∷ []) ∷ [] else part ∷ (x ∷ []) ∷ []
-put_in_parts most (part ∷ next ∷ more) x = part ∷ put_in_parts most (next ∷ more) x
-
--- the list in parts of at most this many, each but the last full
-abbrev pub in_parts : {A : Type 0} → ℕ → List A → List (List A)
-in_parts most xs = fold (put_in_parts most) [] xs
 
 -- the numbers below this one, rising
 abbrev pub numbers_below : ℕ → List ℕ

@@ -24,8 +24,13 @@ add_task g origin method arguments fuel s =
     say (Ready id) (hold g task.held (say (Started id) (record s {
       tasks_made = id;
       tasks = s.tasks ++ record {
-        id = id; origin = origin; waits = false; task = task;
-        began = record { method = method; arguments = arguments; fuel = fuel }; given = []; steps = 0;
+        id = id;
+        origin = origin;
+        waits = false;
+        task = task;
+        began = record { method = method; arguments = arguments; fuel = fuel };
+        given = [];
+        steps = 0;
       } ∷ [];
     })))
 
@@ -57,10 +62,10 @@ report g (OfCall conn number) id fuel outcome s =
 abbrev pub end_with : Setting → ℕ → Living → Outcome → State → State
 end_with g id t outcome s =
     drop g t.task.held (report g t.origin id t.task.fuel outcome
-      (say (Ended id outcome) (record s {
-        tasks = filter (λ (u : Living). not (u.id == id)) s.tasks;
-        retired = s.retired + t.task.made;
-      })))
+    (say (Ended id outcome) (record s {
+      tasks = filter (λ (u : Living). not (u.id == id)) s.tasks;
+      retired = s.retired + t.task.made;
+    })))
 
 -- ---- replies
 
@@ -123,14 +128,14 @@ after_op g (Create class) s =
 after_op g (Get id slot) s = s
 after_op g (Put id slot value) s =
     drop g (references_in (value_at g s id slot (object_at s id)))
-      (hold g (reference_of value) (record s { store = Written id slot value ∷ s.store }))
+    (hold g (reference_of value) (record s { store = Written id slot value ∷ s.store }))
 after_op g (Call target method arguments) s = s
 
 -- The operation that a lent task stands at is done, and its reply completes the instruction.
 unfoldable pub commit : Setting → ℕ → ℕ → Op → State → State
 commit g id k op s = with_some (ready_at s id) s (λ t.
     after_op g op (hold g (gained t.task (answer g (op_reply g op s) (steps k t.task)))
-      (set_task (λ (u : Living). after_reply g (op_reply g op s) (after_steps k u)) id s)))
+    (set_task (λ (u : Living). after_reply g (op_reply g op s) (after_steps k u)) id s)))
 
 -- ---- calls of a lent task
 

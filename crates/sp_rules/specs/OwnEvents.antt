@@ -49,7 +49,7 @@ abbrev pub withdraw : Setting → State → List Object → State
 withdraw g s gone =
     let ids = map (λ (o : Object). o.id) gone in
     say (Withdrawn ids) (each (λ t (o : Object). drop g (references_of (fields_of g s o)) t) gone
-      (each (λ t id. tell_owner (owner.Forget id) t) ids (record s { store = Gone ids ∷ s.store })))
+    (each (λ t id. tell_owner (owner.Forget id) t) ids (record s { store = Gone ids ∷ s.store })))
 
 -- Withdrawn is answered with the objects that go, and not where none does.
 abbrev pub sweep_of : Setting → State → List Object → State

@@ -79,7 +79,7 @@ abbrev pub is_root_argument : Setting → State → Ref → Bool
 is_root_argument g s r =
     if bytes_eq r.space g.id then is_own_standing g s r
     else nat_lt 0 (lease_now s (record { space = r.space; id = r.id })).holders
-      && is_some (lease_now s (record { space = r.space; id = r.id })).lease
+    && is_some (lease_now s (record { space = r.space; id = r.id })).lease
 
 abbrev pub refuse_start : Option StartRefusal → List Check
 refuse_start None = []

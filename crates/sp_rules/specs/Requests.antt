@@ -1,10 +1,10 @@
 -- What is asked of peers: how requests are made, wait for the peer's Hello, and go out; and the end of an event, at which the dirty and clean calls that are due are made (Java RMI specification, 9.1: DGC.dirty and DGC.clean).
-use Rattle.std.specs.Prelude.{ℕ, ◌+◌, ◌&&◌, ◌||◌, not, Bool, true, false, List, [], ◌∷◌, ◌++◌, Option, None, Some, is_some, filter, fold, if◌then◌else◌}
+use Rattle.std.specs.Prelude.{ℕ, ◌+◌, ◌&&◌, ◌||◌, not, Bool, true, false, List, [], ◌∷◌, ◌++◌, Option, None, Some, is_some, filter, if◌then◌else◌}
 use Rattle.std.specs.Str.{bytes_eq}
+use Rattle.dgc_client.specs.declared.groups.Group.{Group}
 use Rattle.dgc_client.specs.declared.lease.Due.{Due}
 use Rattle.dgc_client.specs.declared.lease.Due.TheVariants as due
 use Rattle.dgc_client.specs.Groups as groups
-use Rattle.dgc_client.specs.History as lease_events
 use Rattle.dgc_client.specs.Table as client
 use Rattle.net_message.specs.declared.message.Message.{Message}
 use Rattle.net_message.specs.declared.message.Message.TheVariants as message
@@ -12,34 +12,14 @@ use Rattle.uuid.specs.declared.Uuid.{Uuid}
 use Rattle.vm_heap.specs.declared.values.ObjId.{ObjId}
 use Rattle.sp_rules.specs.Events.{Place, Waited, Cleans, Dirties, Dial}
 use Rattle.sp_rules.specs.Events as event
-use Rattle.sp_rules.specs.Lists.{each, with_some, in_parts}
-use Rattle.sp_rules.specs.State.{CallGroup, State, Request, Asked, Calls, LooksUp, Tells, Stage, Waits, Out, Answered, Connection, connection_to, is_dialling, send, say}
+use Rattle.sp_rules.specs.Lists.{each, with_some}
+use Rattle.sp_rules.specs.State.{State, Request, Asked, Calls, LooksUp, Tells, Stage, Waits, Out, Answered, Connection, connection_to, is_dialling, send, say}
 
 -- ---- groups of dirty and clean calls
 
--- a call goes into the last group where that is of its peer and kind, else into one of its own
-abbrev pub put_call : {C : Type 0} → (C → CallGroup) → List CallGroup → C → List CallGroup
-put_call single [] call = single call ∷ []
-put_call single (group ∷ []) call = join group (single call)
-  where
-    join : CallGroup → CallGroup → List CallGroup
-    join b c = if bytes_eq b.peer c.peer && groups.is_same_kind b.kind c.kind then record b { ids = b.ids ++ c.ids } ∷ [] else b ∷ c ∷ []
-put_call single (group ∷ next ∷ more) call = group ∷ put_call single (next ∷ more) call
-
 -- Among the clean calls of one event, and likewise among its dirty calls, ids of one peer go together, in the order in which the references were first held, and peers in the order of their first id there; strong clean calls go in groups of their own, before the same peer's others.
-unfoldable pub due_groups : List client.Told → List CallGroup
-due_groups h =
-    fold (put_call (λ call. record { peer = call.reference.space; kind = call.kind; ids = call.reference.id ∷ [] })) []
-      (groups.in_order (client.due_of h))
-
--- an event of each reference of a peer
-abbrev pub told : Uuid → List ObjId → lease_events.Event → List client.Told → List client.Told
-told peer ids event h = client.on_each (client.references_at peer ids) event h
-
--- A lease counts from the moment at which its dirty call was sent.
-abbrev pub sent_as : Due → Uuid → List ObjId → ℕ → List client.Told → List client.Told
-sent_as due.Dirty peer ids call h = client.Numbered ∷ told peer ids (lease_events.DirtySent call) h
-sent_as (due.Clean strong) peer ids call h = client.Numbered ∷ h
+unfoldable pub due_groups : List client.Told → List Group
+due_groups h = groups.grouped (groups.in_order (client.due_of h))
 
 -- ---- going out
 
@@ -61,13 +41,13 @@ group_frame (due.Clean strong) sequence ids = message.Clean sequence strong ids
 abbrev pub add_request : Request → State → State
 add_request r s = record s { requests = s.requests ++ r ∷ [] }
 
--- Dirty and Clean are numbered as they go out; their numbers rise by one from 1 over all Dirty and Clean frames of a space.
-unfoldable pub part_goes_out : Place → ℕ → ℕ → CallGroup → State → List ObjId → State
-part_goes_out place conn call group s ids =
+-- Dirty and Clean are numbered as they go out; their numbers rise by one from 1 over all Dirty and Clean frames of a space. A lease counts from the moment at which its dirty call was sent.
+unfoldable pub part_goes_out : Place → ℕ → ℕ → State → Group → State
+part_goes_out place conn call s part =
     let sequence = client.numbers_of s.leases + 1 in
-    send place conn (group_frame group.kind sequence ids)
-      (add_request (record { peer = group.peer; asked = Tells call (record group { ids = ids }); stage = Out conn sequence })
-        (record s { leases = sent_as group.kind group.peer ids call s.leases }))
+    send place conn (group_frame part.kind sequence part.ids)
+    (add_request (record { peer = part.peer; asked = Tells call part; stage = Out conn sequence })
+    (record s { leases = client.sent part call s.leases }))
 
 -- Calls go out with the numbers that they have. Dirty and Clean are cut as they go out: more than 1,024 ids go in several frames.
 abbrev pub goes_out : Place → ℕ → Uuid → Asked → State → State
@@ -75,7 +55,7 @@ goes_out place conn peer (Calls number task lent kind m) s =
     send place conn m (add_request (record { peer = peer; asked = Calls number task lent kind m; stage = Out conn 0 }) s)
 goes_out place conn peer (LooksUp number task name) s =
     send place conn (message.Lookup number name) (add_request (record { peer = peer; asked = LooksUp number task name; stage = Out conn 0 }) s)
-goes_out place conn peer (Tells call group) s = each (part_goes_out place conn call group) (in_parts 1024 group.ids) s
+goes_out place conn peer (Tells call group) s = each (part_goes_out place conn call) (groups.parts_of 1024 group) s
 
 unfoldable pub go_out : Place → ℕ → Request → State → State
 go_out place conn r s = goes_out place conn r.peer r.asked s
@@ -115,11 +95,11 @@ flush_waiting peer conn s =
 
 -- ---- the end of an event
 
-unfoldable pub make_group : State → CallGroup → State
+unfoldable pub make_group : State → Group → State
 make_group s group =
     let call = s.groups_made + 1 in
-    ask (record s { groups_made = call; leases = told group.peer group.ids (client.making group.kind call) s.leases })
-        (record { peer = group.peer; asked = Tells call group; stage = Waits })
+    ask (record s { groups_made = call; leases = client.made group call s.leases })
+    (record { peer = group.peer; asked = Tells call group; stage = Waits })
 
 -- A foreign reference with holders, no lease and no dirty call on its way gets one; one without holders gets a clean call, once after its last dirty call.
 unfoldable pub make_due : State → State

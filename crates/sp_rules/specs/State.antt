@@ -3,7 +3,7 @@ use Rattle.std.specs.Prelude.{ℕ, ◌==◌, ◌&&◌, not, Bool, false, List, [
 use Rattle.std.specs.List.{list_any}
 use Rattle.std.specs.Str.{bytes_eq}
 use Rattle.cls_set.specs.declared.class.ClassId.{ClassId}
-use Rattle.dgc_client.specs.declared.lease.Due.{Due}
+use Rattle.dgc_client.specs.declared.groups.Group.{Group}
 use Rattle.dgc_client.specs.declared.table.ForeignId.{ForeignId}
 use Rattle.dgc_client.specs.Table as client
 use Rattle.dgc_list.specs.History as owner
@@ -77,18 +77,12 @@ pub record Living : Type 0 where
 
 -- ---- what is asked of peers
 
--- references of one peer of which one dirty or clean call is made
-pub record CallGroup : Type 0 where
-  pub peer : Uuid
-  pub kind : Due
-  pub ids : List ObjId
-
 pub data Asked : Type 0 where
   -- a call of a task, with the fuel that it lends and the kind of its result
   Calls : (number task lent : ℕ) (kind : Kind) (message : Message) → Asked
   LooksUp : (number task : ℕ) (name : List ℕ) → Asked
-  -- dirty or clean calls, under the number under which they were made
-  Tells : (call : ℕ) (group : CallGroup) → Asked
+  -- the dirty or clean calls of references of one peer, under the number under which they were made
+  Tells : (call : ℕ) (group : Group) → Asked
 
 -- A request waits to be sent; is out on a connection, dirty and clean calls under their sequence number; or is a call whose Returned is parked.
 pub data Stage : Type 0 where
@@ -173,10 +167,23 @@ pub record State : Type 0 where
 -- A space begins with nothing.
 unfoldable pub opening : State
 opening = record {
-  moment = 0; objects_made = 0; tasks_made = 0; calls_made = 0; groups_made = 0;
-  store = []; owner = record { names = []; entries = [] }; leases = []; tasks = []; requests = []; results = []; connections = []; dialling = []; parked = [];
+  moment = 0;
+  objects_made = 0;
+  tasks_made = 0;
+  calls_made = 0;
+  groups_made = 0;
+  store = [];
+  owner = record { names = []; entries = [] };
+  leases = [];
+  tasks = [];
+  requests = [];
+  results = [];
+  connections = [];
+  dialling = [];
+  parked = [];
   retired = 0;
-  fresh = []; notes = [];
+  fresh = [];
+  notes = [];
 }
 
 -- ---- looking things up

@@ -206,7 +206,7 @@ step_events id task = events_at id task (stand task)
 unfoldable pub step_task : ℕ → ℕ → World → World
 step_task i id w = with_some (slice_get w.spaces i) w (λ s.
     with_some (task_at s.state id) (record w { refused = Some NotLent }) (λ t.
-      if t.waits then record w { refused = Some NotLent } else acts w i (step_events id t.task) w))
+    if t.waits then record w { refused = Some NotLent } else acts w i (step_events id t.task) w))
 
 abbrev pub id_in : Option Space → Option Uuid
 id_in None = None
@@ -249,7 +249,7 @@ unfoldable pub write_fails : ℕ → End → ℕ → World → World
 write_fails conn end unsent w = with_some (slice_get w.pipes conn) w (λ p.
     if is_live (side end p).phase
     then act w (side end p).space (WriteFailed conn (lost unsent end p))
-      (on_side ends conn end (on_side (cut_end (lost unsent end p)) conn (other end) w))
+    (on_side ends conn end (on_side (cut_end (lost unsent end p)) conn (other end) w))
     else w)
 
 abbrev pub begin_side : Side → Side

@@ -3,3 +3,4 @@
 //! them. There is no other code here: each function is a law, and its contract is what it says.
 #![tactic(auto)]
 
+pub mod laws;
