@@ -1,0 +1,14 @@
+pub mod BookLemmas
+pub mod FailureLemmas
+pub mod FuelOfFrames
+pub mod FuelOfSpaces
+pub mod FuelOfTasks
+pub mod FuelOfWorlds
+pub mod FuelSums
+pub mod OwnerLemmas
+pub mod ReadyLemmas
+pub mod RecordLemmas
+pub mod Stable
+pub mod SweepLemmas
+pub mod WithdrawalLemmas
+pub mod WorldLemmas

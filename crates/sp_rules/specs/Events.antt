@@ -1,0 +1,99 @@
+-- What happens to a space, and what it answers: events, one change of its state each, and outputs in their order. (This project's own rule; the Java RMI specification speaks of calls, dirty calls, clean calls and leases, 3.3 and chapter 9.)
+use Rattle.std.specs.Prelude.{ℕ, zero, suc, ◌==◌, List, [], ◌++◌, Option, map, filter}
+use Rattle.net_message.specs.declared.message.Message.{Message}
+use Rattle.sp_registry.specs.declared.fault.RegistryFault.{RegistryFault}
+use Rattle.uuid.specs.declared.Uuid.{Uuid}
+use Rattle.vm_heap.specs.declared.values.ObjId.{ObjId}
+use Rattle.vm_heap.specs.declared.values.Value.{Value}
+use Rattle.sp_rules.specs.Behaviours.{Outcome, Op}
+
+pub data Event : Type 0 where
+  -- so many milliseconds have passed since some beginning
+  Moment : (moment : ℕ) → Event
+  -- objects without a reason to stay are withdrawn
+  Sweep : Event
+  -- a task is to start at a method, with these arguments and so much fuel
+  Root : (method : ℕ) (arguments : List Value) (fuel : ℕ) → Event
+  -- the result of a root or of a lookup is let go
+  RootAck : (task : ℕ) → Event
+  Bind Rebind : (name : List ℕ) (value : Value) → Event
+  Unbind : (name : List ℕ) → Event
+  -- a peer's registry is asked for what is bound to a name
+  Lookup : (peer : Uuid) (name : List ℕ) → Event
+  -- a connection is open: one to the space that was dialled, or one that a peer dialled
+  Opened : (conn : ℕ) (dialled : Option Uuid) → Event
+  -- a space that was dialled could not be reached
+  Refused : (peer : Uuid) → Event
+  Received : (conn : ℕ) (message : Message) → Event
+  -- the connection ended: the peer closed it, a read failed, or bytes came that are no frame
+  Closed ReadFailed Bad : (conn : ℕ) → Event
+  -- a write failed, and the last frames were not sent whole
+  WriteFailed : (conn unsent : ℕ) → Event
+  -- A task that was lent made instructions of its own; and then its operation on the store is done here, it waits for the reply to its call, it is given back, or it has ended.
+  Committed : (task made : ℕ) (op : Op) → Event
+  Parked GivenBack Finished : (task made : ℕ) → Event
+
+pub data Output : Type 0 where
+  Started : (task : ℕ) → Output
+  Ended : (task : ℕ) (outcome : Outcome) → Output
+  Withdrawn : (ids : List ObjId) → Output
+  Denied : (fault : RegistryFault) → Output
+  Send : (conn : ℕ) (message : Message) → Output
+  Dial : (peer : Uuid) → Output
+  Close : (conn : ℕ) → Output
+  Ready : (task : ℕ) → Output
+
+-- ---- the order of outputs
+
+-- The frames of one event stand in this order: Hello, replies, requests that waited, Clean, Dirty, Call and Lookup, Ack.
+pub data Place : Type 0 where
+  Hellos Replies Waited Cleans Dirties Calls Acks : Place
+
+-- what an event answers, while it is under way: a frame, with its place among frames, or another output
+pub data Note : Type 0 where
+  Says : (output : Output) → Note
+  Sends : (place : Place) (conn : ℕ) (message : Message) → Note
+
+abbrev pub place_rank : Place → ℕ
+place_rank Hellos = 4
+place_rank Replies = 5
+place_rank Waited = 6
+place_rank Cleans = 7
+place_rank Dirties = 8
+place_rank Calls = 9
+place_rank Acks = 10
+
+-- how many ranks there are
+abbrev pub ranks : ℕ
+ranks = 14
+
+-- The outputs of one event stand in this order of kinds: Started, Ended, Withdrawn, Denied, Send, Dial, Close, Ready. (A frame is noted with its place; a Send without one has no rank and is not answered.)
+abbrev pub output_rank : Output → ℕ
+output_rank (Started task) = 0
+output_rank (Ended task outcome) = 1
+output_rank (Withdrawn ids) = 2
+output_rank (Denied fault) = 3
+output_rank (Send conn message) = 14
+output_rank (Dial peer) = 11
+output_rank (Close conn) = 12
+output_rank (Ready task) = 13
+
+abbrev pub rank : Note → ℕ
+rank (Says output) = output_rank output
+rank (Sends place conn message) = place_rank place
+
+abbrev pub output_of : Note → Output
+output_of (Says output) = output
+output_of (Sends place conn message) = Send conn message
+
+abbrev pub of_rank : List Note → ℕ → List Output
+of_rank notes k = map output_of (filter (λ n. rank n == k) notes)
+
+-- the outputs of the ranks below
+abbrev pub of_ranks : ℕ → List Note → List Output
+of_ranks zero notes = []
+of_ranks (suc k) notes = of_ranks k notes ++ of_rank notes k
+
+-- Outputs of one kind stand as they were made.
+unfoldable pub in_order : List Note → List Output
+in_order notes = of_ranks ranks notes

@@ -1,0 +1,6 @@
+pub mod BadLinesPlays
+pub mod FailuresPlays
+pub mod FuelPlays
+pub mod LeasesPlays
+pub mod ThirdSpacesPlays
+pub mod ValuesPlays

@@ -1,0 +1,10 @@
+pub mod BadLinesScripts
+pub mod FailuresScripts
+pub mod FuelScripts
+pub mod LeasesScripts
+pub mod Methods
+pub mod Names
+pub mod Programs
+pub mod Scripts
+pub mod ThirdSpacesScripts
+pub mod ValuesScripts
