@@ -9,7 +9,6 @@ ghost use base.Fml.{ftrue};
 
 use std::marker::{Model, PhantomData};
 
-
 /// How data of the type `T` is read off a value of the type `X`.
 pub trait Says<X, T> {
     ghost says: { X → T };
