@@ -87,7 +87,8 @@ impl Clients {
         let mut lease = self.lease(reference);
         lease.hold();
         let (at, _) = self.references.insert_full(*reference, lease)?;
-        self.touched.add(at, self.references.len());
+        let count = self.references.len();
+        self.touched.add(at, count);
         Ok(())
     }
 

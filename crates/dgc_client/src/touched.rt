@@ -29,8 +29,9 @@ impl Touched {
         ensures here { IsTouched self.new at }
         ensures kept { (other : ℕ) → IsTouched self.old other → IsTouched self.new other }
     {
-        if self.places.len() >= count || self.places.push(at).is_err() {
-            self.all = true;
+        let has_place = self.places.len() < count && self.places.push(at).is_ok();
+        if !has_place {
+            self.add_all();
         }
     }
 
