@@ -1,6 +1,6 @@
-//! What bench/leases measures: each word is a play of the client's leases or of the owner's reference
-//! lists, and the number after it is its size. Prints how many calls were answered. Without words it
-//! plays each at a small size.
+//! What bench/leases measures: the first word is a play of the client's leases or of the owner's
+//! reference lists, and the number after it is its size; a third word says how many events touch one
+//! reference. Prints how many calls were answered. Without words it plays each at a small size.
 #![tactic(auto)]
 
 use dgc_client::{Clients, ForeignId};
@@ -13,11 +13,10 @@ use uuid::Uuid;
 use vm_heap::ObjId;
 
 fn main(rt: HostRuntime) -> ExitCode {
-    let (word, size) = match words_of(&rt) {
-        Ok(words) => words,
-        Err(_) => return ExitCode::FAILURE,
+    let Ok(words) = words_of(&rt) else {
+        return ExitCode::FAILURE;
     };
-    let answered = match play(rt.alloc(), word, size) {
+    let answered = match play(rt.alloc(), words) {
         Ok(answered) => answered,
         Err(AllocError) => return ExitCode::FAILURE,
     };
@@ -32,7 +31,7 @@ fn main(rt: HostRuntime) -> ExitCode {
 enum Play {
     /// References are held, one an event.
     Held,
-    /// References are held and leased, and 20,000 events touch one of them each.
+    /// References are held and leased, and events touch one of them each.
     Touched,
     /// As many clients of one object come and go.
     Clients,
@@ -55,8 +54,15 @@ fn play_of(word: &str) -> Play {
     }
 }
 
-// The play that the words name, and its size.
-fn words_of<R: Env + AllocGlobal>(rt: &R) -> io::Result<(Play, u64)> {
+/// What the words say.
+#[derive(Clone, Copy)]
+struct Words {
+    play: Play,
+    size: u64,
+    events: u64,
+}
+
+fn words_of<R: Env + AllocGlobal>(rt: &R) -> io::Result<Words> {
     let mut words = env::args(rt)?.skip(1);
     let play = match words.next() {
         Some(word) => play_of(word.as_str()),
@@ -66,17 +72,21 @@ fn words_of<R: Env + AllocGlobal>(rt: &R) -> io::Result<(Play, u64)> {
         Some(word) => word.parse::<u64>().unwrap_or(0),
         None => 10,
     };
-    Ok((play, size))
+    let events = match words.next() {
+        Some(word) => word.parse::<u64>().unwrap_or(0),
+        None => 10,
+    };
+    Ok(Words { play, size, events })
 }
 
-fn play(alloc: Global, play: Play, size: u64) -> Result<u64, AllocError> {
-    match play {
-        Play::Held => held(alloc, size),
-        Play::Touched => touched(alloc, size, 20_000),
-        Play::Clients => clients(alloc, size),
-        Play::Renewals => renewals(alloc, size),
-        Play::Ends => ends(alloc, size),
-        Play::All => all(alloc, size),
+fn play(alloc: Global, words: Words) -> Result<u64, AllocError> {
+    match words.play {
+        Play::Held => held(alloc, words.size),
+        Play::Touched => touched(alloc, words.size, words.events),
+        Play::Clients => clients(alloc, words.size),
+        Play::Renewals => renewals(alloc, words.size),
+        Play::Ends => ends(alloc, words.size),
+        Play::All => all(alloc, words.size),
     }
 }
 
