@@ -1,4 +1,5 @@
 pub mod GroupsLemmas
 pub mod LeaseLemmas
 pub mod OrderLemmas
+pub mod TouchedLemmas
 pub mod TableLemmas

@@ -24,8 +24,9 @@ use Rattle.dgc_client.specs.declared.table.Clients.{Clients}
 use Rattle.dgc_client.specs.Groups.{is_clean}
 use Rattle.dgc_client.specs.Lease.{fresh, after_moment, due}
 use Rattle.dgc_client.specs.History.{Event, lease_of, after, event_of}
-use Rattle.dgc_client.specs.Table.{Told, is_same, is_among, is_hold, with_reference, held, own, moment_of, lease_at, is_known, Puts, IsAfter, on_each, references_at, due_call, due_of}
+use Rattle.dgc_client.specs.Table.{Told, is_same, is_among, is_hold, with_reference, held, own, moment_of, lease_at, is_known, Puts, IsAfter, on_each, references_at, due_of, IsCovered}
 use Rattle.dgc_client.specs.Table.Told.{On, At}
+use Rattle.dgc_client.specs.Touched.{IsTouched, due_call, call_of_entry}
 use Rattle.dgc_client.proofs.LeaseLemmas.{clean-unheld}
 
 left-true : (s t : Bool) → (s && t) ≡ true → s ≡ true
@@ -99,8 +100,8 @@ each-after reference lease old new moment at q =
 pub puts : (reference : ForeignId) (lease : ClientLease) (old new : Clients) → new.moment ≡ old.moment → new.numbers ≡ old.numbers
     → keys_of new.references.entries ≡ keys_of old.references.entries
     → ((q : ForeignId) → lookup (is_same q) new.references.entries ≡ cond (is_same reference q) (Some lease) (lookup (is_same q) old.references.entries))
-    → Puts reference lease old new
-puts reference lease old new moment numbers keys at = record { moment = moment; numbers = numbers; keys = keys; each = each-after reference lease old new moment at }
+    → (IsCovered old → IsCovered new) → Puts reference lease old new
+puts reference lease old new moment numbers keys at covered = record { moment = moment; numbers = numbers; keys = keys; each = each-after reference lease old new moment at; covered = covered }
 
 counted : (s x : Bool) (a b : List Event) → x ≡ true → cond (s && x) a b ≡ cond s a b
 counted true x a b e = ap (λ t. cond t a b) e
@@ -116,8 +117,8 @@ pub after-event : (h : List Told) (old new : Clients) (reference : ForeignId) (e
     → keys_of new.references.entries ≡ (if is_hold event then with_reference (keys_of old.references.entries) reference else keys_of old.references.entries)
     → ((q : ForeignId) → lease_at new q ≡ cond (is_same reference q) lease (lease_at old q))
     → (is_hold event || is_among reference (keys_of old.references.entries)) ≡ true
-    → lease ≡ after event (lease_at old reference) → IsAfter h old → IsAfter (On reference event ∷ h) new
-after-event h old new reference event lease moment numbers keys each counts is was =
+    → lease ≡ after event (lease_at old reference) → (IsCovered old → IsCovered new) → IsAfter h old → IsAfter (On reference event ∷ h) new
+after-event h old new reference event lease moment numbers keys each counts is covered was =
     let told : (is_hold event || is_among reference (held h)) ≡ true = ap (λ (ks : List ForeignId). is_hold event || is_among reference ks) (sym was.held) ∙ counts in
     record {
       moment = moment ∙ was.moment;
@@ -127,6 +128,7 @@ after-event h old new reference event lease moment numbers keys each counts is w
         | true ↦ λ same. subst (λ (r : ForeignId). lease ≡ after event (lease_of (own r h))) (same-reference reference q same) (is ∙ ap (after event) (was.each reference))
         | false ↦ λ _. was.each q
       ] refl) ∙ ap lease_of (sym (counted (is_same reference q) (is_hold event || is_among reference (held h)) (event ∷ own q h) (own q h) told));
+      covered = covered was.covered;
     }
 
 -- what is told of a reference that was never held is none of it
@@ -140,6 +142,7 @@ after-nothing h clients reference event new_none absent was =
       numbers = was.numbers;
       held = was.held ∙ ap (λ t. if t then with_reference (held h) reference else held h) (sym new_none);
       each = λ q. was.each q ∙ ap lease_of (sym (uncounted (is_same reference q) (is_hold event || is_among reference (held h)) (event ∷ own q h) (own q h) untold));
+      covered = was.covered;
     }
 
 -- no change is a new holder
@@ -163,7 +166,7 @@ after-change h old new reference change lease put left is was = by (is_known old
     by true known =
         let p = put known in
         after-event h old new reference (event_of change) lease p.moment p.numbers (p.keys ∙ ap (λ t. if t then with_reference (keys_of old.references.entries) reference else keys_of old.references.entries) (sym (no-hold change)))
-        p.each (ap (λ t. t || is_among reference (keys_of old.references.entries)) (no-hold change) ∙ sym (known-among reference old.references.entries) ∙ known) is was
+        p.each (ap (λ t. t || is_among reference (keys_of old.references.entries)) (no-hold change) ∙ sym (known-among reference old.references.entries) ∙ known) is p.covered was
     by false unknown = subst (λ (l : Clients). IsAfter (On reference (event_of change) ∷ h) l) (sym (left unknown))
         (after-nothing h old reference (event_of change) (no-hold change) (sym (known-among reference old.references.entries) ∙ unknown) was)
 
@@ -171,11 +174,11 @@ after-change h old new reference change lease put left is was = by (is_known old
 pub after-held : (h : List Told) (old new : Clients) (reference : ForeignId) (event : Event) (lease : ClientLease) → is_hold event ≡ true
     → new.moment ≡ old.moment → new.numbers ≡ old.numbers → keys_of new.references.entries ≡ with_reference (keys_of old.references.entries) reference
     → ((q : ForeignId) → lookup (is_same q) new.references.entries ≡ cond (is_same reference q) (Some lease) (lookup (is_same q) old.references.entries))
-    → lease ≡ after event (lease_at old reference) → IsAfter h old → IsAfter (On reference event ∷ h) new
-after-held h old new reference event lease holds moment numbers keys at is was =
+    → lease ≡ after event (lease_at old reference) → (IsCovered old → IsCovered new) → IsAfter h old → IsAfter (On reference event ∷ h) new
+after-held h old new reference event lease holds moment numbers keys at is covered was =
     after-event h old new reference event lease moment numbers
     (keys ∙ ap (λ t. if t then with_reference (keys_of old.references.entries) reference else keys_of old.references.entries) (sym holds))
-    (each-after reference lease old new moment at) (ap (λ t. t || is_among reference (keys_of old.references.entries)) holds) is was
+    (each-after reference lease old new moment at) (ap (λ t. t || is_among reference (keys_of old.references.entries)) holds) is covered was
 
 on-each-push : (rs : List ForeignId) (r : ForeignId) (event : Event) (h : List Told) → on_each (rs ++ r ∷ []) event h ≡ On r event ∷ on_each rs event h
 on-each-push [] r event h = refl
@@ -277,14 +280,16 @@ passed-keys m (e ∷ es) = ap (λ (rest : List ForeignId). e.0 ∷ rest) (passed
 
 -- a moment, from what it makes of each reference
 pub after-pass : (h : List Told) (old new : Clients) (m : ℕ) → new.moment ≡ max old.moment m → new.numbers ≡ old.numbers
-    → new.references.entries ≡ map (λ (e : ForeignId × ClientLease). (e.0, after_moment m e.1)) old.references.entries → IsAfter h old → IsAfter (At m ∷ h) new
-after-pass h old new m moment numbers is was = record {
+    → new.references.entries ≡ map (λ (e : ForeignId × ClientLease). (e.0, after_moment m e.1)) old.references.entries → ((at : ℕ) → IsTouched new.touched at)
+    → IsAfter h old → IsAfter (At m ∷ h) new
+after-pass h old new m moment numbers is all was = record {
   moment = moment ∙ ap (λ n. max n m) was.moment ∙ (let flipped : max (moment_of h) m ≡ max m (moment_of h) = omega arith in flipped);
   numbers = numbers ∙ was.numbers;
   held = ap (λ (es : List (ForeignId × ClientLease)). keys_of es) is ∙ passed-keys m old.references.entries ∙ was.held;
   each = λ r. ap (λ n. unwrap_or (lookup (is_same r) new.references.entries) (fresh n)) moment
       ∙ ap (λ (es : List (ForeignId × ClientLease)). unwrap_or (lookup (is_same r) es) (fresh (max old.moment m))) is
       ∙ passed m old.moment r old.references.entries ∙ ap (after_moment m) (was.each r);
+  covered = λ at _. all at;
 }
 
 pub pass-next : (m : ℕ) (es now : List (ForeignId × ClientLease)) (i : ℕ) (v w : ClientLease) → i < length es
@@ -294,3 +299,14 @@ pub pass-next : (m : ℕ) (es now : List (ForeignId × ClientLease)) (i : ℕ) (
 pass-next m es now i v w l is here set =
     let next : i + 1 ≡ suc i = omega arith in
     rw (set, is, next) (pass-step m es i v l (subst (λ (xs : List (ForeignId × ClientLease)). slice_get (values_of xs) i ≡ Some v) is here))
+
+-- where other references may have a call due the table is the same otherwise
+pub after-touched : (h : List Told) (old new : Clients) → new.moment ≡ old.moment → new.numbers ≡ old.numbers → new.references.entries ≡ old.references.entries
+    → IsCovered new → IsAfter h old → IsAfter h new
+after-touched h old new moment numbers entries covered was = record {
+  moment = moment ∙ was.moment;
+  numbers = numbers ∙ was.numbers;
+  held = ap (λ (es : List (ForeignId × ClientLease)). keys_of es) entries ∙ was.held;
+  each = λ r. (λ i. unwrap_or (lookup (is_same r) (entries i)) (fresh (moment i))) ∙ was.each r;
+  covered = covered;
+}

@@ -12,6 +12,7 @@ use Rattle.dgc_client.specs.declared.lease.Due.TheVariants.{Dirty, Clean}
 use Rattle.dgc_client.specs.declared.table.ForeignId.{ForeignId}
 use Rattle.dgc_client.specs.declared.table.Clients.{Clients}
 use Rattle.dgc_client.specs.Lease.{fresh, due}
+use Rattle.dgc_client.specs.Touched.{IsTouched, due_call, IsDueAt}
 use Rattle.dgc_client.specs.History.{Event, lease_of}
 use Rattle.dgc_client.specs.History.Event.{Held, Dropped, Moment, DirtyMade, CleanMade, DirtySent, DirtyAnswered, DirtyFailed, CleanAnswered, CleanFailed}
 
@@ -102,10 +103,6 @@ sent_as (Clean strong) group call h = h
 abbrev pub sent : Group → ℕ → List Told → List Told
 sent group call h = Numbered ∷ sent_as group.kind group call h
 
-abbrev pub due_call : ForeignId → Option Due → Option DueCall
-due_call reference None = None
-due_call reference (Some kind) = Some (record { reference = reference; kind = kind })
-
 -- the calls that are due, in the order in which the references were first held
 abbrev pub due_of : List Told → List DueCall
 due_of h = filter_map (λ reference. due_call reference (due (lease_of (own reference h)))) (held h)
@@ -122,12 +119,17 @@ lease_at clients reference = unwrap_or (lookup (is_same reference) clients.refer
 abbrev pub is_known : Clients → ForeignId → Bool
 is_known clients reference = is_some (lookup (is_same reference) clients.references.entries)
 
+-- Each reference of which a call is due is among those that were touched.
+abbrev pub IsCovered : Clients → Type 0
+IsCovered clients = (at : ℕ) → IsDueAt clients.references.entries at → IsTouched clients.touched at
+
 -- this is kept of the reference now, and all else stays
 pub record Puts (reference : ForeignId) (lease : ClientLease) (old new : Clients) : Type 0 where
   pub moment : new.moment ≡ old.moment
   pub numbers : new.numbers ≡ old.numbers
   pub keys : keys_of new.references.entries ≡ keys_of old.references.entries
   pub each : (other : ForeignId) → lease_at new other ≡ (if is_same reference other then lease else lease_at old other)
+  pub covered : IsCovered old → IsCovered new
 
 -- The table is what the history leaves.
 pub record IsAfter (h : List Told) (clients : Clients) : Type 0 where
@@ -135,3 +137,4 @@ pub record IsAfter (h : List Told) (clients : Clients) : Type 0 where
   pub numbers : clients.numbers ≡ numbers_of h
   pub held : keys_of clients.references.entries ≡ held h
   pub each : (reference : ForeignId) → lease_at clients reference ≡ lease_of (own reference h)
+  pub covered : IsCovered clients

@@ -10,7 +10,9 @@ pub use groups::{DueCall, Group};
 pub use lease::{ClientLease, Due, LONGEST_LEASE, Made, Owed, Term};
 pub use table::{Clients, ForeignId};
 
+mod due_now;
 mod groups;
 pub mod laws;
 mod lease;
 mod table;
+mod touched;

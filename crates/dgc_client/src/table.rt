@@ -4,11 +4,13 @@ ghost use Rattle.std.specs.Prelude.{◌≡◌, ◌≤◌, ◌<◌, ◌+◌, ◌^
 ghost use Rattle.std.specs.List.{filter_map, IsDistinct};
 ghost use Rattle.std.specs.Map.{keys_of};
 ghost use Rattle.indexmap.specs.IndexMap.{spare};
-ghost use Rattle.dgc_client.specs.Lease.{after_moment, due, is_renewed_at, lapses_at};
-ghost use Rattle.dgc_client.specs.Table.{due_call, is_same};
+ghost use Rattle.dgc_client.specs.Lease.{after_moment, is_renewed_at, lapses_at};
+ghost use Rattle.dgc_client.specs.Table.{is_same};
 
-use crate::groups::{DueCall, Group, grouped, in_order};
+use crate::due_now::due_now;
+use crate::groups::{Group, grouped, in_order};
 use crate::lease::Change;
+use crate::touched::Touched;
 use crate::{ClientLease, Due};
 use indexmap::IndexMap;
 use std::alloc::{AllocError, Global};
@@ -29,6 +31,7 @@ pub struct ForeignId {
 #[derive(Debug, Drop)]
 pub struct Clients {
     references: IndexMap<ForeignId, ClientLease>,
+    touched: Touched,
     moment: u64,
     numbers: u64,
 }
@@ -46,6 +49,7 @@ impl Clients {
     {
         Clients {
             references: IndexMap::new(alloc),
+            touched: Touched::new(alloc),
             moment: 0,
             numbers: 0,
         }
@@ -82,7 +86,9 @@ impl Clients {
     {
         let mut lease = self.lease(reference);
         lease.hold();
-        self.references.insert(*reference, lease)?;
+        let (at, _) = self.references.insert_full(*reference, lease)?;
+        let count = self.references.len();
+        self.touched.add(at, count);
         Ok(())
     }
 
@@ -108,14 +114,20 @@ impl Clients {
 
     /// The calls that are due now: clean calls first, then dirty calls; those of one peer together,
     /// strong clean calls in groups of their own before the others. References stand in the order in
-    /// which they were first held, and peers in the order of their first reference. Changes nothing:
-    /// each group that is answered is to be [`made`](Clients::made).
-    pub fn due(&self, alloc: Global) -> Result<Vec<Group>, AllocError>
-        ensures { IfOk result (λ groups. (h : List Told) → IsAfter h self.now → groups.items ≡ grouped (in_order (due_of h))) }
+    /// which they were first held, and peers in the order of their first reference. Nothing happens:
+    /// each group that is answered is to be [`made`](Clients::made). Looks at the references alone that
+    /// something happened to since the last call, or at all after a moment.
+    pub fn due(&mut self, alloc: Global) -> Result<Vec<Group>, AllocError>
+        ensures groups { IfOk result (λ groups. (h : List Told) → IsAfter h self.old → groups.items ≡ grouped (in_order (due_of h))) }
+        ensures same { (h : List Told) → IsAfter h self.old → IsAfter h self.new }
+        ensures room { room self.new ≡ room self.old }
     {
-        let calls = due_calls(alloc, &self.references)?;
-        let ordered = in_order(alloc, calls.as_slice())?;
-        grouped(alloc, ordered.as_slice())
+        let candidates = self.touched.rising(alloc, self.references.len())?;
+        let now = due_now(alloc, &self.references, candidates.as_slice())?;
+        let ordered = in_order(alloc, now.calls.as_slice())?;
+        let groups = grouped(alloc, ordered.as_slice())?;
+        self.touched.only(now.places);
+        Ok(groups)
     }
 
     /// The references whose lease is due for renewal once this moment has come, in the order in which
@@ -210,6 +222,7 @@ impl Clients {
         ensures room { room self.new ≡ room self.old }
     {
         pass(&mut self.references, moment);
+        self.touched.add_all();
         self.moment = self.moment.max(moment);
     }
 
@@ -248,35 +261,9 @@ impl Clients {
     {
         if let Some(at) = self.references.get_index_of(reference) {
             self.references[at] = lease;
+            self.touched.add(at, self.references.len());
         }
     }
-}
-
-// The call that is due of a reference.
-fn due_call(reference: &ForeignId, lease: &ClientLease) -> Option<DueCall>
-    ensures { result ≡ due_call reference.now (due lease.now) }
-{
-    match lease.due() {
-        Some(kind) => Some(DueCall {
-            reference: *reference,
-            kind,
-        }),
-        None => None,
-    }
-}
-
-// The calls that are due, in the order of the references.
-fn due_calls(
-    alloc: Global,
-    references: &IndexMap<ForeignId, ClientLease>,
-) -> Result<Vec<DueCall>, AllocError>
-    ensures calls { IfOk result (λ calls. calls.items ≡ filter_map (λ entry. due_call entry.0 (due entry.1)) references.now.entries) }
-    ensures distinct { IsDistinct is_same (keys_of references.now.entries) }
-{
-    references
-        .iter()
-        .filter_map(|(reference, lease)| due_call(reference, lease))
-        .collect(alloc)
 }
 
 // The references whose lease is due for renewal at the moment, in their order.

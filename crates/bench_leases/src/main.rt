@@ -1,0 +1,175 @@
+//! What bench/leases measures: the first word is a play of the client's leases or of the owner's
+//! reference lists, and the number after it is its size; a third word says how many events touch one
+//! reference. Prints how many calls were answered. Without words it plays each at a small size.
+#![tactic(auto)]
+
+use dgc_client::{Clients, ForeignId};
+use dgc_list::RefList;
+use std::alloc::{AllocError, Global};
+use std::process::ExitCode;
+use std::rt::Env;
+use std::{env, io};
+use uuid::Uuid;
+use vm_heap::ObjId;
+
+fn main(rt: HostRuntime) -> ExitCode {
+    let Ok(words) = words_of(&rt) else {
+        return ExitCode::FAILURE;
+    };
+    let answered = match play(rt.alloc(), words) {
+        Ok(answered) => answered,
+        Err(AllocError) => return ExitCode::FAILURE,
+    };
+    match println!(rt; "{answered}") {
+        Ok(()) => ExitCode::SUCCESS,
+        Err(_) => ExitCode::FAILURE,
+    }
+}
+
+/// What is played.
+#[derive(Clone, Copy)]
+enum Play {
+    /// References are held, one an event.
+    Held,
+    /// References are held and leased, and events touch one of them each.
+    Touched,
+    /// As many clients of one object come and go.
+    Clients,
+    /// One client renews its lease of one object with two periods in turn.
+    Renewals,
+    /// One client's leases of as many objects end at one moment.
+    Ends,
+    /// Each of these.
+    All,
+}
+
+fn play_of(word: &str) -> Play {
+    match word {
+        "held" => Play::Held,
+        "touched" => Play::Touched,
+        "clients" => Play::Clients,
+        "renewals" => Play::Renewals,
+        "ends" => Play::Ends,
+        _ => Play::All,
+    }
+}
+
+/// What the words say.
+#[derive(Clone, Copy)]
+struct Words {
+    play: Play,
+    size: u64,
+    events: u64,
+}
+
+fn words_of<R: Env + AllocGlobal>(rt: &R) -> io::Result<Words> {
+    let mut words = env::args(rt)?.skip(1);
+    let play = match words.next() {
+        Some(word) => play_of(word.as_str()),
+        None => Play::All,
+    };
+    let size = match words.next() {
+        Some(word) => word.parse::<u64>().unwrap_or(0),
+        None => 10,
+    };
+    let events = match words.next() {
+        Some(word) => word.parse::<u64>().unwrap_or(0),
+        None => 10,
+    };
+    Ok(Words { play, size, events })
+}
+
+fn play(alloc: Global, words: Words) -> Result<u64, AllocError> {
+    match words.play {
+        Play::Held => held(alloc, words.size),
+        Play::Touched => touched(alloc, words.size, words.events),
+        Play::Clients => clients(alloc, words.size),
+        Play::Renewals => renewals(alloc, words.size),
+        Play::Ends => ends(alloc, words.size),
+        Play::All => all(alloc, words.size),
+    }
+}
+
+fn all(alloc: Global, size: u64) -> Result<u64, AllocError> {
+    let leases = held(alloc, size)?.wrapping_add(touched(alloc, size, size)?);
+    let lists = clients(alloc, size)?.wrapping_add(renewals(alloc, size)?);
+    Ok(leases.wrapping_add(lists).wrapping_add(ends(alloc, size)?))
+}
+
+fn reference(id: u64) -> ForeignId {
+    ForeignId {
+        space: Uuid::from_u64_pair(0, 7),
+        id: ObjId(id),
+    }
+}
+
+// Makes, sends and answers all that is due. Answers how many groups that were.
+fn settle(clients: &mut Clients, alloc: Global) -> Result<u64, AllocError> {
+    let groups = clients.due(alloc)?;
+    for group in &groups {
+        clients.made(group, 1);
+        let _ = clients.sent(group, 1);
+        clients.dirty_answered(group, 1, 600_000);
+        clients.clean_answered(group, 1);
+    }
+    Ok(groups.len() as u64)
+}
+
+fn held(alloc: Global, size: u64) -> Result<u64, AllocError> {
+    let mut clients = Clients::new(alloc);
+    let mut answered: u64 = 0;
+    for id in 0..size {
+        clients.hold(&reference(id))?;
+        answered = answered.wrapping_add(settle(&mut clients, alloc)?);
+    }
+    Ok(answered)
+}
+
+fn touched(alloc: Global, size: u64, events: u64) -> Result<u64, AllocError> {
+    let mut clients = Clients::new(alloc);
+    for id in 0..size {
+        clients.hold(&reference(id))?;
+    }
+    let mut answered = settle(&mut clients, alloc)?;
+    for event in 0..events {
+        let one = reference(event % size.max(1));
+        clients.drop_holder(&one);
+        answered = answered.wrapping_add(settle(&mut clients, alloc)?);
+        clients.hold(&one)?;
+        answered = answered.wrapping_add(settle(&mut clients, alloc)?);
+    }
+    Ok(answered)
+}
+
+fn client(number: u64) -> Uuid {
+    Uuid::from_u64_pair(1, number)
+}
+
+fn clients(alloc: Global, size: u64) -> Result<u64, AllocError> {
+    let mut list = RefList::new(alloc);
+    for number in 0..size {
+        list.dirty(&client(number), &[ObjId(1)], 1, 600_000)?;
+    }
+    for number in 0..size {
+        list.clean(&client(number), &[ObjId(1)], 2, false)?;
+    }
+    Ok(size)
+}
+
+fn renewals(alloc: Global, size: u64) -> Result<u64, AllocError> {
+    let mut list = RefList::new(alloc);
+    for number in 1..size {
+        let period = if number % 2 == 0 { 600_000 } else { 1000 };
+        list.dirty(&client(0), &[ObjId(1)], number, period)?;
+    }
+    Ok(size)
+}
+
+fn ends(alloc: Global, size: u64) -> Result<u64, AllocError> {
+    let mut list = RefList::new(alloc);
+    for id in 0..size {
+        list.dirty(&client(0), &[ObjId(id)], 1, 600_000)?;
+    }
+    list.moment(600_000);
+    Ok(size)
+}
