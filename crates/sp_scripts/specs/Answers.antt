@@ -180,6 +180,39 @@ RefusalsOfLentTasks = heard space (Root counter_make [] 100 ∷ Committed 1 0 (G
     Answers (Started 1 ∷ Ready 1 ∷ []) ∷ Refuses NotHeld ∷ Refuses WrongKind ∷ Refuses WrongKind ∷ Refuses WrongKind
     ∷ Answers [] ∷ Refuses WrongKind ∷ Refuses WrongKind ∷ Refuses NotHeld ∷ Answers [] ∷ []
 
+-- ---- what holds an object
+
+abbrev pub made_counter : List Event → List Event
+made_counter es = Root counter_make [] 100 ∷ Committed 1 0 (Create (class_of counter_class)) ∷ GivenBack 1 0 ∷ Finished 1 7 ∷ es
+
+abbrev pub made_answers : List Answer → List Answer
+made_answers answers = Answers (Started 1 ∷ Ready 1 ∷ []) ∷ Answers [] ∷ Answers [] ∷ Answers (Ended 1 (Returned (Some (counter_of own 1))) ∷ []) ∷ answers
+
+-- A task holds the object that it made; then its result does; then nothing.
+abbrev pub HeldByATask : Type 0
+HeldByATask = heard space (Root counter_make [] 100 ∷ Committed 1 0 (Create (class_of counter_class)) ∷ Sweep ∷ GivenBack 1 0 ∷ Finished 1 7 ∷ Sweep ∷ RootAck 1 ∷ Sweep ∷ []) ≡
+    Answers (Started 1 ∷ Ready 1 ∷ []) ∷ Answers [] ∷ Answers [] ∷ Answers [] ∷ Answers (Ended 1 (Returned (Some (counter_of own 1))) ∷ [])
+    ∷ Answers [] ∷ Answers [] ∷ Answers (Withdrawn (object 1 ∷ []) ∷ []) ∷ []
+
+-- A field of a standing object holds the object in it; once the box goes, the next Sweep takes what was in it.
+abbrev pub HeldByAField : Type 0
+HeldByAField = heard space (made_counter (Root box_make [] 100 ∷ Committed 2 0 (Create (class_of box_class)) ∷ GivenBack 2 0 ∷ Finished 2 7
+    ∷ Root box_put (second_box ∷ counter_of own 1 ∷ []) 100 ∷ Committed 3 5 (Put (object 2) 0 (counter_of own 1)) ∷ GivenBack 3 0 ∷ Finished 3 2
+    ∷ RootAck 1 ∷ Sweep ∷ RootAck 2 ∷ Sweep ∷ Sweep ∷ [])) ≡
+    made_answers (Answers (Started 2 ∷ Ready 2 ∷ []) ∷ Answers [] ∷ Answers [] ∷ Answers (Ended 2 (Returned (Some second_box)) ∷ [])
+    ∷ Answers (Started 3 ∷ Ready 3 ∷ []) ∷ Answers [] ∷ Answers [] ∷ Answers (Ended 3 (Returned None) ∷ [])
+    ∷ Answers [] ∷ Answers [] ∷ Answers [] ∷ Answers (Withdrawn (object 2 ∷ []) ∷ []) ∷ Answers (Withdrawn (object 1 ∷ []) ∷ []) ∷ [])
+  where
+    second_box : Value
+    second_box = values.Ref (record { space = own; id = object 2; class = class_of box_class })
+
+-- A result whose connection ended is held for 600,000 ms after the last moment, and a moment below the last changes nothing.
+abbrev pub HeldAfterTheEnd : Type 0
+HeldAfterTheEnd = heard space (made_counter (Bind name (counter_of own 1) ∷ RootAck 1 ∷ greeted (Received 0 (message.Lookup 1 name) ∷ Unbind name
+    ∷ Moment 700000 ∷ Moment 5 ∷ Closed 0 ∷ Moment 1299999 ∷ Sweep ∷ Moment 1300000 ∷ Sweep ∷ []))) ≡
+    made_answers (Answers [] ∷ Answers [] ∷ said_hello ∷ Answers [] ∷ Answers (Send 0 (message.Returned 1 0 (Some (counter_of own 1))) ∷ []) ∷ Answers []
+    ∷ Answers [] ∷ Answers [] ∷ Answers [] ∷ Answers [] ∷ Answers [] ∷ Answers [] ∷ Answers (Withdrawn (object 1 ∷ []) ∷ []) ∷ [])
+
 -- ---- what a task may hold
 
 -- Two references are too many for a task that may hold one: as arguments, and as a reply, after which the object that was made stands until the next Sweep.

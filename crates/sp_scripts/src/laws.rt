@@ -6,7 +6,7 @@ ghost use Rattle.sp_scripts.specs.FailuresScripts.{AckLost, CallLost, CallReadFa
 ghost use Rattle.sp_scripts.specs.LeasesScripts.{WithdrawnObject, CleanNotRepeatedWithHolder, CleanRepeatedUntilNotYet, LastHolderOfTwo, LateDirtyAfterStrongClean, LookupNeedsAckOfLease, MomentBelow, RenewalFailedAgain, WeakCleanForgets, OvertakenLease, LeaseOfAnOvertakenDirty, ParkedCallIsAReason, KeptFar, ChurnCleans, CycleStays, CellMadeAfar};
 ghost use Rattle.sp_scripts.specs.ThirdSpacesScripts.{ThirdSpace, ThirdSpaceSwept, FetchThroughThird, FreshRoundTrip, EntryBeforeStart};
 ghost use Rattle.sp_scripts.specs.BadLinesScripts.{BadLookupSelf, BadRootKind, BadRootNoHolder, LapsedLeaseIsNoRootArgument};
-ghost use Rattle.sp_scripts.specs.Answers.{RightHello, WrongDigest, WrongId, NoHello, RefusedDial, ClosedByThoseThatAsk, ClosedByThoseThatAnswer, UnfitReplies, OrderOfFrames, Refusals, RefusalsOfLentTasks, TooManyReferences};
+ghost use Rattle.sp_scripts.specs.Answers.{RightHello, WrongDigest, WrongId, NoHello, RefusedDial, ClosedByThoseThatAsk, ClosedByThoseThatAnswer, UnfitReplies, OrderOfFrames, Refusals, RefusalsOfLentTasks, HeldByATask, HeldByAField, HeldAfterTheEnd, TooManyReferences};
 
 /// Values that cross, and how calls end.
 pub fn scripts_of_values()
@@ -102,5 +102,8 @@ pub fn answers_of_one_space()
     ensures order_of_frames { OrderOfFrames }
     ensures refusals { Refusals }
     ensures refusals_of_lent_tasks { RefusalsOfLentTasks }
+    ensures held_by_a_task { HeldByATask }
+    ensures held_by_a_field { HeldByAField }
+    ensures held_after_the_end { HeldAfterTheEnd }
     ensures too_many_references { TooManyReferences }
 {}
