@@ -5,9 +5,13 @@ pub mod FuelOfSpaces
 pub mod FuelOfTasks
 pub mod FuelOfWorlds
 pub mod FuelSums
+pub mod HistoryLemmas
+pub mod NumberLemmas
+pub mod OrderLemmas
 pub mod OwnerLemmas
 pub mod ReadyLemmas
 pub mod RecordLemmas
+pub mod RefusalLemmas
 pub mod Stable
 pub mod SweepLemmas
 pub mod WithdrawalLemmas

@@ -4,7 +4,7 @@ use Rattle.std.specs.Prelude.{◌≡◌, refl, true, false}
 use Rattle.std.proofs.lemmas.Bool.{true≢false}
 use Rattle.sp_rules.specs.Classes.{Setting}
 use Rattle.sp_rules.specs.Events.{Event, Moment, Sweep, Root, RootAck, Bind, Rebind, Unbind, Lookup, Opened, Refused, Received, Closed, ReadFailed, Bad, WriteFailed, Committed, Parked, GivenBack, Finished}
-use Rattle.sp_rules.specs.Laws.{leaves_owner, is_sweep, EventsLeaveOwners}
+use Rattle.sp_rules.specs.Laws.{leaves_owner, is_naming, is_sweep, EventsLeaveOwners}
 use Rattle.sp_rules.specs.State.{State, Owner}
 use Rattle.sp_rules.proofs.Stable.{Core, IsStable, on_keeps}
 
@@ -27,7 +27,7 @@ stable g o = record {
 
 -- a Sweep is no event that leaves the owner alone
 pub sweeps-own : (e : Event) → is_sweep e ≡ true → leaves_owner e ≡ false
-sweeps-own (Moment moment) is = refl
+sweeps-own (Moment moment) is = absurd (true≢false (sym is))
 sweeps-own Sweep is = refl
 sweeps-own (Root method arguments fuel) is = absurd (true≢false (sym is))
 sweeps-own (RootAck task) is = absurd (true≢false (sym is))
@@ -47,6 +47,28 @@ sweeps-own (Parked task k) is = absurd (true≢false (sym is))
 sweeps-own (GivenBack task k) is = absurd (true≢false (sym is))
 sweeps-own (Finished task k) is = absurd (true≢false (sym is))
 
+-- nor is a change of names
+pub names-own : (e : Event) → is_naming e ≡ true → leaves_owner e ≡ false
+names-own (Moment moment) is = absurd (true≢false (sym is))
+names-own Sweep is = absurd (true≢false (sym is))
+names-own (Root method arguments fuel) is = absurd (true≢false (sym is))
+names-own (RootAck task) is = absurd (true≢false (sym is))
+names-own (Bind name value) is = refl
+names-own (Rebind name value) is = refl
+names-own (Unbind name) is = refl
+names-own (Lookup peer name) is = absurd (true≢false (sym is))
+names-own (Opened conn dialled) is = absurd (true≢false (sym is))
+names-own (Refused peer) is = absurd (true≢false (sym is))
+names-own (Received conn m) is = absurd (true≢false (sym is))
+names-own (Closed conn) is = absurd (true≢false (sym is))
+names-own (ReadFailed conn) is = absurd (true≢false (sym is))
+names-own (Bad conn) is = absurd (true≢false (sym is))
+names-own (WriteFailed conn unsent) is = absurd (true≢false (sym is))
+names-own (Committed task k op) is = absurd (true≢false (sym is))
+names-own (Parked task k) is = absurd (true≢false (sym is))
+names-own (GivenBack task k) is = absurd (true≢false (sym is))
+names-own (Finished task k) is = absurd (true≢false (sym is))
+
 pub events_leave_owners : EventsLeaveOwners
 events_leave_owners g e s leaves =
-    on_keeps (stable g s.owner) s e (λ f. absurd (true≢false (sym leaves ∙ f))) (λ w. absurd (true≢false (sym leaves ∙ sweeps-own e w))) refl
+    on_keeps (stable g s.owner) s e (λ f. absurd (true≢false (sym leaves ∙ f))) (λ n. absurd (true≢false (sym leaves ∙ names-own e n))) (λ w. absurd (true≢false (sym leaves ∙ sweeps-own e w))) refl

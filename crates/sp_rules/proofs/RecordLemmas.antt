@@ -12,7 +12,7 @@ use Rattle.sp_rules.specs.Space
 use Rattle.sp_rules.specs.State.{State, Living, Origin, task_at}
 use Rattle.sp_rules.specs.Tasks.{Task, step, steps, answer, lend_fuel}
 use Rattle.sp_rules.proofs.ReadyLemmas.{ready-is}
-use Rattle.sp_rules.proofs.Stable.{Core, IsStable, AllowsTelling, AllowsWithdrawal, on_keeps, new_row}
+use Rattle.sp_rules.proofs.Stable.{Core, IsStable, AllowsTelling, AllowsNaming, AllowsWithdrawal, on_keeps, new_row}
 
 -- ---- steps
 
@@ -122,11 +122,14 @@ stable g = record {
 }
 
 telling : (g : Setting) → AllowsTelling (Recorded g)
-telling g = record { told = λ s call h. h; named = λ s names h. h }
+telling g = record { told = λ s call h. h }
+
+naming : (g : Setting) → AllowsNaming (Recorded g)
+naming g = record { named = λ s names h. h }
 
 withdrawal : (g : Setting) → AllowsWithdrawal (Recorded g)
 withdrawal g = record { gone = λ s ids h. h }
 
 -- an event leaves tasks where their records bring them
 pub on_recorded : (g : Setting) (e : Event) (s : State) → AreRecorded g s.tasks → AreRecorded g (Space.on g e s).0.tasks
-on_recorded g e s h = on_keeps (stable g) s e (λ f. telling g) (λ w. withdrawal g) h
+on_recorded g e s h = on_keeps (stable g) s e (λ f. telling g) (λ n. naming g) (λ w. withdrawal g) h

@@ -27,7 +27,7 @@ use Rattle.sp_rules.specs.Events.{Event, Moment, Sweep, Root, RootAck, Bind, Reb
 use Rattle.sp_rules.specs.Frames
 use Rattle.sp_rules.specs.Holders
 use Rattle.sp_rules.specs.Holders.{hold_ids, drop_ids}
-use Rattle.sp_rules.specs.Laws.{tells_owner, leaves_owner, is_sweep}
+use Rattle.sp_rules.specs.Laws.{tells_owner, leaves_owner, is_naming, is_sweep}
 use Rattle.sp_rules.specs.Lists.{each, with_some}
 use Rattle.sp_rules.specs.LivingTasks
 use Rattle.sp_rules.specs.OwnEvents
@@ -82,9 +82,12 @@ pub record IsStable (g : Setting) (P : State → Type 0) : Type 0 where
   pub makes : (s : State) (class : ClassId) → P s → P (record s { objects_made = s.objects_made + 1; store = Made (LivingTasks.next_object s) class ∷ s.store })
   pub writes : (s : State) (id : ObjId) (slot : ℕ) (value : Value) → P s → P (record s { store = Written id slot value ∷ s.store })
 
--- what is told of the owner's objects, and changes of names, keep it
+-- what is told of the owner's objects keeps it
 pub record AllowsTelling (P : State → Type 0) : Type 0 where
   pub told : (s : State) (call : owner.Call) → P s → P (tell_owner call s)
+
+-- changes of names keep it
+pub record AllowsNaming (P : State → Type 0) : Type 0 where
   pub named : (s : State) (names : List Binding) → P s → P (record s { owner = record s.owner { names = names } })
 
 -- objects that are withdrawn keep it
@@ -108,7 +111,7 @@ unfolding each
 each_keeps F f [] h e = e
 each_keeps F {s = s} f (x ∷ xs) h e = each_keeps F f xs h (h s x e)
 
-send_keeps : {P : State → Type 0} (F : IsFramed P) {s : State} (place : Place) (conn : ℕ) (m : Message) → P s → P (send place conn m s)
+pub send_keeps : {P : State → Type 0} (F : IsFramed P) {s : State} (place : Place) (conn : ℕ) (m : Message) → P s → P (send place conn m s)
 unfolding send
 send_keeps F {s = s} place conn m e = if_keeps F (is_open s conn) (F.frame s _ refl e) e
 
@@ -306,7 +309,7 @@ unfolding Endings.end_connection
 end_connection_keeps S {s = s} why conn e = some_keeps S.framed (connection_at s conn) _ e (λ c is. end_requests_keeps S _ why
     (each_keeps S.framed _ _ (λ t p h. drop_keeps S.framed p.references (S.framed.frame t _ refl h)) (S.framed.frame s _ refl e)))
 
-close_keeps : {g : Setting} {P : State → Type 0} (S : IsStable g P) {s : State} (class : ClassId) (conn : ℕ) → P s → P (Endings.close g class conn s)
+pub close_keeps : {g : Setting} {P : State → Type 0} (S : IsStable g P) {s : State} (class : ClassId) (conn : ℕ) → P s → P (Endings.close g class conn s)
 unfolding Endings.close
 close_keeps S class conn e = S.framed.frame _ _ refl (end_connection_keeps S (λ asked. class) conn e)
 
@@ -316,7 +319,7 @@ fail_write_keeps S conn unsent e = end_connection_keeps S _ conn e
 
 -- ---- frames
 
-first_frame_keeps : {g : Setting} {P : State → Type 0} (S : IsStable g P) {s : State} (c : Connection) (m : Message) → P s → P (Frames.first_frame g c m s)
+pub first_frame_keeps : {g : Setting} {P : State → Type 0} (S : IsStable g P) {s : State} (c : Connection) (m : Message) → P s → P (Frames.first_frame g c m s)
 unfolding Frames.first_frame
 first_frame_keeps {g} {P} S {s = s} c (message.Hello version space digest) e = some_keeps S.framed c.dialled _ (if_keeps S.framed _ known (close_keeps S _ c.number e))
     (λ peer is. if_keeps S.framed _ (flush_keeps S.framed peer c.number known) (close_keeps S _ c.number e))
@@ -325,7 +328,7 @@ first_frame_keeps {g} {P} S {s = s} c (message.Hello version space digest) e = s
     known = S.framed.frame s _ refl e
 first_frame_keeps S c _ e = close_keeps S _ c.number e
 
-release_keeps : {g : Setting} {P : State → Type 0} (S : IsStable g P) {s : State} (is : State.KeptResult → Bool) → P s → P (Frames.release g is s)
+pub release_keeps : {g : Setting} {P : State → Type 0} (S : IsStable g P) {s : State} (is : State.KeptResult → Bool) → P s → P (Frames.release g is s)
 unfolding Frames.release
 release_keeps S {s = s} is e = each_keeps S.framed _ _ (λ t r h. drop_keeps S.framed _ h) (S.framed.frame s _ refl e)
 
@@ -398,7 +401,7 @@ got_keeps S {s = s} c (message.Clean sequence strong objects) T e = send_keeps S
 got_keeps S c (message.Cleaned sequence) T e = told_by_keeps S c false sequence _ e
 got_keeps S c (message.Lookup number name) T e = got_lookup_keeps S c number name e
 
-receive_keeps : {g : Setting} {P : State → Type 0} (S : IsStable g P) {s : State} (c : Connection) (m : Message) → (tells_owner m ≡ true → AllowsTelling P) → P s → P (Frames.receive g c m s)
+pub receive_keeps : {g : Setting} {P : State → Type 0} (S : IsStable g P) {s : State} (c : Connection) (m : Message) → (tells_owner m ≡ true → AllowsTelling P) → P s → P (Frames.receive g c m s)
 unfolding Frames.receive
 receive_keeps S c m T e = if_keeps S.framed (is_none c.peer) (first_frame_keeps S c m e) (if_keeps S.framed _ (close_keeps S _ c.number e) (got_keeps S c m T e))
 
@@ -424,7 +427,7 @@ sweep_keeps {g} {P} S T W {s = s} e = sweeps (OwnEvents.without_reason g s)
     sweeps [] = e
     sweeps (o ∷ os) = withdraws (o ∷ os)
 
-names_keeps : {g : Setting} {P : State → Type 0} (S : IsStable g P) (T : AllowsTelling P) {s : State} (r : Result (List Binding) RegistryFault) → P s → P (OwnEvents.set_names r s)
+names_keeps : {g : Setting} {P : State → Type 0} (S : IsStable g P) (T : AllowsNaming P) {s : State} (r : Result (List Binding) RegistryFault) → P s → P (OwnEvents.set_names r s)
 unfolding OwnEvents.set_names
 names_keeps S T {s = s} (Ok names) e = T.named s names e
 names_keeps S T {s = s} (Err why) e = S.framed.frame s _ refl e
@@ -447,28 +450,28 @@ refused_keeps S {s = s} peer e = end_requests_keeps S _ _ (S.framed.frame s _ re
 tells-leave : (m : Message) → tells_owner m ≡ true → not (tells_owner m) ≡ false
 tells-leave m e = ap not e
 
-happen_keeps : {g : Setting} {P : State → Type 0} (S : IsStable g P) {s : State} (e : Event) → (leaves_owner e ≡ false → AllowsTelling P) → (is_sweep e ≡ true → AllowsWithdrawal P)
+happen_keeps : {g : Setting} {P : State → Type 0} (S : IsStable g P) {s : State} (e : Event) → (leaves_owner e ≡ false → AllowsTelling P) → (is_naming e ≡ true → AllowsNaming P) → (is_sweep e ≡ true → AllowsWithdrawal P)
     → P s → P (Space.happen g e s)
 unfolding Space.happen
-happen_keeps S (Moment moment) T W h = moment_keeps S (T refl) moment h
-happen_keeps S Sweep T W h = sweep_keeps S (T refl) (W refl) h
-happen_keeps S (Root method arguments fuel) T W h = add_task_keeps S OfRoot method arguments fuel h
-happen_keeps S (RootAck task) T W h = release_keeps S _ h
-happen_keeps S (Bind name value) T W h = names_keeps S (T refl) _ h
-happen_keeps S (Rebind name value) T W h = names_keeps S (T refl) _ h
-happen_keeps S (Unbind name) T W h = names_keeps S (T refl) _ h
-happen_keeps S (Lookup peer name) T W h = lookup_keeps S peer name h
-happen_keeps S (Opened conn dialled) T W h = opened_keeps S conn dialled h
-happen_keeps S (Refused peer) T W h = refused_keeps S peer h
-happen_keeps S {s = s} (Received conn m) T W h = received_keeps S (connection_at s conn) m (λ e. T (tells-leave m e)) h
-happen_keeps S (Closed conn) T W h = end_connection_keeps S _ conn h
-happen_keeps S (ReadFailed conn) T W h = end_connection_keeps S _ conn h
-happen_keeps S (Bad conn) T W h = end_connection_keeps S _ conn h
-happen_keeps S (WriteFailed conn unsent) T W h = fail_write_keeps S conn unsent h
-happen_keeps S (Committed task k op) T W h = commit_keeps S task k op h
-happen_keeps S (Parked task k) T W h = park_keeps S task k h
-happen_keeps S (GivenBack task k) T W h = give_back_keeps S task k h
-happen_keeps S (Finished task k) T W h = finish_keeps S task k h
+happen_keeps S (Moment moment) T N W h = moment_keeps S (T refl) moment h
+happen_keeps S Sweep T N W h = sweep_keeps S (T refl) (W refl) h
+happen_keeps S (Root method arguments fuel) T N W h = add_task_keeps S OfRoot method arguments fuel h
+happen_keeps S (RootAck task) T N W h = release_keeps S _ h
+happen_keeps S (Bind name value) T N W h = names_keeps S (N refl) _ h
+happen_keeps S (Rebind name value) T N W h = names_keeps S (N refl) _ h
+happen_keeps S (Unbind name) T N W h = names_keeps S (N refl) _ h
+happen_keeps S (Lookup peer name) T N W h = lookup_keeps S peer name h
+happen_keeps S (Opened conn dialled) T N W h = opened_keeps S conn dialled h
+happen_keeps S (Refused peer) T N W h = refused_keeps S peer h
+happen_keeps S {s = s} (Received conn m) T N W h = received_keeps S (connection_at s conn) m (λ e. T (tells-leave m e)) h
+happen_keeps S (Closed conn) T N W h = end_connection_keeps S _ conn h
+happen_keeps S (ReadFailed conn) T N W h = end_connection_keeps S _ conn h
+happen_keeps S (Bad conn) T N W h = end_connection_keeps S _ conn h
+happen_keeps S (WriteFailed conn unsent) T N W h = fail_write_keeps S conn unsent h
+happen_keeps S (Committed task k op) T N W h = commit_keeps S task k op h
+happen_keeps S (Parked task k) T N W h = park_keeps S task k h
+happen_keeps S (GivenBack task k) T N W h = give_back_keeps S task k h
+happen_keeps S (Finished task k) T N W h = finish_keeps S task k h
 
 record_sent_keeps : {P : State → Type 0} (F : IsFramed P) {s : State} (o : Output) → P s → P (Space.record_sent s o)
 record_sent_keeps F (Started task) h = h
@@ -486,7 +489,7 @@ finish_event_keeps F true h = each_keeps F _ _ (λ t o k. record_sent_keeps F o 
 finish_event_keeps F false h = h
 
 -- a property that is stable, and that what the event may do besides keeps, is kept by the event
-pub on_keeps : {g : Setting} {P : State → Type 0} (S : IsStable g P) (s : State) (e : Event) → (leaves_owner e ≡ false → AllowsTelling P) → (is_sweep e ≡ true → AllowsWithdrawal P)
+pub on_keeps : {g : Setting} {P : State → Type 0} (S : IsStable g P) (s : State) (e : Event) → (leaves_owner e ≡ false → AllowsTelling P) → (is_naming e ≡ true → AllowsNaming P) → (is_sweep e ≡ true → AllowsWithdrawal P)
     → P s → P (Space.on g e s).0
 unfolding Space.on
-on_keeps S s e T W h = finish_event_keeps S.framed (Space.answers_outputs e) (happen_keeps S e T W h)
+on_keeps S s e T N W h = finish_event_keeps S.framed (Space.answers_outputs e) (happen_keeps S e T N W h)

@@ -7,7 +7,7 @@ use Rattle.sp_rules.specs.Classes.{Setting}
 use Rattle.sp_rules.specs.Laws.{IsOne, OnlySweepsWithdraw}
 use Rattle.sp_rules.specs.LivingTasks.{next_object}
 use Rattle.sp_rules.specs.State.{State, Object, standing}
-use Rattle.sp_rules.proofs.Stable.{Core, IsStable, AllowsTelling, on_keeps}
+use Rattle.sp_rules.proofs.Stable.{Core, IsStable, AllowsTelling, AllowsNaming, on_keeps}
 
 in-front : (o x : Object) (xs : List Object) → IsOne o xs → IsOne o (xs ++ x ∷ [])
 in-front o x [] e = absurd e
@@ -32,8 +32,11 @@ stable g o = record {
 }
 
 telling : (o : Object) → AllowsTelling (Stands o)
-telling o = record { told = λ s call h. h; named = λ s names h. h }
+telling o = record { told = λ s call h. h }
+
+naming : (o : Object) → AllowsNaming (Stands o)
+naming o = record { named = λ s names h. h }
 
 pub only_sweeps_withdraw : OnlySweepsWithdraw
 only_sweeps_withdraw g e s o no-sweep h =
-    on_keeps (stable g o) s e (λ f. telling o) (λ w. absurd (true≢false (sym w ∙ no-sweep))) h
+    on_keeps (stable g o) s e (λ f. telling o) (λ n. naming o) (λ w. absurd (true≢false (sym w ∙ no-sweep))) h

@@ -1,6 +1,6 @@
 //! What holds of every space and every world, whatever happens.
 
-ghost use Rattle.sp_rules.specs.Laws.{EventsLeaveOwners, FailuresRemoveNothing, FuelIsBounded, SweepIsExact, OnlySweepsWithdraw, TasksAreRuns, StatesAreHistories, BooksGrow};
+ghost use Rattle.sp_rules.specs.Laws.{EventsLeaveOwners, FailuresRemoveNothing, FuelIsBounded, SweepIsExact, OnlySweepsWithdraw, TasksAreRuns, StatesAreHistories, BooksGrow, NamesAreBound, EntriesAreTold, OutputsAreInOrder, ChecksRise, RefusedChangesNothing, NumbersAreFresh};
 
 /// A failure removes no name and no entry. In a space all events but moments, sweeps, changes of names,
 /// and dirty and clean calls that come leave its names and its clients' entries as they were: also a
@@ -38,4 +38,40 @@ pub fn states_are_histories()
 /// One more entry of a book is one more event of the space.
 pub fn books_grow()
     ensures { BooksGrow }
+{}
+
+/// The names of a space are what its binds, rebinds and unbinds left, each of an own object that stood
+/// as it was bound; nothing else changes them.
+pub fn names_are_bound()
+    ensures { NamesAreBound }
+{}
+
+/// What is remembered of a client and an object, and so the client's entry, is a function of what that
+/// client told of that object in its dirty and clean calls, of the moments, and of the object's
+/// withdrawal.
+pub fn entries_are_told()
+    ensures { EntriesAreTold }
+{}
+
+/// The outputs of an event stand in the order of their kinds: Started, Ended, Withdrawn, Denied, Send,
+/// Dial, Close, Ready.
+pub fn outputs_are_in_order()
+    ensures { OutputsAreInOrder }
+{}
+
+/// What an event is refused for is looked at in the order of the refusals' numbers, so of several the
+/// lowest counts; but a space that is worn out says so first.
+pub fn checks_rise()
+    ensures { ChecksRise }
+{}
+
+/// An event of a world that is refused changes nothing but what was refused.
+pub fn refused_changes_nothing()
+    ensures { RefusedChangesNothing }
+{}
+
+/// In every run of every world the objects that stand and the tasks that live have numbers from 1, each
+/// its own, in the order in which they were made, and none above the last that was given.
+pub fn numbers_are_fresh()
+    ensures { NumbersAreFresh }
 {}

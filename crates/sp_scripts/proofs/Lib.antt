@@ -1,3 +1,4 @@
+pub mod AnswerPlays
 pub mod BadLinesPlays
 pub mod FailuresPlays
 pub mod FuelPlays

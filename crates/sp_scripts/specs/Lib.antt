@@ -1,3 +1,4 @@
+pub mod Answers
 pub mod BadLinesScripts
 pub mod FailuresScripts
 pub mod FuelScripts

@@ -6,6 +6,7 @@ ghost use Rattle.sp_scripts.specs.FailuresScripts.{AckLost, CallLost, CallReadFa
 ghost use Rattle.sp_scripts.specs.LeasesScripts.{WithdrawnObject, CleanNotRepeatedWithHolder, CleanRepeatedUntilNotYet, LastHolderOfTwo, LateDirtyAfterStrongClean, LookupNeedsAckOfLease, MomentBelow, RenewalFailedAgain, WeakCleanForgets, OvertakenLease, LeaseOfAnOvertakenDirty, ParkedCallIsAReason, KeptFar, ChurnCleans, CycleStays, CellMadeAfar};
 ghost use Rattle.sp_scripts.specs.ThirdSpacesScripts.{ThirdSpace, ThirdSpaceSwept, FetchThroughThird, FreshRoundTrip, EntryBeforeStart};
 ghost use Rattle.sp_scripts.specs.BadLinesScripts.{BadLookupSelf, BadRootKind, BadRootNoHolder, LapsedLeaseIsNoRootArgument};
+ghost use Rattle.sp_scripts.specs.Answers.{RightHello, WrongDigest, WrongId, NoHello, RefusedDial, ClosedByThoseThatAsk, ClosedByThoseThatAnswer, UnfitReplies, OrderOfFrames, Refusals, RefusalsOfLentTasks, HeldByATask, HeldByAField, HeldAfterTheEnd, TooManyReferences};
 
 /// Values that cross, and how calls end.
 pub fn scripts_of_values()
@@ -85,4 +86,24 @@ pub fn scripts_of_bad_lines()
     ensures bad_root_kind { BadRootKind }
     ensures bad_root_no_holder { BadRootNoHolder }
     ensures lapsed_lease_is_no_root_argument { LapsedLeaseIsNoRootArgument }
+{}
+
+/// What one space refuses and answers before peers that send anything: Hellos, frames that close a
+/// connection, replies that do not fit, the order of outputs, refusals, and what a task may hold.
+pub fn answers_of_one_space()
+    ensures right_hello { RightHello }
+    ensures wrong_digest { WrongDigest }
+    ensures wrong_id { WrongId }
+    ensures no_hello { NoHello }
+    ensures refused_dial { RefusedDial }
+    ensures closed_by_those_that_ask { ClosedByThoseThatAsk }
+    ensures closed_by_those_that_answer { ClosedByThoseThatAnswer }
+    ensures unfit_replies { UnfitReplies }
+    ensures order_of_frames { OrderOfFrames }
+    ensures refusals { Refusals }
+    ensures refusals_of_lent_tasks { RefusalsOfLentTasks }
+    ensures held_by_a_task { HeldByATask }
+    ensures held_by_a_field { HeldByAField }
+    ensures held_after_the_end { HeldAfterTheEnd }
+    ensures too_many_references { TooManyReferences }
 {}
