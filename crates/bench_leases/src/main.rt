@@ -1,6 +1,6 @@
-//! What bench/leases measures: the first word is a play of the client's leases or of the owner's
+//! What bench/leases measures: the first word is a scenario of the client's leases or of the owner's
 //! reference lists, and the number after it is its size; a third word says how many events touch one
-//! reference. Prints how many calls were answered. Without words it plays each at a small size.
+//! reference. Prints how many calls were answered. Without words it runs each at a small size.
 #![tactic(auto)]
 
 use dgc_client::{Clients, ForeignId};
@@ -16,7 +16,7 @@ fn main(rt: HostRuntime) -> ExitCode {
     let Ok(words) = words_of(&rt) else {
         return ExitCode::FAILURE;
     };
-    let answered = match play(rt.alloc(), words) {
+    let answered = match answers_of(rt.alloc(), words) {
         Ok(answered) => answered,
         Err(AllocError) => return ExitCode::FAILURE,
     };
@@ -26,9 +26,9 @@ fn main(rt: HostRuntime) -> ExitCode {
     }
 }
 
-/// What is played.
+/// What is measured.
 #[derive(Clone, Copy)]
-enum Play {
+enum Scenario {
     /// References are held, one an event.
     Held,
     /// References are held and leased, and events touch one of them each.
@@ -43,30 +43,30 @@ enum Play {
     All,
 }
 
-fn play_of(word: &str) -> Play {
+fn scenario_of(word: &str) -> Scenario {
     match word {
-        "held" => Play::Held,
-        "touched" => Play::Touched,
-        "clients" => Play::Clients,
-        "renewals" => Play::Renewals,
-        "ends" => Play::Ends,
-        _ => Play::All,
+        "held" => Scenario::Held,
+        "touched" => Scenario::Touched,
+        "clients" => Scenario::Clients,
+        "renewals" => Scenario::Renewals,
+        "ends" => Scenario::Ends,
+        _ => Scenario::All,
     }
 }
 
 /// What the words say.
 #[derive(Clone, Copy)]
 struct Words {
-    play: Play,
+    scenario: Scenario,
     size: u64,
     events: u64,
 }
 
 fn words_of<R: Env + AllocGlobal>(rt: &R) -> io::Result<Words> {
     let mut words = env::args(rt)?.skip(1);
-    let play = match words.next() {
-        Some(word) => play_of(word.as_str()),
-        None => Play::All,
+    let scenario = match words.next() {
+        Some(word) => scenario_of(word.as_str()),
+        None => Scenario::All,
     };
     let size = match words.next() {
         Some(word) => word.parse::<u64>().unwrap_or(0),
@@ -76,17 +76,21 @@ fn words_of<R: Env + AllocGlobal>(rt: &R) -> io::Result<Words> {
         Some(word) => word.parse::<u64>().unwrap_or(0),
         None => 10,
     };
-    Ok(Words { play, size, events })
+    Ok(Words {
+        scenario,
+        size,
+        events,
+    })
 }
 
-fn play(alloc: Global, words: Words) -> Result<u64, AllocError> {
-    match words.play {
-        Play::Held => held(alloc, words.size),
-        Play::Touched => touched(alloc, words.size, words.events),
-        Play::Clients => clients(alloc, words.size),
-        Play::Renewals => renewals(alloc, words.size),
-        Play::Ends => ends(alloc, words.size),
-        Play::All => all(alloc, words.size),
+fn answers_of(alloc: Global, words: Words) -> Result<u64, AllocError> {
+    match words.scenario {
+        Scenario::Held => held(alloc, words.size),
+        Scenario::Touched => touched(alloc, words.size, words.events),
+        Scenario::Clients => clients(alloc, words.size),
+        Scenario::Renewals => renewals(alloc, words.size),
+        Scenario::Ends => ends(alloc, words.size),
+        Scenario::All => all(alloc, words.size),
     }
 }
 
