@@ -89,7 +89,7 @@ in-filter r id (o ∷ os) t e = pick (is_id id o.id) (r o.id) refl refl (in-filt
     rest = filter (λ (p : Object). r p.id) os
 
     pick : (b c : Bool) → is_id id o.id ≡ b → r o.id ≡ c → (is_id_in (map (λ (p : Object). p.id) os) id ≡ true → is_id_in (map (λ (p : Object). p.id) rest) id ≡ true)
-      → is_id_in (map (λ (p : Object). p.id) (cond c (o ∷ rest) rest)) id ≡ true
+        → is_id_in (map (λ (p : Object). p.id) (cond c (o ∷ rest) rest)) id ≡ true
     pick true true is f go = left-true (is_id id o.id) _ is
     pick true false is f go = absurd (true≢false (sym t ∙ ap r (one-id id o.id is) ∙ f))
     pick false true is f go = right-true (is_id id o.id) _ (go (either (is_id id o.id) _ e is))
@@ -179,8 +179,8 @@ found-stands class id [] e = absurd (true≢false (sym e))
 found-stands class id (o ∷ os) e = pick (is_id o.id id) refl e (found-stands class id os)
   where
     pick : (b : Bool) → is_id o.id id ≡ b → Holders.class_is class (cond b (Some o) (find (λ (p : Object). is_id p.id id) os)) ≡ true
-      → (Holders.class_is class (find (λ (p : Object). is_id p.id id) os) ≡ true → is_id_in (map (λ (p : Object). p.id) os) id ≡ true)
-      → is_id id o.id || is_id_in (map (λ (p : Object). p.id) os) id ≡ true
+        → (Holders.class_is class (find (λ (p : Object). is_id p.id id) os) ≡ true → is_id_in (map (λ (p : Object). p.id) os) id ≡ true)
+        → is_id id o.id || is_id_in (map (λ (p : Object). p.id) os) id ≡ true
     pick true is f rest = left-true (is_id id o.id) _ (turned o.id id is)
     pick false is f rest = right-true (is_id id o.id) _ (rest f)
 
@@ -274,7 +274,7 @@ not-told : (client c : List ℕ) (told : List ObjId) (o : ObjId) → is_named o 
 not-told client c told o e = and-false (bytes_eq client c) (is_named o told) e
 
 frame-leaves : (s : State) (client c : List ℕ) (m : Message) (calls : List owner.Call) (o : ObjId) → stands s o ≡ false
-  → owner.remembered_of calls c o ≡ blank → owner.remembered_of (told_in client s m calls) c o ≡ blank
+    → owner.remembered_of calls c o ≡ blank → owner.remembered_of (told_in client s m calls) c o ≡ blank
 frame-leaves s client c (message.Dirty sequence period told) calls o out r =
     let e : owner.is_told client (that_stand s told) c o ≡ false = not-told client c (that_stand s told) o (none-named (map (λ (p : Object). p.id) (standing s.store)) o told out) in
     ap (λ b. if b then Rattle.dgc_list.specs.Remembered.after_dirty sequence (owner.moment_of calls + owner.granted period) (owner.remembered_of calls c o) else owner.remembered_of calls c o) e ∙ r
@@ -292,18 +292,18 @@ frame-leaves s client c (message.Cleaned sequence) calls o out r = r
 frame-leaves s client c (message.Lookup number name) calls o out r = r
 
 from-leaves : (s : State) (peer dialled : Option Uuid) (c : List ℕ) (m : Message) (calls : List owner.Call) (o : ObjId) → stands s o ≡ false
-  → owner.remembered_of calls c o ≡ blank → owner.remembered_of (told_from peer dialled s m calls) c o ≡ blank
+    → owner.remembered_of calls c o ≡ blank → owner.remembered_of (told_from peer dialled s m calls) c o ≡ blank
 from-leaves s None dialled c m calls o out r = r
 from-leaves s (Some client) None c m calls o out r = frame-leaves s client c m calls o out r
 from-leaves s (Some client) (Some peer) c m calls o out r = r
 
 on-leaves : (s : State) (row : Option Connection) (c : List ℕ) (m : Message) (calls : List owner.Call) (o : ObjId) → stands s o ≡ false
-  → owner.remembered_of calls c o ≡ blank → owner.remembered_of (told_on s row m calls) c o ≡ blank
+    → owner.remembered_of calls c o ≡ blank → owner.remembered_of (told_on s row m calls) c o ≡ blank
 on-leaves s None c m calls o out r = r
 on-leaves s (Some row) c m calls o out r = from-leaves s row.peer row.dialled c m calls o out r
 
 moment-leaves : (late : Bool) (moment : ℕ) (c : List ℕ) (calls : List owner.Call) (o : ObjId)
-  → owner.remembered_of calls c o ≡ blank → owner.remembered_of (if late then calls else owner.Moment moment ∷ calls) c o ≡ blank
+    → owner.remembered_of calls c o ≡ blank → owner.remembered_of (if late then calls else owner.Moment moment ∷ calls) c o ≡ blank
 moment-leaves true moment c calls o r = r
 moment-leaves false moment c calls o r = ap (λ m. if nat_lt moment (owner.moment_of calls) then m else after_moment moment m) r ∙ pick (nat_lt moment (owner.moment_of calls))
   where
@@ -328,7 +328,7 @@ gone-blank c o [] calls e = absurd (true≢false (sym e))
 gone-blank c o (p ∷ gone) calls e = pick (is_id o p.id) refl (gone-blank c o gone (owner.Forget p.id ∷ calls))
   where
     pick : (b : Bool) → is_id o p.id ≡ b → (is_id_in (map (λ (q : Object). q.id) gone) o ≡ true → owner.remembered_of (forgotten (owner.Forget p.id ∷ calls) gone) c o ≡ blank)
-      → owner.remembered_of (forgotten (owner.Forget p.id ∷ calls) gone) c o ≡ blank
+        → owner.remembered_of (forgotten (owner.Forget p.id ∷ calls) gone) c o ≡ blank
     pick true is rest = stays-blank c o gone (owner.Forget p.id ∷ calls) (ap (λ b. if b then blank else owner.remembered_of calls c o) (turned o p.id is))
     pick false is rest = rest (either (is_id o p.id) _ e is)
 
@@ -342,7 +342,7 @@ went g s o stood out = pick (has_reason g s o) refl
     pick false is = in-filter (λ id. not (has_reason g s id)) o (standing s.store) (ap not is) stood
 
 sweep-leaves : (g : Setting) (s : State) (c : List ℕ) (o : ObjId) → stands (Space.on g Sweep s).0 o ≡ false
-  → (stands s o ≡ false → owner.remembered_of s.owner.entries c o ≡ blank) → owner.remembered_of (forgotten s.owner.entries (without_reason g s)) c o ≡ blank
+    → (stands s o ≡ false → owner.remembered_of s.owner.entries c o ≡ blank) → owner.remembered_of (forgotten s.owner.entries (without_reason g s)) c o ≡ blank
 sweep-leaves g s c o out before = pick (stands s o) refl
   where
     pick : (b : Bool) → stands s o ≡ b → owner.remembered_of (forgotten s.owner.entries (without_reason g s)) c o ≡ blank
@@ -358,7 +358,7 @@ was-out g e s o no-sweep out = pick (stands s o) refl
     pick false is = is
 
 leaves : (g : Setting) (e : Event) (s : State) (c : List ℕ) (o : ObjId) → stands (Space.on g e s).0 o ≡ false
-  → (stands s o ≡ false → owner.remembered_of s.owner.entries c o ≡ blank) → owner.remembered_of (told_by g s e s.owner.entries) c o ≡ blank
+    → (stands s o ≡ false → owner.remembered_of s.owner.entries c o ≡ blank) → owner.remembered_of (told_by g s e s.owner.entries) c o ≡ blank
 leaves g Sweep s c o out before = sweep-leaves g s c o out before
 leaves g (Moment moment) s c o out before = moment-leaves (nat_lt moment s.moment) moment c s.owner.entries o (before (was-out g (Moment moment) s o refl out))
 leaves g (Received conn m) s c o out before =

@@ -58,8 +58,7 @@ pub fn entries_are_told()
 pub fn nothing_is_kept_of_what_is_gone()
     ensures names { NamesStand }
     ensures entries { EntriesStand }
-{
-}
+{}
 
 /// The outputs of an event stand in the order of their kinds: Started, Ended, Withdrawn, Denied, Send,
 /// Dial, Close, Ready.
