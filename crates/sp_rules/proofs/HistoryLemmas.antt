@@ -64,7 +64,7 @@ set-names (Err why) s = refl
 ended : (t : State) → (Space.finish_event true t).0.owner.names ≡ t.owner.names
 ended t = finish_event_keeps (names-framed t.owner.names) {s = t} true refl
 
-named : (g : Setting) (e : Event) (s : State) → (Space.on g e s).0.owner.names ≡ named_by g s e s.owner.names
+pub named : (g : Setting) (e : Event) (s : State) → (Space.on g e s).0.owner.names ≡ named_by g s e s.owner.names
 unfolding Space.on Space.happen
 named g (Bind name value) s = ended (OwnEvents.set_names (registry.bind s.owner.names name (Holders.own_object g s value)) s) ∙ set-names (registry.bind s.owner.names name (Holders.own_object g s value)) s
 named g (Rebind name value) s = ended (OwnEvents.set_names (registry.rebind s.owner.names name (Holders.own_object g s value)) s) ∙ set-names (registry.rebind s.owner.names name (Holders.own_object g s value)) s
@@ -223,7 +223,7 @@ received-tells : (g : Setting) (s : State) (c : Option Connection) (m : Message)
 received-tells g s None m = refl
 received-tells g s (Some c) m = receive-tells g s c m
 
-tells : (g : Setting) (e : Event) (s : State) → (Space.on g e s).0.owner.entries ≡ told_by g s e s.owner.entries
+pub tells : (g : Setting) (e : Event) (s : State) → (Space.on g e s).0.owner.entries ≡ told_by g s e s.owner.entries
 unfolding Space.on Space.happen
 tells g (Moment moment) s = finished _ (OwnEvents.on_moment g moment s) (moment-tells g moment s)
 tells g Sweep s = finished _ (OwnEvents.on_sweep g s) (sweep-tells g s)

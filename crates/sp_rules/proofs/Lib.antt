@@ -13,6 +13,7 @@ pub mod ReadyLemmas
 pub mod RecordLemmas
 pub mod RefusalLemmas
 pub mod Stable
+pub mod StandingLemmas
 pub mod SweepLemmas
 pub mod WithdrawalLemmas
 pub mod WorldLemmas

@@ -22,11 +22,11 @@ ids os = map (λ (o : Object). o.id) os
 gone : (ObjId → Bool) → List Object → List Object
 gone r os = filter (λ (o : Object). not (r o.id)) os
 
-or-true : (b : Bool) → b || true ≡ true
+pub or-true : (b : Bool) → b || true ≡ true
 or-true true = refl
 or-true false = refl
 
-one-id : (a b : ObjId) → is_id a b ≡ true → a ≡ b
+pub one-id : (a b : ObjId) → is_id a b ≡ true → a ≡ b
 one-id a b h = ap {A = ℕ} {B = ObjId} (λ n. record { 0 = n }) (eqb-true a.0 b.0 h)
 
 r-same : (r : ObjId → Bool) (a b : ObjId) → is_id a b ≡ true → r a ≡ true → r b ≡ true

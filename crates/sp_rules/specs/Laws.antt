@@ -1,6 +1,7 @@
 -- The laws of spaces and worlds, in the subject's own words; each is the contract of a function of this crate.
 use Rattle.std.specs.Prelude.{◌+◌, None, Some, map, ◌≡◌, ◌≤◌, ◌⊎◌, ℕ, Bool, true, false, List, [], ◌∷◌, ◌++◌, Option, option_map, slice_get, filter, not, Result, Ok, Err, fold, nat_lt, if◌then◌else◌}
 use Rattle.dgc_list.specs.History as owner
+use Rattle.dgc_list.specs.Remembered.{blank}
 use Rattle.net_message.specs.declared.message.Message.{Message}
 use Rattle.net_message.specs.declared.message.Message.TheVariants as message
 use Rattle.sp_registry.specs.Bindings as registry
@@ -15,11 +16,17 @@ use Rattle.sp_rules.specs.Fuel.{world_units, world_roots}
 use Rattle.sp_rules.specs.Frames.{that_stand}
 use Rattle.sp_rules.specs.Holders.{has_reason, own_object}
 use Rattle.sp_rules.specs.OwnEvents.{without_reason}
+use Rattle.sp_rules.specs.References.{is_id_in}
 use Rattle.sp_rules.specs.Refusals.{Refusal, Check, refusal_number, checks}
 use Rattle.sp_rules.specs.Runs.{AreRecorded}
 use Rattle.sp_rules.specs.Space.{state_of, on}
 use Rattle.sp_rules.specs.State.{State, Object, Living, Connection, connection_at, Owner, standing}
 use Rattle.sp_rules.specs.Worlds.{World, Space, End, WorldEvent, Refuse, ReadFails, WriteFails, after, run, new_world}
+
+-- each of these is so
+abbrev pub AllOf : {A : Type 0} → (A → Type 0) → List A → Type 0
+AllOf Is [] = Unit {0}
+AllOf Is (x ∷ xs) = Is x × AllOf Is xs
 
 -- ---- failures
 
@@ -149,6 +156,21 @@ is_sweep _ = false
 abbrev pub OnlySweepsWithdraw : Type 0
 OnlySweepsWithdraw = (g : Setting) (e : Event) (s : State) (o : Object) → is_sweep e ≡ false → IsOne o (standing s.store) → IsOne o (standing (on g e s).0.store)
 
+-- ---- what stands
+
+-- whether an object of this id stands
+abbrev pub stands : State → ObjId → Bool
+stands s id = is_id_in (map (λ (o : Object). o.id) (standing s.store)) id
+
+-- The objects to which names are bound stand.
+abbrev pub NamesStand : Type 0
+NamesStand = (g : Setting) (h : List Event) → AllOf (λ (b : Binding). stands (state_of g h) b.object ≡ true) (state_of g h).owner.names
+
+-- Nothing is remembered of an object that does not stand: no entry, no number, no strong clean call.
+abbrev pub EntriesStand : Type 0
+EntriesStand = (g : Setting) (h : List Event) (client : List ℕ) (o : ObjId) → stands (state_of g h) o ≡ false
+    → owner.remembered_of (state_of g h).owner.entries client o ≡ blank
+
 -- ---- outputs
 
 -- The kinds of outputs in their order.
@@ -185,11 +207,6 @@ abbrev pub RefusedChangesNothing : Type 0
 RefusedChangesNothing = (w : World) (e : WorldEvent) (why : Refusal) → (after w e).refused ≡ Some why → after w e ≡ record w { refused = Some why }
 
 -- ---- tasks
-
--- each of these is so
-abbrev pub AllOf : {A : Type 0} → (A → Type 0) → List A → Type 0
-AllOf Is [] = Unit {0}
-AllOf Is (x ∷ xs) = Is x × AllOf Is xs
 
 abbrev pub HasRuns : Space → Type 0
 HasRuns s = AreRecorded s.setting s.state.tasks

@@ -1,4 +1,4 @@
--- Frames that wait for leases: a call starts, and a result is passed on, once every foreign reference in it has a lease (Java RMI specification, 9.1: a client makes its dirty call before it uses a reference).
+-- Frames that wait for leases: a call starts, and a result is passed on, once every foreign reference in it has a lease. (This project's own rule; a client that first gets a reference makes a dirty call by the Java RMI specification, 3.3 and 9.1.)
 use Rattle.std.specs.Prelude.{ℕ, ◌==◌, ◌&&◌, not, Bool, false, List, [], ◌∷◌, ◌++◌, Option, None, Some, is_some, filter, find}
 use Rattle.std.specs.List.{list_all}
 use Rattle.cls_set.specs.declared.class.ClassId.{ClassId}

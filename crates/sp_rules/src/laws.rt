@@ -1,6 +1,6 @@
 //! What holds of every space and every world, whatever happens.
 
-ghost use Rattle.sp_rules.specs.Laws.{EventsLeaveOwners, FailuresRemoveNothing, FuelIsBounded, SweepIsExact, OnlySweepsWithdraw, TasksAreRuns, StatesAreHistories, BooksGrow, NamesAreBound, EntriesAreTold, OutputsAreInOrder, ChecksRise, RefusedChangesNothing, NumbersAreFresh};
+ghost use Rattle.sp_rules.specs.Laws.{EventsLeaveOwners, FailuresRemoveNothing, FuelIsBounded, SweepIsExact, OnlySweepsWithdraw, TasksAreRuns, StatesAreHistories, BooksGrow, NamesAreBound, EntriesAreTold, NamesStand, EntriesStand, OutputsAreInOrder, ChecksRise, RefusedChangesNothing, NumbersAreFresh};
 
 /// A failure removes no name and no entry. In a space all events but moments, sweeps, changes of names,
 /// and dirty and clean calls that come leave its names and its clients' entries as they were: also a
@@ -51,6 +51,13 @@ pub fn names_are_bound()
 /// withdrawal.
 pub fn entries_are_told()
     ensures { EntriesAreTold }
+{}
+
+/// Nothing is kept of what is gone: the objects to which names are bound stand, and of an object that does
+/// not stand no entry, no number and no strong clean call is remembered.
+pub fn nothing_is_kept_of_what_is_gone()
+    ensures names { NamesStand }
+    ensures entries { EntriesStand }
 {}
 
 /// The outputs of an event stand in the order of their kinds: Started, Ended, Withdrawn, Denied, Send,
