@@ -1,3 +1,4 @@
+-- Calls that are due go to their peers in groups: a dirty or a clean call names several objects of one owner (Java RMI specification, 9.1: `DGC.dirty` and `DGC.clean` take an array of object ids). How they are divided is this project's own rule.
 use Rattle.std.specs.Prelude.{◌≡◌, ◌≤◌, ℕ, zero, suc, Bool, true, false, List, [], ◌∷◌, ◌++◌, length, filter, fold, map, take, drop, All, not, ◌&&◌, if◌then◌else◌}
 use Rattle.std.specs.List.{list_any, flat_map}
 use Rattle.std.specs.Str.{bytes_eq}

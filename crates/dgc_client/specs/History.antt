@@ -1,3 +1,4 @@
+-- What happens to a foreign reference, newest first, and what a client keeps of it then. (Java RMI specification, 9.1, as a history: this project's own form.)
 use Rattle.std.specs.Prelude.{◌≢◌, ℕ, ◌+◌, ◌-◌, List, [], ◌∷◌}
 use Rattle.dgc_client.specs.declared.lease.Change.{Change}
 use Rattle.dgc_client.specs.declared.lease.Change.TheVariants as change

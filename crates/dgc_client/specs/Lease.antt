@@ -1,3 +1,4 @@
+-- A client makes a dirty call for a remote reference that it begins to hold, renews the lease before it ends, and makes a clean call when nothing holds the reference any more: a strong one after a dirty call that failed (Java RMI specification, 9.1).
 use Rattle.std.specs.Prelude.{ℕ, ◌+◌, ◌-◌, Bool, true, false, Option, None, Some, is_none, is_some, ◌&&◌, ◌||◌, ◌==◌, nat_lt, nat_le, not, if◌then◌else◌}
 use Rattle.dgc_client.specs.declared.lease.ClientLease.{ClientLease}
 use Rattle.dgc_client.specs.declared.lease.Due.{Due}

@@ -1,3 +1,4 @@
+-- All foreign references of a client, in the order in which they were first held, and what is told of each. (This project's own form of the Java RMI specification, 9.1.)
 use Rattle.std.specs.Prelude.{◌≡◌, ℕ, ◌+◌, Bool, true, false, List, [], ◌∷◌, ◌++◌, map, Option, None, Some, ◌==◌, ◌&&◌, ◌||◌, unwrap_or, is_some, max, if◌then◌else◌}
 use Rattle.std.specs.List.{list_any, filter_map}
 use Rattle.std.specs.Map.{lookup, keys_of}

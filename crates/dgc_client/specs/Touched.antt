@@ -1,3 +1,4 @@
+-- Only a reference to which something happened since the calls that are due were last asked for can have a call due. (This project's own; no rule of a standard.)
 use Rattle.std.specs.Prelude.{◌≡◌, ℕ, ◌<◌, ◌≤◌, Bool, true, false, List, length, Contains, slice_get, slice_index, Option, None, Some, is_some}
 use Rattle.dgc_client.specs.declared.groups.DueCall.{DueCall}
 use Rattle.dgc_client.specs.declared.lease.ClientLease.{ClientLease}
