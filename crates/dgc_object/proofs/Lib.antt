@@ -1,0 +1,3 @@
+pub mod AllClientsLemmas
+pub mod OneClientLemmas
+pub mod PassingLemmas

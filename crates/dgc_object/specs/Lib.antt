@@ -1,0 +1,3 @@
+pub mod AllClients
+pub mod OneClient
+pub mod Passing
