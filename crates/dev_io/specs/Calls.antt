@@ -1,4 +1,4 @@
-use Rattle.std.specs.Prelude.{ℕ, zero, suc, Bool, true, false}
+use Rattle.std.specs.Prelude.{ℕ, ◌-◌, zero, suc, Bool, true, false}
 use Rattle.dev_io.specs.declared.calls.Calls.{Calls}
 use Rattle.dev_io.specs.declared.calls.Calls.TheVariants.{Unlimited, Left, Failed}
 
@@ -14,3 +14,9 @@ abbrev pub is_failed : Calls → Bool
 is_failed Unlimited = false
 is_failed (Left n) = false
 is_failed Failed = true
+
+-- what becomes of the calls if the call of this number, counted from 1, is to fail: a device that has failed stays so
+abbrev pub failing_at : ℕ → Calls → Calls
+failing_at call Unlimited = Left (call - 1)
+failing_at call (Left n) = Left (call - 1)
+failing_at call Failed = Failed

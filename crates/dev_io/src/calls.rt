@@ -1,6 +1,6 @@
 //! How many calls of a device over memory succeed before one fails.
 
-ghost use Rattle.std.specs.Prelude.{◌≡◌, IsTrue, IsErr, ◌↔◌};
+ghost use Rattle.std.specs.Prelude.{◌≡◌, ◌<◌, IsTrue, IsErr, ◌↔◌};
 
 use super::Failed;
 
@@ -9,16 +9,27 @@ use super::Failed;
 pub enum Calls {
     /// All of them.
     Unlimited,
-    /// So many, and the one after them fails.
+    /// This many, and the one after them fails.
     Left(u64),
     /// None: a call has failed.
     Failed,
 }
 
 impl Calls {
-    ghost use Rattle.dev_io.specs.Calls.{after_call, is_failed};
+    ghost use Rattle.dev_io.specs.Calls.{after_call, failing_at, is_failed};
 
-    // Counts a call, and fails where it is one that is to fail.
+    // The calls of a device whose `call`-th call from here on fails, counted from 1.
+    pub(crate) fn failing_at(self, call: u64) -> Calls
+        requires { 0 < call }
+        ensures { result ≡ failing_at call self }
+    {
+        match self {
+            Calls::Failed => Calls::Failed,
+            Calls::Unlimited | Calls::Left(_) => Calls::Left(call - 1),
+        }
+    }
+
+    // Counts a call, and fails if it is one that is to fail.
     pub(crate) fn count(&mut self) -> Result<(), Failed>
         ensures after { self.new ≡ after_call self.old }
         ensures failed { IsErr result ↔ IsTrue (is_failed self.new) }

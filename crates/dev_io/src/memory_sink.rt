@@ -1,7 +1,7 @@
 //! A sink into memory, which says all of its bytes: for tests, and where a contract speaks of what
 //! a device takes.
 
-ghost use Rattle.std.specs.Prelude.{◌≡◌, ◌-◌, ◌<◌, [], IfOk};
+ghost use Rattle.std.specs.Prelude.{◌≡◌, ◌<◌, [], IfOk};
 
 use super::{Calls, Failed, Sink};
 use std::alloc::{AllocError, Global};
@@ -29,7 +29,8 @@ impl Model for MemSink {
 }
 
 impl MemSink {
-    ghost use Rattle.dev_io.specs.declared.calls.Calls.TheVariants.{Unlimited, Left};
+    ghost use Rattle.dev_io.specs.declared.calls.Calls.TheVariants.{Unlimited};
+    ghost use Rattle.dev_io.specs.Calls.{failing_at};
 
     /// An empty sink that holds at most `room` bytes, and takes at most `step` a call. No call fails
     /// before it is full.
@@ -45,13 +46,14 @@ impl MemSink {
         })
     }
 
-    /// The same sink, whose `call`-th call from here on fails, counted from 1.
+    /// The same sink, whose `call`-th call from here on fails, counted from 1. A sink that has failed
+    /// stays failed.
     pub fn failing_at(self, call: u64) -> MemSink
         requires { 0 < call }
-        ensures { result ≡ record self { calls = Left (call - 1) } }
+        ensures { result ≡ record self { calls = failing_at call self.calls } }
     {
         MemSink {
-            calls: Calls::Left(call - 1),
+            calls: self.calls.failing_at(call),
             ..self
         }
     }
@@ -85,7 +87,8 @@ impl Sink for MemSink {
         ensures step { self.new.step ≡ self.old.step }
         ensures room { self.new.room ≡ self.old.room }
         ensures calls { OnOk result (self.new.calls ≡ after_call self.old.calls) }
-        ensures full { IsErr result → IsTrue (is_failed (after_call self.old.calls)) ⊎ (self.old.room ≡ length self.old.bytes) }
+        // A call fails because it is one that is to fail, or because a byte comes and none fits.
+        ensures full { IsErr result → IsTrue (is_failed (after_call self.old.calls)) ⊎ ((self.old.room ≡ length self.old.bytes) × (0 < length bytes.now)) }
     {
         self.calls.count()?;
         let count = self.step.min(self.room - self.bytes.len()).min(bytes.len());

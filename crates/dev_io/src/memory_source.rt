@@ -27,7 +27,8 @@ impl Model for MemSource {
 }
 
 impl MemSource {
-    ghost use Rattle.dev_io.specs.declared.calls.Calls.TheVariants.{Unlimited, Left};
+    ghost use Rattle.dev_io.specs.declared.calls.Calls.TheVariants.{Unlimited};
+    ghost use Rattle.dev_io.specs.Calls.{failing_at};
 
     /// The source that gives these bytes, at most `step` a call. No call fails.
     pub fn new(bytes: Vec<u8>, step: usize) -> MemSource
@@ -42,13 +43,14 @@ impl MemSource {
         }
     }
 
-    /// The same source, whose `call`-th call from here on fails, counted from 1.
+    /// The same source, whose `call`-th call from here on fails, counted from 1. A source that has
+    /// failed stays failed.
     pub fn failing_at(self, call: u64) -> MemSource
         requires { 0 < call }
-        ensures { result ≡ record self { calls = Left (call - 1) } }
+        ensures { result ≡ record self { calls = failing_at call self.calls } }
     {
         MemSource {
-            calls: Calls::Left(call - 1),
+            calls: self.calls.failing_at(call),
             ..self
         }
     }
