@@ -5,12 +5,12 @@
 
 use dgc_client::{Clients, ForeignId};
 use dgc_list::RefList;
+use space_ids::ObjId;
 use std::alloc::{AllocError, Global};
 use std::process::ExitCode;
 use std::rt::Env;
 use std::{env, io};
 use uuid::Uuid;
-use vm_heap::ObjId;
 
 fn main(rt: HostRuntime) -> ExitCode {
     let Ok(words) = words_of(&rt) else {

@@ -1,6 +1,5 @@
 pub mod AttributeSteps
 pub mod Each
-pub mod Front
 pub mod SaysLaws
 pub mod SeenLaws
 pub mod PlacedLaws

@@ -3,7 +3,5 @@ pub mod Profile
 pub mod Checks
 pub mod Seen
 pub mod Builds
-pub mod Loads
 pub mod Says
 pub mod Spells
-pub mod FaultNames

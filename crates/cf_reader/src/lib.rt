@@ -1,4 +1,4 @@
-//! Class files (JVMS 4.1 to 4.7): what a file says, read from its bytes or from a source.
+//! Class files (JVMS 4.1 to 4.7): what a file says, read from its bytes.
 #![tactic(auto)]
 
 pub use cf_layout::MAX_LEN;
@@ -8,19 +8,15 @@ pub use cf_pool::{
 };
 pub use class_file::{ClassFile, Code, Field, Method};
 pub use flags::Flags;
-pub use load_fault::LoadFault;
 pub use read::{demands_rise, one_reading, read_class};
-pub use source::{load, read_bytes};
 
 mod attributes;
 mod build;
 mod check;
 mod class_file;
 mod flags;
-mod load_fault;
 mod members;
 mod profile;
 mod read;
 mod rules;
 mod seen;
-mod source;

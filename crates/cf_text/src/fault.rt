@@ -1,23 +1,14 @@
 //! Faults of reading a class file: the rule that is broken, and where.
 
-ghost use Rattle.std.specs.Prelude.{◌≡◌, ℕ, Some};
+ghost use Rattle.std.specs.Prelude.{◌≡◌, Some};
 ghost use Rattle.cf_text.specs.declared.fault.ReadFault.TheVariants.{Memory};
 ghost use Rattle.cf_text.specs.Order.{number_of};
 ghost use Rattle.cf_text.specs.FaultNames.{name_of, read_fault_number};
 
+use base_types::Numbered;
 use std::alloc::{AllocError, AllocFailed};
 use std::fmt;
 use thiserror::Error;
-
-/// A fault with a number and a name. It is printed as the number, a space and the name.
-pub trait Numbered: fmt::Display {
-    // The number that `number` answers.
-    ghost number: { Self → ℕ };
-
-    /// The number by which the fault is known everywhere; the name is what `Display` writes.
-    fn number(&self) -> u8
-        ensures { result ≡ number self.now };
-}
 
 /// A rule of the class file format (JVMS 4.1 to 4.8) or of this project's profile.
 #[derive(Clone, Copy, Debug, PartialEq, Eq, Error)]

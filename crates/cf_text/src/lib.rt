@@ -1,14 +1,14 @@
 //! What class files are spelled with: names, texts in modified UTF-8 and descriptors (JVMS 4.2, 4.3,
-//! 4.4.7); and what all reading of them stands on: numbers, rows, and faults with their number and
-//! place.
+//! 4.4.7); and what all reading of them stands on: numbers, tables, and faults with their number and
+//! position.
 #![tactic(auto)]
 
+pub use base_types::{Numbered, Row};
 pub use demands::demand;
 pub use descriptors::{begins_with, descriptor, read_field_descriptor, read_method_descriptor};
-pub use fault::{Numbered, ReadFault, Rule};
+pub use fault::{ReadFault, Rule};
 pub use names::{CLASS_INITIALIZER, INITIALIZER, is_class_name, is_method_name, is_name};
 pub use numbers::{read_i32, read_row, read_text, read_u8, read_u16, read_u32, skip};
-pub use row::Row;
 pub use table::Table;
 pub use text::Text;
 pub use types::{Descriptor, ElementType, FieldType, MethodDescriptor};
@@ -19,7 +19,6 @@ mod descriptors;
 mod fault;
 mod names;
 mod numbers;
-mod row;
 mod table;
 mod text;
 mod types;

@@ -4,7 +4,7 @@ use Rattle.std.specs.List.{AllZip}
 use Rattle.std.proofs.lemmas.List.Elements.{All-append, All-cons, All-nil, All-push}
 use Rattle.cls_set.specs.declared.Method.{Method}
 use Rattle.cls_set.specs.declared.class.Class.{Class}
-use Rattle.cls_set.specs.declared.class.ClassId.{ClassId}
+use Rattle.space_ids.specs.declared.ids.ClassId.{ClassId}
 use Rattle.cls_link.specs.declared.fault.LinkFault.{LinkFault}
 use Rattle.cls_link.specs.declared.fault.LinkFault.TheVariants.{Broken, Memory}
 use Rattle.cf_insns.specs.Listing.{Listing, IsListing}

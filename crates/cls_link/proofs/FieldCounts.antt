@@ -9,7 +9,7 @@ use Rattle.std.proofs.lemmas.Option.{slice_get-get_or, get_or_from_slice_get, sl
 use Rattle.cls_set.proofs.Hierarchy.{same_some}
 use Rattle.cf_reader.specs.declared.class_file.Field.{Field}
 use Rattle.cls_set.specs.declared.class.Class.{Class}
-use Rattle.cls_set.specs.declared.class.ClassId.{ClassId}
+use Rattle.space_ids.specs.declared.ids.ClassId.{ClassId}
 use Rattle.cls_link.specs.Fields as fields
 use Rattle.cls_link.specs.Fields.{place_from, field_at, is_instance, instance_fields, AreFieldCounts, HasFields, CountsFields, IsFieldSlot}
 use Rattle.cls_link.specs.declared.fields.FieldPlace.{FieldPlace}

@@ -8,7 +8,7 @@ use Rattle.std.proofs.lemmas.List.Elements.{Contains-append_cases, Contains-appe
 use Rattle.cls_set.proofs.Hierarchy.{some_and}
 use Rattle.cls_set.proofs.Supertypes.{direct_in_set}
 use Rattle.cls_set.specs.declared.class.Class.{Class}
-use Rattle.cls_set.specs.declared.class.ClassId.{ClassId}
+use Rattle.space_ids.specs.declared.ids.ClassId.{ClassId}
 use Rattle.cls_set.specs.Sets.{IsClassSet}
 use Rattle.cls_set.specs.Subtypes.{IsDirectSupertype}
 use Rattle.cls_link.specs.Fields.{IsRanking}

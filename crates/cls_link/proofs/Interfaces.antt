@@ -6,7 +6,7 @@ use Rattle.std.proofs.lemmas.Bool.Decides.{nat_tests}
 use Rattle.cf_reader.specs.declared.flags.TheConstants.Flags.{INTERFACE}
 use Rattle.cls_set.specs.Classes.{IsInterface}
 use Rattle.cls_set.specs.declared.class.Class.{Class}
-use Rattle.cls_set.specs.declared.class.ClassId.{ClassId}
+use Rattle.space_ids.specs.declared.ids.ClassId.{ClassId}
 use Rattle.cls_link.specs.Selections.{is_interface}
 
 true_false : true ≡ false → ⊥

@@ -1,7 +1,7 @@
 use Rattle.std.specs.Prelude.{◌≡◌, ◌++◌, Option, Some, None, List, [], ◌∷◌, option_to_list, slice_get}
 use Rattle.std.specs.Option.{option_map_or}
 use Rattle.cls_set.specs.declared.class.Class.{Class}
-use Rattle.cls_set.specs.declared.class.ClassId.{ClassId}
+use Rattle.space_ids.specs.declared.ids.ClassId.{ClassId}
 
 -- A search through classes for what a class has of its own (JVMS 5.4.3, 5.4.6): the class that stands first has it, or else what stands
 -- above that class comes next, before the classes behind it. Where no class is left, nothing is found.

@@ -4,7 +4,7 @@ ghost use Rattle.std.specs.Prelude.{◌≡◌, ◌+◌, ◌-◌, ◌*◌, ◌<�
 ghost use Rattle.cls_link.specs.Fields as spec;
 ghost use Rattle.cls_link.specs.Fields.{place_from, is_instance, field_at, AreFieldCounts, CountsFields, IsRanking, ResolvesField};
 ghost use Rattle.cf_reader.specs.declared.class_file.Field.{Field};
-ghost use Rattle.cls_set.specs.declared.class.ClassId.{ClassId};
+ghost use Rattle.space_ids.specs.declared.ids.ClassId.{ClassId};
 ghost use Rattle.cls_set.specs.Sets.{IsClassSet};
 
 use super::FieldSlot;

@@ -10,7 +10,7 @@ use Rattle.std.proofs.lemmas.List.{get_or-map, length-map, map-append}
 use Rattle.std.proofs.lemmas.List.Elements.{All-get_or, Contains-append_cases, Contains-append_left, Contains-append_right}
 use Rattle.std.proofs.lemmas.Option.{slice_get_cases, slice_get_within, slice_get-get_or, slice_get-map}
 use Rattle.cls_set.specs.declared.class.Class.{Class}
-use Rattle.cls_set.specs.declared.class.ClassId.{ClassId}
+use Rattle.space_ids.specs.declared.ids.ClassId.{ClassId}
 use Rattle.cls_set.specs.Classes.{name_cmp, names, direct_supertypes}
 use Rattle.cls_set.specs.Sets as sets
 use Rattle.cls_set.specs.Sets.{Origin, origin, super_names, HasAbsent, IsResolved, IsFirstCycle, IsSupertypeByName, NamesSupertype}

@@ -3,7 +3,7 @@ use Rattle.std.specs.Prelude.{All, Contains, IfSome, option_to_list}
 use Rattle.std.specs.List.{AllWithin, HoldsAt}
 use Rattle.std.proofs.lemmas.List.{length-map}
 use Rattle.std.proofs.lemmas.List.Elements.{All-append, All-cons, All-contains, All-nil, AllWithin-more, Contains-get_or, Contains-append_right}
-use Rattle.cls_set.specs.declared.class.ClassId.{ClassId}
+use Rattle.space_ids.specs.declared.ids.ClassId.{ClassId}
 use Rattle.cls_set.specs.declared.members.Member.{Member}
 use Rattle.cls_set.specs.declared.fault.SetFault.{SetFault}
 use Rattle.cls_set.specs.Building.{kept, origins_of, IsAbsentFault}

@@ -8,7 +8,7 @@ use Rattle.std.proofs.lemmas.List.Elements.{All-cons, All-contains, All-get_or, 
 use Rattle.std.proofs.lemmas.List.Sums.{sum_by-append, sum_by-set}
 use Rattle.std.proofs.lemmas.Option.{slice_get_cases}
 use Rattle.cls_set.specs.declared.class.Class.{Class}
-use Rattle.cls_set.specs.declared.class.ClassId.{ClassId}
+use Rattle.space_ids.specs.declared.ids.ClassId.{ClassId}
 use Rattle.cls_set.specs.Subtypes as types
 use Rattle.cls_set.specs.Subtypes.{IsDirectSupertype, IsProperSubtype}
 use Rattle.cls_set.specs.Walks.{Met, WasMet, meet_one, meet_all, ups, ups_of, ups_at, AreWithin}

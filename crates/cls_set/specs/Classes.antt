@@ -3,7 +3,7 @@ use Rattle.std.specs.Ordering.{nat_cmp}
 use Rattle.std.specs.declared.cmp.Ordering.{Ordering}
 use Rattle.std.specs.Cmp.Lexicographic.{slice_cmp}
 use Rattle.cls_set.specs.declared.class.Class.{Class}
-use Rattle.cls_set.specs.declared.class.ClassId.{ClassId}
+use Rattle.space_ids.specs.declared.ids.ClassId.{ClassId}
 use Rattle.cf_reader.specs.declared.flags.TheConstants.Flags.{INTERFACE}
 
 -- In a list of classes a class's number is its place. Names are lists of bytes.

@@ -1,6 +1,6 @@
 use Rattle.std.specs.Prelude.{ℕ, ◌<◌, List, All, IsSomeAnd, map, slice_get}
 use Rattle.cls_set.specs.declared.class.Class.{Class}
-use Rattle.cls_set.specs.declared.class.ClassId.{ClassId}
+use Rattle.space_ids.specs.declared.ids.ClassId.{ClassId}
 use Rattle.cls_set.specs.declared.members.Member.{Member}
 use Rattle.cls_set.specs.Classes.{direct_supertypes}
 use Rattle.cls_set.specs.Sets.{IsClassSet}

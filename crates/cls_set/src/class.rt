@@ -3,10 +3,7 @@
 ghost use Rattle.std.specs.Prelude.{◌↔◌, IsTrue};
 
 use cf_reader::{ClassFile, Flags, Row};
-
-/// A class's number in its class set: its place in the order of names by bytes, from 0.
-#[derive(Clone, Copy, Debug, PartialEq, Eq)]
-pub struct ClassId(pub u16);
+use space_ids::ClassId;
 
 /// A class or interface of a class set, with its direct supertypes by number.
 #[derive(Debug, Drop)]

@@ -34,7 +34,7 @@ impl Model for ClassSet {
 impl ClassSet {
     ghost use Rattle.std.specs.Prelude.{◌≡◌, ◌<◌, ◌≤◌, ◌↔◌, Some, IsTrue, IfOk, IfErr, IfSome, OnOk, length, slice_get};
     ghost use Rattle.cls_set.specs.Classes.{name_at, number_of};
-    ghost use Rattle.cls_set.specs.declared.class.ClassId.{ClassId};
+    ghost use Rattle.space_ids.specs.declared.ids.ClassId.{ClassId};
     ghost use Rattle.cls_set.specs.Sets.{HasClasses, IsClassSet, IsSetFault};
     ghost use Rattle.cls_set.specs.Subtypes.{IsProperSubtype, IsRemote, IsSubclass, IsSubtype};
 

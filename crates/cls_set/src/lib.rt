@@ -6,9 +6,10 @@ pub use cf_reader::{
     ClassFile, Code, ElementType, Field, FieldType, Flags, Method, MethodDescriptor, Numbered,
     Pool, Row, Table, Text,
 };
-pub use class::{Class, ClassId};
+pub use class::Class;
 pub use class_set::ClassSet;
 pub use fault::{SetFault, SetRule};
+pub use space_ids::ClassId;
 
 mod building;
 mod built_in;

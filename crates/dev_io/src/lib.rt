@@ -11,6 +11,7 @@ ghost use Rattle.std.specs.Io.KnownBytes.{ReadConsumes, WriteAppends};
 pub use calls::Calls;
 pub use memory_sink::MemSink;
 pub use memory_source::MemSource;
+pub use reading::{ReadError, read_bytes};
 pub use standard_sink::StdSink;
 pub use standard_source::StdSource;
 use thiserror::Error;
@@ -18,6 +19,7 @@ use thiserror::Error;
 mod calls;
 mod memory_sink;
 mod memory_source;
+mod reading;
 mod standard_sink;
 mod standard_source;
 

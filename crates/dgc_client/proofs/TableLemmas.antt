@@ -12,14 +12,14 @@ use Rattle.std.proofs.lemmas.List.{take_more}
 use Rattle.std.proofs.lemmas.List.Elements.{All-nil, All-cons}
 use Rattle.std.proofs.lemmas.Map.Entries.{lookup_from_place}
 use Rattle.std.proofs.lemmas.Slice.Eq.{bytes_eq-Decides}
-use Rattle.vm_heap.specs.declared.values.ObjId.{ObjId}
+use Rattle.space_ids.specs.declared.ids.ObjId.{ObjId}
 use Rattle.dgc_client.specs.declared.lease.Change.{Change}
 use Rattle.dgc_client.specs.declared.lease.Change.TheVariants as change
 use Rattle.dgc_client.specs.declared.lease.ClientLease.{ClientLease}
 use Rattle.dgc_client.specs.declared.groups.DueCall.{DueCall}
 use Rattle.dgc_client.specs.declared.lease.Due.{Due}
 use Rattle.dgc_client.specs.declared.lease.Due.TheVariants.{Dirty, Clean}
-use Rattle.dgc_client.specs.declared.table.ForeignId.{ForeignId}
+use Rattle.space_ids.specs.declared.ids.ForeignId.{ForeignId}
 use Rattle.dgc_client.specs.declared.table.Clients.{Clients}
 use Rattle.dgc_client.specs.Groups.{is_clean}
 use Rattle.dgc_client.specs.Lease.{fresh, after_moment, due}

@@ -11,7 +11,7 @@ use Rattle.std.proofs.lemmas.Grind.{get_or_default_zero}
 use Rattle.indexmap.specs.IndexMap.{set_value_at, insert_entry}
 use Rattle.dgc_client.specs.declared.groups.DueCall.{DueCall}
 use Rattle.dgc_client.specs.declared.lease.ClientLease.{ClientLease}
-use Rattle.dgc_client.specs.declared.table.ForeignId.{ForeignId}
+use Rattle.space_ids.specs.declared.ids.ForeignId.{ForeignId}
 use Rattle.dgc_client.specs.declared.touched.Touched.{Touched}
 use Rattle.dgc_client.specs.Table.{is_same}
 use Rattle.dgc_client.specs.Touched.{IsTouched, Rises, call_of_entry, call_of_some, call_at, IsDueAt, HasAll}

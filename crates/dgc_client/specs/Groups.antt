@@ -2,7 +2,7 @@
 use Rattle.std.specs.Prelude.{◌≡◌, ◌≤◌, ℕ, zero, suc, Bool, true, false, List, [], ◌∷◌, ◌++◌, length, filter, fold, map, take, drop, All, not, ◌&&◌, if◌then◌else◌}
 use Rattle.std.specs.List.{list_any, flat_map}
 use Rattle.std.specs.Str.{bytes_eq}
-use Rattle.vm_heap.specs.declared.values.ObjId.{ObjId}
+use Rattle.space_ids.specs.declared.ids.ObjId.{ObjId}
 use Rattle.dgc_client.specs.declared.groups.DueCall.{DueCall}
 use Rattle.dgc_client.specs.declared.groups.Group.{Group}
 use Rattle.dgc_client.specs.declared.lease.Due.{Due}

@@ -3,7 +3,7 @@ use Rattle.std.specs.Prelude.{◌≡◌, ℕ, ◌<◌, ◌≤◌, Bool, true, fa
 use Rattle.dgc_client.specs.declared.groups.DueCall.{DueCall}
 use Rattle.dgc_client.specs.declared.lease.ClientLease.{ClientLease}
 use Rattle.dgc_client.specs.declared.lease.Due.{Due}
-use Rattle.dgc_client.specs.declared.table.ForeignId.{ForeignId}
+use Rattle.space_ids.specs.declared.ids.ForeignId.{ForeignId}
 use Rattle.dgc_client.specs.declared.touched.Touched.{Touched}
 use Rattle.dgc_client.specs.Lease.{due}
 

@@ -6,9 +6,9 @@ ghost use Rattle.std.specs.Str.{bytes_eq};
 ghost use Rattle.dgc_client.specs.Groups.{is_same_kind, is_of, is_clean, peers_of, with_peer, cleans_of_peer, in_order, group_of, grouped, IsGrouping, part_of, parts_of};
 
 use crate::{Due, ForeignId};
+use space_ids::{ObjId, Row};
 use std::alloc::{AllocError, Global};
 use uuid::Uuid;
-use vm_heap::{ObjId, Row};
 
 /// A call that is due of one reference.
 #[derive(Clone, Copy, Debug, PartialEq, Eq)]

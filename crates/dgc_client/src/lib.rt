@@ -8,7 +8,8 @@
 
 pub use groups::{DueCall, Group};
 pub use lease::{ClientLease, Due, LONGEST_LEASE, Made, Owed, Term};
-pub use table::{Clients, ForeignId};
+pub use space_ids::ForeignId;
+pub use table::Clients;
 
 mod due_now;
 mod groups;

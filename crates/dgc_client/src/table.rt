@@ -13,17 +13,9 @@ use crate::lease::Change;
 use crate::touched::Touched;
 use crate::{ClientLease, Due};
 use indexmap::IndexMap;
+use space_ids::{ForeignId, ObjId};
 use std::alloc::{AllocError, Global};
 use uuid::Uuid;
-use vm_heap::ObjId;
-
-/// Which object of which other space a reference names. References that differ in their class alone
-/// are leased as one, since dirty and clean calls name objects by their numbers.
-#[derive(Clone, Copy, Debug, PartialEq, Eq, Hash)]
-pub struct ForeignId {
-    pub space: Uuid,
-    pub id: ObjId,
-}
 
 /// All foreign references of a space, in the order in which they were first held.
 ///

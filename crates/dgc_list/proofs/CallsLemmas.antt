@@ -5,7 +5,7 @@ use Rattle.std.specs.Map.{lookup}
 use Rattle.std.specs.Str.{bytes_eq}
 use Rattle.std.proofs.lemmas.Bool.{eqb-true, eq-eqb, false≢true}
 use Rattle.std.proofs.lemmas.Slice.Eq.{bytes_eq-Decides}
-use Rattle.vm_heap.specs.declared.values.ObjId.{ObjId}
+use Rattle.space_ids.specs.declared.ids.ObjId.{ObjId}
 use Rattle.dgc_list.specs.declared.remembered.Remembered.{Remembered}
 use Rattle.dgc_list.specs.Remembered.{blank, is_blank, after_dirty, after_clean, after_moment, is_late}
 use Rattle.dgc_list.specs.Clients.{remembered_in, is_known, leased, leased_after, without, Sets, IsSame}

@@ -3,7 +3,7 @@ use Rattle.std.specs.Prelude.{if◌then◌else◌, nat_lt}
 use Rattle.std.specs.List.{list_all}
 use Rattle.std.specs.Str.{bytes_eq}
 use Rattle.std.proofs.lemmas.Bool.{false≢true}
-use Rattle.vm_heap.specs.declared.values.ObjId.{ObjId}
+use Rattle.space_ids.specs.declared.ids.ObjId.{ObjId}
 use Rattle.dgc_list.specs.declared.remembered.Remembered.{Remembered}
 use Rattle.dgc_list.specs.Remembered.{after_dirty, after_clean}
 use Rattle.dgc_list.specs.Clients.{leased_after, without}

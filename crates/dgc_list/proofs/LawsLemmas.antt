@@ -3,7 +3,7 @@ use Rattle.std.specs.Prelude.{if◌then◌else◌, nat_le, nat_lt}
 use Rattle.std.specs.Str.{bytes_eq}
 use Rattle.std.proofs.lemmas.Bool.{false≢true}
 use Rattle.std.proofs.lemmas.Bool.Decides.{nat_tests}
-use Rattle.vm_heap.specs.declared.values.ObjId.{ObjId}
+use Rattle.space_ids.specs.declared.ids.ObjId.{ObjId}
 use Rattle.dgc_list.specs.declared.remembered.Remembered.{Remembered}
 use Rattle.dgc_list.specs.Remembered.{is_late, after_dirty, after_clean, after_moment}
 use Rattle.dgc_list.specs.Objects.{is_same}

@@ -1,7 +1,7 @@
 //! What calls and moments make of the objects' clients.
 
 ghost use Rattle.std.specs.Prelude.{◌≡◌, ◌<◌, ℕ, IsTrue, OnOk, Contains, length};
-ghost use Rattle.vm_heap.specs.declared.values.ObjId.{ObjId};
+ghost use Rattle.space_ids.specs.declared.ids.ObjId.{ObjId};
 ghost use Rattle.dgc_list.specs.declared.expiries.Expiry.{Expiry};
 ghost use Rattle.dgc_list.specs.Remembered.{after_dirty, after_clean};
 ghost use Rattle.dgc_list.specs.Clients.{IsSame};
@@ -9,9 +9,9 @@ ghost use Rattle.dgc_list.specs.Objects.{clients_at, is_named, AreKnown, IsCover
 
 use crate::expiries::{Expiries, Expiry};
 use crate::objects::Objects;
+use space_ids::ObjId;
 use std::alloc::AllocError;
 use uuid::Uuid;
-use vm_heap::ObjId;
 
 // Makes room for a client at each of the objects. Nothing else is remembered of any.
 pub(crate) fn make_room(

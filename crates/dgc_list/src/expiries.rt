@@ -4,11 +4,11 @@ ghost use Rattle.std.specs.Prelude.{◌≡◌, ◌+◌, ◌<◌, ◌≤◌, ◌�
 ghost use Rattle.std.specs.declared.collections.VecDeque.{VecDeque};
 ghost use Rattle.dgc_list.specs.declared.expiries.Expiry.{Expiry};
 
+use space_ids::ObjId;
 use std::alloc::{AllocError, Global};
 use std::collections::VecDeque;
 use std::marker::Model;
 use uuid::Uuid;
-use vm_heap::ObjId;
 
 /// A client's entry for an object is gone from a moment on.
 #[derive(Clone, Copy, Debug, PartialEq, Eq)]

@@ -2,7 +2,7 @@
 
 ghost use Rattle.std.specs.Prelude.{◌≡◌, ◌+◌, ◌<◌, ◌≤◌, ◌++◌, ◌∷◌, ℕ, Bool, true, false, List, Some, None, IsTrue};
 ghost use Rattle.std.specs.List.{list_all};
-ghost use Rattle.vm_heap.specs.declared.values.ObjId.{ObjId};
+ghost use Rattle.space_ids.specs.declared.ids.ObjId.{ObjId};
 ghost use Rattle.dgc_list.specs.Remembered.{is_late};
 ghost use Rattle.dgc_list.specs.History.{Call, moment_of, granted, is_told, remembered_of, is_leased, clients_of, own_calls, AreOlder};
 ghost use Rattle.dgc_list.specs.History.Call.{Dirty, Clean, Moment};

@@ -1,14 +1,14 @@
 //! The reference lists of a space.
 
 ghost use Rattle.std.specs.Prelude.{◌≡◌, ◌<◌, ◌^◌, List, [], ◌∷◌, false, IsOk, IfOk, OnOk, OnErr, length};
-ghost use Rattle.vm_heap.specs.declared.values.ObjId.{ObjId};
+ghost use Rattle.space_ids.specs.declared.ids.ObjId.{ObjId};
 
 use crate::calls::{add_expiries, expire, make_room, tell_clean, tell_dirty};
 use crate::expiries::Expiries;
 use crate::objects::Objects;
+use space_ids::ObjId;
 use std::alloc::{AllocError, Global};
 use uuid::Uuid;
-use vm_heap::ObjId;
 
 /// The longest period that a lease is granted for, in milliseconds (ten minutes, as is the default of
 /// Java RMI).

@@ -2,7 +2,7 @@
 
 ghost use Rattle.std.specs.Prelude.{◌≡◌, false, [], IsTrue, OnOk, MatchOption, is_some, if◌then◌else◌, ◌||◌};
 ghost use Rattle.std.specs.Map.{lookup};
-ghost use Rattle.vm_heap.specs.declared.values.ObjId.{ObjId};
+ghost use Rattle.space_ids.specs.declared.ids.ObjId.{ObjId};
 ghost use Rattle.dgc_list.specs.Remembered.{is_blank};
 ghost use Rattle.dgc_list.specs.Clients.{is_known, IsSame, Sets};
 ghost use Rattle.dgc_list.specs.Objects.{is_same, clients_at, remembered_at};
@@ -10,10 +10,10 @@ ghost use Rattle.dgc_list.specs.Objects.{is_same, clients_at, remembered_at};
 use crate::Remembered;
 use crate::clients::Clients;
 use indexmap::IndexMap;
+use space_ids::ObjId;
 use std::alloc::{AllocError, Global};
 use std::marker::Model;
 use uuid::Uuid;
-use vm_heap::ObjId;
 
 /// The objects of which clients are remembered, with those clients.
 #[derive(Debug, Drop)]
@@ -23,7 +23,7 @@ pub(crate) struct Objects {
 
 impl Model for Objects {
     ghost use Rattle.std.specs.Prelude.{List, ℕ};
-    ghost use Rattle.vm_heap.specs.declared.values.ObjId.{ObjId};
+    ghost use Rattle.space_ids.specs.declared.ids.ObjId.{ObjId};
     ghost use Rattle.dgc_list.specs.declared.remembered.Remembered.{Remembered};
 
     ghost Value = { List (ObjId × List (List ℕ × Remembered)) };

@@ -1,7 +1,8 @@
 //! The path from bytes to an outcome: command lines over a folder in memory.
 
 use super::Tally;
-use cf_reader::{LoadFault, ReadFault};
+use cf_load::LoadFault;
+use cf_reader::ReadFault;
 use class_builder::SUM;
 use cls_link::LinkFault;
 use cls_set::SetFault;

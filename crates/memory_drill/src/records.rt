@@ -4,9 +4,9 @@ use super::Tally;
 use dgc_client::{Clients, Due, ForeignId};
 use dgc_list::RefList;
 use sp_registry::{BindFault, Registry};
+use space_ids::ObjId;
 use std::alloc::{AllocError, Global};
 use uuid::Uuid;
-use vm_heap::ObjId;
 
 // Binds `a` and `b`, and then `b` and `c` whether they are bound or not.
 fn names(alloc: Global, tally: &mut Tally) {

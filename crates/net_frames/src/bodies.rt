@@ -10,8 +10,8 @@ use crate::fields::{
 };
 use crate::kinds::{FrameKind, kind_of};
 use net_message::{Message, WireError, WireFault};
+use space_ids::Uuid;
 use std::alloc::Global;
-use vm_heap::Uuid;
 
 #[tactic(auto, unfolding(crate::specs::Reading::fields_at))]
 fn hello_of(bytes: &[u8]) -> Result<(Message, &[u8]), WireError>

@@ -2,13 +2,13 @@
 
 ghost use Rattle.std.specs.Prelude.{◌≡◌, IfOk, FitsSigned};
 ghost use Rattle.std.specs.Int.{w32};
-ghost use Rattle.vm_heap.specs.declared.values.Value.TheVariants as values;
+ghost use Rattle.space_ids.specs.declared.value.Value.TheVariants as values;
 ghost use Rattle.net_frames.specs.Reading.{Gives, shown, byte_at, raw_at, number_at, items_at, int_at, id_at, class_at, reference_at, ints_at, tagged_at, value_at, arguments_at, counted_result_at, result_at, objects_at, flag_at, name_at};
 
 use byteorder::{BigEndian, ByteOrder};
 use net_message::{Digest, WireError, WireFault, is_name};
+use space_ids::{ClassId, ObjId, Ref, Row, Uuid, Value};
 use std::alloc::Global;
-use vm_heap::{ClassId, ObjId, Ref, Row, Uuid, Value};
 
 pub(crate) fn byte_of(bytes: &[u8]) -> Result<(u8, &[u8]), WireError>
     ensures { Gives (λ x. (x.0, x.1.now)) result (byte_at bytes.now) }

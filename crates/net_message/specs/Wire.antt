@@ -3,11 +3,11 @@ use Rattle.std.specs.Prelude.{◌≡◌, ℕ, ◌^◌, ◌<◌, ◌≤◌, nat_l
 use Rattle.std.specs.Int.{w32, cast_unsigned}
 use Rattle.std.specs.List.{flat_map, list_all, AllByRecursion}
 use Rattle.byteorder.specs.Endian.{big_bytes}
-use Rattle.cls_set.specs.declared.class.ClassId.{ClassId}
-use Rattle.vm_heap.specs.declared.values.ObjId.{ObjId}
-use Rattle.vm_heap.specs.declared.values.Ref.{Ref}
-use Rattle.vm_heap.specs.declared.values.Value.{Value}
-use Rattle.vm_heap.specs.declared.values.Value.TheVariants as values
+use Rattle.space_ids.specs.declared.ids.ClassId.{ClassId}
+use Rattle.space_ids.specs.declared.ids.ObjId.{ObjId}
+use Rattle.space_ids.specs.declared.ids.Ref.{Ref}
+use Rattle.space_ids.specs.declared.value.Value.{Value}
+use Rattle.space_ids.specs.declared.value.Value.TheVariants as values
 use Rattle.net_message.specs.declared.message.Message.{Message}
 use Rattle.net_message.specs.declared.message.Message.TheVariants.{Hello, Call, Returned, Threw, Spent, Ack, Dirty, Lease, Clean, Cleaned, Lookup}
 

@@ -4,7 +4,7 @@ ghost use Rattle.std.specs.Prelude.{◌≡◌};
 ghost use Rattle.net_message.specs.declared.fault.WireError.TheVariants.{Memory};
 ghost use Rattle.net_message.specs.FaultNames.{wire_fault_number};
 
-use cf_text::Numbered;
+use base_types::Numbered;
 use std::alloc::{AllocError, AllocFailed};
 use thiserror::Error;
 

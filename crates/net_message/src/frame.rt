@@ -7,8 +7,8 @@ use crate::fault::WireFault;
 use crate::length::body_len;
 use crate::message::{Digest, Message};
 use crate::ranges::{are_arguments, are_objects, is_name, is_result, is_space};
+use space_ids::{ClassId, ObjId, Row, Uuid, Value};
 use std::marker::Model;
-use vm_heap::{ClassId, ObjId, Row, Uuid, Value};
 
 /// A frame of the protocol between spaces: a message each of whose fields is in its range. A
 /// contract sees it as the message. Its body may still be too long for the wire (`body_len`).

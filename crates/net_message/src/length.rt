@@ -6,7 +6,7 @@ ghost use Rattle.net_message.specs.Sizes.{value_size, values_size, result_size, 
 ghost use Rattle.net_message.specs.Wire.{IsValue, IsInRange};
 
 use crate::message::Message;
-use vm_heap::Value;
+use space_ids::Value;
 
 #[tactic(auto, unfolding(crate::specs::Sizes::value_size, crate::specs::Wire::IsValue))]
 fn value_len(value: &Value) -> usize

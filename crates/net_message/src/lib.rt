@@ -2,13 +2,13 @@
 //! says, the ranges of its fields, and its one spelling in bytes.
 #![tactic(auto)]
 
-pub use cf_text::Numbered;
+pub use base_types::Numbered;
 pub use encoding::{MAX_BODY, encode};
 pub use fault::{WireError, WireFault};
 pub use frame::Frame;
 pub use message::{Digest, Message};
 pub use ranges::is_name;
-pub use vm_heap::{ClassId, ObjId, Ref, Row, Uuid, Value};
+pub use space_ids::{ClassId, ObjId, Ref, Row, Uuid, Value};
 
 mod encoding;
 mod fault;

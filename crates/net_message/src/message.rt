@@ -1,6 +1,6 @@
 //! What a frame says, kind by kind.
 
-use vm_heap::{ClassId, ObjId, Row, Uuid, Value};
+use space_ids::{ClassId, ObjId, Row, Uuid, Value};
 
 /// The SHA-256 digest of a space's class files.
 pub type Digest = [u8; 32];

@@ -6,7 +6,7 @@ ghost use Rattle.net_message.specs.Wire as wire;
 ghost use Rattle.net_message.specs.Wire.{AreInts, AreArguments, AreObjects, IsId, IsReference, IsValue, IsName};
 
 use crate::fault::WireFault;
-use vm_heap::{ObjId, Ref, Uuid, Value};
+use space_ids::{ObjId, Ref, Uuid, Value};
 
 #[tactic(auto, unfolding(crate::specs::Wire::is_name_byte))]
 fn is_name_byte(byte: u8) -> bool

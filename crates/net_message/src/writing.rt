@@ -9,7 +9,7 @@ ghost use Rattle.net_message.specs.Wire.{number_bytes, int_bytes, id_bytes, clas
 use crate::message::Message;
 use byteorder::{BigEndian, ByteOrder};
 use bytes::BytesMut;
-use vm_heap::{ClassId, ObjId, Ref, Value};
+use space_ids::{ClassId, ObjId, Ref, Value};
 
 fn put_u8(out: &mut BytesMut, byte: u8)
     requires { 1 ≤ out.old.spare }

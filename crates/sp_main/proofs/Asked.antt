@@ -8,7 +8,7 @@ use Rattle.sp_main.specs.CommandLine.{AreRunWords, RunWords}
 use Rattle.sp_main.specs.Requests.{IsRefusing, IsRunRequest}
 use Rattle.sp_main.specs.declared.words.Request.{Request}
 use Rattle.sp_main.specs.declared.words.Request.TheVariants.{Run, Tell, Refuse}
-use Rattle.vm_heap.specs.declared.values.Value.{Value}
+use Rattle.space_ids.specs.declared.value.Value.{Value}
 
 -- a refusal is right where no run is asked for
 pub refusing : {E : Type 0} (rows : List Row) (answer : Result Request E) → IfOk answer IsRefusing → ((run : RunWords) → AreRunWords rows run → ⊥)

@@ -9,7 +9,7 @@ use Rattle.sp_main.specs.Runs.{IsNoProgram, IsNotRun, IsProgram, IsRefused, IsUn
 use Rattle.sp_main.specs.declared.refusal.Refusal.{Refusal}
 use Rattle.sp_main.specs.declared.refusal.Refusal.TheVariants as refusal
 use Rattle.sp_main.specs.declared.running.ClassBytes.{ClassBytes}
-use Rattle.vm_heap.specs.declared.values.Value.{Value}
+use Rattle.space_ids.specs.declared.value.Value.{Value}
 use Rattle.vm_step.specs.declared.limits.Limits.{Limits}
 
 refused : (files : List ClassBytes) (class text : List ℕ) (arguments : List Value) (limits : Limits) (program : Links) (method : MethodId)

@@ -1,7 +1,7 @@
 -- Words one behind the other, and the values that they spell.
 use Rattle.std.proofs.Common.{◌≡◌, ◌++◌, ℕ, zero, suc, List, [], ◌∷◌, Bor, ◌<◌, ◌≤◌, length, map, take, Option, Some, None, MatchOption, sym, subst, slice_index_or, arith}
 use Rattle.std.specs.List.{AllZip}
-use Rattle.vm_heap.specs.declared.values.Value.{Value}
+use Rattle.space_ids.specs.declared.value.Value.{Value}
 use Rattle.sp_main.specs.Arguments.{Spells}
 
 -- the words spell the values, each its own

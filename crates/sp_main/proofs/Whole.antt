@@ -14,7 +14,7 @@ use Rattle.sp_main.proofs.Within.{run-KeepsWithin}
 use Rattle.uuid.specs.Parts.{zero_bytes}
 use Rattle.ver_check.specs.Acceptance.{AreSafe}
 use Rattle.vm_heap.specs.Tagged.{Unset}
-use Rattle.vm_heap.specs.declared.values.Value.{Value}
+use Rattle.space_ids.specs.declared.value.Value.{Value}
 use Rattle.vm_stack.specs.Frames.{empty_frame, frame_cost}
 use Rattle.vm_step.specs.Run.{State, Running, Over, run, IsNeverStuck}
 use Rattle.vm_step.specs.Start.{started, startable, refusal, opening_frame, opening_state, passed}

@@ -3,8 +3,8 @@ use Rattle.std.specs.Prelude.{◌≡◌, ◌≢◌, ℕ, ℤ, Bool, ◌==◌, Li
 use Rattle.std.specs.Str.Parse.{IsNumeral, without_leading_sign, signed_digits_value}
 use Rattle.std.specs.List.{slice_split}
 use mir.Syntax.{w32}
-use Rattle.vm_heap.specs.declared.values.Value.{Value}
-use Rattle.vm_heap.specs.declared.values.Value.TheVariants.{Null, Int, Ints, Ref}
+use Rattle.space_ids.specs.declared.value.Value.{Value}
+use Rattle.space_ids.specs.declared.value.Value.TheVariants.{Null, Int, Ints, Ref}
 
 -- a whole number: digits behind at most a '-', which 32 bits hold
 abbrev pub IsNumber : List ℕ → ℤ → Type 0

@@ -4,8 +4,8 @@ use Rattle.std.specs.Prelude.{◌≡◌, ◌≢◌, ◌<◌, ◌++◌, ℕ, List
 use Rattle.std.specs.Fmt.{decimal}
 use Rattle.std.specs.Option.{IsSomeAnd}
 use Rattle.std.specs.String.{string_bytes}
-use Rattle.cf_reader.specs.declared.load_fault.LoadFault.{LoadFault}
-use Rattle.cf_reader.specs.declared.load_fault.LoadFault.TheVariants as load
+use Rattle.cf_load.specs.declared.load_fault.LoadFault.{LoadFault}
+use Rattle.cf_load.specs.declared.load_fault.LoadFault.TheVariants as load
 use Rattle.cf_text.specs.FaultNames.{name_of}
 use Rattle.cf_text.specs.Order.{number_of}
 use Rattle.cf_text.specs.declared.fault.ReadFault.TheVariants as read

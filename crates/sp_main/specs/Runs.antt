@@ -5,8 +5,8 @@ use Rattle.cf_reader.specs.declared.class_file.ClassFile.{ClassFile}
 use Rattle.cf_reader.specs.declared.class_file.Code.{Code}
 use Rattle.cf_layout.specs.declared.items.Layout.{Layout}
 use Rattle.cf_reader.specs.Spells.{IsAtFault, IsInProfile, Spells}
-use Rattle.cf_reader.specs.declared.load_fault.LoadFault.{LoadFault}
-use Rattle.cf_reader.specs.declared.load_fault.LoadFault.TheVariants as load
+use Rattle.cf_load.specs.declared.load_fault.LoadFault.{LoadFault}
+use Rattle.cf_load.specs.declared.load_fault.LoadFault.TheVariants as load
 use Rattle.cls_link.specs.Links.{Links, AreLinks, IsLinkFault}
 use Rattle.cls_link.specs.declared.fault.LinkFault.{LinkFault}
 use Rattle.cls_link.specs.Links as links
@@ -26,8 +26,8 @@ use Rattle.uuid.specs.Parts.{zero_bytes}
 use Rattle.ver_check.specs.Acceptance.{AreSafe}
 use Rattle.ver_check.specs.Faults.{IsCheckFault}
 use Rattle.ver_check.specs.declared.fault.CheckFault.{CheckFault}
-use Rattle.vm_heap.specs.declared.values.Value.{Value}
-use Rattle.vm_heap.specs.declared.values.Value.TheVariants as value
+use Rattle.space_ids.specs.declared.value.Value.{Value}
+use Rattle.space_ids.specs.declared.value.Value.TheVariants as value
 use Rattle.vm_step.specs.Run.{State, Running, Over, Lost, run, step, IsNeverStuck}
 use Rattle.vm_step.specs.Start.{started, startable}
 use Rattle.vm_step.specs.Subjects.{Declared}

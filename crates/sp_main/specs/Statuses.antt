@@ -1,7 +1,7 @@
 -- The exit statuses: their numbers, and which goes with which answer.
 use Rattle.std.specs.Prelude.{ℕ}
-use Rattle.cf_reader.specs.declared.load_fault.LoadFault.{LoadFault}
-use Rattle.cf_reader.specs.declared.load_fault.LoadFault.TheVariants.{Device, Read}
+use Rattle.cf_load.specs.declared.load_fault.LoadFault.{LoadFault}
+use Rattle.cf_load.specs.declared.load_fault.LoadFault.TheVariants.{Device, Read}
 use Rattle.sp_main.specs.declared.refusal.Refusal.{Refusal}
 use Rattle.sp_main.specs.declared.refusal.Refusal.TheVariants as refusal
 use Rattle.sp_main.specs.declared.running.RunOutcome.{RunOutcome}

@@ -3,8 +3,8 @@ use Rattle.std.specs.Prelude.{◌++◌, ◌∷◌, [], ℕ, ℤ, Some, None, Lis
 use Rattle.std.specs.Fmt.{signed_decimal}
 use Rattle.sp_main.specs.declared.running.RunOutcome.{RunOutcome}
 use Rattle.sp_main.specs.declared.running.RunOutcome.TheVariants.{Returned, Threw, Spent}
-use Rattle.vm_heap.specs.declared.values.Value.{Value}
-use Rattle.vm_heap.specs.declared.values.Value.TheVariants.{Null, Int, Ints, Ref}
+use Rattle.space_ids.specs.declared.value.Value.{Value}
+use Rattle.space_ids.specs.declared.value.Value.TheVariants.{Null, Int, Ints, Ref}
 
 -- numbers, each behind a comma
 abbrev pub behind_commas : List ℤ → List ℕ

@@ -9,8 +9,8 @@ ghost use Rattle.sp_main.specs.Requests.{run_words};
 use super::texts::{outcome_report, refusal_report, text_report, unreadable_report};
 use super::words::{Request, RunRequest, request_of};
 use super::{ClassBytes, Content, Folder, FolderFault, Report, Status, run_classes};
-use cf_reader::{LoadFault, ReadFault, read_bytes};
-use dev_io::StdSource;
+use cf_reader::MAX_LEN;
+use dev_io::{ReadError, StdSource, read_bytes};
 use std::alloc::{AllocError, Global};
 use std::io::{Read, Write};
 use vm_step::Limits;
@@ -107,11 +107,9 @@ fn read_content<F: Folder>(alloc: Global, folder: &F, path: &str) -> Result<Cont
     let Ok(file) = folder.open(path) else {
         return Ok(Content::Unreadable);
     };
-    match read_bytes(alloc, &mut StdSource::new(file)) {
+    match read_bytes(alloc, &mut StdSource::new(file), MAX_LEN + 1) {
         Ok(bytes) => Ok(Content::Bytes(bytes)),
-        Err(LoadFault::Device) => Ok(Content::Unreadable),
-        Err(LoadFault::Read(ReadFault::Memory)) => Err(AllocError),
-        // What the bytes spell is not looked at here.
-        Err(LoadFault::Read(ReadFault::Broken { .. })) => unreachable!(),
+        Err(ReadError::Device) => Ok(Content::Unreadable),
+        Err(ReadError::Memory) => Err(AllocError),
     }
 }

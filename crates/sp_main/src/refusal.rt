@@ -3,7 +3,7 @@
 ghost use Rattle.std.specs.Prelude.{◌≡◌};
 ghost use Rattle.sp_main.specs.declared.refusal.Refusal.TheVariants as refusal;
 
-use cf_reader::LoadFault;
+use cf_load::LoadFault;
 use cls_link::LinkFault;
 use cls_set::SetFault;
 use std::alloc::{AllocError, AllocFailed};

@@ -9,7 +9,8 @@ ghost use Rattle.vm_step.specs.Task.{IsOfSet};
 ghost use Rattle.sp_main.specs.Runs.{AreSpelled, IsFileFault, IsNamed, IsNoProgram, IsNotRun, IsProgram, IsRefused, IsRun, IsSpelled, IsUnread, Runs, is_parenthesis, method_named};
 
 use super::refusal::Refusal;
-use cf_reader::{ClassFile, LoadFault, Text, read_class};
+use cf_load::LoadFault;
+use cf_reader::{ClassFile, Text, read_class};
 use cls_link::{MethodId, link};
 use cls_set::ClassSet;
 use std::alloc::{AllocError, Global};

@@ -9,7 +9,8 @@ ghost use Rattle.sp_main.specs.Texts.{ints_text, outcome_text, value_text};
 
 use super::line::Line;
 use super::{ClassBytes, Refusal, Report, RunOutcome, Status};
-use cf_reader::{LoadFault, Numbered, ReadFault, Text};
+use cf_load::LoadFault;
+use cf_reader::{Numbered, ReadFault, Text};
 use cls_link::LinkFault;
 use cls_set::SetFault;
 use std::alloc::{AllocError, Global};

@@ -6,7 +6,7 @@ ghost use Rattle.clap.specs.Matches.{found_of};
 ghost use Rattle.clap.specs.Simple.{app_of, new_shape, subcommand_rows_of};
 ghost use Rattle.clap.specs.Values.{kind_of};
 ghost use Rattle.clap.specs.Walk.{first_of, rows_of};
-ghost use Rattle.vm_heap.specs.declared.values.Value.{Value};
+ghost use Rattle.space_ids.specs.declared.value.Value.{Value};
 ghost use Rattle.sp_main.specs.Arguments.{Spells};
 ghost use Rattle.sp_main.specs.CommandLine.{IsComing, IsFuel, IsSaidFuel, arguments_rule, fuel_rule, program, run_shape, wanted_rule};
 ghost use Rattle.sp_main.specs.Requests.{IsArgument, IsAsked, IsCommand, IsRefusing, IsRequest, IsRunFound, IsRunRequest, IsUnasked};

@@ -8,7 +8,7 @@ use Rattle.std.proofs.lemmas.List.Quantifiers.{position-Some}
 use Rattle.std.proofs.lemmas.Bool.Decides.{nat_tests}
 use Rattle.std.proofs.lemmas.List.Recursion.{found_at}
 use Rattle.std.proofs.lemmas.Slice.Eq.{bytes_eq-Decides}
-use Rattle.vm_heap.specs.declared.values.ObjId.{ObjId}
+use Rattle.space_ids.specs.declared.ids.ObjId.{ObjId}
 use Rattle.sp_registry.specs.declared.registry.Binding.{Binding}
 use Rattle.sp_registry.specs.declared.fault.RegistryFault.TheVariants.{AlreadyBound}
 use Rattle.sp_registry.specs.Bindings.{allowed, bind, is_of, lookup, rebound, unbound, IsPlaceOf, HasNamesOnce}

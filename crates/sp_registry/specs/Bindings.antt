@@ -1,7 +1,7 @@
 use Rattle.std.specs.Prelude.{◌≡◌, ℕ, Bool, List, [], ◌∷◌, ◌++◌, Option, None, Some, Result, Ok, Err, is_some, length, ◌<◌, remove, slice_set, if◌then◌else◌}
 use Rattle.std.specs.List.{slice_index_or}
 use Rattle.std.specs.Str.{bytes_eq}
-use Rattle.vm_heap.specs.declared.values.ObjId.{ObjId}
+use Rattle.space_ids.specs.declared.ids.ObjId.{ObjId}
 use Rattle.sp_registry.specs.declared.fault.RegistryFault.{RegistryFault}
 use Rattle.sp_registry.specs.declared.fault.RegistryFault.TheVariants.{AlreadyBound, NotBound, BadName, NotOwn}
 use Rattle.sp_registry.specs.declared.fault.BindFault.{BindFault}

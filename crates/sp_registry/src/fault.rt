@@ -4,7 +4,7 @@ ghost use Rattle.std.specs.Prelude.{◌≡◌};
 ghost use Rattle.sp_registry.specs.declared.fault.BindFault.TheVariants.{Memory, Denied};
 ghost use Rattle.sp_registry.specs.FaultNames.{registry_fault_number};
 
-use cf_text::Numbered;
+use base_types::Numbered;
 use std::alloc::{AllocError, AllocFailed};
 use thiserror::Error;
 

@@ -2,7 +2,7 @@
 
 ghost use Rattle.std.specs.Prelude.{◌≡◌, ℕ, List, Some, None, IsSome, map, if◌then◌else◌};
 ghost use Rattle.std.specs.Str.{bytes_eq};
-ghost use Rattle.vm_heap.specs.declared.values.ObjId.{ObjId};
+ghost use Rattle.space_ids.specs.declared.ids.ObjId.{ObjId};
 ghost use Rattle.sp_registry.specs.declared.registry.Binding.{Binding};
 ghost use Rattle.sp_registry.specs.Bindings.{lookup, rebound, unbound, HasNamesOnce};
 

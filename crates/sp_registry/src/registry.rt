@@ -6,9 +6,9 @@ ghost use Rattle.sp_registry.specs.Bindings.{bind, rebind, unbind, lookup, allow
 
 use super::name::is_allowed;
 use super::{BindFault, Name, RegistryFault};
+use space_ids::ObjId;
 use std::alloc::Global;
 use std::marker::Model;
-use vm_heap::ObjId;
 
 /// A name and the own standing object that it is bound to.
 #[derive(Debug, Drop)]

@@ -2,22 +2,22 @@
 use Rattle.std.specs.Prelude.{◌≡◌, refl, cond, zero, suc, ℕ, ◌+◌, ◌-◌, ◌≤◌, ◌==◌, min, Bool, true, false, List, [], ◌∷◌, ◌++◌, Option, None, Some, Result, Ok, Err, filter, find, map, not, ◌||◌, ◌&&◌, is_none, is_some, nat_le, nat_lt, if◌then◌else◌}
 use Rattle.std.proofs.Common.{arith}
 use Rattle.std.specs.List.{list_all, list_any}
-use Rattle.cls_set.specs.declared.class.ClassId.{ClassId}
+use Rattle.space_ids.specs.declared.ids.ClassId.{ClassId}
 use Rattle.dgc_client.specs.History as lease_events
 use Rattle.dgc_client.specs.declared.groups.Group.{Group}
 use Rattle.dgc_client.specs.declared.lease.Due.{Due}
 use Rattle.dgc_client.specs.declared.lease.Due.TheVariants as due
-use Rattle.dgc_client.specs.declared.table.ForeignId.{ForeignId}
+use Rattle.space_ids.specs.declared.ids.ForeignId.{ForeignId}
 use Rattle.net_message.specs.declared.message.Message.{Message}
 use Rattle.net_message.specs.declared.message.Message.TheVariants as message
 use Rattle.sp_registry.specs.Bindings as registry
 use Rattle.sp_registry.specs.declared.fault.RegistryFault.{RegistryFault}
 use Rattle.sp_registry.specs.declared.registry.Binding.{Binding}
 use Rattle.uuid.specs.declared.Uuid.{Uuid}
-use Rattle.vm_heap.specs.declared.values.ObjId.{ObjId}
-use Rattle.vm_heap.specs.declared.values.Ref.{Ref}
-use Rattle.vm_heap.specs.declared.values.Value.{Value}
-use Rattle.vm_heap.specs.declared.values.Value.TheVariants as values
+use Rattle.space_ids.specs.declared.ids.ObjId.{ObjId}
+use Rattle.space_ids.specs.declared.ids.Ref.{Ref}
+use Rattle.space_ids.specs.declared.value.Value.{Value}
+use Rattle.space_ids.specs.declared.value.Value.TheVariants as values
 use Rattle.sp_rules.specs.Behaviours.{Reply, GivesBack, Throws}
 use Rattle.sp_rules.specs.Classes
 use Rattle.sp_rules.specs.Classes.{Setting}

@@ -10,7 +10,7 @@ use Rattle.sp_registry.specs.Bindings as registry
 use Rattle.sp_registry.specs.declared.fault.RegistryFault.{RegistryFault}
 use Rattle.sp_registry.specs.declared.registry.Binding.{Binding}
 use Rattle.uuid.specs.declared.Uuid.{Uuid}
-use Rattle.vm_heap.specs.declared.values.ObjId.{ObjId}
+use Rattle.space_ids.specs.declared.ids.ObjId.{ObjId}
 use Rattle.sp_rules.specs.Classes.{Setting}
 use Rattle.sp_rules.specs.Events.{Event, Moment, Sweep, Root, RootAck, Bind, Rebind, Unbind, Lookup, Opened, Refused, Received, Closed, ReadFailed, Bad, WriteFailed, Committed, Parked, GivenBack, Finished}
 use Rattle.sp_rules.specs.Frames
@@ -183,7 +183,7 @@ silent (Some client) None s (message.Lookup number name) calls no-tell = refl
 row : ℕ → Option Uuid → Option Uuid → ℕ → List Message → Connection
 row number dialled peer last sent = record { number = number; dialled = dialled; peer = peer; last = last; sent = sent }
 
-closed : (g : Setting) (s : State) (class : Rattle.cls_set.specs.declared.class.ClassId.ClassId) (conn : ℕ) → (Rattle.sp_rules.specs.Endings.close g class conn s).owner.entries ≡ s.owner.entries
+closed : (g : Setting) (s : State) (class : Rattle.space_ids.specs.declared.ids.ClassId.ClassId) (conn : ℕ) → (Rattle.sp_rules.specs.Endings.close g class conn s).owner.entries ≡ s.owner.entries
 closed g s class conn = close_keeps (entries-stable g s.owner.entries) {s = s} class conn refl
 
 dirty-tells : (g : Setting) (s : State) (number last : ℕ) (dialled peer : Option Uuid) (sent : List Message) (sequence period : ℕ) (ids : List ObjId)

@@ -96,7 +96,7 @@ waits g t k ready is = ap lend_fuel (stepped g t k ready is)
 abbrev Recorded : Setting → State → Type 0
 Recorded g t = AreRecorded g t.tasks
 
-begun : (g : Setting) (s : State) (origin : Origin) (method : ℕ) (arguments : List Rattle.vm_heap.specs.declared.values.Value.Value) (fuel : ℕ)
+begun : (g : Setting) (s : State) (origin : Origin) (method : ℕ) (arguments : List Rattle.space_ids.specs.declared.value.Value.Value) (fuel : ℕ)
     → IsRecorded g (new_row g origin method arguments fuel s)
 unfolding steps
 begun g s origin method arguments fuel = refl

@@ -5,7 +5,7 @@ use Rattle.std.specs.List.{list_any}
 use Rattle.std.specs.Str.{bytes_eq}
 use Rattle.std.proofs.Common.{inl, inr}
 use Rattle.std.proofs.lemmas.Bool.{true≢false, eq-eqb}
-use Rattle.cls_set.specs.declared.class.ClassId.{ClassId}
+use Rattle.space_ids.specs.declared.ids.ClassId.{ClassId}
 use Rattle.dgc_list.specs.History as owner
 use Rattle.dgc_list.specs.Objects.{is_named, is_same}
 use Rattle.dgc_list.specs.Remembered.{blank, after_moment}
@@ -16,9 +16,9 @@ use Rattle.sp_registry.specs.Names.{is_name}
 use Rattle.sp_registry.specs.declared.fault.RegistryFault.{RegistryFault}
 use Rattle.sp_registry.specs.declared.registry.Binding.{Binding}
 use Rattle.uuid.specs.declared.Uuid.{Uuid}
-use Rattle.vm_heap.specs.declared.values.ObjId.{ObjId}
-use Rattle.vm_heap.specs.declared.values.Value.{Value}
-use Rattle.vm_heap.specs.declared.values.Value.TheVariants as values
+use Rattle.space_ids.specs.declared.ids.ObjId.{ObjId}
+use Rattle.space_ids.specs.declared.value.Value.{Value}
+use Rattle.space_ids.specs.declared.value.Value.TheVariants as values
 use Rattle.sp_rules.specs.Classes.{Setting}
 use Rattle.sp_rules.specs.Events.{Event, Moment, Sweep, Root, RootAck, Bind, Rebind, Unbind, Lookup, Opened, Refused, Received, Closed, ReadFailed, Bad, WriteFailed, Committed, Parked, GivenBack, Finished}
 use Rattle.sp_rules.specs.Frames.{that_stand}

@@ -3,7 +3,7 @@ use mathlib.Core.Path.{sym, ap, ◌∙◌}
 use Rattle.std.specs.Prelude.{◌≡◌, refl, ℕ, Bool, true, false, List, [], ◌∷◌, filter, map, not, cond, ◌||◌}
 use Rattle.std.proofs.lemmas.Bool.{true≢false, eqb-true, eq-eqb}
 use Rattle.dgc_list.specs.History as owner
-use Rattle.vm_heap.specs.declared.values.ObjId.{ObjId}
+use Rattle.space_ids.specs.declared.ids.ObjId.{ObjId}
 use Rattle.sp_rules.specs.Classes.{Setting}
 use Rattle.sp_rules.specs.Holders
 use Rattle.sp_rules.specs.Holders.{has_reason}

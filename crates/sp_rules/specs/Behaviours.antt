@@ -1,9 +1,9 @@
 -- What a task does, as far as its space sees it: instructions of its own, operations that it asks the space for, and an end. (This project's own rule: the Java RMI specification leaves open what runs a method; what an instruction does is JVMS 6.5.)
 use Rattle.std.specs.Prelude.{ℕ, List, Option}
-use Rattle.cls_set.specs.declared.class.ClassId.{ClassId}
-use Rattle.vm_heap.specs.declared.values.ObjId.{ObjId}
-use Rattle.vm_heap.specs.declared.values.Ref.{Ref}
-use Rattle.vm_heap.specs.declared.values.Value.{Value}
+use Rattle.space_ids.specs.declared.ids.ClassId.{ClassId}
+use Rattle.space_ids.specs.declared.ids.ObjId.{ObjId}
+use Rattle.space_ids.specs.declared.ids.Ref.{Ref}
+use Rattle.space_ids.specs.declared.value.Value.{Value}
 
 -- A task ends in one of three ways: its method returned, it threw an exception that nothing catches, or its fuel was spent.
 pub data Outcome : Type 0 where

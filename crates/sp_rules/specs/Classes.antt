@@ -1,9 +1,9 @@
 -- What a space asks of its class set, and what is settled when a space is made. A remote interface is java/rmi/Remote or extends it; a remote class is a class that implements one (Java RMI specification, 2.3 and 4.1).
 use Rattle.std.specs.Prelude.{ℕ, Bool, true, false, List, [], ◌∷◌, Option, None, Some, ◌&&◌, pos, slice_get, if◌then◌else◌}
-use Rattle.cls_set.specs.declared.class.ClassId.{ClassId}
+use Rattle.space_ids.specs.declared.ids.ClassId.{ClassId}
 use Rattle.uuid.specs.declared.Uuid.{Uuid}
-use Rattle.vm_heap.specs.declared.values.Value.{Value}
-use Rattle.vm_heap.specs.declared.values.Value.TheVariants as values
+use Rattle.space_ids.specs.declared.value.Value.{Value}
+use Rattle.space_ids.specs.declared.value.Value.TheVariants as values
 use Rattle.sp_rules.specs.Behaviours.{Behaviour}
 
 -- What a method of a remote interface takes and gives, and what a field of a remote class holds: an int (a boolean is the int that it is carried as), an array of ints, a reference of a remote interface; a result may be nothing. A field is no array.

@@ -1,14 +1,14 @@
 -- Failures and ends of connections: dirty and clean calls fail, calls end with an exception, results are held on (Java RMI specification, A.2: ConnectException, MarshalException, UnmarshalException). A failure removes no entry and no name.
 use Rattle.std.specs.Prelude.{ℕ, ◌+◌, ◌==◌, ◌&&◌, ◌||◌, not, Bool, true, false, List, [], ◌∷◌, Option, None, Some, is_none, filter, map, take, if◌then◌else◌}
 use Rattle.std.specs.List.{list_any, flat_map}
-use Rattle.cls_set.specs.declared.class.ClassId.{ClassId}
+use Rattle.space_ids.specs.declared.ids.ClassId.{ClassId}
 use Rattle.dgc_client.specs.Lease as lease
 use Rattle.dgc_client.specs.History as lease_events
 use Rattle.dgc_client.specs.Table as client
 use Rattle.dgc_client.specs.declared.groups.Group.{Group}
 use Rattle.dgc_client.specs.declared.lease.Due.{Due}
 use Rattle.dgc_client.specs.declared.lease.Due.TheVariants as due
-use Rattle.dgc_client.specs.declared.table.ForeignId.{ForeignId}
+use Rattle.space_ids.specs.declared.ids.ForeignId.{ForeignId}
 use Rattle.net_message.specs.declared.message.Message.{Message}
 use Rattle.net_message.specs.declared.message.Message.TheVariants as message
 use Rattle.uuid.specs.declared.Uuid.{Uuid}

@@ -8,7 +8,7 @@ use Rattle.sp_registry.specs.Bindings as registry
 use Rattle.sp_registry.specs.declared.fault.RegistryFault.{RegistryFault}
 use Rattle.sp_registry.specs.declared.registry.Binding.{Binding}
 use Rattle.uuid.specs.declared.Uuid.{Uuid}
-use Rattle.vm_heap.specs.declared.values.ObjId.{ObjId}
+use Rattle.space_ids.specs.declared.ids.ObjId.{ObjId}
 use Rattle.sp_rules.specs.Books.{Entry, event_of, book_run}
 use Rattle.sp_rules.specs.Classes.{Setting}
 use Rattle.sp_rules.specs.Events.{Output, Started, Ended, Withdrawn, Denied, Send, Dial, Close, Ready, Event, Moment, Sweep, Bind, Rebind, Unbind, Received}

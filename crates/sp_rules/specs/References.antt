@@ -2,12 +2,12 @@
 use Rattle.std.specs.Prelude.{Bool, List, [], ◌∷◌, ◌++◌, Option, None, Some, ◌==◌, ◌&&◌, fold, if◌then◌else◌}
 use Rattle.std.specs.List.{list_any, flat_map}
 use Rattle.std.specs.Str.{bytes_eq}
-use Rattle.dgc_client.specs.declared.table.ForeignId.{ForeignId}
+use Rattle.space_ids.specs.declared.ids.ForeignId.{ForeignId}
 use Rattle.uuid.specs.declared.Uuid.{Uuid}
-use Rattle.vm_heap.specs.declared.values.ObjId.{ObjId}
-use Rattle.vm_heap.specs.declared.values.Ref.{Ref}
-use Rattle.vm_heap.specs.declared.values.Value.{Value}
-use Rattle.vm_heap.specs.declared.values.Value.TheVariants as values
+use Rattle.space_ids.specs.declared.ids.ObjId.{ObjId}
+use Rattle.space_ids.specs.declared.ids.Ref.{Ref}
+use Rattle.space_ids.specs.declared.value.Value.{Value}
+use Rattle.space_ids.specs.declared.value.Value.TheVariants as values
 
 -- A value is a reference or has none: an array is an array of ints.
 abbrev pub reference_of : Value → List Ref

@@ -4,9 +4,9 @@ use Rattle.std.specs.List.{list_any, list_all}
 use Rattle.std.specs.Str.{bytes_eq}
 use Rattle.dgc_client.specs.Table as client
 use Rattle.uuid.specs.declared.Uuid.{Uuid}
-use Rattle.vm_heap.specs.declared.values.ObjId.{ObjId}
-use Rattle.vm_heap.specs.declared.values.Ref.{Ref}
-use Rattle.vm_heap.specs.declared.values.Value.{Value}
+use Rattle.space_ids.specs.declared.ids.ObjId.{ObjId}
+use Rattle.space_ids.specs.declared.ids.Ref.{Ref}
+use Rattle.space_ids.specs.declared.value.Value.{Value}
 use Rattle.sp_rules.specs.Behaviours.{Op, Create, Get, Put, Call, Outcome, Returned, Threw, Spent}
 use Rattle.sp_rules.specs.Classes.{Setting, StartRefusal, AbsentMethod, BadSignature, BadArgument, fit_kinds, fits_field, field_kind}
 use Rattle.sp_rules.specs.Events.{Event, Moment, Sweep, Root, RootAck, Bind, Rebind, Unbind, Lookup, Opened, Refused, Received, Closed, ReadFailed, Bad, WriteFailed, Committed, Parked, GivenBack, Finished}

@@ -9,7 +9,7 @@ use Rattle.dgc_client.specs.Table as client
 use Rattle.net_message.specs.declared.message.Message.{Message}
 use Rattle.net_message.specs.declared.message.Message.TheVariants as message
 use Rattle.uuid.specs.declared.Uuid.{Uuid}
-use Rattle.vm_heap.specs.declared.values.ObjId.{ObjId}
+use Rattle.space_ids.specs.declared.ids.ObjId.{ObjId}
 use Rattle.sp_rules.specs.Events.{Place, Waited, Cleans, Dirties, Dial}
 use Rattle.sp_rules.specs.Events as event
 use Rattle.sp_rules.specs.Lists.{each, with_some}

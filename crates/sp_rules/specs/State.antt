@@ -2,16 +2,16 @@
 use Rattle.std.specs.Prelude.{ℕ, ◌==◌, ◌&&◌, not, Bool, false, List, [], ◌∷◌, ◌++◌, Option, None, Some, is_some, filter, find, if◌then◌else◌}
 use Rattle.std.specs.List.{list_any}
 use Rattle.std.specs.Str.{bytes_eq}
-use Rattle.cls_set.specs.declared.class.ClassId.{ClassId}
+use Rattle.space_ids.specs.declared.ids.ClassId.{ClassId}
 use Rattle.dgc_client.specs.declared.groups.Group.{Group}
-use Rattle.dgc_client.specs.declared.table.ForeignId.{ForeignId}
+use Rattle.space_ids.specs.declared.ids.ForeignId.{ForeignId}
 use Rattle.dgc_client.specs.Table as client
 use Rattle.dgc_list.specs.History as owner
 use Rattle.net_message.specs.declared.message.Message.{Message}
 use Rattle.sp_registry.specs.declared.registry.Binding.{Binding}
 use Rattle.uuid.specs.declared.Uuid.{Uuid}
-use Rattle.vm_heap.specs.declared.values.ObjId.{ObjId}
-use Rattle.vm_heap.specs.declared.values.Value.{Value}
+use Rattle.space_ids.specs.declared.ids.ObjId.{ObjId}
+use Rattle.space_ids.specs.declared.value.Value.{Value}
 use Rattle.sp_rules.specs.Behaviours.{Reply}
 use Rattle.sp_rules.specs.Classes.{Kind}
 use Rattle.sp_rules.specs.Events.{Output, Note, Says, Sends, Place}

@@ -1,7 +1,7 @@
 -- A task: what it does from here on, its fuel, and the references that it holds. (This project's own rules of fuel and of what a task may use.)
 use Rattle.std.specs.Prelude.{ℕ, zero, suc, ◌+◌, ◌-◌, min, nat_le, List, [], length, drop, Option, if◌then◌else◌}
-use Rattle.vm_heap.specs.declared.values.Ref.{Ref}
-use Rattle.vm_heap.specs.declared.values.Value.{Value}
+use Rattle.space_ids.specs.declared.ids.Ref.{Ref}
+use Rattle.space_ids.specs.declared.value.Value.{Value}
 use Rattle.sp_rules.specs.Behaviours.{Outcome, Threw, Spent, Op, Reply, Gives, GivesBack, Throws, RunsOut, Behaviour, Plain, Asks, Ends, Over}
 use Rattle.sp_rules.specs.Classes.{Setting}
 use Rattle.sp_rules.specs.References.{references_in, references_of, with_references}

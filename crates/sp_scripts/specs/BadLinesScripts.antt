@@ -1,6 +1,6 @@
 -- Lines that are refused: scripts of spaces, each with what it shows and how its roots and lookups end.
 use Rattle.std.specs.Prelude.{◌≡◌, List, [], ◌∷◌, Some, pos}
-use Rattle.vm_heap.specs.declared.values.Value.TheVariants as values
+use Rattle.space_ids.specs.declared.value.Value.TheVariants as values
 use Rattle.sp_scripts.specs.Names.{counter_bump, counter_make}
 use Rattle.sp_scripts.specs.Scripts.{Line, RootLine, AckLine, BindLine, LookupLine, RefuseLine, ReadFailLine, MomentLine, SettleLine, Variable, Literal, bad_line}
 

@@ -1,6 +1,6 @@
 -- Lost frames, failed reads and writes, refused dials: scripts of spaces, each with what it shows and how its roots and lookups end.
 use Rattle.std.specs.Prelude.{◌≡◌, List, [], ◌∷◌, None, Some, pos}
-use Rattle.vm_heap.specs.declared.values.Value.TheVariants as values
+use Rattle.space_ids.specs.declared.value.Value.TheVariants as values
 use Rattle.sp_rules.specs.Behaviours.{Returned, Threw}
 use Rattle.sp_scripts.specs.Names.{class_of, connect_exception, counter_bump, counter_class, counter_make, deep_make, deep_run, factory_class, factory_create, factory_make, marshal_exception, unmarshal_exception, user_make, user_pass}
 use Rattle.sp_scripts.specs.Scripts.{Line, RootLine, AckLine, BindLine, LookupLine, OpenLine, RefuseLine, DeliverLine, ReplyLine, ReadFailLine, WriteFailLine, MomentLine, SweepLine, StepLine, ShowLine, SettleLine, Variable, Literal, seen, reference}

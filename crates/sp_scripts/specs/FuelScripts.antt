@@ -1,6 +1,6 @@
 -- One space, two spaces, and fuel: scripts of spaces, each with what it shows and how its roots and lookups end.
 use Rattle.std.specs.Prelude.{◌≡◌, List, [], ◌∷◌, None, Some, pos}
-use Rattle.vm_heap.specs.declared.values.Value.TheVariants as values
+use Rattle.space_ids.specs.declared.value.Value.TheVariants as values
 use Rattle.sp_rules.specs.Behaviours.{Returned, Spent}
 use Rattle.sp_rules.specs.Worlds.{Step}
 use Rattle.sp_scripts.specs.Names.{counter_bump, counter_class, counter_make, deep_make, deep_run, ends_make, ends_spin, p_go, p_join, p_make, user_make, user_pass}

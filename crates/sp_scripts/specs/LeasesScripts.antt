@@ -1,6 +1,6 @@
 -- Dirty and clean calls, leases and their ends: scripts of spaces, each with what it shows and how its roots and lookups end.
 use Rattle.std.specs.Prelude.{◌≡◌, List, [], ◌∷◌, None, Some, pos}
-use Rattle.vm_heap.specs.declared.values.Value.TheVariants as values
+use Rattle.space_ids.specs.declared.value.Value.TheVariants as values
 use Rattle.sp_rules.specs.Behaviours.{Returned, Threw}
 use Rattle.sp_scripts.specs.Names.{box_bump, box_class, box_fetch, class_of, counter_bump, counter_class, counter_make, factory_churn, factory_class, factory_create, factory_make_cell, link_keep, link_make, no_such_object_exception, p_class, p_join, p_make, unmarshal_exception, user_class, user_make, user_pass}
 use Rattle.sp_scripts.specs.Scripts.{Line, RootLine, AckLine, BindLine, UnbindLine, LookupLine, OpenLine, RefuseLine, DeliverLine, ReplyLine, ReadFailLine, WriteFailLine, MomentLine, SweepLine, StepLine, ShowLine, SettleLine, Variable, Literal, seen, reference}

@@ -2,10 +2,10 @@
 use Rattle.std.specs.Prelude.{ℕ, zero, suc, ◌+◌, ◌==◌, ◌&&◌, ◌||◌, not, nat_le, Bool, true, false, List, [], ◌∷◌, Option, None, Some, ℤ, pos, negsuc, if◌then◌else◌}
 use Rattle.std.specs.Str.{bytes_eq}
 use Rattle.uuid.specs.declared.Uuid.{Uuid}
-use Rattle.vm_heap.specs.declared.values.ObjId.{ObjId}
-use Rattle.vm_heap.specs.declared.values.Ref.{Ref}
-use Rattle.vm_heap.specs.declared.values.Value.{Value}
-use Rattle.vm_heap.specs.declared.values.Value.TheVariants as values
+use Rattle.space_ids.specs.declared.ids.ObjId.{ObjId}
+use Rattle.space_ids.specs.declared.ids.Ref.{Ref}
+use Rattle.space_ids.specs.declared.value.Value.{Value}
+use Rattle.space_ids.specs.declared.value.Value.TheVariants as values
 use Rattle.sp_rules.specs.Behaviours.{Behaviour, Plain, Asks, Ends, Create, Get, Put, Call, Threw}
 use Rattle.sp_rules.specs.References.{is_same_reference}
 use Rattle.sp_scripts.specs.Names.{abstract_method_error, adder_class, arithmetic_exception, back_method, box_class, bump_method, class_of, counter_class, deep_class, deep_method, divide_method, down_method, ends_class, error_method, factory_class, flag_method, get_method, hidden_class, illegal_access_error, inc_method, incompatible_class_change_error, keep_method, lacks_class, link_class, make_cell_method, make_method, marshal_exception, next_method, nil_method, null_pointer_exception, p_class, peer_method, ping_method, plain_class, plain_error, plain_exception, plainly_method, put_method, relay_method, remote_exception, remote_method, spin_method, stack_overflow_error, twice_class, use_method, user_class}

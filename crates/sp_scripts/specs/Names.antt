@@ -1,6 +1,6 @@
 -- The numbers of the classes and methods of which the scripts are played: small remote classes, each with the static methods that scripts start. (Their sources are in words beside each method in Methods and Programs.)
 use Rattle.std.specs.Prelude.{ℕ}
-use Rattle.cls_set.specs.declared.class.ClassId.{ClassId}
+use Rattle.space_ids.specs.declared.ids.ClassId.{ClassId}
 
 -- the class of this number
 abbrev pub class_of : ℕ → ClassId

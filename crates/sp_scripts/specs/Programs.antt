@@ -2,8 +2,8 @@
 use Rattle.std.specs.Prelude.{ℕ, zero, suc, ◌-◌, ◌==◌, ◌&&◌, ◌||◌, not, nat_lt, nat_le, Bool, false, List, [], ◌∷◌, ◌++◌, Option, None, Some, if◌then◌else◌}
 use Rattle.std.specs.Str.{bytes_eq}
 use Rattle.uuid.specs.declared.Uuid.{Uuid}
-use Rattle.vm_heap.specs.declared.values.Value.{Value}
-use Rattle.vm_heap.specs.declared.values.Value.TheVariants as values
+use Rattle.space_ids.specs.declared.value.Value.{Value}
+use Rattle.space_ids.specs.declared.value.Value.TheVariants as values
 use Rattle.sp_rules.specs.Behaviours.{Behaviour, Ends, Returned}
 use Rattle.sp_rules.specs.Classes.{Classes, Setting, Kind, IntKind, ReferenceKind, VoidKind, StartRefusal, AbsentMethod, BadArgument, fit_kinds}
 use Rattle.sp_scripts.specs.Methods.{threw, plains, val, nat_of, int_value, arg, same, has, selection, Next, invoke, create, inner_of, body}

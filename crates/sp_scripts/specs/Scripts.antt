@@ -3,8 +3,8 @@ use Rattle.std.specs.Prelude.{ℕ, zero, suc, ◌+◌, ◌==◌, ◌&&◌, nat_l
 use Rattle.dgc_list.specs.History.{clients_of}
 use Rattle.sp_registry.specs.declared.registry.Binding.{Binding}
 use Rattle.uuid.specs.declared.Uuid.{Uuid}
-use Rattle.vm_heap.specs.declared.values.Value.{Value}
-use Rattle.vm_heap.specs.declared.values.Value.TheVariants as values
+use Rattle.space_ids.specs.declared.value.Value.{Value}
+use Rattle.space_ids.specs.declared.value.Value.TheVariants as values
 use Rattle.sp_rules.specs.Behaviours.{Outcome, Returned, Threw, Spent}
 use Rattle.sp_rules.specs.Events.{Event, Output, Ended, Moment, Sweep, Root, RootAck, Bind, Rebind, Unbind, Lookup}
 use Rattle.sp_rules.specs.Lists.{with_some, total}

@@ -1,6 +1,6 @@
 -- References that pass through a third space: scripts of spaces, each with what it shows and how its roots and lookups end.
 use Rattle.std.specs.Prelude.{◌≡◌, List, [], ◌∷◌, None, Some, pos}
-use Rattle.vm_heap.specs.declared.values.Value.TheVariants as values
+use Rattle.space_ids.specs.declared.value.Value.TheVariants as values
 use Rattle.sp_rules.specs.Behaviours.{Returned}
 use Rattle.sp_scripts.specs.Names.{box_bump, box_fetch, box_get, box_make, box_put, counter_class, counter_make, link_fresh, link_make, link_next, user_make, user_pass}
 use Rattle.sp_scripts.specs.Scripts.{Line, RootLine, AckLine, BindLine, UnbindLine, LookupLine, OpenLine, DeliverLine, ReplyLine, SweepLine, StepLine, ShowLine, SettleLine, SweptLine, Variable, seen, seen_and_spent, reference}

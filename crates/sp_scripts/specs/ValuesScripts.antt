@@ -1,6 +1,6 @@
 -- Values that cross, and how calls end: scripts of spaces, each with what it shows and how its roots and lookups end.
 use Rattle.std.specs.Prelude.{◌≡◌, List, [], ◌∷◌, None, Some, pos, negsuc}
-use Rattle.vm_heap.specs.declared.values.Value.TheVariants as values
+use Rattle.space_ids.specs.declared.value.Value.TheVariants as values
 use Rattle.sp_rules.specs.Behaviours.{Returned, Threw}
 use Rattle.sp_scripts.specs.Names.{arithmetic_exception, box_bump, box_clear, box_get, box_make, box_object, box_plain, box_put, class_of, counter_bump, counter_class, counter_make, ends_deep, ends_divide, ends_error, ends_flag, ends_make, ends_nil, ends_plainly, ends_remote, incompatible_class_change_error, marshal_exception, not_bound_exception, null_pointer_exception, plain_error, plain_exception, plain_make, remote_exception, server_error, server_exception, stack_overflow_error}
 use Rattle.sp_scripts.specs.Scripts.{Line, RootLine, BindLine, RebindLine, UnbindLine, LookupLine, ShowLine, SettleLine, Variable, Literal, seen, reference}

@@ -1,8 +1,9 @@
 //! Class files, from bytes and from sources.
 
-use cf_reader::{LoadFault, Numbered, ReadFault, Rule, load, read_bytes, read_class};
+use cf_load::{LoadFault, load};
+use cf_reader::{MAX_LEN, Numbered, ReadFault, Rule, read_class};
 use class_builder::SUM;
-use dev_io::MemSource;
+use dev_io::{MemSource, read_bytes};
 use std::test::Fail;
 
 // A part of the class.
@@ -58,12 +59,12 @@ fn a_file_of_one_mebibyte_is_looked_at_and_a_longer_one_is_not(
 fn all_bytes_of_a_source_are_read(rt: HostRuntime) -> Result<(), Fail> {
     for step in [1, 7, 144, 5000] {
         let mut source = MemSource::new(Vec::from_slice(rt.alloc(), SUM)?, step);
-        let bytes = read_bytes(rt.alloc(), &mut source)?;
+        let bytes = read_bytes(rt.alloc(), &mut source, MAX_LEN + 1)?;
         assert_eq!(rt; bytes.as_slice(), part(0, 144), "at {step}");
     }
     // Of a source that is too long one byte more than a class file may have.
     let zeros = vec![in rt.alloc(); 0u8; 1_048_600]?;
-    let bytes = read_bytes(rt.alloc(), &mut MemSource::new(zeros, 60_000))?;
+    let bytes = read_bytes(rt.alloc(), &mut MemSource::new(zeros, 60_000), MAX_LEN + 1)?;
     assert_eq!(rt; bytes.len(), 1_048_577);
     Ok(())
 }

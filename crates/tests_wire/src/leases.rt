@@ -1,10 +1,10 @@
 //! A client's leases.
 
 use dgc_client::{ClientLease, Clients, Due, ForeignId, Group, LONGEST_LEASE};
+use space_ids::ObjId;
 use std::alloc::{AllocError, Global};
 use std::test::Fail;
 use uuid::Uuid;
-use vm_heap::ObjId;
 
 const DIRTY: Option<Due> = Some(Due::Dirty);
 

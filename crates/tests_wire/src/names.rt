@@ -1,10 +1,10 @@
 //! The names of a space.
 
-use cf_text::Numbered;
+use base_types::Numbered;
 use sp_registry::{BindFault, Binding, Registry, RegistryFault};
+use space_ids::ObjId;
 use std::process::Abort;
 use std::test::Fail;
-use vm_heap::ObjId;
 
 fn denied(fault: RegistryFault) -> Result<(), BindFault> {
     Err(BindFault::Denied(fault))

@@ -3,11 +3,11 @@
 ghost use Rattle.std.specs.Prelude.{◌<◌, ◌^◌};
 
 use dgc_list::{LONGEST_LEASE, RefList};
+use space_ids::ObjId;
 use std::alloc::{AllocError, Global};
 use std::process::Abort;
 use std::test::Fail;
 use uuid::Uuid;
-use vm_heap::ObjId;
 
 fn client(number: u64) -> Uuid {
     Uuid::from_u64_pair(0, number)

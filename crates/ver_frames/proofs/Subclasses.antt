@@ -5,7 +5,7 @@ use Rattle.std.proofs.lemmas.Option.{slice_get_past}
 use Rattle.cls_set.specs.Subtypes.{IsSubclass}
 use Rattle.cls_set.specs.Subtypes.IsSubclass.{itself, superclass, through}
 use Rattle.cls_set.specs.declared.class.Class.{Class}
-use Rattle.cls_set.specs.declared.class.ClassId.{ClassId}
+use Rattle.space_ids.specs.declared.ids.ClassId.{ClassId}
 
 -- a number of no class is a subclass of itself alone
 pub itself_outside : (classes : List Class) (sub sup : ClassId) → length classes ≤ sub.0 → IsSubclass classes sub sup → sub ≡ sup

@@ -1,6 +1,6 @@
 use Rattle.std.specs.Prelude.{◌≡◌, ◌⊎◌, Some, List, IsTrue, IsSomeAnd, slice_get, codes, ⊤}
 use Rattle.cls_set.specs.declared.class.Class.{Class}
-use Rattle.cls_set.specs.declared.class.ClassId.{ClassId}
+use Rattle.space_ids.specs.declared.ids.ClassId.{ClassId}
 use Rattle.ver_frames.specs.Frames.{Frame}
 use Rattle.std.specs.List.{AllZip}
 use Rattle.cls_set.specs.Classes.{name_at, IsInterface}

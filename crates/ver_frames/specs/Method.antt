@@ -3,7 +3,7 @@ use Rattle.cf_reader.specs.declared.class_file.Method.{Method}
 use Rattle.cf_reader.specs.declared.class_file.Code.{Code}
 use Rattle.cls_link.specs.declared.linked.LinkedCode.{LinkedCode}
 use Rattle.cls_set.specs.declared.class.Class.{Class}
-use Rattle.cls_set.specs.declared.class.ClassId.{ClassId}
+use Rattle.space_ids.specs.declared.ids.ClassId.{ClassId}
 use Rattle.ver_frames.specs.Frames.{Frame, filled}
 use Rattle.ver_frames.specs.Types.{field_vtype}
 use Rattle.ver_frames.specs.declared.vtype.VType.{VType}

@@ -2,10 +2,7 @@
 //! by copy and remote references.
 #![tactic(auto)]
 
-pub use cls_set::{ClassId, Row};
-pub use uuid::Uuid;
-pub use values::{ObjId, Ref, Value};
+pub use space_ids::{ClassId, ForeignId, ObjId, Ref, Row, Uuid, Value};
 pub use word::Word;
 
-mod values;
 mod word;

@@ -26,8 +26,8 @@ use Rattle.ver_frames.specs.Types.{field_vtype, element_type}
 use Rattle.ver_frames.specs.declared.vtype.VType.{VType}
 use Rattle.ver_frames.specs.declared.vtype.VType.TheVariants as vtype
 use Rattle.vm_heap.specs.Tagged.{Tagged, Unset}
-use Rattle.vm_heap.specs.declared.values.Value.{Value}
-use Rattle.vm_heap.specs.declared.values.Value.TheVariants as value
+use Rattle.space_ids.specs.declared.value.Value.{Value}
+use Rattle.space_ids.specs.declared.value.Value.TheVariants as value
 use Rattle.vm_step.specs.Fits.{Fits, AllFit, FitsFrame}
 use Rattle.vm_step.specs.Run.{Running, Over, code_of, IsNotLost, IsNeverStuck}
 use Rattle.vm_step.specs.Start.{is_startable, startable, is_int_element, is_int_type, takes_ints, is_int_value, fill_parameters, refusal, passed, opening_frame, opening_state}

@@ -6,8 +6,8 @@ use Rattle.std.specs.Prelude.{option_map}
 use Rattle.cls_set.proofs.Names.{name_at_number}
 use Rattle.cls_set.specs.Classes.{names, number_of}
 use Rattle.cls_set.specs.declared.class.Class.{Class}
-use Rattle.cls_set.specs.declared.class.ClassId.{ClassId}
-use Rattle.vm_heap.specs.declared.values.Value.TheVariants as value
+use Rattle.space_ids.specs.declared.ids.ClassId.{ClassId}
+use Rattle.space_ids.specs.declared.value.Value.TheVariants as value
 use Rattle.vm_step.specs.Task.{outcome_of, thrown_name, Tells, IsOfSet}
 use Rattle.vm_step.specs.declared.ending.Ending.{Ending}
 use Rattle.vm_step.specs.declared.ending.Ending.TheVariants.{ReturnedNothing, ReturnedInt, Threw, Spent}

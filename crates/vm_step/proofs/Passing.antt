@@ -2,7 +2,7 @@
 use Rattle.std.proofs.Common.{◌≡◌, ℕ, zero, suc, ◌+◌, ◌<◌, List, [], ◌∷◌, ◌++◌, length, get_or, take, drop, map, refl, ap, arith, add-one}
 use Rattle.std.proofs.Math.ListN.{set}
 use Rattle.vm_heap.specs.Tagged.{Tagged}
-use Rattle.vm_heap.specs.declared.values.Value.{Value}
+use Rattle.space_ids.specs.declared.value.Value.{Value}
 use Rattle.vm_step.specs.Start.{passed}
 
 -- the variable behind those that hold the arguments so far gets the next one

@@ -13,8 +13,8 @@ use Rattle.cls_link.specs.declared.linked.MethodId.{MethodId}
 use Rattle.uuid.specs.declared.Uuid.{Uuid}
 use Rattle.ver_frames.specs.Method.{is_static}
 use Rattle.vm_heap.specs.Tagged.{Tagged, Int, Unset}
-use Rattle.vm_heap.specs.declared.values.Value.{Value}
-use Rattle.vm_heap.specs.declared.values.Value.TheVariants as value
+use Rattle.space_ids.specs.declared.value.Value.{Value}
+use Rattle.space_ids.specs.declared.value.Value.TheVariants as value
 use Rattle.vm_stack.specs.Frames.{Frame, empty_frame, frame_cost}
 use Rattle.vm_step.specs.Run.{State, Running, Over}
 use Rattle.vm_step.specs.Subjects.{Declared, declared_at}

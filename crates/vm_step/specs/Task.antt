@@ -3,9 +3,9 @@ use Rattle.std.specs.Prelude.{◌≡◌, ℕ, ◌+◌, ◌<◌, List, length, Op
 use Rattle.cls_link.specs.Links.{Links}
 use Rattle.cls_set.specs.Classes.{name_at, number_of}
 use Rattle.cls_set.specs.declared.class.Class.{Class}
-use Rattle.cls_set.specs.declared.class.ClassId.{ClassId}
+use Rattle.space_ids.specs.declared.ids.ClassId.{ClassId}
 use Rattle.uuid.specs.declared.Uuid.{Uuid}
-use Rattle.vm_heap.specs.declared.values.Value.TheVariants as value
+use Rattle.space_ids.specs.declared.value.Value.TheVariants as value
 use Rattle.vm_step.specs.Run.{State, Running, Over, Lost, run, IsNeverStuck}
 use Rattle.vm_step.specs.declared.task.ThrownClasses.{ThrownClasses}
 use Rattle.vm_step.specs.declared.ending.Ending.{Ending}

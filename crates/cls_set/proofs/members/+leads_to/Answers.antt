@@ -1,7 +1,7 @@
 use Rattle.std.proofs.Common.{◌∙◌, sym, refl, subst, arith}
 use Rattle.std.specs.Prelude.{Contains, IfSome, slice_index_or}
 use Rattle.std.proofs.lemmas.List.Elements.{Contains-get_or, All-more}
-use Rattle.cls_set.specs.declared.class.ClassId.{ClassId}
+use Rattle.space_ids.specs.declared.ids.ClassId.{ClassId}
 use Rattle.cls_set.specs.Members.{classes_of}
 use Rattle.cls_set.specs.Subtypes.{IsSubtype}
 use Rattle.cls_set.proofs.Hierarchy.{differ_by, true_false, by_contradiction, All-whole, same_subtype, class_read, superclass_lower, superinterface_lower, subtype_ends, subtype_by_superclass, subtype_by_superinterface}

@@ -1,6 +1,6 @@
 use Rattle.std.proofs.Common.{◌<◌, ◌∙◌, List, [], ◌∷◌, length, get_or, take, sym, subst, ap}
 use Rattle.std.proofs.lemmas.List.{take_more}
-use Rattle.cls_set.specs.declared.class.ClassId.{ClassId}
+use Rattle.space_ids.specs.declared.ids.ClassId.{ClassId}
 use Rattle.cls_set.specs.Walks.{Met, met_by, meet_all, meet_one}
 use Rattle.cls_set.proofs.Walks.{long_all, meet_append}
 use Rattle.cls_set.proofs.walking.meet_each.Goals as goal

@@ -2,7 +2,7 @@ use Rattle.std.proofs.Common.{◌≡◌, ◌++◌, take, drop}
 use Rattle.std.specs.Prelude.{map}
 use Rattle.indexmap.specs.IndexMap.{spare}
 use Rattle.dgc_client.specs.declared.lease.ClientLease.{ClientLease}
-use Rattle.dgc_client.specs.declared.table.ForeignId.{ForeignId}
+use Rattle.space_ids.specs.declared.ids.ForeignId.{ForeignId}
 use Rattle.dgc_client.specs.Lease.{after_moment}
 use Rattle.dgc_client.proofs.table.pass.Given as goal
 

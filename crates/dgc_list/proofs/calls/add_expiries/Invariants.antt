@@ -1,5 +1,5 @@
 use Rattle.std.proofs.Common.{take, Contains, IsTrue}
-use Rattle.vm_heap.specs.declared.values.ObjId.{ObjId}
+use Rattle.space_ids.specs.declared.ids.ObjId.{ObjId}
 use Rattle.dgc_list.specs.declared.expiries.Expiry.{Expiry}
 use Rattle.dgc_list.specs.Objects.{is_named}
 use Rattle.dgc_list.proofs.calls.add_expiries.Given as goal

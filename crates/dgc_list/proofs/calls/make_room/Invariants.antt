@@ -1,5 +1,5 @@
 use Rattle.std.proofs.Common.{take}
-use Rattle.vm_heap.specs.declared.values.ObjId.{ObjId}
+use Rattle.space_ids.specs.declared.ids.ObjId.{ObjId}
 use Rattle.dgc_list.specs.Clients.{IsSame}
 use Rattle.dgc_list.specs.Objects.{clients_at, AreKnown}
 use Rattle.dgc_list.proofs.calls.make_room.Given as goal

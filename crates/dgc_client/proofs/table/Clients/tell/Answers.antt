@@ -1,5 +1,5 @@
 use Rattle.std.proofs.Common.{List, sym, ◌∙◌, subst}
-use Rattle.vm_heap.specs.declared.values.ObjId.{ObjId}
+use Rattle.space_ids.specs.declared.ids.ObjId.{ObjId}
 use Rattle.dgc_client.specs.History.{event_of}
 use Rattle.dgc_client.specs.Table.{Told, IsAfter}
 use Rattle.dgc_client.proofs.TableLemmas.{told-next}

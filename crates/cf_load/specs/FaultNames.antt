@@ -1,7 +1,7 @@
 -- The number of each fault.
 use Rattle.std.specs.Prelude.{ℕ}
-use Rattle.cf_reader.specs.declared.load_fault.LoadFault.TheVariants as load_fault
-use Rattle.cf_reader.specs.declared.load_fault.LoadFault.{LoadFault}
+use Rattle.cf_load.specs.declared.load_fault.LoadFault.TheVariants as load_fault
+use Rattle.cf_load.specs.declared.load_fault.LoadFault.{LoadFault}
 use Rattle.cf_text.specs.FaultNames.{read_fault_number}
 
 -- the number of a fault

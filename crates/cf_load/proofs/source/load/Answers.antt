@@ -1,7 +1,7 @@
 use Rattle.std.proofs.Common.{Ok, Err, rules}
-use Rattle.cf_reader.proofs.Front.{loaded}
-use Rattle.cf_reader.specs.declared.load_fault.LoadFault.TheVariants.{Read}
-use Rattle.cf_reader.proofs.source.load.Goals as goal
+use Rattle.cf_load.proofs.Front.{loaded}
+use Rattle.cf_load.specs.declared.load_fault.LoadFault.TheVariants.{Read}
+use Rattle.cf_load.proofs.source.load.Goals as goal
 
 pub returns-in-Ok-clause-all : goal.returns-in-Ok-clause-all
 returns-in-Ok-clause-all g c =

@@ -1,10 +1,10 @@
 //! Why a class file could not be loaded.
 
 ghost use Rattle.std.specs.Prelude.{◌≡◌};
-ghost use Rattle.cf_reader.specs.declared.load_fault.LoadFault.TheVariants.{Read};
-ghost use Rattle.cf_reader.specs.FaultNames.{load_fault_number};
+ghost use Rattle.cf_load.specs.declared.load_fault.LoadFault.TheVariants.{Read};
+ghost use Rattle.cf_load.specs.FaultNames.{load_fault_number};
 
-use cf_pool::{Numbered, ReadFault};
+use cf_reader::{Numbered, ReadFault};
 use thiserror::Error;
 
 /// Why a class file could not be loaded.

@@ -1,0 +1,23 @@
+-- A class file is a stream of bytes (JVMS 4): what a source's bytes spell is loaded, whatever pieces they come in.
+use Rattle.std.specs.Prelude.{◌≡◌, ℕ, List, Option, Result, Ok, Err}
+use Rattle.std.specs.Io.KnownBytes.{Consumes}
+use Rattle.cf_text.specs.declared.fault.ReadFault.{ReadFault}
+use Rattle.cf_text.specs.declared.fault.ReadFault.TheVariants.{Broken, Memory}
+use Rattle.cf_text.specs.Reading.{Fails}
+use Rattle.cf_load.specs.declared.load_fault.LoadFault.{LoadFault}
+use Rattle.cf_load.specs.declared.load_fault.LoadFault.TheVariants.{Read, Device}
+
+-- an answer is what a reading gives, unless the device failed or memory ran out
+abbrev pub Loads : {A : Type 0} → Result A ReadFault → Result A LoadFault → Type 0
+Loads reading (Ok x) = reading ≡ Ok x
+Loads reading (Err (Read fault)) = Fails reading fault
+Loads reading (Err Device) = Unit {0}
+
+-- a source that had `before` and has `after` left passed some bytes: an answer is what their reading gives, unless
+-- the device failed or memory ran out
+abbrev pub LoadsPassed : {A : Type 0} → (List ℕ → Result A ReadFault) → Option (List ℕ) → Option (List ℕ) → Result A LoadFault → Type 0
+LoadsPassed reading before after (Ok x) = (bytes : List ℕ) × Consumes before after bytes × (reading bytes ≡ Ok x)
+LoadsPassed reading before after (Err (Read (Broken rule at))) =
+    (bytes : List ℕ) × Consumes before after bytes × (reading bytes ≡ Err (Broken rule at))
+LoadsPassed reading before after (Err (Read Memory)) = Unit {0}
+LoadsPassed reading before after (Err Device) = Unit {0}

@@ -1,0 +1,13 @@
+-- What a source gives: each read takes its bytes off the front of what the source has left.
+use Rattle.std.specs.Prelude.{◌≡◌, ◌≤◌, ◌<◌, ℕ, Bool, true, false, List, ◌++◌, length, Option}
+use Rattle.std.specs.Io.KnownBytes.{Consumes, IsAtEnd}
+
+-- a source that had `before` and has `after` left gave a piece of at most `most` bytes, which was appended to `old`;
+-- `more` tells that there was one, else the source is at its end
+pub record GivesPiece (before after : Option (List ℕ)) (most : ℕ) (old new : List ℕ) (more : Bool) : Type 0 where
+  pub piece : List ℕ
+  pub consumed : Consumes before after piece
+  pub appended : new ≡ old ++ piece
+  pub within : length piece ≤ most
+  pub some : more ≡ true → 0 < length piece
+  pub end : more ≡ false → IsAtEnd after × (new ≡ old)
