@@ -1,3 +1,4 @@
+pub mod AllLemmas
 pub mod BookLemmas
 pub mod FailureLemmas
 pub mod FuelOfFrames
@@ -8,6 +9,9 @@ pub mod FuelSums
 pub mod HistoryLemmas
 pub mod NumberLemmas
 pub mod OrderLemmas
+pub mod OriginLemmas
+pub mod OriginsOfFrames
+pub mod OwnLemmas
 pub mod OwnerLemmas
 pub mod ReadyLemmas
 pub mod RecordLemmas

@@ -7,6 +7,8 @@ use Rattle.sp_rules.specs.Laws.{RisesWithin, object_numbers, task_numbers, HasFr
 use Rattle.sp_rules.specs.Lists.{at_first}
 use Rattle.sp_rules.specs.LivingTasks.{next_object, after_reply, after_steps, waiting}
 use Rattle.sp_rules.specs.References.{is_id_in}
+use Rattle.sp_rules.specs.Events.{Event}
+use Rattle.sp_rules.specs.Space
 use Rattle.sp_rules.specs.State.{State, Object, Living, standing, opening}
 use Rattle.sp_rules.proofs.Stable.{Core, IsStable, AllowsTelling, AllowsNaming, AllowsWithdrawal, on_keeps}
 use Rattle.sp_rules.proofs.WorldLemmas.{all_hold}
@@ -56,7 +58,7 @@ same-numbers f p g (x ∷ xs) e = pick (p x) (same-numbers f p g xs e)
 
 -- ---- the property is stable
 
-abbrev Fresh : State → Type 0
+abbrev pub Fresh : State → Type 0
 Fresh s = RisesWithin 0 s.objects_made (object_numbers s) × RisesWithin 0 s.tasks_made (task_numbers s)
 
 abbrev FreshCore : Core → Type 0
@@ -91,8 +93,12 @@ withdrawal = record { gone = λ s ids h. (some-go (λ (o : Object). o.id.0) (λ 
 nothing : RisesWithin 0 0 []
 nothing = omega arith
 
+-- an event keeps numbers fresh
+pub fresh_after : (g : Setting) (s : State) (e : Event) → Fresh s → Fresh (Space.on g e s).0
+fresh_after g s e h = on_keeps (stable g) s e (λ f. telling) (λ n. naming) (λ w. withdrawal) h
+
 pub numbers_are_fresh : NumbersAreFresh
 unfolding opening
 numbers_are_fresh settings events =
-    all_hold {P = HasFreshNumbers} (record { grows = λ e s h. on_keeps (stable s.setting) s.state e (λ f. telling) (λ n. naming) (λ w. withdrawal) h })
+    all_hold {P = HasFreshNumbers} (record { grows = λ e s lent t h. on_keeps (stable s.setting) s.state e (λ f. telling) (λ n. naming) (λ w. withdrawal) h })
     (λ g. (nothing, nothing)) settings events

@@ -126,3 +126,18 @@ sweep_is_exact g s =
     let start : IsStore t.store t = refl in
     ap standing (finish_event_keeps (framed t.store) {s = t} true start)
     ∙ swept g s (has_reason g s) (OwnEvents.without_reason g s) refl
+
+-- what is left of the store once the objects without a reason are gone
+abbrev pub store_left : State → List Object → List Stored
+store_left s [] = s.store
+store_left s (o ∷ os) = Gone (map (λ (p : Object). p.id) (o ∷ os)) ∷ s.store
+
+pub left_exact : (g : Setting) (s : State) → standing (store_left s (OwnEvents.without_reason g s)) ≡ filter (λ (o : Object). has_reason g s o.id) (standing s.store)
+unfolding gone ids
+left_exact g s = by (OwnEvents.without_reason g s) refl
+  where
+    by : (going : List Object) → going ≡ filter (λ (o : Object). not (has_reason g s o.id)) (standing s.store) → standing (store_left s going) ≡ filter (λ (o : Object). has_reason g s o.id) (standing s.store)
+    by [] e = nothing-goes (has_reason g s) (standing s.store) (sym e)
+    by (o ∷ os) e =
+        ap (λ going. filter (λ (p : Object). not (is_id_in (map (λ (q : Object). q.id) going) p.id)) (standing s.store)) e
+        ∙ exact (has_reason g s) (standing s.store)

@@ -1,5 +1,6 @@
 -- What each event of a space keeps holds of all spaces of all worlds.
-use Rattle.std.specs.Prelude.{refl, ℕ, zero, suc, Bool, true, false, List, [], ◌∷◌, Option, None, Some, map, slice_get, length, if◌then◌else◌}
+use mathlib.Core.Path.{subst}
+use Rattle.std.specs.Prelude.{◌≡◌, refl, ℕ, zero, suc, Bool, true, false, List, [], ◌∷◌, Option, None, Some, map, slice_get, length, if◌then◌else◌}
 use Rattle.net_message.specs.declared.message.Message.{Message}
 use Rattle.uuid.specs.declared.Uuid.{Uuid}
 use Rattle.sp_rules.specs.Classes.{Setting}
@@ -13,9 +14,9 @@ use Rattle.sp_rules.specs.Worlds
 use Rattle.sp_rules.specs.Worlds.{World, Space, End, Pipe, grown, put, acts, act, take_event, after, happens, run, new_space, new_world, WorldEvent, Own, Step, Open, Refuse, Accept, Deliver, ReadFails, WriteFails}
 use Rattle.sp_rules.proofs.RecordLemmas.{on_recorded}
 
--- a property of a space that each event of it keeps
+-- a property of a space that each event of it keeps that it does not refuse
 pub record IsKept (P : Space → Type 0) : Type 0 where
-  pub grows : (e : Event) (s : Space) → P s → P (grown e s)
+  pub grows : (e : Event) (s : Space) (lent : List ℕ) → Refusals.refusal s.setting lent s.state e ≡ None → P s → P (grown e s)
 
 pub record Holds (P : Space → Type 0) (w : World) : Type 0 where
   pub spaces : AllOf P w.spaces
@@ -28,16 +29,26 @@ some_holds : {P : Space → Type 0} (K : IsKept P) {A : Type 0} {t : World} (x :
 some_holds K None f e h = e
 some_holds K (Some a) f e h = h a
 
+some_taken : {P : Space → Type 0} (K : IsKept P) {A : Type 0} {t : World} (x : Option A) (f : A → World) → (x ≡ None → Holds P t) → ((a : A) → x ≡ Some a → Holds P (f a)) → Holds P (with_some x t f)
+some_taken K None f e h = e refl
+some_taken K (Some a) f e h = h a refl
+
 each_holds : {P : Space → Type 0} (K : IsKept P) {A : Type 0} {v : World} (f : World → A → World) (xs : List A)
     → ((t : World) (x : A) → Holds P t → Holds P (f t x)) → Holds P v → Holds P (each f xs v)
 unfolding each
 each_holds K f [] h e = e
 each_holds K {v = v} f (x ∷ xs) h e = each_holds K f xs h (h v x e)
 
-grown_all : {P : Space → Type 0} (K : IsKept P) (e : Event) (i : ℕ) (spaces : List Space) → AllOf P spaces → AllOf P (at_index (grown e) i spaces)
-grown_all K e i [] a = tt
-grown_all K e zero (s ∷ ss) a = (K.grows e s a.0, a.1)
-grown_all K e (suc i) (s ∷ ss) a = (a.0, grown_all K e i ss a.1)
+-- of the space that the event comes to it is known that it does not refuse it
+Takes : Event → List ℕ → Option Space → Type 0
+Takes e lent None = Unit {0}
+Takes e lent (Some s) = Refusals.refusal s.setting lent s.state e ≡ None
+
+grown_all : {P : Space → Type 0} (K : IsKept P) (e : Event) (lent : List ℕ) (i : ℕ) (spaces : List Space) → Takes e lent (slice_get spaces i) → AllOf P spaces → AllOf P (at_index (grown e) i spaces)
+unfolding Takes
+grown_all K e lent i [] t a = tt
+grown_all K e lent zero (s ∷ ss) t a = (K.grows e s lent t a.0, a.1)
+grown_all K e lent (suc i) (s ∷ ss) t a = (a.0, grown_all K e lent i ss t a.1)
 
 asks_holds : {P : Space → Type 0} (K : IsKept P) {v : World} (i : ℕ) (j : Option ℕ) → Holds P v → Holds P (Worlds.asks_for i j v)
 asks_holds K i None e = e
@@ -53,15 +64,15 @@ put_holds K {v = v} i (Dial peer) e = asks_holds K i (Worlds.number_of v.spaces 
 put_holds K i (Close conn) e = record { spaces = e.spaces }
 put_holds K i (Ready task) e = e
 
-take_holds : {P : Space → Type 0} (K : IsKept P) {v : World} (i : ℕ) (e : Event) (s : Space) → Holds P v → Holds P (take_event i e s v)
-unfolding take_event
-take_holds K {v = v} i e s h = each_holds K (put i) _ (λ t o k. put_holds K i o k) (record { spaces = grown_all K e i v.spaces h.spaces })
+take_holds : {P : Space → Type 0} (K : IsKept P) {v : World} (i : ℕ) (e : Event) (s : Space) (lent : List ℕ) → slice_get v.spaces i ≡ Some s → Refusals.refusal s.setting lent s.state e ≡ None → Holds P v → Holds P (take_event i e s v)
+unfolding take_event Takes
+take_holds K {v = v} i e s lent is t h = each_holds K (put i) _ (λ u o k. put_holds K i o k) (record { spaces = grown_all K e lent i v.spaces (subst (Takes e lent) (mathlib.Core.Path.sym is) t) h.spaces })
 
 acts_hold : {P : Space → Type 0} (K : IsKept P) {before : World} (i : ℕ) (es : List Event) {v : World} → Holds P before → Holds P v → Holds P (acts before i es v)
 unfolding acts
 acts_hold K i [] old now = now
-acts_hold K i (e ∷ es) {v = v} old now = some_holds K (slice_get v.spaces i) _ old (λ s.
-    some_holds K (Refusals.refusal s.setting (Worlds.lent_for e) s.state e) _ (acts_hold K i es old (take_holds K i e s now)) (λ why. record { spaces = old.spaces }))
+acts_hold K i (e ∷ es) {v = v} old now = some_taken K (slice_get v.spaces i) _ (λ none. old) (λ s is.
+    some_taken K (Refusals.refusal s.setting (Worlds.lent_for e) s.state e) _ (λ none. acts_hold K i es old (take_holds K i e s (Worlds.lent_for e) is none now)) (λ why refused. record { spaces = old.spaces }))
 
 step_holds : {P : Space → Type 0} (K : IsKept P) (i task : ℕ) (w : World) → Holds P w → Holds P (Worlds.step_task i task w)
 unfolding Worlds.step_task
@@ -114,9 +125,9 @@ all_hold K new settings events = (run_holds K events (new_world settings) (recor
 
 pub tasks_are_runs : TasksAreRuns
 unfolding opening
-tasks_are_runs settings events = all_hold {P = HasRuns} (record { grows = λ e s h. on_recorded s.setting e s.state h }) (λ g. tt) settings events
+tasks_are_runs settings events = all_hold {P = HasRuns} (record { grows = λ e s lent t h. on_recorded s.setting e s.state h }) (λ g. tt) settings events
 
 pub states_are_histories : StatesAreHistories
 unfolding Space.state_of
 states_are_histories settings events =
-    all_hold {P = HasHistory} (record { grows = λ e s h. mathlib.Core.Path.ap (λ t. (Space.on s.setting e t).0) h }) (λ g. refl) settings events
+    all_hold {P = HasHistory} (record { grows = λ e s lent t h. mathlib.Core.Path.ap (λ t. (Space.on s.setting e t).0) h }) (λ g. refl) settings events

@@ -9,6 +9,7 @@ pub mod Holders
 pub mod Laws
 pub mod Lists
 pub mod LivingTasks
+pub mod Origins
 pub mod OwnEvents
 pub mod ParkedFrames
 pub mod References

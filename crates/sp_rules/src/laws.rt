@@ -1,5 +1,6 @@
 //! What holds of every space and every world, whatever happens.
 
+ghost use Rattle.sp_rules.specs.Origins.{HistoriesAreTaken, OwnReferencesStand};
 ghost use Rattle.sp_rules.specs.Laws.{EventsLeaveOwners, FailuresRemoveNothing, FuelIsBounded, SweepIsExact, OnlySweepsWithdraw, TasksAreRuns, StatesAreHistories, BooksGrow, NamesAreBound, EntriesAreTold, NamesStand, EntriesStand, OutputsAreInOrder, ChecksRise, RefusedChangesNothing, NumbersAreFresh};
 
 /// A failure removes no name and no entry. In a space all events but moments, sweeps, changes of names,
@@ -81,4 +82,17 @@ pub fn refused_changes_nothing()
 /// its own, in the order in which they were made, and none above the last that was given.
 pub fn numbers_are_fresh()
     ensures { NumbersAreFresh }
+{}
+
+/// In every run of every world the history of a space has no event that the space refused; so what holds
+/// after every history that a space took holds of all spaces of all worlds.
+pub fn histories_are_taken()
+    ensures { HistoriesAreTaken }
+{}
+
+/// After every history that a space took, of which it refused no event, its own references name standing
+/// objects of their class: those that tasks hold, those in the fields of standing objects, in results
+/// that are held and in parked frames. So do the targets of parked calls.
+pub fn own_references_stand()
+    ensures { OwnReferencesStand }
 {}
