@@ -2,13 +2,13 @@
 
 use std::process::Abort;
 use std::test::Fail;
-use vm_heap::{ClassId, FieldKind, Heap, Word};
+use vm_heap::{ClassId, Heap, Word, WordKind};
 
 #[test]
 fn objects_and_arrays_fill_the_heap_to_its_last_word(rt: HostRuntime) -> Result<(), Fail> {
     // Three words for an object of two fields, four for an array of two elements.
     let mut heap = Heap::with_words(rt.alloc(), 7)?;
-    let fields = [FieldKind::Int, FieldKind::Reference];
+    let fields = [WordKind::Int, WordKind::Reference];
     let Some(object) = heap.new_object(ClassId(3), &fields) else {
         assert!(rt; false);
         return Ok(());

@@ -2,7 +2,7 @@
 use Rattle.std.proofs.Common.{◌≡◌, ℕ, zero, suc, ◌+◌, ◌-◌, ◌<◌, ◌≤◌, List, [], ◌∷◌, ◌++◌, length, map, refl, ap, sym, ◌∙◌, arith, append_assoc, length-append, Option, Some, None, slice_get, slice_set, Bool, true, false, nat_eq, nat_lt}
 use Rattle.std.specs.Prelude.{ℤ, pos, replicate, if◌then◌else◌, IsSome, option_and_then}
 use Rattle.cls_set.specs.declared.class.ClassId.{ClassId}
-use Rattle.vm_heap.specs.declared.heap.FieldKind.{FieldKind}
+use Rattle.vm_heap.specs.declared.heap.WordKind.{WordKind}
 use Rattle.std.proofs.lemmas.Bool.{ltb-false, eqb-true}
 use Rattle.std.proofs.lemmas.Option.{slice_get_within}
 use Rattle.vm_heap.specs.Tagged.{Tagged, Int, Null, Local, Remote, Fresh, This, Unset, Head, OfClass, OfInts, Length, IsInt, int_of, IsFirstHead, class_of_head}
@@ -239,7 +239,7 @@ unfolding spelled all_cost
 length-spelled [] = refl
 length-spelled (c ∷ cells) = omega (arith, length-append (spelling c) (spelled cells), length-spelling c, length-spelled cells)
 
-pub cost-object : (class : ClassId) (kinds : List FieldKind) → cost (Object class (map default kinds)) ≡ length kinds + 1
+pub cost-object : (class : ClassId) (kinds : List WordKind) → cost (Object class (map default kinds)) ≡ length kinds + 1
 unfolding cost
 cost-object class kinds = omega (arith, length-map default kinds)
 

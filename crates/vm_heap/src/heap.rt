@@ -1,5 +1,5 @@
 //! The heap of a task.
-ghost use Rattle.std.specs.Prelude.{◌≡◌, ◌+◌, ◌<◌, ◌≤◌, [], ◌++◌, length, map, pos, IfOk, IfSome, IsSome, Some, None, option_map, replicate};
+ghost use Rattle.std.specs.Prelude.{◌≡◌, ◌+◌, ◌<◌, ◌≤◌, ◌^◌, [], ◌++◌, length, map, pos, IfOk, IfSome, IsSome, Some, None, option_map, replicate};
 ghost use Rattle.vm_heap.specs.Tagged.{Int, Local, IsInt, int_of};
 ghost use Rattle.vm_heap.specs.Heap.{Ints, cell_at, all_cost, cost, class_of, default, new_cell, with_new};
 
@@ -10,12 +10,12 @@ use cls_set::ClassId;
 use std::alloc::{AllocError, Global};
 use std::marker::Model;
 
-/// What the field of an object holds.
+/// What the word of a field or a local variable stands for.
 #[derive(Clone, Copy, Debug, PartialEq, Eq)]
-pub enum FieldKind {
-    /// An int or a boolean, 0 at first.
+pub enum WordKind {
+    /// An int or a boolean: 0 at first in a field.
     Int,
-    /// A class, an interface or an int array, null at first.
+    /// An object, an array or null: null at first in a field.
     Reference,
 }
 
@@ -66,7 +66,7 @@ impl Heap {
     /// A new object of a class with fields of these kinds, each with its default value, at the next
     /// address. `None` where it does not fit, and nothing changes. It takes no memory.
     #[inline(always)]
-    pub fn new_object(&mut self, class: ClassId, fields: &[FieldKind]) -> Option<Word>
+    pub fn new_object(&mut self, class: ClassId, fields: &[WordKind]) -> Option<Word>
         ensures made { IfSome
             result
             (λ word.
@@ -94,6 +94,7 @@ impl Heap {
     /// changes. It takes no memory.
     #[inline(always)]
     pub fn new_ints(&mut self, count: u32) -> Option<Word>
+        requires { count < 2 ^ 31 }
         ensures made { IfSome
             result
             (λ word.
@@ -158,7 +159,8 @@ impl Heap {
     #[inline(always)]
     pub fn length(&self, address: usize) -> u32
         requires { IsSome (length_at address self.now.cells) }
-        ensures { length_at address self.now.cells ≡ Some result }
+        ensures value { length_at address self.now.cells ≡ Some result }
+        ensures small { result < 2 ^ 31 }
     {
         self.words.get(address + 1).as_length()
     }
@@ -192,7 +194,7 @@ impl Heap {
     }
 }
 
-fn add_defaults(words: &mut Words, fields: &[FieldKind])
+fn add_defaults(words: &mut Words, fields: &[WordKind])
     requires { length words.old.values + length fields.now ≤ words.old.room }
     ensures { words.new
         ≡ record words.old {
@@ -201,8 +203,8 @@ fn add_defaults(words: &mut Words, fields: &[FieldKind])
 {
     for kind in fields {
         words.push_reserved(match kind {
-            FieldKind::Int => Word::int(0),
-            FieldKind::Reference => Word::null(),
+            WordKind::Int => Word::int(0),
+            WordKind::Reference => Word::null(),
         });
     }
 }
@@ -258,7 +260,7 @@ impl<'a> Says<Put<'a>, Cells> for WithElement {
 struct NewObject<'a> {
     cells: Ghost<Cells>,
     class: ClassId,
-    fields: &'a [FieldKind],
+    fields: &'a [WordKind],
 }
 
 struct WithObject;

@@ -3,7 +3,7 @@
 #![tactic(auto)]
 
 pub use cls_set::{ClassId, Row};
-pub use heap::{FieldKind, Heap};
+pub use heap::{Heap, WordKind};
 pub use uuid::Uuid;
 pub use values::{ObjId, Ref, Value};
 pub use word::Word;

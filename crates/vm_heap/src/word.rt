@@ -157,6 +157,7 @@ impl Word {
     /// The word in which the heap keeps an array's length.
     #[inline(always)]
     pub(crate) fn length(n: u32) -> Word
+        requires { n < 2 ^ 31 }
         ensures { result ≡ Head (Length n) }
     {
         Word {
@@ -182,7 +183,8 @@ impl Word {
     #[inline(always)]
     pub(crate) fn as_length(&self) -> u32
         requires { IsLengthHead self.now }
-        ensures { self.now ≡ Head (Length result) }
+        ensures value { self.now ≡ Head (Length result) }
+        ensures small { result < 2 ^ 31 }
     {
         self.bits
     }

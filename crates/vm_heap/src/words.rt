@@ -117,9 +117,8 @@ impl Words {
                   self.old.values ++ replicate (count - length self.old.values) Unset;
             } }
     {
-        for _ in self.len()..count {
-            self.push_reserved(Word::unset());
-        }
+        let missing = count.saturating_sub(self.len());
+        add_unset(self, missing);
     }
 
     /// Lets the words from an index up to another stand for nothing. It does nothing when it runs.
@@ -163,6 +162,18 @@ impl Words {
             start: index,
             word,
         });
+    }
+}
+
+fn add_unset(words: &mut Words, count: usize)
+    requires { length words.old.values + count ≤ words.old.room }
+    ensures { words.new
+        ≡ record words.old {
+          values = words.old.values ++ replicate count Unset;
+        } }
+{
+    for _ in 0..count {
+        words.push_reserved(Word::unset());
     }
 }
 

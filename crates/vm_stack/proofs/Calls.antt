@@ -109,19 +109,22 @@ count_locals words top arguments max_locals few locals within =
       length-take top words, length-replicate (base - top) Unset, length-drop base words)
 
 -- a call leads to the callee's frame also where words were added before
-pub frames_of-called : (words more : List Tagged) (link : Link) (top : ℕ) (links : List Link) (free method arguments max_locals max_stack : ℕ)
-    → IsPlaced link.bottom link.base link.limit top → top ≤ length words → top - arguments + max_locals ≤ length (words ++ more) → arguments ≤ max_locals
+pub frames_of-called : (words more grown : List Tagged) (link : Link) (top : ℕ) (links : List Link) (free method arguments max_locals max_stack : ℕ)
+    → grown ≡ words ++ more → IsPlaced link.bottom link.base link.limit top → top ≤ length words → top - arguments + max_locals ≤ length grown → arguments ≤ max_locals
     → arguments ≤ length (frame_of (take top words) link).operands
-    → frames_of (forgotten top (top - arguments + max_locals) (words ++ more))
+    → frames_of (forgotten top (top - arguments + max_locals) grown)
         (record { method = method; index = 0; bottom = top - arguments; base = top - arguments + max_locals; limit = top - arguments + max_locals + max_stack })
         (top - arguments + max_locals) (links ++ link ∷ []) (free - frame_cost max_locals max_stack)
       ≡ entered method arguments max_locals max_stack (frames_of words link top links free)
-frames_of-called words more link top links free method arguments max_locals max_stack placed written within locals few =
-    let same : take top (words ++ more) ≡ take top words = take-append-le top words more written in
-    let few' : arguments ≤ length (frame_of (take top (words ++ more)) link).operands = rw same few in
-    frames_of-entered (words ++ more) link top links free method arguments max_locals max_stack placed within locals few'
-    ∙ ap (entered method arguments max_locals max_stack) (frames_of-grown words more link top links free (omega (arith, placed.locals, placed.operands)) written)
+frames_of-called words more grown link top links free method arguments max_locals max_stack is placed written within locals few =
+    let same : take top grown ≡ take top words = rw is (take-append-le top words more written) in
+    let few' : arguments ≤ length (frame_of (take top grown) link).operands = rw same few in
+    let bottom : link.bottom ≤ top = omega (arith, placed.locals, placed.operands) in
+    let before : frames_of grown link top links free ≡ frames_of words link top links free = rw is (frames_of-grown words more link top links free bottom written) in
+    frames_of-entered grown link top links free method arguments max_locals max_stack placed within locals few'
+    ∙ ap (entered method arguments max_locals max_stack) before
 
 -- as many words as there are asked for
-pub length-grown : (words : List Tagged) (count : ℕ) → count ≤ length (words ++ replicate (count - length words) Unset)
-length-grown words count = omega (arith, length-append words (replicate (count - length words) Unset), length-replicate (count - length words) Unset)
+pub length-grown : (words grown : List Tagged) (count : ℕ) → grown ≡ words ++ replicate (count - length words) Unset → count ≤ length grown
+length-grown words grown count is =
+    rw is (omega (arith, length-append words (replicate (count - length words) Unset), length-replicate (count - length words) Unset))

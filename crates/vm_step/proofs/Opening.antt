@@ -36,7 +36,7 @@ use Rattle.vm_step.specs.Found.{shown}
 use Rattle.vm_step.specs.declared.fault.StartFault.{StartFault}
 use Rattle.vm_step.specs.declared.fault.StartFault.TheVariants as fault
 use Rattle.vm_step.specs.declared.start.Found.{Found}
-use Rattle.vm_stack.specs.Frames.{Frames, empty_frame, frame_cost, entered as with_frame}
+use Rattle.vm_stack.specs.Frames.{Frames, empty_frame, frame_cost, entered}
 use Rattle.vm_heap.specs.Heap.{Store}
 use Rattle.vm_step.specs.declared.ending.Ending.TheVariants.{Threw}
 use Rattle.vm_step.specs.declared.ending.Thrown.TheVariants.{StackOverflowError}
@@ -44,7 +44,7 @@ use Rattle.vm_step.specs.declared.limits.Limits.{Limits}
 use Rattle.vm_step.specs.declared.machine.Machine.{Machine}
 use Rattle.vm_step.proofs.Leads.{passes_both}
 use Rattle.vm_step.proofs.Runs.{run_over}
-use Rattle.vm_step.proofs.TypeSafe.{IsTyped, entered, typed-IsNeverStuck}
+use Rattle.vm_step.proofs.TypeSafe.{IsTyped, entered as flows_in, typed-IsNeverStuck}
 
 both_true : (a b : Bool) → (a && b) ≡ true → (a ≡ true) × (b ≡ true)
 both_true true true e = (refl, refl)
@@ -213,7 +213,7 @@ module _ (links : Links) (id : MethodId) (m : Subject) (arguments : List Value) 
   unfolding machine
   typed = record {
     inside = some;
-    fits = entered body safe.safe.frames id.0 safe.safe.typing safe.listed 0 body.opening machine (frame_declared_at body 0) refl safe.safe.typing.opening fits;
+    fits = flows_in body safe.safe.frames id.0 safe.safe.typing safe.listed 0 body.opening machine (frame_declared_at body 0) refl safe.safe.typing.opening fits;
   }
 
   begins : (b : Bool) → IsNeverStuck links (if b then Running machine limits.fuel else Over (Threw StackOverflowError) limits.fuel)
@@ -261,11 +261,11 @@ same_frames a b frame callers free = λ i. record { frame = frame i; callers = c
 -- a new stack with the first frame, to which the arguments were passed, is the opening state's
 pub opening_runs : (id : MethodId) (code : Code) (arguments : List Value) (limits : Limits) (fresh entry s : Frames) (heap : Store)
     → fresh ≡ record { frame = empty_frame; callers = []; free = limits.stack_words } → frame_cost code.max_locals code.max_stack ≤ fresh.free
-    → entry ≡ with_frame id.0 0 code.max_locals code.max_stack fresh
+    → entry ≡ entered id.0 0 code.max_locals code.max_stack fresh
     → s.frame ≡ record entry.frame { locals = map passed arguments ++ drop (length arguments) entry.frame.locals } → s.callers ≡ entry.callers → s.free ≡ entry.free
     → heap ≡ record { cells = []; free = limits.heap_words }
     → Running (record { stack = s; heap = heap }) limits.fuel ≡ opening_state id code arguments limits
-unfolding with_frame
+unfolding entered
 opening_runs id code arguments limits fresh entry s heap new enough pushed frame callers free empty =
     let none : code.max_locals - 0 ≡ code.max_locals = omega arith in
     let cost : ℕ = frame_cost code.max_locals code.max_stack in

@@ -29,13 +29,13 @@ as_length-requires c =
     let is : c.get.result ≡ Head (Length there.0) = read_is c.self.inside.words.values c.self.inside.cells.value c.args.address 1 (c.args.address + 1) (Head (Length there.0)) c.get.result c.self.invariant.row stands where_is c.get.ensures in
     rw is tt
 
-pub returns : goal.returns
-returns c =
+pub returns-clause-value : goal.returns-clause-value
+returns-clause-value c =
     let there = some (length_at c.args.address c.self.inside.cells.value) (rw (← c.self.view_is) at c.requires) in
     let stands : Stands c.self.inside.cells.value c.args.address 1 (Head (Length there.0)) = length_stands c.self.inside.cells.value c.args.address there.0 there.1 in
     let inside : c.args.address + 1 < length c.self.inside.words.values = read_in c.self.inside.words.values c.self.inside.cells.value c.args.address 1 (Head (Length there.0)) c.self.invariant.row stands in
     let where_is : c.args.address + 1 ≡ c.args.address + 1 = omega arith in
     let is : c.get.result ≡ Head (Length there.0) = read_is c.self.inside.words.values c.self.inside.cells.value c.args.address 1 (c.args.address + 1) (Head (Length there.0)) c.get.result c.self.invariant.row stands where_is c.get.ensures in
-    let told : Head (Length there.0) ≡ Head (Length c.as_length.result) = sym is ∙ c.as_length.ensures in
+    let told : Head (Length there.0) ≡ Head (Length c.as_length.result) = sym is ∙ c.as_length.ensures.value in
     let same : there.0 ≡ c.as_length.result = cc in
     rw (← c.self.view_is) (there.1 ∙ ap Some same)
