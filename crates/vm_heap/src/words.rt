@@ -117,8 +117,10 @@ impl Words {
                   self.old.values ++ replicate (count - length self.old.values) Unset;
             } }
     {
-        let missing = count.saturating_sub(self.len());
-        add_unset(self, missing);
+        let written = self.len();
+        if written < count {
+            add_unset(self, count - written);
+        }
     }
 
     /// Lets the words from an index up to another stand for nothing. It does nothing when it runs.

@@ -29,5 +29,5 @@ returns c =
     let inside : c.args.address + 0 < length c.self.inside.words.values = read_in c.self.inside.words.values c.self.inside.cells.value c.args.address 0 (first_of there.0) c.self.invariant.row stands in
     let where_is : c.args.address ≡ c.args.address + 0 = omega arith in
     let is : c.get.result ≡ first_of there.0 = read_is c.self.inside.words.values c.self.inside.cells.value c.args.address 0 (c.args.address) (first_of there.0) c.get.result c.self.invariant.row stands where_is c.get.ensures in
-    let told : c.class.result ≡ class_of there.0 = c.class.ensures ∙ (ap class_of_head is ∙ class_first there.0) in
+    let told : c.class-2.result ≡ class_of there.0 = c.class-2.ensures ∙ (ap class_of_head is ∙ class_first there.0) in
     rw (← c.self.view_is) (ap (option_map class_of) there.1 ∙ ap Some (sym told))

@@ -36,6 +36,6 @@ returns-clause-value c =
     let inside : c.args.address + 1 < length c.self.inside.words.values = read_in c.self.inside.words.values c.self.inside.cells.value c.args.address 1 (Head (Length there.0)) c.self.invariant.row stands in
     let where_is : c.args.address + 1 ≡ c.args.address + 1 = omega arith in
     let is : c.get.result ≡ Head (Length there.0) = read_is c.self.inside.words.values c.self.inside.cells.value c.args.address 1 (c.args.address + 1) (Head (Length there.0)) c.get.result c.self.invariant.row stands where_is c.get.ensures in
-    let told : Head (Length there.0) ≡ Head (Length c.as_length.result) = sym is ∙ c.as_length.ensures.value in
-    let same : there.0 ≡ c.as_length.result = cc in
+    let told : Head (Length there.0) ≡ Head (Length c.as_length-2.result) = sym is ∙ c.as_length-2.ensures.value in
+    let same : there.0 ≡ c.as_length-2.result = cc in
     rw (← c.self.view_is) (there.1 ∙ ap Some same)
