@@ -50,6 +50,7 @@ cell_word (c ∷ cells) address k cell v e is = at_first (λ found. cell_word ce
         let past : cost c ≤ address = ltb-false address (cost c) lt in
         let there : address + k ≡ length (spelling c) + (address - cost c + k) = omega (arith, length-spelling c) in
         rw there (get-after (spelling c) (spelled cells) (address - cost c + k) ∙ again found)
+
     at_first : (cell_at cells (address - cost c) ≡ Some cell → slice_get (spelled cells) (address - cost c + k) ≡ Some v)
         → (b : Bool) → nat_eq address 0 ≡ b → (if b then Some c else (if nat_lt address (cost c) then None else cell_at cells (address - cost c))) ≡ Some cell
         → slice_get (spelling c ++ spelled cells) (address + k) ≡ Some v
@@ -78,6 +79,7 @@ cell_set change (c ∷ cells) address k cell v e h is = at_first (λ found. cell
         let there : address + k ≡ length (spelling c) + (address - cost c + k) = omega (arith, length-spelling c) in
         rw there (ap (λ (zs : List Tagged). spelling c ++ zs) (again found)
         ∙ sym (set-after (spelling c) (spelled cells) (address - cost c + k) v))
+
     at_first : (cell_at cells (address - cost c) ≡ Some cell → spelled (changed_at change (address - cost c) cells) ≡ slice_set (spelled cells) (address - cost c + k) v)
         → (b : Bool) → nat_eq address 0 ≡ b → (if b then Some c else (if nat_lt address (cost c) then None else cell_at cells (address - cost c))) ≡ Some cell
         → spelled (if b then change c ∷ cells else c ∷ changed_at change (address - cost c) cells) ≡ slice_set (spelling c ++ spelled cells) (address + k) v

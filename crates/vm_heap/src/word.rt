@@ -2,8 +2,8 @@
 ghost use Rattle.std.specs.Prelude.{◌≡◌, ◌+◌, ◌<◌, ◌^◌, ◌↔◌, IsTrue};
 ghost use Rattle.vm_heap.specs.Tagged.{Tagged, IsInt, IsPointer, IsFirstHead, IsLengthHead, Int, Null, Local, Unset, Head, OfClass, OfInts, Length, address_of, as_fresh, class_of_head};
 
-use ghost_value::{Ghost, Says};
 use cls_set::ClassId;
+use ghost_value::{Ghost, Says};
 use std::marker::Model;
 
 /// Four bytes that stand for a value. They do not say its kind: a contract sees the tagged value,
@@ -111,10 +111,7 @@ impl Word {
     pub fn fresh(self, index: usize) -> Word
         ensures { result ≡ as_fresh index self }
     {
-        let tag = Ghost::of::<Made<'_>, OfNew>(&Made {
-            word: &self,
-            index,
-        });
+        let tag = Ghost::of::<Made<'_>, OfNew>(&Made { word: &self, index });
         Word {
             bits: self.bits,
             tag,

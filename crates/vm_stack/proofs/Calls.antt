@@ -60,9 +60,9 @@ frames_of-entered : (words : List Tagged) (link : Link) (top : ℕ) (links : Lis
     → IsPlaced link.bottom link.base link.limit top → top - arguments + max_locals ≤ length words → arguments ≤ max_locals
     → arguments ≤ length (frame_of (take top words) link).operands
     → frames_of (forgotten top (top - arguments + max_locals) words)
-        (record { method = method; index = 0; bottom = top - arguments; base = top - arguments + max_locals; limit = top - arguments + max_locals + max_stack })
-        (top - arguments + max_locals) (links ++ link ∷ []) (free - frame_cost max_locals max_stack)
-      ≡ entered method arguments max_locals max_stack (frames_of words link top links free)
+    (record { method = method; index = 0; bottom = top - arguments; base = top - arguments + max_locals; limit = top - arguments + max_locals + max_stack })
+    (top - arguments + max_locals) (links ++ link ∷ []) (free - frame_cost max_locals max_stack)
+    ≡ entered method arguments max_locals max_stack (frames_of words link top links free)
 unfolding entered
 frames_of-entered words link top links free method arguments max_locals max_stack placed within locals few =
     let below : ℕ = top - arguments in
@@ -75,22 +75,22 @@ frames_of-entered words link top links free method arguments max_locals max_stac
     let whole : length (row ++ replicate (base - top) Unset) ≡ base = omega (arith, length-append row (replicate (base - top) Unset), length-replicate (base - top) Unset) in
     let taken : take base (forgotten top base words) ≡ row ++ replicate (base - top) Unset = take_front base (row ++ replicate (base - top) Unset) (drop base words) whole in
     let again : take base (row ++ replicate (base - top) Unset) ≡ row ++ replicate (base - top) Unset =
-        ap (take base) (sym taken) ∙ (take-take base base (forgotten top base words) (omega arith) ∙ taken) in
+    ap (take base) (sym taken) ∙ (take-take base base (forgotten top base words) (omega arith) ∙ taken) in
     let kept : drop below (row ++ replicate (base - top) Unset) ≡ drop below row ++ replicate (base - top) Unset = drop_before below row (replicate (base - top) Unset) (omega arith) in
     let at_last : link.base + (length (drop link.base row) - arguments) ≡ below = omega arith in
     let last : drop below row ≡ reverse (take arguments (reverse (drop link.base row))) =
-        sym (last_ones arguments (drop link.base row) few' ∙ (drop_more (length (drop link.base row) - arguments) link.base row ∙ ap (λ (n : ℕ). drop n row) at_last)) in
+    sym (last_ones arguments (drop link.base row) few' ∙ (drop_more (length (drop link.base row) - arguments) link.base row ∙ ap (λ (n : ℕ). drop n row) at_last)) in
     let unset : base - top ≡ max_locals - arguments = omega arith in
     let none : drop base (row ++ replicate (base - top) Unset) ≡ [] = drop_all base (row ++ replicate (base - top) Unset) (omega arith) in
     let room : base + max_stack - base ≡ max_stack = omega arith in
     let lower : take below (forgotten top base words) ≡ take below words =
-        ap (take below) (append_assoc row (replicate (base - top) Unset) (drop base words))
-        ∙ (take-append-le below row (replicate (base - top) Unset ++ drop base words) (omega arith) ∙ take-take below top words (omega arith)) in
+    ap (take below) (append_assoc row (replicate (base - top) Unset) (drop base words))
+    ∙ (take-append-le below row (replicate (base - top) Unset ++ drop base words) (omega arith) ∙ take-take below top words (omega arith)) in
     let caller_locals : take link.base (take below words) ≡ take link.base row = take-take link.base below words above ∙ sym (take-take link.base top words placed.operands) in
     let caller_operands : reverse (drop link.base (take below words)) ≡ drop arguments (reverse (drop link.base row)) =
-        ap (λ (zs : List Tagged). reverse (drop link.base zs)) (sym (take-take below top words (omega arith)))
-        ∙ (ap (λ (n : ℕ). reverse (drop link.base (take n row))) (sym at_last)
-        ∙ (ap reverse (drop-take link.base (length (drop link.base row) - arguments) row) ∙ sym (before_last arguments (drop link.base row) few'))) in
+    ap (λ (zs : List Tagged). reverse (drop link.base zs)) (sym (take-take below top words (omega arith)))
+    ∙ (ap (λ (n : ℕ). reverse (drop link.base (take n row))) (sym at_last)
+    ∙ (ap reverse (drop-take link.base (length (drop link.base row) - arguments) row) ∙ sym (before_last arguments (drop link.base row) few'))) in
     let caller_below : take link.bottom (take below words) ≡ take link.bottom words = take-take link.bottom below words (omega (arith, placed.locals)) in
     rw (reverse-append links (link ∷ []), lower, caller_locals, caller_operands, caller_below, taken, again, none, kept, last, unset, room) refl
 
@@ -104,18 +104,26 @@ pub count_locals : (words : List Tagged) (top arguments max_locals : ℕ) → ar
 count_locals words top arguments max_locals few locals within =
     let base : ℕ = top - arguments + max_locals in
     let row : List Tagged = forgotten top base words in
-    omega (arith, length-drop (top - arguments) (take base (take base row)), length-take base (take base row), length-take base row,
-      length-append (take top words ++ replicate (base - top) Unset) (drop base words), length-append (take top words) (replicate (base - top) Unset),
-      length-take top words, length-replicate (base - top) Unset, length-drop base words)
+    omega (
+      arith,
+      length-drop (top - arguments) (take base (take base row)),
+      length-take base (take base row),
+      length-take base row,
+      length-append (take top words ++ replicate (base - top) Unset) (drop base words),
+      length-append (take top words) (replicate (base - top) Unset),
+      length-take top words,
+      length-replicate (base - top) Unset,
+      length-drop base words,
+    )
 
 -- a call leads to the callee's frame also where words were added before
 pub frames_of-called : (words more grown : List Tagged) (link : Link) (top : ℕ) (links : List Link) (free method arguments max_locals max_stack : ℕ)
     → grown ≡ words ++ more → IsPlaced link.bottom link.base link.limit top → top ≤ length words → top - arguments + max_locals ≤ length grown → arguments ≤ max_locals
     → arguments ≤ length (frame_of (take top words) link).operands
     → frames_of (forgotten top (top - arguments + max_locals) grown)
-        (record { method = method; index = 0; bottom = top - arguments; base = top - arguments + max_locals; limit = top - arguments + max_locals + max_stack })
-        (top - arguments + max_locals) (links ++ link ∷ []) (free - frame_cost max_locals max_stack)
-      ≡ entered method arguments max_locals max_stack (frames_of words link top links free)
+    (record { method = method; index = 0; bottom = top - arguments; base = top - arguments + max_locals; limit = top - arguments + max_locals + max_stack })
+    (top - arguments + max_locals) (links ++ link ∷ []) (free - frame_cost max_locals max_stack)
+    ≡ entered method arguments max_locals max_stack (frames_of words link top links free)
 frames_of-called words more grown link top links free method arguments max_locals max_stack is placed written within locals few =
     let same : take top grown ≡ take top words = rw is (take-append-le top words more written) in
     let few' : arguments ≤ length (frame_of (take top grown) link).operands = rw same few in

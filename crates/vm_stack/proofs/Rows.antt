@@ -146,7 +146,7 @@ frames_of-begun words link top links free v placed some is =
     let read : slice_get (frame_of (take top words) link).locals 0 ≡ Some v = local_read words link top 0 placed some ∙ rw none is in
     (rw none at (frames_of-set words link top links free 0 (as_this v) placed some))
     ∙ ap (λ (xs : List Tagged). record (frames_of words link top links free) { frame = record (frame_of (take top words) link) { locals = xs } })
-      (first_set (frame_of (take top words) link).locals v read)
+    (first_set (frame_of (take top words) link).locals v read)
 
 -- words that are added above a frame leave all frames as they are
 pub frames_of-grown : (words more : List Tagged) (link : Link) (top : ℕ) (links : List Link) (free : ℕ) → link.bottom ≤ top → top ≤ length words

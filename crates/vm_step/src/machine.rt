@@ -2,9 +2,7 @@
 
 use crate::arithmetic;
 use crate::ending::{Ending, Flow, Thrown};
-use cls_link::{
-    BinaryOperator, Condition, LinkedInsn, StackOperation, UnaryOperator, ValueKind,
-};
+use cls_link::{BinaryOperator, Condition, LinkedInsn, StackOperation, UnaryOperator, ValueKind};
 use vm_heap::{Heap, Word};
 use vm_stack::Stack;
 

@@ -24,6 +24,11 @@ returns-clause-count c =
     omega (arith, length-grown c.self.inside.words.values c.grow_to.new.self.values _ is, c.room.ensures, c.if-self-cost.false, c.self.invariant.within, c.self.invariant.placed.room) in
     let given : c.args.arguments ≤ length (frame_of (take c.self.inside.top c.self.inside.words.values) c.self.inside.link).operands = rw (← c.self.view_is) at c.requires.passed in
     let few : c.args.arguments ≤ c.self.inside.top =
-    omega (arith, given, length-reverse (drop c.self.inside.link.base (take c.self.inside.top c.self.inside.words.values)),
-      length-drop c.self.inside.link.base (take c.self.inside.top c.self.inside.words.values), length-take c.self.inside.top c.self.inside.words.values) in
+    omega (
+      arith,
+      given,
+      length-reverse (drop c.self.inside.link.base (take c.self.inside.top c.self.inside.words.values)),
+      length-drop c.self.inside.link.base (take c.self.inside.top c.self.inside.words.values),
+      length-take c.self.inside.top c.self.inside.words.values,
+    ) in
     rw (c.forget.ensures) (count_locals c.grow_to.new.self.values c.self.inside.top c.args.arguments c.args.max_locals few c.requires.locals within)
