@@ -67,8 +67,8 @@ starts program method arguments limits task e = on (startable program method) re
     on (Some d) is = begun d is (refusal d.method arguments) refl
 
 -- the first frame has the local variables of the code
-opening_locals : (code : Code) (arguments : List Value) → length arguments ≤ code.max_locals → length (opening_frame code arguments).locals ≡ code.max_locals
-opening_locals code arguments few =
+opening_locals : (method : MethodId) (code : Code) (arguments : List Value) → length arguments ≤ code.max_locals → length (opening_frame method code arguments).locals ≡ code.max_locals
+opening_locals method code arguments few =
     omega (
       arith,
       few,
@@ -82,16 +82,14 @@ opening-within : (program : Links) (method : MethodId) (code : Code) (arguments 
 opening-within program method code arguments limits steps few = on (nat_le (frame_cost code.max_locals code.max_stack) limits.stack_words)
   where
     on : (b : Bool) → KeepsWithin code (run program steps (if b then Running (record {
-      method = method;
-      place = 0;
-      stack = record { frame = opening_frame code arguments; callers = empty_frame ∷ []; free = limits.stack_words - frame_cost code.max_locals code.max_stack };
+      heap = record { cells = []; free = limits.heap_words };
+      stack = record { frame = opening_frame method code arguments; callers = empty_frame ∷ []; free = limits.stack_words - frame_cost code.max_locals code.max_stack };
     }) limits.fuel else Over (ending.Threw StackOverflowError) limits.fuel))
     on false = subst (KeepsWithin code) (sym (run_over program steps (ending.Threw StackOverflowError) limits.fuel)) tt
     on true = run-KeepsWithin code program steps (record {
-      method = method;
-      place = 0;
-      stack = record { frame = opening_frame code arguments; callers = empty_frame ∷ []; free = limits.stack_words - frame_cost code.max_locals code.max_stack };
-    }) limits.fuel (opening_locals code arguments few) refl refl
+      heap = record { cells = []; free = limits.heap_words };
+      stack = record { frame = opening_frame method code arguments; callers = empty_frame ∷ []; free = limits.stack_words - frame_cost code.max_locals code.max_stack };
+    }) limits.fuel (opening_locals method code arguments few) refl refl
 
 pub whole_run : (program : Links) (method : MethodId) (arguments : List Value) (limits : Limits) (task : Tasked) (steps : ℕ) (o : Outcome) (named : RunOutcome)
     → AreLinks program → AreSafe program → started program zero_bytes method arguments limits ≡ Ok task → IsNeverStuck program task.state → fuel_left task.state ≡ limits.fuel

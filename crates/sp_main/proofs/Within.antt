@@ -11,7 +11,7 @@ use Rattle.cls_link.specs.declared.linked.LinkedInsn.{LinkedInsn}
 use Rattle.cls_link.specs.declared.linked.LinkedInsn.TheVariants as insn
 use Rattle.cls_link.specs.Links.{Links}
 use Rattle.sp_main.specs.Runs.{KeepsWithin}
-use Rattle.vm_heap.specs.Tagged.{Tagged, Int, Null, Local, Own, Foreign, Fresh, This, Unset}
+use Rattle.vm_heap.specs.Tagged.{Tagged, Int, Null, Local, Remote, Fresh, This, Unset, Head}
 use Rattle.vm_stack.specs.Frames.{pushed, with_local}
 use Rattle.vm_step.specs.Arithmetic.{unary_result, binary_result, condition_holds}
 use Rattle.vm_step.specs.Machine.{Next, On, Ends, Stuck, act, go_on, jump, branch, on_int, on_top, pop, pop_int, push, load_int, on_local, store, push_result, with_operands}
@@ -36,11 +36,11 @@ module _ (code : Code) where
   on_int-keeps next (Int n) go = go n
   on_int-keeps next Null go = tt
   on_int-keeps next (Local a) go = tt
-  on_int-keeps next (Own i c) go = tt
-  on_int-keeps next (Foreign s i c) go = tt
+  on_int-keeps next (Remote r) go = tt
   on_int-keeps next (Fresh o p) go = tt
   on_int-keeps next (This p) go = tt
   on_int-keeps next Unset go = tt
+  on_int-keeps next (Head h) go = tt
 
   pop-keeps : (next : Tagged → Machine → Next) (m : Machine) → Keeps code m
       → ((value : Tagged) (after : Machine) → Keeps code after → Leads code (next value after)) → Leads code (pop next m)
@@ -143,9 +143,9 @@ module _ (code : Code) where
   Within Lost = Unit {0}
 
   next-keeps : (insns : List LinkedInsn) (m : Machine) → Keeps code m → Leads code (next insns m)
-  next-keeps insns m kept = on (slice_get insns m.place) refl
+  next-keeps insns m kept = on (slice_get insns m.stack.frame.index) refl
     where
-      on : (o : Option LinkedInsn) → slice_get insns m.place ≡ o → Leads code (next insns m)
+      on : (o : Option LinkedInsn) → slice_get insns m.stack.frame.index ≡ o → Leads code (next insns m)
       on None is = rw is tt
       on (Some i) is = rw is (act-keeps i m kept)
 
@@ -158,7 +158,7 @@ module _ (code : Code) where
   unfolding step
   step-Within links (Running m zero) within = tt
   step-Within links (Running m (suc fuel)) within =
-      after-Within (next (code_of links m.method) m) fuel (next-keeps (code_of links m.method) m within)
+      after-Within (next (code_of links m.stack.frame.method) m) fuel (next-keeps (code_of links m.stack.frame.method) m within)
   step-Within links (Over ending fuel) within = tt
   step-Within links Lost within = tt
 

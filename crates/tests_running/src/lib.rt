@@ -3,6 +3,8 @@
 #![tactic(auto)]
 
 #[cfg(test)]
+mod heaps;
+#[cfg(test)]
 mod said;
 #[cfg(test)]
 mod stacks;

@@ -1,1 +1,3 @@
 pub mod Tagged
+pub mod Words
+pub mod Heap

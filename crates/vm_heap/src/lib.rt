@@ -1,8 +1,13 @@
-//! The values of tasks: words, and what crosses between tasks and spaces, which are ints, int arrays
-//! by copy and remote references.
+//! Words, rows of words, the heap of a task, and the values that cross between tasks and spaces, which
+//! are ints, int arrays by copy and remote references.
 #![tactic(auto)]
 
+pub use heap::{Heap, WordKind};
 pub use space_ids::{ClassId, ForeignId, ObjId, Ref, Row, Uuid, Value};
 pub use word::Word;
+pub use words::Words;
 
+mod heap;
+pub mod laws;
 mod word;
+mod words;

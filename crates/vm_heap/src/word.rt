@@ -1,7 +1,8 @@
 //! Words: what a task's heap and stack are made of.
-ghost use Rattle.std.specs.Prelude.{◌≡◌};
-ghost use Rattle.vm_heap.specs.Tagged.{Tagged, IsInt, Int, Unset};
+ghost use Rattle.std.specs.Prelude.{◌≡◌, ◌+◌, ◌<◌, ◌^◌, ◌↔◌, IsTrue};
+ghost use Rattle.vm_heap.specs.Tagged.{Tagged, IsInt, IsPointer, IsFirstHead, IsLengthHead, Int, Null, Local, Unset, Head, OfClass, OfInts, Length, address_of, as_fresh, class_of_head};
 
+use space_ids::ClassId;
 use ghost_value::{Ghost, Says};
 use std::marker::Model;
 
@@ -9,8 +10,8 @@ use std::marker::Model;
 /// which proofs alone carry along.
 #[derive(Drop)]
 pub struct Word {
-    bits: u32,
-    tag: Ghost<Tag>,
+    pub(crate) bits: u32,
+    pub(crate) tag: Ghost<Tag>,
 }
 
 impl Model for Word {
@@ -24,12 +25,166 @@ impl Model for Word {
 }
 
 // No value of it is ever made: it names the type of definitions that a word's token carries.
-struct Tag {}
+pub struct Tag {}
 
 impl Model for Tag {
     ghost Value = { Tagged };
 
     ghost view = { λ _. Unset };
+}
+
+// The word that the heap keeps of an array first: the one after the highest class number.
+const INTS: u32 = 65_536;
+
+impl Word {
+    /// The word of an int: its 32 bits.
+    #[inline(always)]
+    pub fn int(n: i32) -> Word
+        ensures { result ≡ Int n }
+    {
+        Word {
+            bits: n.cast_unsigned(),
+            tag: Ghost::of::<i32, OfInt>(&n),
+        }
+    }
+
+    /// The word of null.
+    #[inline(always)]
+    pub fn null() -> Word
+        ensures { result ≡ Null }
+    {
+        Word {
+            bits: 0,
+            tag: Ghost::of::<(), OfNull>(&()),
+        }
+    }
+
+    /// A word of no value: what a local variable holds before it is written.
+    #[inline(always)]
+    pub fn unset() -> Word
+        ensures { result ≡ Unset }
+    {
+        Word {
+            bits: 0,
+            tag: Ghost::of::<(), OfNothing>(&()),
+        }
+    }
+
+    /// The word of an initialised object, or an array, at an address of the heap.
+    #[inline(always)]
+    pub fn local(address: usize) -> Word
+        requires { address + 1 < 2 ^ 32 }
+        ensures { result ≡ Local address }
+    {
+        Word {
+            bits: address as u32 + 1,
+            tag: Ghost::of::<usize, OfAddress>(&address),
+        }
+    }
+
+    /// The int that it stands for. That it stands for one is proved, and not tested.
+    #[inline(always)]
+    pub fn as_int(&self) -> i32
+        requires { IsInt self.now }
+        ensures { self.now ≡ Int result }
+    {
+        self.bits.cast_signed()
+    }
+
+    /// The heap's address of the object or array that it stands for, or `None` for null. That it
+    /// stands for one of them is proved, and not tested.
+    #[inline(always)]
+    pub fn as_address(&self) -> Option<usize>
+        requires { IsPointer self.now }
+        ensures { address_of self.now ≡ result }
+    {
+        if self.bits == 0 {
+            None
+        } else {
+            Some(self.bits as usize - 1)
+        }
+    }
+
+    /// The word of a new object as that of the object which the `new` instruction of this index made,
+    /// on which no `<init>` was called yet. It does nothing when it runs.
+    #[inline(always)]
+    pub fn fresh(self, index: usize) -> Word
+        ensures { result ≡ as_fresh index self }
+    {
+        let tag = Ghost::of::<Made<'_>, OfNew>(&Made { word: &self, index });
+        Word {
+            bits: self.bits,
+            tag,
+        }
+    }
+
+    /// A second word of the same value.
+    #[inline(always)]
+    pub fn copy(&self) -> Word
+        ensures { result ≡ self.now }
+    {
+        Word {
+            bits: self.bits,
+            tag: self.tag.copy(),
+        }
+    }
+
+    /// The word in which the heap keeps an object's class.
+    #[inline(always)]
+    pub(crate) fn of_class(class: ClassId) -> Word
+        ensures { result ≡ Head (OfClass class) }
+    {
+        Word {
+            bits: class.0 as u32,
+            tag: Ghost::of::<ClassId, OfItsClass>(&class),
+        }
+    }
+
+    /// The word in which the heap keeps that something is an int array.
+    #[inline(always)]
+    pub(crate) fn of_ints() -> Word
+        ensures { result ≡ Head OfInts }
+    {
+        Word {
+            bits: INTS,
+            tag: Ghost::of::<(), OfAnArray>(&()),
+        }
+    }
+
+    /// The word in which the heap keeps an array's length.
+    #[inline(always)]
+    pub(crate) fn length(n: u32) -> Word
+        requires { n < 2 ^ 31 }
+        ensures { result ≡ Head (Length n) }
+    {
+        Word {
+            bits: n,
+            tag: Ghost::of::<u32, OfLength>(&n),
+        }
+    }
+
+    /// The class that the heap keeps in it: `None` for an array.
+    #[inline(always)]
+    pub(crate) fn class(&self) -> Option<ClassId>
+        requires { IsFirstHead self.now }
+        ensures { result ≡ class_of_head self.now }
+    {
+        if self.bits < INTS {
+            Some(ClassId(self.bits as u16))
+        } else {
+            None
+        }
+    }
+
+    /// The length that the heap keeps in it.
+    #[inline(always)]
+    pub(crate) fn as_length(&self) -> u32
+        requires { IsLengthHead self.now }
+        ensures value { self.now ≡ Head (Length result) }
+        ensures small { result < 2 ^ 31 }
+    {
+        self.bits
+    }
 }
 
 // The tagged value of an int.
@@ -46,46 +201,45 @@ impl Says<(), Tag> for OfNothing {
     ghost says = { λ _. Unset };
 }
 
-impl Word {
-    /// The word of an int: its 32 bits.
-    #[inline(always)]
-    pub fn int(n: i32) -> Word
-        ensures { result ≡ Int n }
-    {
-        Word {
-            bits: n.cast_unsigned(),
-            tag: Ghost::of::<i32, OfInt>(&n),
-        }
-    }
+struct OfNull;
 
-    /// A word of no value: what a local variable holds before it is written.
-    #[inline(always)]
-    pub fn unset() -> Word
-        ensures { result ≡ Unset }
-    {
-        Word {
-            bits: 0,
-            tag: Ghost::of::<(), OfNothing>(&()),
-        }
-    }
+impl Says<(), Tag> for OfNull {
+    ghost says = { λ _. Null };
+}
 
-    /// The int that it stands for. That it stands for one is proved, and not tested.
-    #[inline(always)]
-    pub fn as_int(&self) -> i32
-        requires { IsInt self.now }
-        ensures { self.now ≡ Int result }
-    {
-        self.bits.cast_signed()
-    }
+struct OfAddress;
 
-    /// A second word of the same value.
-    #[inline(always)]
-    pub fn copy(&self) -> Word
-        ensures { result ≡ self.now }
-    {
-        Word {
-            bits: self.bits,
-            tag: self.tag.copy(),
-        }
-    }
+impl Says<usize, Tag> for OfAddress {
+    ghost says = { Local };
+}
+
+// A new object, and the index of its `new` instruction.
+#[derive(Drop)]
+struct Made<'a> {
+    word: &'a Word,
+    index: usize,
+}
+
+struct OfNew;
+
+impl<'a> Says<Made<'a>, Tag> for OfNew {
+    ghost says = { λ made. as_fresh made.index made.word.now };
+}
+
+struct OfItsClass;
+
+impl Says<ClassId, Tag> for OfItsClass {
+    ghost says = { λ class. Head (OfClass class) };
+}
+
+struct OfAnArray;
+
+impl Says<(), Tag> for OfAnArray {
+    ghost says = { λ _. Head OfInts };
+}
+
+struct OfLength;
+
+impl Says<u32, Tag> for OfLength {
+    ghost says = { λ n. Head (Length n) };
 }

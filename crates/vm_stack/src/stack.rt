@@ -1,19 +1,18 @@
 //! The stack of a task.
-ghost use Rattle.std.specs.Prelude.{◌≡◌, ℕ, ◌+◌, ◌<◌, ◌≤◌, ◌↔◌, List, [], ◌∷◌, ◌++◌, length, take, replicate, vec_capacity, vec_len, IsTrue, IfOk, slice_get};
-ghost use Rattle.vm_heap.specs.Tagged.{Unset};
+ghost use Rattle.std.specs.Prelude.{◌≡◌, ◌+◌, ◌<◌, ◌≤◌, ◌↔◌, [], ◌∷◌, length, IsTrue, IfOk, Some, slice_get, nat_lt};
 ghost use Rattle.std.specs.Bool.{OnTrue, OnFalse};
-ghost use Rattle.vm_stack.specs.Frames.{empty_frame, frame_cost, pushed, with_local, entered};
+ghost use Rattle.vm_stack.specs.Frames.{empty_frame, frame_cost, pushed, with_local, at_index, entered, initialised, begun};
 
 use crate::link::Link;
 use std::alloc::{AllocError, Global};
 use std::marker::Model;
-use vm_heap::Word;
+use vm_heap::{Word, Words};
 
 /// The frames of a task, on one row of words that is reserved when it is made. A word is written first
 /// when a frame comes to it.
 #[derive(Drop)]
 pub struct Stack {
-    words: Vec<Word>,
+    words: Words,
     // Where the running method's frame lies, and where its operands end.
     link: Link,
     top: usize,
@@ -24,16 +23,16 @@ pub struct Stack {
 }
 
 impl Model for Stack {
-    ghost use Rattle.std.specs.Prelude.{vec_capacity, vec_len};
+    ghost use Rattle.std.specs.Prelude.{length, vec_capacity};
     ghost use Rattle.vm_stack.specs.Frames.{Frames};
 
     ghost Value = { Frames };
 
     ghost use Rattle.vm_stack.specs.Layout.{frames_of, IsLaidOut};
 
-    ghost view = { λ s. frames_of s.words.items s.link s.top s.links.items s.free };
+    ghost view = { λ s. frames_of s.words.values s.link s.top s.links.items s.free };
 
-    ghost invariant = { λ s. IsLaidOut (vec_capacity s.words) (vec_len s.words) s.link s.top s.links.items s.free (vec_capacity s.links) };
+    ghost invariant = { λ s. IsLaidOut s.words.room (length s.words.values) s.link.bottom s.link.base s.link.limit s.top s.links.items s.free (vec_capacity s.links) };
 }
 
 impl Stack {
@@ -43,8 +42,10 @@ impl Stack {
     {
         let links = Vec::with_capacity(alloc, words / 4)?;
         Ok(Stack {
-            words: Vec::with_capacity(alloc, words)?,
+            words: Words::with_room(alloc, words)?,
             link: Link {
+                method: 0,
+                index: 0,
                 bottom: 0,
                 base: 0,
                 limit: 0,
@@ -55,13 +56,38 @@ impl Stack {
         })
     }
 
+    /// The number of the running method.
+    #[inline(always)]
+    pub fn method(&self) -> u32
+        ensures { result ≡ self.now.frame.method }
+    {
+        self.link.method
+    }
+
+    /// The index of the instruction that comes next in it.
+    #[inline(always)]
+    pub fn index(&self) -> usize
+        ensures { result ≡ self.now.frame.index }
+    {
+        self.link.index
+    }
+
+    /// Lets the instruction of an index come next.
+    #[inline(always)]
+    pub fn go_to(&mut self, index: usize)
+        ensures { self.new ≡ at_index index self.old }
+    {
+        let link = &mut self.link;
+        link.index = index;
+    }
+
     /// Pushes an operand. That there is room is proved, and not tested.
     #[inline(always)]
     pub fn push(&mut self, word: Word)
         requires { length self.old.frame.operands < self.old.frame.room }
         ensures { self.new ≡ pushed word self.old }
     {
-        self.words[self.top] = word;
+        self.words.set(self.top, word);
         self.top += 1;
     }
 
@@ -72,32 +98,73 @@ impl Stack {
         ensures { self.old ≡ pushed result self.new }
     {
         self.top -= 1;
-        self.words[self.top].copy()
+        self.words.get(self.top)
     }
 
-    /// The value of a local variable.
+    /// The operand with `depth` others above it. That there is one is proved, and not tested.
     #[inline(always)]
-    pub fn local(&self, place: usize) -> Word
-        requires { place < length self.now.frame.locals }
-        ensures { slice_get self.now.frame.locals place ≡ Some result }
+    pub fn operand(&self, depth: usize) -> Word
+        requires { depth < length self.now.frame.operands }
+        ensures { slice_get self.now.frame.operands depth ≡ Some result }
     {
-        self.words[self.link.bottom + place].copy()
+        self.words.get(self.top - 1 - depth)
     }
 
-    /// Writes a local variable.
+    /// The value of a local variable. That there is one is proved, and not tested.
     #[inline(always)]
-    pub fn set_local(&mut self, place: usize, word: Word)
-        requires { place < length self.old.frame.locals }
-        ensures { self.new ≡ with_local place word self.old }
+    pub fn local(&self, local: usize) -> Word
+        requires { local < length self.now.frame.locals }
+        ensures { slice_get self.now.frame.locals local ≡ Some result }
     {
-        self.words[self.link.bottom + place] = word;
+        let _top = self.top;
+        self.words.get(self.link.bottom + local)
     }
 
-    /// Pushes a frame whose local variables hold nothing, where the budget has its words: as many as
-    /// local variables and operands, and four more. Else nothing changes.
-    pub fn push_frame(&mut self, max_locals: u16, max_stack: u16) -> bool
+    /// Writes a local variable. That there is one is proved, and not tested.
+    #[inline(always)]
+    pub fn set_local(&mut self, local: usize, word: Word)
+        requires { local < length self.old.frame.locals }
+        ensures { self.new ≡ with_local local word self.old }
+    {
+        self.words.set(self.link.bottom + local, word);
+    }
+
+    /// Lets all copies of an uninitialised object, in the running method's frame, be the object. It
+    /// does nothing when it runs.
+    #[inline(always)]
+    pub fn initialise(&mut self, word: &Word)
+        ensures { self.new ≡ initialised word.now self.old }
+    {
+        self.words.initialise(self.link.bottom, word);
+    }
+
+    /// Lets the first local variable be the receiver of the running `<init>`. It does nothing when it
+    /// runs.
+    #[inline(always)]
+    pub fn begin_init(&mut self)
+        requires { 0 < length self.old.frame.locals }
+        ensures { self.new ≡ begun self.old }
+    {
+        let word = self.words.get(self.link.bottom);
+        self.words.begin_init(self.link.bottom, &word);
+    }
+
+    /// Pushes a frame whose first local variables are the operands on top, where the budget has its
+    /// words: as many as local variables and operands, and four more. Else `false`, and nothing
+    /// changes. It takes no memory, and no word is copied or cleared.
+    #[inline(always)]
+    pub fn push_frame(
+        &mut self,
+        method: u32,
+        arguments: u16,
+        max_locals: u16,
+        max_stack: u16,
+    ) -> bool
+        requires passed { arguments ≤ length self.old.frame.operands }
+        requires locals { arguments ≤ max_locals }
         ensures fits { IsTrue result ↔ (frame_cost max_locals max_stack ≤ self.old.free) }
-        ensures pushed { OnTrue result (self.new ≡ entered max_locals max_stack self.old) }
+        ensures pushed { OnTrue result (self.new ≡ entered method arguments max_locals max_stack self.old) }
+        ensures count { OnTrue result (length self.new.frame.locals ≡ max_locals) }
         ensures unchanged { OnFalse result (self.new ≡ self.old) }
     {
         let cost = max_locals as usize + max_stack as usize + 4;
@@ -105,15 +172,16 @@ impl Stack {
             return false;
         }
         self.free -= cost;
-        let used = self.words.capacity() - self.free;
-        write_up_to(&mut self.words, used);
-        let base = self.top + max_locals as usize;
-        clear(&mut self.words, self.top, max_locals as usize);
-        let Ok(()) = self.links.push(self.link) else {
-            unreachable!()
-        };
+        let used = self.words.room() - self.free;
+        self.words.grow_to(used);
+        let bottom = self.top - arguments as usize;
+        let base = bottom + max_locals as usize;
+        self.words.forget(self.top, base);
+        self.links.push_reserved(self.link);
         self.link = Link {
-            bottom: self.top,
+            method,
+            index: 0,
+            bottom,
             base,
             limit: base + max_stack as usize,
         };
@@ -121,7 +189,9 @@ impl Stack {
         true
     }
 
-    /// Takes the running method's frame off: its words are left for others again.
+    /// Takes the running method's frame off: its words are left for others again. That there is one
+    /// below is proved, and not tested.
+    #[inline(always)]
     pub fn pop_frame(&mut self)
         requires { 0 < length self.old.callers }
         ensures callers { self.old.callers ≡ self.new.frame ∷ self.new.callers }
@@ -135,29 +205,12 @@ impl Stack {
         self.top = self.link.bottom;
         self.link = link;
     }
-}
 
-// Writes the words up to `count` that are not written yet, for which there is room: they hold nothing.
-fn write_up_to(words: &mut Vec<Word>, count: usize)
-    requires { count ≤ vec_capacity words.old }
-    ensures capacity { vec_capacity words.new ≡ vec_capacity words.old }
-    ensures written { count ≤ vec_len words.new }
-    ensures front { take (vec_len words.old) words.new.items ≡ words.old.items }
-{
-    for _ in words.len()..count {
-        words.push_reserved(Word::unset());
-    }
-}
-
-// Lets `count` words from `from` on hold nothing.
-fn clear(words: &mut Vec<Word>, from: usize, count: usize)
-    requires { from + count ≤ vec_len words.old }
-    ensures len { vec_len words.new ≡ vec_len words.old }
-    ensures capacity { vec_capacity words.new ≡ vec_capacity words.old }
-    ensures front { take from words.new.items ≡ take from words.old.items }
-    ensures cleared { take (from + count) words.new.items ≡ take from words.old.items ++ replicate count Unset }
-{
-    for place in 0..count {
-        words[from + place] = Word::unset();
+    /// Whether a method called the running one: below all frames lies the empty one.
+    #[inline(always)]
+    pub fn has_caller(&self) -> bool
+        ensures { result ≡ nat_lt 1 (length self.now.callers) }
+    {
+        1 < self.links.len()
     }
 }

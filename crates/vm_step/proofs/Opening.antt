@@ -36,14 +36,15 @@ use Rattle.vm_step.specs.Found.{shown}
 use Rattle.vm_step.specs.declared.fault.StartFault.{StartFault}
 use Rattle.vm_step.specs.declared.fault.StartFault.TheVariants as fault
 use Rattle.vm_step.specs.declared.start.Found.{Found}
-use Rattle.vm_stack.specs.Frames.{Frames, empty_frame, frame_cost, entered as with_frame}
+use Rattle.vm_stack.specs.Frames.{Frames, empty_frame, frame_cost, entered}
+use Rattle.vm_heap.specs.Heap.{Store}
 use Rattle.vm_step.specs.declared.ending.Ending.TheVariants.{Threw}
 use Rattle.vm_step.specs.declared.ending.Thrown.TheVariants.{StackOverflowError}
 use Rattle.vm_step.specs.declared.limits.Limits.{Limits}
 use Rattle.vm_step.specs.declared.machine.Machine.{Machine}
 use Rattle.vm_step.proofs.Leads.{passes_both}
 use Rattle.vm_step.proofs.Runs.{run_over}
-use Rattle.vm_step.proofs.TypeSafe.{IsTyped, entered, typed-IsNeverStuck}
+use Rattle.vm_step.proofs.TypeSafe.{IsTyped, entered as flows_in, typed-IsNeverStuck}
 
 both_true : (a b : Bool) → (a && b) ≡ true → (a ≡ true) × (b ≡ true)
 both_true true true e = (refl, refl)
@@ -59,7 +60,7 @@ insns_of : (s t : Subject) → ◌≡◌ {A = Option Subject} (Some s) (Some t) 
 insns_of s t e = let same : s ≡ t = cc in ap (λ (x : Subject). x.linked.insns) same
 
 -- the code that runs is the one that was checked
-code_of-subject : (links : Links) (id : MethodId) (m : Subject) → subject_at links id ≡ Some m → code_of links id ≡ m.linked.insns
+code_of-subject : (links : Links) (id : MethodId) (m : Subject) → subject_at links id ≡ Some m → code_of links id.0 ≡ m.linked.insns
 unfolding subject_at subject_of code_of
 code_of-subject links id m e =
     let entry = passes_both (slice_get links.methods id.0) _ m e in
@@ -188,16 +189,19 @@ module _ (links : Links) (id : MethodId) (m : Subject) (arguments : List Value) 
       )
 
   machine : Machine
-  machine = record { method = id; place = 0; stack = record { frame = opening_frame m.code arguments; callers = empty_frame ∷ []; free = limits.stack_words - frame_cost m.code.max_locals m.code.max_stack } }
+  machine = record {
+    stack = record { frame = opening_frame id m.code arguments; callers = empty_frame ∷ []; free = limits.stack_words - frame_cost m.code.max_locals m.code.max_stack };
+    heap = record { cells = []; free = limits.heap_words };
+  }
 
-  fits : FitsFrame body body.opening id 0 machine
+  fits : FitsFrame body body.opening id.0 0 machine
   unfolding opening machine
   fits =
       let are : argument_types m ≡ map (field_vtype m.classes) m.method.types.parameters = argument_types-static m given.static in
       let same : length (map (field_vtype m.classes) m.method.types.parameters) ≡ length arguments = length-map m.method.types.parameters (field_vtype m.classes) ∙ sym given.same in
       record {
         in_method = refl;
-        at_place = refl;
+        at_index = refl;
         locals = rw (are, same)
             (filled-AllFit (map (field_vtype m.classes) m.method.types.parameters) (map passed arguments) (m.code.max_locals - length arguments)
             (arguments-AllFit m.classes m.method.types.parameters arguments given.parameters given.ints given.same));
@@ -205,16 +209,16 @@ module _ (links : Links) (id : MethodId) (m : Subject) (arguments : List Value) 
         room = refl;
       }
 
-  typed : IsTyped body safe.safe.frames id machine
+  typed : IsTyped body safe.safe.frames id.0 machine
   unfolding machine
   typed = record {
     inside = some;
-    fits = entered body safe.safe.frames id safe.safe.typing safe.listed 0 body.opening machine (frame_declared_at body 0) refl safe.safe.typing.opening fits;
+    fits = flows_in body safe.safe.frames id.0 safe.safe.typing safe.listed 0 body.opening machine (frame_declared_at body 0) refl safe.safe.typing.opening fits;
   }
 
   begins : (b : Bool) → IsNeverStuck links (if b then Running machine limits.fuel else Over (Threw StackOverflowError) limits.fuel)
   begins false = record { always = λ k. subst IsNotLost (sym (run_over links k (Threw StackOverflowError) limits.fuel)) tt }
-  begins true = typed-IsNeverStuck body safe.safe.frames id safe.safe.typing safe.listed links (code_of-subject links id m found) machine limits.fuel typed
+  begins true = typed-IsNeverStuck body safe.safe.frames id.0 safe.safe.typing safe.listed links (code_of-subject links id m found) machine limits.fuel typed
 
   opening-IsNeverStuck : IsNeverStuck links (opening_state id m.code arguments limits)
   unfolding machine
@@ -255,18 +259,21 @@ same_frames : (a b : Frames) → a.frame ≡ b.frame → a.callers ≡ b.callers
 same_frames a b frame callers free = λ i. record { frame = frame i; callers = callers i; free = free i }
 
 -- a new stack with the first frame, to which the arguments were passed, is the opening state's
-pub opening_runs : (id : MethodId) (code : Code) (arguments : List Value) (limits : Limits) (fresh entry s : Frames)
+pub opening_runs : (id : MethodId) (code : Code) (arguments : List Value) (limits : Limits) (fresh entry s : Frames) (heap : Store)
     → fresh ≡ record { frame = empty_frame; callers = []; free = limits.stack_words } → frame_cost code.max_locals code.max_stack ≤ fresh.free
-    → entry ≡ with_frame code.max_locals code.max_stack fresh
+    → entry ≡ entered id.0 0 code.max_locals code.max_stack fresh
     → s.frame ≡ record entry.frame { locals = map passed arguments ++ drop (length arguments) entry.frame.locals } → s.callers ≡ entry.callers → s.free ≡ entry.free
-    → Running (record { method = id; place = 0; stack = s }) limits.fuel ≡ opening_state id code arguments limits
-opening_runs id code arguments limits fresh entry s new enough pushed frame callers free =
+    → heap ≡ record { cells = []; free = limits.heap_words }
+    → Running (record { stack = s; heap = heap }) limits.fuel ≡ opening_state id code arguments limits
+unfolding entered
+opening_runs id code arguments limits fresh entry s heap new enough pushed frame callers free empty =
+    let none : code.max_locals - 0 ≡ code.max_locals = omega arith in
     let cost : ℕ = frame_cost code.max_locals code.max_stack in
-    let stack : Frames = record { frame = opening_frame code arguments; callers = empty_frame ∷ []; free = limits.stack_words - cost } in
-    let frames : s.frame ≡ opening_frame code arguments = frame ∙ rw (pushed, drop-replicate (length arguments) code.max_locals Unset) refl in
+    let stack : Frames = record { frame = opening_frame id code arguments; callers = empty_frame ∷ []; free = limits.stack_words - cost } in
+    let frames : s.frame ≡ opening_frame id code arguments = frame ∙ rw (pushed, none, drop-replicate (length arguments) code.max_locals Unset) refl in
     let same : s ≡ stack = same_frames s stack frames (callers ∙ rw (pushed, new) refl) (free ∙ rw (pushed, new) refl) in
     let within : cost ≤ limits.stack_words = rw new at enough in
-    rw (same, le-leb cost limits.stack_words within) refl
+    rw (same, empty, le-leb cost limits.stack_words within) refl
 
 -- the same, of what a start found and did not refuse
 pub found_begins : (links program : Links) (id : MethodId) (r : Option Found) (found : Found) (why : Option StartFault) (given arguments : List Value) (limits : Limits)

@@ -66,8 +66,10 @@ passed (value.Int n) = Int n
 passed _ = Unset
 
 -- the frame of a method as it begins: the arguments are its first local variables
-abbrev pub opening_frame : Code → List Value → Frame
-opening_frame code arguments = record {
+abbrev pub opening_frame : MethodId → Code → List Value → Frame
+opening_frame id code arguments = record {
+  method = id.0;
+  index = 0;
   locals = map passed arguments ++ replicate (code.max_locals - length arguments) Unset;
   operands = [];
   room = code.max_stack;
@@ -79,9 +81,8 @@ opening_state id code arguments limits =
     let cost = frame_cost code.max_locals code.max_stack in
     (if nat_le cost limits.stack_words
     then Running (record {
-      method = id;
-      place = 0;
-      stack = record { frame = opening_frame code arguments; callers = empty_frame ∷ []; free = limits.stack_words - cost };
+      stack = record { frame = opening_frame id code arguments; callers = empty_frame ∷ []; free = limits.stack_words - cost };
+      heap = record { cells = []; free = limits.heap_words };
     }) limits.fuel
     else Over (Threw StackOverflowError) limits.fuel)
 

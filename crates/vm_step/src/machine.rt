@@ -2,17 +2,15 @@
 
 use crate::arithmetic;
 use crate::ending::{Ending, Flow, Thrown};
-use cls_link::{
-    BinaryOperator, Condition, LinkedInsn, MethodId, StackOperation, UnaryOperator, ValueKind,
-};
-use vm_stack::{Stack, Word};
+use cls_link::{BinaryOperator, Condition, LinkedInsn, StackOperation, UnaryOperator, ValueKind};
+use vm_heap::{Heap, Word};
+use vm_stack::Stack;
 
-/// A method, the index of the instruction that comes next, and the frames.
+/// The frames and the heap of a task.
 #[derive(Drop)]
 pub struct Machine {
-    pub method: MethodId,
-    pub place: usize,
     pub stack: Stack,
+    pub heap: Heap,
 }
 
 impl Machine {
@@ -39,38 +37,38 @@ impl Machine {
 
     #[inline(always)]
     fn go_on(&mut self) -> Flow
-        requires { self.old.place + 1 < 2 ^ 64 }
+        requires { self.old.stack.frame.index + 1 < 2 ^ 64 }
         ensures does { Does (go_on self.old) result self.new }
-        ensures method { self.new.method ≡ self.old.method }
+        ensures method { self.new.stack.frame.method ≡ self.old.stack.frame.method }
     {
-        self.place += 1;
+        self.stack.go_to(self.stack.index() + 1);
         Flow::Goes
     }
 
     #[inline(always)]
-    fn load_int(&self, place: u16) -> i32
-        requires { IsIntLocal (slice_get self.now.stack.frame.locals place) }
-        ensures { slice_get self.now.stack.frame.locals place ≡ Some (Int result) }
+    fn load_int(&self, local: u16) -> i32
+        requires { IsIntLocal (slice_get self.now.stack.frame.locals local) }
+        ensures { slice_get self.now.stack.frame.locals local ≡ Some (Int result) }
     {
-        self.stack.local(place as usize).as_int()
+        self.stack.local(local as usize).as_int()
     }
 
     #[inline(always)]
-    fn store_int(&mut self, place: u16, n: i32)
-        requires { place < length self.old.stack.frame.locals }
-        ensures { self.new ≡ record self.old { stack = with_local place (Int n) self.old.stack } }
+    fn store_int(&mut self, local: u16, n: i32)
+        requires { local < length self.old.stack.frame.locals }
+        ensures { self.new ≡ record self.old { stack = with_local local (Int n) self.old.stack } }
     {
-        self.stack.set_local(place as usize, Word::int(n));
+        self.stack.set_local(local as usize, Word::int(n));
     }
 
     #[inline(always)]
     fn branch(&mut self, taken: bool, target: u16) -> Flow
-        requires { self.old.place + 1 < 2 ^ 64 }
+        requires { self.old.stack.frame.index + 1 < 2 ^ 64 }
         ensures does { Does (branch taken target self.old) result self.new }
-        ensures method { self.new.method ≡ self.old.method }
+        ensures method { self.new.stack.frame.method ≡ self.old.stack.frame.method }
     {
         if taken {
-            self.place = target as usize;
+            self.stack.go_to(target as usize);
             Flow::Goes
         } else {
             self.go_on()
@@ -79,45 +77,45 @@ impl Machine {
 
     #[inline(always)]
     fn constant(&mut self, n: i32) -> Flow
-        requires place { self.old.place + 1 < 2 ^ 64 }
+        requires index { self.old.stack.frame.index + 1 < 2 ^ 64 }
         requires fits { NotStuck (act (LinkedInsn.Constant n) self.old) }
         ensures does { Does (act (LinkedInsn.Constant n) self.old) result self.new }
-        ensures method { self.new.method ≡ self.old.method }
+        ensures method { self.new.stack.frame.method ≡ self.old.stack.frame.method }
     {
         self.push_int(n);
         self.go_on()
     }
 
     #[inline(always)]
-    fn load(&mut self, place: u16) -> Flow
-        requires place { self.old.place + 1 < 2 ^ 64 }
-        requires fits { NotStuck (act (LinkedInsn.Load ValueKind.Int place) self.old) }
-        ensures does { Does (act (LinkedInsn.Load ValueKind.Int place) self.old) result self.new }
-        ensures method { self.new.method ≡ self.old.method }
+    fn load(&mut self, local: u16) -> Flow
+        requires index { self.old.stack.frame.index + 1 < 2 ^ 64 }
+        requires fits { NotStuck (act (LinkedInsn.Load ValueKind.Int local) self.old) }
+        ensures does { Does (act (LinkedInsn.Load ValueKind.Int local) self.old) result self.new }
+        ensures method { self.new.stack.frame.method ≡ self.old.stack.frame.method }
     {
-        let n = self.load_int(place);
+        let n = self.load_int(local);
         self.push_int(n);
         self.go_on()
     }
 
     #[inline(always)]
-    fn store(&mut self, place: u16) -> Flow
-        requires place { self.old.place + 1 < 2 ^ 64 }
-        requires fits { NotStuck (act (LinkedInsn.Store ValueKind.Int place) self.old) }
-        ensures does { Does (act (LinkedInsn.Store ValueKind.Int place) self.old) result self.new }
-        ensures method { self.new.method ≡ self.old.method }
+    fn store(&mut self, local: u16) -> Flow
+        requires index { self.old.stack.frame.index + 1 < 2 ^ 64 }
+        requires fits { NotStuck (act (LinkedInsn.Store ValueKind.Int local) self.old) }
+        ensures does { Does (act (LinkedInsn.Store ValueKind.Int local) self.old) result self.new }
+        ensures method { self.new.stack.frame.method ≡ self.old.stack.frame.method }
     {
         let n = self.pop_int();
-        self.store_int(place, n);
+        self.store_int(local, n);
         self.go_on()
     }
 
     #[inline(always)]
     fn increment(&mut self, local: u16, by: i16) -> Flow
-        requires place { self.old.place + 1 < 2 ^ 64 }
+        requires index { self.old.stack.frame.index + 1 < 2 ^ 64 }
         requires fits { NotStuck (act (LinkedInsn.Increment local by) self.old) }
         ensures does { Does (act (LinkedInsn.Increment local by) self.old) result self.new }
-        ensures method { self.new.method ≡ self.old.method }
+        ensures method { self.new.stack.frame.method ≡ self.old.stack.frame.method }
     {
         let n = self.load_int(local);
         self.store_int(local, n.wrapping_add(by as i32));
@@ -126,10 +124,10 @@ impl Machine {
 
     #[inline(always)]
     fn pop(&mut self) -> Flow
-        requires place { self.old.place + 1 < 2 ^ 64 }
+        requires index { self.old.stack.frame.index + 1 < 2 ^ 64 }
         requires fits { NotStuck (act (LinkedInsn.Stack StackOperation.Pop) self.old) }
         ensures does { Does (act (LinkedInsn.Stack StackOperation.Pop) self.old) result self.new }
-        ensures method { self.new.method ≡ self.old.method }
+        ensures method { self.new.stack.frame.method ≡ self.old.stack.frame.method }
     {
         let _ = self.stack.pop();
         self.go_on()
@@ -137,10 +135,10 @@ impl Machine {
 
     #[inline(always)]
     fn dup(&mut self) -> Flow
-        requires place { self.old.place + 1 < 2 ^ 64 }
+        requires index { self.old.stack.frame.index + 1 < 2 ^ 64 }
         requires fits { NotStuck (act (LinkedInsn.Stack StackOperation.Dup) self.old) }
         ensures does { Does (act (LinkedInsn.Stack StackOperation.Dup) self.old) result self.new }
-        ensures method { self.new.method ≡ self.old.method }
+        ensures method { self.new.stack.frame.method ≡ self.old.stack.frame.method }
     {
         let value = self.stack.pop();
         self.stack.push(value.copy());
@@ -150,10 +148,10 @@ impl Machine {
 
     #[inline(always)]
     fn swap(&mut self) -> Flow
-        requires place { self.old.place + 1 < 2 ^ 64 }
+        requires index { self.old.stack.frame.index + 1 < 2 ^ 64 }
         requires fits { NotStuck (act (LinkedInsn.Stack StackOperation.Swap) self.old) }
         ensures does { Does (act (LinkedInsn.Stack StackOperation.Swap) self.old) result self.new }
-        ensures method { self.new.method ≡ self.old.method }
+        ensures method { self.new.stack.frame.method ≡ self.old.stack.frame.method }
     {
         let first = self.stack.pop();
         let second = self.stack.pop();
@@ -164,10 +162,10 @@ impl Machine {
 
     #[inline(always)]
     fn unary(&mut self, operator: UnaryOperator) -> Flow
-        requires place { self.old.place + 1 < 2 ^ 64 }
+        requires index { self.old.stack.frame.index + 1 < 2 ^ 64 }
         requires fits { NotStuck (act (LinkedInsn.Unary operator) self.old) }
         ensures does { Does (act (LinkedInsn.Unary operator) self.old) result self.new }
-        ensures method { self.new.method ≡ self.old.method }
+        ensures method { self.new.stack.frame.method ≡ self.old.stack.frame.method }
     {
         let n = self.pop_int();
         self.push_int(arithmetic::unary(operator, n));
@@ -176,10 +174,10 @@ impl Machine {
 
     #[inline(always)]
     fn binary(&mut self, operator: BinaryOperator) -> Flow
-        requires place { self.old.place + 1 < 2 ^ 64 }
+        requires index { self.old.stack.frame.index + 1 < 2 ^ 64 }
         requires fits { NotStuck (act (LinkedInsn.Binary operator) self.old) }
         ensures does { Does (act (LinkedInsn.Binary operator) self.old) result self.new }
-        ensures method { self.new.method ≡ self.old.method }
+        ensures method { self.new.stack.frame.method ≡ self.old.stack.frame.method }
     {
         let right = self.pop_int();
         let left = self.pop_int();
@@ -194,10 +192,10 @@ impl Machine {
 
     #[inline(always)]
     fn if_zero(&mut self, condition: Condition, target: u16) -> Flow
-        requires place { self.old.place + 1 < 2 ^ 64 }
+        requires index { self.old.stack.frame.index + 1 < 2 ^ 64 }
         requires fits { NotStuck (act (LinkedInsn.If condition target) self.old) }
         ensures does { Does (act (LinkedInsn.If condition target) self.old) result self.new }
-        ensures method { self.new.method ≡ self.old.method }
+        ensures method { self.new.stack.frame.method ≡ self.old.stack.frame.method }
     {
         let n = self.pop_int();
         self.branch(arithmetic::holds(condition, n, 0), target)
@@ -205,10 +203,10 @@ impl Machine {
 
     #[inline(always)]
     fn if_compare(&mut self, condition: Condition, target: u16) -> Flow
-        requires place { self.old.place + 1 < 2 ^ 64 }
+        requires index { self.old.stack.frame.index + 1 < 2 ^ 64 }
         requires fits { NotStuck (act (LinkedInsn.IfCompare condition target) self.old) }
         ensures does { Does (act (LinkedInsn.IfCompare condition target) self.old) result self.new }
-        ensures method { self.new.method ≡ self.old.method }
+        ensures method { self.new.stack.frame.method ≡ self.old.stack.frame.method }
     {
         let right = self.pop_int();
         let left = self.pop_int();
@@ -219,7 +217,7 @@ impl Machine {
     fn return_int(&mut self) -> Flow
         requires fits { NotStuck (act (LinkedInsn.ReturnValue ValueKind.Int) self.old) }
         ensures does { Does (act (LinkedInsn.ReturnValue ValueKind.Int) self.old) result self.new }
-        ensures method { self.new.method ≡ self.old.method }
+        ensures method { self.new.stack.frame.method ≡ self.old.stack.frame.method }
     {
         Flow::Ends(Ending::ReturnedInt(self.pop_int()))
     }
@@ -228,16 +226,16 @@ impl Machine {
     /// of it than it uses.
     #[inline(always)]
     pub fn act(&mut self, insn: &LinkedInsn) -> Flow
-        requires place { self.old.place + 1 < 2 ^ 64 }
+        requires index { self.old.stack.frame.index + 1 < 2 ^ 64 }
         requires fits { NotStuck (act insn.now self.old) }
         ensures does { Does (act insn.now self.old) result self.new }
-        ensures method { self.new.method ≡ self.old.method }
+        ensures method { self.new.stack.frame.method ≡ self.old.stack.frame.method }
     {
         match insn {
             LinkedInsn::Nop => self.go_on(),
             LinkedInsn::Constant(n) => self.constant(*n),
-            LinkedInsn::Load(ValueKind::Int, place) => self.load(*place),
-            LinkedInsn::Store(ValueKind::Int, place) => self.store(*place),
+            LinkedInsn::Load(ValueKind::Int, local) => self.load(*local),
+            LinkedInsn::Store(ValueKind::Int, local) => self.store(*local),
             LinkedInsn::Increment { local, by } => self.increment(*local, *by),
             LinkedInsn::Stack(StackOperation::Pop) => self.pop(),
             LinkedInsn::Stack(StackOperation::Dup) => self.dup(),

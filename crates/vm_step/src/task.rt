@@ -19,7 +19,7 @@ use std::marker::Model;
 use std::mem;
 use std::snapshot::Snapshot;
 use ver_check::Accepted;
-use vm_heap::{ClassId, Uuid, Value};
+use vm_heap::{ClassId, Heap, Uuid, Value};
 use vm_stack::Stack;
 
 /// The numbers of the classes of which the interpreter throws objects.
@@ -166,17 +166,13 @@ fn opening(
     ensures fuel { IfOk result (λ phase. fuel_left (phase_state phase) ≡ limits.fuel) }
 {
     let mut stack = Stack::with_words(alloc, limits.stack_words as usize)?;
-    if !stack.push_frame(code.max_locals, code.max_stack) {
+    let heap = Heap::with_words(alloc, limits.heap_words)?;
+    if !stack.push_frame(method.0, 0, code.max_locals, code.max_stack) {
         let overflow = Ending::Threw(Thrown::StackOverflowError);
         return Ok(Phase::Over(overflow, limits.fuel));
     }
     pass(&mut stack, arguments);
-    let machine = Machine {
-        method,
-        place: 0,
-        stack,
-    };
-    Ok(Phase::Running(machine, limits.fuel))
+    Ok(Phase::Running(Machine { stack, heap }, limits.fuel))
 }
 
 // The classes of which the interpreter throws objects stand in every set.

@@ -1,0 +1,50 @@
+//! How tasks end.
+
+use vm_heap::ClassId;
+
+/// The built-in classes of which the machine itself throws objects.
+#[derive(Clone, Copy, Debug, PartialEq, Eq)]
+pub enum Thrown {
+    ArithmeticException,
+    NullPointerException,
+    ClassCastException,
+    NegativeArraySizeException,
+    ArrayIndexOutOfBoundsException,
+    OutOfMemoryError,
+    StackOverflowError,
+    AbstractMethodError,
+    IllegalAccessError,
+    IncompatibleClassChangeError,
+}
+
+/// How a task ends. There are no exception handlers, so that what is thrown ends it.
+#[derive(Clone, Copy, Debug, PartialEq, Eq)]
+pub enum Ending {
+    ReturnedNothing,
+    ReturnedInt(i32),
+    /// Null, or the heap's address of an object or an array.
+    ReturnedReference(Option<usize>),
+    Threw(Thrown),
+    /// An `athrow` threw an object of this class.
+    ThrewObject(ClassId),
+}
+
+/// What an instruction did: the machine goes on in the same method, or in another, or the task ends.
+#[derive(Clone, Copy)]
+pub enum Flow {
+    Goes,
+    Moves,
+    Ends(Ending),
+}
+
+impl Flow {
+    ghost use Rattle.std.specs.Prelude.{◌≡◌};
+
+    /// The task ends, as an object of this class is thrown.
+    #[inline(always)]
+    pub fn throws(thrown: Thrown) -> Flow
+        ensures { result ≡ Flow.Ends (Ending.Threw thrown) }
+    {
+        Flow::Ends(Ending::Threw(thrown))
+    }
+}

@@ -1,0 +1,63 @@
+//! The machine: what a task runs on.
+ghost use Rattle.std.specs.Prelude.{◌≡◌, ◌+◌, ◌<◌, ◌^◌, length};
+ghost use Rattle.vm_heap.specs.Tagged.{Int, IsInt};
+ghost use Rattle.vm_act.specs.Next.{NotStuck, Does};
+ghost use Rattle.vm_act.specs.Steps.{go_on, branch};
+ghost use Rattle.vm_act.specs.Shapes.{IsIntOnTop, pushed_on};
+
+use crate::ending::Flow;
+use vm_heap::{Heap, Word};
+use vm_stack::Stack;
+
+/// The frames and the heap of a task.
+#[derive(Drop)]
+pub struct Machine {
+    pub stack: Stack,
+    pub heap: Heap,
+}
+
+impl Machine {
+    /// Takes the int on top off.
+    #[inline(always)]
+    pub fn pop_int(&mut self) -> i32
+        requires { IsIntOnTop self.old.stack.frame.operands }
+        ensures { self.old ≡ pushed_on (Int result) self.new }
+    {
+        self.stack.pop().as_int()
+    }
+
+    /// Pushes an operand.
+    #[inline(always)]
+    pub fn push(&mut self, word: Word)
+        requires { length self.old.stack.frame.operands < self.old.stack.frame.room }
+        ensures { self.new ≡ pushed_on word self.old }
+    {
+        self.stack.push(word);
+    }
+
+    /// Goes on at the next instruction.
+    #[inline(always)]
+    pub fn go_on(&mut self) -> Flow
+        requires { self.old.stack.frame.index + 1 < 2 ^ 64 }
+        ensures does { Does (go_on self.old) result self.new }
+        ensures method { self.new.stack.frame.method ≡ self.old.stack.frame.method }
+    {
+        self.stack.go_to(self.stack.index() + 1);
+        Flow::Goes
+    }
+
+    /// Goes on at the instruction of an index if it is taken, else at the next one.
+    #[inline(always)]
+    pub fn branch(&mut self, taken: bool, target: u16) -> Flow
+        requires { self.old.stack.frame.index + 1 < 2 ^ 64 }
+        ensures does { Does (branch taken target self.old) result self.new }
+        ensures method { self.new.stack.frame.method ≡ self.old.stack.frame.method }
+    {
+        if taken {
+            self.stack.go_to(target as usize);
+            Flow::Goes
+        } else {
+            self.go_on()
+        }
+    }
+}

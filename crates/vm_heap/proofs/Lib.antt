@@ -1,0 +1,3 @@
+mod Images
+mod Cells
+mod References

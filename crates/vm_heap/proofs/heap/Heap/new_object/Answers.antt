@@ -1,0 +1,43 @@
+use Rattle.std.proofs.Common.{◌≡◌, ◌+◌, ◌-◌, ◌<◌, ◌≤◌, ◌^◌, ◌++◌, ◌∷◌, [], List, length, sym, ap, ◌∙◌, arith, refl, Option, Some, None, suc, ℕ, slice_get, slice_set, map}
+use Rattle.std.specs.Prelude.{ℤ, pos, IsSome, option_map, replicate}
+use Rattle.vm_heap.specs.Tagged.{Tagged, Int, Head, OfClass, OfInts, Length, int_of, class_of_head}
+use Rattle.vm_heap.specs.Words.{Row}
+use Rattle.vm_heap.specs.Heap.{Cell, Object, Ints, cell_at, field_at, length_at, element_at, spelled, with_field, with_element, all_cost, cost, default, class_of, new_cell}
+use Rattle.vm_heap.proofs.Cells.{Stands, some, read_is, read_in, first_of, first_stands, first_is, class_first, field_stands, length_stands, element_stands, field_written, element_written, length-set, int_is, length-spelled, length-added, cost-object, cost-ints, object_added, ints_added}
+use Rattle.vm_heap.proofs.heap.Heap.new_object.Goals as goal
+
+pub returns-then-room-len-clause-full : goal.returns-then-room-len-clause-full
+returns-then-room-len-clause-full c = λ _.
+    let less : c.self.inside.words.room - length c.self.inside.words.values < cost (Object c.args.class (map default c.args.fields.now)) =
+    omega (arith, c.if-room-len.true, c.room.ensures, c.len.ensures, cost-object c.args.class c.args.fields.now) in
+    rw (← c.self.view_is) less
+
+pub local-requires : goal.local-requires
+local-requires c = omega (arith, c.len-address.ensures, c.room.ensures, c.len.ensures, c.if-room-len.false, c.self.invariant.within, c.self.invariant.small)
+
+pub invariant_of-self : goal.invariant_of-self
+invariant_of-self c =
+    let row : c.add_defaults.new.words.values ≡ spelled (c.self.inside.cells.value ++ Object c.args.class (map default c.args.fields.now) ∷ []) = rw (c.add_defaults.ensures, c.push_reserved.ensures, c.of_class.ensures) (object_added c.self.inside.words.values c.self.inside.cells.value c.args.class (map default c.args.fields.now) c.self.invariant.row) in
+    let room : c.add_defaults.new.words.room ≡ c.self.inside.words.room = ap (λ (r : Row). r.room) c.add_defaults.ensures ∙ ap (λ (r : Row). r.room) c.push_reserved.ensures in
+    let old : length c.self.inside.words.values ≡ length (spelled c.self.inside.cells.value) = ap length c.self.invariant.row in
+    let new : length c.add_defaults.new.words.values ≡ length (spelled c.self.inside.cells.value) + cost (Object c.args.class (map default c.args.fields.now)) = ap length row ∙ length-added c.self.inside.cells.value (Object c.args.class (map default c.args.fields.now)) in
+    let fits : cost (Object c.args.class (map default c.args.fields.now)) ≤ c.self.inside.words.room - length c.self.inside.words.values =
+    omega (arith, c.if-room-len.false, c.room.ensures, c.len.ensures, cost-object c.args.class c.args.fields.now) in
+    rw (c.of.ensures, c.copy.ensures) record {
+      row = row;
+      within = omega (arith, room, old, new, fits, c.self.invariant.within);
+      small = omega (arith, room, c.self.invariant.small);
+    }
+
+pub returns-clause-made : goal.returns-clause-made
+returns-clause-made c =
+    let row : c.add_defaults.new.words.values ≡ spelled (c.self.inside.cells.value ++ Object c.args.class (map default c.args.fields.now) ∷ []) = rw (c.add_defaults.ensures, c.push_reserved.ensures, c.of_class.ensures) (object_added c.self.inside.words.values c.self.inside.cells.value c.args.class (map default c.args.fields.now) c.self.invariant.row) in
+    let room : c.add_defaults.new.words.room ≡ c.self.inside.words.room = ap (λ (r : Row). r.room) c.add_defaults.ensures ∙ ap (λ (r : Row). r.room) c.push_reserved.ensures in
+    let old : length c.self.inside.words.values ≡ length (spelled c.self.inside.cells.value) = ap length c.self.invariant.row in
+    let new : length c.add_defaults.new.words.values ≡ length (spelled c.self.inside.cells.value) + cost (Object c.args.class (map default c.args.fields.now)) = ap length row ∙ length-added c.self.inside.cells.value (Object c.args.class (map default c.args.fields.now)) in
+    let fits : cost (Object c.args.class (map default c.args.fields.now)) ≤ c.self.inside.words.room - length c.self.inside.words.values =
+    omega (arith, c.if-room-len.false, c.room.ensures, c.len.ensures, cost-object c.args.class c.args.fields.now) in
+    let at_end : c.len-address.result ≡ all_cost c.self.inside.cells.value = omega (arith, c.len-address.ensures, old, length-spelled c.self.inside.cells.value) in
+    let left : c.add_defaults.new.words.room - length c.add_defaults.new.words.values ≡ c.self.inside.words.room - length c.self.inside.words.values - cost (Object c.args.class (map default c.args.fields.now)) =
+    omega (arith, room, old, new, fits) in
+    rw (← c.self.view_is) (fits, rw (c.local.ensures, at_end) refl, rw (c.of.ensures, c.copy.ensures, left) refl)

@@ -1,0 +1,42 @@
+use Rattle.std.proofs.Common.{◌≡◌, ◌+◌, ◌-◌, ◌<◌, ◌≤◌, ◌^◌, ◌++◌, ◌∷◌, [], List, length, sym, ap, ◌∙◌, arith, refl, Option, Some, None, suc, ℕ, slice_get, slice_set, map}
+use Rattle.std.specs.Prelude.{ℤ, pos, IsSome, option_map, replicate}
+use Rattle.vm_heap.specs.Tagged.{Tagged, Int, Head, OfClass, OfInts, Length, int_of, class_of_head}
+use Rattle.vm_heap.specs.Words.{Row}
+use Rattle.vm_heap.specs.Heap.{Cell, Object, Ints, cell_at, field_at, length_at, element_at, spelled, with_field, with_element, all_cost, cost, default, class_of, new_cell}
+use Rattle.vm_heap.proofs.Cells.{Stands, some, read_is, read_in, first_of, first_stands, first_is, class_first, field_stands, length_stands, element_stands, field_written, element_written, length-set, int_is, length-spelled, length-added, cost-object, cost-ints, object_added, ints_added}
+use Rattle.vm_heap.proofs.heap.Heap.put_element.Goals as goal
+
+pub overflow_add-address : goal.overflow_add-address
+overflow_add-address c =
+    let there = some (element_at c.args.address c.args.index c.self.inside.cells.value) (rw (← c.self.view_is) at c.requires.element) in
+    let stands : Stands c.self.inside.cells.value c.args.address (suc (suc c.args.index)) (Int there.0) = element_stands c.self.inside.cells.value c.args.address c.args.index there.0 there.1 in
+    let inside : c.args.address + (suc (suc c.args.index)) < length c.self.inside.words.values = read_in c.self.inside.words.values c.self.inside.cells.value c.args.address (suc (suc c.args.index)) (Int there.0) c.self.invariant.row stands in
+    omega (arith, c.self.invariant.within, c.self.invariant.small)
+
+pub overflow_add-address-2 : goal.overflow_add-address-2
+overflow_add-address-2 c =
+    let there = some (element_at c.args.address c.args.index c.self.inside.cells.value) (rw (← c.self.view_is) at c.requires.element) in
+    let stands : Stands c.self.inside.cells.value c.args.address (suc (suc c.args.index)) (Int there.0) = element_stands c.self.inside.cells.value c.args.address c.args.index there.0 there.1 in
+    let inside : c.args.address + (suc (suc c.args.index)) < length c.self.inside.words.values = read_in c.self.inside.words.values c.self.inside.cells.value c.args.address (suc (suc c.args.index)) (Int there.0) c.self.invariant.row stands in
+    omega (arith, c.self.invariant.within, c.self.invariant.small)
+
+pub set-requires : goal.set-requires
+set-requires c =
+    let there = some (element_at c.args.address c.args.index c.self.inside.cells.value) (rw (← c.self.view_is) at c.requires.element) in
+    let stands : Stands c.self.inside.cells.value c.args.address (suc (suc c.args.index)) (Int there.0) = element_stands c.self.inside.cells.value c.args.address c.args.index there.0 there.1 in
+    let inside : c.args.address + (suc (suc c.args.index)) < length c.self.inside.words.values = read_in c.self.inside.words.values c.self.inside.cells.value c.args.address (suc (suc c.args.index)) (Int there.0) c.self.invariant.row stands in
+    omega arith
+
+pub invariant_of-self : goal.invariant_of-self
+invariant_of-self c =
+    let there = some (element_at c.args.address c.args.index c.self.inside.cells.value) (rw (← c.self.view_is) at c.requires.element) in
+    let stands : Stands c.self.inside.cells.value c.args.address (suc (suc c.args.index)) (Int there.0) = element_stands c.self.inside.cells.value c.args.address c.args.index there.0 there.1 in
+    let inside : c.args.address + (suc (suc c.args.index)) < length c.self.inside.words.values = read_in c.self.inside.words.values c.self.inside.cells.value c.args.address (suc (suc c.args.index)) (Int there.0) c.self.invariant.row stands in
+    let where_is : c.args.address + 2 + c.args.index ≡ c.args.address + (suc (suc c.args.index)) = omega arith in
+    let row : slice_set c.self.inside.words.values (c.args.address + 2 + c.args.index) c.args.word ≡ spelled (with_element c.args.address c.args.index (int_of c.args.word) c.self.inside.cells.value) =
+    rw (int_is c.args.word c.requires.int, c.self.invariant.row, where_is) (sym (element_written c.self.inside.cells.value c.args.address c.args.index (int_of c.args.word) there.0 there.1)) in
+    rw (c.set.ensures, c.of.ensures, c.copy.ensures) record {
+      row = row;
+      within = omega (arith, c.self.invariant.within, length-set c.self.inside.words.values (c.args.address + 2 + c.args.index) c.args.word);
+      small = c.self.invariant.small;
+    }

@@ -1,0 +1,5 @@
+use Rattle.vm_heap.proofs.References.{same_reference}
+use Rattle.vm_heap.proofs.laws.references_have_words_of_their_own.Goals as goal
+
+pub returns : goal.returns
+returns c = same_reference
