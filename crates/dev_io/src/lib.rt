@@ -13,6 +13,7 @@ pub use memory_sink::MemSink;
 pub use memory_source::MemSource;
 pub use standard_sink::StdSink;
 pub use standard_source::StdSource;
+pub use writing::{Cut, write_all};
 use thiserror::Error;
 
 mod calls;
@@ -20,6 +21,7 @@ mod memory_sink;
 mod memory_source;
 mod standard_sink;
 mod standard_source;
+mod writing;
 
 /// A call of a device failed. From then on each call of that device fails.
 #[derive(Clone, Copy, Debug, PartialEq, Eq, Error)]
