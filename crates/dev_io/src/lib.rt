@@ -14,6 +14,7 @@ pub use memory_source::MemSource;
 pub use reading::{ReadError, read_bytes};
 pub use standard_sink::StdSink;
 pub use standard_source::StdSource;
+pub use writing::{Cut, write_all};
 use thiserror::Error;
 
 mod calls;
@@ -22,6 +23,7 @@ mod memory_source;
 mod reading;
 mod standard_sink;
 mod standard_source;
+mod writing;
 
 /// A call of a device failed. From then on each call of that device fails.
 #[derive(Clone, Copy, Debug, PartialEq, Eq, Error)]

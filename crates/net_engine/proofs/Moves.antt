@@ -1,8 +1,8 @@
 -- Bytes that move from a source into a buffer, and from a buffer into a sink.
 use Rattle.std.proofs.Common.{◌≡◌, ℕ, ◌+◌, ◌<◌, ◌≤◌, List, ◌++◌, length, take, drop, Option, Some, None, refl, sym, ap, subst, ◌∙◌, append_assoc, arith, inl, inr}
-use Rattle.std.specs.Io.KnownBytes.{Appends, Consumes, Keeps, prepend_known}
-use Rattle.std.proofs.KnownBytes.{Appends-trans}
-use Rattle.std.proofs.lemmas.List.{take-append-drop, take-append-le, take-take, drop-take, take_at, drop_at, length-take, length-take-le, length-append}
+use Rattle.std.specs.Io.KnownBytes.{Consumes, Keeps, prepend_known}
+use Rattle.std.proofs.Math.Seq.{take-add}
+use Rattle.std.proofs.lemmas.List.{take-append-le, take_at, drop_at, length-take, length-take-le, length-append}
 use borrow.Rule.Slice.PartMut.{put_mid, post_of}
 use Rattle.std.proofs.lemmas.Bool.{cases_lt, lt-ltb, le-ltb}
 use Rattle.net_message.specs.declared.fault.WireFault.{WireFault}
@@ -11,22 +11,13 @@ use Rattle.net_frames.specs.Stream.{told_length, IsPartial, IsBodyLength, HasBod
 use Rattle.net_frames.proofs.StreamLaws.{told_stays}
 use Rattle.net_engine.specs.Engine.{known, IsWithinFirst, fault_end}
 
-take_add : (n m : ℕ) (xs : List ℕ) → take (n + m) xs ≡ take n xs ++ take m (drop n xs)
-take_add n m xs =
-    sym (take-append-drop n (take (n + m) xs)) ∙ ap (λ (x : List ℕ). x ++ drop n (take (n + m) xs)) (take-take n (n + m) xs (omega arith)) ∙ ap (λ (x : List ℕ). take n xs ++ x) (drop-take n m xs)
-
--- a sink that has taken the first bytes, and then takes the first of the rest
-pub appends_more : (a b c : Option (List ℕ)) (bytes rest : List ℕ) (sent count : ℕ) → rest ≡ drop sent bytes → Appends a b (take sent bytes) → Appends b c (take count rest) → Appends a c (take (sent + count) bytes)
-appends_more a b c bytes rest sent count is first next =
-    subst (Appends a c) (ap (λ (x : List ℕ). take sent bytes ++ take count x) is ∙ sym (take_add sent count bytes)) (Appends-trans a b c (take sent bytes) (take count rest) first next)
-
 -- the bytes of a buffer up to those that were read into a part of it
 take_read : (old part : List ℕ) (a k count : ℕ) → a + k ≤ length old → length part ≡ k → count ≤ k → take (a + count) (put_mid a k old part) ≡ take a old ++ take count part
 take_read old part a k count within len most =
     let new = put_mid a k old part in
     let front : take a old ++ (part ++ post_of a k old) ≡ new = refl in
     let len_front : length (take a old) ≡ a = length-take-le a old (omega arith) in
-    take_add a count new ∙ ap (λ (x : List ℕ). x ++ take count (drop a new)) (take_at (take a old) (part ++ post_of a k old) a len_front)
+    take-add a count new ∙ ap (λ (x : List ℕ). x ++ take count (drop a new)) (take_at (take a old) (part ++ post_of a k old) a len_front)
     ∙ ap (λ (x : List ℕ). take a old ++ take count x) (drop_at (take a old) (part ++ post_of a k old) a len_front) ∙ ap (λ (x : List ℕ). take a old ++ x) (take-append-le count part (post_of a k old) (omega arith))
 
 known_moves : (x y : Option (List ℕ)) (held bytes : List ℕ) → Consumes x y bytes → Keeps (prepend_known held x) (prepend_known (held ++ bytes) y)
@@ -80,7 +71,7 @@ stays_told held more partial within past =
 pub read_within : (old new : List ℕ) (filled count missing : ℕ) → IsPartial (take filled old) → take filled new ≡ take filled old → filled ≤ length old → count ≤ missing
     → length (take filled old) + missing ≡ known_end (take filled old) → IsWithinFirst (take (filled + count) new)
 read_within old new filled count missing partial front fits most ends =
-    let parts : take (filled + count) new ≡ take filled old ++ take count (drop filled new) = take_add filled count new ∙ ap (λ (x : List ℕ). x ++ take count (drop filled new)) front in
+    let parts : take (filled + count) new ≡ take filled old ++ take count (drop filled new) = take-add filled count new ∙ ap (λ (x : List ℕ). x ++ take count (drop filled new)) front in
     let within : length (take filled old ++ take count (drop filled new)) ≤ known_end (take filled old) =
     omega (arith, length-append (take filled old) (take count (drop filled new)), length-take count (drop filled new), ends) in
     subst IsWithinFirst (sym parts) (stays_within (take filled old) (take count (drop filled new)) within, stays_told (take filled old) (take count (drop filled new)) partial within)

@@ -7,7 +7,7 @@ ghost use Rattle.net_message.specs.Wire.{body};
 
 use crate::MAX_FRAME;
 use bytes::BytesMut;
-use dev_io::{Failed, Sink};
+use dev_io::{Cut, Sink, write_all};
 use net_frames::Frame;
 use std::alloc::{AllocError, Global};
 use std::marker::Model;
@@ -37,24 +37,6 @@ impl<K: Sink> Model for Outbound<K> {
     ghost view = { λ outbound. record { sink = outbound.sink; room = length outbound.buffer.items + outbound.buffer.spare } };
 
     ghost invariant = { λ outbound. 65540 ≤ length outbound.buffer.items + outbound.buffer.spare };
-}
-
-// Writes the bytes one after the other until they are taken or a write fails.
-fn write_all<K: Sink>(sink: &mut K, bytes: &[u8]) -> Result<(), WriteFailed>
-    ensures all { OnOk result (Appends (K.contents sink.old) (K.contents sink.new) bytes.now) }
-    ensures cut { IfErr result (λ error. error.sent < length bytes.now) }
-    ensures part { IfErr result (λ error. Appends (K.contents sink.old) (K.contents sink.new) (take error.sent bytes.now)) }
-    ensures failed { IfErr result (λ _. IsTrue (K.has_failed sink.new)) }
-{
-    let mut sent = 0;
-    while sent < bytes.len() {
-        let (_, rest) = bytes.split_at(sent);
-        match sink.write(rest) {
-            Ok(count) => sent += count,
-            Err(Failed) => return Err(WriteFailed { sent }),
-        }
-    }
-    Ok(())
 }
 
 impl<K: Sink + Drop> Outbound<K> {
@@ -91,6 +73,9 @@ impl<K: Sink> Outbound<K> {
     {
         self.buffer.clear();
         frame.append_to(&mut self.buffer);
-        write_all(&mut self.sink, self.buffer.as_slice())
+        match write_all(&mut self.sink, self.buffer.as_slice()) {
+            Ok(()) => Ok(()),
+            Err(Cut { taken }) => Err(WriteFailed { sent: taken }),
+        }
     }
 }

@@ -1,22 +1,43 @@
--- What is asked for behind `run`.
-use Rattle.std.proofs.Common.{◌≡◌, ℕ, List, [], Option, Result, Ok, Err, IfOk, MatchResult, sym, subst}
+-- What is asked for after `run` and after `check`.
+use Rattle.std.proofs.Common.{◌≡◌, ℕ, List, [], Option, Some, Result, Ok, Err, IfOk, MatchResult, codes, sym, subst}
 use Rattle.std.specs.List.{AllZip}
 use Rattle.std.specs.Prelude.{unwrap_or}
-use Rattle.clap.specs.Walk.{Row}
+use Rattle.clap.specs.Walk.{Row, first_of}
 use Rattle.sp_main.specs.Arguments.{Spells}
 use Rattle.sp_main.specs.CommandLine.{AreRunWords, RunWords}
-use Rattle.sp_main.specs.Requests.{IsRefusing, IsRunRequest}
+use Rattle.sp_main.specs.Requests.{Found, IsAsked, IsCheckRequest, IsRefusing, IsRunRequest, check, run}
 use Rattle.sp_main.specs.declared.words.Request.{Request}
-use Rattle.sp_main.specs.declared.words.Request.TheVariants.{Run, Tell, Refuse}
 use Rattle.space_ids.specs.declared.value.Value.{Value}
+use Rattle.sp_main.specs.declared.words.Request.TheVariants.{Run, Check, Tell, Refuse}
 
 -- a refusal is right where no run is asked for
 pub refusing : {E : Type 0} (rows : List Row) (answer : Result Request E) → IfOk answer IsRefusing → ((run : RunWords) → AreRunWords rows run → ⊥)
     → IfOk answer (IsRunRequest rows)
 refusing rows (Ok (Run request)) is not = absurd is
+refusing rows (Ok (Check folder)) is not = absurd is
 refusing rows (Ok (Tell text)) is not = absurd is
 refusing rows (Ok (Refuse text)) is not = not
 refusing rows (Err e) is not = tt
+
+-- a refusal is right if no check is asked for
+pub refusing_check : {E : Type 0} (rows : List Row) (answer : Result Request E) → IfOk answer IsRefusing
+    → ((folder : List ℕ) → first_of (codes "folder") rows ≡ Some folder → ⊥) → IfOk answer (IsCheckRequest rows)
+refusing_check rows (Ok (Run request)) is not = absurd is
+refusing_check rows (Ok (Check folder)) is not = absurd is
+refusing_check rows (Ok (Tell text)) is not = absurd is
+refusing_check rows (Ok (Refuse text)) is not = not
+refusing_check rows (Err e) is not = tt
+
+-- what is asked of a command that was found
+pub asked_by_run : {E : Type 0} (found : Found) (rows : List Row) (answer : Result Request E) → found ≡ Some (codes "run", rows) → IfOk answer (IsRunRequest rows)
+    → IfOk answer (IsAsked found)
+asked_by_run found rows (Ok request) is asked = run rows is asked
+asked_by_run found rows (Err e) is asked = tt
+
+pub asked_by_check : {E : Type 0} (found : Found) (rows : List Row) (answer : Result Request E) → found ≡ Some (codes "check", rows) → IfOk answer (IsCheckRequest rows)
+    → IfOk answer (IsAsked found)
+asked_by_check found rows (Ok request) is asked = check rows is asked
+asked_by_check found rows (Err e) is asked = tt
 
 -- words that stand for no values
 pub no_arguments : (words : List (List ℕ)) (said : Option (List (List ℕ))) → words ≡ unwrap_or said []

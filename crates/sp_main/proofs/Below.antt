@@ -1,29 +1,31 @@
--- Paths that begin with the path of a folder.
-use Rattle.std.specs.Prelude.{◌≡◌, ◌++◌, ℕ, List, [], codes, All, Option, Some, IfSome, option_to_list}
-use Rattle.std.proofs.lemmas.List.Elements.{All-pop}
-use Rattle.std.proofs.Common.{append_assoc, append-nil, ap, sym, subst, ◌∙◌}
-use Rattle.sp_main.specs.Folders.{IsBelow, IsClassPath}
+-- Paths that lead from a folder to what is in it.
+use Rattle.std.specs.Prelude.{◌≡◌, ◌++◌, ◌∷◌, ℕ, List, [], codes, All, Option, Some, IfSome, option_to_list}
+use Rattle.std.proofs.lemmas.List.Elements.{All-pop, All-push}
+use Rattle.std.proofs.Common.{ap, refl, sym, subst, ◌∙◌}
+use Rattle.sp_main.specs.Folders.{IsBelow, IsClassPath, IsEntryName, joined, path_of}
 
 pub itself : (root : List ℕ) → IsBelow root root
-itself root = ([], sym (append-nil root))
+itself root = record { names = []; entries = tt; path_is = refl }
+
+-- one name more leads one folder further
+path_of-last : (root : List ℕ) (names : List (List ℕ)) (name : List ℕ) → path_of root (names ++ (name ∷ [])) ≡ joined (path_of root names) name
+path_of-last root [] name = refl
+path_of-last root (first ∷ names) name = path_of-last (joined root first) names name
 
 -- the path of a name in a folder that is below
-pub within : (root folder path slash name : List ℕ) → IsBelow root folder → path ≡ folder ++ (slash ++ name) → IsBelow root path
-within root folder path slash name below is =
-    (below.0 ++ (slash ++ name), is ∙ ap (λ front. front ++ (slash ++ name)) below.1 ∙ append_assoc root below.0 (slash ++ name))
+pub within : (root folder path name : List ℕ) → IsBelow root folder → IsEntryName name → path ≡ joined folder name → IsBelow root path
+within root folder path name below entry is =
+    record {
+      names = below.names ++ (name ∷ []);
+      entries = All-push IsEntryName below.names name below.entries entry;
+      path_is = is ∙ ap (λ (front : List ℕ). joined front name) below.path_is ∙ sym (path_of-last root below.names name)
+    }
 
 -- the path of a class file in a folder that is below
-pub class_within : (root folder path slash name stem : List ℕ) → IsBelow root folder → path ≡ folder ++ (slash ++ name)
+pub class_within : (root folder path name stem : List ℕ) → IsBelow root folder → IsEntryName name → path ≡ joined folder name
     → name ≡ stem ++ codes ".class" → IsClassPath root path
-unfolding within
-class_within root folder path slash name stem below is named =
-    let inner = within root folder path slash name below is in (
-      below.0 ++ (slash ++ stem),
-      inner.1 ∙ ap (λ rest. root ++ rest)
-          (ap (λ n. below.0 ++ (slash ++ n)) named
-          ∙ ap (λ rest. below.0 ++ rest) (sym (append_assoc slash stem (codes ".class")))
-          ∙ sym (append_assoc below.0 (slash ++ stem) (codes ".class"))),
-    )
+class_within root folder path name stem below entry is named =
+    record { parent = folder; below = below; name = name; entry = entry; stem = stem; is_class = named; path_is = is }
 
 -- what holds of all elements holds of the last one, which was taken off, and of the others
 pub popped : {X : Type 0} (P : X → Type 0) (xs ys : List X) (r : Option X) (x : X) → xs ≡ ys ++ option_to_list r → r ≡ Some x → All P xs → All P ys × P x

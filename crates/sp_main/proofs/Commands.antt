@@ -13,7 +13,7 @@ use Rattle.clap.specs.Simple.{Shape, built, entered, filled, help_rule, names_of
 use Rattle.clap.specs.Walk.{Held, Names, Outcome, Row, Rule, Text, Walk, after_flag, after_step, arg_by_index, arg_by_long, arg_by_short, attached_value, bundle_met, bundle_step, idle, long_or_other, nothing_held, plain, reacted, short_or_plain, subcommand_met, subcommand_or_other, takes_values, trailing, value, walk, walk_from, walked}
 use Rattle.clap.specs.declared.error.kind.ErrorKind.{ErrorKind}
 use Rattle.clap.specs.declared.error.kind.ErrorKind.TheVariants.{DisplayHelp, DisplayVersion, InvalidSubcommand, MissingSubcommand, TooManyValues, UnknownArgument}
-use Rattle.sp_main.specs.CommandLine.{IsComing, program}
+use Rattle.sp_main.specs.CommandLine.{program}
 
 -- where two steps pass, the first does
 first_passes : (a b : Kinds) → or_else a b ≡ [] → a ≡ []
@@ -111,22 +111,19 @@ same_text a b e = (bytes_eq-Decides a b).0 e
 
 -- the names of commands
 abbrev pub IsCommandName : Text → Type 0
-IsCommandName name = (name ≡ codes "run") ⊎ IsComing name
+IsCommandName name = (name ≡ codes "run") ⊎ (name ≡ codes "check")
 
 -- a command that is met has the name that stands there
 met_names : (word : Text) → IfSome (subcommand_met names idle word) (λ name. (name ≡ word) × IsCommandName name)
 unfolding clap_on_literals
-met_names word =
-    on (bytes_eq (codes "run") word) (bytes_eq (codes "check") word) (bytes_eq (codes "sim") word) (bytes_eq (codes "serve") word) (same_text _ word) (same_text _ word) (same_text _ word) (same_text _ word)
+met_names word = on (bytes_eq (codes "run") word) (bytes_eq (codes "check") word) (same_text _ word) (same_text _ word)
   where
-    on : (run check sim serve : Bool) → (run ≡ true → codes "run" ≡ word) → (check ≡ true → codes "check" ≡ word) → (sim ≡ true → codes "sim" ≡ word) → (serve ≡ true → codes "serve" ≡ word)
-        → IfSome (option_map (λ (s : Text × List Text). s.0) (cond (run || false) (Some (codes "run", [])) (cond (check || false) (Some (codes "check", [])) (cond (sim || false) (Some (codes "sim", []))
-        (cond (serve || false) (Some (codes "serve", [])) None))))) (λ name. (name ≡ word) × IsCommandName name)
-    on true check sim serve r c i v = (r refl, inl refl)
-    on false true sim serve r c i v = (c refl, inr (inl refl))
-    on false false true serve r c i v = (i refl, inr (inr (inl refl)))
-    on false false false true r c i v = (v refl, inr (inr (inr refl)))
-    on false false false false r c i v = tt
+    on : (run check : Bool) → (run ≡ true → codes "run" ≡ word) → (check ≡ true → codes "check" ≡ word)
+        → IfSome (option_map (λ (s : Text × List Text). s.0) (cond (run || false) (Some (codes "run", [])) (cond (check || false) (Some (codes "check", [])) None)))
+        (λ name. (name ≡ word) × IsCommandName name)
+    on true check r c = (r refl, inl refl)
+    on false true r c = (c refl, inr refl)
+    on false false r c = tt
 
 -- a command that was met is entered
 abbrev Opens : (rest : List Text) → Text → Type 0
@@ -135,9 +132,7 @@ Opens rest name = (rows : List Row) × (entered (built program) (Some (name, res
 opened : (name : Text) (rest : List Text) → IsCommandName name → Opens rest name
 unfolding clap_on_literals
 opened name rest (inl run) = subst (Opens rest) (sym run) (_, refl)
-opened name rest (inr (inl check)) = subst (Opens rest) (sym check) (_, refl)
-opened name rest (inr (inr (inl sim))) = subst (Opens rest) (sym sim) (_, refl)
-opened name rest (inr (inr (inr serve))) = subst (Opens rest) (sym serve) (_, refl)
+opened name rest (inr check) = subst (Opens rest) (sym check) (_, refl)
 
 -- behind `--` no word is a command, and one is missing
 dashed : (own : Text) (rest : List Text) → fault_of program (own ∷ codes "--" ∷ rest) ≡ [] → ⊥

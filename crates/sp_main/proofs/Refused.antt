@@ -28,7 +28,7 @@ unread_file : (files : List ClassBytes) (r : Refusal) → IsUnread files r → I
 unread_file files r (at_fault place file fault before at spelled why) = slice_get_within files place file at
 unread_file files r no_memory_to_read = tt
 
-no_program_file : (files : List ClassBytes) (r : Refusal) → IsNoProgram files r → IsRefusalOf files r
+pub no_program_file : (files : List ClassBytes) (r : Refusal) → IsNoProgram files r → IsRefusalOf files r
 no_program_file files r (unread refused why) = unread_file files refused why
 no_program_file files r (no_set classes fault spelled why) = tt
 no_program_file files r (not_linked classes set fault spelled has is why) = tt

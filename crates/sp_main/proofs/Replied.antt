@@ -1,14 +1,15 @@
 -- A report is a reply.
-use Rattle.std.proofs.Common.{◌≡◌, ◌⊎◌, ◌<◌, ◌∙◌, ℕ, List, Option, Result, Ok, Err, IfOk, ap, arith, inl, inr, subst}
-use Rattle.sp_main.specs.CommandLine.{AsksRun, AsksText, IsUsageFault, RunWords}
+use Rattle.std.proofs.Common.{◌≡◌, ◌⊎◌, ◌<◌, ◌∙◌, ℕ, List, Option, Result, Ok, Err, IfOk, ap, arith, inl, inr, length, refl, subst, sym}
+use Rattle.cls_link.specs.Links.{Links}
+use Rattle.sp_main.specs.CommandLine.{AsksCheck, AsksRun, AsksText, IsUsageFault, RunWords}
 use Rattle.sp_main.specs.Folders.{AreFilesOf, Telling}
-use Rattle.sp_main.specs.RefusalTexts.{TellsRefusal, unreadable_text}
-use Rattle.sp_main.specs.Replies.{IsReply, Replies, limits_of, mistaken, ran, refused, told, unreadable}
-use Rattle.sp_main.specs.Reports.{LeavesOther, Tells, line_of}
+use Rattle.sp_main.specs.RefusalTexts.{TellsRefusal, TellsUnreadable}
+use Rattle.sp_main.specs.Replies.{Fails, IsReply, Replies, accepted, limits_of, mistaken, ran, refused, rejected, replied, told, unreadable, unwritten}
+use Rattle.sp_main.specs.Reports.{IsTold, LeavesOther, line_of}
 use Rattle.sp_main.specs.Requests.{IsRequest, run_words}
-use Rattle.sp_main.specs.Runs.{IsRefused, IsRun}
+use Rattle.sp_main.specs.Runs.{IsNoProgram, IsProgram, IsRefused, IsRun}
 use Rattle.sp_main.specs.Statuses.{code_of, outcome_status, refusal_status}
-use Rattle.sp_main.specs.Texts.{outcome_text}
+use Rattle.sp_main.specs.Texts.{accepted_text, outcome_text}
 use Rattle.sp_main.specs.declared.refusal.Refusal.{Refusal}
 use Rattle.sp_main.specs.declared.report.Report.{Report}
 use Rattle.sp_main.specs.declared.running.ClassBytes.{ClassBytes}
@@ -16,7 +17,7 @@ use Rattle.sp_main.specs.declared.running.RunOutcome.{RunOutcome}
 use Rattle.sp_main.specs.declared.status.Status.{Status}
 use Rattle.sp_main.specs.declared.status.Status.TheVariants.{Done, Failed}
 use Rattle.sp_main.specs.declared.words.Request.{Request}
-use Rattle.sp_main.specs.declared.words.Request.TheVariants.{Run, Tell, Refuse}
+use Rattle.sp_main.specs.declared.words.Request.TheVariants.{Run, Check, Tell, Refuse}
 use Rattle.sp_main.specs.declared.words.RunRequest.{RunRequest}
 use Rattle.vm_step.specs.declared.limits.Limits.{Limits}
 
@@ -25,12 +26,12 @@ module _ {E : Type 0} (telling : Telling) (run : RunWords) (answer : Result Repo
   abbrev pub IsRunReply : Type 0
   IsRunReply = IfOk answer (λ report. (words : List (List ℕ)) → AsksRun words run → IsReply telling words report.status report.text.items)
 
--- a file or a folder that cannot be read
-pub unreadable_replied : {E : Type 0} (telling : Telling) (run : RunWords) (path : List ℕ) (answer : Result Report E)
-    → IfOk answer (λ report. report.status ≡ Failed) → IfOk answer (λ report. report.text.items ≡ line_of (unreadable_text path))
+-- a folder that cannot be read
+pub unreadable_replied : {E : Type 0} (telling : Telling) (run : RunWords) (answer : Result Report E)
+    → IfOk answer (λ report. report.status ≡ Failed) → IfOk answer (λ report. (path : List ℕ) × TellsUnreadable path report.text.items)
     → IsRunReply telling run answer
-unreadable_replied telling run path (Ok report) status text = λ words asks. unreadable run path asks status text
-unreadable_replied telling run path (Err e) status text = tt
+unreadable_replied telling run (Ok report) status text = λ words asks. unreadable run.folder text.0 (inl (run, asks, refl)) status text.1
+unreadable_replied telling run (Err e) status text = tt
 
 -- a run
 pub run_replied : {E : Type 0} (telling : Telling) (run : RunWords) (files read : List ClassBytes) (class method : List ℕ) (limits : Limits)
@@ -57,6 +58,34 @@ refusal_replied telling run files read class method limits refusal (Ok report) l
     (subst (λ (n : List ℕ). IsRefused read n method run.arguments limits refusal) ec
     (subst (λ (f : List ClassBytes). IsRefused f class method run.arguments limits refusal) ef is)))) status text
 refusal_replied telling run files read class method limits refusal (Err e) listed ef ec em el is status text = tt
+
+module _ {E : Type 0} (telling : Telling) (folder : List ℕ) (answer : Result Report E) where
+  -- the report is the reply to all words that ask for a check of the folder
+  abbrev pub IsCheckReply : Type 0
+  IsCheckReply = IfOk answer (λ report. (words : List (List ℕ)) → AsksCheck words folder → IsReply telling words report.status report.text.items)
+
+pub unreadable_checked : {E : Type 0} (telling : Telling) (folder : List ℕ) (answer : Result Report E)
+    → IfOk answer (λ report. report.status ≡ Failed) → IfOk answer (λ report. (path : List ℕ) × TellsUnreadable path report.text.items)
+    → IsCheckReply telling folder answer
+unreadable_checked telling folder (Ok report) status text = λ words asks. unreadable folder text.0 (inr asks) status text.1
+unreadable_checked telling folder (Err e) status text = tt
+
+pub accepted_checked : {E : Type 0} (telling : Telling) (folder : List ℕ) (files read : List ClassBytes) (count : ℕ) (answer : Result Report E)
+    → AreFilesOf telling folder read → files ≡ read → count ≡ length files → (program : Links) × IsProgram files program
+    → IfOk answer (λ report. report.status ≡ Done) → IfOk answer (λ report. report.text.items ≡ line_of (accepted_text count))
+    → IsCheckReply telling folder answer
+accepted_checked telling folder files read count (Ok report) listed same counted made status text =
+    λ words asks. accepted folder read made.0 asks listed (subst (λ (f : List ClassBytes). IsProgram f made.0) same made.1) status
+    (text ∙ ap (λ n. line_of (accepted_text n)) (counted ∙ ap length same))
+accepted_checked telling folder files read count (Err e) listed same counted made status text = tt
+
+pub refusal_checked : {E : Type 0} (telling : Telling) (folder : List ℕ) (files read : List ClassBytes) (refusal : Refusal) (answer : Result Report E)
+    → AreFilesOf telling folder read → files ≡ read → IsNoProgram files refusal
+    → IfOk answer (λ report. report.status ≡ refusal_status refusal) → IfOk answer (λ report. TellsRefusal read refusal report.text.items)
+    → IsCheckReply telling folder answer
+refusal_checked telling folder files read refusal (Ok report) listed same is status text =
+    λ words asks. rejected folder read refusal asks listed (subst (λ (f : List ClassBytes). IsNoProgram f refusal) same is) status text
+refusal_checked telling folder files read refusal (Err e) listed same is status text = tt
 
 module _ {E : Type 0} (telling : Telling) (words : List (List ℕ)) (request : Request) (answer : Result Report E) where
   -- a text that was asked for
@@ -97,12 +126,33 @@ module _ {E : Type 0} (telling : Telling) (words : List (List ℕ)) (request : R
       go (Ok report) replies = replies words asks_run
       go (Err e) replies = tt
 
--- a report that was written
+  -- a check that was asked for
+  pub check_replied : (folder : _) → IsRequest words request → request ≡ Check folder → IsCheckReply telling folder.now answer
+      → IfOk answer (λ report. IsReply telling words report.status report.text.items)
+  check_replied folder asks is replies = go answer replies
+    where
+      asks_check : AsksCheck words folder.now
+      asks_check = subst (λ (r : Request). IsRequest words r) is asks
+
+      go : (answer : Result Report E) → IsCheckReply telling folder.now answer → IfOk answer (λ report. IsReply telling words report.status report.text.items)
+      go (Ok report) replies = replies words asks_check
+      go (Err e) replies = tt
+
+-- a report that was written, whole or not
 pub written_replied : (telling : Telling) (words : List (List ℕ)) (report : Report) (status : Status) (number : ℕ) (out out' err err' : Option (List ℕ))
     → IsReply telling words report.status report.text.items → number ≡ code_of status → LeavesOther report.status out out' err err'
-    → (status ≡ Failed) ⊎ ((status ≡ report.status) × Tells report.status report.text.items out out' err err') → number < 3
+    → IsTold report.status report.text.items status out out' err err' → number < 3
     → Replies telling words number out out' err err'
-written_replied telling words report status number out out' err err' reply is left (inl failed) below =
-    let three : number ≡ 3 = is ∙ ap code_of failed in absurd (omega (arith, three, below))
-written_replied telling words report status number out out' err err' reply is left (inr done) below =
+written_replied telling words report status number out out' err err' reply is left (inr cut) below =
+    let three : number ≡ 3 = is ∙ ap code_of cut.0 in absurd (omega (arith, three, below))
+written_replied telling words report status number out out' err err' reply is left (inl done) below =
     record { status = report.status; text = report.text.items; reply = reply; code = is ∙ ap code_of done.0; told = done.1; left = left }
+
+pub written_failed : (telling : Telling) (words : List (List ℕ)) (report : Report) (status : Status) (number : ℕ) (out out' err err' : Option (List ℕ))
+    → IsReply telling words report.status report.text.items → number ≡ code_of status → LeavesOther report.status out out' err err'
+    → IsTold report.status report.text.items status out out' err err' → number ≡ 3
+    → Fails telling words out out' err err'
+written_failed telling words report status number out out' err err' reply is left (inr cut) three =
+    unwritten report.status report.text.items reply cut.1 left
+written_failed telling words report status number out out' err err' reply is left (inl done) three =
+    replied (record { status = report.status; text = report.text.items; reply = reply; code = sym three ∙ is ∙ ap code_of done.0; told = done.1; left = left })

@@ -5,17 +5,17 @@ use Rattle.clap.specs.Faults.{fault_of, is_simple_and_free}
 use Rattle.clap.specs.Kinds.{HasKind, IsAmong}
 use Rattle.clap.specs.Simple.{App, HasMatchesOf, app_of, is_simple, subcommand_of, subcommand_rows_of}
 use Rattle.clap.specs.Values.{kind_of}
-use Rattle.clap.specs.Walk.{Row}
+use Rattle.clap.specs.Walk.{Row, first_of}
 use Rattle.clap.specs.declared.builder.command.Command.{Command}
 use Rattle.clap.specs.declared.error.Error.{Error}
 use Rattle.clap.specs.declared.error.kind.ErrorKind.{ErrorKind}
 use Rattle.clap.specs.declared.error.kind.ErrorKind.TheVariants.{DisplayHelp, DisplayVersion, OutOfMemory}
 use Rattle.clap.specs.declared.parser.matches.ArgMatches.{ArgMatches}
-use Rattle.sp_main.specs.CommandLine.{IsComing, mistaken, program, senseless}
-use Rattle.sp_main.specs.Requests.{IsAsked, IsRequest, IsRunFound, IsUnasked}
+use Rattle.sp_main.specs.CommandLine.{AreRunWords, mistaken, program, senseless}
+use Rattle.sp_main.specs.Requests.{Found, IsAsked, IsCommandFound, IsRequest, IsUnasked, check, run}
 use Rattle.sp_main.proofs.Commands.{Enters, IsCommandName, taken_enters}
 use Rattle.sp_main.specs.declared.words.Request.{Request}
-use Rattle.sp_main.specs.declared.words.Request.TheVariants.{Run, Tell, Refuse}
+use Rattle.sp_main.specs.declared.words.Request.TheVariants.{Run, Check, Tell, Refuse}
 
 -- the program is a command of which the parser's answer is known
 program_is_simple : is_simple program ≡ true
@@ -26,11 +26,30 @@ program_is_free : is_simple_and_free program ≡ true
 unfolding clap_on_literals
 program_is_free = refl
 
-asked_request : (words : List (List ℕ)) (found : Option (List ℕ × List Row)) (request : Request) → fault_of program words ≡ [] → found ≡ subcommand_of program words
+-- the words after one command
+same_rows : (name : List ℕ) (rows others : List Row) → Some (name, rows) ≡ Some (name, others) → rows ≡ others
+same_rows name rows others is = cc
+
+-- `run` is not `check`
+no_check : (found : Found) (rows : List Row) → found ≡ Some (codes "run", rows) → (others : List Row) → found ≡ Some (codes "check", others) → ⊥
+no_check found rows is others other = cc
+
+asked_request : (words : List (List ℕ)) (found : Found) (request : Request) → fault_of program words ≡ [] → found ≡ subcommand_of program words
     → IsAsked found request → IsRequest words request
-asked_request words found (Run request) taken is asked = record { taken = taken; rows = asked.0; command = sym is ∙ asked.1; asked = asked.2 }
-asked_request words found (Tell text) taken is asked = absurd asked
-asked_request words found (Refuse text) taken is asked = senseless taken (λ run asks. asked asks.rows (is ∙ asks.command) run asks.asked)
+asked_request words found (Run request) taken is (run rows command asked) = record { taken = taken; rows = rows; command = sym is ∙ command; asked = asked }
+asked_request words found (Run request) taken is (check rows command asked) = absurd asked
+asked_request words found (Check folder) taken is (run rows command asked) = absurd asked
+asked_request words found (Check folder) taken is (check rows command asked) = record { taken = taken; rows = rows; command = sym is ∙ command; asked = asked }
+asked_request words found (Tell text) taken is (run rows command asked) = absurd asked
+asked_request words found (Tell text) taken is (check rows command asked) = absurd asked
+asked_request words found (Refuse text) taken is (run rows command asked) =
+    senseless taken
+    (λ wanted asks. asked wanted (subst (λ (r : List Row). AreRunWords r wanted) (same_rows (codes "run") asks.rows rows (sym asks.command ∙ sym is ∙ command)) asks.asked))
+    (λ folder asks. no_check found rows command asks.rows (is ∙ asks.command))
+asked_request words found (Refuse text) taken is (check rows command asked) =
+    senseless taken
+    (λ wanted asks. no_check found asks.rows (is ∙ asks.command) rows command)
+    (λ folder asks. asked folder (subst (λ (r : List Row). first_of (codes "folder") r ≡ Some folder) (same_rows (codes "check") asks.rows rows (sym asks.command ∙ sym is ∙ command)) asks.asked))
 
 -- the parser takes the words
 pub taken_words : {E : Type 0} (words : List (List ℕ)) (command : Command) (matches : ArgMatches) (answer : Result Request E) → app_of command ≡ program
@@ -41,20 +60,17 @@ taken_words words command matches (Ok request) is matched taken asked =
     asked_request words (subcommand_rows_of matches) request (sym (ap (λ (a : App). fault_of a words) is) ∙ taken (ap is_simple_and_free is ∙ program_is_free))
     ((matched (ap is_simple is ∙ program_is_simple)).1 ∙ ap (λ (a : App). subcommand_of a words) is) asked
 
--- where the words begin with no command that has not come yet, the parser that takes them found `run`
-pub run_found : (words : List (List ℕ)) (command : Command) (matches : ArgMatches) → app_of command ≡ program → HasMatchesOf (app_of command) words matches
-    → (is_simple_and_free (app_of command) ≡ true → fault_of (app_of command) words ≡ []) → ((name : List ℕ) → slice_get words 1 ≡ Some name → IsComing name → ⊥)
-    → IsRunFound (subcommand_rows_of matches)
-run_found words command matches is matched taken none =
+-- the parser that takes the words found a command
+pub command_found : (words : List (List ℕ)) (command : Command) (matches : ArgMatches) → app_of command ≡ program → HasMatchesOf (app_of command) words matches
+    → (is_simple_and_free (app_of command) ≡ true → fault_of (app_of command) words ≡ []) → IsCommandFound (subcommand_rows_of matches)
+command_found words command matches is matched taken =
     let begun : Enters words = taken_enters words (sym (ap (λ (a : App). fault_of a words) is) ∙ taken (ap is_simple_and_free is ∙ program_is_free)) in
-    let found : subcommand_rows_of matches ≡ subcommand_of program words = (matched (ap is_simple is ∙ program_is_simple)).1 ∙ ap (λ (a : App). subcommand_of a words) is in (
-      begun.rows,
-      found ∙ begun.enters ∙ ap (λ (name : List ℕ). Some (name, begun.rows)) (only_run begun.name begun.is (none begun.name begun.first)),
-    )
+    let found : subcommand_rows_of matches ≡ subcommand_of program words = (matched (ap is_simple is ∙ program_is_simple)).1 ∙ ap (λ (a : App). subcommand_of a words) is in
+    on begun.name begun.rows begun.is (found ∙ begun.enters)
   where
-    only_run : (name : List ℕ) → IsCommandName name → (IsComing name → ⊥) → name ≡ codes "run"
-    only_run name (inl run) not = run
-    only_run name (inr coming) not = absurd (not coming)
+    on : (name : List ℕ) (rows : List Row) → IsCommandName name → subcommand_rows_of matches ≡ Some (name, rows) → IsCommandFound (subcommand_rows_of matches)
+    on name rows (inl run) found = inl (rows, found ∙ ap (λ (n : List ℕ). Some (n, rows)) run)
+    on name rows (inr check) found = inr (rows, found ∙ ap (λ (n : List ℕ). Some (n, rows)) check)
 
 -- a kind that is told is among those that may come
 kind_among : (kind : ErrorKind) (error : Error) (kinds : List ErrorKind) → (kind ≡ OutOfMemory → ⊥) → kind_of error ≡ kind → HasKind kinds error → IsAmong kind kinds
@@ -63,6 +79,7 @@ kind_among kind error kinds has is (inr among) = subst (λ (k : ErrorKind). IsAm
 
 unasked_request : (words : List (List ℕ)) (error : Error) (request : Request) → HasKind (fault_of program words) error → IsUnasked (kind_of error) request → IsRequest words request
 unasked_request words error (Run request) has unasked = absurd unasked
+unasked_request words error (Check folder) has unasked = absurd unasked
 unasked_request words error (Tell text) has (inl help) = inl (kind_among DisplayHelp error _ (λ e. cc) help has)
 unasked_request words error (Tell text) has (inr version) = inr (kind_among DisplayVersion error _ (λ e. cc) version has)
 unasked_request words error (Refuse text) has unasked = mistaken (kind_of error) (kind_among (kind_of error) error _ unasked.0 refl has) unasked.1 unasked.2

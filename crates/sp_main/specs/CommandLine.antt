@@ -1,5 +1,5 @@
 -- The command line: what its parser is told, and what words ask for.
-use Rattle.std.specs.Prelude.{◌≡◌, ◌≢◌, ◌⊎◌, ◌<◌, ◌^◌, ◌∷◌, [], ℕ, true, false, List, Option, Some, None, codes, slice_get, unwrap_or}
+use Rattle.std.specs.Prelude.{◌≡◌, ◌≢◌, ◌⊎◌, ◌<◌, ◌^◌, ◌∷◌, [], ℕ, true, false, List, Option, Some, None, codes, unwrap_or}
 use Rattle.std.specs.List.{AllZip}
 use Rattle.std.specs.Str.Parse.{IsNumeral, digits_value}
 use Rattle.clap.specs.Faults.{fault_of}
@@ -35,6 +35,10 @@ run_shape = record (new_shape (codes "run")) {
   rules = wanted_rule (codes "folder") ∷ wanted_rule (codes "class") ∷ wanted_rule (codes "method") ∷ arguments_rule ∷ fuel_rule ∷ [];
 }
 
+-- `check FOLDER`
+abbrev pub check_shape : Shape
+check_shape = record (new_shape (codes "check")) { rules = wanted_rule (codes "folder") ∷ [] }
+
 abbrev pub program_shape : Shape
 program_shape = record (new_shape (codes "rmispace")) {
   is_leaf = false;
@@ -43,12 +47,9 @@ program_shape = record (new_shape (codes "rmispace")) {
   disable_help_subcommand = true;
 }
 
--- the program: a command that runs, and those that have not come yet
+-- the program and its commands
 abbrev pub program : App
-program = record {
-  top = program_shape;
-  subs = run_shape ∷ new_shape (codes "check") ∷ new_shape (codes "sim") ∷ new_shape (codes "serve") ∷ [];
-}
+program = record { top = program_shape; subs = run_shape ∷ check_shape ∷ [] }
 
 -- what a run is asked for
 pub record RunWords : Type 0 where
@@ -68,7 +69,7 @@ IsSaidFuel None fuel = fuel ≡ None
 IsSaidFuel (Some word) (Some n) = IsFuel word n
 IsSaidFuel (Some word) None = ⊥
 
--- the words behind `run`, each by the name of its place
+-- the words after `run`, each by its name
 pub record AreRunWords (rows : List Row) (run : RunWords) : Type 0 where
   pub folder : first_of (codes "folder") rows ≡ Some run.folder
   pub class : first_of (codes "class") rows ≡ Some run.class
@@ -83,16 +84,18 @@ pub record AsksRun (words : List (List ℕ)) (run : RunWords) : Type 0 where
   pub command : subcommand_of program words ≡ Some (codes "run", rows)
   pub asked : AreRunWords rows run
 
+-- the words ask for a check of the class files of a folder
+pub record AsksCheck (words : List (List ℕ)) (folder : List ℕ) : Type 0 where
+  pub taken : fault_of program words ≡ []
+  pub rows : List Row
+  pub command : subcommand_of program words ≡ Some (codes "check", rows)
+  pub asked : first_of (codes "folder") rows ≡ Some folder
+
 -- the words ask for help, or for the version
 abbrev pub AsksText : List (List ℕ) → Type 0
 AsksText words = IsAmong DisplayHelp (fault_of program words) ⊎ IsAmong DisplayVersion (fault_of program words)
 
--- the commands that have not come yet
-abbrev pub IsComing : List ℕ → Type 0
-IsComing name = (name ≡ codes "check") ⊎ ((name ≡ codes "sim") ⊎ (name ≡ codes "serve"))
-
--- why nothing is done for words: they do not parse, they name a command that has not come yet, or no values or no fuel
+-- why nothing is done for words: they do not parse, or they name no values or no fuel
 pub data IsUsageFault (words : List (List ℕ)) : Type 0 where
   mistaken : (kind : ErrorKind) → IsAmong kind (fault_of program words) → kind ≢ DisplayHelp → kind ≢ DisplayVersion → IsUsageFault words
-  coming : (name : List ℕ) → slice_get words 1 ≡ Some name → IsComing name → IsUsageFault words
-  senseless : fault_of program words ≡ [] → ((run : RunWords) → AsksRun words run → ⊥) → IsUsageFault words
+  senseless : fault_of program words ≡ [] → ((run : RunWords) → AsksRun words run → ⊥) → ((folder : List ℕ) → AsksCheck words folder → ⊥) → IsUsageFault words

@@ -1,6 +1,6 @@
--- What is printed of a refusal, a line each: `cannot read PATH`, `refused PATH at OFFSET: N NAME`, `refused CLASS: N NAME`,
+-- What is printed of a refusal, a line each: `cannot read PATH`, `cannot read PATH: not a folder`, `refused PATH at OFFSET: N NAME`, `refused CLASS: N NAME`,
 -- `refused CLASS.METHODDESCRIPTOR at OFFSET: N NAME` or `refused start: N NAME`.
-use Rattle.std.specs.Prelude.{◌≡◌, ◌≢◌, ◌<◌, ◌++◌, ℕ, List, codes, length, slice_get}
+use Rattle.std.specs.Prelude.{◌≡◌, ◌≢◌, ◌⊎◌, ◌<◌, ◌++◌, ℕ, List, codes, length, slice_get}
 use Rattle.std.specs.Fmt.{decimal}
 use Rattle.std.specs.Option.{IsSomeAnd}
 use Rattle.std.specs.String.{string_bytes}
@@ -29,6 +29,10 @@ use Rattle.vm_step.specs.declared.fault.StartFault.TheVariants as start
 -- a file or a folder that cannot be read
 abbrev pub unreadable_text : (path : List ℕ) → List ℕ
 unreadable_text path = codes "cannot read " ++ path
+
+-- a folder that cannot be read, or that is none
+abbrev pub TellsUnreadable : (path text : List ℕ) → Type 0
+TellsUnreadable path text = (text ≡ line_of (unreadable_text path)) ⊎ (text ≡ line_of (unreadable_text path ++ codes ": not a folder"))
 
 -- what is refused, and behind it the number of a rule, in decimal, and its name
 abbrev pub rule_text : (refused : List ℕ) → (number : ℕ) → (name : List ℕ) → List ℕ

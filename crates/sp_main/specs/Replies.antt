@@ -1,12 +1,13 @@
 -- What the program answers to its words.
-use Rattle.std.specs.Prelude.{◌≡◌, ℕ, List, Option, unwrap_or}
-use Rattle.sp_main.specs.CommandLine.{AsksRun, AsksText, IsUsageFault, RunWords}
+use Rattle.std.specs.Prelude.{◌≡◌, ◌⊎◌, ℕ, List, Option, codes, length, unwrap_or}
+use Rattle.cls_link.specs.Links.{Links}
+use Rattle.sp_main.specs.CommandLine.{AsksCheck, AsksRun, AsksText, IsUsageFault, RunWords}
 use Rattle.sp_main.specs.Folders.{AreFilesOf, Telling}
-use Rattle.sp_main.specs.RefusalTexts.{TellsRefusal, unreadable_text}
-use Rattle.sp_main.specs.Reports.{LeavesOther, Tells, line_of}
-use Rattle.sp_main.specs.Runs.{IsRefused, IsRun}
+use Rattle.sp_main.specs.RefusalTexts.{TellsRefusal, TellsUnreadable}
+use Rattle.sp_main.specs.Reports.{CutsOff, IsTold, LeavesOther, Tells, line_of}
+use Rattle.sp_main.specs.Runs.{IsNoProgram, IsProgram, IsRefused, IsRun}
 use Rattle.sp_main.specs.Statuses.{code_of, outcome_status, refusal_status}
-use Rattle.sp_main.specs.Texts.{outcome_text}
+use Rattle.sp_main.specs.Texts.{accepted_text, outcome_text}
 use Rattle.sp_main.specs.declared.refusal.Refusal.{Refusal}
 use Rattle.sp_main.specs.declared.running.ClassBytes.{ClassBytes}
 use Rattle.sp_main.specs.declared.running.RunOutcome.{RunOutcome}
@@ -18,15 +19,23 @@ use Rattle.vm_step.specs.declared.limits.Limits.{Limits}
 abbrev pub limits_of : Option ℕ → Limits
 limits_of fuel = record { heap_words = 65536; stack_words = 16384; references = 1024; fuel = unwrap_or fuel 1000000 }
 
--- A text is the answer to words, with a status: what they asked to be told, why they are refused, that a file or a folder cannot be read,
--- how the method ended over the class files of the folder, or why they are not run. What a folder tells is given
+-- the words ask for something of a folder
+abbrev pub AsksOf : List (List ℕ) → List ℕ → Type 0
+AsksOf words folder = ((run : RunWords) × AsksRun words run × (folder ≡ run.folder)) ⊎ AsksCheck words folder
+
+-- A text is the answer to words, with a status: what they asked to be told, why they are refused, that a folder cannot be read, how the
+-- method ended over the class files of the folder, or why they are not run, or that they are accepted, or why not. What a folder tells is given
 pub data IsReply (telling : Telling) (words : List (List ℕ)) (status : Status) (text : List ℕ) : Type 0 where
   told : AsksText words → status ≡ Done → (said : List ℕ) → text ≡ line_of said → IsReply telling words status text
   mistaken : IsUsageFault words → status ≡ Failed → (said : List ℕ) → text ≡ line_of said → IsReply telling words status text
-  unreadable : (run : RunWords) (path : List ℕ) → AsksRun words run → status ≡ Failed → text ≡ line_of (unreadable_text path) → IsReply telling words status text
+  unreadable : (folder path : List ℕ) → AsksOf words folder → status ≡ Failed → TellsUnreadable path text → IsReply telling words status text
   ran : (run : RunWords) (files : List ClassBytes) (outcome : RunOutcome) → AsksRun words run → AreFilesOf telling run.folder files
       → IsRun files run.class run.method run.arguments (limits_of run.fuel) outcome
       → status ≡ outcome_status outcome → text ≡ line_of (outcome_text outcome) → IsReply telling words status text
+  accepted : (folder : List ℕ) (files : List ClassBytes) (program : Links) → AsksCheck words folder → AreFilesOf telling folder files → IsProgram files program
+      → status ≡ Done → text ≡ line_of (accepted_text (length files)) → IsReply telling words status text
+  rejected : (folder : List ℕ) (files : List ClassBytes) (refusal : Refusal) → AsksCheck words folder → AreFilesOf telling folder files → IsNoProgram files refusal
+      → status ≡ refusal_status refusal → TellsRefusal files refusal text → IsReply telling words status text
   refused : (run : RunWords) (files : List ClassBytes) (refusal : Refusal) → AsksRun words run → AreFilesOf telling run.folder files
       → IsRefused files run.class run.method run.arguments (limits_of run.fuel) refusal
       → status ≡ refusal_status refusal → TellsRefusal files refusal text → IsReply telling words status text
@@ -39,3 +48,11 @@ pub record Replies (telling : Telling) (words : List (List ℕ)) (number : ℕ) 
   pub code : number ≡ code_of status
   pub told : Tells status text out out' err err'
   pub left : LeavesOther status out out' err err'
+
+-- What status 3 stands for: a reply of that status was told, memory ran out, or the output of a reply failed in its
+-- middle. Standard output is left alone unless an answer was due there
+pub data Fails (telling : Telling) (words : List (List ℕ)) (out out' err err' : Option (List ℕ)) : Type 0 where
+  replied : Replies telling words 3 out out' err err' → Fails telling words out out' err err'
+  exhausted : out' ≡ out → IsTold Failed (line_of (codes "no memory")) Failed out out' err err' → Fails telling words out out' err err'
+  unwritten : (status : Status) (text : List ℕ) → IsReply telling words status text → CutsOff status text out out' err err'
+      → LeavesOther status out out' err err' → Fails telling words out out' err err'

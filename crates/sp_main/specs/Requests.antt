@@ -1,15 +1,15 @@
 -- What the program makes of its words: a request for what they ask.
 use Rattle.std.specs.Prelude.{◌≡◌, ◌≢◌, ◌⊎◌, ℕ, List, false, Option, Some, codes}
 use Rattle.clap.specs.Simple.{Shape, shape_of}
-use Rattle.clap.specs.Walk.{Row, Rule, rule_of}
+use Rattle.clap.specs.Walk.{Row, Rule, first_of, rule_of}
 use Rattle.clap.specs.declared.builder.arg.Arg.{Arg}
 use Rattle.clap.specs.declared.builder.command.Command.{Command}
 use Rattle.clap.specs.declared.builder.command.Command.TheViews.{out-Command}
 use Rattle.clap.specs.declared.error.kind.ErrorKind.{ErrorKind}
 use Rattle.clap.specs.declared.error.kind.ErrorKind.TheVariants.{DisplayHelp, DisplayVersion, OutOfMemory}
-use Rattle.sp_main.specs.CommandLine.{AreRunWords, AsksRun, AsksText, IsUsageFault, RunWords}
+use Rattle.sp_main.specs.CommandLine.{AreRunWords, AsksCheck, AsksRun, AsksText, IsUsageFault, RunWords}
 use Rattle.sp_main.specs.declared.words.Request.{Request}
-use Rattle.sp_main.specs.declared.words.Request.TheVariants.{Run, Tell, Refuse}
+use Rattle.sp_main.specs.declared.words.Request.TheVariants.{Run, Check, Tell, Refuse}
 use Rattle.sp_main.specs.declared.words.RunRequest.{RunRequest}
 
 -- what a request asks for
@@ -25,33 +25,51 @@ run_words request = record {
 -- the request is what the words ask for
 abbrev pub IsRequest : List (List ℕ) → Request → Type 0
 IsRequest words (Run request) = AsksRun words (run_words request)
+IsRequest words (Check folder) = AsksCheck words folder.now
 IsRequest words (Tell text) = AsksText words
 IsRequest words (Refuse text) = IsUsageFault words
 
--- the request is what the words behind `run` ask for
+-- the request is what the words after `run` ask for
 abbrev pub IsRunRequest : List Row → Request → Type 0
 IsRunRequest rows (Run request) = AreRunWords rows (run_words request)
+IsRunRequest rows (Check folder) = ⊥
 IsRunRequest rows (Tell text) = ⊥
 IsRunRequest rows (Refuse text) = (run : RunWords) → AreRunWords rows run → ⊥
 
--- the parser found `run`, and words behind it
-abbrev pub IsRunFound : Option (List ℕ × List Row) → Type 0
-IsRunFound found = (rows : List Row) × (found ≡ Some (codes "run", rows))
+-- the request is what the words after `check` ask for
+abbrev pub IsCheckRequest : List Row → Request → Type 0
+IsCheckRequest rows (Run request) = ⊥
+IsCheckRequest rows (Check folder) = first_of (codes "folder") rows ≡ Some folder.now
+IsCheckRequest rows (Tell text) = ⊥
+IsCheckRequest rows (Refuse text) = (folder : List ℕ) → first_of (codes "folder") rows ≡ Some folder → ⊥
 
--- the request is what words ask for in which the parser found this command, and the words behind it
-abbrev pub IsAsked : Option (List ℕ × List Row) → Request → Type 0
-IsAsked found (Run request) = (rows : List Row) × (found ≡ Some (codes "run", rows)) × AreRunWords rows (run_words request)
-IsAsked found (Tell text) = ⊥
-IsAsked found (Refuse text) = (rows : List Row) → found ≡ Some (codes "run", rows) → (run : RunWords) → AreRunWords rows run → ⊥
+-- what the parser found: a command, and the words after it
+abbrev pub Found : Type 0
+Found = Option (List ℕ × List Row)
+
+-- the parser found the command of this name
+abbrev pub IsFound : List ℕ → Found → Type 0
+IsFound name found = (rows : List Row) × (found ≡ Some (name, rows))
+
+-- the parser found one of the commands
+abbrev pub IsCommandFound : Found → Type 0
+IsCommandFound found = IsFound (codes "run") found ⊎ IsFound (codes "check") found
+
+-- the request is what words ask for in which the parser found this command
+pub data IsAsked (found : Found) (request : Request) : Type 0 where
+  run : (rows : List Row) → found ≡ Some (codes "run", rows) → IsRunRequest rows request → IsAsked found request
+  check : (rows : List Row) → found ≡ Some (codes "check", rows) → IsCheckRequest rows request → IsAsked found request
 
 -- the request is what words ask for in which the parser found this amiss
 abbrev pub IsUnasked : ErrorKind → Request → Type 0
 IsUnasked kind (Run request) = ⊥
+IsUnasked kind (Check folder) = ⊥
 IsUnasked kind (Tell text) = (kind ≡ DisplayHelp) ⊎ (kind ≡ DisplayVersion)
 IsUnasked kind (Refuse text) = (kind ≢ OutOfMemory) × (kind ≢ DisplayHelp) × (kind ≢ DisplayVersion)
 
 abbrev pub IsRefusing : Request → Type 0
 IsRefusing (Run request) = ⊥
+IsRefusing (Check folder) = ⊥
 IsRefusing (Tell text) = ⊥
 IsRefusing (Refuse text) = Unit {0}
 

@@ -1,6 +1,6 @@
--- What is printed of how a method ended.
+-- What is printed of how a method ended, and of a class set that is accepted.
 use Rattle.std.specs.Prelude.{◌++◌, ◌∷◌, [], ℕ, ℤ, Some, None, List, codes}
-use Rattle.std.specs.Fmt.{signed_decimal}
+use Rattle.std.specs.Fmt.{decimal, signed_decimal}
 use Rattle.sp_main.specs.declared.running.RunOutcome.{RunOutcome}
 use Rattle.sp_main.specs.declared.running.RunOutcome.TheVariants.{Returned, Threw, Spent}
 use Rattle.space_ids.specs.declared.value.Value.{Value}
@@ -26,6 +26,10 @@ value_text Null = codes "null"
 value_text (Int n) = signed_decimal n
 value_text (Ints ns) = ints_text ns
 value_text (Ref r) = codes "ref"
+
+-- a class set that is accepted, by how many files there are
+abbrev pub accepted_text : ℕ → List ℕ
+accepted_text files = codes "accepted " ++ decimal files ++ codes " classes"
 
 -- how a method ended
 abbrev pub outcome_text : RunOutcome → List ℕ

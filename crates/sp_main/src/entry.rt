@@ -1,14 +1,19 @@
 //! The program as a function of its words, a folder and its standard streams.
 
 ghost use Rattle.std.specs.Prelude.{◌≡◌, ◌<◌, ◌≤◌, ◌^◌, ℕ, List, map, string_bytes, IfOk, IfSome};
-ghost use Rattle.sp_main.specs.CommandLine.{AsksRun};
-ghost use Rattle.sp_main.specs.Folders.{AreRead, IsContent, told_by};
-ghost use Rattle.sp_main.specs.Replies.{IsReply, Replies};
+ghost use Rattle.sp_main.specs.CommandLine.{AsksCheck, AsksRun};
+ghost use Rattle.sp_main.specs.Folders.{AreFilesOf, AreRead, IsContent, told_by};
+ghost use Rattle.sp_main.specs.Replies.{Fails, IsReply, Replies};
 ghost use Rattle.sp_main.specs.Requests.{run_words};
 
-use super::texts::{outcome_report, refusal_report, text_report, unreadable_report};
+use super::report::write_text;
+use super::texts::{
+    accepted_report, folder_report, outcome_report, refusal_report, text_report,
+};
 use super::words::{Request, RunRequest, request_of};
-use super::{ClassBytes, Content, Folder, FolderFault, Report, Status, run_classes};
+use super::{
+    ClassBytes, Content, Folder, FolderFault, Report, Status, check_classes, run_classes,
+};
 use cf_reader::MAX_LEN;
 use dev_io::{ReadError, StdSource, read_bytes};
 use std::alloc::{AllocError, Global};
@@ -18,9 +23,12 @@ use vm_step::Limits;
 /// Does what the words ask for, of which the first is the program's own name, and answers the exit
 /// status. What it prints is made whole before its first byte is written.
 ///
-/// 0: a method returned, or a text was told. 1: the method threw, or its fuel was spent. 2: the
-/// class set is refused. 3: the words, the device or the start are at fault, memory ran out, or what
-/// was printed could not be written.
+/// | Status | Says |
+/// |---|---|
+/// | 0 | a method returned, a class set is accepted, or a text was told |
+/// | 1 | the method threw, or its fuel was spent |
+/// | 2 | the class set is refused |
+/// | 3 | the words, the device or the start are at fault, memory ran out, or an output failed |
 pub fn command<F: Folder, I: Read, O: Write, E: Write>(
     alloc: Global,
     words: &[String],
@@ -37,13 +45,13 @@ pub fn command<F: Folder, I: Read, O: Write, E: Write>(
     // Answers go to the one output, faults to the other.
     ensures answers { result < 2 → E.contents err.new ≡ E.contents err.old }
     ensures refused { result ≡ 2 → O.contents out.new ≡ O.contents out.old }
+    // Status 3 says what failed. Nothing is printed on standard output but the front of an answer that was due there.
+    ensures failed { result ≡ 3 → Fails (told_by (F.lists folder.now) (F.gives folder.now)) (map string_bytes words.now)
+        (O.contents out.old) (O.contents out.new) (E.contents err.old) (E.contents err.new) }
 {
     match report_of(alloc, words, folder) {
         Ok(report) => report.write(out, err).code(),
-        Err(AllocError) => {
-            let _ = err.write_all(b"no memory\n");
-            Status::Failed.code()
-        }
+        Err(AllocError) => write_text(Status::Failed, b"no memory\n", out, err).code(),
     }
 }
 
@@ -54,6 +62,7 @@ fn report_of<F: Folder>(alloc: Global, words: &[String], folder: &F) -> Result<R
         Request::Tell(text) => text_report(alloc, &text, Status::Done),
         Request::Refuse(text) => text_report(alloc, &text, Status::Failed),
         Request::Run(request) => run_report(alloc, request, folder),
+        Request::Check(path) => check_report(alloc, path, folder),
     }
 }
 
@@ -65,12 +74,10 @@ fn run_report<F: Folder>(
     requires { IfSome request.fuel (λ fuel. fuel < 2 ^ 63) }
     ensures { IfOk result (λ report. (words : List (List ℕ)) → AsksRun words (run_words request.entry) → IsReply (told_by (F.lists folder.now) (F.gives folder.now)) words report.status report.text.items) }
 {
-    let paths = match folder.paths(request.folder) {
-        Ok(paths) => paths,
-        Err(FolderFault::CannotRead(path)) => return unreadable_report(alloc, &path),
-        Err(FolderFault::Memory) => return Err(AllocError),
+    let files = match class_files(alloc, folder, request.folder)? {
+        Ok(files) => files,
+        Err(fault) => return folder_report(alloc, fault),
     };
-    let files = read_contents(alloc, folder, paths)?;
     let mut limits = Limits::default();
     limits.fuel = request.fuel.unwrap_or(limits.fuel);
     let class = request.class.as_bytes();
@@ -78,6 +85,33 @@ fn run_report<F: Folder>(
     match run_classes(alloc, &files, class, method, request.arguments, limits) {
         Ok(outcome) => outcome_report(alloc, &outcome),
         Err(refusal) => refusal_report(alloc, &files, &refusal),
+    }
+}
+
+fn check_report<F: Folder>(alloc: Global, path: &str, folder: &F) -> Result<Report, AllocError>
+    ensures { IfOk result (λ report. (words : List (List ℕ)) → AsksCheck words path.now → IsReply (told_by (F.lists folder.now) (F.gives folder.now)) words report.status report.text.items) }
+{
+    let files = match class_files(alloc, folder, path)? {
+        Ok(files) => files,
+        Err(fault) => return folder_report(alloc, fault),
+    };
+    match check_classes(alloc, &files) {
+        Ok(count) => accepted_report(alloc, count),
+        Err(refusal) => refusal_report(alloc, &files, &refusal),
+    }
+}
+
+// The class files of a folder, or why they cannot be told.
+fn class_files<F: Folder>(
+    alloc: Global,
+    folder: &F,
+    path: &str,
+) -> Result<Result<Vec<ClassBytes>, FolderFault>, AllocError>
+    ensures { IfOk result (λ told. IfOk told (λ files. AreFilesOf (told_by (F.lists folder.now) (F.gives folder.now)) path.now files.items)) }
+{
+    match folder.paths(path) {
+        Ok(paths) => Ok(Ok(read_contents(alloc, folder, paths)?)),
+        Err(fault) => Ok(Err(fault)),
     }
 }
 

@@ -1,12 +1,12 @@
 //! Where the program finds class files: a trait, so that tests read from memory, and the disk.
 
-ghost use Rattle.std.specs.Prelude.{◌≡◌, ◌++◌, ℕ, List, String, Option, ⊤, All, IfOk, IfErr, OnOk, IsSorted, string_bytes};
+ghost use Rattle.std.specs.Prelude.{◌≡◌, ℕ, List, String, Option, ⊤, All, IfOk, IfErr, IsTrue, OnOk, IsSorted, string_bytes};
 ghost use Rattle.std.specs.Global.{Global};
 ghost use Rattle.sp_main.specs.declared.folder.FolderFault.TheVariants as fault;
-ghost use Rattle.sp_main.specs.Folders.{AreBelow, IsBelow, IsClassPath, NamesBelow};
+ghost use Rattle.sp_main.specs.Folders.{AreBelow, IsBelow, IsClassPath, IsEntryName, NamesBelow, joined};
 
 use std::alloc::{AllocError, AllocFailed, Global};
-use std::io::Read;
+use std::io::{ErrorKind, Read};
 use std::rt::Files;
 use std::{fs, io};
 use thiserror::Error;
@@ -17,6 +17,9 @@ pub enum FolderFault {
     /// This folder cannot be read.
     #[error("cannot read {0}")]
     CannotRead(String),
+    /// This is no folder.
+    #[error("cannot read {0}: not a folder")]
+    NotAFolder(String),
     #[error("no memory")]
     Memory,
 }
@@ -66,7 +69,7 @@ pub struct Disk<'a, R> {
 impl<'a, R: Files + AllocGlobal + Clone + Drop> Folder for Disk<'a, R> {
     type File = R::File;
 
-    // Whatever the file system holds, no file elsewhere is named.
+    // Whatever the file system holds, each path leads from the folder by names of entries, so no file elsewhere is named.
     ghost lists = { λ _ folder paths. All (λ path. IsClassPath folder (string_bytes path)) paths × IsSorted ⟦<String as Ord>⟧.cmp paths };
 
     fn paths(&self, folder: &str) -> Result<Vec<String>, FolderFault>
@@ -122,6 +125,7 @@ impl Found {
         name: &str,
         is_folder: bool,
     ) -> Result<(), AllocError>
+        requires { IsEntryName name.now }
         ensures { OnOk result ((root : List ℕ) → IsBelow root folder.now → AreBelow root self.old → AreBelow root self.new) }
     {
         if is_folder {
@@ -133,6 +137,7 @@ impl Found {
 
     // A folder has a folder of this name.
     fn add_folder(&mut self, alloc: Global, folder: &str, name: &str) -> Result<(), AllocError>
+        requires { IsEntryName name.now }
         ensures { OnOk result ((root : List ℕ) → IsBelow root folder.now → AreBelow root self.old → AreBelow root self.new) }
     {
         let path = path_in(alloc, folder, name)?;
@@ -142,6 +147,7 @@ impl Found {
 
     // A folder has a file of this name: it counts where it is a class file.
     fn add_file(&mut self, alloc: Global, folder: &str, name: &str) -> Result<(), AllocError>
+        requires { IsEntryName name.now }
         ensures { OnOk result ((root : List ℕ) → IsBelow root folder.now → AreBelow root self.old → AreBelow root self.new) }
     {
         if name.as_bytes().ends_with(b".class") {
@@ -154,14 +160,22 @@ impl Found {
 
 // The path of a name in a folder.
 fn path_in(alloc: Global, folder: &str, name: &str) -> Result<String, AllocError>
-    ensures { IfOk result (λ path. (slash : List ℕ) × (string_bytes path ≡ folder.now ++ (slash ++ name.now))) }
+    ensures { IfOk result (λ path. string_bytes path ≡ joined folder.now name.now) }
 {
     let mut path = String::from_str(alloc, folder)?;
-    if !folder.ends_with('/') {
+    if !folder.as_bytes().ends_with(b"/") {
         path.push('/')?;
     }
     path.push_str(name)?;
     Ok(path)
+}
+
+// Whether a name is one of an entry, and so leads to nothing outside its folder.
+fn is_entry_name(name: &[u8]) -> bool
+    ensures sound { IsTrue result → IsEntryName name.now }
+    ensures all { IsEntryName name.now → IsTrue result }
+{
+    !name.is_empty() && !name.contains(&b'/') && name != b".".as_slice() && name != b"..".as_slice()
 }
 
 // Lists one folder: its class files are found, and its folders wait.
@@ -175,8 +189,12 @@ fn list_folder<R: Files + AllocGlobal + Clone + Drop>(
 {
     let alloc = runtime.alloc();
     let path = folder.as_str();
-    let Ok(entries) = fs::read_dir(runtime, path) else {
-        return Err(FolderFault::CannotRead(folder));
+    let entries = match fs::read_dir(runtime, path) {
+        Ok(entries) => entries,
+        Err(error) if error.kind() == ErrorKind::NotADirectory => {
+            return Err(FolderFault::NotAFolder(folder));
+        }
+        Err(_) => return Err(FolderFault::CannotRead(folder)),
     };
     for entry in entries {
         let Ok(entry) = entry else {
@@ -185,7 +203,12 @@ fn list_folder<R: Files + AllocGlobal + Clone + Drop>(
         let Ok(kind) = entry.file_type() else {
             return Err(FolderFault::CannotRead(folder));
         };
-        found.add(alloc, path, entry.file_name(), kind.is_dir())?;
+        let name = entry.file_name();
+        // No file system gives another name; one that did would lead out of the folder.
+        if !is_entry_name(name.as_bytes()) {
+            return Err(FolderFault::CannotRead(folder));
+        }
+        found.add(alloc, path, name, kind.is_dir())?;
     }
     Ok(())
 }

@@ -7,7 +7,7 @@ pub use entry::command;
 pub use folder::{Disk, Folder, FolderFault};
 pub use refusal::Refusal;
 pub use report::Report;
-pub use running::{ClassBytes, Content, RunOutcome, run_classes};
+pub use running::{ClassBytes, Content, RunOutcome, check_classes, run_classes};
 pub use status::Status;
 
 mod argument;

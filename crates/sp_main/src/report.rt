@@ -1,11 +1,11 @@
 //! What the program says in the end.
 
-ghost use Rattle.std.specs.Prelude.{◌≡◌, ◌⊎◌, OnOk};
+ghost use Rattle.std.specs.Prelude.{IfErr, OnOk};
 ghost use Rattle.std.specs.Io.KnownBytes.{Appends};
-ghost use Rattle.sp_main.specs.Reports.{LeavesOther, Tells};
+ghost use Rattle.sp_main.specs.Reports.{IsCutOff, IsTold, LeavesOther};
 
 use super::Status;
-use std::io;
+use dev_io::{Cut, StdSink, write_all};
 use std::io::Write;
 
 /// A text, which is whole before its first byte is written, and the status that the program then
@@ -18,27 +18,40 @@ pub struct Report {
 }
 
 impl Report {
-    /// Writes the text to its output, and leaves the other alone. Where that fails the status is
-    /// `Failed`, and a front part of the text may have been written.
+    /// Writes the text to its output, and leaves the other alone. If that output fails, the status is
+    /// `Failed`, and the output has taken a front part of the text and not all of it.
     pub fn write<O: Write, E: Write>(&self, out: &mut O, err: &mut E) -> Status
         ensures other { LeavesOther self.now.status (O.contents out.old) (O.contents out.new) (E.contents err.old) (E.contents err.new) }
-        ensures told { (result ≡ Status.Failed) ⊎ ((result ≡ self.now.status)
-            × Tells self.now.status self.now.text.items (O.contents out.old) (O.contents out.new) (E.contents err.old) (E.contents err.new)) }
+        ensures told { IsTold self.now.status self.now.text.items result (O.contents out.old) (O.contents out.new) (E.contents err.old) (E.contents err.new) }
     {
-        let written = match self.status {
-            Status::Done | Status::Ended => write_whole(out, &self.text),
-            Status::Refused | Status::Failed => write_whole(err, &self.text),
-        };
-        match written {
-            Ok(()) => self.status,
-            Err(_) => Status::Failed,
-        }
+        write_text(self.status, &self.text, out, err)
     }
 }
 
-fn write_whole<W: Write>(to: &mut W, text: &[u8]) -> io::Result<()>
-    ensures { OnOk result (Appends (W.contents to.old) (W.contents to.new) text.now) }
+// Writes a text to the output of a status, and answers that status, or `Failed` if the output fails.
+pub(crate) fn write_text<O: Write, E: Write>(
+    status: Status,
+    text: &[u8],
+    out: &mut O,
+    err: &mut E,
+) -> Status
+    ensures other { LeavesOther status (O.contents out.old) (O.contents out.new) (E.contents err.old) (E.contents err.new) }
+    ensures told { IsTold status text.now result (O.contents out.old) (O.contents out.new) (E.contents err.old) (E.contents err.new) }
 {
-    to.write_all(text)?;
-    to.flush()
+    let written = match status {
+        Status::Done | Status::Ended => write_whole(out, text),
+        Status::Refused | Status::Failed => write_whole(err, text),
+    };
+    match written {
+        Ok(()) => status,
+        Err(_) => Status::Failed,
+    }
+}
+
+// The writer is not flushed: that is its owner's.
+fn write_whole<W: Write>(to: &mut W, text: &[u8]) -> Result<(), Cut>
+    ensures whole { OnOk result (Appends (W.contents to.old) (W.contents to.new) text.now) }
+    ensures cut { IfErr result (λ _. IsCutOff (W.contents to.old) (W.contents to.new) text.now) }
+{
+    write_all(&mut StdSink::new(to), text)
 }

@@ -3,7 +3,7 @@
 
 ghost use Rattle.std.specs.Prelude.{◌≡◌, ◌+◌, ◌-◌, ◌^◌, ◌<◌, ◌≤◌, length, IfOk, IfErr, IfSome};
 ghost use Rattle.std.specs.List.{position};
-ghost use Rattle.cls_link.specs.Links.{AreLinks};
+ghost use Rattle.cls_link.specs.Links.{AreLinks, Links};
 ghost use Rattle.ver_check.specs.Acceptance.{AreSafe};
 ghost use Rattle.vm_step.specs.Task.{IsOfSet};
 ghost use Rattle.sp_main.specs.Runs.{AreSpelled, IsFileFault, IsNamed, IsNoProgram, IsNotRun, IsProgram, IsRefused, IsRun, IsSpelled, IsUnread, Runs, is_parenthesis, method_named};
@@ -69,6 +69,17 @@ pub fn run_classes(
         return Err(Refusal::Start(StartFault::AbsentMethod));
     };
     run_method(alloc, &accepted, method, arguments, limits)
+}
+
+/// Reads, links and checks the class set of the files, and answers how many they are. The first
+/// refusal counts: files in order, then the set, links and checks. Nothing of it runs.
+pub fn check_classes(alloc: Global, files: &[ClassBytes]) -> Result<usize, Refusal>
+    ensures accepted { IfOk result (λ count. count ≡ length files.now) }
+    ensures program { IfOk result (λ _. (program : Links) × IsProgram files.now program) }
+    ensures refused { IfErr result (IsNoProgram files.now) }
+{
+    accepted_of(alloc, files)?;
+    Ok(files.len())
 }
 
 // The files' class set, read, linked and checked.

@@ -1,14 +1,14 @@
 //! What is printed of outcomes and refusals.
 
-ghost use Rattle.std.specs.Prelude.{◌≡◌, ◌++◌, codes, IfOk, IfSome};
+ghost use Rattle.std.specs.Prelude.{◌≡◌, ◌++◌, ℕ, List, codes, IfOk, IfSome};
 ghost use Rattle.std.specs.Str.{trim_end};
-ghost use Rattle.sp_main.specs.RefusalTexts.{IsRefusalOf, TellsCheck, TellsFile, TellsLink, TellsRefusal, TellsSet, TellsStart, refused_method, rule_text, unreadable_text};
+ghost use Rattle.sp_main.specs.RefusalTexts.{IsRefusalOf, TellsCheck, TellsFile, TellsLink, TellsRefusal, TellsSet, TellsStart, TellsUnreadable, refused_method, rule_text, unreadable_text};
 ghost use Rattle.sp_main.specs.Reports.{IsLine, line_of};
 ghost use Rattle.sp_main.specs.Statuses.{file_status, outcome_status, refusal_status};
-ghost use Rattle.sp_main.specs.Texts.{ints_text, outcome_text, value_text};
+ghost use Rattle.sp_main.specs.Texts.{accepted_text, ints_text, outcome_text, value_text};
 
 use super::line::Line;
-use super::{ClassBytes, Refusal, Report, RunOutcome, Status};
+use super::{ClassBytes, FolderFault, Refusal, Report, RunOutcome, Status};
 use cf_load::LoadFault;
 use cf_reader::{Numbered, ReadFault, Text};
 use cls_link::LinkFault;
@@ -107,7 +107,35 @@ fn file_report(alloc: Global, path: &str, fault: LoadFault) -> Result<Report, Al
     }
 }
 
-/// What is reported where a file or a folder cannot be read.
+/// What is reported of a class set that is accepted: of how many files it was made.
+pub fn accepted_report(alloc: Global, files: usize) -> Result<Report, AllocError>
+    ensures status { IfOk result (λ report. report.status ≡ Status.Done) }
+    ensures text { IfOk result (λ report. report.text.items ≡ line_of (accepted_text files)) }
+{
+    Line::new(alloc)
+        .text("accepted ")?
+        .display(&files)?
+        .text(" classes")?
+        .report(Status::Done)
+}
+
+/// What is reported of a folder whose files cannot be told.
+pub fn folder_report(alloc: Global, fault: FolderFault) -> Result<Report, AllocError>
+    ensures status { IfOk result (λ report. report.status ≡ Status.Failed) }
+    ensures text { IfOk result (λ report. (path : List ℕ) × TellsUnreadable path report.text.items) }
+{
+    match fault {
+        FolderFault::CannotRead(path) => unreadable_report(alloc, &path),
+        FolderFault::NotAFolder(path) => Line::new(alloc)
+            .text("cannot read ")?
+            .text(&path)?
+            .text(": not a folder")?
+            .report(Status::Failed),
+        FolderFault::Memory => Err(AllocError),
+    }
+}
+
+/// What is reported of a file that cannot be read.
 pub fn unreadable_report(alloc: Global, path: &str) -> Result<Report, AllocError>
     ensures status { IfOk result (λ report. report.status ≡ Status.Failed) }
     ensures text { IfOk result (λ report. report.text.items ≡ line_of (unreadable_text path.now)) }

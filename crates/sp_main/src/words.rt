@@ -1,15 +1,15 @@
 //! The words of a command line.
 
-ghost use Rattle.std.specs.Prelude.{◌≡◌, ℕ, List, map, slice_get, Some, string_bytes, codes, Option, IfOk, MatchOption, MatchResult};
+ghost use Rattle.std.specs.Prelude.{◌≡◌, ℕ, List, map, string_bytes, codes, Option, IfOk, MatchOption, MatchResult};
 ghost use Rattle.std.specs.List.{AllZip};
 ghost use Rattle.clap.specs.Matches.{found_of};
-ghost use Rattle.clap.specs.Simple.{app_of, new_shape, subcommand_rows_of};
+ghost use Rattle.clap.specs.Simple.{app_of, subcommand_rows_of};
 ghost use Rattle.clap.specs.Values.{kind_of};
 ghost use Rattle.clap.specs.Walk.{first_of, rows_of};
 ghost use Rattle.space_ids.specs.declared.value.Value.{Value};
 ghost use Rattle.sp_main.specs.Arguments.{Spells};
-ghost use Rattle.sp_main.specs.CommandLine.{IsComing, IsFuel, IsSaidFuel, arguments_rule, fuel_rule, program, run_shape, wanted_rule};
-ghost use Rattle.sp_main.specs.Requests.{IsArgument, IsAsked, IsCommand, IsRefusing, IsRequest, IsRunFound, IsRunRequest, IsUnasked};
+ghost use Rattle.sp_main.specs.CommandLine.{IsFuel, IsSaidFuel, arguments_rule, check_shape, fuel_rule, program, run_shape, wanted_rule};
+ghost use Rattle.sp_main.specs.Requests.{IsArgument, IsAsked, IsCheckRequest, IsCommand, IsCommandFound, IsRefusing, IsRequest, IsRunRequest, IsUnasked};
 
 use super::argument_of;
 use clap::error::ErrorKind;
@@ -22,6 +22,8 @@ use vm_heap::Value;
 pub(crate) enum Request<'a> {
     /// To run a method.
     Run(RunRequest<'a>),
+    /// To check the class files of this folder.
+    Check(&'a str),
     /// A text that was asked for, as help or the version: for standard output.
     Tell(String),
     /// A usage fault, with its text for standard error.
@@ -44,24 +46,10 @@ pub(crate) struct RunRequest<'a> {
 pub(crate) fn request_of<'a>(alloc: Global, words: &'a [String]) -> Result<Request<'a>, AllocError>
     ensures { IfOk result (IsRequest (map string_bytes words.now)) }
 {
-    if let Some(name) = coming_name(words) {
-        let text = format!(in alloc; "error: the command '{name}' has not come yet\n")?;
-        return Ok(Request::Refuse(text));
-    }
     match whole_command(alloc)?.try_get_matches_from(words) {
         Ok(matches) => asked(alloc, &matches),
         Err(error) => unasked(alloc, &error),
     }
-}
-
-// The name of a command that has not come yet, where the words begin with it: whatever follows it.
-fn coming_name(words: &[String]) -> Option<&str>
-    ensures { MatchOption result
-        ((name : List ℕ) → slice_get (map string_bytes words.now) 1 ≡ Some name → IsComing name → ⊥)
-        (λ name. (slice_get (map string_bytes words.now) 1 ≡ Some name.now) × IsComing name.now) }
-{
-    let name = words.get(1)?.as_str();
-    matches!(name, "check" | "sim" | "serve").then_some(name)
 }
 
 // What words ask for that the parser does not take.
@@ -77,14 +65,24 @@ fn unasked<'a>(alloc: Global, error: &Error) -> Result<Request<'a>, AllocError>
     }
 }
 
-// What words ask for that the parser takes: it found `run`, since no other command comes this far.
+// What words ask for that the parser takes: it found a command then.
 fn asked<'a>(alloc: Global, matches: &ArgMatches<'a>) -> Result<Request<'a>, AllocError>
-    requires run { IsRunFound (subcommand_rows_of matches.now) }
+    requires command { IsCommandFound (subcommand_rows_of matches.now) }
     ensures { IfOk result (IsAsked (subcommand_rows_of matches.now)) }
 {
     match matches.subcommand() {
         Some(("run", found)) => asked_run(alloc, found),
+        Some(("check", found)) => asked_check(alloc, found),
         _ => unreachable!(),
+    }
+}
+
+fn asked_check<'a>(alloc: Global, found: &ArgMatches<'a>) -> Result<Request<'a>, AllocError>
+    ensures { IfOk result (IsCheckRequest (rows_of (found_of found.now))) }
+{
+    match found.get_str("folder") {
+        Some(folder) => Ok(Request::Check(folder)),
+        None => refuse(alloc, WORD_MISSING),
     }
 }
 
@@ -96,7 +94,7 @@ fn asked_run<'a>(alloc: Global, found: &ArgMatches<'a>) -> Result<Request<'a>, A
         found.get_str("class"),
         found.get_str("method"),
     ) else {
-        return refuse(alloc, "error: a word is missing\n");
+        return refuse(alloc, WORD_MISSING);
     };
     let Some(fuel) = fuel_said(found) else {
         return refuse(alloc, NO_FUEL);
@@ -115,6 +113,7 @@ fn asked_run<'a>(alloc: Global, found: &ArgMatches<'a>) -> Result<Request<'a>, A
     }
 }
 
+const WORD_MISSING: &str = "error: a word is missing\n";
 const NO_FUEL: &str = "error: the fuel is a whole number from 0 to 9223372036854775807\n";
 
 // The fuel where it is said, and nothing where what is said is no fuel.
@@ -167,22 +166,35 @@ fn refuse<'a>(alloc: Global, text: &str) -> Result<Request<'a>, AllocError>
     Ok(Request::Refuse(String::from_str(alloc, text)?))
 }
 
+// What `--help` ends with.
+const AFTER_HELP: &str = "Example:
+  rmispace run examples/sum T 'f(I)I' 4 --fuel 38
+
+Exit status:
+  0  the method returned, or the classes are accepted
+  1  the method threw, or its fuel was spent
+  2  the classes are refused
+  3  anything else: the words, a file, the start, memory, the output";
+
 fn whole_command<'a>(alloc: Global) -> Result<Command<'a>, AllocError>
     ensures { IfOk result (λ command. app_of command ≡ program) }
 {
     Command::new(alloc, "rmispace")
         .version("0.1.0")
-        .about("Runs methods of Java class files that were checked, under fuel")
+        .about("Checks Java class files, and runs their methods under fuel")
+        .after_help(AFTER_HELP)
         .subcommand_required(true)
         .disable_help_subcommand(true)
         .subcommand(run_command(alloc)?)?
-        .subcommand(coming(
-            alloc,
-            "check",
-            "Checks the class files of a folder (has not come yet)",
-        ))?
-        .subcommand(coming(alloc, "sim", "Plays a script of spaces (has not come yet)"))?
-        .subcommand(coming(alloc, "serve", "Serves a space over TCP (has not come yet)"))
+        .subcommand(check_command(alloc)?)
+}
+
+fn check_command<'a>(alloc: Global) -> Result<Command<'a>, AllocError>
+    ensures { IfOk result (IsCommand check_shape) }
+{
+    Command::new(alloc, "check")
+        .about("Checks the classes of a folder and prints how many they are")
+        .arg(folder_word(alloc))
 }
 
 fn run_command<'a>(alloc: Global) -> Result<Command<'a>, AllocError>
@@ -190,12 +202,7 @@ fn run_command<'a>(alloc: Global) -> Result<Command<'a>, AllocError>
 {
     Command::new(alloc, "run")
         .about("Runs a method and prints how it ended")
-        .arg(wanted(
-            alloc,
-            "folder",
-            "FOLDER",
-            "The folder whose files *.class, in it and below it, are the class set",
-        ))?
+        .arg(folder_word(alloc))?
         .arg(wanted(
             alloc,
             "class",
@@ -222,6 +229,14 @@ fn wanted<'a>(alloc: Global, id: &'a str, name: &'a str, help: &'a str) -> Arg<'
         .help(help)
 }
 
+// `FOLDER`.
+fn folder_word<'a>(alloc: Global) -> Arg<'a>
+    ensures { IsArgument (wanted_rule (codes "folder")) result }
+{
+    let help = "The folder whose files *.class, in it and below it, are the class set";
+    wanted(alloc, "folder", "FOLDER", help)
+}
+
 // `[ARGUMENT..]`.
 fn arguments<'a>(alloc: Global) -> Arg<'a>
     ensures { IsArgument arguments_rule result }
@@ -240,11 +255,4 @@ fn fuel<'a>(alloc: Global) -> Arg<'a>
     Arg::new(alloc, "fuel").long("fuel").value_name("N").help(
         "How many instructions may run (1000000 if it is not said)",
     )
-}
-
-// A command that has not come yet.
-fn coming<'a>(alloc: Global, name: &'a str, about: &'a str) -> Command<'a>
-    ensures { IsCommand (new_shape name.now) result }
-{
-    Command::new(alloc, name).about(about)
 }

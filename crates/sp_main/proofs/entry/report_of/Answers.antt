@@ -1,6 +1,6 @@
 use Rattle.std.proofs.Common.{map, string_bytes}
 use Rattle.sp_main.specs.Folders.{told_by}
-use Rattle.sp_main.proofs.Replied.{asked_replied, mistaken_replied, told_replied}
+use Rattle.sp_main.proofs.Replied.{asked_replied, check_replied, mistaken_replied, told_replied}
 use Rattle.sp_main.proofs.entry.report_of.Goals as goal
 
 pub returns-in-Tell : goal.returns-in-Tell
@@ -16,3 +16,7 @@ returns-in-Refuse g c =
 pub returns-in-Run : goal.returns-in-Run
 returns-in-Run g c =
     asked_replied (told_by (g.F.Folder.lists c.args.folder.now) (g.F.Folder.gives c.args.folder.now)) (map string_bytes c.args.words.now) c.in_ok-text.field-0 c.run_report.result c.in-Run.request c.in_ok-text.ensures c.in-Run.is c.run_report.ensures
+
+pub returns-in-Check : goal.returns-in-Check
+returns-in-Check g c =
+    check_replied (told_by (g.F.Folder.lists c.args.folder.now) (g.F.Folder.gives c.args.folder.now)) (map string_bytes c.args.words.now) c.in_ok-text.field-0 c.check_report.result c.in-Check.path c.in_ok-text.ensures c.in-Check.is c.check_report.ensures

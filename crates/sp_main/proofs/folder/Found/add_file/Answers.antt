@@ -12,7 +12,7 @@ returns-in_ok-push c = λ root below all.
     let named = (ends_is Decides-eqb name (codes ".class") c.ends_with.result c.ends_with.ensures.value).0 c.if-ends_with.true in
     rw ((c.in_ok-push.ensures).items) (
       All-push (λ path. IsClassPath root (string_bytes path)) c.args.self.now.files.items c.in_ok-path.path all.0
-          (class_within root c.args.folder.now (string_bytes c.in_ok-path.path) c.in_ok-path.ensures.0 c.args.name.now (take (length name - 6) name)
-          below c.in_ok-path.ensures.1 (sym c.as_bytes.ensures.value ∙ named)),
+          (class_within root c.args.folder.now (string_bytes c.in_ok-path.path) c.args.name.now (take (length name - 6) name)
+          below c.requires c.in_ok-path.ensures (sym c.as_bytes.ensures.value ∙ named)),
       all.1,
     )

@@ -9,5 +9,5 @@ returns c = λ root below all.
     rw ((c.in_ok-push.ensures).items) (
       all.0,
       All-push (λ path. IsBelow root (string_bytes path)) c.args.self.now.folders.items c.in_ok-path.path all.1
-          (within root c.args.folder.now (string_bytes c.in_ok-path.path) c.in_ok-path.ensures.0 c.args.name.now below c.in_ok-path.ensures.1),
+          (within root c.args.folder.now (string_bytes c.in_ok-path.path) c.args.name.now below c.requires c.in_ok-path.ensures),
     )
