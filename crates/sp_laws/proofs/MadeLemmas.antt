@@ -33,7 +33,7 @@ use Rattle.sp_rules.proofs.OriginsOfFrames.{Waits, OutputIs, After, on_only}
 use Rattle.sp_rules.proofs.OwnLemmas
 use Rattle.sp_rules.proofs.OwnLemmas.{unrefused, taken-brings, only-wider, create-stores, root-arguments, root-names, fields-all, NamesIn, Names}
 use Rattle.sp_rules.proofs.Stable.{Core, IsStable, on_keeps}
-use Rattle.sp_laws.specs.Made.{IsMade, IsMadeBy, TargetIs, HasOnly, QueueIs, PipeIs, AllMade, IsOwn, EventIs, RootIs, RootsAre, ReferencesAreMade}
+use Rattle.sp_laws.specs.Made.{IsMade, IsMadeBy, TargetIs, HasOnly, QueueIs, PipeIs, AllMade, IsOwn, EventIs, RootIs, RootsAre, ReferencesAreMade, IsPlainEvent, IsPlain, PlainRootsAre}
 
 -- ---- what was made stays made
 
@@ -483,3 +483,40 @@ references_are_made settings events b = ends (run (new_world settings) events) (
   where
     ends : (w : World) → Sound w → AllMade w
     ends w h = record { spaces = all-weaken (SpaceIs w.spaces) (HasOnly (IsMadeBy w.spaces)) w.spaces (has-only w.spaces) h.spaces; queues = h.queues }
+
+-- ---- roots without references
+
+plain-event : (w : World) (i : ℕ) (e : Event) → IsPlainEvent e → EventIs w i e
+plain-event w i (Root method arguments fuel) p = subst (λ refs. AllOf (λ (r : Ref). IsOwn (slice_get w.spaces i) r ⊎ IsMadeBy w.spaces r) refs) (sym p) tt
+plain-event w i (Received conn m) p = tt
+plain-event w i (Moment moment) p = tt
+plain-event w i Sweep p = tt
+plain-event w i (RootAck task) p = tt
+plain-event w i (Bind name value) p = tt
+plain-event w i (Rebind name value) p = tt
+plain-event w i (Unbind name) p = tt
+plain-event w i (Lookup peer name) p = tt
+plain-event w i (Opened conn dialled) p = tt
+plain-event w i (Refused peer) p = tt
+plain-event w i (Closed conn) p = tt
+plain-event w i (ReadFailed conn) p = tt
+plain-event w i (Bad conn) p = tt
+plain-event w i (WriteFailed conn unsent) p = tt
+plain-event w i (Committed task k op) p = tt
+plain-event w i (Parked task k) p = tt
+plain-event w i (GivenBack task k) p = tt
+plain-event w i (Finished task k) p = tt
+
+plain-root : (w : World) (e : WorldEvent) → IsPlain e → RootIs w e
+plain-root w (Own i e) p = plain-event w i e p
+plain-root w (Step i task) p = tt
+plain-root w (Open a c) p = tt
+plain-root w (Refuse a c) p = tt
+plain-root w (Accept conn) p = tt
+plain-root w (Deliver conn end) p = tt
+plain-root w (ReadFails conn end) p = tt
+plain-root w (WriteFails conn end unsent) p = tt
+
+pub plain_roots_are : PlainRootsAre
+plain_roots_are w [] p = tt
+plain_roots_are w (e ∷ es) p = (plain-root w e p.0, plain_roots_are (after w e) es p.1)

@@ -78,3 +78,18 @@ RootsAre w (e ∷ es) = RootIs w e × RootsAre (after w e) es
 
 abbrev pub ReferencesAreMade : Type 0
 ReferencesAreMade = (settings : List Setting) (events : List WorldEvent) → RootsAre (new_world settings) events → AllMade (run (new_world settings) events)
+
+-- ---- who meets what is asked
+
+-- a root whose arguments have no references
+abbrev pub IsPlainEvent : Event → Type 0
+IsPlainEvent (Root method arguments fuel) = references_of arguments ≡ []
+IsPlainEvent _ = Unit {0}
+
+abbrev pub IsPlain : WorldEvent → Type 0
+IsPlain (Own i e) = IsPlainEvent e
+IsPlain _ = Unit {0}
+
+-- Every run whose roots are given ints, arrays and null alone meets it; what they then do is free.
+abbrev pub PlainRootsAre : Type 0
+PlainRootsAre = (w : World) (events : List WorldEvent) → AllOf IsPlain events → RootsAre w events

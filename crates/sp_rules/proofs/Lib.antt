@@ -7,6 +7,8 @@ pub mod FuelOfTasks
 pub mod FuelOfWorlds
 pub mod FuelSums
 pub mod HistoryLemmas
+pub mod LineLemmas
+pub mod LinesOfRules
 pub mod NumberLemmas
 pub mod OrderLemmas
 pub mod OriginLemmas

@@ -7,6 +7,7 @@ pub mod Frames
 pub mod Fuel
 pub mod Holders
 pub mod Laws
+pub mod Lines
 pub mod Lists
 pub mod LivingTasks
 pub mod Origins

@@ -1,5 +1,6 @@
 //! What holds of every space and every world, whatever happens.
 
+ghost use Rattle.sp_rules.specs.Lines.{LinesWaitForHellos};
 ghost use Rattle.sp_rules.specs.Origins.{HistoriesAreTaken, OwnReferencesStand};
 ghost use Rattle.sp_rules.specs.Laws.{EventsLeaveOwners, FailuresRemoveNothing, FuelIsBounded, SweepIsExact, OnlySweepsWithdraw, TasksAreRuns, StatesAreHistories, BooksGrow, NamesAreBound, EntriesAreTold, NamesStand, EntriesStand, OutputsAreInOrder, ChecksRise, RefusedChangesNothing, NumbersAreFresh};
 
@@ -95,4 +96,11 @@ pub fn histories_are_taken()
 /// that are held and in parked frames. So do the targets of parked calls.
 pub fn own_references_stand()
     ensures { OwnReferencesStand }
+{}
+
+/// After every history that a space took at most one connection is dialled to a peer, and a peer that is
+/// being dialled, each once, has none. A request that waits has a peer that is dialled or being dialled,
+/// and whose Hello has not come.
+pub fn lines_wait_for_hellos()
+    ensures { LinesWaitForHellos }
 {}
