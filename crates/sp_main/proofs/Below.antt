@@ -1,11 +1,21 @@
 -- Paths that lead from a folder to what is in it.
 use Rattle.std.specs.Prelude.{◌≡◌, ◌++◌, ◌∷◌, ℕ, List, [], codes, All, Option, Some, IfSome, option_to_list}
 use Rattle.std.proofs.lemmas.List.Elements.{All-pop, All-push}
-use Rattle.std.proofs.Common.{ap, refl, sym, subst, ◌∙◌}
+use Rattle.std.proofs.Common.{String, ap, arith, refl, string_bytes, sym, subst, ◌∙◌}
+use Rattle.std.specs.Global.{Global}
 use Rattle.sp_main.specs.Folders.{IsBelow, IsClassPath, IsEntryName, joined, path_of}
 
 pub itself : (root : List ℕ) → IsBelow root root
 itself root = record { names = []; entries = tt; path_is = refl }
+
+-- at first no file is found, and the folder itself waits
+pub begun : (root : List ℕ) (files folders : List (String Global)) (path : String Global) → files ≡ [] → folders ≡ [] ++ path ∷ [] → string_bytes path ≡ root
+    → All (λ file. IsClassPath root (string_bytes file)) files × All (λ folder. IsBelow root (string_bytes folder)) folders
+begun root files folders path none one is =
+    rw (none, one) (
+      λ k d within. absurd (omega (arith, within)),
+      All-push (λ folder. IsBelow root (string_bytes folder)) [] path (λ k d within. absurd (omega (arith, within))) (subst (IsBelow root) (sym is) (itself root)),
+    )
 
 -- one name more leads one folder further
 path_of-last : (root : List ℕ) (names : List (List ℕ)) (name : List ℕ) → path_of root (names ++ (name ∷ [])) ≡ joined (path_of root names) name
