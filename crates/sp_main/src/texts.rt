@@ -126,13 +126,21 @@ pub fn folder_report(alloc: Global, fault: FolderFault) -> Result<Report, AllocE
 {
     match fault {
         FolderFault::CannotRead(path) => unreadable_report(alloc, &path),
-        FolderFault::NotAFolder(path) => Line::new(alloc)
-            .text("cannot read ")?
-            .text(&path)?
-            .text(": not a folder")?
-            .report(Status::Failed),
+        FolderFault::NotAFolder(path) => no_folder_report(alloc, &path),
         FolderFault::Memory => Err(AllocError),
     }
+}
+
+// What is reported of a path that leads to no folder.
+fn no_folder_report(alloc: Global, path: &str) -> Result<Report, AllocError>
+    ensures status { IfOk result (λ report. report.status ≡ Status.Failed) }
+    ensures text { IfOk result (λ report. report.text.items ≡ line_of (unreadable_text path.now ++ codes ": not a folder")) }
+{
+    Line::new(alloc)
+        .text("cannot read ")?
+        .text(path)?
+        .text(": not a folder")?
+        .report(Status::Failed)
 }
 
 /// What is reported of a file that cannot be read.

@@ -1,33 +1,22 @@
-use Rattle.std.proofs.Common.{◌≡◌, ◌∙◌, rules, subst, sym}
-use Rattle.sp_main.specs.Folders.{AreFilesOf, told_by}
-use Rattle.sp_main.specs.RefusalTexts.{IsRefusalOf}
-use Rattle.sp_main.specs.Replies.{limits_of}
+use Rattle.std.proofs.Common.{rules, ◌≡◌, ◌<◌, ◌≤◌, ◌^◌, ℕ, List, map, string_bytes, IfOk, IfSome, ◌+◌, ◌-◌, ◌*◌, length, ◌/◌, ◌%◌, Bool, true, false, nat_eq, nat_lt, [], ◌∷◌, ◌++◌, slice_index_or, slice_set, bit_and, bit_or, Fits, w8, w32, w64, Bor, MutBor}
+use Rattle.sp_main.specs.CommandLine.{AsksCheck, AsksRun}
+use Rattle.sp_main.specs.Folders.{AreFilesOf, AreRead, IsContent, told_by}
+use Rattle.sp_main.specs.Replies.{Fails, IsReply, Replies}
 use Rattle.sp_main.specs.Requests.{run_words}
-use Rattle.sp_main.proofs.Refused.{refused_file}
-use Rattle.sp_main.proofs.Replied.{refusal_replied, run_replied, unreadable_replied}
 use Rattle.sp_main.proofs.entry.run_report.Goals as goal
 
-pub returns-in-Err-CannotRead : goal.returns-in-Err-CannotRead
-returns-in-Err-CannotRead g c =
-    unreadable_replied (told_by (g.F.Folder.lists c.args.folder.now) (g.F.Folder.gives c.args.folder.now)) (run_words c.args.request) _ c.unreadable_report.result (c.unreadable_report.ensures).status (c.unreadable_report.ensures).text
+-- src/entry.rt:79:23
+pub returns-in-Err : goal.returns-in-Err
+returns-in-Err g c = ?
 
+-- src/entry.rt:76:1
 pub returns-in-Ok-run_classes : goal.returns-in-Ok-run_classes
-returns-in-Ok-run_classes g c =
-    let read : AreFilesOf (told_by (g.F.Folder.lists c.args.folder.now) (g.F.Folder.gives c.args.folder.now)) c.args.request.folder.now c.in_ok-files.files.items = record { paths = c.in-Ok.paths.items; listed = c.in-Ok.ensures; read = c.in_ok-files.ensures } in
-    let limits : record c.default-limits.result { fuel = c.unwrap_or.result } ≡ limits_of c.args.request.fuel = search rules in
-    run_replied (told_by (g.F.Folder.lists c.args.folder.now) (g.F.Folder.gives c.args.folder.now)) (run_words c.args.request) _ c.in_ok-files.files.items _ _ _ c.in-Ok-run_classes.outcome c.outcome_report.result read
-    (c.deref-2.ensures).value (c.as_bytes-class.ensures).value (c.as_bytes-method.ensures).value limits (c.in-Ok-run_classes.ensures).run
-    (c.outcome_report.ensures).status (c.outcome_report.ensures).text
+returns-in-Ok-run_classes g c = ?
 
+-- src/entry.rt:87:25
 pub refusal_report-requires : goal.refusal_report-requires
-refusal_report-requires g c = record {
-  file = subst (λ files. IsRefusalOf files c.in-Err.refusal) ((c.deref-2.ensures).value ∙ sym (c.deref-in-Err.ensures).value) (refused_file _ _ _ _ _ c.in-Err.refusal (c.in-Err.ensures).refused);
-}
+refusal_report-requires g c = ?
 
+-- src/entry.rt:69:1
 pub returns : goal.returns
-returns g c =
-    let read : AreFilesOf (told_by (g.F.Folder.lists c.args.folder.now) (g.F.Folder.gives c.args.folder.now)) c.args.request.folder.now c.in_ok-files.files.items = record { paths = c.in-Ok.paths.items; listed = c.in-Ok.ensures; read = c.in_ok-files.ensures } in
-    let limits : record c.default-limits.result { fuel = c.unwrap_or.result } ≡ limits_of c.args.request.fuel = search rules in
-    refusal_replied (told_by (g.F.Folder.lists c.args.folder.now) (g.F.Folder.gives c.args.folder.now)) (run_words c.args.request) _ c.in_ok-files.files.items _ _ _ c.in-Err.refusal c.refusal_report.result read
-    (c.deref-2.ensures).value (c.as_bytes-class.ensures).value (c.as_bytes-method.ensures).value limits (c.in-Err.ensures).refused
-    (c.refusal_report.ensures).status (rw (sym (c.deref-in-Err.ensures).value) (c.refusal_report.ensures).text)
+returns g c = ?
