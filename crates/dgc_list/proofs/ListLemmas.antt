@@ -1,7 +1,6 @@
-use Rattle.std.proofs.Common.{◌≡◌, ℕ, ◌+◌, ◌<◌, ◌≤◌, Bool, true, false, cond, ◌&&◌, filter, max, ltb, List, [], ◌∷◌, Option, None, Some, Result, Ok, Err, is_some, IsTrue, refl, sym, ap, subst, ◌∙◌, arith, Contains, inl, inr}
-use Rattle.std.specs.Prelude.{if◌then◌else◌, nat_lt, OnErr, ◌⊎◌}
+use Rattle.std.proofs.Common.{◌≡◌, ℕ, ◌+◌, ◌<◌, ◌≤◌, Bool, true, false, cond, ◌&&◌, filter, List, ◌∷◌, Result, Ok, Err, is_some, refl, sym, ap, ◌∙◌, arith, Contains}
+use Rattle.std.specs.Prelude.{nat_lt, OnErr}
 use Rattle.std.specs.Str.{bytes_eq}
-use Rattle.std.proofs.lemmas.Bool.{false≢true}
 use Rattle.std.proofs.lemmas.Bool.Decides.{nat_tests}
 use Rattle.space_ids.specs.declared.ids.ObjId.{ObjId}
 use Rattle.dgc_list.specs.declared.expiries.Expiry.{Expiry}
@@ -9,10 +8,10 @@ use Rattle.dgc_list.specs.declared.list.RefList.{RefList}
 use Rattle.dgc_list.specs.declared.remembered.Remembered.{Remembered}
 use Rattle.dgc_list.specs.Remembered.{after_dirty, after_clean, after_moment}
 use Rattle.dgc_list.specs.Clients.{leased, leased_after, IsSame}
-use Rattle.dgc_list.specs.Objects.{is_same, clients_at, remembered_at, is_named, IsCovered, Tells, Expires}
+use Rattle.dgc_list.specs.Objects.{clients_at, remembered_at, is_named, IsCovered, Tells, Expires}
 use Rattle.dgc_list.specs.History.{Call, moment_of, granted, is_told, remembered_of, is_leased, clients_of, IsAfter}
-use Rattle.dgc_list.specs.History.Call.{Dirty, Clean, Moment, Forget}
-use Rattle.dgc_list.proofs.CallsLemmas.{same-client, bytes_eq-refl}
+use Rattle.dgc_list.specs.History.Call.{Dirty, Clean, Moment}
+use Rattle.dgc_list.proofs.CallsLemmas.{bytes_eq-refl}
 use Rattle.dgc_list.proofs.HistoryLemmas.{all-leased, filter-all}
 use Rattle.dgc_list.proofs.MomentLemmas.{filter-like}
 use Rattle.dgc_list.proofs.RememberedLemmas.{moment-none}

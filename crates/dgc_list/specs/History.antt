@@ -1,5 +1,4 @@
 use Rattle.std.specs.Prelude.{◌≡◌, ℕ, ◌+◌, ◌≤◌, Bool, false, List, [], ◌∷◌, is_some, IsTrue, ◌&&◌, nat_lt, min, max, filter, if◌then◌else◌}
-use Rattle.std.specs.List.{list_any}
 use Rattle.std.specs.Str.{bytes_eq}
 use Rattle.space_ids.specs.declared.ids.ObjId.{ObjId}
 use Rattle.dgc_list.specs.declared.list.RefList.{RefList}

@@ -122,13 +122,7 @@ impl RefList {
 
     /// A clean call, as [`clean`](RefList::clean) tells it, for which there is
     /// [room](RefList::reserve_places) if it is strong. It takes no memory.
-    pub fn clean_reserved(
-        &mut self,
-        client: &Uuid,
-        objects: &[ObjId],
-        number: u64,
-        strong: bool,
-    )
+    pub fn clean_reserved(&mut self, client: &Uuid, objects: &[ObjId], number: u64, strong: bool)
         requires { IsTrue strong → HasPlaces client.now objects.now self.old }
         ensures { (h : List Call) → IsAfter h self.old → IsAfter (Clean client.now objects.now number strong ∷ h) self.new }
     {

@@ -1,7 +1,6 @@
-use Rattle.std.proofs.Common.{◌≡◌, ◌||◌, Bool, true, false, IsTrue, get_or, take, sym, ap, ◌∙◌, subst}
+use Rattle.std.proofs.Common.{◌≡◌, Bool, false, get_or, take, sym, ap, ◌∙◌, subst}
 use Rattle.std.proofs.lemmas.List.{take_more}
 use Rattle.space_ids.specs.declared.ids.ObjId.{ObjId}
-use Rattle.dgc_list.specs.declared.remembered.Remembered.{Remembered}
 use Rattle.dgc_list.specs.Remembered.{after_clean, is_blank}
 use Rattle.dgc_list.specs.Objects.{clients_at, remembered_at}
 use Rattle.dgc_list.proofs.CallsLemmas.{tells-push, known-kept, named-at}

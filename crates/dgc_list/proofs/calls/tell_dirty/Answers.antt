@@ -1,10 +1,8 @@
-use Rattle.std.proofs.Common.{◌≡◌, ℕ, ◌||◌, true, false, Some, IsTrue, Contains, get_or, take, sym, ap, subst, ◌∙◌}
-use Rattle.std.specs.Prelude.{◌⊎◌}
+use Rattle.std.proofs.Common.{◌≡◌, get_or, take, ap, ◌∙◌}
 use Rattle.std.proofs.lemmas.List.{take_more}
 use Rattle.space_ids.specs.declared.ids.ObjId.{ObjId}
-use Rattle.dgc_list.specs.declared.remembered.Remembered.{Remembered}
-use Rattle.dgc_list.specs.Remembered.{after_dirty, is_blank}
-use Rattle.dgc_list.specs.Objects.{clients_at, remembered_at, is_named}
+use Rattle.dgc_list.specs.Remembered.{after_dirty}
+use Rattle.dgc_list.specs.Objects.{remembered_at}
 use Rattle.dgc_list.proofs.CallsLemmas.{tells-push, known-kept, named-at, or-left}
 use Rattle.dgc_list.proofs.RememberedLemmas.{dirty-twice, dirty-some}
 use Rattle.dgc_list.proofs.ReplaceLemmas.{dirty-same, planned-dirty}

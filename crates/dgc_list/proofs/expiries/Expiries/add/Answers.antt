@@ -1,4 +1,3 @@
-use Rattle.std.proofs.Common.{Contains}
 use Rattle.dgc_list.proofs.ExpiriesLemmas.{added}
 use Rattle.dgc_list.proofs.expiries.Expiries.add.Goals as goal
 

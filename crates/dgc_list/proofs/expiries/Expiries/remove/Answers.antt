@@ -1,4 +1,3 @@
-use Rattle.std.proofs.Common.{Contains}
 use Rattle.dgc_list.proofs.ExpiriesLemmas.{removed}
 use Rattle.dgc_list.proofs.expiries.Expiries.remove.Goals as goal
 
