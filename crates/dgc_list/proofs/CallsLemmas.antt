@@ -1,15 +1,12 @@
-use Rattle.std.proofs.Common.{◌≡◌, ℕ, zero, suc, ◌+◌, ◌<◌, ◌≤◌, Bool, true, false, cond, not, ◌&&◌, ◌||◌, leb, nat_le, filter, List, [], ◌∷◌, ◌++◌, length, get_or, take, Option, None, Some, is_some, IsTrue, refl, sym, ap, subst, ◌∙◌, arith, ⊎_elim, Contains}
-use Rattle.std.specs.Prelude.{unwrap_or, if◌then◌else◌, ◌⊎◌}
-use Rattle.std.specs.List.{list_any}
-use Rattle.std.specs.Map.{lookup}
+use Rattle.std.proofs.Common.{◌≡◌, ℕ, zero, suc, ◌<◌, Bool, true, false, cond, ◌&&◌, ◌||◌, List, [], ◌∷◌, ◌++◌, length, get_or, is_some, IsTrue, refl, sym, ap, subst, ◌∙◌, arith}
 use Rattle.std.specs.Str.{bytes_eq}
 use Rattle.std.proofs.lemmas.Bool.{eqb-true, eq-eqb, false≢true}
 use Rattle.std.proofs.lemmas.Slice.Eq.{bytes_eq-Decides}
 use Rattle.space_ids.specs.declared.ids.ObjId.{ObjId}
 use Rattle.dgc_list.specs.declared.remembered.Remembered.{Remembered}
-use Rattle.dgc_list.specs.Remembered.{blank, is_blank, after_dirty, after_clean, after_moment, is_late}
-use Rattle.dgc_list.specs.Clients.{remembered_in, is_known, leased, leased_after, without, Sets, IsSame}
-use Rattle.dgc_list.specs.Objects.{is_same, clients_at, remembered_at, is_named, AreKnown, Tells, Expires}
+use Rattle.dgc_list.specs.Remembered.{is_blank}
+use Rattle.dgc_list.specs.Clients.{remembered_in, is_known, leased, leased_after, Sets}
+use Rattle.dgc_list.specs.Objects.{is_same, clients_at, remembered_at, is_named, AreKnown, Tells}
 use Rattle.dgc_list.proofs.ObjectsLemmas.{same-object, is_same-refl}
 use Rattle.dgc_list.proofs.RememberedLemmas.{known-some}
 

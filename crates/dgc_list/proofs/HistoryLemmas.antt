@@ -1,16 +1,13 @@
-use Rattle.std.proofs.Common.{◌≡◌, ℕ, Bool, true, false, cond, not, ◌&&◌, filter, List, [], ◌∷◌, ◌++◌, Option, is_some, refl, sym, ap, subst, ◌∙◌}
-use Rattle.std.specs.Prelude.{if◌then◌else◌, nat_lt}
+use Rattle.std.proofs.Common.{◌≡◌, ℕ, Bool, true, false, cond, not, ◌&&◌, filter, List, [], ◌∷◌, ◌++◌, refl, sym, ap, subst, ◌∙◌}
 use Rattle.std.specs.List.{list_all}
 use Rattle.std.specs.Str.{bytes_eq}
 use Rattle.std.proofs.lemmas.Bool.{false≢true}
 use Rattle.space_ids.specs.declared.ids.ObjId.{ObjId}
-use Rattle.dgc_list.specs.declared.remembered.Remembered.{Remembered}
-use Rattle.dgc_list.specs.Remembered.{after_dirty, after_clean}
-use Rattle.dgc_list.specs.Clients.{leased_after, without}
+use Rattle.dgc_list.specs.Clients.{leased_after}
 use Rattle.dgc_list.specs.Objects.{is_same, is_named}
-use Rattle.dgc_list.specs.History.{Call, moment_of, granted, is_told, remembered_of, is_leased, clients_of}
+use Rattle.dgc_list.specs.History.{Call, is_told, is_leased, clients_of}
 use Rattle.dgc_list.specs.History.Call.{Dirty, Clean, Moment, Forget}
-use Rattle.dgc_list.proofs.CallsLemmas.{same-client, bytes_eq-refl}
+use Rattle.dgc_list.proofs.CallsLemmas.{same-client}
 
 both-true : (s t : Bool) → s ≡ true → t ≡ true → (s && t) ≡ true
 both-true true t h g = g

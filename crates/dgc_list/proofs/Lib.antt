@@ -7,3 +7,4 @@ pub mod ListLemmas
 pub mod MomentLemmas
 pub mod ObjectsLemmas
 pub mod RememberedLemmas
+pub mod ReplaceLemmas

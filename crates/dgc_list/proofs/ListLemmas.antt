@@ -1,7 +1,6 @@
-use Rattle.std.proofs.Common.{◌≡◌, ℕ, ◌+◌, ◌<◌, ◌≤◌, Bool, true, false, cond, ◌&&◌, filter, max, ltb, List, [], ◌∷◌, Option, None, Some, Result, Ok, Err, is_some, IsTrue, refl, sym, ap, subst, ◌∙◌, arith, Contains, inl, inr}
-use Rattle.std.specs.Prelude.{if◌then◌else◌, nat_lt, OnErr, ◌⊎◌}
+use Rattle.std.proofs.Common.{◌≡◌, ℕ, ◌+◌, ◌<◌, ◌≤◌, Bool, true, false, cond, ◌&&◌, filter, List, ◌∷◌, Result, Ok, Err, is_some, refl, sym, ap, ◌∙◌, arith, Contains}
+use Rattle.std.specs.Prelude.{nat_lt, OnErr}
 use Rattle.std.specs.Str.{bytes_eq}
-use Rattle.std.proofs.lemmas.Bool.{false≢true}
 use Rattle.std.proofs.lemmas.Bool.Decides.{nat_tests}
 use Rattle.space_ids.specs.declared.ids.ObjId.{ObjId}
 use Rattle.dgc_list.specs.declared.expiries.Expiry.{Expiry}
@@ -9,13 +8,13 @@ use Rattle.dgc_list.specs.declared.list.RefList.{RefList}
 use Rattle.dgc_list.specs.declared.remembered.Remembered.{Remembered}
 use Rattle.dgc_list.specs.Remembered.{after_dirty, after_clean, after_moment}
 use Rattle.dgc_list.specs.Clients.{leased, leased_after, IsSame}
-use Rattle.dgc_list.specs.Objects.{is_same, clients_at, remembered_at, is_named, IsCovered, Tells, Expires}
+use Rattle.dgc_list.specs.Objects.{clients_at, remembered_at, is_named, IsCovered, Tells, Expires}
 use Rattle.dgc_list.specs.History.{Call, moment_of, granted, is_told, remembered_of, is_leased, clients_of, IsAfter}
-use Rattle.dgc_list.specs.History.Call.{Dirty, Clean, Moment, Forget}
-use Rattle.dgc_list.proofs.CallsLemmas.{same-client, bytes_eq-refl}
+use Rattle.dgc_list.specs.History.Call.{Dirty, Clean, Moment}
+use Rattle.dgc_list.proofs.CallsLemmas.{bytes_eq-refl}
 use Rattle.dgc_list.proofs.HistoryLemmas.{all-leased, filter-all}
 use Rattle.dgc_list.proofs.MomentLemmas.{filter-like}
-use Rattle.dgc_list.proofs.RememberedLemmas.{dirty-keeps, clean-keeps, moment-none}
+use Rattle.dgc_list.proofs.RememberedLemmas.{moment-none}
 
 pub on_err : {T E P : Type 0} (r : Result T E) → P → OnErr r P
 on_err (Ok x) p = tt
@@ -32,79 +31,41 @@ after-same h old new moment same kept after = record {
 }
 
 module _ (h : List Call) (old : RefList) (after : IsAfter h old) (f : Remembered → Remembered) (client : List ℕ) (ids : List ObjId)
-    (mid new : List (ObjId × List (List ℕ × Remembered))) (same : (o : ObjId) → IsSame (clients_at old.objects o) (clients_at mid o)) (told : Tells f client ids mid new) where
-  mid-is : (c : List ℕ) (o : ObjId) → remembered_at mid o c ≡ remembered_of h c o
-  mid-is c o = (same o).remembered c ∙ after.remembered c o
-
+    (new : List (ObjId × List (List ℕ × Remembered))) (told : Tells f client ids old.objects new) where
   pub remembered-told : (c : List ℕ) (o : ObjId) → remembered_at new o c ≡ cond (is_told client ids c o) (f (remembered_of h c o)) (remembered_of h c o)
-  remembered-told c o = told.remembered_is o c ∙ ap (λ (r : Remembered). cond (is_told client ids c o) (f r) r) (mid-is c o)
+  remembered-told c o = told.remembered_is o c ∙ ap (λ (r : Remembered). cond (is_told client ids c o) (f r) r) (after.remembered c o)
 
   pub clients-told : (o : ObjId) → leased (clients_at new o) ≡ cond (is_named o ids)
       (leased_after client (is_leased h client o) (is_some (cond (is_told client ids client o) (f (remembered_of h client o)) (remembered_of h client o)).expires) (clients_of h o)) (clients_of h o)
   clients-told o = told.leased_is o
-      ∙ ap (λ (r : Remembered). cond (is_named o ids) (leased_after client (is_some r.expires) (is_some (f r).expires) (leased (clients_at mid o))) (leased (clients_at mid o))) (mid-is client o)
-      ∙ ap (λ cs. cond (is_named o ids) (leased_after client (is_leased h client o) (is_some (f (remembered_of h client o)).expires) cs) cs) ((same o).leased ∙ after.clients o)
+      ∙ ap (λ (r : Remembered). cond (is_named o ids) (leased_after client (is_some r.expires) (is_some (f r).expires) (leased (clients_at old.objects o))) (leased (clients_at old.objects o))) (after.remembered client o)
+      ∙ ap (λ cs. cond (is_named o ids) (leased_after client (is_leased h client o) (is_some (f (remembered_of h client o)).expires) cs) cs) (after.clients o)
       ∙ (elim (is_named o ids) as (λ t. cond t (leased_after client (is_leased h client o) (is_some (f (remembered_of h client o)).expires) (clients_of h o)) (clients_of h o)
       ≡ cond t (leased_after client (is_leased h client o) (is_some (cond (bytes_eq client client && t) (f (remembered_of h client o)) (remembered_of h client o)).expires) (clients_of h o)) (clients_of h o))
       [ true ↦ rw (bytes_eq-refl client) refl | false ↦ refl ])
 
-  -- an entry that the call did not set stood before
-  stood : (o : ObjId) (c : List ℕ) (at : ℕ) → (remembered_at mid o c).expires ≡ Some at → Contains old.expiries (record { moment = at; object = o; client = c })
-  stood o c at stands = after.covered o c at (ap (λ (r : Remembered). r.expires) (sym ((same o).remembered c)) ∙ stands)
-
-  pub covered-told : (expiries : List Expiry) → ((other : Expiry) → Contains old.expiries other → Contains expiries other)
-      → ((o : ObjId) (c : List ℕ) (at : ℕ) → client ≡ c → IsTrue (is_named o ids) → (f (remembered_at mid o c)).expires ≡ Some at
-      → ((remembered_at mid o c).expires ≡ Some at) ⊎ Contains expiries (record { moment = at; object = o; client = c }))
-      → IsCovered new expiries
-  covered-told expiries kept set o c at stands =
-      elim (is_told client ids c o) as (λ t. is_told client ids c o ≡ t → (cond t (f (remembered_at mid o c)) (remembered_at mid o c)).expires ≡ Some at
-      → Contains expiries (record { moment = at; object = o; client = c })) [
-        | true ↦ λ here now. elim (set o c at (same-client client c (left (bytes_eq client c) (is_named o ids) here)) (right (bytes_eq client c) (is_named o ids) here) now)
-            as (λ _. Contains expiries (record { moment = at; object = o; client = c }))
-            [ inl before ↦ kept _ (stood o c at before) | inr there ↦ there ]
-        | false ↦ λ _ now. kept _ (stood o c at now)
-      ] refl (ap (λ (r : Remembered). r.expires) (sym (told.remembered_is o c)) ∙ stands)
-    where
-      left : (s t : Bool) → (s && t) ≡ true → s ≡ true
-      left true t k = refl
-      left false t k = k
-
-      right : (s t : Bool) → (s && t) ≡ true → t ≡ true
-      right true t k = k
-      right false t k = absurd (false≢true k)
-
 -- a dirty call, from the calls that make it
-pub after-dirty : (h : List Call) (old new : RefList) (client : List ℕ) (ids : List ObjId) (number period expires : ℕ) (mid : List (ObjId × List (List ℕ × Remembered)))
-    → expires ≡ old.moment + granted period → new.moment ≡ old.moment → ((o : ObjId) → IsSame (clients_at old.objects o) (clients_at mid o))
-    → Tells (after_dirty number expires) client ids mid new.objects
-    → ((other : Expiry) → Contains old.expiries other → Contains new.expiries other)
-    → ((o : ObjId) → IsTrue (is_named o ids) → Contains new.expiries (record { moment = expires; object = o; client = client }))
-    → IsAfter h old → IsAfter (Dirty client ids number period ∷ h) new
-after-dirty h old new client ids number period expires mid is moment same told kept added after =
+pub after-dirty : (h : List Call) (old new : RefList) (client : List ℕ) (ids : List ObjId) (number period expires : ℕ)
+    → expires ≡ old.moment + granted period → new.moment ≡ old.moment → Tells (after_dirty number expires) client ids old.objects new.objects
+    → (IsCovered old.objects old.expiries → IsCovered new.objects new.expiries) → IsAfter h old → IsAfter (Dirty client ids number period ∷ h) new
+after-dirty h old new client ids number period expires is moment told covers after =
     let now : expires ≡ moment_of h + granted period = is ∙ ap (λ m. m + granted period) after.moment in
     record {
       moment = moment ∙ after.moment;
-      remembered = λ c o. rw (← now) (remembered-told h old after (after_dirty number expires) client ids mid new.objects same told c o);
-      clients = λ o. rw (← now) (clients-told h old after (after_dirty number expires) client ids mid new.objects same told o);
-      covered = covered-told h old after (after_dirty number expires) client ids mid new.objects same told new.expiries kept
-          (λ o c at own named stands. elim (dirty-keeps number expires (remembered_at mid o c) at stands)
-          as (λ _. ((remembered_at mid o c).expires ≡ Some at) ⊎ Contains new.expiries (record { moment = at; object = o; client = c })) [
-            | inl before ↦ inl before
-            | inr same_moment ↦ inr (subst (λ (x : List ℕ). Contains new.expiries (record { moment = at; object = o; client = x })) own
-                (subst (λ (x : ℕ). Contains new.expiries (record { moment = x; object = o; client = client })) same_moment (added o named)))
-          ]);
+      remembered = λ c o. rw (← now) (remembered-told h old after (after_dirty number expires) client ids new.objects told c o);
+      clients = λ o. rw (← now) (clients-told h old after (after_dirty number expires) client ids new.objects told o);
+      covered = covers after.covered;
     }
 
 -- a clean call, from the calls that make it
-pub after-clean : (h : List Call) (old new : RefList) (client : List ℕ) (ids : List ObjId) (number : ℕ) (strong : Bool) (mid : List (ObjId × List (List ℕ × Remembered)))
-    → new.moment ≡ old.moment → ((o : ObjId) → IsSame (clients_at old.objects o) (clients_at mid o)) → Tells (after_clean number strong) client ids mid new.objects
-    → ((other : Expiry) → Contains old.expiries other → Contains new.expiries other) → IsAfter h old → IsAfter (Clean client ids number strong ∷ h) new
-after-clean h old new client ids number strong mid moment same told kept after = record {
+pub after-clean : (h : List Call) (old new : RefList) (client : List ℕ) (ids : List ObjId) (number : ℕ) (strong : Bool)
+    → new.moment ≡ old.moment → Tells (after_clean number strong) client ids old.objects new.objects
+    → (IsCovered old.objects old.expiries → IsCovered new.objects new.expiries) → IsAfter h old → IsAfter (Clean client ids number strong ∷ h) new
+after-clean h old new client ids number strong moment told covers after = record {
   moment = moment ∙ after.moment;
-  remembered = λ c o. remembered-told h old after (after_clean number strong) client ids mid new.objects same told c o;
-  clients = λ o. clients-told h old after (after_clean number strong) client ids mid new.objects same told o;
-  covered = covered-told h old after (after_clean number strong) client ids mid new.objects same told new.expiries kept
-      (λ o c at own named stands. inl (clean-keeps number strong (remembered_at mid o c) at stands));
+  remembered = λ c o. remembered-told h old after (after_clean number strong) client ids new.objects told c o;
+  clients = λ o. clients-told h old after (after_clean number strong) client ids new.objects told o;
+  covered = covers after.covered;
 }
 
 -- a moment below the last changes nothing

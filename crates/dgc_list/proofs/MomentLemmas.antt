@@ -1,11 +1,11 @@
-use Rattle.std.proofs.Common.{◌≡◌, ℕ, ◌<◌, ◌≤◌, Bool, true, false, cond, not, ◌&&◌, filter, List, [], ◌∷◌, Option, None, Some, is_some, IsTrue, refl, sym, ap, subst, ◌∙◌, arith, Contains, inl, inr}
-use Rattle.std.specs.Prelude.{if◌then◌else◌, ◌⊎◌}
+use Rattle.std.proofs.Common.{◌≡◌, ℕ, ◌<◌, ◌≤◌, Bool, true, false, cond, not, ◌&&◌, filter, List, [], ◌∷◌, Option, None, Some, is_some, refl, sym, ap, subst, ◌∙◌, arith, Contains, inl, inr}
+use Rattle.std.specs.Prelude.{◌⊎◌}
 use Rattle.std.specs.Str.{bytes_eq}
 use Rattle.std.proofs.lemmas.Bool.{false≢true}
 use Rattle.space_ids.specs.declared.ids.ObjId.{ObjId}
 use Rattle.dgc_list.specs.declared.expiries.Expiry.{Expiry}
 use Rattle.dgc_list.specs.declared.remembered.Remembered.{Remembered}
-use Rattle.dgc_list.specs.Remembered.{blank, after_moment}
+use Rattle.dgc_list.specs.Remembered.{after_moment}
 use Rattle.dgc_list.specs.Clients.{remembered_in, leased, leased_after, without, Sets}
 use Rattle.dgc_list.specs.Objects.{is_same, clients_at, remembered_at, Expires, IsCovered}
 use Rattle.dgc_list.proofs.CallsLemmas.{same-client, bytes_eq-refl}

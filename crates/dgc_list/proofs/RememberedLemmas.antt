@@ -1,4 +1,4 @@
-use Rattle.std.proofs.Common.{◌≡◌, ℕ, ◌<◌, ◌≤◌, Bool, true, false, cond, ◌&&◌, ◌||◌, List, Option, None, Some, is_some, IsTrue, refl, sym, ap, ◌∙◌, leb, leb-true, leb-false, arith}
+use Rattle.std.proofs.Common.{◌≡◌, ℕ, ◌<◌, Bool, true, false, cond, ◌||◌, List, Option, None, Some, is_some, IsTrue, refl, sym, ap, ◌∙◌, leb-false, arith}
 use Rattle.std.specs.Prelude.{unwrap_or, if◌then◌else◌, nat_le, ◌⊎◌}
 use Rattle.std.proofs.Common.{inl, inr}
 use Rattle.std.specs.Map.{lookup}

@@ -1,12 +1,11 @@
 use Rattle.std.specs.Prelude.{◌≡◌, ℕ, ◌+◌, ◌≤◌, Bool, false, List, [], ◌∷◌, is_some, IsTrue, ◌&&◌, nat_lt, min, max, filter, if◌then◌else◌}
-use Rattle.std.specs.List.{list_any}
 use Rattle.std.specs.Str.{bytes_eq}
 use Rattle.space_ids.specs.declared.ids.ObjId.{ObjId}
 use Rattle.dgc_list.specs.declared.list.RefList.{RefList}
 use Rattle.dgc_list.specs.declared.remembered.Remembered.{Remembered}
 use Rattle.dgc_list.specs.Remembered.{blank, after_dirty, after_clean, after_moment}
 use Rattle.dgc_list.specs.Clients.{leased, leased_after}
-use Rattle.dgc_list.specs.Objects.{is_same, clients_at, remembered_at, is_named, IsCovered}
+use Rattle.dgc_list.specs.Objects.{is_same, clients_at, remembered_at, is_named, AreKnown, ArePlanned, IsCovered}
 
 -- What a reference list is told. A history is the list of it, newest first. A client is the sixteen bytes of its space's id; moments and periods are in milliseconds.
 pub data Call : Type 0 where
@@ -55,6 +54,15 @@ clients_of (Clean client objects number strong ∷ h) o =
     if is_named o objects then leased_after client (is_leased h client o) (is_leased (Clean client objects number strong ∷ h) client o) (clients_of h o) else clients_of h o
 clients_of (Moment moment ∷ h) o = filter (λ c. is_leased (Moment moment ∷ h) c o) (clients_of h o)
 clients_of (Forget object ∷ h) o = if is_same object o then [] else clients_of h o
+
+-- There is room for what is remembered of the client at each of these objects.
+abbrev pub HasPlaces : List ℕ → List ObjId → RefList → Type 0
+HasPlaces client objects list = AreKnown client objects list.objects
+
+-- There is room for a dirty call of the client, of this number and period, that comes now.
+pub record HasRoom (client : List ℕ) (objects : List ObjId) (number period : ℕ) (list : RefList) : Type 0 where
+  pub places : HasPlaces client objects list
+  pub planned : ArePlanned client objects number (list.moment + granted period) list.objects list.expiries
 
 -- The list is what the history leaves.
 pub record IsAfter (h : List Call) (list : RefList) : Type 0 where

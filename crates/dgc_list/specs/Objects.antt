@@ -1,11 +1,11 @@
-use Rattle.std.specs.Prelude.{◌≡◌, ℕ, Bool, List, [], ◌∷◌, Some, is_some, IsTrue, unwrap_or, ◌==◌, ◌&&◌, Contains, filter, if◌then◌else◌}
+use Rattle.std.specs.Prelude.{◌≡◌, ℕ, Bool, false, List, [], Some, is_some, IsTrue, unwrap_or, ◌==◌, ◌&&◌, Contains, filter, if◌then◌else◌}
 use Rattle.std.specs.List.{list_any}
 use Rattle.std.specs.Map.{lookup}
 use Rattle.std.specs.Str.{bytes_eq}
 use Rattle.space_ids.specs.declared.ids.ObjId.{ObjId}
 use Rattle.dgc_list.specs.declared.expiries.Expiry.{Expiry}
 use Rattle.dgc_list.specs.declared.remembered.Remembered.{Remembered}
-use Rattle.dgc_list.specs.Remembered.{after_moment}
+use Rattle.dgc_list.specs.Remembered.{after_moment, is_late}
 use Rattle.dgc_list.specs.Clients.{remembered_in, is_known, leased, leased_after}
 
 -- whether two ids are one
@@ -27,6 +27,12 @@ is_named object objects = list_any (is_same object) objects
 -- the client has room at each of the objects
 abbrev pub AreKnown : List ℕ → List ObjId → List (ObjId × List (List ℕ × Remembered)) → Type 0
 AreKnown client ids objects = (object : ObjId) → IsTrue (is_named object ids) → IsTrue (is_known (clients_at objects object) client)
+
+-- The expiries of the entries that a dirty call of this number sets for the objects, until this moment, are in the row. A late call sets none.
+abbrev pub ArePlanned : List ℕ → List ObjId → ℕ → ℕ → List (ObjId × List (List ℕ × Remembered)) → List Expiry → Type 0
+ArePlanned client ids number moment objects expiries =
+    (object : ObjId) → IsTrue (is_named object ids) → is_late (remembered_at objects object client) number ≡ false
+    → Contains expiries (record { moment = moment; object = object; client = client })
 
 -- each entry that stands has its expiry in the row
 abbrev pub IsCovered : List (ObjId × List (List ℕ × Remembered)) → List Expiry → Type 0

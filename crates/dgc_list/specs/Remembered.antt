@@ -1,4 +1,4 @@
-use Rattle.std.specs.Prelude.{ℕ, Bool, true, false, Option, None, Some, is_none, is_some, ◌&&◌, ◌||◌, not, nat_le, if◌then◌else◌}
+use Rattle.std.specs.Prelude.{ℕ, Bool, false, Option, None, Some, is_none, ◌&&◌, ◌||◌, not, nat_le, if◌then◌else◌}
 use Rattle.dgc_list.specs.declared.remembered.Remembered.{Remembered}
 
 -- nothing

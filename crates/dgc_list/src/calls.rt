@@ -1,12 +1,13 @@
 //! What calls and moments make of the objects' clients.
 
-ghost use Rattle.std.specs.Prelude.{◌≡◌, ◌<◌, ℕ, IsTrue, OnOk, Contains, length};
+ghost use Rattle.std.specs.Prelude.{◌≡◌, ◌<◌, ℕ, IsTrue, OnOk, Contains, Some, false, length, ◌||◌};
 ghost use Rattle.space_ids.specs.declared.ids.ObjId.{ObjId};
 ghost use Rattle.dgc_list.specs.declared.expiries.Expiry.{Expiry};
-ghost use Rattle.dgc_list.specs.Remembered.{after_dirty, after_clean};
-ghost use Rattle.dgc_list.specs.Clients.{IsSame};
-ghost use Rattle.dgc_list.specs.Objects.{clients_at, is_named, AreKnown, IsCovered, Tells, Expires};
+ghost use Rattle.dgc_list.specs.Remembered.{after_dirty, after_clean, is_blank};
+ghost use Rattle.dgc_list.specs.Clients.{is_known, IsSame, Sets};
+ghost use Rattle.dgc_list.specs.Objects.{is_same, clients_at, remembered_at, is_named, AreKnown, ArePlanned, IsCovered, Tells, Expires};
 
+use crate::Remembered;
 use crate::expiries::{Expiries, Expiry};
 use crate::objects::Objects;
 use space_ids::ObjId;
@@ -28,57 +29,94 @@ pub(crate) fn make_room(
     Ok(())
 }
 
-// Adds the expiries of a client's entries for the objects.
+// Adds the expiries of the entries that a client's call sets for the objects: none where it is late.
 pub(crate) fn add_expiries(
     expiries: &mut Expiries,
+    objects: &Objects,
     client: &Uuid,
     ids: &[ObjId],
+    number: u64,
     moment: u64,
 ) -> Result<(), AllocError>
-    ensures added { OnOk result ((object : ObjId) → IsTrue (is_named object ids.now) → Contains expiries.new (record { moment = moment; object = object; client = client.now })) }
+    ensures planned { OnOk result (ArePlanned client.now ids.now number moment objects.now expiries.new) }
     ensures kept { (other : Expiry) → Contains expiries.old other → Contains expiries.new other }
 {
     for id in ids {
-        expiries.add(Expiry {
-            moment,
-            object: *id,
-            client: *client,
-        })?;
+        if !objects.get(*id, client).is_late(number) {
+            expiries.add(Expiry {
+                moment,
+                object: *id,
+                client: *client,
+            })?;
+        }
     }
     Ok(())
 }
 
-// A dirty call of a client that has room.
+// Sets what is remembered of a client of an object. If an entry ends by it, or is set anew, its expiry
+// goes.
+fn replace(
+    objects: &mut Objects,
+    expiries: &mut Expiries,
+    object: ObjId,
+    client: &Uuid,
+    remembered: Remembered,
+)
+    requires { IsTrue (is_known (clients_at objects.old object) client.now || is_blank remembered) }
+    ensures here { Sets client.now remembered (clients_at objects.old object) (clients_at objects.new object) }
+    ensures others { (other : ObjId) → is_same object other ≡ false → clients_at objects.new other ≡ clients_at objects.old other }
+    ensures covered { ((moment : ℕ) → remembered.expires ≡ Some moment → Contains expiries.old (record { moment = moment; object = object; client = client.now })) → IsCovered objects.old expiries.old → IsCovered objects.new expiries.new }
+    ensures kept { (other : Expiry) → Contains expiries.old other → ((remembered_at objects.old object client.now).expires ≡ Some other.moment → remembered.expires ≡ Some other.moment) → Contains expiries.new other }
+{
+    let before = objects.get(object, client);
+    objects.set(object, client, remembered);
+    if let Some(moment) = before.expires
+        && !remembered.stands_until(moment)
+    {
+        expiries.remove(Expiry {
+            moment,
+            object,
+            client: *client,
+        });
+    }
+}
+
+// A dirty call of a client that has room, and whose expiries are there.
 pub(crate) fn tell_dirty(
     objects: &mut Objects,
+    expiries: &mut Expiries,
     client: &Uuid,
     ids: &[ObjId],
     number: u64,
     expires: u64,
 )
-    requires { AreKnown client.now ids.now objects.old }
-    ensures { Tells (after_dirty number expires) client.now ids.now objects.old objects.new }
+    requires known { AreKnown client.now ids.now objects.old }
+    requires planned { ArePlanned client.now ids.now number expires objects.old expiries.old }
+    ensures told { Tells (after_dirty number expires) client.now ids.now objects.old objects.new }
+    ensures covered { IsCovered objects.old expiries.old → IsCovered objects.new expiries.new }
 {
     for id in ids {
         let remembered = objects.get(*id, client).after_dirty(number, expires);
-        objects.set(*id, client, remembered);
+        replace(objects, expiries, *id, client, remembered);
     }
 }
 
 // A clean call of a client, which has room where the call is strong.
 pub(crate) fn tell_clean(
     objects: &mut Objects,
+    expiries: &mut Expiries,
     client: &Uuid,
     ids: &[ObjId],
     number: u64,
     strong: bool,
 )
     requires { IsTrue strong → AreKnown client.now ids.now objects.old }
-    ensures { Tells (after_clean number strong) client.now ids.now objects.old objects.new }
+    ensures told { Tells (after_clean number strong) client.now ids.now objects.old objects.new }
+    ensures covered { IsCovered objects.old expiries.old → IsCovered objects.new expiries.new }
 {
     for id in ids {
         let remembered = objects.get(*id, client).after_clean(number, strong);
-        objects.set(*id, client, remembered);
+        replace(objects, expiries, *id, client, remembered);
     }
 }
 

@@ -1,40 +1,37 @@
-//! When entries expire: a row in the order of the moments.
+//! When entries expire, in the order of the moments.
 
-ghost use Rattle.std.specs.Prelude.{◌≡◌, ◌+◌, ◌<◌, ◌≤◌, ◌⊎◌, [], length, Contains, OnOk, OnErr, OnSome, IfSome, IfNone};
-ghost use Rattle.std.specs.declared.collections.VecDeque.{VecDeque};
+ghost use Rattle.std.specs.Prelude.{◌≡◌, ◌≢◌, ◌+◌, ◌<◌, ◌≤◌, ◌⊎◌, [], length, Contains, OnOk, OnSome, IfSome, IfNone};
 ghost use Rattle.dgc_list.specs.declared.expiries.Expiry.{Expiry};
 
 use space_ids::ObjId;
 use std::alloc::{AllocError, Global};
-use std::collections::VecDeque;
+use std::collections::BTreeSet;
 use std::marker::Model;
 use uuid::Uuid;
 
 /// A client's entry for an object is gone from a moment on.
-#[derive(Clone, Copy, Debug, PartialEq, Eq)]
+#[derive(Clone, Copy, Debug, PartialEq, Eq, PartialOrd, Ord)]
 pub(crate) struct Expiry {
     pub(crate) moment: u64,
     pub(crate) object: ObjId,
     pub(crate) client: Uuid,
 }
 
-/// Expiries in the order of their moments. One that is out of date, because the entry was renewed or
-/// cleaned, stays until its moment and does no harm: when it comes, the entry itself is looked at.
+/// Expiries in the order of their moments, one for each entry that stands. One more may be there for
+/// an entry that went with its object, or whose call met the end of memory: it does no harm, since the
+/// entry itself is looked at when the moment comes.
 #[derive(Debug, Drop)]
 pub(crate) struct Expiries {
-    row: VecDeque<Expiry>,
+    row: BTreeSet<Expiry>,
 }
 
 impl Model for Expiries {
     ghost use Rattle.std.specs.Prelude.{List};
-    ghost use Rattle.std.specs.List.Sorted.{IsNonDecreasingBy};
     ghost use Rattle.dgc_list.specs.declared.expiries.Expiry.{Expiry};
 
     ghost Value = { List Expiry };
 
-    ghost view = { λ expiries. expiries.row.items };
-
-    ghost invariant = { λ expiries. IsNonDecreasingBy (λ expiry. expiry.moment) expiries.row.items };
+    ghost view = { λ expiries. expiries.row.keys };
 }
 
 impl Expiries {
@@ -42,19 +39,24 @@ impl Expiries {
         ensures { result ≡ [] }
     {
         Expiries {
-            row: VecDeque::new(alloc),
+            row: BTreeSet::new(alloc),
         }
     }
 
-    // Adds an expiry, behind those of its moment.
+    // Adds an expiry.
     pub(crate) fn add(&mut self, expiry: Expiry) -> Result<(), AllocError>
         ensures added { OnOk result (Contains self.new expiry) }
         ensures kept { (other : Expiry) → Contains self.old other → Contains self.new other }
     {
-        let moment = expiry.moment;
-        let at = self.row.partition_point(|other| other.moment <= moment);
-        self.row.insert(at, expiry)?;
+        self.row.insert(expiry)?;
         Ok(())
+    }
+
+    // Takes an expiry out.
+    pub(crate) fn remove(&mut self, expiry: Expiry)
+        ensures { (other : Expiry) → Contains self.old other → (other ≡ expiry) ⊎ Contains self.new other }
+    {
+        let _ = self.row.remove(&expiry);
     }
 
     // Takes the first expiry, if the moment has reached it.
@@ -65,8 +67,8 @@ impl Expiries {
         ensures none { IfNone result ((other : Expiry) → Contains self.old other → moment < other.moment) }
         ensures unchanged { IfNone result (self.new ≡ self.old) }
     {
-        match self.row.front() {
-            Some(first) if first.moment <= moment => self.row.pop_front(),
+        match self.row.first() {
+            Some(first) if first.moment <= moment => self.row.pop_first(),
             _ => None,
         }
     }

@@ -1,6 +1,6 @@
 //! The reference lists of a space.
 
-ghost use Rattle.std.specs.Prelude.{◌≡◌, ◌<◌, ◌^◌, List, [], ◌∷◌, false, IsOk, IfOk, OnOk, OnErr, length};
+ghost use Rattle.std.specs.Prelude.{◌≡◌, ◌<◌, ◌^◌, List, [], ◌∷◌, false, IsTrue, IsOk, IfOk, OnOk, OnErr, length};
 ghost use Rattle.space_ids.specs.declared.ids.ObjId.{ObjId};
 
 use crate::calls::{add_expiries, expire, make_room, tell_clean, tell_dirty};
@@ -26,7 +26,7 @@ pub struct RefList {
 }
 
 impl RefList {
-    ghost use Rattle.dgc_list.specs.History.{Call, granted, remembered_of, clients_of, IsAfter};
+    ghost use Rattle.dgc_list.specs.History.{Call, granted, remembered_of, clients_of, HasPlaces, HasRoom, IsAfter};
     ghost use Rattle.dgc_list.specs.History.Call.{Dirty, Clean, Moment, Forget};
 
     /// Reference lists of which nothing is told yet, at moment 0.
@@ -40,10 +40,71 @@ impl RefList {
         }
     }
 
+    /// Makes room for what is remembered of a client of these objects, so that a strong
+    /// [`clean_reserved`](RefList::clean_reserved) takes no memory. Nothing else changes, at out of
+    /// memory too.
+    pub fn reserve_places(&mut self, client: &Uuid, objects: &[ObjId]) -> Result<(), AllocError>
+        ensures places { OnOk result (HasPlaces client.now objects.now self.new) }
+        ensures same { (h : List Call) → IsAfter h self.old → IsAfter h self.new }
+    {
+        make_room(&mut self.objects, client, objects)
+    }
+
+    /// Makes room for a dirty call of this number and period that comes now, so that
+    /// [`dirty_reserved`](RefList::dirty_reserved) takes no memory. Nothing else changes, at out of
+    /// memory too.
+    pub fn reserve_dirty(
+        &mut self,
+        client: &Uuid,
+        objects: &[ObjId],
+        number: u64,
+        period: u64,
+    ) -> Result<(), AllocError>
+        ensures room { OnOk result (HasRoom client.now objects.now number period self.new) }
+        ensures same { (h : List Call) → IsAfter h self.old → IsAfter h self.new }
+    {
+        self.reserve_places(client, objects)?;
+        let expires = self.moment + period.min(LONGEST_LEASE);
+        add_expiries(
+            &mut self.expiries,
+            &self.objects,
+            client,
+            objects,
+            number,
+            expires,
+        )
+    }
+
+    /// A dirty call, as [`dirty`](RefList::dirty) tells it, for which there is
+    /// [room](RefList::reserve_dirty). It takes no memory. Returns the period that is granted.
+    pub fn dirty_reserved(
+        &mut self,
+        client: &Uuid,
+        objects: &[ObjId],
+        number: u64,
+        period: u64,
+    ) -> u64
+        requires { HasRoom client.now objects.now number period self.old }
+        ensures granted { result ≡ granted period }
+        ensures told { (h : List Call) → IsAfter h self.old → IsAfter (Dirty client.now objects.now number period ∷ h) self.new }
+    {
+        let granted = period.min(LONGEST_LEASE);
+        let expires = self.moment + granted;
+        tell_dirty(
+            &mut self.objects,
+            &mut self.expiries,
+            client,
+            objects,
+            number,
+            expires,
+        );
+        granted
+    }
+
     /// A dirty call of a client on objects that stand. For each of them it sets the client's entry,
     /// granted now for `period` or the longest lease, whichever is less, and has its number
-    /// remembered; where it is late it changes nothing. Answers the period that is granted. At want
-    /// of memory no entry is changed.
+    /// remembered; if it is late it changes nothing. Returns the period that is granted. At out of
+    /// memory no entry is changed.
     pub fn dirty(
         &mut self,
         client: &Uuid,
@@ -55,18 +116,30 @@ impl RefList {
         ensures ok { OnOk result ((h : List Call) → IsAfter h self.old → IsAfter (Dirty client.now objects.now number period ∷ h) self.new) }
         ensures err { OnErr result ((h : List Call) → IsAfter h self.old → IsAfter h self.new) }
     {
-        let granted = period.min(LONGEST_LEASE);
-        let expires = self.moment + granted;
-        make_room(&mut self.objects, client, objects)?;
-        add_expiries(&mut self.expiries, client, objects, expires)?;
-        tell_dirty(&mut self.objects, client, objects, number, expires);
-        Ok(granted)
+        self.reserve_dirty(client, objects, number, period)?;
+        Ok(self.dirty_reserved(client, objects, number, period))
+    }
+
+    /// A clean call, as [`clean`](RefList::clean) tells it, for which there is
+    /// [room](RefList::reserve_places) if it is strong. It takes no memory.
+    pub fn clean_reserved(&mut self, client: &Uuid, objects: &[ObjId], number: u64, strong: bool)
+        requires { IsTrue strong → HasPlaces client.now objects.now self.old }
+        ensures { (h : List Call) → IsAfter h self.old → IsAfter (Clean client.now objects.now number strong ∷ h) self.new }
+    {
+        tell_clean(
+            &mut self.objects,
+            &mut self.expiries,
+            client,
+            objects,
+            number,
+            strong,
+        );
     }
 
     /// A clean call of a client on objects that stand. For each of them it removes the client's
     /// entry. A strong one has its number remembered; one that is not strong has it forgotten, unless
-    /// a strong one was kept before. Where it is late it changes nothing. At want of memory, which
-    /// only a strong one meets, no entry is changed.
+    /// a strong one was kept before. If it is late it changes nothing. At out of memory, which only a
+    /// strong one meets, no entry is changed.
     pub fn clean(
         &mut self,
         client: &Uuid,
@@ -79,9 +152,9 @@ impl RefList {
         ensures err { OnErr result ((h : List Call) → IsAfter h self.old → IsAfter h self.new) }
     {
         if strong {
-            make_room(&mut self.objects, client, objects)?;
+            self.reserve_places(client, objects)?;
         }
-        tell_clean(&mut self.objects, client, objects, number, strong);
+        self.clean_reserved(client, objects, number, strong);
         Ok(())
     }
 

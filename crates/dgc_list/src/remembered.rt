@@ -1,6 +1,6 @@
 //! What is remembered of one client and one object.
 
-ghost use Rattle.std.specs.Prelude.{◌≡◌, ◌+◌, ◌^◌, ◌<◌};
+ghost use Rattle.std.specs.Prelude.{◌≡◌, ◌+◌, ◌^◌, ◌<◌, ◌↔◌, IsTrue};
 ghost use Rattle.dgc_list.specs.Remembered.{blank, is_late, after_dirty, after_clean, after_moment, is_blank};
 
 /// What an owner remembers of a client and an object. Nothing is remembered where all is none.
@@ -30,13 +30,20 @@ impl Remembered {
     }
 
     // Whether a call of this number is late.
-    fn is_late(self, number: u64) -> bool
+    pub(crate) fn is_late(self, number: u64) -> bool
         ensures { result ≡ is_late self number }
     {
         match self.number {
             Some(last) => number <= last,
             None => false,
         }
+    }
+
+    // Whether there is an entry, which is gone from this moment on.
+    pub(crate) fn stands_until(self, moment: u64) -> bool
+        ensures { IsTrue result ↔ (self.expires ≡ Some moment) }
+    {
+        matches!(self.expires, Some(expires) if expires == moment)
     }
 
     // What a dirty call leaves whose entry is gone at `expires`.

@@ -1,4 +1,4 @@
-use Rattle.std.proofs.Common.{◌≡◌, refl, ap, sym, ◌∙◌}
+use Rattle.std.proofs.Common.{refl, ap, ◌∙◌}
 use Rattle.dgc_list.specs.Remembered.{after_moment}
 use Rattle.dgc_list.specs.Objects.{clients_at}
 use Rattle.dgc_list.proofs.MomentLemmas.{expires-next, covered-next}

@@ -1,4 +1,4 @@
-use Rattle.std.proofs.Common.{◌≡◌, ◌+◌, ◌-◌, ◌≤◌, List, ℕ, Some, length, refl, ap, sym, ◌∙◌, arith}
+use Rattle.std.proofs.Common.{◌≡◌, ◌+◌, ◌-◌, List, ℕ, Some, length, refl, ap, sym, ◌∙◌, arith}
 use Rattle.indexmap.specs.IndexMap.{insert_entry, move_index}
 use Rattle.std.specs.Str.{bytes_eq}
 use Rattle.dgc_list.specs.declared.remembered.Remembered.{Remembered}

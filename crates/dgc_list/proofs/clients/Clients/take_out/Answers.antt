@@ -1,4 +1,4 @@
-use Rattle.std.proofs.Common.{None, refl, ap, sym, ◌∙◌}
+use Rattle.std.proofs.Common.{None, refl, ap, ◌∙◌}
 use Rattle.dgc_list.specs.Remembered.{blank}
 use Rattle.dgc_list.specs.Clients.{leased}
 use Rattle.dgc_list.proofs.ClientsLemmas.{leased-taken, sets-from}

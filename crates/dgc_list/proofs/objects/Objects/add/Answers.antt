@@ -1,8 +1,7 @@
-use Rattle.std.proofs.Common.{◌≡◌, None, Some, IsTrue, is_some, ◌∙◌, sym, ap, subst, refl, false}
+use Rattle.std.proofs.Common.{◌≡◌, None, Some, is_some, ◌∙◌, ap}
 use Rattle.std.specs.Map.{lookup}
 use Rattle.std.proofs.lemmas.Bool.{false≢true}
 use Rattle.dgc_list.specs.Objects.{is_same, clients_at}
-use Rattle.dgc_list.specs.Clients.{IsSame}
 use Rattle.dgc_list.proofs.ObjectsLemmas.{some-is, found-at, same-changed, same-trans, same-along}
 use Rattle.dgc_list.proofs.objects.Objects.add.Goals as goal
 

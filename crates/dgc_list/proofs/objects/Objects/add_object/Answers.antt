@@ -1,5 +1,4 @@
-use Rattle.std.proofs.Common.{◌≡◌, ap, sym, ◌∙◌, subst}
-use Rattle.dgc_list.specs.Objects.{clients_at}
+use Rattle.std.proofs.Common.{sym, ◌∙◌}
 use Rattle.dgc_list.proofs.ObjectsLemmas.{clients-added}
 use Rattle.dgc_list.proofs.objects.Objects.add_object.Goals as goal
 use Rattle.dgc_list.proofs.objects.Objects.add_object.Goals.{in-Some-1, in-None-1}

@@ -1,6 +1,6 @@
-use Rattle.std.proofs.Common.{◌≡◌, false, Some, sym, ap, ◌∙◌, if◌then◌else◌, [], cond}
+use Rattle.std.proofs.Common.{◌≡◌, Some, ◌∙◌}
 use Rattle.std.specs.Map.{lookup}
-use Rattle.dgc_list.specs.Objects.{is_same, clients_at}
+use Rattle.dgc_list.specs.Objects.{is_same}
 use Rattle.dgc_list.proofs.ObjectsLemmas.{some-is, found-at, changed-here, changed-other}
 use Rattle.dgc_list.proofs.objects.Objects.set.Goals as goal
 
