@@ -6,7 +6,7 @@ use Rattle.std.proofs.lemmas.Slice.Eq.{bytes_eq-Decides}
 use Rattle.std.specs.List.{list_any}
 use Rattle.std.specs.Prelude.{◌≡◌, refl, ℕ, ◌==◌, ◌||◌, not, is_some, Bool, true, false, List, [], ◌∷◌, ◌++◌, Option, None, Some, find, if◌then◌else◌, filter, cond, ◌⊎◌}
 use Rattle.std.specs.Str.{bytes_eq}
-use Rattle.dgc_client.specs.declared.table.ForeignId.{ForeignId}
+use Rattle.space_ids.specs.declared.ids.ForeignId.{ForeignId}
 use Rattle.net_message.specs.declared.message.Message.{Message}
 use Rattle.uuid.specs.declared.Uuid.{Uuid}
 use Rattle.sp_rules.proofs.AllLemmas.{some-none, or-left, or-right, all-weaken, all-filter, all-map, all-more, all-both-filter, none-found, found-is}

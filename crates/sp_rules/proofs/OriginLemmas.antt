@@ -7,7 +7,7 @@ use Rattle.dgc_client.specs.Table as client
 use Rattle.dgc_client.specs.declared.groups.Group.{Group}
 use Rattle.dgc_client.specs.declared.lease.Due.{Due}
 use Rattle.dgc_client.specs.declared.lease.Due.TheVariants as due
-use Rattle.dgc_client.specs.declared.table.ForeignId.{ForeignId}
+use Rattle.space_ids.specs.declared.ids.ForeignId.{ForeignId}
 use Rattle.net_message.specs.declared.message.Message.{Message}
 use Rattle.uuid.specs.declared.Uuid.{Uuid}
 use Rattle.space_ids.specs.declared.ids.ObjId.{ObjId}
