@@ -12,10 +12,10 @@ pub use calls::Calls;
 pub use memory_sink::MemSink;
 pub use memory_source::MemSource;
 pub use reading::{ReadError, read_bytes};
-pub use standard_sink::StdSink;
+pub use standard_sink::{StdSink, write_part};
 pub use standard_source::StdSource;
-pub use writing::{Cut, write_all};
 use thiserror::Error;
+pub use writing::{Cut, write_all};
 
 mod calls;
 mod memory_sink;

@@ -1,9 +1,28 @@
 //! A sink over one of the standard library's writers: a file, a socket, standard output.
 
-ghost use Rattle.std.specs.Prelude.{◌≡◌, false};
+ghost use Rattle.std.specs.Prelude.{◌≡◌, ◌<◌, ◌≤◌, length, false, IfOk};
+ghost use Rattle.std.specs.Io.KnownBytes.{WriteAppends};
 
 use super::{Failed, Sink};
 use std::io::{ErrorKind, Write};
+
+/// Writes a front part of the bytes to a writer, and answers how many: at least one if there is one. A
+/// write that a signal interrupted is made again. `Failed` is any other error of the writer, or a write
+/// that takes none of some bytes; the writer has taken none then.
+pub fn write_part<W: Write>(writer: &mut W, bytes: &[u8]) -> Result<usize, Failed>
+    ensures within { IfOk result (λ count. count ≤ length bytes.now) }
+    ensures some { IfOk result (λ count. 0 < length bytes.now → 0 < count) }
+    ensures bytes { WriteAppends (W.contents writer.old) (W.contents writer.new) result bytes.now }
+{
+    for _ in 0..u64::MAX {
+        match writer.write(bytes) {
+            Ok(count) if count > 0 || bytes.is_empty() => return Ok(count),
+            Err(error) if error.kind() == ErrorKind::Interrupted => {}
+            _ => return Err(Failed),
+        }
+    }
+    Err(Failed)
+}
 
 /// A sink over a writer. A write that a signal interrupted is made again; any other error of the
 /// writer makes the sink fail for good, and so does a write that takes none of some bytes.
@@ -35,15 +54,13 @@ impl<W: Write> Sink for StdSink<W> {
         if self.failed {
             return Err(Failed);
         }
-        for _ in 0..u64::MAX {
-            match self.writer.write(bytes) {
-                Ok(count) if count > 0 || bytes.is_empty() => return Ok(count),
-                Err(error) if error.kind() == ErrorKind::Interrupted => {}
-                _ => break,
+        match write_part(&mut self.writer, bytes) {
+            Ok(count) => Ok(count),
+            Err(Failed) => {
+                self.failed = true;
+                Err(Failed)
             }
         }
-        self.failed = true;
-        Err(Failed)
     }
 
     fn failed(&self) -> bool {

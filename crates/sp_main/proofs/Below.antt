@@ -6,7 +6,8 @@ use Rattle.std.specs.Global.{Global}
 use Rattle.sp_main.specs.Folders.{IsBelow, IsClassPath, IsEntryName, joined, path_of}
 
 pub itself : (root : List ℕ) → IsBelow root root
-itself root = record { names = []; entries = tt; path_is = refl }
+unfolding path_of
+itself root = record { names = []; entries = λ k d within. absurd (omega (arith, within)); path_is = refl }
 
 -- at first no file is found, and the folder itself waits
 pub begun : (root : List ℕ) (files folders : List (String Global)) (path : String Global) → files ≡ [] → folders ≡ [] ++ path ∷ [] → string_bytes path ≡ root
@@ -19,6 +20,7 @@ begun root files folders path none one is =
 
 -- one name more leads one folder further
 path_of-last : (root : List ℕ) (names : List (List ℕ)) (name : List ℕ) → path_of root (names ++ (name ∷ [])) ≡ joined (path_of root names) name
+unfolding path_of
 path_of-last root [] name = refl
 path_of-last root (first ∷ names) name = path_of-last (joined root first) names name
 
@@ -28,7 +30,7 @@ within root folder path name below entry is =
     record {
       names = below.names ++ (name ∷ []);
       entries = All-push IsEntryName below.names name below.entries entry;
-      path_is = is ∙ ap (λ (front : List ℕ). joined front name) below.path_is ∙ sym (path_of-last root below.names name)
+      path_is = is ∙ ap (λ (front : List ℕ). joined front name) below.path_is ∙ sym (path_of-last root below.names name);
     }
 
 -- the path of a class file in a folder that is below

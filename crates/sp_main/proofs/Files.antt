@@ -1,7 +1,7 @@
 -- One file more, and one class file more.
 use Rattle.std.proofs.Common.{◌≡◌, ◌++◌, ℕ, zero, suc, List, [], ◌∷◌, Some, ◌<◌, ◌∙◌, length, get_or, ap, sym, subst}
 use Rattle.std.proofs.lemmas.Option.{slice_get-get_or}
-use Rattle.std.specs.Prelude.{Result, Ok, Err, IfErr, IsErrAnd, take, slice_get}
+use Rattle.std.specs.Prelude.{Result, Ok, Err, IfErr, IfOk, IsErrAnd, take, slice_get}
 use Rattle.cf_reader.specs.declared.class_file.ClassFile.{ClassFile}
 use Rattle.sp_main.specs.Runs.{AreSpelled, IsSpelled}
 use Rattle.sp_main.specs.declared.running.ClassBytes.{ClassBytes}
@@ -25,3 +25,7 @@ known_error (Err e) known P is holds = subst P (sym is) holds
 -- what an index gives
 pub found : (files : List ClassBytes) (place : ℕ) (file : ClassBytes) → place < length files → file ≡ get_or files place file → slice_get files place ≡ Some file
 found files place file within is = slice_get-get_or files place file within ∙ ap (λ (f : ClassBytes). Some f) (sym is)
+
+-- what holds of an answer, of which it is known that it is one
+pub known_ok : {A E : Type 0} (P : A → Type 0) (r : Result A E) (a : A) → r ≡ Ok a → IfOk r P → P a
+known_ok P r a is holds = subst (λ r. IfOk r P) is holds

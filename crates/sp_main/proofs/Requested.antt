@@ -1,5 +1,5 @@
 -- What words ask for, by what the parser answers to them.
-use Rattle.std.proofs.Common.{◌≡◌, ◌∙◌, ℕ, List, [], true, Option, Some, Result, Ok, Err, IfOk, codes, slice_get, inl, inr, ap, sym, subst, refl}
+use Rattle.std.proofs.Common.{◌≡◌, ◌∙◌, ℕ, List, [], true, Option, Some, Result, Ok, Err, IfOk, codes, slice_get, inl, inr, ap, sym, subst, refl, None, arith, length}
 use Rattle.clap.proofs.OnLiterals.{clap_on_literals}
 use Rattle.clap.specs.Faults.{fault_of, is_simple_and_free}
 use Rattle.clap.specs.Kinds.{HasKind, IsAmong}
@@ -26,13 +26,25 @@ program_is_free : is_simple_and_free program ≡ true
 unfolding clap_on_literals
 program_is_free = refl
 
+-- the name and the words of what was found
+abbrev name_found : Found → List ℕ
+name_found None = []
+name_found (Some command) = command.0
+
+abbrev rows_found : Found → List Row
+rows_found None = []
+rows_found (Some command) = command.1
+
 -- the words after one command
-same_rows : (name : List ℕ) (rows others : List Row) → Some (name, rows) ≡ Some (name, others) → rows ≡ others
-same_rows name rows others is = cc
+same_rows : (found : Found) (name : List ℕ) (rows others : List Row) → found ≡ Some (name, rows) → found ≡ Some (name, others) → rows ≡ others
+same_rows found name rows others is other = sym (ap rows_found is) ∙ ap rows_found other
 
 -- `run` is not `check`
-no_check : (found : Found) (rows : List Row) → found ≡ Some (codes "run", rows) → (others : List Row) → found ≡ Some (codes "check", others) → ⊥
-no_check found rows is others other = cc
+no_check : (found : Found) (rows others : List Row) → found ≡ Some (codes "run", rows) → found ≡ Some (codes "check", others) → ⊥
+no_check found rows others is other =
+    let bad : codes "run" ≡ codes "check" = sym (ap name_found is) ∙ ap name_found other in
+    let lengths : 3 ≡ 5 = ap (λ (name : List ℕ). length name) bad in
+    absurd (omega (arith, lengths))
 
 asked_request : (words : List (List ℕ)) (found : Found) (request : Request) → fault_of program words ≡ [] → found ≡ subcommand_of program words
     → IsAsked found request → IsRequest words request
@@ -44,12 +56,12 @@ asked_request words found (Tell text) taken is (run rows command asked) = absurd
 asked_request words found (Tell text) taken is (check rows command asked) = absurd asked
 asked_request words found (Refuse text) taken is (run rows command asked) =
     senseless taken
-    (λ wanted asks. asked wanted (subst (λ (r : List Row). AreRunWords r wanted) (same_rows (codes "run") asks.rows rows (sym asks.command ∙ sym is ∙ command)) asks.asked))
-    (λ folder asks. no_check found rows command asks.rows (is ∙ asks.command))
+    (λ wanted asks. asked wanted (subst (λ (r : List Row). AreRunWords r wanted) (same_rows found (codes "run") asks.rows rows (is ∙ asks.command) command) asks.asked))
+    (λ folder asks. no_check found rows asks.rows command (is ∙ asks.command))
 asked_request words found (Refuse text) taken is (check rows command asked) =
     senseless taken
-    (λ wanted asks. no_check found asks.rows (is ∙ asks.command) rows command)
-    (λ folder asks. asked folder (subst (λ (r : List Row). first_of (codes "folder") r ≡ Some folder) (same_rows (codes "check") asks.rows rows (sym asks.command ∙ sym is ∙ command)) asks.asked))
+    (λ wanted asks. no_check found asks.rows rows (is ∙ asks.command) command)
+    (λ folder asks. asked folder (subst (λ (r : List Row). first_of (codes "folder") r ≡ Some folder) (same_rows found (codes "check") asks.rows rows (is ∙ asks.command) command) asks.asked))
 
 -- the parser takes the words
 pub taken_words : {E : Type 0} (words : List (List ℕ)) (command : Command) (matches : ArgMatches) (answer : Result Request E) → app_of command ≡ program
@@ -69,8 +81,8 @@ command_found words command matches is matched taken =
     on begun.name begun.rows begun.is (found ∙ begun.enters)
   where
     on : (name : List ℕ) (rows : List Row) → IsCommandName name → subcommand_rows_of matches ≡ Some (name, rows) → IsCommandFound (subcommand_rows_of matches)
-    on name rows (inl run) found = inl (rows, found ∙ ap (λ (n : List ℕ). Some (n, rows)) run)
-    on name rows (inr check) found = inr (rows, found ∙ ap (λ (n : List ℕ). Some (n, rows)) check)
+    on name rows (inl same) found = inl (rows, found ∙ ap (λ (n : List ℕ). Some (n, rows)) same)
+    on name rows (inr same) found = inr (rows, found ∙ ap (λ (n : List ℕ). Some (n, rows)) same)
 
 -- a kind that is told is among those that may come
 kind_among : (kind : ErrorKind) (error : Error) (kinds : List ErrorKind) → (kind ≡ OutOfMemory → ⊥) → kind_of error ≡ kind → HasKind kinds error → IsAmong kind kinds

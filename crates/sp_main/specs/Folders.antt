@@ -22,7 +22,7 @@ abbrev pub joined : List ℕ → List ℕ → List ℕ
 joined folder name = if ends_with eqb folder (47 ∷ []) then folder ++ name else folder ++ (47 ∷ name)
 
 -- the path to which a list of names leads from a folder
-pub path_of : List ℕ → List (List ℕ) → List ℕ
+unfoldable pub path_of : List ℕ → List (List ℕ) → List ℕ
 path_of folder [] = folder
 path_of folder (name ∷ names) = path_of (joined folder name) names
 

@@ -7,13 +7,9 @@ ghost use Rattle.sp_main.specs.Replies.{Fails, IsReply, Replies};
 ghost use Rattle.sp_main.specs.Requests.{run_words};
 
 use super::report::write_text;
-use super::texts::{
-    accepted_report, folder_report, outcome_report, refusal_report, text_report,
-};
+use super::texts::{accepted_report, folder_report, outcome_report, refusal_report, text_report};
 use super::words::{Request, RunRequest, request_of};
-use super::{
-    ClassBytes, Content, Folder, FolderFault, Report, Status, check_classes, run_classes,
-};
+use super::{ClassBytes, Content, Folder, FolderFault, Report, Status, check_classes, run_classes};
 use cf_reader::MAX_LEN;
 use dev_io::{ReadError, StdSource, read_bytes};
 use std::alloc::{AllocError, Global};

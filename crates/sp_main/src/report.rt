@@ -5,7 +5,7 @@ ghost use Rattle.std.specs.Io.KnownBytes.{Appends};
 ghost use Rattle.sp_main.specs.Reports.{IsCutOff, IsTold, LeavesOther};
 
 use super::Status;
-use dev_io::{Cut, StdSink, write_all};
+use dev_io::{Failed, write_part};
 use std::io::Write;
 
 /// A text, which is whole before its first byte is written, and the status that the program then
@@ -49,9 +49,14 @@ pub(crate) fn write_text<O: Write, E: Write>(
 }
 
 // The writer is not flushed: that is its owner's.
-fn write_whole<W: Write>(to: &mut W, text: &[u8]) -> Result<(), Cut>
+fn write_whole<W: Write>(to: &mut W, text: &[u8]) -> Result<(), Failed>
     ensures whole { OnOk result (Appends (W.contents to.old) (W.contents to.new) text.now) }
     ensures cut { IfErr result (λ _. IsCutOff (W.contents to.old) (W.contents to.new) text.now) }
 {
-    write_all(&mut StdSink::new(to), text)
+    let mut taken = 0;
+    while taken < text.len() {
+        let (_, rest) = text.split_at(taken);
+        taken += write_part(to, rest)?;
+    }
+    Ok(())
 }

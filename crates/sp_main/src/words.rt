@@ -114,6 +114,7 @@ fn asked_run<'a>(alloc: Global, found: &ArgMatches<'a>) -> Result<Request<'a>, A
 }
 
 const WORD_MISSING: &str = "error: a word is missing\n";
+
 const NO_FUEL: &str = "error: the fuel is a whole number from 0 to 9223372036854775807\n";
 
 // The fuel where it is said, and nothing where what is said is no fuel.

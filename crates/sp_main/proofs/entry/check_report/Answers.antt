@@ -1,22 +1,32 @@
-use Rattle.std.proofs.Common.{rules, ◌≡◌, ◌<◌, ◌≤◌, ◌^◌, ℕ, List, map, string_bytes, IfOk, IfSome, ◌+◌, ◌-◌, ◌*◌, length, ◌/◌, ◌%◌, Bool, true, false, nat_eq, nat_lt, [], ◌∷◌, ◌++◌, slice_index_or, slice_set, bit_and, bit_or, Fits, w8, w32, w64, Bor, MutBor}
-use Rattle.sp_main.specs.CommandLine.{AsksCheck, AsksRun}
-use Rattle.sp_main.specs.Folders.{AreFilesOf, AreRead, IsContent, told_by}
-use Rattle.sp_main.specs.Replies.{Fails, IsReply, Replies}
-use Rattle.sp_main.specs.Requests.{run_words}
+use Rattle.std.proofs.Common.{◌∙◌, subst, sym}
+use Rattle.sp_main.specs.Folders.{AreFilesOf, told_by}
+use Rattle.sp_main.specs.RefusalTexts.{IsRefusalOf}
+use Rattle.sp_main.proofs.Files.{known_ok}
+use Rattle.sp_main.proofs.Refused.{no_program_file}
+use Rattle.sp_main.proofs.Replied.{accepted_checked, refusal_checked, unreadable_checked}
 use Rattle.sp_main.proofs.entry.check_report.Goals as goal
 
--- src/entry.rt:96:23
 pub returns-in-Err : goal.returns-in-Err
-returns-in-Err g c = ?
+returns-in-Err g c =
+    unreadable_checked (told_by (g.F.Folder.lists c.args.folder.now) (g.F.Folder.gives c.args.folder.now)) c.args.path.now c.folder_report.result
+    (c.folder_report.ensures).status (c.folder_report.ensures).text
 
--- src/entry.rt:93:1
 pub returns-in-Ok-check_classes : goal.returns-in-Ok-check_classes
-returns-in-Ok-check_classes g c = ?
+returns-in-Ok-check_classes g c =
+    accepted_checked (told_by (g.F.Folder.lists c.args.folder.now) (g.F.Folder.gives c.args.folder.now)) c.args.path.now _ c.in-Ok.files.items c.in-Ok-check_classes.count c.accepted_report.result
+    (known_ok (λ files. AreFilesOf (told_by (g.F.Folder.lists c.args.folder.now) (g.F.Folder.gives c.args.folder.now)) c.args.path.now files.items) _ c.in-Ok.files c.in-Ok.is c.in_ok-files.ensures)
+    (c.deref.ensures).value (c.in-Ok-check_classes.ensures).accepted (c.in-Ok-check_classes.ensures).program
+    (c.accepted_report.ensures).status (c.accepted_report.ensures).text
 
--- src/entry.rt:100:25
 pub refusal_report-requires : goal.refusal_report-requires
-refusal_report-requires g c = ?
+refusal_report-requires g c = record {
+  file = subst (λ files. IsRefusalOf files c.in-Err-check_classes.refusal) ((c.deref.ensures).value ∙ sym (c.deref-in-Err-check_classes.ensures).value)
+      (no_program_file _ c.in-Err-check_classes.refusal (c.in-Err-check_classes.ensures).refused);
+}
 
--- src/entry.rt:91:1
 pub returns : goal.returns
-returns g c = ?
+returns g c =
+    refusal_checked (told_by (g.F.Folder.lists c.args.folder.now) (g.F.Folder.gives c.args.folder.now)) c.args.path.now _ c.in-Ok.files.items c.in-Err-check_classes.refusal c.refusal_report.result
+    (known_ok (λ files. AreFilesOf (told_by (g.F.Folder.lists c.args.folder.now) (g.F.Folder.gives c.args.folder.now)) c.args.path.now files.items) _ c.in-Ok.files c.in-Ok.is c.in_ok-files.ensures)
+    (c.deref.ensures).value (c.in-Err-check_classes.ensures).refused
+    (c.refusal_report.ensures).status (rw (sym (c.deref-in-Err-check_classes.ensures).value) (c.refusal_report.ensures).text)

@@ -1,7 +1,7 @@
-use Rattle.std.proofs.Common.{rules, string_bytes}
+use Rattle.std.proofs.Common.{rules, string_bytes, subst, sym}
 use Rattle.std.proofs.lemmas.List.Sorted.{All-permutation}
 use Rattle.sp_main.specs.Folders.{IsBelow, IsClassPath, NamesBelow}
-use Rattle.sp_main.proofs.Below.{popped}
+use Rattle.sp_main.proofs.Below.{itself, popped}
 use Rattle.sp_main.proofs.Files.{known_error}
 use Rattle.sp_main.proofs.folder.DiskFolder.paths.Goals as goal
 
@@ -24,3 +24,6 @@ loop-preserved g c =
     let next = popped (λ path. IsBelow c.args.folder.now (string_bytes path)) c.loop.found.folders.items c.pop.new.self.items c.pop.result c.in-Some.next
     c.pop.ensures.items c.in-Some.is c.loop.invariant.1 in
     (c.in_ok-list_folder-in-Some.ensures).found c.args.folder.now next.1 (c.loop.invariant.0, next.0)
+
+pub returns-clause-fault : goal.returns-clause-fault
+returns-clause-fault g c = subst (IsBelow c.args.folder.now) (sym (c.in_ok-from_str.ensures).ok) (itself c.args.folder.now)
