@@ -31,7 +31,8 @@ fn words_that_do_not_parse_are_usage_faults(rt: HostRuntime) -> Result<(), Fail>
         "run box T f(I)I --fuel -1",
         "run box T f(I)I --fuel 9223372036854775808",
         "run box T f(I)I --fuel 1 --fuel 2",
-        "check box",
+        "check",
+        "check box box",
         "sim box script",
         "serve box --workers 2",
     ] {
@@ -44,6 +45,8 @@ fn words_that_do_not_parse_are_usage_faults(rt: HostRuntime) -> Result<(), Fail>
 fn help_and_version_are_told(rt: HostRuntime) -> Result<(), Fail> {
     for (line, part) in [
         ("--help", "Runs a method and prints how it ended"),
+        ("--help", "rmispace run examples/sum T 'f(I)I' 4 --fuel 38"),
+        ("--help", "0  the method returned, or the classes are accepted"),
         ("run --help", "--fuel <N>"),
         ("--version", "rmispace 0.1.0\n"),
     ] {
