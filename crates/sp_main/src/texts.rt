@@ -136,9 +136,7 @@ fn no_folder_report(alloc: Global, path: &str) -> Result<Report, AllocError>
     ensures status { IfOk result (λ report. report.status ≡ Status.Failed) }
     ensures text { IfOk result (λ report. report.text.items ≡ line_of (unreadable_text path.now ++ codes ": not a folder")) }
 {
-    Line::new(alloc)
-        .text("cannot read ")?
-        .text(path)?
+    unreadable(alloc, path)?
         .text(": not a folder")?
         .report(Status::Failed)
 }
@@ -149,10 +147,13 @@ pub fn unreadable_report(alloc: Global, path: &str) -> Result<Report, AllocError
     ensures text { IfOk result (λ report. report.text.items ≡ line_of (unreadable_text path.now)) }
     ensures line { IfOk result (λ report. IsLine report.text.items) }
 {
-    Line::new(alloc)
-        .text("cannot read ")?
-        .text(path)?
-        .report(Status::Failed)
+    unreadable(alloc, path)?.report(Status::Failed)
+}
+
+fn unreadable(alloc: Global, path: &str) -> Result<Line, AllocError>
+    ensures { IfOk result (λ line. line ≡ unreadable_text path.now) }
+{
+    Line::new(alloc).text("cannot read ")?.text(path)
 }
 
 fn set_report(alloc: Global, fault: &SetFault) -> Result<Report, AllocError>
