@@ -46,7 +46,10 @@ fn help_and_version_are_told(rt: HostRuntime) -> Result<(), Fail> {
     for (line, part) in [
         ("--help", "Runs a method and prints how it ended"),
         ("--help", "rmispace run examples/sum T 'f(I)I' 4 --fuel 38"),
-        ("--help", "0  the method returned, or the classes are accepted"),
+        (
+            "--help",
+            "0  the method returned, or the classes are accepted",
+        ),
         ("run --help", "--fuel <N>"),
         ("--version", "rmispace 0.1.0\n"),
     ] {

@@ -5,8 +5,8 @@ ghost use Rattle.vm_heap.specs.Heap.{Ints, cell_at, all_cost, cost, class_of, de
 
 use crate::word::Word;
 use crate::words::Words;
-use space_ids::ClassId;
 use ghost_value::{Ghost, Says};
+use space_ids::ClassId;
 use std::alloc::{AllocError, Global};
 use std::marker::Model;
 

@@ -2,8 +2,8 @@
 ghost use Rattle.std.specs.Prelude.{◌≡◌, ◌+◌, ◌<◌, ◌^◌, ◌↔◌, IsTrue};
 ghost use Rattle.vm_heap.specs.Tagged.{Tagged, IsInt, IsPointer, IsFirstHead, IsLengthHead, Int, Null, Local, Unset, Head, OfClass, OfInts, Length, address_of, as_fresh, class_of_head};
 
-use space_ids::ClassId;
 use ghost_value::{Ghost, Says};
+use space_ids::ClassId;
 use std::marker::Model;
 
 /// Four bytes that stand for a value. They do not say its kind: a contract sees the tagged value,
