@@ -2,13 +2,15 @@
 //! resolved before anything runs, and the look-ups of members by name and descriptor.
 #![tactic(auto)]
 
-pub use cf_insns::{BinaryOperator, CodeRule, Condition, StackOperation, UnaryOperator, ValueKind};
+pub use cf_insns::{BinaryOperator, CodeRule, Condition, UnaryOperator};
 pub use cls_set::{
     Class, ClassFile, ClassId, ClassSet, Code, ElementType, Field, FieldType, Flags, Method,
     MethodDescriptor, Numbered, Pool, Row, SetFault, SetRule, Table, Text,
 };
 pub use fault::{LinkFault, LinkRule};
-pub use linked::{FieldSlot, LinkedCode, LinkedInsn, LinkedMethod, MethodId, Selection};
+pub use linked::{
+    FieldSlot, LinkedCode, LinkedInsn, LinkedMethod, MethodId, Selection, StackOperation, ValueKind,
+};
 pub use links::{Linked, link};
 
 mod fault;

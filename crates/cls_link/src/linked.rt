@@ -1,6 +1,6 @@
 //! Methods whose instructions are resolved.
 
-use cf_insns::{BinaryOperator, Condition, StackOperation, UnaryOperator, ValueKind};
+use cf_insns::{BinaryOperator, Condition, UnaryOperator};
 use cls_set::{ClassId, Row};
 
 /// A method's number: methods are numbered from 0 by class, and in a class as declared.
@@ -24,6 +24,20 @@ pub enum Selection {
 /// and an inherited field has the same one in each subclass.
 #[derive(Clone, Copy, Debug, PartialEq, Eq)]
 pub struct FieldSlot(pub u32);
+
+/// What a load, a store or a return moves, of what is linked today.
+#[derive(Clone, Copy, Debug, PartialEq, Eq)]
+pub enum ValueKind {
+    Int,
+}
+
+/// An instruction that moves operands whatever their type, of what is linked today.
+#[derive(Clone, Copy, Debug, PartialEq, Eq)]
+pub enum StackOperation {
+    Pop,
+    Dup,
+    Swap,
+}
 
 /// An instruction whose branch target is an index into the method's list of instructions.
 #[derive(Clone, Copy, Debug, PartialEq, Eq)]
@@ -54,6 +68,8 @@ pub enum LinkedInsn {
     ReturnValue(ValueKind),
     /// return: returns nothing.
     Return,
+    /// An instruction that is read, and not linked yet.
+    NotYet,
 }
 
 /// The code of a method, linked.

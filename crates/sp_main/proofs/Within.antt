@@ -4,8 +4,8 @@ use Rattle.std.specs.Prelude.{ℤ, pos, nat_lt, slice_get, slice_set, if◌then�
 use Rattle.std.specs.Int.{int_wrapping_add}
 use mir.Syntax.{w32}
 use Rattle.std.proofs.lemmas.Bool.{ltb-true}
-use Rattle.cf_insns.specs.declared.insn.StackOperation.TheVariants.{Pop, Dup, Swap}
-use Rattle.cf_insns.specs.declared.insn.ValueKind.TheVariants as kind
+use Rattle.cls_link.specs.declared.linked.StackOperation.TheVariants.{Pop, Dup, Swap}
+use Rattle.cls_link.specs.declared.linked.ValueKind.TheVariants as kind
 use Rattle.cf_reader.specs.declared.class_file.Code.{Code}
 use Rattle.cls_link.specs.declared.linked.LinkedInsn.{LinkedInsn}
 use Rattle.cls_link.specs.declared.linked.LinkedInsn.TheVariants as insn

@@ -1,18 +1,19 @@
 -- A fault tells of a body, a method or a class set that it is not type safe.
-use Rattle.std.proofs.Common.{◌≡◌, ℕ, suc, ◌<◌, ◌≤◌, ◌⊎◌, inl, inr, Bool, true, false, Option, Some, None, Result, Ok, Err, List, [], ◌∷◌, length, sym, subst, ap, ◌∙◌, arith}
-use Rattle.std.specs.Prelude.{IsSomeAnd, MatchBool, MatchOption, option_and_then, slice_get}
+use Rattle.std.proofs.Common.{◌≡◌, ℕ, zero, suc, cond, refl, ◌<◌, ◌≤◌, ◌⊎◌, inl, inr, Bool, true, false, Option, Some, None, Result, Ok, Err, List, [], ◌∷◌, length, sym, subst, ap, ◌∙◌, arith}
+use Rattle.std.specs.Prelude.{IsSomeAnd, MatchBool, MatchOption, option_and_then, slice_get, slice_index}
 use Rattle.std.specs.List.{AllByRecursion}
 use Rattle.cls_link.specs.Links.{Links}
 use Rattle.cls_link.specs.declared.linked.LinkedInsn.{LinkedInsn}
+use Rattle.cls_link.specs.declared.linked.LinkedInsn.TheVariants as insn
 use Rattle.cls_link.specs.declared.linked.LinkedMethod.{LinkedMethod}
 use Rattle.cls_set.specs.declared.class.Class.{Class}
 use Rattle.ver_check.proofs.Outcomes.{made, effect_made}
 use Rattle.ver_check.proofs.Typings.{refuted, refuted_opening}
 use Rattle.ver_check.specs.Acceptance.{AreSafe, IsSafe, IsSafeMethod, subject_of}
 use Rattle.ver_check.specs.Bodies.{Body, body_of, declared_at}
-use Rattle.ver_check.specs.Effects.{effect, falls_through, targets}
+use Rattle.ver_check.specs.Effects.{effect, falls_through, is_linked, targets}
 use Rattle.ver_check.specs.Faults as faults
-use Rattle.ver_check.specs.Faults.{IsBodyFault, IsCheckFault, IsFaultWith, IsMethodFault, IsMissing, IsWrongAmong, IsWrongAt, IsWrongBody, IsWrongEntry, IsWrongNext}
+use Rattle.ver_check.specs.Faults.{first_not_yet, IsBodyFault, IsCheckFault, IsFaultWith, IsMethodFault, IsMissing, IsWrongAmong, IsWrongAt, IsWrongBody, IsWrongEntry, IsWrongNext}
 use Rattle.ver_check.specs.Flow.{ComesIn, GoesTo, Passes}
 use Rattle.ver_check.specs.Outcomes.{outcome}
 use Rattle.ver_check.specs.Refusals.{SettlesSet}
@@ -20,7 +21,7 @@ use Rattle.ver_check.specs.Typing.{IsTypeSafe, Lands}
 use Rattle.ver_check.specs.declared.fault.CheckFault.{CheckFault}
 use Rattle.ver_check.specs.declared.fault.CheckFault.TheVariants as fault
 use Rattle.ver_check.specs.declared.fault.CheckRule.{CheckRule}
-use Rattle.ver_check.specs.declared.fault.CheckRule.TheVariants.{NoFrame, NotAssignable}
+use Rattle.ver_check.specs.declared.fault.CheckRule.TheVariants.{NoFrame, NotAssignable, NotYet}
 use Rattle.ver_frames.specs.Assignable.{IsFrameAssignable}
 use Rattle.ver_frames.specs.Frames.{Frame}
 use Rattle.ver_frames.specs.Method.{Subject}
@@ -86,9 +87,33 @@ fault_with m (Ok found) rule at declared wrong e safe =
     body_unsafe (body_of m found) rule wrong.told wrong.wrong (subst (λ (ds : List (ℕ × Frame)). IsTypeSafe (body_of m ds)) (sym same) safe)
 fault_with m (Err broken) rule at declared wrong e safe = absurd (cc)
 
+not_linked : (i : LinkedInsn) → is_linked i ≡ false → i ≡ insn.NotYet
+not_linked insn.NotYet is = refl
+not_linked _ is = absurd (cc)
+
+-- what is found is an instruction that is not checked yet
+not_yet_at : (k : ℕ) (insns : List LinkedInsn) (index : ℕ) → first_not_yet k insns ≡ Some index → (place : ℕ) × (slice_get insns place ≡ Some insn.NotYet)
+not_yet_at k [] index is = absurd (cc)
+not_yet_at k (i ∷ insns) index is =
+    elim (is_linked i) as (λ b. is_linked i ≡ b → cond b (first_not_yet (suc k) insns) (Some k) ≡ Some index → (place : ℕ) × (slice_get (i ∷ insns) place ≡ Some insn.NotYet)) [
+      | true ↦ λ linked further. let found = not_yet_at (suc k) insns index further in (suc found.0, found.1)
+      | false ↦ λ not_yet here. (zero, ap Some (not_linked i not_yet))
+    ] refl is
+
+-- a body with such an instruction is not type safe
+not_yet_unsafe : (body : Body) (place : ℕ) → slice_get body.insns place ≡ Some insn.NotYet → IsTypeSafe body → ⊥
+unfolding effect
+not_yet_unsafe body place at safe = let acts = (safe.typing.fine place insn.NotYet at).acts in absurd (cc)
+
+unsafe_by : (m : Subject) (first : Option ℕ) (rule : CheckRule) (at : ℕ) → first_not_yet 0 m.linked.insns ≡ first
+    → MatchOption first (IsFaultWith m (declared_frames m) rule at) (λ index. (rule ≡ NotYet) × (at ≡ slice_index m.linked.offsets index)) → ¬ IsSafe m
+unsafe_by m None rule at none wrong safe = fault_with m (declared_frames m) rule at safe.declared wrong (declares_again m safe.declared safe.spelled) safe.body
+unsafe_by m (Some index) rule at found wrong safe =
+    let there = not_yet_at 0 m.linked.insns index found in not_yet_unsafe (body_of m safe.declared) there.0 there.1 safe.body
+
 -- a method that is at fault is not type safe
 pub method_unsafe : (m : Subject) (rule : CheckRule) (at : ℕ) → IsMethodFault m rule at → ¬ IsSafe m
-method_unsafe m rule at wrong safe = fault_with m (declared_frames m) rule at safe.declared wrong (declares_again m safe.declared safe.spelled) safe.body
+method_unsafe m rule at wrong safe = unsafe_by m (first_not_yet 0 m.linked.insns) rule at refl wrong safe
 
 safe_subject : (o : Option Subject) (m : Subject) → o ≡ Some m → MatchOption o (Unit {0}) IsSafe → IsSafe m
 safe_subject None m e safe = absurd (cc)

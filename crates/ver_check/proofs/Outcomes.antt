@@ -1,9 +1,9 @@
 -- What comes of an instruction is its effect, where it has one.
 use Rattle.std.proofs.Common.{◌≡◌, ℕ, Bool, true, false, Option, Some, None, Result, Ok, Err, List, [], ◌∷◌, length, refl, ap, ◌∙◌}
 use Rattle.std.specs.Prelude.{if◌then◌else◌, nat_lt, not, is_none, option_and_then, option_map, slice_get, slice_set}
-use Rattle.cf_insns.specs.declared.insn.StackOperation.{StackOperation}
-use Rattle.cf_insns.specs.declared.insn.StackOperation.TheVariants.{Pop, Dup, Swap}
-use Rattle.cf_insns.specs.declared.insn.ValueKind.{ValueKind}
+use Rattle.cls_link.specs.declared.linked.StackOperation.{StackOperation}
+use Rattle.cls_link.specs.declared.linked.StackOperation.TheVariants.{Pop, Dup, Swap}
+use Rattle.cls_link.specs.declared.linked.ValueKind.{ValueKind}
 use Rattle.cls_link.specs.declared.linked.LinkedInsn.{LinkedInsn}
 use Rattle.cls_link.specs.declared.linked.LinkedInsn.TheVariants as insn
 use Rattle.ver_check.specs.Bodies.{Body}
@@ -126,3 +126,4 @@ effect_made body (insn.ReturnValue k) f =
     bind (take (is_kind k) f) (effects.take (is_kind k) f) (demand rule.Return (returns_kind k body.result)) (effects.where_true (returns_kind k body.result)) (take_made (is_kind k) f) (demand_made rule.Return (returns_kind k body.result))
 effect_made body insn.Return f =
     bind (demand rule.Uninitialized (not f.flag_this_uninit) f) (effects.where_true (not f.flag_this_uninit) f) (demand rule.Return (is_none body.result)) (effects.where_true (is_none body.result)) (demand_made rule.Uninitialized (not f.flag_this_uninit) f) (demand_made rule.Return (is_none body.result))
+effect_made body insn.NotYet f = refl

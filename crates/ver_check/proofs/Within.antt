@@ -4,8 +4,8 @@ use Rattle.std.specs.Prelude.{nat_lt, if◌then◌else◌, option_and_then, opti
 use Rattle.std.proofs.lemmas.Bool.Decides.{nat_tests}
 use Rattle.std.proofs.lemmas.Option.{option_and_then_some}
 use Rattle.std.proofs.Math.ListN.{length-set}
-use Rattle.cf_insns.specs.declared.insn.StackOperation.{StackOperation}
-use Rattle.cf_insns.specs.declared.insn.StackOperation.TheVariants.{Pop, Dup, Swap}
+use Rattle.cls_link.specs.declared.linked.StackOperation.{StackOperation}
+use Rattle.cls_link.specs.declared.linked.StackOperation.TheVariants.{Pop, Dup, Swap}
 use Rattle.cls_link.specs.declared.linked.LinkedInsn.{LinkedInsn}
 use Rattle.cls_link.specs.declared.linked.LinkedInsn.TheVariants as insn
 use Rattle.ver_check.specs.Bodies.{Body}
@@ -104,3 +104,4 @@ module _ (body : Body) where
       option_and_then_some (where_true (returns_kind k body.result)) (take (is_kind k) f) g e (λ h first returns. where_fits (returns_kind k body.result) h g returns (take_fits (is_kind k) f h first fits))
   effect_within insn.Return f g fits e =
       option_and_then_some (where_true (is_none body.result)) (where_true (not f.flag_this_uninit) f) g e (λ h first returns. where_fits (is_none body.result) h g returns (where_fits (not f.flag_this_uninit) f h first fits))
+  effect_within insn.NotYet f g fits e = absurd (cc)

@@ -1,8 +1,8 @@
 use Rattle.std.specs.Prelude.{ℕ, Bool, true, false, not, nat_lt, if◌then◌else◌, Option, Some, None, List, [], ◌∷◌, length, slice_get, slice_set, option_and_then, option_map, is_none}
-use Rattle.cf_insns.specs.declared.insn.StackOperation.{StackOperation}
-use Rattle.cf_insns.specs.declared.insn.StackOperation.TheVariants.{Pop, Dup, Swap}
-use Rattle.cf_insns.specs.declared.insn.ValueKind.{ValueKind}
-use Rattle.cf_insns.specs.declared.insn.ValueKind.TheVariants as kind
+use Rattle.cls_link.specs.declared.linked.StackOperation.{StackOperation}
+use Rattle.cls_link.specs.declared.linked.StackOperation.TheVariants.{Pop, Dup, Swap}
+use Rattle.cls_link.specs.declared.linked.ValueKind.{ValueKind}
+use Rattle.cls_link.specs.declared.linked.ValueKind.TheVariants as kind
 use Rattle.cls_link.specs.declared.linked.LinkedInsn.{LinkedInsn}
 use Rattle.cls_link.specs.declared.linked.LinkedInsn.TheVariants as insn
 use Rattle.ver_check.specs.Bodies.{Body}
@@ -96,6 +96,12 @@ effect body (insn.IfCompare condition target) f = take is_int f >>= take is_int
 effect body (insn.Goto target) f = Some f
 effect body (insn.ReturnValue k) f = take (is_kind k) f >>= where_true (returns_kind k body.result)
 effect body insn.Return f = where_true (not f.flag_this_uninit) f >>= where_true (is_none body.result)
+effect body insn.NotYet f = None
+
+-- whether what it does is said here
+abbrev pub is_linked : LinkedInsn → Bool
+is_linked insn.NotYet = false
+is_linked _ = true
 
 -- whether the next instruction may come after it
 abbrev pub falls_through : LinkedInsn → Bool

@@ -18,6 +18,7 @@ check_rule_number check_rule.NotAssignable = 65
 check_rule_number check_rule.FallsOff = 66
 check_rule_number check_rule.Local = 67
 check_rule_number check_rule.Return = 68
+check_rule_number check_rule.NotYet = 69
 
 -- the name of a rule
 abbrev pub check_rule_name : CheckRule → List ℕ
@@ -31,6 +32,7 @@ check_rule_name check_rule.NotAssignable = codes "NotAssignable"
 check_rule_name check_rule.FallsOff = codes "FallsOff"
 check_rule_name check_rule.Local = codes "Local"
 check_rule_name check_rule.Return = codes "Return"
+check_rule_name check_rule.NotYet = codes "NotYet"
 
 -- the number of a fault
 abbrev pub check_fault_number : CheckFault → ℕ

@@ -1,17 +1,17 @@
 -- Why a class set is not accepted: what the check meets first.
-use Rattle.std.specs.Prelude.{◌≡◌, ◌⊎◌, ℕ, suc, ◌<◌, ◌≤◌, Some, None, Result, Ok, Err, List, [], ◌∷◌, length, slice_get, slice_index, option_and_then, MatchBool, IsSomeAnd}
+use Rattle.std.specs.Prelude.{◌≡◌, ◌⊎◌, ℕ, suc, ◌<◌, ◌≤◌, if◌then◌else◌, Option, Some, None, MatchOption, Result, Ok, Err, List, [], ◌∷◌, length, slice_get, slice_index, option_and_then, MatchBool, IsSomeAnd}
 use Rattle.cls_link.specs.Links.{Links}
 use Rattle.cls_link.specs.declared.linked.LinkedInsn.{LinkedInsn}
 use Rattle.ver_check.specs.Acceptance.{IsSafeAt, subject_of}
 use Rattle.ver_check.specs.Bodies.{Body, body_of, insn_at, declared_at}
-use Rattle.ver_check.specs.Effects.{effect, falls_through, targets}
+use Rattle.ver_check.specs.Effects.{effect, falls_through, is_linked, targets}
 use Rattle.ver_check.specs.Flow.{LandsOnAll, Reaches}
 use Rattle.ver_check.specs.Outcomes.{outcome}
 use Rattle.ver_check.specs.Typing.{Lands}
 use Rattle.ver_check.specs.declared.fault.CheckFault.{CheckFault}
 use Rattle.ver_check.specs.declared.fault.CheckFault.TheVariants as fault
 use Rattle.ver_check.specs.declared.fault.CheckRule.{CheckRule}
-use Rattle.ver_check.specs.declared.fault.CheckRule.TheVariants.{StackMap, NoFrame, NotAssignable, FallsOff, Local}
+use Rattle.ver_check.specs.declared.fault.CheckRule.TheVariants.{StackMap, NoFrame, NotAssignable, FallsOff, Local, NotYet}
 use Rattle.ver_frames.specs.Assignable.{IsFrameAssignable}
 use Rattle.ver_frames.specs.Frames.{Frame}
 use Rattle.ver_frames.specs.Method.{Subject}
@@ -79,9 +79,18 @@ abbrev pub IsFaultWith : Subject → Result (List (ℕ × Frame)) StackMapFault 
 IsFaultWith m (Ok declared) rule at = IsBodyFault (body_of m declared) rule at
 IsFaultWith m (Err broken) rule at = IsFrameFault broken rule at
 
--- the table of a method declares no frames, which comes first; or the body with them is at fault
+-- the index of the first instruction that is not checked yet, where the first of them has the index k
+abbrev pub first_not_yet : ℕ → List LinkedInsn → Option ℕ
+first_not_yet k [] = None
+first_not_yet k (insn ∷ insns) = if is_linked insn then first_not_yet (suc k) insns else Some k
+
+-- one instruction of a method is not checked yet, which comes first; or its table declares no frames; or the body with
+-- them is at fault
 abbrev pub IsMethodFault : Subject → CheckRule → ℕ → Type 0
-IsMethodFault m rule at = IsFaultWith m (declared_frames m) rule at
+IsMethodFault m rule at =
+    MatchOption (first_not_yet 0 m.linked.insns)
+    (IsFaultWith m (declared_frames m) rule at)
+    (λ index. (rule ≡ NotYet) × (at ≡ slice_index m.linked.offsets index))
 
 -- the names of a method and of its class
 pub record IsNamed (m : Subject) (class method descriptor : List ℕ) : Type 0 where

@@ -1,7 +1,7 @@
 use Rattle.std.specs.Prelude.{ℕ, Bool, not, nat_lt, if◌then◌else◌, Option, Some, None, Result, Ok, Err, List, [], ◌∷◌, length, slice_get, slice_set, is_none}
-use Rattle.cf_insns.specs.declared.insn.StackOperation.{StackOperation}
-use Rattle.cf_insns.specs.declared.insn.StackOperation.TheVariants.{Pop, Dup, Swap}
-use Rattle.cf_insns.specs.declared.insn.ValueKind.{ValueKind}
+use Rattle.cls_link.specs.declared.linked.StackOperation.{StackOperation}
+use Rattle.cls_link.specs.declared.linked.StackOperation.TheVariants.{Pop, Dup, Swap}
+use Rattle.cls_link.specs.declared.linked.ValueKind.{ValueKind}
 use Rattle.cls_link.specs.declared.linked.LinkedInsn.{LinkedInsn}
 use Rattle.cls_link.specs.declared.linked.LinkedInsn.TheVariants as insn
 use Rattle.ver_check.specs.Bodies.{Body}
@@ -89,3 +89,4 @@ outcome body (insn.Goto target) f = Ok f
 outcome body (insn.ReturnValue k) f = take (is_kind k) f >>= demand rule.Return (returns_kind k body.result)
 outcome body insn.Return f =
     demand rule.Uninitialized (not f.flag_this_uninit) f >>= demand rule.Return (is_none body.result)
+outcome body insn.NotYet f = Err rule.NotYet

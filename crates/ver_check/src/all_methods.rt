@@ -1,10 +1,12 @@
 //! Checking every method of a linked class set.
 
-ghost use Rattle.std.specs.Prelude.{◌≡◌, ◌<◌, IfErr, IfOk, IfSome, IsSomeAnd, OnOk, length};
+ghost use Rattle.std.specs.Prelude.{◌≡◌, ◌<◌, slice_index, IfErr, IfOk, IfSome, IsSomeAnd, OnOk, length};
 ghost use Rattle.cls_link.specs.Links.{AreLinks};
 ghost use Rattle.ver_check.specs.Acceptance.{AreSafe, IsSafe, IsSafeAt, IsSafeMethod, subject_of};
 ghost use Rattle.ver_check.specs.Listed.{IsListed};
-ghost use Rattle.ver_check.specs.Faults.{IsCheckFault, IsMethodFault, IsNamed};
+ghost use Rattle.ver_check.specs.Faults.{IsCheckFault, IsFaultWith, IsMethodFault, IsNamed};
+ghost use Rattle.ver_check.specs.Faults as faults;
+ghost use Rattle.ver_frames.specs.StackMap.{declared_frames};
 ghost use Rattle.ver_check.specs.Refusals.{IsFaultAt, IsFaultOf, Names};
 ghost use Rattle.ver_check.specs.Settled.{SettlesBody};
 
@@ -12,8 +14,8 @@ use super::body::BodyView;
 use super::check::BodyFault;
 use super::indices::find_frames;
 use super::{
-    CheckFault, CheckRule, ClassSet, Linked, LinkedMethod, MethodId, MethodView, StackMapFault,
-    Text,
+    CheckFault, CheckRule, ClassSet, Linked, LinkedInsn, LinkedMethod, MethodId, MethodView,
+    StackMapFault, Text,
 };
 use std::alloc::{AllocError, Global};
 use ver_frames::declared;
@@ -48,10 +50,46 @@ fn view_of<'a>(classes: &'a ClassSet, method: &'a LinkedMethod) -> Option<Method
     })
 }
 
+// The index of the first instruction that is not checked yet.
+fn first_not_yet(insns: &[LinkedInsn]) -> Option<usize>
+    ensures { result ≡ faults.first_not_yet 0 insns.now }
+{
+    for (index, insn) in insns.iter().enumerate() {
+        if matches!(insn, LinkedInsn::NotYet) {
+            return Some(index);
+        }
+    }
+    None
+}
+
+// The offset of the instruction at an index.
+fn offset_at(offsets: &[u16], index: usize) -> usize
+    ensures { result ≡ slice_index offsets.now index }
+{
+    match offsets.get(index) {
+        Some(offset) => usize::from(*offset),
+        None => 0,
+    }
+}
+
 // Whether a method with code is type safe.
 fn check_code(alloc: Global, method: &MethodView) -> Result<(), BodyFault>
     requires { IsListed method.now.linked }
     ensures { SettlesBody result (λ _. IsSafe method.now) (IsMethodFault method.now) }
+{
+    match first_not_yet(method.linked.insns.as_slice()) {
+        Some(index) => Err(BodyFault::Broken {
+            rule: CheckRule::NotYet,
+            at: offset_at(method.linked.offsets.as_slice(), index),
+        }),
+        None => check_linked(alloc, method),
+    }
+}
+
+// Whether a method with code, whose instructions are all linked, is type safe.
+fn check_linked(alloc: Global, method: &MethodView) -> Result<(), BodyFault>
+    requires { IsListed method.now.linked }
+    ensures { SettlesBody result (λ _. IsSafe method.now) (IsFaultWith method.now (declared_frames method.now)) }
 {
     let frames = match declared(alloc, method) {
         Ok(frames) => frames,

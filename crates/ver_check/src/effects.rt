@@ -194,6 +194,7 @@ impl BodyView<'_> {
             }
             LinkedInsn::ReturnValue(kind) => self.return_value(frame, kind),
             LinkedInsn::Return => self.return_nothing(frame),
+            LinkedInsn::NotYet => Err(Stop::Broken(CheckRule::NotYet)),
         }
     }
 }

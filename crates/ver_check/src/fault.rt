@@ -33,6 +33,8 @@ pub enum CheckRule {
     Local,
     /// The result of the method is of another type.
     Return,
+    /// The instruction is one that is not checked yet.
+    NotYet,
 }
 
 impl fmt::Display for CheckRule {
@@ -50,6 +52,7 @@ impl fmt::Display for CheckRule {
             CheckRule::FallsOff => f.write_str("FallsOff"),
             CheckRule::Local => f.write_str("Local"),
             CheckRule::Return => f.write_str("Return"),
+            CheckRule::NotYet => f.write_str("NotYet"),
         }
     }
 }
@@ -69,6 +72,7 @@ impl Numbered for CheckRule {
             CheckRule::FallsOff => 66,
             CheckRule::Local => 67,
             CheckRule::Return => 68,
+            CheckRule::NotYet => 69,
         }
     }
 }

@@ -4,9 +4,9 @@ use Rattle.std.specs.Prelude.{ℤ, pos, slice_get, option_and_then, option_map, 
 use Rattle.std.specs.Int.{int_wrapping_add}
 use mir.Syntax.{w32}
 use Rattle.std.proofs.lemmas.Option.{slice_get_within, slice_get-get_or}
-use Rattle.cf_insns.specs.declared.insn.StackOperation.{StackOperation}
-use Rattle.cf_insns.specs.declared.insn.StackOperation.TheVariants.{Pop, Dup, Swap}
-use Rattle.cf_insns.specs.declared.insn.ValueKind.TheVariants as kind
+use Rattle.cls_link.specs.declared.linked.StackOperation.{StackOperation}
+use Rattle.cls_link.specs.declared.linked.StackOperation.TheVariants.{Pop, Dup, Swap}
+use Rattle.cls_link.specs.declared.linked.ValueKind.TheVariants as kind
 use Rattle.cls_link.specs.Links.{Links}
 use Rattle.cls_link.specs.declared.linked.LinkedInsn.{LinkedInsn}
 use Rattle.cls_link.specs.declared.linked.LinkedInsn.TheVariants as insn
@@ -204,6 +204,7 @@ module _ (body : Body) (frames : ℕ → Frame) (method : MethodId) (typing : Is
       let popped = passes_both (effects.take effects.is_int (frames place)) (effects.where_true (effects.returns_kind kind.Int body.result)) fine.after fine.acts in
       pop_int-leads Typed (λ n m1. Ends (ReturnedInt n)) body method place (frames place) popped.0 m popped.1.0 fits (λ n m1 all. tt)
   act-leads place insn.Return m fine fits = tt
+  act-leads place insn.NotYet m fine fits = let acts = fine.acts in absurd (cc)
 
   next-leads : (m : Machine) → IsTyped body frames method m → LeadsTo Typed (next body.insns m)
   next-leads m typed =

@@ -1,6 +1,6 @@
 use Rattle.ver_check.proofs.Links.{within_at}
 use Rattle.ver_check.proofs.Starts.{declared_stand}
-use Rattle.ver_check.proofs.all_methods.check_code.Goals as goal
+use Rattle.ver_check.proofs.all_methods.check_linked.Goals as goal
 
 pub find_frames-requires-clause-starts : goal.find_frames-requires-clause-starts
 find_frames-requires-clause-starts c =
