@@ -39,6 +39,7 @@ impl Method {
                 max_stack: self.max_stack,
                 max_locals: self.max_locals,
                 bytes: self.code.as_slice(),
+                lines: &[],
                 attributes,
             }),
             attributes: &[],
@@ -87,6 +88,7 @@ impl ClassDraft {
             name: self.name.as_str(),
             superclass: "java/lang/Object",
             interfaces: &[],
+            fields: &[],
             methods: methods.as_slice(),
             attributes: &[],
         };
