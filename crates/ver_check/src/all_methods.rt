@@ -5,6 +5,7 @@ ghost use Rattle.cls_link.specs.Links.{AreLinks};
 ghost use Rattle.ver_check.specs.Acceptance.{AreSafe, IsSafe, IsSafeAt, IsSafeMethod, subject_of};
 ghost use Rattle.ver_check.specs.Listed.{IsListed};
 ghost use Rattle.ver_check.specs.Faults.{IsCheckFault, IsFaultWith, IsMethodFault, IsNamed};
+ghost use Rattle.ver_check.specs.Effects.{is_linked};
 ghost use Rattle.ver_check.specs.Faults as faults;
 ghost use Rattle.ver_frames.specs.StackMap.{declared_frames};
 ghost use Rattle.ver_check.specs.Refusals.{IsFaultAt, IsFaultOf, Names};
@@ -50,12 +51,19 @@ fn view_of<'a>(classes: &'a ClassSet, method: &'a LinkedMethod) -> Option<Method
     })
 }
 
+// Whether what an instruction does is said.
+fn is_linked(insn: LinkedInsn) -> bool
+    ensures { result ≡ is_linked insn }
+{
+    !matches!(insn, LinkedInsn::NotYet)
+}
+
 // The index of the first instruction that is not checked yet.
 fn first_not_yet(insns: &[LinkedInsn]) -> Option<usize>
     ensures { result ≡ faults.first_not_yet 0 insns.now }
 {
     for (index, insn) in insns.iter().enumerate() {
-        if matches!(insn, LinkedInsn::NotYet) {
+        if !is_linked(*insn) {
             return Some(index);
         }
     }
