@@ -2,17 +2,18 @@
 
 ghost use Rattle.std.specs.Prelude.{◌≡◌, ◌≤◌};
 ghost use Rattle.cf_text.specs.Reading.{Gives};
+ghost use Rattle.cf_text.specs.Types.{field_descriptor_of};
 ghost use Rattle.cf_text.specs.Demands.{of_each, verdict};
 ghost use Rattle.cf_text.specs.Names.{is_method_name, is_name};
 ghost use Rattle.cf_pool.specs.Pools.{named, utf8_at};
 ghost use Rattle.cf_layout.specs.ReadInsides.{insides_of};
-ghost use Rattle.cf_reader.specs.Checks.{are_few, field_demands, field_demands_if, field_descriptor_demands, field_flag_demands, field_known, field_type_demands, flag_demands, is_initializer, is_int_text, method_demands, method_demands_if, method_descriptor_demands, method_flag_demands, method_name_demands, method_type_demands, words_of};
+ghost use Rattle.cf_reader.specs.Checks.{are_few, field_demands, field_demands_if, field_descriptor_demands, field_flag_demands, field_known, field_type_demands, flag_demands, is_initializer, is_int_read, is_int_text, method_demands, method_demands_if, method_descriptor_demands, method_flag_demands, method_name_demands, method_type_demands, words_of};
 
 use super::Flags;
 use super::attributes::{CODE, CONSTANT_VALUE, Known, check_method_attributes, first_named};
 use super::profile::{
-    field_flags_in_profile, field_type_in_profile, method_flags_in_profile, method_name_in_profile,
-    method_type_in_profile,
+    field_flags_in_profile, is_int_type, is_profile_type, method_flags_in_profile,
+    method_name_in_profile, method_type_in_profile,
 };
 use super::rules::{field_flags_fit, method_flags_fit};
 use super::seen::Seen;
@@ -33,29 +34,42 @@ fn check_flags(at: usize, fit: bool, is_new: bool, is_in_profile: bool) -> Resul
 }
 
 #[tactic(auto, unfolding(crate::specs::Checks::is_int_text))]
-fn is_int_text(pool: &Pool, descriptor: u16) -> bool
-    ensures { result ≡ is_int_text (utf8_at pool.now descriptor) }
+fn is_int_read(alloc: Global, text: &[u8]) -> Result<bool, ReadFault>
+    ensures { Gives (Ok (is_int_read (field_descriptor_of 0 text.now))) result }
+{
+    match read_field_descriptor(alloc, text, 0) {
+        Ok(kind) => Ok(is_int_type(&kind)),
+        Err(ReadFault::Memory) => Err(ReadFault::Memory),
+        Err(ReadFault::Broken { .. }) => Ok(true),
+    }
+}
+
+// Whether a static field may have this descriptor, or the descriptor is at fault itself.
+#[tactic(auto, unfolding(crate::specs::Checks::is_int_text))]
+fn is_int_text(alloc: Global, pool: &Pool, descriptor: u16) -> Result<bool, ReadFault>
+    ensures { Gives (Ok (is_int_text (utf8_at pool.now descriptor))) result }
 {
     match pool.utf8(descriptor) {
-        Some(text) => text.is(b"I") || text.is(b"Z"),
-        None => false,
+        Some(text) => is_int_read(alloc, text.as_bytes()),
+        None => Ok(true),
     }
 }
 
 #[tactic(auto, unfolding(crate::specs::Checks::field_flag_demands))]
 fn check_field_flags(
+    alloc: Global,
     pool: &Pool,
     class: Flags,
     is_new: bool,
     field: &Member,
 ) -> Result<(), ReadFault>
-    ensures { result ≡ verdict (field_flag_demands pool.now class.bits is_new field.now) }
+    ensures { Gives (verdict (field_flag_demands pool.now class.bits is_new field.now)) result }
 {
     let flags = Flags {
         bits: field.flags.value,
     };
     let has_constant = first_named(pool, CONSTANT_VALUE, field.attributes.as_slice()).is_some();
-    let is_int = is_int_text(pool, field.descriptor.value);
+    let is_int = is_int_text(alloc, pool, field.descriptor.value)?;
     let fit = field_flags_fit(class.has(Flags::INTERFACE), flags);
     let is_in_profile = field_flags_in_profile(is_int, has_constant, flags);
     check_flags(field.flags.at, fit, is_new, is_in_profile)
@@ -79,7 +93,7 @@ fn check_field_type(alloc: Global, at: usize, text: &[u8]) -> Result<(), ReadFau
     ensures { Gives (verdict (field_type_demands at text.now)) result }
 {
     let kind = read_field_descriptor(alloc, text, at)?;
-    demand(field_type_in_profile(&kind), Rule::OutOfProfile, at)
+    demand(is_profile_type(&kind), Rule::OutOfProfile, at)
 }
 
 #[tactic(auto, unfolding(crate::specs::Checks::field_descriptor_demands, cf_text::specs::Demands::verdict, cf_pool::specs::Pools::indexed))]
@@ -117,7 +131,7 @@ fn check_field(
 ) -> Result<(), ReadFault>
     ensures { Gives (verdict (field_demands_if (insides_of bytes.now) pool.now class.bits is_new field.now)) result }
 {
-    check_field_flags(pool, class, is_new, field)?;
+    check_field_flags(alloc, pool, class, is_new, field)?;
     check_field_name(pool, field.name)?;
     check_field_descriptor(alloc, pool, field.descriptor)?;
     let known = field_known(Flags {

@@ -11,6 +11,8 @@ mod decoding;
 #[cfg(test)]
 mod devices;
 #[cfg(test)]
+mod flags;
+#[cfg(test)]
 mod frames;
 #[cfg(test)]
 mod layouts;

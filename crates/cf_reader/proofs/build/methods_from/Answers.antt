@@ -1,4 +1,4 @@
-use Rattle.std.proofs.Common.{◌≡◌, ℕ, List, length, subst, arith, sym, rules}
+use Rattle.std.proofs.Common.{◌≡◌, List, length, subst, arith, sym, rules}
 use Rattle.std.specs.Prelude.{IfOk}
 use Rattle.std.proofs.lemmas.Result.{err_from_is_err_and}
 use Rattle.cf_layout.specs.declared.items.Item.{Item}
