@@ -143,5 +143,7 @@ fn methods_at_fault(rt: HostRuntime) -> Result<(), Fail> {
         ..make_case(&[0x60], &none)
     };
     assert_eq!(rt; checked(rt.alloc(), arguments)?, (67, 0));
+    // Code of no instruction, which no class file has.
+    assert_eq!(rt; checked(rt.alloc(), make_case(&[], &none))?, (66, 0));
     Ok(())
 }

@@ -75,6 +75,7 @@ wrong_stops body place i here next rule told (faults.IsWrongAt.goes_on after act
 -- a body that is at fault is not type safe
 pub body_unsafe : (body : Body) (rule : CheckRule) (told : ℕ) → IsWrongBody body rule told → ¬ IsTypeSafe body
 body_unsafe body rule told (faults.IsWrongBody.arguments many e at) safe = let few = safe.typing.arguments in absurd (omega (arith, many, few))
+body_unsafe body rule told (faults.IsWrongBody.empty few none e at) safe = let some = safe.typing.begins in absurd (omega (arith, none, some))
 body_unsafe body rule told (faults.IsWrongBody.opening few wrong) safe =
     refuted_opening body (λ here came. entry_stops body.classes (declared_at body 0) body.opening here (rule ≡ NotAssignable) (told ≡ 0) wrong came) safe
 body_unsafe body rule told (faults.IsWrongBody.instruction few place i here reaches at wrong) safe =

@@ -223,15 +223,16 @@ declared_inside body place f listed is = some_offset (slice_get body.offsets pla
     some_offset (Some offset) at found = let within : place < length body.offsets = slice_get_within body.offsets place offset at in omega arith
 
 -- where the pass comes to the end, the body is type safe
-pub proved_safe : (body : Body) (here : Frame) → length body.offsets ≡ length body.insns → length body.opening.locals ≤ body.max_locals → IsWithin body body.opening
+pub proved_safe : (body : Body) (here : Frame) → length body.offsets ≡ length body.insns → length body.opening.locals ≤ body.max_locals → 0 < length body.insns → IsWithin body body.opening
     → ((place : ℕ) (f : Frame) → declared_at body place ≡ Some f → IsWithin body f)
     → Reaches body (length body.insns) here → IsTypeSafe body
-proved_safe body here listed arguments opening_within declared_within reaches =
+proved_safe body here listed arguments some opening_within declared_within reaches =
     let all = so_far body opening_within declared_within (length body.insns) here reaches in
     record {
       frames = all.frames;
       typing = record {
         arguments = arguments;
+        begins = some;
         opening = all.opening;
         declared = λ place f is. let inside = declared_inside body place f listed is in all.declared place (omega arith) inside f is;
         within = λ place inside. all.within place (omega arith) inside;

@@ -55,11 +55,12 @@ pub data IsWrongAt (body : Body) (place : ℕ) (insn : LinkedInsn) (here : Frame
   lands : (after : Frame) → effect body insn here ≡ Some after → IsWrongAmong body place after (targets insn) rule told → IsWrongAt body place insn here rule told
   goes_on : (after : Frame) → effect body insn here ≡ Some after → LandsOnAll body insn after → IsWrongNext body place insn after rule told → IsWrongAt body place insn here rule told
 
--- the pass over a body stops: there are more arguments than local variables; or they fit, and the opening frame is not
--- assignable to the one that is declared at the first instruction; or the pass reaches an instruction and does not
--- come through it
+-- the pass over a body stops: there are more arguments than local variables; or they fit, and there is no instruction, or
+-- the opening frame is not assignable to the one that is declared at the first; or the pass reaches an instruction and
+-- does not come through it
 pub data IsWrongBody (body : Body) (rule : CheckRule) (told : ℕ) : Type 0 where
   arguments : body.max_locals < length body.opening.locals → rule ≡ Local → told ≡ 0 → IsWrongBody body rule told
+  empty : length body.opening.locals ≤ body.max_locals → length body.insns ≡ 0 → rule ≡ FallsOff → told ≡ 0 → IsWrongBody body rule told
   opening : length body.opening.locals ≤ body.max_locals → IsWrongEntry body 0 body.opening 0 rule told → IsWrongBody body rule told
   instruction : length body.opening.locals ≤ body.max_locals → (place : ℕ) (insn : LinkedInsn) (here : Frame) → Reaches body place here → insn_at body place ≡ Some insn → IsWrongAt body place insn here rule told → IsWrongBody body rule told
 

@@ -43,6 +43,8 @@ pub record IsWithin (body : Body) (f : Frame) : Type 0 where
 pub record IsTyping (body : Body) (frames : ℕ → Frame) : Type 0 where
   -- the arguments fit the local variables
   pub arguments : length body.opening.locals ≤ body.max_locals
+  -- the code is not empty (JVMS 4.7.3)
+  pub begins : 0 < length body.insns
   pub opening : Enters body frames 0 body.opening
   pub declared : (place : ℕ) (f : Frame) → declared_at body place ≡ Some f → frames place ≡ f
   pub within : (place : ℕ) → place < length body.insns → IsWithin body (frames place)

@@ -91,12 +91,15 @@ impl BodyView<'_> {
     // The frame with which the pass begins.
     fn begin(&self, alloc: Global) -> Result<TypeFrame, BodyFault>
         ensures { SettlesBody result
-            (λ frame. Reaches self.now 0 frame × IsWithin self.now self.now.opening)
+            (λ frame. Reaches self.now 0 frame × IsWithin self.now self.now.opening × (0 < length self.now.insns))
             (IsBodyFault self.now) }
     {
         let mut frame = self.opening(alloc)?;
         if frame.locals().len() > self.max_locals() {
             return Err(self.fault(Stop::Broken(CheckRule::Local), 0));
+        }
+        if self.insn_count() == 0 {
+            return Err(self.fault(Stop::Broken(CheckRule::FallsOff), 0));
         }
         match self.enter(&mut frame, 0) {
             Ok(()) => Ok(frame),

@@ -27,7 +27,7 @@ pub enum CheckRule {
     NoFrame,
     /// What comes in at a declared frame is not assignable to it.
     NotAssignable,
-    /// The code ends with an instruction that goes on to the next.
+    /// The code ends with an instruction that goes on to the next, or has none.
     FallsOff,
     /// A local variable is of another type, or there is none of this number.
     Local,

@@ -1,4 +1,4 @@
-use Rattle.std.proofs.Common.{◌≤◌, length, ap, refl, arith}
+use Rattle.std.proofs.Common.{◌<◌, ◌≤◌, length, ap, refl, arith}
 use Rattle.ver_check.proofs.Stops.{stopped}
 use Rattle.ver_check.specs.Faults.{IsBodyFault, IsWrongBody, IsWrongEntry}
 use Rattle.ver_check.specs.Faults as faults
@@ -16,6 +16,7 @@ returns-in-Ok c =
         locals = omega (arith, ap length c.locals.ensures, ap (λ (f : Frame). length f.locals) opens);
         stack = rw c.in_ok-frame.ensures.empty (omega arith);
       },
+      omega (arith, c.if-insn_count-eq0.false, c.insn_count.ensures),
     )
 
 pub returns-in-Err : goal.returns-in-Err
@@ -24,5 +25,5 @@ returns-in-Err c =
     let opens = c.in_ok-frame.ensures.opening in
     let settled = rw opens at c.in-Err.ensures 0 in
     let few : length body.opening.locals ≤ body.max_locals = omega (arith, ap length c.locals.ensures, ap (λ (f : Frame). length f.locals) opens) in
-    rw c.fault-in-Err.ensures (stopped body.offsets 0 c.in-Err.stop (ComesIn body 0 body.opening c.enter.new.frame) (IsWrongEntry body 0 body.opening 0) (IsBodyFault body) (λ frame. Reaches body 0 frame × IsWithin body body.opening)
+    rw c.fault-in-Err.ensures (stopped body.offsets 0 c.in-Err.stop (ComesIn body 0 body.opening c.enter.new.frame) (IsWrongEntry body 0 body.opening 0) (IsBodyFault body) (λ frame. Reaches body 0 frame × IsWithin body body.opening × (0 < length body.insns))
     (λ rule told wrong. record { told = told; wrong = faults.IsWrongBody.opening few wrong; offset = refl }) settled)
