@@ -1,3 +1,6 @@
+pub mod ChainZips
+pub mod Chains
+pub mod Fillings
 pub mod FrameKinds
 pub mod FrameLimits
 pub mod FrameLoops

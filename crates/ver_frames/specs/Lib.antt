@@ -1,4 +1,5 @@
 pub mod Assignable
+pub mod Chains
 pub mod Frames
 pub mod Gives
 pub mod Limits

@@ -1,12 +1,15 @@
 //! Which verification types may stand for which (JVMS 4.10.1.2, 4.10.1.4).
 
-ghost use Rattle.std.specs.Prelude.{◌↔◌, ◌≡◌, ◌<◌, IsTrue, IsSomeAnd, Some, length, slice_get, codes};
-ghost use Rattle.std.specs.List.{AllZip};
+ghost use Rattle.std.specs.Prelude.{◌↔◌, ◌≡◌, ◌<◌, IsTrue, IsSomeAnd, Some, length, slice_get, slice_index_or, codes};
 ghost use Rattle.cls_set.specs.Classes.{name_at, IsInterface};
 ghost use Rattle.cls_set.specs.Subtypes.{IsSubclass};
-ghost use Rattle.ver_frames.specs.Assignable.{IsAssignable, IsFrameAssignable};
+ghost use Rattle.ver_frames.specs.Assignable.{AreAssignable, IsAssignable, IsFrameAssignable};
+ghost use Rattle.ver_frames.specs.Chains.{Stands, types_of};
+ghost use Rattle.ver_frames.specs.Frames.{first_types};
+ghost use Rattle.ver_frames.specs.declared.vtype.VType.TheVariants.{Top};
 
-use super::{TypeFrame, VType};
+use super::chain::{TypeChain, TypeNodes};
+use super::{DeclaredFrame, TypeFrame, VType};
 use cls_set::{ClassId, ClassSet};
 
 /// Whether a value of the first type may stand where the second is asked. It takes no memory.
@@ -49,34 +52,68 @@ fn is_named_object(classes: &ClassSet, class: ClassId) -> bool
     usize::from(class.0) < classes.len() && classes.name(class).is(b"java/lang/Object")
 }
 
-// Whether there are as many types as asked, each assignable to the one in its place.
-fn are_assignable(classes: &ClassSet, given: &[VType], asked: &[VType]) -> bool
-    ensures { IsTrue result ↔ AllZip (IsAssignable classes.now) given.now asked.now }
+// The type in a place: top after the last.
+fn type_at(types: &[VType], place: usize) -> VType
+    ensures { result ≡ slice_index_or types.now place Top }
 {
-    if given.len() != asked.len() {
-        return false;
+    match types.get(place) {
+        Some(kind) => *kind,
+        None => VType::Top,
     }
-    for (given, asked) in given.iter().zip(asked) {
-        if !assignable(classes, *given, *asked) {
+}
+
+// Whether each type of a chain is one that the type in its place may stand for, which is top after
+// the last.
+fn chain_assignable(
+    classes: &ClassSet,
+    given: &[VType],
+    nodes: &TypeNodes,
+    asked: TypeChain,
+) -> bool
+    requires { Stands nodes.now asked }
+    ensures { IsTrue result ↔ AreAssignable classes.now (first_types asked.count given.now) (types_of nodes.now asked) }
+{
+    let mut last = asked.last;
+    let mut count = asked.count;
+    while count > 0 {
+        let node = nodes.node(last);
+        count -= 1;
+        if !assignable(classes, type_at(given, count), node.kind) {
             return false;
         }
+        last = node.before;
     }
     true
 }
 
-// Whether there are as many operands as asked, each assignable to the one in its place.
-#[tactic(auto, using(crate::proofs::Zips::zip_backwards))]
-fn stack_assignable(classes: &ClassSet, given: &TypeFrame, asked: &TypeFrame) -> bool
-    ensures { IsTrue result ↔ AllZip (IsAssignable classes.now) given.now.stack asked.now.stack }
+// Whether there are as many local variables as asked, each assignable to the one of its number.
+fn locals_assignable(classes: &ClassSet, given: &TypeFrame, asked: &DeclaredFrame) -> bool
+    ensures { IsTrue result ↔ AreAssignable classes.now given.now.locals asked.now.locals }
 {
-    are_assignable(classes, given.stack(), asked.stack())
+    let nodes = asked.nodes;
+    if given.local_count() != asked.local_count() {
+        return false;
+    }
+    chain_assignable(classes, given.stored_locals(), nodes, asked.locals)
 }
 
-/// Whether a frame may stand where another is asked. It takes no memory.
-pub fn frame_assignable(classes: &ClassSet, given: &TypeFrame, asked: &TypeFrame) -> bool
+// Whether there are as many operands as asked, each assignable to the one in its place.
+fn stack_assignable(classes: &ClassSet, given: &TypeFrame, asked: &DeclaredFrame) -> bool
+    ensures { IsTrue result ↔ AreAssignable classes.now given.now.stack asked.now.stack }
+{
+    let nodes = asked.nodes;
+    let stack = given.stack();
+    if stack.len() != asked.stack.count {
+        return false;
+    }
+    chain_assignable(classes, stack, nodes, asked.stack)
+}
+
+/// Whether a frame may stand where the declared one is asked. It takes no memory.
+pub fn frame_assignable(classes: &ClassSet, given: &TypeFrame, asked: &DeclaredFrame) -> bool
     ensures { IsTrue result ↔ IsFrameAssignable classes.now given.now asked.now }
 {
-    are_assignable(classes, given.locals(), asked.locals())
+    locals_assignable(classes, given, asked)
         && stack_assignable(classes, given, asked)
-        && (asked.flag_this_uninit() || !given.flag_this_uninit())
+        && (!given.flag_this_uninit() || asked.flag_this_uninit())
 }

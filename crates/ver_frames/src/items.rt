@@ -1,10 +1,12 @@
 //! The types that the items of a StackMapTable say (JVMS 4.7.4).
 
-ghost use Rattle.std.specs.Prelude.{◌≡◌, IfOk, MatchOption, None, Some};
+ghost use Rattle.std.specs.Prelude.{◌≡◌, ◌≤◌, IfOk, IfSome, MatchOption, None, Some};
+ghost use Rattle.ver_frames.specs.Chains.{Keeps, Stands, types_of};
 ghost use Rattle.ver_frames.specs.Gives.{Finds};
 ghost use Rattle.ver_frames.specs.StackMap.{item, items, with_front};
 ghost use Rattle.ver_frames.specs.StackMapFormat.{object_type};
 
+use super::chain::{TypeChain, TypeNodes};
 use super::layout::u2;
 use super::{MethodView, VType};
 use std::alloc::AllocError;
@@ -42,25 +44,31 @@ fn item<'a>(method: &MethodView, bytes: &'a [u8]) -> Option<(VType, &'a [u8])>
     }
 }
 
-// Appends the types that so many items say, and answers the bytes after them: `None` where an item
-// says none.
-pub(crate) fn push_items<'a>(
-    types: &mut Vec<VType>,
+// The chain with the types that so many items say at its end, and the bytes after them: `None` if an
+// item says none.
+pub(crate) fn append_items<'a>(
+    nodes: &mut TypeNodes,
+    chain: TypeChain,
     method: &MethodView,
     count: u16,
     bytes: &'a [u8],
-) -> Result<Option<&'a [u8]>, AllocError>
-    ensures { IfOk result (λ found. MatchOption found
+) -> Result<Option<(TypeChain, &'a [u8])>, AllocError>
+    requires stands { Stands nodes.old chain }
+    requires few { chain.count ≤ 65535 }
+    ensures items { IfOk result (λ found. MatchOption found
         (items method.now count bytes.now ≡ None)
-        (λ rest. with_front types.old.items (items method.now count bytes.now) ≡ Some (types.new.items, rest.now))) }
+        (λ x. with_front (types_of nodes.old chain) (items method.now count bytes.now) ≡ Some (types_of nodes.new x.0, x.1.now))) }
+    ensures stands { IfOk result (λ found. IfSome found (λ x. Stands nodes.new x.0)) }
+    ensures kept { Keeps nodes.old nodes.new }
 {
+    let mut longer = chain;
     let mut rest = bytes;
     for _ in 0..count {
         let Some((kind, after)) = item(method, rest) else {
             return Ok(None);
         };
-        types.push(kind)?;
+        longer = nodes.append(longer, kind)?;
         rest = after;
     }
-    Ok(Some(rest))
+    Ok(Some((longer, rest)))
 }

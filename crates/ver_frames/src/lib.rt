@@ -8,6 +8,7 @@ pub use cls_link::{
     FieldType, Flags, Linked, LinkedCode, LinkedInsn, LinkedMethod, Method, MethodDescriptor,
     MethodId, Numbered, Pool, Row, StackOperation, Table, Text, UnaryOperator, ValueKind,
 };
+pub use declared_frames::{DeclaredFrame, DeclaredFrames};
 pub use fault::{StackMapFault, StackMapRule};
 pub use frame::TypeFrame;
 pub use method::MethodView;
@@ -15,6 +16,8 @@ pub use stack_map::declared;
 pub use vtype::VType;
 
 mod assignability;
+mod chain;
+mod declared_frames;
 mod fault;
 mod frame;
 mod items;

@@ -3,7 +3,6 @@
 ghost use Rattle.std.specs.Prelude.{◌≡◌, IfOk};
 ghost use Rattle.ver_frames.specs.Types.{field_vtype, element_type};
 
-use super::frame::fill;
 use super::{TypeFrame, VType};
 use cls_link::LinkedCode;
 use cls_set::{Class, ClassId, ClassSet, Code, ElementType, FieldType, Flags, Method};
@@ -75,9 +74,13 @@ impl MethodView<'_> {
     pub fn opening(&self, alloc: Global) -> Result<TypeFrame, AllocError>
         ensures { IfOk result (λ frame. frame ≡ opening self.now) }
     {
-        let mut locals = self.argument_types(alloc)?;
-        fill(&mut locals, usize::from(self.code.max_locals))?;
-        Ok(TypeFrame::new(locals, Vec::new(alloc), self.begins_uninit()))
+        let locals = self.argument_types(alloc)?;
+        Ok(TypeFrame::new(
+            self.code.max_locals,
+            locals,
+            Vec::new(alloc),
+            self.begins_uninit(),
+        ))
     }
 
     /// The type of its result, where there is one.
