@@ -1,3 +1,4 @@
+pub mod ChainFrames
 pub mod ChainZips
 pub mod Chains
 pub mod Fillings
