@@ -92,3 +92,36 @@ filled_zip classes n m given asked long =
 pub lengths_differ : (classes : List Class) (given asked : List VType) → (length given ≡ length asked → ⊥) → IsTrue false ↔ AreAssignable classes given asked
 lengths_differ classes given asked differ =
     (λ no. absurd (cc), λ all. absurd (differ (sym (AllZip-long (IsAssignable classes) given asked all))))
+
+-- ---- a step of the loop
+
+-- the last is looked at
+pub zip_at : (classes : List Class) (given : List VType) (nodes : List TypeNode) (count next last : ℕ) (node : TypeNode) → count ≡ suc next → StandTo nodes count last → slice_get nodes last ≡ Some node → next < length given
+    → AreFirst classes given nodes count last ↔ (AreFirst classes given nodes next node.before × IsAssignable classes (get_or given next Top) node.kind)
+zip_at classes given nodes count next last node e stands at inside =
+    subst (λ (n : ℕ). AreFirst classes given nodes n last ↔ (AreFirst classes given nodes next node.before × IsAssignable classes (get_or given next Top) node.kind)) (sym e)
+    (last_and_others classes given nodes next last node (subst (λ (n : ℕ). StandTo nodes n last) e stands) at inside)
+
+-- the type in a place, of types that are filled up
+pub test_filled : (classes : List Class) (n k : ℕ) (types : List VType) (given asked : VType) (test : Bool) → given ≡ get_or types k Top → (IsTrue test ↔ IsAssignable classes given asked)
+    → IsTrue test ↔ IsAssignable classes (get_or (filled n types) k Top) asked
+test_filled classes n k types given asked test is tested =
+    subst (λ (t : VType). IsTrue test ↔ IsAssignable classes t asked) (is ∙ sym (get_filled types (n - length types) k)) tested
+
+-- no type is left
+pub none_left : (classes : List Class) (given : List VType) (nodes : List TypeNode) (count last : ℕ) (whole : Type 0) → count ≡ 0 → (AreFirst classes given nodes count last ↔ whole) → IsTrue true ↔ whole
+unfolding types_to
+none_left classes given nodes zero last whole e so_far = (λ yes. so_far.0 tt, λ w. refl)
+none_left classes given nodes (suc n) last whole e so_far = absurd (omega (arith, e))
+
+-- the place is one of the filled types
+pub within_filled : (n k : ℕ) (types : List VType) → k < n → k < length (filled n types)
+within_filled n k types lt = let all = filled_count n types in omega (arith, all, lt)
+
+-- ---- one after the other
+
+pub both_ways : (A B C : Type 0) → (A ↔ B) → (B ↔ C) → (A ↔ C)
+both_ways A B C first second = (λ a. second.0 (first.0 a), λ c. first.1 (second.1 c))
+
+pub turned : (A B : Type 0) → (A ↔ B) → (B ↔ A)
+turned A B both = (both.1, both.0)

@@ -111,6 +111,27 @@ appended nodes chain kind stands =
       last_types (nodes ++ more ∷ []) chain.count (length nodes) more at ∙ ap (λ (ts : List VType). ts ++ kind ∷ []) old.1,
     )
 
+-- the same, where the index of the end and the number of types are told
+pub appended_at : (nodes : List TypeNode) (chain : TypeChain) (kind : VType) (end count : ℕ) → Stands nodes chain → end ≡ length nodes → count ≡ suc chain.count
+    → StandTo (nodes ++ record { kind = kind; before = chain.last } ∷ []) count end
+    × (types_to (nodes ++ record { kind = kind; before = chain.last } ∷ []) count end ≡ types_of nodes chain ++ kind ∷ [])
+appended_at nodes chain kind end count stands e f =
+    let more : List TypeNode = nodes ++ record { kind = kind; before = chain.last } ∷ [] in
+    let all = appended nodes chain kind stands in (
+      subst (λ (n : ℕ). StandTo more n end) (sym f) (subst (λ (k : ℕ). StandTo more (suc chain.count) k) (sym e) all.0),
+      subst (λ (n : ℕ). types_to more n end ≡ types_of nodes chain ++ kind ∷ []) (sym f)
+      (subst (λ (k : ℕ). types_to more (suc chain.count) k ≡ types_of nodes chain ++ kind ∷ []) (sym e) all.1),
+    )
+
+-- no types stand anywhere
+pub none_stand : (nodes : List TypeNode) (last : ℕ) → StandTo nodes 0 last
+unfolding StandTo
+none_stand nodes last = tt
+
+pub none_types : (nodes : List TypeNode) (last : ℕ) → types_to nodes 0 last ≡ []
+unfolding types_to
+none_types nodes last = refl
+
 -- ---- one type less
 
 -- the first types are those of the chain without its last
@@ -137,3 +158,64 @@ written nodes n last node written_types all stands at inside so_far =
     let next : n + 1 ≡ suc n = omega arith in
     let types = last_types nodes n last node at in
     rw (set_at, next) (sym (append_assoc (types_to nodes n node.before) (node.kind ∷ []) (drop (suc n) written_types)) ∙ ap (λ (ts : List VType). ts ++ drop (suc n) written_types) (sym types) ∙ so_far)
+
+-- ---- a step of a loop over a chain, from its last type on
+
+pub inside : (nodes : List TypeNode) (count last : ℕ) → 0 < count → StandTo nodes count last → last < length nodes
+inside nodes zero last some stands = absurd (omega arith)
+inside nodes (suc n) last some stands = (last_of nodes n last stands).inside
+
+-- the types before
+pub stands_before : (nodes : List TypeNode) (count next last : ℕ) (node : TypeNode) → count ≡ suc next → StandTo nodes count last → slice_get nodes last ≡ Some node → StandTo nodes next node.before
+stands_before nodes count next last node e stands at =
+    (shortened nodes next last next node (subst (λ (n : ℕ). StandTo nodes n last) e stands) at (omega arith)).0
+
+pub shorten_step : (nodes : List TypeNode) (count next last keeps : ℕ) (node : TypeNode) (all : List VType) → count ≡ suc next → keeps ≤ next → StandTo nodes count last → slice_get nodes last ≡ Some node
+    → take keeps (types_to nodes count last) ≡ all → take keeps (types_to nodes next node.before) ≡ all
+shorten_step nodes count next last keeps node all e le stands at so_far =
+    (shortened nodes next last keeps node (subst (λ (n : ℕ). StandTo nodes n last) e stands) at le).1 ∙ subst (λ (n : ℕ). take keeps (types_to nodes n last) ≡ all) e so_far
+
+pub shorten_end : (nodes : List TypeNode) (count last keeps : ℕ) (all : List VType) → count ≡ keeps → StandTo nodes count last → take keeps (types_to nodes count last) ≡ all → types_to nodes count last ≡ all
+shorten_end nodes count last keeps all e stands so_far =
+    let long : length (types_to nodes count last) ≡ count = long_to nodes count last stands in
+    sym (take_all keeps (types_to nodes count last) (omega (arith, long, e))) ∙ so_far
+
+pub write_step : (nodes : List TypeNode) (count next last : ℕ) (node : TypeNode) (types all : List VType) → count ≡ suc next → StandTo nodes count last → slice_get nodes last ≡ Some node → next < length types
+    → types_to nodes count last ++ drop count types ≡ all → types_to nodes next node.before ++ drop next (slice_set types next node.kind) ≡ all
+write_step nodes count next last node types all e stands at inside_types so_far =
+    written nodes next last node types all (subst (λ (n : ℕ). StandTo nodes n last) e stands) at inside_types
+    (subst (λ (n : ℕ). types_to nodes n last ++ drop n types ≡ all) e so_far)
+
+pub write_end : (nodes : List TypeNode) (count last : ℕ) (types all : List VType) → count ≡ 0 → types_to nodes count last ++ drop count types ≡ all → types ≡ all
+unfolding types_to
+write_end nodes zero last types all e so_far = so_far
+write_end nodes (suc n) last types all e so_far = absurd (omega (arith, e))
+
+any_last : (found : Bool) (b : Bool) → b ≡ false → (found || (b || false)) ≡ found
+any_last true b e = refl
+any_last false b e = rw e refl
+
+any_end : (found : Bool) (b : Bool) → b ≡ true → true ≡ (found || (b || false))
+any_end true b e = refl
+any_end false b e = rw e refl
+
+any_split : (nodes : List TypeNode) (count next last : ℕ) (node : TypeNode) → count ≡ suc next → slice_get nodes last ≡ Some node
+    → list_any is_uninit_this (types_to nodes count last) ≡ (list_any is_uninit_this (types_to nodes next node.before) || (is_uninit_this node.kind || false))
+any_split nodes count next last node e at =
+    subst (λ (n : ℕ). list_any is_uninit_this (types_to nodes n last) ≡ (list_any is_uninit_this (types_to nodes next node.before) || (is_uninit_this node.kind || false))) (sym e)
+    (ap (list_any is_uninit_this) (last_types nodes next last node at) ∙ list_any-append is_uninit_this (types_to nodes next node.before) (node.kind ∷ []))
+
+pub any_step : (nodes : List TypeNode) (count next last : ℕ) (node : TypeNode) (all : Bool) → count ≡ suc next → slice_get nodes last ≡ Some node → is_uninit_this node.kind ≡ false
+    → list_any is_uninit_this (types_to nodes count last) ≡ all → list_any is_uninit_this (types_to nodes next node.before) ≡ all
+any_step nodes count next last node all e at fails so_far =
+    sym (any_split nodes count next last node e at ∙ any_last (list_any is_uninit_this (types_to nodes next node.before)) (is_uninit_this node.kind) fails) ∙ so_far
+
+pub any_found : (nodes : List TypeNode) (count next last : ℕ) (node : TypeNode) (all : Bool) → count ≡ suc next → slice_get nodes last ≡ Some node → is_uninit_this node.kind ≡ true
+    → list_any is_uninit_this (types_to nodes count last) ≡ all → true ≡ all
+any_found nodes count next last node all e at passes so_far =
+    any_end (list_any is_uninit_this (types_to nodes next node.before)) (is_uninit_this node.kind) passes ∙ sym (any_split nodes count next last node e at) ∙ so_far
+
+pub any_none : (nodes : List TypeNode) (count last : ℕ) (all : Bool) → count ≡ 0 → list_any is_uninit_this (types_to nodes count last) ≡ all → false ≡ all
+unfolding types_to
+any_none nodes zero last all e so_far = so_far
+any_none nodes (suc n) last all e so_far = absurd (omega (arith, e))

@@ -80,12 +80,17 @@ filled_set n types k kind lt =
     let long : length (slice_set types k kind) ≡ length types = length-set types k kind in
     rw long (sym (set-append_left types (replicate (n - length types) Top) k kind lt))
 
--- after types of which more are stored
-pub filled_set_after : (n : ℕ) (types : List VType) (k : ℕ) (kind : VType) → length types ≤ k → k < n
-    → filled n (slice_set (types ++ replicate (suc k - length types) Top) k kind) ≡ slice_set (filled n types) k kind
-filled_set_after n types k kind le lt =
-    let more : length (filled (suc k) types) ≡ suc k = filled_long (suc k) types (omega (arith, le)) in
-    filled_set n (filled (suc k) types) k kind (omega (arith, more)) ∙ ap (λ (ts : List VType). slice_set ts k kind) (filled_again n (suc k) types (omega (arith, lt)))
+-- after those that are stored, of which more are stored then
+pub filled_set_after : (n : ℕ) (types : List VType) (k index stored : ℕ) (kind : VType) (resized : List VType) → index ≡ k → stored ≡ length types → length types ≤ k → k < n
+    → resized ≡ take (index + 1) types ++ replicate (index + 1 - stored) Top
+    → filled n (slice_set resized index kind) ≡ slice_set (filled n types) k kind
+filled_set_after n types k index stored kind resized e f le lt is =
+    let all : take (index + 1) types ≡ types = take_all (index + 1) types (omega (arith, e, le)) in
+    let tops : index + 1 - stored ≡ suc k - length types = omega (arith, e, f) in
+    let same : resized ≡ filled (suc k) types = is ∙ ap (λ (ts : List VType). ts ++ replicate (index + 1 - stored) Top) all ∙ ap (λ (j : ℕ). types ++ replicate j Top) tops in
+    let long : length (filled (suc k) types) ≡ suc k = filled_long (suc k) types (omega (arith, le)) in
+    ap (λ (ts : List VType). filled n (slice_set ts index kind)) same ∙ ap (λ (j : ℕ). filled n (slice_set (filled (suc k) types) j kind)) e
+    ∙ filled_set n (filled (suc k) types) k kind (omega (arith, long)) ∙ ap (λ (ts : List VType). slice_set ts k kind) (filled_again n (suc k) types (omega (arith, lt)))
 
 -- ---- the first of them
 

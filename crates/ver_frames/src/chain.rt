@@ -3,7 +3,8 @@
 //! The frames of a StackMapTable mostly repeat the local variables of the frame before. So the types
 //! of a method's frames stand in one row of nodes, and a list is told by the node of its last type.
 
-ghost use Rattle.ver_frames.specs.Chains.{Keeps, Stands, StandTo, types_of};
+ghost use Rattle.std.specs.Prelude.{◌≡◌};
+ghost use Rattle.ver_frames.specs.StackMapFormat.{is_uninit_this};
 
 use super::VType;
 use std::alloc::{AllocError, Global};
@@ -36,6 +37,13 @@ impl Model for TypeNodes {
     ghost Value = { List TypeNode };
 
     ghost view = { λ t. t.nodes.items };
+}
+
+// Whether a type is that of the receiver before another `<init>` has run on it.
+fn is_uninit_this(kind: VType) -> bool
+    ensures { result ≡ is_uninit_this kind }
+{
+    matches!(kind, VType::UninitializedThis)
 }
 
 impl TypeNodes {
@@ -144,7 +152,7 @@ impl TypeNodes {
         let mut count = chain.count;
         while count > 0 {
             let node = self.node(last);
-            if matches!(node.kind, VType::UninitializedThis) {
+            if is_uninit_this(node.kind) {
                 return true;
             }
             count -= 1;

@@ -123,9 +123,11 @@ impl TypeFrame {
         ensures err { OnErr result (self.new ≡ self.old) }
     {
         let index = usize::from(number);
-        if index >= self.locals.len() {
-            self.locals.resize(index + 1, VType::Top)?;
+        if index < self.locals.len() {
+            self.locals[index] = kind;
+            return Ok(());
         }
+        self.locals.resize(index + 1, VType::Top)?;
         self.locals[index] = kind;
         Ok(())
     }

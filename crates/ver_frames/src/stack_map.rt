@@ -1,6 +1,6 @@
 //! The frames that a StackMapTable declares (JVMS 4.7.4).
 
-ghost use Rattle.std.specs.Prelude.{◌≡◌, ◌==◌, ◌≤◌, ℕ, List, IfOk, None, Some, Ok, length, map, if◌then◌else◌};
+ghost use Rattle.std.specs.Prelude.{◌≡◌, ◌==◌, ◌≤◌, ℕ, List, IfOk, None, Some, Ok, length, map, nat_le, if◌then◌else◌};
 ghost use Rattle.std.specs.List.{AllByRecursion, list_any};
 ghost use Rattle.std.specs.List.Sorted.{IsStrictlyIncreasing};
 ghost use Rattle.ver_frames.specs.Chains.{FrameStands, Keeps, Stands, spelled_in, types_of};
@@ -9,12 +9,13 @@ ghost use Rattle.ver_frames.specs.Gives.{Gives};
 ghost use Rattle.ver_frames.specs.Limits.{FitsMethod};
 ghost use Rattle.ver_frames.specs.Method.{argument_types};
 ghost use Rattle.ver_frames.specs.declared.fault.StackMapFault.TheVariants.{Broken};
+ghost use Rattle.ver_frames.specs.declared.fault.StackMapRule.TheVariants.{Kind, Locals, Offset};
 ghost use Rattle.ver_frames.specs.StackMap.{declared_frames, frame, frame_behind, frames, frames_of_table, is_start};
 ghost use Rattle.ver_frames.specs.StackMapFormat.{DeclaresFrames};
 
 use super::chain::{TypeChain, TypeNodes};
 use super::items::append_items;
-use super::layout::{added, after_items, delta, kept, operands, u2};
+use super::layout::{added, delta, kept, operands_after, u2};
 use super::raw_frame::RawFrame;
 use super::{DeclaredFrames, MethodView, StackMapFault, StackMapRule};
 use std::alloc::{AllocError, Global};
@@ -49,6 +50,20 @@ fn start_at(method: &MethodView, at: usize) -> Option<u16>
     find_offset(method.linked.offsets.as_slice(), at)
 }
 
+// The fault of a frame with so many local variables whose operands are not told by its bytes.
+fn unread<T>(method: &MethodView, at: usize, locals: usize) -> Result<T, StackMapFault>
+    requires { IsStrictlyIncreasing method.now.linked.offsets }
+    ensures { result ≡ (if nat_le locals method.now.code.max_locals then (if is_start method.now at then Err (Broken Kind at) else Err (Broken Offset at)) else Err (Broken Locals at)) }
+{
+    if locals > usize::from(method.code.max_locals) {
+        return broken(StackMapRule::Locals, at);
+    }
+    match start_at(method, at) {
+        Some(_) => broken(StackMapRule::Kind, at),
+        None => broken(StackMapRule::Offset, at),
+    }
+}
+
 // The frame at an offset, of this tag, after a frame with these local variables.
 #[tactic(auto, using(crate::proofs::Chains::keeps_all), unfolding(crate::specs::StackMap::frame_behind))]
 fn frame_behind<'a>(
@@ -71,23 +86,15 @@ fn frame_behind<'a>(
     let Some((adds, added)) = added(tag, rest) else {
         return broken(StackMapRule::Reserved, at);
     };
-    let holds = match after_items(adds, added) {
-        Some(rest) => operands(tag, rest),
-        None => None,
+    let local_count = keeps.saturating_add(usize::from(adds));
+    let Some((pushes, pushed)) = operands_after(tag, adds, added) else {
+        return unread(method, at, local_count);
     };
-    if keeps.saturating_add(usize::from(adds)) > usize::from(method.code.max_locals) {
-        return broken(StackMapRule::Locals, at);
-    }
-    if let Some((count, _)) = holds
-        && count > method.code.max_stack
-    {
+    if local_count > usize::from(method.code.max_locals) || pushes > method.code.max_stack {
         return broken(StackMapRule::Locals, at);
     }
     let Some(offset) = start_at(method, at) else {
         return broken(StackMapRule::Offset, at);
-    };
-    let Some((pushes, pushed)) = holds else {
-        return broken(StackMapRule::Kind, at);
     };
     let first = nodes.shorten(before, keeps);
     let Some((locals, _)) = append_items(nodes, first, method, adds, added)? else {
@@ -97,14 +104,12 @@ fn frame_behind<'a>(
     let Some((stack, rest)) = append_items(nodes, none, method, pushes, pushed)? else {
         return broken(StackMapRule::Kind, at);
     };
-    Ok((
-        RawFrame {
-            offset,
-            locals,
-            stack,
-        },
-        rest,
-    ))
+    let raw = RawFrame {
+        offset,
+        locals,
+        stack,
+    };
+    Ok((raw, rest))
 }
 
 // The next frame, after one at this offset with these local variables, or the first.
