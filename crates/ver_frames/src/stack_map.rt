@@ -1,6 +1,6 @@
 //! The frames that a StackMapTable declares (JVMS 4.7.4).
 
-ghost use Rattle.std.specs.Prelude.{◌≡◌, ◌==◌, ◌≤◌, ℕ, List, IfOk, None, Some, Ok, length, map, nat_le, if◌then◌else◌};
+ghost use Rattle.std.specs.Prelude.{◌≡◌, ◌==◌, ◌≤◌, ℕ, List, IfOk, None, Some, Ok, length, map, if◌then◌else◌};
 ghost use Rattle.std.specs.List.{AllByRecursion, list_any};
 ghost use Rattle.std.specs.List.Sorted.{IsStrictlyIncreasing};
 ghost use Rattle.ver_frames.specs.Chains.{FrameStands, Keeps, Stands, spelled_in, types_of};
@@ -9,7 +9,6 @@ ghost use Rattle.ver_frames.specs.Gives.{Gives};
 ghost use Rattle.ver_frames.specs.Limits.{FitsMethod};
 ghost use Rattle.ver_frames.specs.Method.{argument_types};
 ghost use Rattle.ver_frames.specs.declared.fault.StackMapFault.TheVariants.{Broken};
-ghost use Rattle.ver_frames.specs.declared.fault.StackMapRule.TheVariants.{Kind, Locals, Offset};
 ghost use Rattle.ver_frames.specs.StackMap.{declared_frames, frame, frame_behind, frames, frames_of_table, is_start};
 ghost use Rattle.ver_frames.specs.StackMapFormat.{DeclaresFrames};
 
@@ -50,20 +49,6 @@ fn start_at(method: &MethodView, at: usize) -> Option<u16>
     find_offset(method.linked.offsets.as_slice(), at)
 }
 
-// The fault of a frame with so many local variables whose operands are not told by its bytes.
-fn unread<T>(method: &MethodView, at: usize, locals: usize) -> Result<T, StackMapFault>
-    requires { IsStrictlyIncreasing method.now.linked.offsets }
-    ensures { result ≡ (if nat_le locals method.now.code.max_locals then (if is_start method.now at then Err (Broken Kind at) else Err (Broken Offset at)) else Err (Broken Locals at)) }
-{
-    if locals > usize::from(method.code.max_locals) {
-        return broken(StackMapRule::Locals, at);
-    }
-    match start_at(method, at) {
-        Some(_) => broken(StackMapRule::Kind, at),
-        None => broken(StackMapRule::Offset, at),
-    }
-}
-
 // The frame at an offset, of this tag, after a frame with these local variables.
 #[tactic(auto, using(crate::proofs::Chains::keeps_all), unfolding(crate::specs::StackMap::frame_behind))]
 fn frame_behind<'a>(
@@ -88,7 +73,13 @@ fn frame_behind<'a>(
     };
     let local_count = keeps.saturating_add(usize::from(adds));
     let Some((pushes, pushed)) = operands_after(tag, adds, added) else {
-        return unread(method, at, local_count);
+        if local_count > usize::from(method.code.max_locals) {
+            return broken(StackMapRule::Locals, at);
+        }
+        if start_at(method, at).is_none() {
+            return broken(StackMapRule::Offset, at);
+        }
+        return broken(StackMapRule::Kind, at);
     };
     if local_count > usize::from(method.code.max_locals) || pushes > method.code.max_stack {
         return broken(StackMapRule::Locals, at);
