@@ -86,3 +86,8 @@ frame_read m at before tag rest keeps adds pushes locals stack middle end keeps_
     let ls = from_front (take keeps before) (items m adds.0 adds.1) locals middle locals_read in
     let os = from_front [] (items m pushes.0 pushes.1) stack end stack_read in
     rw (keeps_is, adds_are, pushes_are, enough, room, starts, ls.1, os.1) (so_read at _ locals _ stack _ end ls.2 os.2 os.3)
+
+-- the same read, at an offset and with local variables that are the same
+pub read_same : (at at' : ℕ) (locals locals' stack : List VType) (rest : List ℕ) → at ≡ at' → locals ≡ locals'
+    → ◌≡◌ {A = Result (Spelled × List ℕ) StackMapFault} (Ok (record { offset = at; locals = locals; stack = stack }, rest)) (Ok (record { offset = at'; locals = locals'; stack = stack }, rest))
+read_same at at' locals locals' stack rest e f = λ i. Ok (record { offset = e i; locals = f i; stack = stack }, rest)
