@@ -59,8 +59,8 @@ fn take(frame: &mut TypeFrame, want: Want) -> Result<VType, Stop>
 fn local_type(frame: &TypeFrame, want: Want, local: u16) -> Result<VType, Stop>
     ensures { Makes (λ kind. kind) result (local_type (wanted want) local frame.now) }
 {
-    match frame.locals().get(usize::from(local)) {
-        Some(kind) if is_wanted(want, *kind) => Ok(*kind),
+    match frame.local(local) {
+        Some(kind) if is_wanted(want, kind) => Ok(kind),
         _ => Err(Stop::Broken(CheckRule::Local)),
     }
 }
@@ -69,11 +69,11 @@ fn local_type(frame: &TypeFrame, want: Want, local: u16) -> Result<VType, Stop>
 fn store(frame: &mut TypeFrame, kind: ValueKind, local: u16) -> Result<(), Stop>
     ensures { Makes (λ _. frame.new) result (store kind local frame.old) }
 {
-    if usize::from(local) >= frame.locals().len() {
+    if usize::from(local) >= frame.local_count() {
         return Err(Stop::Broken(CheckRule::Local));
     }
     let top = take(frame, kind_wanted(kind))?;
-    frame.set_local(local, top);
+    frame.set_local(local, top)?;
     Ok(())
 }
 

@@ -6,7 +6,7 @@ ghost use Rattle.ver_check.specs.Effects.{falls_through};
 use super::body::BodyView;
 use super::stop::Stop;
 use super::{CheckRule, LinkedInsn, TypeFrame};
-use ver_frames::frame_assignable;
+use ver_frames::{DeclaredFrame, frame_assignable};
 
 // Whether the next instruction may come after it.
 fn falls_through(insn: LinkedInsn) -> bool
@@ -19,7 +19,7 @@ fn falls_through(insn: LinkedInsn) -> bool
 }
 
 impl BodyView<'_> {
-    ghost use Rattle.std.specs.Prelude.{◌≡◌, ◌<◌, option_copied, length, ℕ};
+    ghost use Rattle.std.specs.Prelude.{◌≡◌, ◌<◌, length, ℕ};
     ghost use Rattle.ver_check.specs.Bodies.{declared_at};
     ghost use Rattle.ver_check.specs.Effects.{targets};
     ghost use Rattle.ver_check.specs.Faults.{IsWrongAmong, IsWrongAt, IsWrongEntry, IsWrongNext, IsWrongTarget};
@@ -42,16 +42,19 @@ impl BodyView<'_> {
     {
         match self.indices.get(place) {
             Some(index) => usize::from(*index),
-            None => self.declared.len(),
+            None => {
+                let declared = self.declared;
+                declared.len()
+            }
         }
     }
 
     // The frame that is declared at the instruction at a place.
-    fn declared_at(&self, place: usize) -> Option<&TypeFrame>
-        ensures { option_copied result ≡ declared_at self.now place }
+    fn declared_at(&self, place: usize) -> Option<DeclaredFrame<'_>>
+        ensures { result ≡ declared_at self.now place }
     {
-        let declared = self.declared.get(self.index_at(place))?;
-        Some(&declared.1)
+        let declared = self.declared;
+        declared.get(self.index_at(place))
     }
 
     // A frame comes in at a place, and becomes the one that is declared there, where one is.
@@ -62,10 +65,10 @@ impl BodyView<'_> {
             return Ok(());
         };
         let method = self.method;
-        if !frame_assignable(method.classes, frame, declared) {
+        if !frame_assignable(method.classes, frame, &declared) {
             return Err(Stop::Broken(CheckRule::NotAssignable));
         }
-        frame.copy_from(declared)?;
+        frame.copy_from(&declared)?;
         Ok(())
     }
 
@@ -78,7 +81,7 @@ impl BodyView<'_> {
             return Err(Stop::Missing(place));
         };
         let method = self.method;
-        if !frame_assignable(method.classes, frame, declared) {
+        if !frame_assignable(method.classes, frame, &declared) {
             return Err(Stop::Broken(CheckRule::NotAssignable));
         }
         Ok(())
@@ -114,7 +117,7 @@ impl BodyView<'_> {
             let Some(declared) = self.declared_at(next) else {
                 return Err(Stop::Missing(next));
             };
-            frame.copy_from(declared)?;
+            frame.copy_from(&declared)?;
         }
         Ok(())
     }
