@@ -13,4 +13,4 @@ pub returns-in-None : goal.returns-in-None
 unfolding declared_at
 returns-in-None c =
     let inside = c.self.inside in
-    rw (← c.self.view_is, past_last inside.declared.now) (past_indices inside.declared.now inside.method.now.linked.offsets inside.indices.now c.args.place c.self.invariant c.in-None.ensures.lookup.3)
+    rw (← c.self.view_is, c.len.ensures, past_last inside.declared.now) (past_indices inside.declared.now inside.method.now.linked.offsets inside.indices.now c.args.place c.self.invariant c.in-None.ensures.lookup.3)
