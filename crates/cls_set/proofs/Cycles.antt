@@ -144,10 +144,10 @@ ranked_above classes rank ranked sub sup (types.IsProperSubtype.through a m b p 
     omega (arith, low, high)
 
 module _ (classes : List Class) (ordered : IsStrictlySortedBy name_cmp (names classes)) (resolved : All (IsResolved (names classes)) classes) where
-  class_named : (i : ℕ) (c : Class) → slice_get classes i ≡ Some c → slice_get (names classes) i ≡ Some c.file.name
+  pub class_named : (i : ℕ) (c : Class) → slice_get classes i ≡ Some c → slice_get (names classes) i ≡ Some c.file.name
   class_named i c e = slice_get-map (λ (c : Class). c.file.name) classes i ∙ ap (option_map (λ (c : Class). c.file.name)) e
 
-  resolved_read : (i : ℕ) (c : Class) → slice_get classes i ≡ Some c → IsResolved (names classes) c
+  pub resolved_read : (i : ℕ) (c : Class) → slice_get classes i ≡ Some c → IsResolved (names classes) c
   resolved_read i c e =
       let h = slice_get_within classes i c e in
       subst (IsResolved (names classes)) (same_some (sym (slice_get-get_or classes i c h) ∙ e)) (All-get_or (IsResolved (names classes)) classes i c h resolved)
@@ -158,7 +158,7 @@ module _ (classes : List Class) (ordered : IsStrictlySortedBy name_cmp (names cl
       (i, subst (λ n. i < n) (sym (length-map classes origin)) h, get_or-map origin classes i c (origin c) h ∙ ap origin (same_some (sym (slice_get-get_or classes i c h) ∙ e)))
 
   -- the class at which an origin stands
-  standing : (o : Origin) → Contains (map origin classes) o → (i : ℕ) × (c : Class) × (slice_get classes i ≡ Some c) × (origin c ≡ o)
+  pub standing : (o : Origin) → Contains (map origin classes) o → (i : ℕ) × (c : Class) × (slice_get classes i ≡ Some c) × (origin c ≡ o)
   standing o among =
       let i = among.0 in
       let h : i < length classes = subst (λ n. i < n) (length-map classes origin) among.1 in

@@ -9,7 +9,8 @@ use Rattle.cls_set.specs.declared.class.ClassId.{ClassId}
 use Rattle.cls_set.specs.declared.members.Member.{Member}
 use Rattle.cls_set.specs.declared.walking.Walk.{Walk}
 use Rattle.cls_set.specs.Classes.{direct_supertypes}
-use Rattle.cls_set.specs.Members.{classes_of, IsLower, IsRanked}
+use Rattle.cls_set.specs.Members.{classes_of, IsLower, IsRanked, IsTable}
+use Rattle.std.proofs.Math.ListN.{get_or-append}
 use Rattle.cls_set.specs.Subtypes as types
 use Rattle.cls_set.specs.Subtypes.{IsProperSubtype}
 use Rattle.cls_set.specs.Walks.{Met, WasMet, met_by, ups, AreWithin, IsOwn, IsWalked}
@@ -160,3 +161,23 @@ one_more classes members place y within old new j d l =
           let here : place ≡ j = omega (arith, high, l) in
           subst (λ i. IsHeight classes i (get_or (set members place y) i d).rank) here (subst (λ (m : Member). IsHeight classes place m.rank) (sym (get_or-set_same members place y d within)) new)
     ]
+
+-- the table of a class is what a walk from it has met
+pub table_of : (classes : List Class) (k : ℕ) (walk : Walk) → IsWalked classes (record { 0 = k }) walk → IsTable classes k walk.met.items
+table_of classes k walk w = record { long = w.long; supertypes = w.met }
+
+last_read : {X : Type 0} (xs : List X) (x d : X) → get_or (xs ++ x ∷ []) (length xs) d ≡ x
+last_read [] x d = refl
+last_read (y ∷ ys) x d = last_read ys x d
+
+-- a table more
+pub table_more : (classes : List Class) (tables : List (List Bool)) (n : ℕ) (row : List Bool) (more : List (List Bool)) → length tables ≡ n → more ≡ tables ++ row ∷ [] → ((j : ℕ) → j < n → IsTable classes j (get_or tables j [])) → IsTable classes n row → (j : ℕ) → j < n + 1 → IsTable classes j (get_or more j [])
+table_more classes tables n row more long is old new j l =
+    subst (λ (ts : List (List Bool)). IsTable classes j (get_or ts j [])) (sym is)
+    (elim (before j n) [
+      | inl low ↦ subst (IsTable classes j) (sym (get_or-append tables (row ∷ []) [] j (omega (arith, low, long)))) (old j low)
+      | inr high ↦
+          let same : length tables ≡ j = omega (arith, long, high, l) in
+          let here : n ≡ j = omega (arith, high, l) in
+          subst (λ i. IsTable classes j (get_or (tables ++ row ∷ []) i [])) same (subst (IsTable classes j) (sym (last_read tables row [])) (subst (λ i. IsTable classes i row) here new))
+    ])

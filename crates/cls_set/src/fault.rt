@@ -32,6 +32,8 @@ pub enum SetRule {
     Override = 37,
     /// The set has more classes than this project's profile takes.
     TooMany = 38,
+    /// The class is remote: it, and no interface, is below java/rmi/Remote. Such classes come later.
+    NotYet = 39,
 }
 
 impl fmt::Display for SetRule {
@@ -48,6 +50,7 @@ impl fmt::Display for SetRule {
             SetRule::RemoteMethod => "RemoteMethod",
             SetRule::Override => "Override",
             SetRule::TooMany => "TooMany",
+            SetRule::NotYet => "NotYet",
         })
     }
 }

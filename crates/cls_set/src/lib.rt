@@ -10,6 +10,7 @@ pub use class::{Class, ClassId};
 pub use class_set::ClassSet;
 pub use fault::{SetFault, SetRule};
 
+mod arranging;
 mod building;
 mod built_in;
 mod class;
@@ -17,4 +18,5 @@ mod class_set;
 mod fault;
 mod members;
 mod resolving;
+mod rules;
 mod walking;

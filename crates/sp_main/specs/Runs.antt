@@ -12,7 +12,8 @@ use Rattle.cls_link.specs.declared.fault.LinkFault.{LinkFault}
 use Rattle.cls_link.specs.Links as links
 use Rattle.cls_link.specs.declared.linked.MethodId.{MethodId}
 use Rattle.cls_set.specs.Classes as sets
-use Rattle.cls_set.specs.Sets.{HasClasses, IsClassSet, IsSetFault}
+use Rattle.cls_set.specs.Faults.{IsSetFault}
+use Rattle.cls_set.specs.Sets.{HasClasses, IsClassSet}
 use Rattle.cls_set.specs.declared.fault.SetFault.{SetFault}
 use Rattle.cls_set.specs.declared.class.Class.{Class}
 use Rattle.sp_main.specs.declared.running.ClassBytes.{ClassBytes}
