@@ -198,4 +198,4 @@ pub remote_way : (classes : List Origin) (file : ClassFile) (r : Bool) → (¬ H
 remote_way classes file r none h = (λ e. rules.Breaks.remote none (h.0 e), λ b. h.1 (way classes file NotYet b).1)
 
 pub not_remote : (classes : List Origin) (file : ClassFile) (r : Bool) → r ≡ false → Has file.flags.bits INTERFACE → IsTrue r ↔ Breaks classes file NotYet
-not_remote classes file r no h = (λ e. absurd (true_false (sym e ∙ no)), λ b. absurd ((way classes file NotYet b).0 h))
+not_remote classes file r off h = (λ e. absurd (true_false (sym e ∙ off)), λ b. absurd ((way classes file NotYet b).0 h))

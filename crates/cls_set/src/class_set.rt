@@ -55,7 +55,7 @@ impl ClassSet {
         ensures fault { IfErr result (IsSetFault files.items) }
     {
         let arranged = arrange(alloc, files)?;
-        refuse_broken(&arranged.members, &arranged.tables)?;
+        refuse_broken(arranged.members.as_slice(), arranged.tables.as_slice())?;
         Ok(ClassSet {
             members: arranged.members,
             tables: arranged.tables,
