@@ -1,8 +1,8 @@
 //! Walks: from a node to each node that it reaches, and so to the first node on a cycle.
 
-ghost use Rattle.std.specs.Prelude.{◌≡◌, ◌<◌, All, IfOk, IfSome, IfNone, OnOk, length};
-ghost use Rattle.cls_graph.specs.Graphs.{leads, AreWithin, IsRanking, IsFirstCyclic};
-ghost use Rattle.cls_graph.specs.Walks.{met_by, meet_one, meet_all, IsWalked};
+ghost use Rattle.std.specs.Prelude.{◌≡◌, ◌<◌, All, IfOk, OnOk, length};
+ghost use Rattle.cls_graph.specs.Graphs.{AreWithin};
+ghost use Rattle.cls_graph.specs.Walks.{met_by, meet_one, meet_all, AreHeights, IsWalked};
 
 use super::Nodes;
 use std::alloc::{AllocError, Global};
