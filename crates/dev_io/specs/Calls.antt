@@ -1,3 +1,4 @@
+-- How a device over memory counts its calls: from the one that is to fail on, each call fails.
 use Rattle.std.specs.Prelude.{ℕ, ◌-◌, zero, suc, Bool, true, false}
 use Rattle.dev_io.specs.declared.calls.Calls.{Calls}
 use Rattle.dev_io.specs.declared.calls.Calls.TheVariants.{Unlimited, Left, Failed}
