@@ -1,6 +1,7 @@
 //! What bench/leases measures: the first word is a scenario of the client's leases or of the owner's
 //! reference lists, and the number after it is its size; a third word says how many events touch one
-//! reference. Prints how many calls were answered. Without words it runs each at a small size.
+//! reference, or how many moments come. Prints how many calls were answered. Without words it runs each
+//! at a small size.
 #![tactic(auto)]
 
 use dgc_client::{Clients, ForeignId};
@@ -33,6 +34,8 @@ enum Scenario {
     Held,
     /// References are held and leased, and events touch one of them each.
     Touched,
+    /// References are held and leased, and moments come before a lease is half over.
+    Moments,
     /// As many clients of one object come and go.
     Clients,
     /// One client renews its lease of one object with two periods in turn.
@@ -47,6 +50,7 @@ fn scenario_of(word: &str) -> Scenario {
     match word {
         "held" => Scenario::Held,
         "touched" => Scenario::Touched,
+        "moments" => Scenario::Moments,
         "clients" => Scenario::Clients,
         "renewals" => Scenario::Renewals,
         "ends" => Scenario::Ends,
@@ -87,6 +91,7 @@ fn answers_of(alloc: Global, words: Words) -> Result<u64, AllocError> {
     match words.scenario {
         Scenario::Held => held(alloc, words.size),
         Scenario::Touched => touched(alloc, words.size, words.events),
+        Scenario::Moments => moments(alloc, words.size, words.events),
         Scenario::Clients => clients(alloc, words.size),
         Scenario::Renewals => renewals(alloc, words.size),
         Scenario::Ends => ends(alloc, words.size),
@@ -95,7 +100,9 @@ fn answers_of(alloc: Global, words: Words) -> Result<u64, AllocError> {
 }
 
 fn all(alloc: Global, size: u64) -> Result<u64, AllocError> {
-    let leases = held(alloc, size)?.wrapping_add(touched(alloc, size, size)?);
+    let leases = held(alloc, size)?
+        .wrapping_add(touched(alloc, size, size)?)
+        .wrapping_add(moments(alloc, size, size)?);
     let lists = clients(alloc, size)?.wrapping_add(renewals(alloc, size)?);
     Ok(leases.wrapping_add(lists).wrapping_add(ends(alloc, size)?))
 }
@@ -129,18 +136,45 @@ fn held(alloc: Global, size: u64) -> Result<u64, AllocError> {
     Ok(answered)
 }
 
-fn touched(alloc: Global, size: u64, events: u64) -> Result<u64, AllocError> {
-    let mut clients = Clients::new(alloc);
+// Holds as many references, and leases them. Answers how many groups that were.
+fn lease_all(clients: &mut Clients, alloc: Global, size: u64) -> Result<u64, AllocError> {
     for id in 0..size {
         clients.hold(&reference(id))?;
     }
-    let mut answered = settle(&mut clients, alloc)?;
+    settle(clients, alloc)
+}
+
+fn touched(alloc: Global, size: u64, events: u64) -> Result<u64, AllocError> {
+    let mut clients = Clients::new(alloc);
+    let mut answered = lease_all(&mut clients, alloc, size)?;
     for event in 0..events {
         let one = reference(event % size.max(1));
         clients.drop_holder(&one);
         answered = answered.wrapping_add(settle(&mut clients, alloc)?);
         clients.hold(&one)?;
         answered = answered.wrapping_add(settle(&mut clients, alloc)?);
+    }
+    Ok(answered)
+}
+
+// What a space asks and tells at a moment.
+fn pass(clients: &mut Clients, alloc: Global, moment: u64) -> Result<u64, AllocError> {
+    let renewals = clients.renewals(alloc, moment)?.len();
+    let lapsed = clients.lapsed(alloc, moment)?.len();
+    clients.moment(moment);
+    let groups = settle(clients, alloc)?;
+    Ok(
+        groups
+            .wrapping_add(renewals as u64)
+            .wrapping_add(lapsed as u64),
+    )
+}
+
+fn moments(alloc: Global, size: u64, events: u64) -> Result<u64, AllocError> {
+    let mut clients = Clients::new(alloc);
+    let mut answered = lease_all(&mut clients, alloc, size)?;
+    for moment in 0..events {
+        answered = answered.wrapping_add(pass(&mut clients, alloc, moment)?);
     }
     Ok(answered)
 }

@@ -1,5 +1,5 @@
 -- Reading finds the one listing of code where there is one, and else what is wrong with the code.
-use Rattle.std.proofs.Common.{◌≡◌, ℕ, zero, suc, ℤ, pos, negsuc, ◌+◌, ◌+ℤ◌, ◌≤◌, ◌⊎◌, inl, inr, eqb, eq-eqb, Bool, true, false, cond, List, [], ◌∷◌, ◌++◌, length, get_or, take, drop, Option, Some, None, IfSome, Result, Ok, Err, IfOk, IfErr, MatchResult, refl, ap, sym, subst, ◌∙◌, arith, add-zero, length-take, length-append, append_assoc}
+use Rattle.std.proofs.Common.{◌≡◌, ℕ, zero, suc, ℤ, pos, negsuc, ◌+◌, ◌+ℤ◌, ◌≤◌, ◌⊎◌, inl, inr, eqb, eq-eqb, Bool, true, false, cond, List, [], ◌∷◌, ◌++◌, length, get_or, take, drop, Option, Some, None, Result, Ok, Err, IfOk, IfErr, MatchResult, refl, ap, sym, subst, ◌∙◌, arith, add-zero, length-take, length-append, append_assoc}
 use Rattle.std.specs.List.{AllByRecursion}
 use Rattle.std.proofs.Math.Seq.{drop-append_seam, take-append_seam}
 use Rattle.std.proofs.lemmas.Bool.{eqb-true, false≢true}
@@ -9,24 +9,28 @@ use Rattle.cf_insns.specs.declared.fault.CodeRule.{CodeRule}
 use Rattle.cf_insns.specs.declared.fault.CodeRule.TheVariants.{Target}
 use Rattle.cf_insns.specs.declared.fault.CodeFault.{CodeFault}
 use Rattle.cf_insns.specs.declared.fault.CodeFault.TheVariants.{Broken, Memory}
-use Rattle.cf_insns.specs.declared.groups.Spelled.{Spelled}
+use Rattle.cf_insns.specs.declared.reading.Spelled.{Spelled}
 use Rattle.cf_insns.specs.declared.insn.Insn.{Insn}
 use Rattle.cf_insns.specs.Faults.{Breaks, IsBroken, Explains, unlisted, astray}
-use Rattle.cf_insns.specs.Listing.{Listing, Lists, nothing, instruction, IsListing, Begins, Lands, offsets, branch_of, begins_at, lands, first_astray}
+use Rattle.cf_insns.specs.Listing.{Listing, Lists, nothing, instruction, IsListing, Begins, Lands, offsets, branches_of, begins_at, all_land, first_astray}
+use Rattle.cf_insns.specs.ReadListing as listings
+use Rattle.cf_insns.specs.ReadListing.{listed, listing_from, with_front, if_none_astray, Fails}
 use Rattle.cf_insns.specs.Reading as reading
-use Rattle.cf_insns.specs.Reading.{listed, listing_from, with_front, if_none_astray, Fails, ◌>>=◌}
+use Rattle.cf_insns.specs.Reading.{◌>>=◌}
 use Rattle.cf_insns.specs.Spelling.{Spells}
 use Rattle.cf_insns.proofs.Again.{IsRead, again}
+use Rattle.cf_insns.proofs.Keys.{both_true}
 use Rattle.cf_insns.proofs.Listings.{listed_ok, listing_from-skipped, listing_from-front}
-use Rattle.cf_insns.proofs.Tells.{Tells, takes, breaks, tells}
+use Rattle.cf_insns.proofs.Tells.{tells}
+use Rattle.cf_insns.proofs.Told.{Tells, takes, breaks}
 
 -- What is read is listed.
 
-taken : {opcode : ℕ} {operands : List ℕ} {s : Spelled} → Tells opcode operands (Ok s) → Spells (opcode ∷ take s.operands operands) s.insn × (s.operands ≤ length operands)
+taken : {offset opcode : ℕ} {operands : List ℕ} {s : Spelled} → Tells offset opcode operands (Ok s) → Spells offset (opcode ∷ take s.operands operands) s.insn × (s.operands ≤ length operands)
 taken (takes insn count spells within) = (spells, within)
 
 -- an instruction in front of what is listed
-front_listed : (offset opcode k : ℕ) (bytes : List ℕ) (insn : Insn) (tail : Listing) → Spells (opcode ∷ take k bytes) insn → k ≤ length bytes
+front_listed : (offset opcode k : ℕ) (bytes : List ℕ) (insn : Insn) (tail : Listing) → Spells offset (opcode ∷ take k bytes) insn → k ≤ length bytes
     → Lists (offset + 1 + k) (drop k bytes) tail → Lists offset (opcode ∷ bytes) ((offset, insn) ∷ tail)
 front_listed offset opcode k bytes insn tail spells within rest =
     let behind : offset + 1 + k ≡ offset + length (opcode ∷ take k bytes) = omega (arith, length-take k bytes) in
@@ -38,8 +42,8 @@ unfolding listing_from
 lists zero offset [] listing is within = let none : listing ≡ [] = cc in rw none nothing
 lists (suc k) offset [] listing is within = absurd (omega arith)
 lists zero offset (opcode ∷ bytes) listing is within =
-    let begins = listed_ok offset (reading.instruction opcode bytes) (λ operands. listing_from operands (offset + 1) bytes) listing is in
-    let told = taken (subst (Tells opcode bytes) begins.first (tells opcode bytes)) in
+    let begins = listed_ok offset (reading.instruction offset opcode bytes) (λ operands. listing_from operands (offset + 1) bytes) listing is in
+    let told = taken (subst (Tells offset opcode bytes) begins.first (tells offset opcode bytes)) in
     let rest = lists begins.s.operands (offset + 1) bytes begins.tail begins.rest_is told.1 in
     rw (add-zero offset, begins.all) (front_listed offset opcode begins.s.operands bytes begins.s.insn begins.tail told.0 told.1 rest)
 lists (suc k) offset (operand ∷ bytes) listing is within =
@@ -48,7 +52,7 @@ lists (suc k) offset (operand ∷ bytes) listing is within =
 
 -- What is listed is read.
 
-front_again : (offset : ℕ) (spelling bytes : List ℕ) (insn : Insn) (listing : Listing) → IsRead spelling insn → listing_from 0 (offset + length spelling) bytes ≡ Ok listing
+front_again : (offset : ℕ) (spelling bytes : List ℕ) (insn : Insn) (listing : Listing) → IsRead offset spelling insn → listing_from 0 (offset + length spelling) bytes ≡ Ok listing
     → listing_from 0 offset (spelling ++ bytes) ≡ Ok ((offset, insn) ∷ listing)
 front_again offset spelling bytes insn listing is rest =
     let k = length is.operands in
@@ -72,7 +76,7 @@ listed_again (instruction spells rest) = front_again _ _ _ _ _ (again spells) (l
 
 -- What is not read breaks a rule behind what is listed.
 
-broken : {opcode : ℕ} {operands : List ℕ} {rule : CodeRule} → Tells opcode operands (Err rule) → Breaks rule (opcode ∷ operands)
+broken : {offset opcode : ℕ} {operands : List ℕ} {rule : CodeRule} → Tells offset opcode operands (Err rule) → Breaks offset rule (opcode ∷ operands)
 broken (breaks rule bad) = bad
 
 record BreaksBehind (offset : ℕ) (bytes : List ℕ) (rule : CodeRule) (at : ℕ) : Type 0 where
@@ -81,7 +85,7 @@ record BreaksBehind (offset : ℕ) (bytes : List ℕ) (rule : CodeRule) (at : �
   listing : Listing
   bytes_are : bytes ≡ before ++ rest
   listed : Lists offset before listing
-  bad : Breaks rule rest
+  bad : Breaks at rule rest
   at_is : at ≡ offset + length before
 
 -- either the first instruction breaks the rule, or one behind it
@@ -98,7 +102,7 @@ listed_err offset (Ok s) rest rule at is = later s refl (front_err (offset, s.in
 listed_err offset (Err other) rest rule at is = here (cc) (cc)
 
 -- an instruction in front of what is listed before the fault
-later_breaks : (offset opcode k : ℕ) (bytes : List ℕ) (insn : Insn) (rule : CodeRule) (at : ℕ) → Spells (opcode ∷ take k bytes) insn → k ≤ length bytes
+later_breaks : (offset opcode k : ℕ) (bytes : List ℕ) (insn : Insn) (rule : CodeRule) (at : ℕ) → Spells offset (opcode ∷ take k bytes) insn → k ≤ length bytes
     → BreaksBehind (offset + 1 + k) (drop k bytes) rule at → BreaksBehind offset (opcode ∷ bytes) rule at
 later_breaks offset opcode k bytes insn rule at spells within behind =
     let front = opcode ∷ take k bytes in
@@ -118,18 +122,18 @@ unfolding listing_from
 breaks_behind zero offset [] rule at is within = absurd (cc)
 breaks_behind (suc k) offset [] rule at is within = absurd (cc)
 breaks_behind zero offset (opcode ∷ bytes) rule at is within =
-    elim (listed_err offset (reading.instruction opcode bytes) (λ operands. listing_from operands (offset + 1) bytes) rule at is) [
+    elim (listed_err offset (reading.instruction offset opcode bytes) (λ operands. listing_from operands (offset + 1) bytes) rule at is) [
       | here failed at_is ↦ record {
         before = [];
         rest = opcode ∷ bytes;
         listing = [];
         bytes_are = refl;
         listed = nothing;
-        bad = broken (subst (Tells opcode bytes) failed (tells opcode bytes));
+        bad = rw at_is (broken (subst (Tells offset opcode bytes) failed (tells offset opcode bytes)));
         at_is = omega arith;
       }
       | later s read rest_is ↦
-          let told = taken (subst (Tells opcode bytes) read (tells opcode bytes)) in
+          let told = taken (subst (Tells offset opcode bytes) read (tells offset opcode bytes)) in
           let behind = breaks_behind s.operands (offset + 1) bytes rule at rest_is told.1 in
           rw (add-zero offset) (later_breaks offset opcode s.operands bytes s.insn rule at told.0 told.1 behind)
     ]
@@ -150,13 +154,16 @@ begins_again offsets place begins =
     let (offset, (k, within, found), place_is) = begins in
     rw place_is (list_any-from_Any (λ o. eqb o offset) offsets (k, offset, within, found, eq-eqb offset offset refl))
 
-lands_told : (offsets : List ℕ) (offset : ℕ) (branch : Option ℤ) → lands offsets offset branch ≡ true → IfSome branch (λ branch. Begins offsets (pos offset +ℤ branch))
-lands_told offsets offset None is = tt
-lands_told offsets offset (Some branch) is = begins_told offsets (pos offset +ℤ branch) is
+lands_told : (offsets : List ℕ) (offset : ℕ) (branches : List ℤ) → all_land offsets offset branches ≡ true → AllByRecursion (λ branch. Begins offsets (pos offset +ℤ branch)) branches
+lands_told offsets offset [] is = tt
+lands_told offsets offset (branch ∷ branches) is =
+    let parts = both_true (begins_at offsets (pos offset +ℤ branch)) (all_land offsets offset branches) is in
+    (begins_told offsets (pos offset +ℤ branch) parts.0, lands_told offsets offset branches parts.1)
 
-lands_again : (offsets : List ℕ) (offset : ℕ) (branch : Option ℤ) → IfSome branch (λ branch. Begins offsets (pos offset +ℤ branch)) → lands offsets offset branch ≡ true
-lands_again offsets offset None is = refl
-lands_again offsets offset (Some branch) is = begins_again offsets (pos offset +ℤ branch) is
+lands_again : (offsets : List ℕ) (offset : ℕ) (branches : List ℤ) → AllByRecursion (λ branch. Begins offsets (pos offset +ℤ branch)) branches → all_land offsets offset branches ≡ true
+lands_again offsets offset [] is = refl
+lands_again offsets offset (branch ∷ branches) is =
+    rw (begins_again offsets (pos offset +ℤ branch) is.0) (lands_again offsets offset branches is.1)
 
 first_or : (test : Bool) (others : Option ℕ) (n : ℕ) (found : Option ℕ) → cond test others (Some n) ≡ found → ((test ≡ true) × (others ≡ found)) ⊎ ((test ≡ false) × (found ≡ Some n))
 first_or true others n found is = inl (refl, is)
@@ -166,13 +173,13 @@ first_or false others n found is = inr (refl, sym is)
 none_astray : (offsets : List ℕ) (listing : Listing) → AllByRecursion (Lands offsets) listing → first_astray offsets listing ≡ None
 none_astray offsets [] land = refl
 none_astray offsets (entry ∷ listing) land =
-    ap (λ test. cond test (first_astray offsets listing) (Some entry.0)) (lands_again offsets entry.0 (branch_of entry.1) land.0) ∙ none_astray offsets listing land.1
+    ap (λ test. cond test (first_astray offsets listing) (Some entry.0)) (lands_again offsets entry.0 (branches_of entry.1) land.0) ∙ none_astray offsets listing land.1
 
-all_land : (offsets : List ℕ) (listing : Listing) → first_astray offsets listing ≡ None → AllByRecursion (Lands offsets) listing
-all_land offsets [] is = tt
-all_land offsets (entry ∷ listing) is =
-    elim (first_or (lands offsets entry.0 (branch_of entry.1)) (first_astray offsets listing) entry.0 None is) [
-      | inl h ↦ (lands_told offsets entry.0 (branch_of entry.1) h.0, all_land offsets listing h.1)
+land_all : (offsets : List ℕ) (listing : Listing) → first_astray offsets listing ≡ None → AllByRecursion (Lands offsets) listing
+land_all offsets [] is = tt
+land_all offsets (entry ∷ listing) is =
+    elim (first_or (all_land offsets entry.0 (branches_of entry.1)) (first_astray offsets listing) entry.0 None is) [
+      | inl h ↦ (lands_told offsets entry.0 (branches_of entry.1) h.0, land_all offsets listing h.1)
       | inr h ↦ absurd (cc)
     ]
 
@@ -198,8 +205,8 @@ later_astray offsets entry listing at land first = record {
 first_strays : (offsets : List ℕ) (listing : Listing) (at : ℕ) → first_astray offsets listing ≡ Some at → FirstAstray offsets listing at
 first_strays offsets [] at is = absurd (cc)
 first_strays offsets ((offset, insn) ∷ listing) at is =
-    elim (first_or (lands offsets offset (branch_of insn)) (first_astray offsets listing) offset (Some at) is) [
-      | inl h ↦ later_astray offsets (offset, insn) listing at (lands_told offsets offset (branch_of insn) h.0) (first_strays offsets listing at h.1)
+    elim (first_or (all_land offsets offset (branches_of insn)) (first_astray offsets listing) offset (Some at) is) [
+      | inl h ↦ later_astray offsets (offset, insn) listing at (lands_told offsets offset (branches_of insn) h.0) (first_strays offsets listing at h.1)
       | inr h ↦
           let at_is : offset ≡ at = cc in
           rw (← at_is) (record {
@@ -208,7 +215,7 @@ first_strays offsets ((offset, insn) ∷ listing) at is =
             insn = insn;
             listing_is = refl;
             lands_before = tt;
-            strays = λ land. false≢true (sym h.0 ∙ lands_again offsets offset (branch_of insn) land);
+            strays = λ land. false≢true (sym h.0 ∙ lands_again offsets offset (branches_of insn) land);
           })
     ]
 
@@ -228,15 +235,15 @@ checked_ok (Ok found) listing is =
 checked_ok (Err fault) listing is = absurd (cc)
 
 -- what is read is the listing
-pub reading_lists : (code : List ℕ) (listing : Listing) → reading.reading code ≡ Ok listing → IsListing code listing
-unfolding reading.reading
+pub reading_lists : (code : List ℕ) (listing : Listing) → listings.reading code ≡ Ok listing → IsListing code listing
+unfolding listings.reading
 reading_lists code listing is =
     let (read, none) = checked_ok (listing_from 0 0 code) listing is in
-    record { spelled = lists 0 0 code listing read (omega arith); targets = all_land (offsets listing) listing none }
+    record { spelled = lists 0 0 code listing read (omega arith); targets = land_all (offsets listing) listing none }
 
 -- the listing is what is read
-pub listing_reads : (code : List ℕ) (listing : Listing) → IsListing code listing → reading.reading code ≡ Ok listing
-unfolding reading.reading
+pub listing_reads : (code : List ℕ) (listing : Listing) → IsListing code listing → listings.reading code ≡ Ok listing
+unfolding listings.reading
 listing_reads code listing is =
     ap checked (listed_again is.spelled) ∙ ap (if_none_astray listing) (none_astray (offsets listing) listing is.targets)
 
@@ -258,7 +265,7 @@ stray_broken code listing before after at insn listing_is =
 behind_broken : (code : List ℕ) (rule : CodeRule) (at : ℕ) → BreaksBehind 0 code rule at → IsBroken code rule at
 behind_broken code rule at behind =
     let at_is : at ≡ length behind.before = omega (arith, behind.at_is) in
-    rw (behind.bytes_are, at_is) (unlisted behind.listed behind.bad)
+    rw (behind.bytes_are, at_is) (unlisted behind.listed (subst (λ offset. Breaks offset rule behind.rest) at_is behind.bad))
 
 checked_breaks : (code : List ℕ) (read : Result Listing CodeFault) (rule : CodeRule) (at : ℕ) → listing_from 0 0 code ≡ read → checked read ≡ Err (Broken rule at) → IsBroken code rule at
 checked_breaks code (Ok listing) rule at read is =
@@ -271,23 +278,23 @@ checked_breaks code (Err fault) rule at read is =
     behind_broken code rule at (breaks_behind 0 0 code rule at (read ∙ ap Err fault_is) (omega arith))
 
 -- a fault that is read is one of the code
-pub reading_breaks : (code : List ℕ) (rule : CodeRule) (at : ℕ) → reading.reading code ≡ Err (Broken rule at) → IsBroken code rule at
-unfolding reading.reading
+pub reading_breaks : (code : List ℕ) (rule : CodeRule) (at : ℕ) → listings.reading code ≡ Err (Broken rule at) → IsBroken code rule at
+unfolding listings.reading
 reading_breaks code rule at is = checked_breaks code (listing_from 0 0 code) rule at refl is
 
 ok_same : (a b : Spelled) → ◌≡◌ {A = Result Spelled CodeRule} (Ok a) (Ok b) → a ≡ b
 ok_same a b same = cc
 
 -- no spelling begins another
-pub one_spelling : (a b rest more : List ℕ) (insn other : Insn) → Spells a insn → Spells b other → a ++ rest ≡ b ++ more → (a ≡ b) × (insn ≡ other)
-one_spelling a b rest more insn other spells_a spells_b joined =
+pub one_spelling : (offset : ℕ) (a b rest more : List ℕ) (insn other : Insn) → Spells offset a insn → Spells offset b other → a ++ rest ≡ b ++ more → (a ≡ b) × (insn ≡ other)
+one_spelling offset a b rest more insn other spells_a spells_b joined =
     let x = again spells_a in
     let y = again spells_b in
     let whole : x.opcode ∷ x.operands ++ rest ≡ y.opcode ∷ y.operands ++ more = ap (λ front. front ++ rest) (sym x.bytes_are) ∙ joined ∙ ap (λ front. front ++ more) y.bytes_are in
     let opcodes : x.opcode ≡ y.opcode = cc in
     let tails : x.operands ++ rest ≡ y.operands ++ more = cc in
     let same : ◌≡◌ {A = Result Spelled CodeRule} (Ok (record { insn = insn; operands = length x.operands })) (Ok (record { insn = other; operands = length y.operands })) =
-    sym (x.read rest) ∙ ap (λ o. reading.instruction o (x.operands ++ rest)) opcodes ∙ ap (reading.instruction y.opcode) tails ∙ y.read more in
+    sym (x.read rest) ∙ ap (λ o. reading.instruction offset o (x.operands ++ rest)) opcodes ∙ ap (reading.instruction offset y.opcode) tails ∙ y.read more in
     let spelled = ok_same _ _ same in
     let lengths : length x.operands ≡ length y.operands = ap (λ (s : Spelled). s.operands) spelled in
     let operands : x.operands ≡ y.operands =
@@ -305,7 +312,7 @@ listing_begins code listing is = begins_at_offset is.spelled
 -- What a call that gives the reading ensures of its result, whose listing is seen by `items`.
 module _ {V : Type 0} (items : V → Listing) (code : List ℕ) where
   abbrev Gives : Result V CodeFault → Type 0
-  Gives result = MatchResult result (λ listing. reading.reading code ≡ Ok (items listing)) (λ fault. Fails fault (reading.reading code))
+  Gives result = MatchResult result (λ listing. listings.reading code ≡ Ok (items listing)) (λ fault. Fails fault (listings.reading code))
 
   pub found : (result : Result V CodeFault) → Gives result → IfOk result (λ listing. IsListing code (items listing))
   found (Ok listing) is = reading_lists code (items listing) is

@@ -1,6 +1,12 @@
 pub mod Again
 pub mod Cases
 pub mod Exact
+pub mod Keys
 pub mod Listings
 pub mod Searches
+pub mod SwitchParts
+pub mod SwitchesAgain
+pub mod SwitchesTell
 pub mod Tells
+pub mod Told
+pub mod SwitchLoops

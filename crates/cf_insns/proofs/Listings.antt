@@ -5,9 +5,13 @@ use Rattle.std.proofs.Math.ListN.{drop_of_length-le}
 use Rattle.cf_insns.specs.declared.fault.CodeRule.{CodeRule}
 use Rattle.cf_insns.specs.declared.fault.CodeFault.{CodeFault}
 use Rattle.cf_insns.specs.declared.fault.CodeFault.TheVariants.{Broken}
-use Rattle.cf_insns.specs.declared.groups.Spelled.{Spelled}
+use Rattle.cf_insns.specs.declared.reading.Spelled.{Spelled}
 use Rattle.cf_insns.specs.Listing.{Listing, offsets, Rises}
-use Rattle.cf_insns.specs.Reading.{instruction, listed, listing_from, with_front}
+use Rattle.cf_insns.specs.ReadListing.{listed, listing_from, with_front, Fails}
+use Rattle.cf_insns.specs.Stops.{Stops, fault_at}
+use Rattle.cf_insns.specs.declared.reading.Stop.{Stop}
+use Rattle.cf_insns.specs.declared.reading.Stop.TheVariants as stop
+use Rattle.cf_insns.specs.Reading.{instruction}
 
 -- operands are passed over
 pub listing_from-skipped : (k offset : ℕ) (bytes : List ℕ) → listing_from k offset bytes ≡ listing_from 0 (offset + k) (drop k bytes)
@@ -23,7 +27,7 @@ listing_from-skipped (suc k) offset (byte ∷ bytes) =
 abbrev pub behind : List ℕ → ℕ → ℕ → Result Listing CodeFault
 behind code at operands = listing_from 0 (at + (1 + operands)) (drop (at + (1 + operands)) code)
 
-pub listing_from-front : (opcode : ℕ) (bytes : List ℕ) (at : ℕ) → listing_from 0 at (opcode ∷ bytes) ≡ listed at (instruction opcode bytes) (λ k. listing_from k (at + 1) bytes)
+pub listing_from-front : (opcode : ℕ) (bytes : List ℕ) (at : ℕ) → listing_from 0 at (opcode ∷ bytes) ≡ listed at (instruction at opcode bytes) (λ k. listing_from k (at + 1) bytes)
 unfolding listing_from
 listing_from-front opcode bytes at = refl
 
@@ -33,7 +37,7 @@ listed_same offset (Err rule) f g same = refl
 
 -- an instruction stands in front of what is listed behind its operands
 pub listing_from-at : (code : List ℕ) (at : ℕ) → at < length code
-    → listing_from 0 at (drop at code) ≡ listed at (instruction (get_or code at 0) (drop (at + 1) code)) (behind code at)
+    → listing_from 0 at (drop at code) ≡ listed at (instruction at (get_or code at 0) (drop (at + 1) code)) (behind code at)
 listing_from-at code at within =
     ap (listing_from 0 at) (drop-cons code at 0 within ∙ ap (λ n. get_or code at 0 ∷ drop n code) (sym (add-one at)))
     ∙ listing_from-front (get_or code at 0) (drop (at + 1) code) at
@@ -41,7 +45,7 @@ listing_from-at code at within =
     let moved : at + 1 + k ≡ at + (1 + k) = omega arith in
     listing_from-skipped k (at + 1) (drop (at + 1) code)
     ∙ ap (listing_from 0 (at + 1 + k)) (drop-drop k (at + 1) code)
-    ∙ ap (λ place. listing_from 0 place (drop place code)) moved)
+    ∙ ap (λ offset. listing_from 0 offset (drop offset code)) moved)
 
 pub with_front-append : (front back : Listing) (read : Result Listing CodeFault) → with_front (front ++ back) read ≡ with_front front (with_front back read)
 with_front-append front back (Ok listing) = ap Ok (append_assoc front back listing)
@@ -49,20 +53,26 @@ with_front-append front back (Err fault) = refl
 
 module _ (code : List ℕ) (at : ℕ) (operands : List ℕ) (within : at < length code) (operands_are : operands ≡ drop (at + 1) code) (front : Listing) where
   -- what is read behind the front begins with what the opcode and the operands say
-  read_here : with_front front (listing_from 0 at (drop at code)) ≡ with_front front (listed at (instruction (get_or code at 0) operands) (behind code at))
-  read_here = ap (with_front front) (listing_from-at code at within ∙ ap (λ bytes. listed at (instruction (get_or code at 0) bytes) (behind code at)) (sym operands_are))
+  read_here : with_front front (listing_from 0 at (drop at code)) ≡ with_front front (listed at (instruction at (get_or code at 0) operands) (behind code at))
+  read_here = ap (with_front front) (listing_from-at code at within ∙ ap (λ bytes. listed at (instruction at (get_or code at 0) bytes) (behind code at)) (sym operands_are))
 
   -- an instruction that is read goes to the front
-  pub with_front-more : (s : Spelled) → Ok s ≡ instruction (get_or code at 0) operands
+  pub with_front-more : (s : Spelled) → Ok s ≡ instruction at (get_or code at 0) operands
       → with_front (front ++ (at, s.insn) ∷ []) (behind code at s.operands) ≡ with_front front (listing_from 0 at (drop at code))
   with_front-more s read =
       with_front-append front ((at, s.insn) ∷ []) (behind code at s.operands)
       ∙ sym (read_here ∙ ap (λ found. with_front front (listed at found (behind code at))) (sym read))
 
   -- a rule that it breaks is what is read
-  pub with_front-fault : (rule : CodeRule) → Err rule ≡ instruction (get_or code at 0) operands
+  pub with_front-fault : (rule : CodeRule) → Err rule ≡ instruction at (get_or code at 0) operands
       → with_front front (listing_from 0 at (drop at code)) ≡ Err (Broken rule at)
   with_front-fault rule read = read_here ∙ ap (λ found. with_front front (listed at found (behind code at))) (sym read)
+
+  -- why reading stops is the fault of all
+  pub with_front-stop : (why : Stop) → Stops why (instruction at (get_or code at 0) operands) → (all : Result Listing CodeFault)
+      → with_front front (listing_from 0 at (drop at code)) ≡ all → Fails (fault_at at why) all
+  with_front-stop stop.Memory stops all is = tt
+  with_front-stop (stop.Broken rule) stops all is = sym is ∙ with_front-fault rule (sym stops)
 
 -- at the end nothing more is read
 pub with_front-end : (code : List ℕ) (at : ℕ) (front : Listing) → length code ≤ at → with_front front (listing_from 0 at (drop at code)) ≡ Ok front
@@ -114,7 +124,7 @@ unfolding listing_from
 rises zero offset [] listing is = let none : listing ≡ [] = cc in rw none tt
 rises (suc k) offset [] listing is = let none : listing ≡ [] = cc in rw none tt
 rises zero offset (opcode ∷ bytes) listing is =
-    let begins = listed_ok offset (instruction opcode bytes) (λ operands. listing_from operands (offset + 1) bytes) listing is in
+    let begins = listed_ok offset (instruction offset opcode bytes) (λ operands. listing_from operands (offset + 1) bytes) listing is in
     let above = rises begins.s.operands (offset + 1) bytes begins.tail begins.rest_is in
     rw begins.all (omega arith, above)
 rises (suc k) offset (operand ∷ bytes) listing is = from_lower (offset + 1) offset (offsets listing) (omega arith) (rises k (offset + 1) bytes listing is)

@@ -1,7 +1,10 @@
 pub mod Faults
+pub mod FaultNames
+pub mod Layout
 pub mod Listing
 pub mod Opcodes
 pub mod Operands
+pub mod ReadListing
 pub mod Reading
 pub mod Spelling
-pub mod FaultNames
+pub mod Stops

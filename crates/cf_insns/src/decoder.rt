@@ -1,14 +1,27 @@
 //! The listing of a method's code.
 
-ghost use Rattle.std.specs.Prelude.{◌≡◌, ◌≤◌, length, slice_index, IfOk, IfErr, MatchResult};
+ghost use Rattle.std.specs.Prelude.{◌≡◌, ◌≤◌, ◌+ℤ◌, pos, length, map, slice_index, IfOk, IfErr, MatchResult};
 ghost use Rattle.cf_insns.specs.Faults.{Explains};
-ghost use Rattle.cf_insns.specs.Listing.{IsListing, Listing, offsets, Rises};
+ghost use Rattle.cf_insns.specs.Listing.{IsListing, Listing, branches_of, offsets, Rises};
+ghost use Rattle.cf_insns.specs.Listing.{all_land};
 ghost use Rattle.cf_insns.specs.Listing as spec;
-ghost use Rattle.cf_insns.specs.Reading.{reading, listing_from, Fails};
+ghost use Rattle.cf_insns.specs.declared.insn.SwitchCase.{SwitchCase};
+ghost use Rattle.cf_insns.specs.Stops as stops;
+ghost use Rattle.cf_insns.specs.ReadListing.{reading, listing_from, Fails};
 
-use super::groups::instruction;
-use super::{CodeFault, CodeRule, Insn};
+use super::reading::{Stop, instruction};
+use super::{CodeFault, CodeRule, Insn, SwitchCase};
 use std::alloc::Global;
+
+// The fault of code of which reading stops at an offset.
+fn fault_at(offset: u16, stop: Stop) -> CodeFault
+    ensures { result ≡ stops.fault_at offset stop }
+{
+    match stop {
+        Stop::Broken(rule) => CodeFault::Broken { rule, at: offset },
+        Stop::Memory => CodeFault::Memory,
+    }
+}
 
 // The instructions from the first byte to the last, or the first rule that is broken.
 fn listing_of(alloc: Global, code: &[u8]) -> Result<Vec<(u16, Insn)>, CodeFault>
@@ -21,47 +34,105 @@ fn listing_of(alloc: Global, code: &[u8]) -> Result<Vec<(u16, Insn)>, CodeFault>
     while at < code.len() {
         let offset = at as u16;
         let (_, operands) = code.split_at(at + 1);
-        match instruction(code[at], operands) {
+        match instruction(alloc, offset, code[at], operands) {
             Ok(spelled) => {
                 listing.push((offset, spelled.insn))?;
                 at += 1 + spelled.operands;
             }
-            Err(rule) => return Err(CodeFault::Broken { rule, at: offset }),
+            Err(stop) => return Err(fault_at(offset, stop)),
         }
     }
     Ok(listing)
 }
 
-// Whether an instruction begins at the place.
-fn begins_at(listing: &[(u16, Insn)], place: i64) -> bool
+// Whether an instruction begins at an offset.
+fn begins_at(listing: &[(u16, Insn)], target: i64) -> bool
     requires { Rises (offsets listing.now) }
-    ensures { result ≡ spec.begins_at (offsets listing.now) place }
+    ensures { result ≡ spec.begins_at (offsets listing.now) target }
 {
-    match u64::try_from(place) {
-        Ok(place) => listing
-            .binary_search_by_key(&place, |&(offset, _)| u64::from(offset))
+    match u64::try_from(target) {
+        Ok(target) => listing
+            .binary_search_by_key(&target, |entry| u64::from(entry.0))
             .is_ok(),
         Err(_) => false,
     }
 }
 
-// The offset of the first instruction whose branch goes to no instruction.
+// Whether a branch from an offset goes to an instruction.
+fn lands(listing: &[(u16, Insn)], offset: u16, branch: i32) -> bool
+    requires { Rises (offsets listing.now) }
+    ensures { result ≡ spec.begins_at (offsets listing.now) (pos offset +ℤ branch) }
+{
+    begins_at(listing, i64::from(offset) + i64::from(branch))
+}
+
+// Whether each of the branches does.
+fn do_branches_land(listing: &[(u16, Insn)], offset: u16, branches: &[i32]) -> bool
+    requires { Rises (offsets listing.now) }
+    ensures { result ≡ all_land (offsets listing.now) offset branches.now }
+{
+    for branch in branches {
+        if !lands(listing, offset, *branch) {
+            return false;
+        }
+    }
+    true
+}
+
+// Whether that of each case does.
+fn do_cases_land(listing: &[(u16, Insn)], offset: u16, cases: &[SwitchCase]) -> bool
+    requires { Rises (offsets listing.now) }
+    ensures { result ≡ all_land (offsets listing.now) offset (map (λ (c : SwitchCase). c.branch) cases.now) }
+{
+    for case in cases {
+        if !lands(listing, offset, case.branch) {
+            return false;
+        }
+    }
+    true
+}
+
+// Whether each branch of the instruction at an offset does.
+fn does_land(listing: &[(u16, Insn)], offset: u16, insn: &Insn) -> bool
+    requires { Rises (offsets listing.now) }
+    ensures { result ≡ all_land (offsets listing.now) offset (branches_of insn.now) }
+{
+    match insn {
+        Insn::If { branch, .. }
+        | Insn::IfCompare { branch, .. }
+        | Insn::IfSame { branch, .. }
+        | Insn::IfNull { branch, .. }
+        | Insn::Goto { branch } => lands(listing, offset, *branch),
+        Insn::TableSwitch {
+            default,
+            branches,
+            ..
+        } => {
+            lands(listing, offset, *default)
+                && do_branches_land(listing, offset, branches.as_slice())
+        }
+        Insn::LookupSwitch { default, cases } => {
+            lands(listing, offset, *default) && do_cases_land(listing, offset, cases.as_slice())
+        }
+        _ => true,
+    }
+}
+
+// The offset of the first instruction of which a branch goes to no instruction.
 fn first_astray(listing: &[(u16, Insn)]) -> Option<u16>
     requires { Rises (offsets listing.now) }
     ensures { result ≡ spec.first_astray (offsets listing.now) listing.now }
 {
     for (offset, insn) in listing {
-        if let Some(branch) = insn.branch() {
-            if !begins_at(listing, i64::from(*offset) + i64::from(branch)) {
-                return Some(*offset);
-            }
+        if !does_land(listing, *offset, insn) {
+            return Some(*offset);
         }
     }
     None
 }
 
 // The listing, or the first rule that is broken: all bytes are read before a target is looked at.
-#[tactic(auto, unfolding(crate::specs::Reading::reading))]
+#[tactic(auto, unfolding(crate::specs::ReadListing::reading))]
 fn listing_with_targets(alloc: Global, code: &[u8]) -> Result<Vec<(u16, Insn)>, CodeFault>
     requires { length code.now ≤ 65535 }
     ensures exact { MatchResult result (λ listing. reading code.now ≡ Ok listing.items) (λ fault. Fails fault (reading code.now)) }
@@ -79,9 +150,9 @@ fn listing_with_targets(alloc: Global, code: &[u8]) -> Result<Vec<(u16, Insn)>, 
 
 /// The instructions of a method's code with their offsets, in order.
 ///
-/// The fault that is answered is the first: of an opcode that is none, or one that is not in
-/// profile, or an end of the code inside an instruction. Where branches go is looked at when all
-/// instructions are read.
+/// The fault that is answered is that of the first instruction at fault. Its opcode decides first
+/// (`Opcode`, `OutOfProfile`), then the end of the code inside it (`Cut`), then its operands
+/// (`Padding`, `Keys`). Where branches go (`Target`) is looked at when all instructions are read.
 pub fn decode(alloc: Global, code: &[u8]) -> Result<Vec<(u16, Insn)>, CodeFault>
     requires { length code.now ≤ 65535 }
 
@@ -92,7 +163,7 @@ pub fn decode(alloc: Global, code: &[u8]) -> Result<Vec<(u16, Insn)>, CodeFault>
     // A fault says what is wrong at the offset that it names.
     ensures fault { IfErr result (Explains code.now) }
 
-    // Places in the listing and offsets are one to one.
+    // Indices of the listing and offsets are one to one.
     ensures begins { IfOk result (λ listing. slice_index (offsets listing.items) 0 ≡ 0) }
     ensures rises { IfOk result (λ listing. Rises (offsets listing.items)) }
 {

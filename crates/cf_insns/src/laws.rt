@@ -10,7 +10,8 @@ pub fn one_listing()
     ensures { (code : List ℕ) (one other : Listing) → IsListing code one → IsListing code other → one ≡ other }
 {}
 
-/// No spelling of an instruction begins a spelling of another one, or a longer one of its own.
+/// No spelling of an instruction at an offset begins a spelling of another one there, or a longer one of
+/// its own.
 pub fn one_spelling()
-    ensures { (one other rest more : List ℕ) (insn others : Insn) → Spells one insn → Spells other others → one ++ rest ≡ other ++ more → (one ≡ other) × (insn ≡ others) }
+    ensures { (offset : ℕ) (one other rest more : List ℕ) (insn others : Insn) → Spells offset one insn → Spells offset other others → one ++ rest ≡ other ++ more → (one ≡ other) × (insn ≡ others) }
 {}

@@ -4,11 +4,19 @@
 pub use cf_text::{Numbered, Row};
 pub use decoder::decode;
 pub use fault::{CodeFault, CodeRule};
-pub use insn::{BinaryOperator, Condition, Insn, StackOperation, UnaryOperator, ValueKind};
+pub use insn::{
+    ArrayOperation, BinaryOperator, ClassOperation, Condition, Equality, FieldOperation, Insn,
+    InvokeKind, StackOperation, SwitchCase, UnaryOperator, ValueKind,
+};
 
+mod control;
 mod decoder;
 mod fault;
-mod groups;
 mod insn;
 pub mod laws;
+mod members;
+pub mod opcode;
 mod operands;
+mod reading;
+mod switches;
+mod values;

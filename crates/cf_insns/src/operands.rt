@@ -1,7 +1,7 @@
 //! The numbers behind an opcode: signed ones in two's complement, the high byte first.
 //!
-//! Each function reads the operand that begins at a place behind the opcode, or says that the code
-//! ends inside it.
+//! Each function reads the operand that begins at an index of the bytes behind the opcode, or says
+//! that the code ends inside it.
 
 ghost use Rattle.std.specs.Prelude.{◌≡◌, ◌+◌, ◌≤◌, length, drop, IfOk};
 ghost use Rattle.cf_insns.specs.Operands.{byte_of, short_of, signed_byte_of, signed_short_of, signed_int_of};
@@ -47,5 +47,13 @@ pub(crate) fn signed_int(operands: &[u8], at: usize) -> Result<i32, CodeRule>
     if operands.len().saturating_sub(at) < 4 {
         return Err(CodeRule::Cut);
     }
-    Ok(BigEndian::read_i32(&operands[at..]))
+    Ok(int_at(operands, at))
+}
+
+// The signed number of four bytes at an index from which the code goes on for as many.
+pub(crate) fn int_at(operands: &[u8], at: usize) -> i32
+    requires { at + 4 ≤ length operands.now }
+    ensures { signed_int_of (drop at operands.now) ≡ Ok result }
+{
+    BigEndian::read_i32(&operands[at..])
 }

@@ -7,7 +7,7 @@ use Rattle.cf_layout.specs.Codes.{blamed}
 
 pub Gives-blamed : {A : Type 0} (at : ℕ) (reading answer : Result A ReadFault) → Gives reading answer → Gives (blamed at reading) (blamed at answer)
 Gives-blamed at reading (Ok x) given = ap (blamed at) given
-Gives-blamed at reading (Err (Broken rule place)) given = ap (blamed at) given
+Gives-blamed at reading (Err (Broken rule position)) given = ap (blamed at) given
 Gives-blamed at reading (Err Memory) given = tt
 
 pub ruleset blames = (Gives-blamed)

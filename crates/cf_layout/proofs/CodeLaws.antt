@@ -83,9 +83,6 @@ code_tells bytes attribute =
 
 -- ---- StackMapTable
 
-abbrev some_end : ℕ → Result (Option ℕ) ReadFault
-some_end at = Ok (Some at)
-
 -- what follows where the look has not ended
 abbrev behind : (ℕ → Result (Option ℕ) ReadFault) → Option ℕ → Result (Option ℕ) ReadFault
 behind next None = Ok None

@@ -20,7 +20,7 @@ module _ (skim : ℕ → Result (Option ℕ) ReadFault) (count done at : ℕ) (a
   skim-ends more step = skim-next more ∙ rw step refl
 
   pub skim-fails : (fault : ReadFault) → done < count → Fails (skim at) fault → Fails all fault
-  skim-fails (Broken rule place) more fails = skim-next more ∙ rw fails refl
+  skim-fails (Broken rule position) more fails = skim-next more ∙ rw fails refl
   skim-fails Memory more fails = tt
 
   pub skim-done : count ≤ done → all ≡ Ok (Some at)

@@ -12,7 +12,7 @@ use Rattle.cf_layout.specs.declared.items.CodeHead.{CodeHead}
 use Rattle.cf_layout.specs.declared.items.CodeLayout.{CodeLayout}
 use Rattle.cf_layout.specs.FileFormat.{attributes_format, item_format}
 
--- a fault of what is looked for: want of memory says nothing of it
+-- a fault of what is looked for: out of memory says nothing of it
 abbrev pub MissesBy : {A : Type 0} → Look A → ReadFault → Type 0
 MissesBy look (Broken rule at) = look.Fails rule at
 MissesBy look Memory = Unit {0}
@@ -68,7 +68,7 @@ code_look bytes attribute = do
 
 -- ---- StackMapTable: how far it reaches, or none from a reserved tag on, or from an item's tag above 8 on
 
--- an item: a tag, and behind 7 and 8 two bytes
+-- an item: a tag, and after 7 and 8 two bytes
 unfoldable pub item_look : List ℕ → ℕ → Look (Option ℕ)
 item_look bytes at = do
   tag ← standing (number_format 1 bytes) at
@@ -76,7 +76,7 @@ item_look bytes at = do
     to ← passing 2 bytes tag.1
     known (Some to)) (known None))
 
--- behind one part another one, where the first has an end
+-- after one part another one, where the first has an end
 abbrev pub behind_some : (ℕ → Look (Option ℕ)) → Option ℕ → Look (Option ℕ)
 behind_some next None = known None
 behind_some next (Some at) = next at
@@ -84,25 +84,25 @@ behind_some next (Some at) = next at
 abbrev pub going_on : Look (Option ℕ) → (ℕ → Look (Option ℕ)) → Look (Option ℕ)
 going_on one next = one >>= behind_some next
 
--- so many, one behind the other
+-- so many, one after the other
 unfoldable pub many_looks : (ℕ → Look (Option ℕ)) → ℕ → ℕ → Look (Option ℕ)
 many_looks look zero at = known (Some at)
 many_looks look (suc n) at = going_on (look at) (many_looks look n)
 
--- items behind their count
+-- items after their count
 unfoldable pub items_look : List ℕ → ℕ → Look (Option ℕ)
 items_look bytes at = do
   count ← standing (number_format 2 bytes) at
   many_looks (item_look bytes) count.0 count.1
 
--- behind a frame's tag and its offset: one item, none, so many locals, or all locals and operands
+-- after a frame's tag and its offset: one item, none, so many locals, or all locals and operands
 unfoldable pub lists_look : ℕ → List ℕ → ℕ → Look (Option ℕ)
 lists_look tag bytes at =
     choosing (tag == 247) (many_looks (item_look bytes) 1 at)
     (choosing (nat_le tag 251) (known (Some at))
     (choosing (nat_le tag 254) (many_looks (item_look bytes) (tag - 251) at) (going_on (items_look bytes at) (items_look bytes))))
 
--- behind a frame's tag: nothing, one item, or an offset and what that tag has behind it
+-- after a frame's tag: nothing, one item, or an offset and what that tag has after it
 unfoldable pub tagged_look : ℕ → List ℕ → ℕ → Look (Option ℕ)
 tagged_look tag bytes at =
     choosing (nat_le tag 63) (known (Some at))
@@ -119,7 +119,7 @@ abbrev pub reaches : ℕ → Option ℕ → Bool
 reaches end None = true
 reaches end (Some to) = to == end
 
--- frames behind their count, which fill the length, as far as they can be followed
+-- frames after their count, which fill the length, as far as they can be followed
 unfoldable pub table_inside : List ℕ → ℕ → ℕ → Look (Unit {0})
 table_inside bytes at end = do
   count ← standing (number_format 2 bytes) at

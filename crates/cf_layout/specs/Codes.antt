@@ -15,7 +15,7 @@ use Rattle.cf_layout.specs.CodeFormat.{reaches}
 -- a known attribute that cannot be read does not fill its length: the fault is at its name index
 abbrev pub blamed : {A : Type 0} → ℕ → Result A ReadFault → Result A ReadFault
 blamed at (Ok x) = Ok x
-blamed at (Err (Broken rule place)) = Err (Broken rules.AttributeLength at)
+blamed at (Err (Broken rule position)) = Err (Broken rules.AttributeLength at)
 blamed at (Err Memory) = Err Memory
 
 -- ---- Code
@@ -70,19 +70,19 @@ unfoldable pub skim_many : (ℕ → Result (Option ℕ) ReadFault) → ℕ → �
 skim_many skim zero at = Ok (Some at)
 skim_many skim (suc n) at = and_then (skim at) (skim_many skim n)
 
--- items behind their count
+-- items after their count
 unfoldable pub skim_list : List ℕ → ℕ → Result (Option ℕ) ReadFault
 skim_list bytes at = do
   count ← number_at 2 bytes at
   skim_many (skim_item bytes) count.0 count.1
 
--- a frame behind its tag and its offset
+-- a frame after its tag and its offset
 unfoldable pub skim_lists : ℕ → List ℕ → ℕ → Result (Option ℕ) ReadFault
 skim_lists tag bytes at =
     if tag == 247 then skim_many (skim_item bytes) 1 at else if nat_le tag 251 then Ok (Some at)
     else if nat_le tag 254 then skim_many (skim_item bytes) (tag - 251) at else and_then (skim_list bytes at) (skim_list bytes)
 
--- a frame behind its tag
+-- a frame after its tag
 unfoldable pub skim_tagged : ℕ → List ℕ → ℕ → Result (Option ℕ) ReadFault
 skim_tagged tag bytes at =
     if nat_le tag 63 then Ok (Some at) else if nat_le tag 127 then skim_many (skim_item bytes) 1 at

@@ -23,7 +23,7 @@ attribute_format bytes at = do
   inside ← run_format length.0 bytes
   done (record { name = name.0; body = length.1; end = inside.1 })
 
--- attributes behind their count
+-- attributes after their count
 unfoldable pub attributes_format : List ℕ → ℕ → Format (List Attribute)
 attributes_format bytes at = do
   count ← number_format 2 bytes
@@ -74,7 +74,7 @@ body_format bytes at = do
     attributes = attributes.0;
   })
 
--- A file that is not too large: a header, what follows it, and nothing behind. How large is a rule of this project, so that a
+-- A file that is not too large: a header, what follows it, and nothing after. How large is a rule of this project, so that a
 -- file that does not end takes bounded memory.
 unfoldable pub file_format : List ℕ → Format Layout
 file_format bytes =

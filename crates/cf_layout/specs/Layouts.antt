@@ -12,7 +12,7 @@ use Rattle.cf_layout.specs.declared.items.Attribute.{Attribute}
 use Rattle.cf_layout.specs.declared.items.Member.{Member}
 use Rattle.cf_layout.specs.declared.items.Layout.{Layout}
 
--- the bytes between two places
+-- the bytes between two positions
 abbrev pub between : List ℕ → ℕ → ℕ → List ℕ
 between bytes from to = drop from (take to bytes)
 
@@ -30,7 +30,7 @@ attribute_at bytes at = do
   end ← skip_at length.0 bytes length.1
   Ok (record { name = name.0; body = length.1; end = end }, end)
 
--- attributes behind their count
+-- attributes after their count
 unfoldable pub attributes_at : List ℕ → ℕ → Result (List Attribute × ℕ) ReadFault
 attributes_at bytes at = do
   count ← number_at 2 bytes at

@@ -65,7 +65,7 @@ fn read_code_filling(
     Ok(code)
 }
 
-// The reading behind `read_code`, with the first fault.
+// The reading after `read_code`, with the first fault.
 #[tactic(auto, unfolding(crate::specs::Codes::code_of, cf_text::specs::Demands::verdict), using(crate::proofs::Blamed::blames))]
 fn code_of(alloc: Global, bytes: &[u8], attribute: Attribute) -> Result<CodeLayout, ReadFault>
     ensures exact { Gives (code_of bytes.now attribute) result }
@@ -85,7 +85,7 @@ fn code_of(alloc: Global, bytes: &[u8], attribute: Attribute) -> Result<CodeLayo
 }
 
 /// The layout of a Code attribute. A code that is empty or longer than 65,535 bytes is CodeLength at
-/// its length, and nothing behind it is looked at; a Code that does not fill its length exactly is
+/// its length, and nothing after it is looked at; a Code that does not fill its length exactly is
 /// AttributeLength at its name index.
 pub fn read_code(alloc: Global, bytes: &[u8], attribute: Attribute) -> Result<CodeLayout, ReadFault>
     // What is read stands there, what stands there is read, and a fault is one of what stands there.
@@ -119,14 +119,14 @@ fn skim_item(bytes: &[u8], at: usize) -> Result<Option<usize>, ReadFault>
 fn skim_items(count: u16, bytes: &[u8], at: usize) -> Result<Option<usize>, ReadFault>
     ensures { Gives (skim_many (skim_item bytes.now) count at) result }
 {
-    let mut place = at;
+    let mut position = at;
     for _ in 0..count {
-        match skim_item(bytes, place)? {
-            Some(after) => place = after,
+        match skim_item(bytes, position)? {
+            Some(after) => position = after,
             None => return Ok(None),
         }
     }
-    Ok(Some(place))
+    Ok(Some(position))
 }
 
 #[tactic(auto, unfolding(crate::specs::Codes::skim_list))]
@@ -137,7 +137,7 @@ fn skim_list(bytes: &[u8], at: usize) -> Result<Option<usize>, ReadFault>
     skim_items(count, bytes, first)
 }
 
-// A frame behind its tag and its offset, as `skim_tagged`.
+// A frame after its tag and its offset, as `skim_tagged`.
 #[tactic(auto, unfolding(crate::specs::Codes::skim_lists))]
 fn skim_lists(tag: u8, bytes: &[u8], at: usize) -> Result<Option<usize>, ReadFault>
     requires { 247 ≤ tag }
@@ -154,7 +154,7 @@ fn skim_lists(tag: u8, bytes: &[u8], at: usize) -> Result<Option<usize>, ReadFau
     }
 }
 
-// A frame behind its tag. `None`: a tag is reserved, or an item's tag is above 8.
+// A frame after its tag. `None`: a tag is reserved, or an item's tag is above 8.
 #[tactic(auto, unfolding(crate::specs::Codes::skim_tagged))]
 fn skim_tagged(tag: u8, bytes: &[u8], at: usize) -> Result<Option<usize>, ReadFault>
     ensures { Gives (skim_tagged tag bytes.now at) result }
@@ -183,14 +183,14 @@ fn skim_frame(bytes: &[u8], at: usize) -> Result<Option<usize>, ReadFault>
 fn skim_frames(count: u16, bytes: &[u8], at: usize) -> Result<Option<usize>, ReadFault>
     ensures { Gives (skim_many (skim_frame bytes.now) count at) result }
 {
-    let mut place = at;
+    let mut position = at;
     for _ in 0..count {
-        match skim_frame(bytes, place)? {
-            Some(after) => place = after,
+        match skim_frame(bytes, position)? {
+            Some(after) => position = after,
             None => return Ok(None),
         }
     }
-    Ok(Some(place))
+    Ok(Some(position))
 }
 
 #[tactic(auto, unfolding(crate::specs::Codes::skim_table, cf_text::specs::Demands::verdict))]
@@ -204,7 +204,7 @@ fn skim_table(bytes: &[u8], at: usize, end: usize) -> Result<(), ReadFault>
     }
 }
 
-// The look behind `check_table`.
+// The look after `check_table`.
 #[tactic(auto, unfolding(crate::specs::Codes::table_of), using(crate::proofs::Blamed::blames))]
 fn table_of(bytes: &[u8], attribute: Attribute) -> Result<(), ReadFault>
     ensures { Gives (table_of bytes.now attribute) result }

@@ -19,7 +19,7 @@ fn read_constant_filling(bytes: &[u8], at: usize, end: usize) -> Result<Item, Re
     Ok(index)
 }
 
-// The reading behind `read_constant`, with the first fault.
+// The reading after `read_constant`, with the first fault.
 #[tactic(auto, unfolding(crate::specs::Codes::constant_of), using(crate::proofs::Blamed::blames))]
 fn constant_of(bytes: &[u8], attribute: Attribute) -> Result<Item, ReadFault>
     ensures { Gives (constant_of bytes.now attribute) result }

@@ -19,8 +19,8 @@ pub(crate) fn up_to(bytes: &[u8], end: usize) -> &[u8]
     }
 }
 
-/// The bytes between two places: those from `from` on that stand before `to`, up to the last of all.
-/// The only fault is want of memory.
+/// The bytes between two positions: those from `from` on that stand before `to`, up to the last of all.
+/// The only fault is out of memory.
 pub fn between(alloc: Global, bytes: &[u8], from: usize, to: usize) -> Result<Row<u8>, ReadFault>
     ensures exact { Gives (Ok (between bytes.now from to)) result }
     ensures within { IfOk result (λ part. length part ≤ to - from) }

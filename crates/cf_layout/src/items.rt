@@ -1,4 +1,4 @@
-//! The raw items of a class file, with their places.
+//! The raw items of a class file, with their positions.
 
 use cf_pool::{PoolLayout, Table};
 
@@ -9,7 +9,7 @@ pub struct Item {
     pub value: u16,
 }
 
-/// An attribute (JVMS 4.7): its name, and where the bytes behind its length begin and end.
+/// An attribute (JVMS 4.7): its name, and where the bytes after its length begin and end.
 #[derive(Clone, Copy, Debug, PartialEq, Eq)]
 pub struct Attribute {
     pub name: Item,
@@ -26,7 +26,7 @@ pub struct Member {
     pub attributes: Table<Attribute>,
 }
 
-/// A class file (JVMS 4.1) behind its version.
+/// A class file (JVMS 4.1) after its version.
 #[derive(Debug, Drop)]
 pub struct Layout {
     pub pool: PoolLayout,

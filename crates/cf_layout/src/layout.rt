@@ -1,4 +1,4 @@
-//! The layout of a class file: its raw items with their places, skipped attributes and ignored
+//! The layout of a class file: its raw items with their positions, skipped attributes and ignored
 //! indices included. Reading it is the first pass, which enters no attribute.
 
 ghost use Rattle.std.specs.Prelude.{IfErr, IfOk};
@@ -31,13 +31,13 @@ fn read_items(
     ensures { Gives (many (item_at bytes.now) count at) result }
 {
     let mut items = Vec::new(alloc);
-    let mut place = at;
+    let mut position = at;
     for _ in 0..count {
-        let (item, after) = read_item(bytes, place)?;
+        let (item, after) = read_item(bytes, position)?;
         items.push(item)?;
-        place = after;
+        position = after;
     }
-    Ok((Table::new(items), place))
+    Ok((Table::new(items), position))
 }
 
 #[tactic(auto, unfolding(crate::specs::Layouts::attribute_at))]
@@ -59,13 +59,13 @@ fn read_many_attributes(
     ensures { Gives (many (attribute_at bytes.now) count at) result }
 {
     let mut attributes = Vec::new(alloc);
-    let mut place = at;
+    let mut position = at;
     for _ in 0..count {
-        let (attribute, after) = read_attribute(bytes, place)?;
+        let (attribute, after) = read_attribute(bytes, position)?;
         attributes.push(attribute)?;
-        place = after;
+        position = after;
     }
-    Ok((Table::new(attributes), place))
+    Ok((Table::new(attributes), position))
 }
 
 #[tactic(auto, unfolding(crate::specs::Layouts::attributes_at))]
@@ -108,16 +108,16 @@ fn read_members(
     ensures { Gives (many (member_at bytes.now) count at) result }
 {
     let mut members = Vec::new(alloc);
-    let mut place = at;
+    let mut position = at;
     for _ in 0..count {
-        let (member, after) = read_member(alloc, bytes, place)?;
+        let (member, after) = read_member(alloc, bytes, position)?;
         members.push(member)?;
-        place = after;
+        position = after;
     }
-    Ok((Table::new(members), place))
+    Ok((Table::new(members), position))
 }
 
-// CAFEBABE, and a version of the profile: the major version, and the place behind it.
+// CAFEBABE, and a version of the profile: the major version, and the position after it.
 #[tactic(auto, unfolding(crate::specs::Layouts::header_at, cf_text::specs::Demands::verdict))]
 fn read_header(bytes: &[u8]) -> Result<(u16, usize), ReadFault>
     ensures { Gives (header_at bytes.now) result }
@@ -163,7 +163,7 @@ fn read_body(alloc: Global, bytes: &[u8], at: usize) -> Result<(Layout, usize), 
     Ok((layout, to))
 }
 
-// The reading behind `read_layout`, with the first fault.
+// The reading after `read_layout`, with the first fault.
 #[tactic(auto, unfolding(crate::specs::Layouts::layout_of, crate::specs::Layouts::file_at, cf_text::specs::Demands::verdict))]
 fn layout_of(alloc: Global, bytes: &[u8]) -> Result<Layout, ReadFault>
     ensures { Gives (layout_of bytes.now) result }
@@ -178,7 +178,7 @@ fn layout_of(alloc: Global, bytes: &[u8]) -> Result<Layout, ReadFault>
 /// The layout of a class file. A file of more than 1,048,576 bytes is TooLarge, at the first byte too
 /// many. Else the first of these counts, in the order of bytes: a cut item is Truncated at its first
 /// byte; Magic, Version, Tag; Index where the constant pool's count is 0 or its last entry wants two
-/// indices; Trailing at the first byte behind the class.
+/// indices; Trailing at the first byte after the class.
 pub fn read_layout(alloc: Global, bytes: &[u8]) -> Result<Layout, ReadFault>
     // What is read the bytes lay out, what they lay out is read, and a fault is one of their format.
     ensures found { IfOk result (LaysOut bytes.now) }

@@ -1,4 +1,4 @@
-//! What the bytes of a class file lay out (JVMS 4.1, 4.5 to 4.7): its raw items with their places,
+//! What the bytes of a class file lay out (JVMS 4.1, 4.5 to 4.7): its raw items with their positions,
 //! and what stands inside the attributes that are entered. No index is followed.
 #![tactic(auto)]
 

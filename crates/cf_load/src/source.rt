@@ -10,8 +10,8 @@ use dev_io::{ReadError, Source, read_bytes};
 use std::alloc::Global;
 
 /// The class file that a source's bytes spell. A fault is that of `read_class` for the bytes, or Device,
-/// exactly where the source has failed. A source of more than 1,048,576 bytes is TooLarge, and is read no
-/// further than is needed to know so. After a fault the source has given some of its bytes: to load
+/// exactly if the source has failed. A source of more than 1,048,576 bytes is TooLarge, and gives one
+/// byte more than these, not all that it has. After a fault the source has given some of its bytes: to load
 /// again, take a new source.
 pub fn load<S: Source>(alloc: Global, source: &mut S) -> Result<ClassFile, LoadFault>
     ensures device { IsErrOf result LoadFault.Device ↔ IsTrue (S.has_failed source.new) }

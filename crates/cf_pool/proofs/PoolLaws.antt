@@ -48,7 +48,7 @@ name_and_type_reads bytes at = then_reads (number_reads 2 bytes at) (λ name. th
 
 skipped_reads : (length : ℕ) (wide : Bool) (bytes : List ℕ) (at : ℕ) → Reads (skipped_entry length wide bytes at) at (skipped_format length wide bytes at)
 unfolding skipped_entry skipped_format
-skipped_reads length wide bytes at = skip_reads length bytes at (λ to. Ok (record { entry = Other; places = record { first = at; second = to }; is_wide = wide }, to)) (λ run. done_reads _ run.1)
+skipped_reads length wide bytes at = skip_reads length bytes at (λ to. Ok (record { entry = Other; positions = record { first = at; second = to }; is_wide = wide }, to)) (λ run. done_reads _ run.1)
 
 shaped_reads : (shape : Shape) (bytes : List ℕ) (at : ℕ) → Reads (shaped_entry shape bytes at) at (shaped_format shape bytes at)
 unfolding shaped_entry shaped_format

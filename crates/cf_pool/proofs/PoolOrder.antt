@@ -4,7 +4,7 @@ use Rattle.std.specs.Prelude.{slice_get}
 use Rattle.std.proofs.lemmas.List.{length-append}
 use Rattle.cf_pool.specs.declared.pool.MemberKind.{MemberKind}
 use Rattle.cf_pool.specs.declared.pool.Entry.{Entry}
-use Rattle.cf_pool.specs.declared.layout.Places.{Places}
+use Rattle.cf_pool.specs.declared.layout.Positions.{Positions}
 use Rattle.cf_pool.specs.declared.layout.PlacedEntry.{PlacedEntry}
 use Rattle.cf_pool.specs.declared.layout.PoolLayout.{PoolLayout}
 use Rattle.cf_pool.specs.declared.layout.Shape.{Shape}
@@ -20,22 +20,18 @@ slice_at : (front rest : List Entry) (entry : Entry) → slice_get (front ++ ent
 slice_at [] rest entry = refl
 slice_at (e ∷ front) rest entry = slice_at front rest entry
 
-index_is : (pool : List Entry) (index : ℕ) (places : Places) (entry : Entry) → slice_get pool index ≡ Some entry → index_demands pool index places ≡ entry_demands pool entry places
+index_is : (pool : List Entry) (index : ℕ) (positions : Positions) (entry : Entry) → slice_get pool index ≡ Some entry → index_demands pool index positions ≡ entry_demands pool entry positions
 unfolding index_demands
-index_is pool index places entry is = rw is refl
+index_is pool index positions entry is = rw is refl
 
 pub named_span : {A : Type 0} (at : ℕ) (found : Option A) (test : A → Bool) → Span (16 * at) (16 * at + 6) (named at found test)
 unfolding named
 named_span at found test = (omega arith, (omega arith, omega arith))
 
-indexed_span : {A : Type 0} (at : ℕ) (found : Option A) → Span (16 * at) (16 * at + 6) (indexed at found)
-unfolding indexed
-indexed_span at found = (omega arith, omega arith)
-
 module _ (bytes : List ℕ) (pool : List Entry) where
-  -- of an entry that stands from a place on to another one
+  -- of an entry that stands from a position on to another one
   IsSpanned : ℕ → ℕ → PlacedEntry → Type 0
-  IsSpanned at to e = Span (16 * at) (16 * to + 6) (entry_demands pool e.entry e.places)
+  IsSpanned at to e = Span (16 * at) (16 * to + 6) (entry_demands pool e.entry e.positions)
 
   text_span : (at to : ℕ) (e : PlacedEntry) → (text_format bytes at).Stands at e to → IsSpanned at to e
   unfolding text_format entry_demands IsSpanned
@@ -103,45 +99,45 @@ module _ (bytes : List ℕ) (pool : List Entry) where
   tagged_span last tag_at (Some shapes.NameAndType) at to e stands = shaped_span shapes.NameAndType at to e stands
   tagged_span last tag_at (Some (shapes.Skipped n)) at to e stands = shaped_span (shapes.Skipped n) at to e stands
 
-  cell_span : (taken last : Bool) (at to : ℕ) (e : PlacedEntry) → (cell_format taken last bytes at).Stands at e to → Span (16 * at + 6) (16 * to + 6) (entry_demands pool e.entry e.places)
+  cell_span : (taken last : Bool) (at to : ℕ) (e : PlacedEntry) → (cell_format taken last bytes at).Stands at e to → Span (16 * at + 6) (16 * to + 6) (entry_demands pool e.entry e.positions)
   unfolding cell_format entry_format entry_demands IsSpanned
   cell_span true last at to e stands =
       let end = stands.1 in
-      subst (λ (x : PlacedEntry). Span (16 * at + 6) (16 * to + 6) (entry_demands pool x.entry x.places)) (sym stands.0) (omega (arith, end))
+      subst (λ (x : PlacedEntry). Span (16 * at + 6) (16 * to + 6) (entry_demands pool x.entry x.positions)) (sym stands.0) (omega (arith, end))
   cell_span false last at to e stands =
       let tag = stands.0 in
       let tag_is = stands.1.0 in
-      span_low (16 * at + 6) (16 * tag.1) (16 * to + 6) (entry_demands pool e.entry e.places) (omega (arith, tag_is.end))
+      span_low (16 * at + 6) (16 * tag.1) (16 * to + 6) (entry_demands pool e.entry e.positions) (omega (arith, tag_is.end))
       (tagged_span last at (shape_of tag.0) tag.1 to e stands.2)
 
-  -- the cells behind a front of the pool
+  -- the cells after a front of the pool
   cells_span : (n : ℕ) (taken : Bool) (at to : ℕ) (cells : PoolLayout) (front : List Entry) → (cells_format n taken bytes at).Stands at cells to → pool ≡ front ++ cells.pool
-      → Span (16 * at + 6) (16 * to + 6) (of_each (index_demands pool) (length front) cells.places)
+      → Span (16 * at + 6) (16 * to + 6) (of_each (index_demands pool) (length front) cells.positions)
   unfolding cells_format of_each
   cells_span zero taken at to cells front stands whole =
       let end = stands.1 in
-      subst (λ (c : PoolLayout). Span (16 * at + 6) (16 * to + 6) (of_each (index_demands pool) (length front) c.places)) (sym stands.0) (omega (arith, end))
+      subst (λ (c : PoolLayout). Span (16 * at + 6) (16 * to + 6) (of_each (index_demands pool) (length front) c.positions)) (sym stands.0) (omega (arith, end))
   cells_span (suc n) taken at to cells front stands whole =
       let first = stands.0 in
       let others = stands.2.0 in
-      let same : cells ≡ record { pool = first.0.entry ∷ others.0.pool; places = first.0.places ∷ others.0.places } = stands.2.2.0 in
+      let same : cells ≡ record { pool = first.0.entry ∷ others.0.pool; positions = first.0.positions ∷ others.0.positions } = stands.2.2.0 in
       let end : to ≡ others.1 = stands.2.2.1 in
       let pool_is : pool ≡ front ++ first.0.entry ∷ others.0.pool = whole ∙ ap (λ (c : PoolLayout). front ++ c.pool) same in
       let here : slice_get pool (length front) ≡ Some first.0.entry = ap (λ (p : List Entry). slice_get p (length front)) pool_is ∙ slice_at front others.0.pool first.0.entry in
-      let next : Span (16 * first.1 + 6) (16 * others.1 + 6) (of_each (index_demands pool) (length (front ++ first.0.entry ∷ [])) others.0.places) =
+      let next : Span (16 * first.1 + 6) (16 * others.1 + 6) (of_each (index_demands pool) (length (front ++ first.0.entry ∷ [])) others.0.positions) =
       cells_span n first.0.is_wide first.1 others.1 others.0 (front ++ first.0.entry ∷ []) stands.2.1 (pool_is ∙ sym (append_assoc front (first.0.entry ∷ []) others.0.pool)) in
       let index : length (front ++ first.0.entry ∷ []) ≡ length front + 1 = length-append front (first.0.entry ∷ []) in
-      let one : Span (16 * at + 6) (16 * first.1 + 6) (index_demands pool (length front) first.0.places) =
-      subst (λ (ds : List Demand). Span (16 * at + 6) (16 * first.1 + 6) ds) (sym (index_is pool (length front) first.0.places first.0.entry here)) (cell_span taken (eqb n 0) at first.1 first.0 stands.1) in
-      subst (λ (c : PoolLayout). Span (16 * at + 6) (16 * to + 6) (of_each (index_demands pool) (length front) c.places)) (sym same)
-      (span_append (16 * at + 6) (16 * first.1 + 6) (16 * to + 6) (index_demands pool (length front) first.0.places) (of_each (index_demands pool) (length front + 1) others.0.places) one
-      (subst (λ (e : ℕ). Span (16 * first.1 + 6) (16 * e + 6) (of_each (index_demands pool) (length front + 1) others.0.places)) (sym end)
-      (subst (λ (i : ℕ). Span (16 * first.1 + 6) (16 * others.1 + 6) (of_each (index_demands pool) i others.0.places)) index next)))
+      let one : Span (16 * at + 6) (16 * first.1 + 6) (index_demands pool (length front) first.0.positions) =
+      subst (λ (ds : List Demand). Span (16 * at + 6) (16 * first.1 + 6) ds) (sym (index_is pool (length front) first.0.positions first.0.entry here)) (cell_span taken (eqb n 0) at first.1 first.0 stands.1) in
+      subst (λ (c : PoolLayout). Span (16 * at + 6) (16 * to + 6) (of_each (index_demands pool) (length front) c.positions)) (sym same)
+      (span_append (16 * at + 6) (16 * first.1 + 6) (16 * to + 6) (index_demands pool (length front) first.0.positions) (of_each (index_demands pool) (length front + 1) others.0.positions) one
+      (subst (λ (e : ℕ). Span (16 * first.1 + 6) (16 * e + 6) (of_each (index_demands pool) (length front + 1) others.0.positions)) (sym end)
+      (subst (λ (i : ℕ). Span (16 * first.1 + 6) (16 * others.1 + 6) (of_each (index_demands pool) i others.0.positions)) index next)))
 
 pub pool_span : (bytes : List ℕ) (at to : ℕ) (layout : PoolLayout) → (layout_format bytes at).Stands at layout to → Span (16 * at) (16 * to + 6) (pool_demands layout)
 unfolding layout_format pool_demands
 pool_span bytes at to layout stands =
     let count = stands.0 in
     let count_is = stands.1.0 in
-    span_low (16 * at) (16 * count.1 + 6) (16 * to + 6) (of_each (index_demands layout.pool) 0 layout.places) (omega (arith, count_is.end))
+    span_low (16 * at) (16 * count.1 + 6) (16 * to + 6) (of_each (index_demands layout.pool) 0 layout.positions) (omega (arith, count_is.end))
     (cells_span bytes layout.pool count.0 true count.1 to layout [] stands.2.1 refl)

@@ -11,7 +11,7 @@ use Rattle.cf_pool.specs.declared.pool.Entry.{Entry}
 use Rattle.cf_pool.specs.declared.pool.Entry.TheVariants.{Utf8, Integer, Class, Member, NameAndType, Other, Unusable}
 use Rattle.cf_pool.specs.declared.layout.Shape.{Shape}
 use Rattle.cf_pool.specs.declared.layout.Shape.TheVariants as shapes
-use Rattle.cf_pool.specs.declared.layout.Places.{Places}
+use Rattle.cf_pool.specs.declared.layout.Positions.{Positions}
 use Rattle.cf_pool.specs.declared.layout.PlacedEntry.{PlacedEntry}
 use Rattle.cf_pool.specs.declared.layout.PoolLayout.{PoolLayout}
 use Rattle.cf_text.specs.Reading.{◌>>=◌}
@@ -113,7 +113,7 @@ member_at pool index =
 
 -- ---- how entries are read
 
--- what stands behind a tag
+-- what stands after a tag
 unfoldable pub shape_of : ℕ → Option Shape
 shape_of tag =
     if tag == 1 then Some shapes.Utf8 else if tag == 3 then Some shapes.Integer else if tag == 4 then Some (shapes.Skipped 4)
@@ -128,37 +128,37 @@ unfoldable pub text_entry : List ℕ → ℕ → Result (PlacedEntry × ℕ) Rea
 text_entry bytes at = do
   length ← number_at 2 bytes at
   text ← bytes_at length.0 bytes length.1
-  Ok (record { entry = Utf8 text.0; places = record { first = at; second = length.1 }; is_wide = false }, text.1)
+  Ok (record { entry = Utf8 text.0; positions = record { first = at; second = length.1 }; is_wide = false }, text.1)
 
 unfoldable pub integer_entry : List ℕ → ℕ → Result (PlacedEntry × ℕ) ReadFault
 integer_entry bytes at = do
   value ← signed_at bytes at
-  Ok (record { entry = Integer value.0; places = record { first = at; second = value.1 }; is_wide = false }, value.1)
+  Ok (record { entry = Integer value.0; positions = record { first = at; second = value.1 }; is_wide = false }, value.1)
 
 unfoldable pub class_entry : List ℕ → ℕ → Result (PlacedEntry × ℕ) ReadFault
 class_entry bytes at = do
   name ← number_at 2 bytes at
-  Ok (record { entry = Class name.0; places = record { first = at; second = name.1 }; is_wide = false }, name.1)
+  Ok (record { entry = Class name.0; positions = record { first = at; second = name.1 }; is_wide = false }, name.1)
 
 unfoldable pub member_entry : MemberKind → List ℕ → ℕ → Result (PlacedEntry × ℕ) ReadFault
 member_entry kind bytes at = do
   class ← number_at 2 bytes at
   named ← number_at 2 bytes class.1
-  Ok (record { entry = Member kind class.0 named.0; places = record { first = at; second = class.1 }; is_wide = false }, named.1)
+  Ok (record { entry = Member kind class.0 named.0; positions = record { first = at; second = class.1 }; is_wide = false }, named.1)
 
 unfoldable pub name_and_type_entry : List ℕ → ℕ → Result (PlacedEntry × ℕ) ReadFault
 name_and_type_entry bytes at = do
   name ← number_at 2 bytes at
   descriptor ← number_at 2 bytes name.1
-  Ok (record { entry = NameAndType name.0 descriptor.0; places = record { first = at; second = name.1 }; is_wide = false }, descriptor.1)
+  Ok (record { entry = NameAndType name.0 descriptor.0; positions = record { first = at; second = name.1 }; is_wide = false }, descriptor.1)
 
 -- so many bytes that are one item and are not looked at
 unfoldable pub skipped_entry : ℕ → Bool → List ℕ → ℕ → Result (PlacedEntry × ℕ) ReadFault
 skipped_entry length wide bytes at = do
   to ← skip_at length bytes at
-  Ok (record { entry = Other; places = record { first = at; second = to }; is_wide = wide }, to)
+  Ok (record { entry = Other; positions = record { first = at; second = to }; is_wide = wide }, to)
 
--- what stands behind a tag of a shape
+-- what stands after a tag of a shape
 unfoldable pub shaped_entry : Shape → List ℕ → ℕ → Result (PlacedEntry × ℕ) ReadFault
 shaped_entry shapes.Utf8 bytes at = text_entry bytes at
 shaped_entry shapes.Integer bytes at = integer_entry bytes at
@@ -179,25 +179,25 @@ tagged last at (Some (shapes.Member kind)) = Ok (shapes.Member kind)
 tagged last at (Some shapes.NameAndType) = Ok shapes.NameAndType
 tagged last at (Some (shapes.Skipped length)) = Ok (shapes.Skipped length)
 
--- an entry: its tag, and what stands behind it
+-- an entry: its tag, and what stands after it
 unfoldable pub entry_from : Bool → List ℕ → ℕ → Result (PlacedEntry × ℕ) ReadFault
 entry_from last bytes at = do
   tag ← number_at 1 bytes at
   shape ← tagged last at (shape_of tag.0)
   shaped_entry shape bytes tag.1
 
--- what stands at an index: nothing at index 0 and behind an entry of two indices, where `taken`
+-- what stands at an index: nothing at index 0 and after an entry of two indices, where `taken`
 unfoldable pub cell_from : Bool → Bool → List ℕ → ℕ → Result (PlacedEntry × ℕ) ReadFault
-cell_from true last bytes at = Ok (record { entry = Unusable; places = record { first = at; second = at }; is_wide = false }, at)
+cell_from true last bytes at = Ok (record { entry = Unusable; positions = record { first = at; second = at }; is_wide = false }, at)
 cell_from false last bytes at = entry_from last bytes at
 
 -- so many indices of a pool
 unfoldable pub cells_from : ℕ → Bool → List ℕ → ℕ → Result (PoolLayout × ℕ) ReadFault
-cells_from zero taken bytes at = Ok (record { pool = []; places = [] }, at)
+cells_from zero taken bytes at = Ok (record { pool = []; positions = [] }, at)
 cells_from (suc n) taken bytes at = do
   first ← cell_from taken (n == 0) bytes at
   others ← cells_from n first.0.is_wide bytes first.1
-  Ok (record { pool = first.0.entry ∷ others.0.pool; places = first.0.places ∷ others.0.places }, others.1)
+  Ok (record { pool = first.0.entry ∷ others.0.pool; positions = first.0.positions ∷ others.0.positions }, others.1)
 
 -- a pool: its count, and so many indices
 unfoldable pub layout_from : List ℕ → ℕ → Result (PoolLayout × ℕ) ReadFault
@@ -229,26 +229,26 @@ indexed at found = record { at = at; rule = rules.Index; holds = is_some found }
 -- The demands of an entry: a text is modified UTF-8, and what an index names is of its kind. That the indices of an Other entry,
 -- as a String, and the text of a NameAndType's descriptor are not looked at is a rule of this project: nothing of its profile
 -- uses them.
-unfoldable pub entry_demands : List Entry → Entry → Places → List Demand
-entry_demands pool (Utf8 text) places = record { at = places.second; rule = rules.Utf8; holds = is_modified_utf8 text } ∷ []
-entry_demands pool (Class name) places = named places.first (utf8_at pool name) is_class_entry_name
-entry_demands pool (Member kind class name_and_type) places =
-    indexed places.first (option_and_then as_class (slice_get pool class))
-    ++ indexed places.second (option_and_then as_name_and_type (slice_get pool name_and_type))
-entry_demands pool (NameAndType name descriptor) places =
-    named places.first (utf8_at pool name) is_name ++ indexed places.second (utf8_at pool descriptor)
-entry_demands pool (Integer n) places = []
-entry_demands pool Other places = []
-entry_demands pool Unusable places = []
+unfoldable pub entry_demands : List Entry → Entry → Positions → List Demand
+entry_demands pool (Utf8 text) positions = record { at = positions.second; rule = rules.Utf8; holds = is_modified_utf8 text } ∷ []
+entry_demands pool (Class name) positions = named positions.first (utf8_at pool name) is_class_entry_name
+entry_demands pool (Member kind class name_and_type) positions =
+    indexed positions.first (option_and_then as_class (slice_get pool class))
+    ++ indexed positions.second (option_and_then as_name_and_type (slice_get pool name_and_type))
+entry_demands pool (NameAndType name descriptor) positions =
+    named positions.first (utf8_at pool name) is_name ++ indexed positions.second (utf8_at pool descriptor)
+entry_demands pool (Integer n) positions = []
+entry_demands pool Other positions = []
+entry_demands pool Unusable positions = []
 
 -- the demands of the entry at an index
-unfoldable pub index_demands : List Entry → ℕ → Places → List Demand
-index_demands pool index places = of_some (slice_get pool index)
+unfoldable pub index_demands : List Entry → ℕ → Positions → List Demand
+index_demands pool index positions = of_some (slice_get pool index)
   where
     of_some : Option Entry → List Demand
     of_some None = []
-    of_some (Some entry) = entry_demands pool entry places
+    of_some (Some entry) = entry_demands pool entry positions
 
 -- the demands of a pool
 unfoldable pub pool_demands : PoolLayout → List Demand
-pool_demands layout = of_each (index_demands layout.pool) 0 layout.places
+pool_demands layout = of_each (index_demands layout.pool) 0 layout.positions

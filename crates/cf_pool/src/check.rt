@@ -8,7 +8,7 @@ ghost use Rattle.cf_text.specs.Names.{is_name};
 ghost use Rattle.cf_text.specs.Types.{is_field_descriptor};
 ghost use Rattle.cf_pool.specs.Pools.{entry_demands, index_demands, is_class_entry_name, named, pool_demands, utf8_at};
 
-use super::{Entry, Places, Pool, PoolLayout};
+use super::{Entry, Pool, PoolLayout, Positions};
 use cf_text::{
     ReadFault, Rule, begins_with, demand, is_class_name, is_modified_utf8, is_name,
     read_field_descriptor,
@@ -68,39 +68,57 @@ fn check_name(pool: &Pool, name: u16, at: usize) -> Result<(), ReadFault>
 }
 
 #[tactic(auto, unfolding(cf_text::specs::Demands::verdict, crate::specs::Pools::entry_demands, crate::specs::Pools::indexed), using(cf_text::proofs::Verdicts::verdicts))]
-fn check_entry(alloc: Global, pool: &Pool, entry: &Entry, places: Places) -> Result<(), ReadFault>
-    ensures { Gives (verdict (entry_demands pool.now entry.now places)) result }
+fn check_entry(
+    alloc: Global,
+    pool: &Pool,
+    entry: &Entry,
+    positions: Positions,
+) -> Result<(), ReadFault>
+    ensures { Gives (verdict (entry_demands pool.now entry.now positions)) result }
 {
     match entry {
-        Entry::Utf8(text) => demand(is_modified_utf8(text.as_bytes()), Rule::Utf8, places.second),
-        Entry::Class { name } => check_class_name(alloc, pool, *name, places.first),
+        Entry::Utf8(text) => demand(
+            is_modified_utf8(text.as_bytes()),
+            Rule::Utf8,
+            positions.second,
+        ),
+        Entry::Class { name } => check_class_name(alloc, pool, *name, positions.first),
         Entry::Member {
             class,
             name_and_type,
             ..
         } => {
-            demand(pool.is_class(*class), Rule::Index, places.first)?;
+            demand(pool.is_class(*class), Rule::Index, positions.first)?;
             demand(
                 pool.is_name_and_type(*name_and_type),
                 Rule::Index,
-                places.second,
+                positions.second,
             )
         }
         Entry::NameAndType { name, descriptor } => {
-            check_name(pool, *name, places.first)?;
-            demand(pool.utf8(*descriptor).is_some(), Rule::Index, places.second)
+            check_name(pool, *name, positions.first)?;
+            demand(
+                pool.utf8(*descriptor).is_some(),
+                Rule::Index,
+                positions.second,
+            )
         }
         Entry::Integer(_) | Entry::Other | Entry::Unusable => Ok(()),
     }
 }
 
 #[tactic(auto, unfolding(cf_text::specs::Demands::verdict, crate::specs::Pools::index_demands))]
-fn check_index(alloc: Global, pool: &Pool, index: usize, places: Places) -> Result<(), ReadFault>
-    ensures { Gives (verdict (index_demands pool.now index places)) result }
+fn check_index(
+    alloc: Global,
+    pool: &Pool,
+    index: usize,
+    positions: Positions,
+) -> Result<(), ReadFault>
+    ensures { Gives (verdict (index_demands pool.now index positions)) result }
 {
     match pool.entry(index) {
         None => Ok(()),
-        Some(entry) => check_entry(alloc, pool, entry, places),
+        Some(entry) => check_entry(alloc, pool, entry, positions),
     }
 }
 
@@ -112,8 +130,8 @@ fn check_index(alloc: Global, pool: &Pool, index: usize, places: Places) -> Resu
 pub fn check_pool(alloc: Global, layout: &PoolLayout) -> Result<(), ReadFault>
     ensures { Gives (verdict (pool_demands layout.now)) result }
 {
-    for (index, places) in layout.places.as_slice().iter().enumerate() {
-        check_index(alloc, &layout.pool, index, *places)?;
+    for (index, positions) in layout.positions.as_slice().iter().enumerate() {
+        check_index(alloc, &layout.pool, index, *positions)?;
     }
     Ok(())
 }

@@ -7,7 +7,7 @@ ghost use Rattle.cf_pool.specs.PoolFormat.{layout_format, pool_format};
 ghost use Rattle.cf_pool.specs.Pools.{cell_from, cells_from, class_entry, entry_from, integer_entry, layout_from, member_entry, name_and_type_entry, pool_from, shape_of, shaped_entry, skipped_entry, tagged, text_entry};
 
 use super::layout::{PlacedEntry, Shape};
-use super::{Entry, MemberKind, Places, Pool, PoolLayout};
+use super::{Entry, MemberKind, Pool, PoolLayout, Positions};
 use cf_text::{ReadFault, Row, Rule, read_i32, read_text, read_u8, read_u16, skip};
 use std::alloc::Global;
 
@@ -96,14 +96,14 @@ fn skipped_entry(
     ensures { Gives (skipped_entry len is_wide bytes.now at) result }
 {
     let to = skip(bytes, at, len)?;
-    let places = Places {
+    let positions = Positions {
         first: at,
         second: to,
     };
     Ok((
         PlacedEntry {
             entry: Entry::Other,
-            places,
+            positions,
             is_wide,
         },
         to,
@@ -162,7 +162,7 @@ fn entry_from(
     shaped_entry(alloc, shape, bytes, body)
 }
 
-// What stands at an index: nothing at index 0, and behind an entry of two indices.
+// What stands at an index: nothing at index 0, and after an entry of two indices.
 #[tactic(auto, unfolding(crate::specs::Pools::cell_from))]
 fn cell_from(
     alloc: Global,
@@ -188,27 +188,27 @@ fn cells_from(
     ensures { Gives (cells_from count true bytes.now at) result }
 {
     let mut entries = Vec::new(alloc);
-    let mut places = Vec::new(alloc);
-    let mut place = at;
+    let mut positions = Vec::new(alloc);
+    let mut position = at;
     let mut is_taken = true;
     for index in 0..count {
         let is_last = index == count - 1;
-        let (cell, after) = cell_from(alloc, is_taken, is_last, bytes, place)?;
+        let (cell, after) = cell_from(alloc, is_taken, is_last, bytes, position)?;
         entries.push(cell.entry)?;
-        places.push(cell.places)?;
+        positions.push(cell.positions)?;
         is_taken = cell.is_wide;
-        place = after;
+        position = after;
     }
     Ok((
         PoolLayout {
             pool: Pool::new(entries),
-            places: Row::new(places),
+            positions: Row::new(positions),
         },
-        place,
+        position,
     ))
 }
 
-// The reading behind `read_layout`, with the first fault.
+// The reading after `read_layout`, with the first fault.
 #[tactic(auto, unfolding(crate::specs::Pools::layout_from))]
 fn layout_from(alloc: Global, bytes: &[u8], at: usize) -> Result<(PoolLayout, usize), ReadFault>
     ensures { Gives (layout_from bytes.now at) result }
@@ -223,7 +223,7 @@ fn layout_from(alloc: Global, bytes: &[u8], at: usize) -> Result<(PoolLayout, us
     cells_from(alloc, count, bytes, first)
 }
 
-/// The constant pool from its count at `at` on, with the places of its entries, and the place behind
+/// The constant pool from its count at `at` on, with the positions of its entries, and the position after
 /// it. A cut item is Truncated at its first byte, an unknown tag is Tag, and a count of 0, or a Long
 /// or Double with no second index, is Index: the first of these in the order of bytes. Texts and the
 /// entries' own indices are not looked at: that is for `check_pool`.
@@ -238,7 +238,7 @@ pub fn read_layout(alloc: Global, bytes: &[u8], at: usize) -> Result<(PoolLayout
     layout_from(alloc, bytes, at)
 }
 
-// The reading behind `read_pool`, with the first fault.
+// The reading after `read_pool`, with the first fault.
 #[tactic(auto, unfolding(crate::specs::Pools::pool_from))]
 fn pool_from(alloc: Global, bytes: &[u8], at: usize) -> Result<(Pool, usize), ReadFault>
     ensures { Gives (pool_from bytes.now at) result }
@@ -247,7 +247,7 @@ fn pool_from(alloc: Global, bytes: &[u8], at: usize) -> Result<(Pool, usize), Re
     Ok((layout.pool, to))
 }
 
-/// The constant pool from its count at `at` on, and the place behind it. The faults are those of
+/// The constant pool from its count at `at` on, and the position after it. The faults are those of
 /// `read_layout`.
 pub fn read_pool(alloc: Global, bytes: &[u8], at: usize) -> Result<(Pool, usize), ReadFault>
     // What is read stands there, what stands there is read, and a fault is one of what stands there.
@@ -258,8 +258,8 @@ pub fn read_pool(alloc: Global, bytes: &[u8], at: usize) -> Result<(Pool, usize)
     pool_from(alloc, bytes, at)
 }
 
-/// No bytes have two readings as a constant pool: what stands from a place on is one pool, up to one
-/// place.
+/// No bytes have two readings as a constant pool: what stands from a position on is one pool, up to one
+/// position.
 pub fn one_pool()
     ensures { (bytes : List ℕ) (at : ℕ) (x y : List Entry × ℕ) → (pool_format bytes at).Stands at x.0 x.1
         → (pool_format bytes at).Stands at y.0 y.1 → x ≡ y }

@@ -5,7 +5,7 @@ ghost use Rattle.std.specs.Prelude.{◌≡◌, false};
 use super::{Entry, MemberKind, Pool};
 use cf_text::Row;
 
-/// What stands behind a tag (JVMS 4.4, table 4.4-A).
+/// What stands after a tag (JVMS 4.4, table 4.4-A).
 #[derive(Clone, Copy, Debug, PartialEq, Eq)]
 pub(crate) enum Shape {
     Utf8,
@@ -19,9 +19,9 @@ pub(crate) enum Shape {
     Wide,
 }
 
-/// Where an entry stands: the place behind its tag, and the place behind the first item there.
+/// Where an entry stands: the position after its tag, and the position after the first item there.
 #[derive(Clone, Copy, Debug, PartialEq, Eq)]
-pub struct Places {
+pub struct Positions {
     pub first: usize,
     pub second: usize,
 }
@@ -30,26 +30,26 @@ pub struct Places {
 #[derive(Debug, Drop)]
 pub(crate) struct PlacedEntry {
     pub entry: Entry,
-    pub places: Places,
+    pub positions: Positions,
     pub is_wide: bool,
 }
 
 impl PlacedEntry {
     // An entry of one index.
     pub(crate) fn new(entry: Entry, first: usize, second: usize) -> PlacedEntry
-        ensures { result ≡ record { entry = entry; places = record { first = first; second = second }; is_wide = false } }
+        ensures { result ≡ record { entry = entry; positions = record { first = first; second = second }; is_wide = false } }
     {
         PlacedEntry {
             entry,
-            places: Places { first, second },
+            positions: Positions { first, second },
             is_wide: false,
         }
     }
 }
 
-/// A constant pool with the places of its entries, by index.
+/// A constant pool with the positions of its entries, by index.
 #[derive(Debug, Drop)]
 pub struct PoolLayout {
     pub pool: Pool,
-    pub places: Row<Places>,
+    pub positions: Row<Positions>,
 }

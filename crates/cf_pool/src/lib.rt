@@ -9,7 +9,7 @@ pub use cf_text::{
 };
 pub use check::check_pool;
 pub use entries::{one_pool, read_layout, read_pool};
-pub use layout::{Places, PoolLayout};
+pub use layout::{PoolLayout, Positions};
 pub use pool::{Entry, MemberKind, MemberRef, NameAndTypeRef, Pool, look_ups};
 
 mod check;

@@ -19,10 +19,10 @@ use Rattle.cf_layout.specs.declared.items.Member.{Member}
 use Rattle.cf_layout.specs.declared.items.Layout.{Layout}
 use Rattle.cf_reader.specs.declared.attributes.Known.TheVariants as known
 use Rattle.cf_reader.specs.Rules.{has}
-use Rattle.cf_reader.specs.Profile.{count_in_profile, field_type_in_profile, method_name_in_profile, method_type_in_profile, super_in_profile}
+use Rattle.cf_reader.specs.Profile.{is_profile_type, method_name_in_profile, method_type_in_profile}
 use Rattle.cf_layout.specs.FileFormat.{LaysOut, attributes_format, body_format, file_format, member_format}
 use Rattle.cf_layout.specs.CodeFormat.{AreInsides, Insides}
-use Rattle.cf_reader.specs.Checks.{are_few, class_flag_demands, class_index_demands, demand, demands, field_demands, field_demands_if, field_descriptor_demands, field_flag_demands, field_known, field_type_demands, fields_demands, flag_demands, head_demands, interfaces_demands, is_initializer, method_attribute_demands, method_demands, method_demands_if, method_descriptor_demands, method_flag_demands, method_name_demands, method_type_demands, methods_demands, occurs, plain_demands, super_demands}
+use Rattle.cf_reader.specs.Checks.{are_few, class_flag_demands, class_index_demands, demand, demands, field_demands, field_demands_if, field_descriptor_demands, field_flag_demands, field_known, field_type_demands, fields_demands, flag_demands, head_demands, interfaces_demands, is_initializer, method_attribute_demands, method_demands, method_demands_if, method_descriptor_demands, method_flag_demands, method_name_demands, method_type_demands, methods_demands, occurs, plain_demands}
 use Rattle.cf_text.specs.Order.{Rises, number_of}
 use Rattle.cf_reader.specs.Spells.{AreDemands}
 use Rattle.cf_text.proofs.Spans.{Span, many_span, span_append, span_high, span_low, span_rises}
@@ -40,11 +40,11 @@ some_span low high None inside le span = le
 read_span : {A : Type 0} (Is : List ℕ → A → Type 0) (at : ℕ) (text : List ℕ) (r : Result A ReadFault) (inside : A → List Demand) → Tells r (spelling Is at text)
     → ((x : A) → Span (16 * at + 7) (16 * at + 13) (inside x)) → Span (16 * at + 6) (16 * at + 13) (of_read r inside)
 read_span Is at text (Ok x) inside tells span = span_low (16 * at + 6) (16 * at + 7) (16 * at + 13) (inside x) (omega arith) (span x)
-read_span Is at text (Err (Broken rule place)) inside tells span =
-    let fails = tells.fails rule place refl in
+read_span Is at text (Err (Broken rule position)) inside tells span =
+    let fails = tells.fails rule position refl in
     let is_rule : number_of rule ≡ 7 = ap number_of fails.0 in
-    let is_place : place ≡ at = fails.1 in
-    (omega (arith, is_rule, is_place), omega (arith, is_rule, is_place))
+    let is_position : position ≡ at = fails.1 in
+    (omega (arith, is_rule, is_position), omega (arith, is_rule, is_position))
 read_span Is at text (Err Memory) inside tells span = omega arith
 
 flags_span : (at : ℕ) (fit new in_profile : Bool) → Span (16 * at) (16 * at + 13) (flag_demands at fit new in_profile)
@@ -87,7 +87,7 @@ member_placed bytes at to member stands =
 field_type_span : (at : ℕ) (text : List ℕ) → Span (16 * at + 6) (16 * at + 13) (field_type_demands at text)
 unfolding field_type_demands
 field_type_span at text =
-    read_span IsFieldType at text (field_descriptor_of at text) (λ type. demand at rules.OutOfProfile (field_type_in_profile type)) (field_descriptor_tells at text) (λ type. (omega arith, omega arith))
+    read_span IsFieldType at text (field_descriptor_of at text) (λ type. demand at rules.OutOfProfile (is_profile_type type)) (field_descriptor_tells at text) (λ type. (omega arith, omega arith))
 
 field_descriptor_span : (pool : List Entry) (item : Item) → Span (16 * item.at) (16 * item.at + 13) (field_descriptor_demands pool item)
 unfolding field_descriptor_demands
@@ -167,22 +167,16 @@ class_index_span : (pool : List Entry) (item : Item) → Span (16 * item.at) (16
 unfolding class_index_demands
 class_index_span pool item = named_span item.at (class_at pool item.value) _
 
-super_span : (pool : List Entry) (item : Item) → Span (16 * item.at) (16 * item.at + 13) (super_demands pool item)
-unfolding super_demands
-super_span pool item =
-    let name = class_at pool item.value in
-    let inside : List ℕ → List Demand = λ name. demand item.at rules.OutOfProfile (super_in_profile name) in
-    span_append (16 * item.at) (16 * item.at + 6) (16 * item.at + 13) (class_index_demands pool item) (of_some name inside) (class_index_span pool item)
-    (some_span (16 * item.at + 6) (16 * item.at + 13) name inside (omega arith) (λ name. (omega arith, omega arith)))
+super_span : (pool : List Entry) (item : Item) → Span (16 * item.at) (16 * item.at + 13) (class_index_demands pool item)
+super_span pool item = span_high (16 * item.at) (16 * item.at + 6) (16 * item.at + 13) (class_index_demands pool item) (omega arith) (class_index_span pool item)
 
 class_flags_span : (item : Item) → Span (16 * item.at + 8) (16 * item.at + 13) (class_flag_demands item)
 unfolding class_flag_demands
 class_flags_span item = (omega arith, (omega arith, omega arith))
 
 -- a number of items, and the items
-counted_span : (at from to : ℕ) (holds : Bool) (ds : List Demand) → from ≡ at + 2 → Span (16 * from) (16 * to) ds
-    → Span (16 * at) (16 * to) (demand at rules.OutOfProfile holds ++ ds)
-counted_span at from to holds ds behind span = (omega arith, span_low (16 * at + 13) (16 * from) (16 * to) ds (omega (arith, behind)) span)
+counted_span : (at from to : ℕ) (ds : List Demand) → from ≡ at + 2 → Span (16 * from) (16 * to) ds → Span (16 * at) (16 * to) ds
+counted_span at from to ds behind span = span_low (16 * at) (16 * from) (16 * to) ds (omega (arith, behind)) span
 
 body_span : (bytes : List ℕ) (insides : Insides) → AreInsides bytes insides → (at to : ℕ) (layout : Layout) → (body_format bytes at).Stands at layout to
     → Span (16 * at) (16 * to) (demands insides layout)
@@ -216,23 +210,23 @@ body_span bytes insides are at to layout stands =
     let a1 = pool_span bytes at pool.1 pool.0 stands.1 in
     let a2 = span_low (16 * pool.1 + 6) (16 * flags.0.at + 8) (16 * flags.0.at + 13) (class_flag_demands flags.0) (omega (arith, f.at_is)) (class_flags_span flags.0) in
     let a3 = span_low (16 * flags.0.at + 13) (16 * this.0.at) (16 * this.0.at + 6) (class_index_demands entries this.0) (omega (arith, f.at_is, f.to_is, t.at_is)) (class_index_span entries this.0) in
-    let a4 = span_low (16 * this.0.at + 6) (16 * super.0.at) (16 * super.0.at + 13) (super_demands entries super.0) (omega (arith, t.at_is, t.to_is, s.at_is)) (super_span entries super.0) in
-    let head = span_append (16 * at) (16 * this.0.at + 6) (16 * super.0.at + 13) ((pool_demands pool.0 ++ class_flag_demands flags.0) ++ class_index_demands entries this.0) (super_demands entries super.0)
+    let a4 = span_low (16 * this.0.at + 6) (16 * super.0.at) (16 * super.0.at + 13) (class_index_demands entries super.0) (omega (arith, t.at_is, t.to_is, s.at_is)) (super_span entries super.0) in
+    let head = span_append (16 * at) (16 * this.0.at + 6) (16 * super.0.at + 13) ((pool_demands pool.0 ++ class_flag_demands flags.0) ++ class_index_demands entries this.0) (class_index_demands entries super.0)
     (span_append (16 * at) (16 * flags.0.at + 13) (16 * this.0.at + 6) (pool_demands pool.0 ++ class_flag_demands flags.0) (class_index_demands entries this.0)
     (span_append (16 * at) (16 * pool.1 + 6) (16 * flags.0.at + 13) (pool_demands pool.0) (class_flag_demands flags.0) a1 a2) a3) a4 in
-    let i = counted_span interface_count.0.at interface_count.1 interfaces.1 (count_in_profile interface_count.0.value) (of_each (λ index interface. class_index_demands entries interface) 0 interfaces.0)
+    let i = counted_span interface_count.0.at interface_count.1 interfaces.1 (of_each (λ index interface. class_index_demands entries interface) 0 interfaces.0)
     (omega (arith, ic.at_is, ic.to_is))
     (many_span _ (λ index interface. class_index_demands entries interface) (λ index from behind item there. let placed = item_placed bytes from behind item there in
     span_low (16 * from) (16 * item.at) (16 * behind) (class_index_demands entries item) (omega (arith, placed.at_is))
     (span_high (16 * item.at) (16 * item.at + 6) (16 * behind) (class_index_demands entries item) (omega (arith, placed.at_is, placed.to_is)) (class_index_span entries item)))
     interface_count.0.value interface_count.1 interfaces.1 0 interfaces.0 interfaces_are) in
-    let fs = counted_span field_count.0.at field_count.1 fields.1 (count_in_profile field_count.0.value) (of_each (field_demands insides entries class fields.0) 0 fields.0) (omega (arith, fc.at_is, fc.to_is))
+    let fs = counted_span field_count.0.at field_count.1 fields.1 (of_each (field_demands insides entries class fields.0) 0 fields.0) (omega (arith, fc.at_is, fc.to_is))
     (many_span _ (field_demands insides entries class fields.0) (field_span bytes entries insides are class fields.0) field_count.0.value field_count.1 fields.1 0 fields.0 fields_are) in
     let ms = many_span _ (method_demands insides entries class methods.0) (method_span bytes entries insides are class methods.0) method_count.0.value method_count.1 methods.1 0 methods.0 methods_are in
     let last = plain_span bytes entries insides are known.Nothing methods.1 attributes.1 attributes.0 attributes_are in
-    let front : List Demand = ((pool_demands pool.0 ++ class_flag_demands flags.0) ++ class_index_demands entries this.0) ++ super_demands entries super.0 in
-    let of_interfaces : List Demand = demand interface_count.0.at rules.OutOfProfile (count_in_profile interface_count.0.value) ++ of_each (λ index interface. class_index_demands entries interface) 0 interfaces.0 in
-    let of_fields : List Demand = demand field_count.0.at rules.OutOfProfile (count_in_profile field_count.0.value) ++ of_each (field_demands insides entries class fields.0) 0 fields.0 in
+    let front : List Demand = ((pool_demands pool.0 ++ class_flag_demands flags.0) ++ class_index_demands entries this.0) ++ class_index_demands entries super.0 in
+    let of_interfaces : List Demand = of_each (λ index interface. class_index_demands entries interface) 0 interfaces.0 in
+    let of_fields : List Demand = of_each (field_demands insides entries class fields.0) 0 fields.0 in
     let of_methods : List Demand = of_each (method_demands insides entries class methods.0) 0 methods.0 in
     let of_attributes : List Demand = plain_demands insides entries known.Nothing attributes.0 in
     let whole : Span (16 * at) (16 * attributes.1) ((((front ++ of_interfaces) ++ of_fields) ++ of_methods) ++ of_attributes) =

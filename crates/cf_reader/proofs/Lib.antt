@@ -5,3 +5,4 @@ pub mod SeenLaws
 pub mod PlacedLaws
 pub mod ClassOrder
 pub mod SpellsLaws
+pub mod DescriptorsKept

@@ -116,12 +116,12 @@ module _ (bytes : List ℕ) (pool : List Entry) (is_kind : Attribute → Bool) (
 -- ---- what stands inside them
 
 -- a fault of what fills an attribute
-filling_span : (bytes : List ℕ) (at to : ℕ) (a : Attribute) → IsPlaced bytes at to a → (rule : Rule) (place : ℕ) → rule ≡ rules.AttributeLength → place ≡ a.name.at
-    → Span (16 * at + 10) (16 * to) (record { at = place; rule = rule; holds = false } ∷ [])
-filling_span bytes at to a placed rule place rule_is place_is =
+filling_span : (bytes : List ℕ) (at to : ℕ) (a : Attribute) → IsPlaced bytes at to a → (rule : Rule) (position : ℕ) → rule ≡ rules.AttributeLength → position ≡ a.name.at
+    → Span (16 * at + 10) (16 * to) (record { at = position; rule = rule; holds = false } ∷ [])
+filling_span bytes at to a placed rule position rule_is position_is =
     let is_rule : number_of rule ≡ 10 = ap number_of rule_is in
-    let is_place : place ≡ at = place_is ∙ placed.at_is in
-    (omega (arith, is_rule, is_place), omega (arith, is_rule, is_place, placed.holds))
+    let is_position : position ≡ at = position_is ∙ placed.at_is in
+    (omega (arith, is_rule, is_position), omega (arith, is_rule, is_position, placed.holds))
 
 constant_by : (bytes : List ℕ) (pool : List Entry) (at to : ℕ) (a : Attribute) → IsPlaced bytes at to a → (r : Result Item ReadFault) → Finds (constant_look bytes a) r
     → Span (16 * at + 10) (16 * to) (of_read r (λ index. indexed index.at (integer_at pool index.value)))
@@ -132,14 +132,14 @@ constant_by bytes pool at to a placed (Ok index) finds =
     let end : item.1 ≡ a.end = eqb-true item.1 a.end finds.2.1 in
     let index_at : index.at ≡ a.body = ap (λ (i : Item). i.at) finds.2.2 ∙ item_is.at_is in
     (omega (arith, index_at, placed.body_is), omega (arith, index_at, placed.body_is, placed.end_is, item_is.to_is, end))
-constant_by bytes pool at to a placed (Err (Broken rule place)) finds = filling_span bytes at to a placed rule place finds.0 finds.1
+constant_by bytes pool at to a placed (Err (Broken rule position)) finds = filling_span bytes at to a placed rule position finds.0 finds.1
 constant_by bytes pool at to a placed (Err Memory) finds = absurd finds
 
 table_by : (bytes : List ℕ) (at to : ℕ) (a : Attribute) → IsPlaced bytes at to a → (whole : List ℕ) (r : Result (Unit {0}) ReadFault) → Finds (table_look whole a) r
     → Span (16 * at + 10) (16 * to) (of_read r (λ _. []))
 unfolding table_look
 table_by bytes at to a placed whole (Ok x) finds = omega (arith, placed.holds)
-table_by bytes at to a placed whole (Err (Broken rule place)) finds = filling_span bytes at to a placed rule place finds.0 finds.1
+table_by bytes at to a placed whole (Err (Broken rule position)) finds = filling_span bytes at to a placed rule position finds.0 finds.1
 table_by bytes at to a placed whole (Err Memory) finds = absurd finds
 
 -- a Code's head lies in front
@@ -155,7 +155,7 @@ head_ends bytes at head is =
       omega (arith, stack.end, locals.end, size.end, size.inside),
     )
 
--- and its attributes up to its end, behind the count of its handlers
+-- and its attributes up to its end, after the count of its handlers
 pub record IsPlacedCode (bytes : List ℕ) (from end : ℕ) (code : CodeLayout) : Type 0 where
   pub attributes_at : ℕ
   pub count_at : from ≤ code.handler_count.at
@@ -213,15 +213,15 @@ module _ (whole : List ℕ) (pool : List Entry) (insides : Insides) (are : AreIn
         span_low (16 * code.handler_count.at + 13) (16 * inside.attributes_at) (16 * to) (attribute_demands pool (is_known pool known.StackMapTable) (known_demands insides pool known.StackMapTable) false code.attributes) (omega (arith, inside.behind))
             (subst (λ (e : ℕ). Span (16 * inside.attributes_at) (16 * e) (attribute_demands pool (is_known pool known.StackMapTable) (known_demands insides pool known.StackMapTable) false code.attributes)) placed.end_is attributes),
       )
-  code_by at to a placed (Err (Broken rule place)) finds =
+  code_by at to a placed (Err (Broken rule position)) finds =
       elim finds [
-        | inl failed ↦ filling_span whole at to a placed rule place failed.0 failed.1
+        | inl failed ↦ filling_span whole at to a placed rule position failed.0 failed.1
         | inr later ↦ elim later.2 [
           | inl wrong ↦ (let ends = head_ends (take a.end whole) a.body later.0 later.1 in
               let is_rule : number_of rule ≡ 9 = ap number_of wrong.1 in
-              let is_place : place ≡ a.body + 4 = wrong.2 ∙ ends.0 in
-              (omega (arith, is_rule, is_place, placed.body_is), omega (arith, is_rule, is_place, placed.body_is, placed.end_is, ends.2, length-take a.end whole)))
-          | inr behind ↦ filling_span whole at to a placed rule place behind.2.0 behind.2.1
+              let is_position : position ≡ a.body + 4 = wrong.2 ∙ ends.0 in
+              (omega (arith, is_rule, is_position, placed.body_is), omega (arith, is_rule, is_position, placed.body_is, placed.end_is, ends.2, length-take a.end whole)))
+          | inr behind ↦ filling_span whole at to a placed rule position behind.2.0 behind.2.1
         ]
       ]
   code_by at to a placed (Err Memory) finds = absurd finds

@@ -25,7 +25,7 @@ use Rattle.cf_reader.specs.declared.attributes.Known.TheVariants as known
 use Rattle.cf_reader.specs.Rules.{has}
 use Rattle.cf_layout.specs.Codes.{code_of, constant_of}
 use Rattle.cf_layout.specs.ReadInsides.{insides_of}
-use Rattle.cf_reader.specs.Checks.{attribute_demands, class_index_demands, code_demands, demands, field_demands, field_demands_if, field_descriptor_demands, field_known, field_type_demands, fields_demands, first_named, head_demands, interfaces_demands, is_initializer, is_known, is_named, known_demands, method_attribute_demands, method_demands, method_demands_if, method_descriptor_demands, method_name_demands, method_type_demands, methods_demands, one_attribute, plain_demands, super_demands}
+use Rattle.cf_reader.specs.Checks.{attribute_demands, class_index_demands, code_demands, demands, field_demands, field_demands_if, field_descriptor_demands, field_known, field_type_demands, fields_demands, first_named, head_demands, interfaces_demands, is_initializer, is_known, is_named, known_demands, method_attribute_demands, method_demands, method_demands_if, method_descriptor_demands, method_name_demands, method_type_demands, methods_demands, one_attribute, plain_demands}
 use Rattle.cf_reader.specs.Builds.{class_from, class_name_of, code_from, code_in, constant_attribute, constant_from, each, field_from, method_from}
 use Rattle.cf_reader.specs.Says.{EachSays, SaysClass, SaysClassName, SaysCode, SaysConstant, SaysField, SaysMethod}
 use Rattle.cf_layout.proofs.CodeLaws.{code_tells, constant_tells}
@@ -227,20 +227,20 @@ unfolding class_index_demands
 class_name_says pool item h = named_is item.at (class_at pool item.value) _ h
 
 pub class_says : (bytes : List ℕ) (layout : Layout) → verdict (demands (insides_of bytes) layout) ≡ ok → (class : ClassFile) × SaysClass bytes layout class
-unfolding demands head_demands super_demands interfaces_demands fields_demands methods_demands
+unfolding demands head_demands interfaces_demands fields_demands methods_demands
 class_says bytes layout e =
     let pool = layout.pool.pool in
     let a = parts _ (plain_demands (insides_of bytes) pool known.Nothing layout.attributes) (all_hold (demands (insides_of bytes) layout) e) in
     let b = parts _ (methods_demands (insides_of bytes) layout) a.0 in
     let c = parts _ (fields_demands (insides_of bytes) layout) b.0 in
     let d = parts (head_demands layout) (interfaces_demands layout) c.0 in
-    let s = parts _ (super_demands pool layout.superclass) d.0 in
+    let s = parts _ (class_index_demands pool layout.superclass) d.0 in
     let t = parts _ (class_index_demands pool layout.this) s.0 in
     let name = class_name_says pool layout.this t.1 in
-    let superclass = class_name_says pool layout.superclass (parts (class_index_demands pool layout.superclass) _ s.1).0 in
-    let interfaces = each_is (λ index interface. class_index_demands pool interface) (SaysClassName pool) (λ index item. class_name_says pool item) 0 layout.interfaces d.1.1 in
+    let superclass = class_name_says pool layout.superclass s.1 in
+    let interfaces = each_is (λ index interface. class_index_demands pool interface) (SaysClassName pool) (λ index item. class_name_says pool item) 0 layout.interfaces d.1 in
     let fields = each_is (field_demands (insides_of bytes) pool layout.flags.value layout.fields) (SaysField bytes pool) (field_says bytes pool layout.flags.value layout.fields) 0 layout.fields
-    c.1.1 in
+    c.1 in
     let methods = each_is (method_demands (insides_of bytes) pool layout.flags.value layout.methods) (SaysMethod bytes pool) (method_says bytes pool layout.flags.value layout.methods) 0 layout.methods b.1 in (
       record {
         pool = pool;

@@ -104,12 +104,3 @@ module _ (pool : List Entry) (member : Member) where
   pub none-tells : HasNone → (members : List Member) → true ≡ not (occurs pool members member)
   unfolding occurs
   none-tells none members = sym (ap not (none_along (same_member pool member) (unlike none) members))
-
-  pub none-put : HasNone → (seen : Seen) (members : List Member) → AreSeen pool seen members → AreSeen pool seen (members ++ member ∷ [])
-  none-put none seen members are key =
-      are key ∙ or_none (list_any (is_keyed pool key) members) ∙ ap (λ (x : Bool). list_any (is_keyed pool key) members || (x || false)) (sym (unkeyed none key))
-      ∙ sym (list_any-append (is_keyed pool key) members (member ∷ []))
-    where
-      or_none : (b : Bool) → b ≡ (b || (false || false))
-      or_none true = refl
-      or_none false = refl

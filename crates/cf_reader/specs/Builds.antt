@@ -24,7 +24,7 @@ use Rattle.cf_layout.specs.ReadInsides.{insides_of}
 use Rattle.cf_reader.specs.Checks.{demands, first_named}
 use Rattle.cf_reader.specs.Rules.{has}
 
--- what an index at a place names
+-- what an index at a position names
 abbrev pub needed : {A : Type 0} → ℕ → Option A → Result A ReadFault
 needed at (Some x) = Ok x
 needed at None = Err (Broken rules.Index at)

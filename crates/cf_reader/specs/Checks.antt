@@ -1,11 +1,12 @@
--- What is demanded of a class file whose layout is known, in the order of bytes, and at one place in the
+-- What is demanded of a class file whose layout is known, in the order of bytes, and at one position in the
 -- order of the rules' numbers (JVMS 4.1, 4.5, 4.6, 4.7, 4.8): the second pass. A demand that another one
 -- covers is not made: flags that the profile leaves out need not go together, a Code of a wrong length need
 -- not fill its attribute, and a second attribute of a known kind is not entered.
-use Rattle.std.specs.Prelude.{ℕ, Bool, false, ◌==◌, ◌&&◌, ◌||◌, ◌+◌, nat_le, not, List, [], ◌∷◌, ◌++◌, take, Option, Some, None, is_some, is_none, codes, if◌then◌else◌, sum_by}
+use Rattle.std.specs.Prelude.{ℕ, Bool, false, ◌==◌, ◌&&◌, ◌||◌, ◌+◌, nat_le, not, List, [], ◌∷◌, ◌++◌, take, Option, Some, None, is_some, is_none, codes, if◌then◌else◌, sum_by, true, Result, Ok, Err}
 use Rattle.std.specs.List.{list_any}
 use Rattle.std.specs.Str.{bytes_eq}
 use Rattle.cf_text.specs.declared.fault.Rule.{Rule}
+use Rattle.cf_text.specs.declared.fault.ReadFault.{ReadFault}
 use Rattle.cf_text.specs.declared.fault.Rule.TheVariants as rules
 use Rattle.cf_pool.specs.declared.pool.Entry.{Entry}
 use Rattle.cf_text.specs.declared.types.ElementType.{ElementType}
@@ -24,7 +25,7 @@ use Rattle.cf_reader.specs.declared.attributes.Known.{Known}
 use Rattle.cf_reader.specs.declared.attributes.Known.TheVariants as known
 use Rattle.cf_layout.specs.CodeFormat.{Insides}
 use Rattle.cf_reader.specs.Rules.{class_flags_fit, field_flags_fit, has, method_flags_fit}
-use Rattle.cf_reader.specs.Profile.{class_flags_in_profile, count_in_profile, field_flags_in_profile, field_type_in_profile, handlers_in_profile, method_flags_in_profile, method_name_in_profile, method_type_in_profile, super_in_profile}
+use Rattle.cf_reader.specs.Profile.{class_flags_in_profile, field_flags_in_profile, handlers_in_profile, is_int_type, is_profile_type, method_flags_in_profile, method_name_in_profile, method_type_in_profile}
 
 -- one demand
 abbrev pub demand : ℕ → Rule → Bool → List Demand
@@ -112,9 +113,15 @@ flag_demands at fit new in_profile =
 
 -- ---- fields
 
--- a descriptor that says int or boolean
+-- what is read as a type is int or boolean; a descriptor that is at fault itself says nothing of that
+abbrev pub is_int_read : Result FieldType ReadFault → Bool
+is_int_read (Ok type) = is_int_type type
+is_int_read (Err fault) = true
+
+-- and so does an index that names no text
 unfoldable pub is_int_text : Option (List ℕ) → Bool
-is_int_text found = text_is (codes "I") found || text_is (codes "Z") found
+is_int_text None = true
+is_int_text (Some text) = is_int_read (field_descriptor_of 0 text)
 
 unfoldable pub field_flag_demands : List Entry → ℕ → Bool → Member → List Demand
 field_flag_demands pool class new field =
@@ -124,7 +131,7 @@ field_flag_demands pool class new field =
 
 -- the demands of a descriptor's text
 unfoldable pub field_type_demands : ℕ → List ℕ → List Demand
-field_type_demands at text = of_read (field_descriptor_of at text) (λ type. demand at rules.OutOfProfile (field_type_in_profile type))
+field_type_demands at text = of_read (field_descriptor_of at text) (λ type. demand at rules.OutOfProfile (is_profile_type type))
 
 unfoldable pub field_descriptor_demands : List Entry → Item → List Demand
 field_descriptor_demands pool item =
@@ -217,25 +224,16 @@ class_flag_demands flags =
 unfoldable pub class_index_demands : List Entry → Item → List Demand
 class_index_demands pool item = named item.at (class_at pool item.value) (λ name. not (begins_with 91 name))
 
-unfoldable pub super_demands : List Entry → Item → List Demand
-super_demands pool item =
-    class_index_demands pool item
-    ++ of_some (class_at pool item.value) (λ name. demand item.at rules.OutOfProfile (super_in_profile name))
-
 unfoldable pub head_demands : Layout → List Demand
 head_demands layout =
     pool_demands layout.pool ++ class_flag_demands layout.flags ++ class_index_demands layout.pool.pool layout.this
-    ++ super_demands layout.pool.pool layout.superclass
+    ++ class_index_demands layout.pool.pool layout.superclass
 
 unfoldable pub interfaces_demands : Layout → List Demand
-interfaces_demands layout =
-    demand layout.interface_count.at rules.OutOfProfile (count_in_profile layout.interface_count.value)
-    ++ of_each (λ index interface. class_index_demands layout.pool.pool interface) 0 layout.interfaces
+interfaces_demands layout = of_each (λ index interface. class_index_demands layout.pool.pool interface) 0 layout.interfaces
 
 unfoldable pub fields_demands : Insides → Layout → List Demand
-fields_demands insides layout =
-    demand layout.field_count.at rules.OutOfProfile (count_in_profile layout.field_count.value)
-    ++ of_each (field_demands insides layout.pool.pool layout.flags.value layout.fields) 0 layout.fields
+fields_demands insides layout = of_each (field_demands insides layout.pool.pool layout.flags.value layout.fields) 0 layout.fields
 
 unfoldable pub methods_demands : Insides → Layout → List Demand
 methods_demands insides layout = of_each (method_demands insides layout.pool.pool layout.flags.value layout.methods) 0 layout.methods

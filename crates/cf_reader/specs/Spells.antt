@@ -55,19 +55,19 @@ pub record Spells (bytes : List ℕ) (layout : Layout) (class : ClassFile) : Typ
 abbrev pub IsInProfile : List ℕ → Layout → Type 0
 IsInProfile bytes layout = (asked : List Demand) × AreDemands bytes layout asked × AreInProfile asked
 
--- the first of the demands that does not hold is of this rule, at this place
+-- the first of the demands that does not hold is of this rule, at this position
 unfoldable pub Breaks : List Demand → Rule → ℕ → Type 0
 Breaks [] rule at = ⊥
 Breaks (d ∷ ds) rule at = ((d.holds ≡ false) × (rule ≡ d.rule) × (at ≡ d.at)) ⊎ ((d.holds ≡ true) × Breaks ds rule at)
 
 -- how bytes are at fault, one constructor a way
 pub data WayToFail (bytes : List ℕ) (rule : Rule) (at : ℕ) : Type 0 where
-  -- they lay out no file: what stands before the place is laid out, and what stands there is not
+  -- they lay out no file: what stands before the position is laid out, and what stands there is not
   no_layout : (file_format bytes).Fails 0 rule at → WayToFail bytes rule at
   -- they lay out a file, and of what is demanded of it this is the first that does not hold
   no_demand : (layout : Layout) (asked : List Demand) → LaysOut bytes layout → AreDemands bytes layout asked → Breaks asked rule at → WayToFail bytes rule at
 
--- a fault names a rule that fails at its place; want of memory says nothing
+-- a fault names a rule that fails at its position; out of memory says nothing
 abbrev pub IsAtFault : List ℕ → ReadFault → Type 0
 IsAtFault bytes (Broken rule at) = WayToFail bytes rule at
 IsAtFault bytes Memory = Unit {0}

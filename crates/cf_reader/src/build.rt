@@ -1,16 +1,16 @@
 //! What a layout says, once its demands hold.
 
+ghost use Rattle.cf_reader.specs.Descriptors.{AreFieldTypes, AreMethodTypes};
 ghost use Rattle.std.specs.Prelude.{◌≡◌, ◌≤◌, length};
 ghost use Rattle.cf_text.specs.Reading.{Gives};
 ghost use Rattle.cf_layout.specs.CodeLengths.{IsShort};
 ghost use Rattle.cf_reader.specs.Builds.{class_from, class_name_of, code_from, code_in, constant_attribute, constant_from, each, field_from, method_from, table_in, text_of};
 
 use super::attributes::{CODE, CONSTANT_VALUE, STACK_MAP_TABLE, first_named};
+use super::descriptors::{FieldTypes, MethodTypes};
 use super::{ClassFile, Code, Field, Flags, Method};
 use cf_layout::{Attribute, CodeLayout, Item, Layout, Member, between, read_code, read_constant};
-use cf_pool::{
-    Pool, ReadFault, Row, Rule, Table, Text, read_field_descriptor, read_method_descriptor,
-};
+use cf_pool::{Pool, ReadFault, Row, Rule, Table, Text};
 use std::alloc::Global;
 
 fn wrong_index(at: usize) -> ReadFault
@@ -93,13 +93,16 @@ fn method_from(
     alloc: Global,
     bytes: &[u8],
     pool: &Pool,
+    known: &mut MethodTypes,
     method: &Member,
 ) -> Result<Method, ReadFault>
-    ensures { Gives (method_from bytes.now pool.now method.now) result }
+    requires known { AreMethodTypes pool.now known.old }
+    ensures value { Gives (method_from bytes.now pool.now method.now) result }
+    ensures known { AreMethodTypes pool.now known.new }
 {
     let name = text_of(pool, method.name)?;
     let descriptor = text_of(pool, method.descriptor)?;
-    let types = read_method_descriptor(alloc, descriptor.as_bytes(), method.descriptor.at)?;
+    let types = known.read(alloc, pool, method.descriptor, &descriptor)?;
     let attribute = first_named(pool, CODE, method.attributes.as_slice());
     let code = code_from(alloc, bytes, pool, attribute)?;
     let flags = Flags {
@@ -147,12 +150,20 @@ fn constant_attribute(pool: &Pool, field: &Member) -> Option<Attribute>
 }
 
 #[tactic(auto, unfolding(crate::specs::Builds::field_from))]
-fn field_from(alloc: Global, bytes: &[u8], pool: &Pool, field: &Member) -> Result<Field, ReadFault>
-    ensures { Gives (field_from bytes.now pool.now field.now) result }
+fn field_from(
+    alloc: Global,
+    bytes: &[u8],
+    pool: &Pool,
+    known: &mut FieldTypes,
+    field: &Member,
+) -> Result<Field, ReadFault>
+    requires known { AreFieldTypes pool.now known.old }
+    ensures value { Gives (field_from bytes.now pool.now field.now) result }
+    ensures known { AreFieldTypes pool.now known.new }
 {
     let name = text_of(pool, field.name)?;
     let descriptor = text_of(pool, field.descriptor)?;
-    let kind = read_field_descriptor(alloc, descriptor.as_bytes(), field.descriptor.at)?;
+    let kind = known.read(alloc, pool, field.descriptor, &descriptor)?;
     let flags = Flags {
         bits: field.flags.value,
     };
@@ -187,9 +198,10 @@ fn fields_from(
     requires few { length items.now ≤ 65535 }
     ensures { Gives (each (field_from bytes.now pool.now) items.now) result }
 {
+    let mut known = FieldTypes::new(alloc);
     let mut fields = Vec::new(alloc);
     for item in items {
-        let field = field_from(alloc, bytes, pool, item)?;
+        let field = field_from(alloc, bytes, pool, &mut known, item)?;
         fields.push(field)?;
     }
     Ok(Table::new(fields))
@@ -204,9 +216,10 @@ fn methods_from(
     requires few { length items.now ≤ 65535 }
     ensures { Gives (each (method_from bytes.now pool.now) items.now) result }
 {
+    let mut known = MethodTypes::new(alloc);
     let mut methods = Vec::new(alloc);
     for item in items {
-        let method = method_from(alloc, bytes, pool, item)?;
+        let method = method_from(alloc, bytes, pool, &mut known, item)?;
         methods.push(method)?;
     }
     Ok(Table::new(methods))

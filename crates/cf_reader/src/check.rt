@@ -4,12 +4,12 @@ ghost use Rattle.std.specs.Prelude.{◌≡◌};
 ghost use Rattle.cf_text.specs.Reading.{Gives};
 ghost use Rattle.cf_text.specs.Demands.{of_each, verdict};
 ghost use Rattle.cf_layout.specs.ReadInsides.{insides_of};
-ghost use Rattle.cf_reader.specs.Checks.{class_flag_demands, class_index_demands, demands, fields_demands, head_demands, interfaces_demands, methods_demands, super_demands};
+ghost use Rattle.cf_reader.specs.Checks.{class_flag_demands, class_index_demands, demands, fields_demands, head_demands, interfaces_demands, methods_demands};
 
 use super::Flags;
 use super::attributes::Known;
 use super::members::{check_each_field, check_each_method};
-use super::profile::{class_flags_in_profile, count_in_profile, super_in_profile};
+use super::profile::class_flags_in_profile;
 use super::rules::class_flags_fit;
 use cf_layout::{Item, Layout};
 use cf_pool::{Pool, ReadFault, Rule, begins_with, check_pool, demand};
@@ -43,17 +43,6 @@ fn check_class_index(pool: &Pool, item: Item) -> Result<(), ReadFault>
     demand(!begins_with(name.as_bytes(), b'['), Rule::Utf8, item.at)
 }
 
-#[tactic(auto, unfolding(crate::specs::Checks::super_demands, crate::specs::Checks::class_index_demands, cf_text::specs::Demands::verdict, cf_pool::specs::Pools::named))]
-fn check_super(pool: &Pool, item: Item) -> Result<(), ReadFault>
-    ensures { result ≡ verdict (super_demands pool.now item) }
-{
-    check_class_index(pool, item)?;
-    match pool.class(item.value) {
-        Some(name) => demand(super_in_profile(name), Rule::OutOfProfile, item.at),
-        None => Ok(()),
-    }
-}
-
 fn check_each_interface(pool: &Pool, interfaces: &[Item]) -> Result<(), ReadFault>
     ensures { Gives (verdict (of_each (λ index interface. class_index_demands pool.now interface) 0 interfaces.now)) result }
 {
@@ -72,15 +61,13 @@ fn check_head(alloc: Global, layout: &Layout) -> Result<(), ReadFault>
     check_pool(alloc, &layout.pool)?;
     check_class_flags(layout.flags)?;
     check_class_index(pool, layout.this)?;
-    check_super(pool, layout.superclass)
+    check_class_index(pool, layout.superclass)
 }
 
 #[tactic(auto, unfolding(crate::specs::Checks::interfaces_demands, cf_text::specs::Demands::verdict))]
 fn check_interfaces(layout: &Layout) -> Result<(), ReadFault>
     ensures { Gives (verdict (interfaces_demands layout.now)) result }
 {
-    let count = layout.interface_count;
-    demand(count_in_profile(count.value), Rule::OutOfProfile, count.at)?;
     check_each_interface(&layout.pool.pool, layout.interfaces.as_slice())
 }
 
@@ -88,8 +75,6 @@ fn check_interfaces(layout: &Layout) -> Result<(), ReadFault>
 fn check_fields(alloc: Global, bytes: &[u8], layout: &Layout) -> Result<(), ReadFault>
     ensures { Gives (verdict (fields_demands (insides_of bytes.now) layout.now)) result }
 {
-    let count = layout.field_count;
-    demand(count_in_profile(count.value), Rule::OutOfProfile, count.at)?;
     let class = Flags {
         bits: layout.flags.value,
     };

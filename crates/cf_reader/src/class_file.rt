@@ -2,8 +2,10 @@
 
 use super::Flags;
 use cf_pool::{FieldType, MethodDescriptor, Pool, Row, Table, Text};
+use cf_text::Shared;
 
-/// A class or interface (JVMS 4.1).
+/// A class or interface (JVMS 4.1). Texts and types that members share stand once in memory, so that a
+/// class takes a few times as many bytes as its file.
 #[derive(Debug, Drop)]
 pub struct ClassFile {
     pub pool: Pool,
@@ -24,7 +26,7 @@ pub struct Field {
     pub name: Text,
     pub descriptor: Text,
     /// What the descriptor says.
-    pub kind: FieldType,
+    pub kind: Shared<FieldType>,
     /// The value of a static field's ConstantValue attribute (JVMS 4.7.2).
     pub constant: Option<i32>,
 }
@@ -36,7 +38,7 @@ pub struct Method {
     pub name: Text,
     pub descriptor: Text,
     /// What the descriptor says.
-    pub types: MethodDescriptor,
+    pub types: Shared<MethodDescriptor>,
     /// The Code attribute: `None` for an abstract method.
     pub code: Option<Code>,
 }
@@ -48,6 +50,6 @@ pub struct Code {
     pub max_locals: u16,
     /// The bytes of the instructions, 1 to 65,535.
     pub bytes: Table<u8>,
-    /// The bytes of the StackMapTable attribute behind its length (JVMS 4.7.4), where there is one.
+    /// The bytes of the StackMapTable attribute after its length (JVMS 4.7.4), where there is one.
     pub stack_map_table: Option<Row<u8>>,
 }

@@ -6,6 +6,7 @@ pub use cf_pool::{
     Descriptor, ElementType, Entry, FieldType, MemberKind, MethodDescriptor, Numbered, Pool,
     ReadFault, Row, Rule, Table, Text,
 };
+pub use cf_text::Shared;
 pub use class_file::{ClassFile, Code, Field, Method};
 pub use flags::Flags;
 pub use read::{demands_rise, one_reading, read_class};
@@ -14,6 +15,7 @@ mod attributes;
 mod build;
 mod check;
 mod class_file;
+mod descriptors;
 mod flags;
 mod members;
 mod profile;

@@ -1,25 +1,28 @@
 //! What is demanded of fields and methods (JVMS 4.5, 4.6).
 
-ghost use Rattle.std.specs.Prelude.{◌≡◌, ◌≤◌};
+ghost use Rattle.std.specs.Prelude.{◌≡◌, ◌≤◌, Some};
 ghost use Rattle.cf_text.specs.Reading.{Gives};
+ghost use Rattle.cf_text.specs.Types.{field_descriptor_of};
 ghost use Rattle.cf_text.specs.Demands.{of_each, verdict};
 ghost use Rattle.cf_text.specs.Names.{is_method_name, is_name};
 ghost use Rattle.cf_pool.specs.Pools.{named, utf8_at};
 ghost use Rattle.cf_layout.specs.ReadInsides.{insides_of};
-ghost use Rattle.cf_reader.specs.Checks.{are_few, field_demands, field_demands_if, field_descriptor_demands, field_flag_demands, field_known, field_type_demands, flag_demands, is_initializer, is_int_text, method_demands, method_demands_if, method_descriptor_demands, method_flag_demands, method_name_demands, method_type_demands, words_of};
+ghost use Rattle.cf_reader.specs.Descriptors.{AreFieldTypes, AreMethodTypes};
+ghost use Rattle.cf_reader.specs.Checks.{are_few, field_demands, field_demands_if, field_descriptor_demands, field_flag_demands, field_known, field_type_demands, flag_demands, is_initializer, is_int_read, is_int_text, method_demands, method_demands_if, method_descriptor_demands, method_flag_demands, method_name_demands, method_type_demands, words_of};
 
 use super::Flags;
 use super::attributes::{CODE, CONSTANT_VALUE, Known, check_method_attributes, first_named};
+use super::descriptors::{FieldTypes, MethodTypes};
 use super::profile::{
-    field_flags_in_profile, field_type_in_profile, method_flags_in_profile, method_name_in_profile,
-    method_type_in_profile,
+    field_flags_in_profile, is_int_type, is_profile_type, method_flags_in_profile,
+    method_name_in_profile, method_type_in_profile,
 };
 use super::rules::{field_flags_fit, method_flags_fit};
 use super::seen::Seen;
 use cf_layout::{Item, Member};
 use cf_pool::{
-    ElementType, FieldType, INITIALIZER, Pool, ReadFault, Rule, demand, is_method_name, is_name,
-    read_field_descriptor, read_method_descriptor,
+    ElementType, FieldType, INITIALIZER, Pool, ReadFault, Rule, Text, demand, is_method_name,
+    is_name,
 };
 use std::alloc::Global;
 
@@ -33,29 +36,65 @@ fn check_flags(at: usize, fit: bool, is_new: bool, is_in_profile: bool) -> Resul
 }
 
 #[tactic(auto, unfolding(crate::specs::Checks::is_int_text))]
-fn is_int_text(pool: &Pool, descriptor: u16) -> bool
-    ensures { result ≡ is_int_text (utf8_at pool.now descriptor) }
+fn is_int_read(
+    alloc: Global,
+    pool: &Pool,
+    known: &mut FieldTypes,
+    descriptor: u16,
+    text: &Text,
+) -> Result<bool, ReadFault>
+    requires named { utf8_at pool.now descriptor ≡ Some text.now }
+    requires known { AreFieldTypes pool.now known.old }
+    ensures value { Gives (Ok (is_int_read (field_descriptor_of 0 text.now))) result }
+    ensures known { AreFieldTypes pool.now known.new }
+{
+    let item = Item {
+        at: 0,
+        value: descriptor,
+    };
+    match known.read(alloc, pool, item, text) {
+        Ok(kind) => Ok(is_int_type(&kind)),
+        Err(ReadFault::Memory) => Err(ReadFault::Memory),
+        Err(ReadFault::Broken { .. }) => Ok(true),
+    }
+}
+
+// Whether a static field may have this descriptor, or the descriptor is at fault itself.
+#[tactic(auto, unfolding(crate::specs::Checks::is_int_text))]
+fn is_int_text(
+    alloc: Global,
+    pool: &Pool,
+    known: &mut FieldTypes,
+    descriptor: u16,
+) -> Result<bool, ReadFault>
+    requires known { AreFieldTypes pool.now known.old }
+    ensures value { Gives (Ok (is_int_text (utf8_at pool.now descriptor))) result }
+    ensures known { AreFieldTypes pool.now known.new }
 {
     match pool.utf8(descriptor) {
-        Some(text) => text.is(b"I") || text.is(b"Z"),
-        None => false,
+        Some(text) => is_int_read(alloc, pool, known, descriptor, text),
+        None => Ok(true),
     }
 }
 
 #[tactic(auto, unfolding(crate::specs::Checks::field_flag_demands))]
 fn check_field_flags(
+    alloc: Global,
     pool: &Pool,
+    known: &mut FieldTypes,
     class: Flags,
     is_new: bool,
     field: &Member,
 ) -> Result<(), ReadFault>
-    ensures { result ≡ verdict (field_flag_demands pool.now class.bits is_new field.now) }
+    requires known { AreFieldTypes pool.now known.old }
+    ensures value { Gives (verdict (field_flag_demands pool.now class.bits is_new field.now)) result }
+    ensures known { AreFieldTypes pool.now known.new }
 {
     let flags = Flags {
         bits: field.flags.value,
     };
     let has_constant = first_named(pool, CONSTANT_VALUE, field.attributes.as_slice()).is_some();
-    let is_int = is_int_text(pool, field.descriptor.value);
+    let is_int = is_int_text(alloc, pool, known, field.descriptor.value)?;
     let fit = field_flags_fit(class.has(Flags::INTERFACE), flags);
     let is_in_profile = field_flags_in_profile(is_int, has_constant, flags);
     check_flags(field.flags.at, fit, is_new, is_in_profile)
@@ -75,16 +114,32 @@ fn check_field_name(pool: &Pool, name: Item) -> Result<(), ReadFault>
 }
 
 #[tactic(auto, unfolding(crate::specs::Checks::field_type_demands, cf_text::specs::Demands::verdict))]
-fn check_field_type(alloc: Global, at: usize, text: &[u8]) -> Result<(), ReadFault>
-    ensures { Gives (verdict (field_type_demands at text.now)) result }
+fn check_field_type(
+    alloc: Global,
+    pool: &Pool,
+    known: &mut FieldTypes,
+    descriptor: Item,
+    text: &Text,
+) -> Result<(), ReadFault>
+    requires named { utf8_at pool.now descriptor.value ≡ Some text.now }
+    requires known { AreFieldTypes pool.now known.old }
+    ensures value { Gives (verdict (field_type_demands descriptor.at text.now)) result }
+    ensures known { AreFieldTypes pool.now known.new }
 {
-    let kind = read_field_descriptor(alloc, text, at)?;
-    demand(field_type_in_profile(&kind), Rule::OutOfProfile, at)
+    let kind = known.read(alloc, pool, descriptor, text)?;
+    demand(is_profile_type(&kind), Rule::OutOfProfile, descriptor.at)
 }
 
 #[tactic(auto, unfolding(crate::specs::Checks::field_descriptor_demands, cf_text::specs::Demands::verdict, cf_pool::specs::Pools::indexed))]
-fn check_field_descriptor(alloc: Global, pool: &Pool, descriptor: Item) -> Result<(), ReadFault>
-    ensures { Gives (verdict (field_descriptor_demands pool.now descriptor)) result }
+fn check_field_descriptor(
+    alloc: Global,
+    pool: &Pool,
+    known: &mut FieldTypes,
+    descriptor: Item,
+) -> Result<(), ReadFault>
+    requires known { AreFieldTypes pool.now known.old }
+    ensures value { Gives (verdict (field_descriptor_demands pool.now descriptor)) result }
+    ensures known { AreFieldTypes pool.now known.new }
 {
     let Some(text) = pool.utf8(descriptor.value) else {
         return Err(ReadFault::Broken {
@@ -92,7 +147,7 @@ fn check_field_descriptor(alloc: Global, pool: &Pool, descriptor: Item) -> Resul
             at: descriptor.at,
         });
     };
-    check_field_type(alloc, descriptor.at, text.as_bytes())
+    check_field_type(alloc, pool, known, descriptor, text)
 }
 
 #[tactic(auto, unfolding(crate::specs::Checks::field_known))]
@@ -111,15 +166,18 @@ fn check_field(
     alloc: Global,
     bytes: &[u8],
     pool: &Pool,
+    known: &mut FieldTypes,
     class: Flags,
     is_new: bool,
     field: &Member,
 ) -> Result<(), ReadFault>
-    ensures { Gives (verdict (field_demands_if (insides_of bytes.now) pool.now class.bits is_new field.now)) result }
+    requires known { AreFieldTypes pool.now known.old }
+    ensures known { AreFieldTypes pool.now known.new }
+    ensures value { Gives (verdict (field_demands_if (insides_of bytes.now) pool.now class.bits is_new field.now)) result }
 {
-    check_field_flags(pool, class, is_new, field)?;
+    check_field_flags(alloc, pool, known, class, is_new, field)?;
     check_field_name(pool, field.name)?;
-    check_field_descriptor(alloc, pool, field.descriptor)?;
+    check_field_descriptor(alloc, pool, known, field.descriptor)?;
     let known = field_known(Flags {
         bits: field.flags.value,
     });
@@ -137,9 +195,10 @@ pub(crate) fn check_each_field(
     ensures { Gives (verdict (of_each (field_demands (insides_of bytes.now) pool.now class.bits fields.now) 0 fields.now)) result }
 {
     let mut seen = Seen::new(alloc);
+    let mut known = FieldTypes::new(alloc);
     for field in fields {
         let is_new = seen.add(pool, field)?;
-        check_field(alloc, bytes, pool, class, is_new, field)?;
+        check_field(alloc, bytes, pool, &mut known, class, is_new, field)?;
     }
     Ok(())
 }
@@ -219,23 +278,39 @@ fn are_few(is_static: bool, parameters: &[FieldType]) -> bool
 #[tactic(auto, unfolding(crate::specs::Checks::method_type_demands, cf_text::specs::Demands::verdict))]
 fn check_method_type(
     alloc: Global,
-    at: usize,
+    pool: &Pool,
+    known: &mut MethodTypes,
+    descriptor: Item,
     is_static: bool,
     is_initializer: bool,
-    text: &[u8],
+    text: &Text,
 ) -> Result<(), ReadFault>
-    ensures { Gives (verdict (method_type_demands at is_static is_initializer text.now)) result }
+    requires named { utf8_at pool.now descriptor.value ≡ Some text.now }
+    requires known { AreMethodTypes pool.now known.old }
+    ensures value { Gives (verdict (method_type_demands descriptor.at is_static is_initializer text.now)) result }
+    ensures known { AreMethodTypes pool.now known.new }
 {
-    let kind = read_method_descriptor(alloc, text, at)?;
+    let kind = known.read(alloc, pool, descriptor, text)?;
     let fits = are_few(is_static, kind.parameters.as_slice())
         && (!is_initializer || kind.result.is_none());
-    demand(fits, Rule::Descriptor, at)?;
-    demand(method_type_in_profile(&kind), Rule::OutOfProfile, at)
+    demand(fits, Rule::Descriptor, descriptor.at)?;
+    demand(
+        method_type_in_profile(&kind),
+        Rule::OutOfProfile,
+        descriptor.at,
+    )
 }
 
 #[tactic(auto, unfolding(crate::specs::Checks::method_descriptor_demands, cf_text::specs::Demands::verdict, cf_pool::specs::Pools::indexed))]
-fn check_method_descriptor(alloc: Global, pool: &Pool, method: &Member) -> Result<(), ReadFault>
-    ensures { Gives (verdict (method_descriptor_demands pool.now method.now)) result }
+fn check_method_descriptor(
+    alloc: Global,
+    pool: &Pool,
+    known: &mut MethodTypes,
+    method: &Member,
+) -> Result<(), ReadFault>
+    requires known { AreMethodTypes pool.now known.old }
+    ensures known { AreMethodTypes pool.now known.new }
+    ensures value { Gives (verdict (method_descriptor_demands pool.now method.now)) result }
 {
     let descriptor = method.descriptor;
     let Some(text) = pool.utf8(descriptor.value) else {
@@ -249,10 +324,12 @@ fn check_method_descriptor(alloc: Global, pool: &Pool, method: &Member) -> Resul
     };
     check_method_type(
         alloc,
-        descriptor.at,
+        pool,
+        known,
+        descriptor,
         flags.has(Flags::STATIC),
         is_initializer(pool, method.name),
-        text.as_bytes(),
+        text,
     )
 }
 
@@ -261,15 +338,18 @@ fn check_method(
     alloc: Global,
     bytes: &[u8],
     pool: &Pool,
+    known: &mut MethodTypes,
     class: Flags,
     is_new: bool,
     method: &Member,
 ) -> Result<(), ReadFault>
-    ensures { Gives (verdict (method_demands_if (insides_of bytes.now) pool.now class.bits is_new method.now)) result }
+    requires known { AreMethodTypes pool.now known.old }
+    ensures known { AreMethodTypes pool.now known.new }
+    ensures value { Gives (verdict (method_demands_if (insides_of bytes.now) pool.now class.bits is_new method.now)) result }
 {
     check_method_flags(pool, class, is_new, method)?;
     check_method_name(pool, method.name)?;
-    check_method_descriptor(alloc, pool, method)?;
+    check_method_descriptor(alloc, pool, known, method)?;
     check_method_attributes(alloc, bytes, pool, method.attributes.as_slice())
 }
 
@@ -284,9 +364,10 @@ pub(crate) fn check_each_method(
     ensures { Gives (verdict (of_each (method_demands (insides_of bytes.now) pool.now class.bits methods.now) 0 methods.now)) result }
 {
     let mut seen = Seen::new(alloc);
+    let mut known = MethodTypes::new(alloc);
     for method in methods {
         let is_new = seen.add(pool, method)?;
-        check_method(alloc, bytes, pool, class, is_new, method)?;
+        check_method(alloc, bytes, pool, &mut known, class, is_new, method)?;
     }
     Ok(())
 }

@@ -1,14 +1,11 @@
-//! This project's profile: what it leaves out of the standard. Today it takes classes of static
-//! methods over ints and booleans that extend java/lang/Object.
+//! This project's profile: what it leaves out of the standard.
 
 ghost use Rattle.std.specs.Prelude.{◌≡◌};
 ghost use Rattle.std.specs.List.{list_all};
-ghost use Rattle.cf_reader.specs.Profile.{class_flags_in_profile, count_in_profile, field_flags_in_profile, field_type_in_profile, handlers_in_profile, is_int_type, method_flags_in_profile, method_name_in_profile, method_type_in_profile, super_in_profile};
+ghost use Rattle.cf_reader.specs.Profile.{class_flags_in_profile, field_flags_in_profile, handlers_in_profile, is_int_type, is_profile_type, method_flags_in_profile, method_name_in_profile, method_type_in_profile};
 
 use super::Flags;
 use cf_pool::{CLASS_INITIALIZER, ElementType, FieldType, MethodDescriptor, Text};
-
-const OBJECT: &[u8] = b"java/lang/Object";
 
 #[tactic(auto, unfolding(crate::specs::Profile::class_flags_in_profile))]
 pub(crate) fn class_flags_in_profile(flags: Flags) -> bool
@@ -17,23 +14,8 @@ pub(crate) fn class_flags_in_profile(flags: Flags) -> bool
     !flags.has(Flags::ANNOTATION) && !flags.has(Flags::ENUM)
 }
 
-#[tactic(auto, unfolding(crate::specs::Profile::super_in_profile))]
-pub(crate) fn super_in_profile(name: &Text) -> bool
-    ensures { result ≡ super_in_profile name.now }
-{
-    name.as_bytes() == OBJECT
-}
-
-// Of interfaces, and of fields.
-#[tactic(auto, unfolding(crate::specs::Profile::count_in_profile))]
-pub(crate) fn count_in_profile(count: u16) -> bool
-    ensures { result ≡ count_in_profile count }
-{
-    count == 0
-}
-
 #[tactic(auto, unfolding(crate::specs::Profile::is_int_type))]
-fn is_int_type(kind: &FieldType) -> bool
+pub(crate) fn is_int_type(kind: &FieldType) -> bool
     ensures { result ≡ is_int_type kind.now }
 {
     kind.dimensions == 0 && matches!(kind.element, ElementType::Int | ElementType::Boolean)
@@ -44,14 +26,23 @@ pub(crate) fn field_flags_in_profile(is_int: bool, has_constant: bool, flags: Fl
     ensures { result ≡ field_flags_in_profile is_int has_constant flags.bits }
 {
     !flags.has(Flags::PROTECTED)
+        && !flags.has(Flags::ENUM)
         && (!flags.has(Flags::STATIC) || (flags.has(Flags::FINAL) && is_int && has_constant))
 }
 
-#[tactic(auto, unfolding(crate::specs::Profile::field_type_in_profile))]
-pub(crate) fn field_type_in_profile(kind: &FieldType) -> bool
-    ensures { result ≡ field_type_in_profile kind.now }
+// Of fields, parameters and results: int, boolean, a class, an array of ints.
+#[tactic(auto, unfolding(crate::specs::Profile::is_profile_type))]
+pub(crate) fn is_profile_type(kind: &FieldType) -> bool
+    ensures { result ≡ is_profile_type kind.now }
 {
-    is_int_type(kind)
+    match kind.dimensions {
+        0 => matches!(
+            kind.element,
+            ElementType::Int | ElementType::Boolean | ElementType::Class(_)
+        ),
+        1 => matches!(kind.element, ElementType::Int),
+        _ => false,
+    }
 }
 
 #[tactic(auto, unfolding(crate::specs::Profile::method_flags_in_profile))]
@@ -63,7 +54,6 @@ pub(crate) fn method_flags_in_profile(class: Flags, flags: Flags) -> bool
         && !flags.has(Flags::NATIVE)
         && (!class.has(Flags::INTERFACE)
             || (flags.has(Flags::PUBLIC) && flags.has(Flags::ABSTRACT)))
-        && flags.has(Flags::STATIC)
 }
 
 #[tactic(auto, unfolding(crate::specs::Profile::method_name_in_profile))]
@@ -73,11 +63,11 @@ pub(crate) fn method_name_in_profile(name: &Text) -> bool
     name.as_bytes() != CLASS_INITIALIZER
 }
 
-fn are_int_types(kinds: &[FieldType]) -> bool
-    ensures { result ≡ list_all is_int_type kinds.now }
+fn are_profile_types(kinds: &[FieldType]) -> bool
+    ensures { result ≡ list_all is_profile_type kinds.now }
 {
     for kind in kinds {
-        if !is_int_type(kind) {
+        if !is_profile_type(kind) {
             return false;
         }
     }
@@ -90,9 +80,9 @@ pub(crate) fn method_type_in_profile(kind: &MethodDescriptor) -> bool
 {
     let result_fits = match &kind.result {
         None => true,
-        Some(result) => is_int_type(result),
+        Some(result) => is_profile_type(result),
     };
-    are_int_types(kind.parameters.as_slice()) && result_fits
+    are_profile_types(kind.parameters.as_slice()) && result_fits
 }
 
 #[tactic(auto, unfolding(crate::specs::Profile::handlers_in_profile))]

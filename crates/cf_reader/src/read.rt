@@ -18,20 +18,20 @@ use std::alloc::Global;
 
 /// The class file that the bytes spell (JVMS 4.1), in this project's profile.
 ///
-/// A refusal names a rule and the place of the item that breaks it. There are two passes. The first
+/// A refusal names a rule and the position of the item that breaks it. There are two passes. The first
 /// reads the layout and enters no attribute: TooLarge at the first byte too many, before all else;
 /// then the first in the order of bytes of Truncated, at the first byte of the cut item; Magic;
 /// Version; Tag; Index, where the constant pool's count is 0 or its last entry wants two indices; and
-/// Trailing, at the first byte behind the class. The second pass answers the first item at fault in
+/// Trailing, at the first byte after the class. The second pass answers the first item at fault in
 /// the order of bytes, and at one item the rule of the lowest number: Utf8, Index, Descriptor, Flags,
-/// CodeLength, AttributeLength, Duplicate, OutOfProfile. Want of memory may come in place of any
+/// CodeLength, AttributeLength, Duplicate, OutOfProfile. Memory may have run out instead of any
 /// answer.
 pub fn read_class(alloc: Global, bytes: &[u8]) -> Result<ClassFile, ReadFault>
     // What is read is spelled, and in profile.
     ensures found { IfOk result (λ class. (layout : Layout) × Spells bytes.now layout class × IsInProfile bytes.now layout) }
     // What is spelled, and in profile, is read, unless memory runs out.
     ensures only { (layout : Layout) (class : ClassFile) → Spells bytes.now layout class → IsInProfile bytes.now layout → Gives (Ok class) result }
-    // A fault names a rule that fails at its place.
+    // A fault names a rule that fails at its position.
     ensures fault { IfErr result (IsAtFault bytes.now) }
     // Which fault it is: the first.
     ensures exact { Gives (reading_of bytes.now) result }
@@ -39,7 +39,7 @@ pub fn read_class(alloc: Global, bytes: &[u8]) -> Result<ClassFile, ReadFault>
     reading_of(alloc, bytes)
 }
 
-// The reading behind `read_class`, with the first fault.
+// The reading after `read_class`, with the first fault.
 #[tactic(auto, unfolding(crate::specs::Builds::reading_of))]
 fn reading_of(alloc: Global, bytes: &[u8]) -> Result<ClassFile, ReadFault>
     ensures { Gives (reading_of bytes.now) result }
@@ -54,8 +54,8 @@ pub fn one_reading()
     ensures { (bytes : List ℕ) (l m : Layout) (c d : ClassFile) → Spells bytes l c → Spells bytes m d → c ≡ d }
 {}
 
-/// What is demanded of bytes that are laid out is asked in the order of bytes, and at one place in the
-/// order of the rules' numbers: so the first demand that does not hold is at the first place at fault,
+/// What is demanded of bytes that are laid out is asked in the order of bytes, and at one position in the
+/// order of the rules' numbers: so the first demand that does not hold is at the first position at fault,
 /// and of the rules that are broken there it is the one of the lowest number.
 pub fn demands_rise()
     ensures { (bytes : List ℕ) (layout : Layout) (asked : List Demand) → LaysOut bytes layout → AreDemands bytes layout asked → Rises asked }

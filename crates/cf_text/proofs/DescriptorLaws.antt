@@ -40,7 +40,7 @@ name_ends begins (b ∷ name) rest h =
     let parts = and_parts (cond (eqb b 47) (not begins) (is_name_byte b)) (are_parts (eqb b 47) name) h in
     rw (no_semicolon begins b parts.0) (ap (λ (n : ℕ). n + 1) (name_ends (eqb b 47) name rest parts.1) ∙ add-one (length name))
 
--- the front of a text up to its first semicolon, and what stands behind it
+-- the front of a text up to its first semicolon, and what stands after it
 parted : (b : Bool) (c : ℕ) (text : List ℕ) → eqb c 59 ≡ b → cond b 0 (name_length text + 1) < suc (length text)
     → (name_length text < length text → text ≡ take (name_length text) text ++ 59 ∷ drop (name_length text + 1) text)
     → c ∷ text ≡ take (cond b 0 (name_length text + 1)) (c ∷ text) ++ 59 ∷ drop (cond b 0 (name_length text + 1) + 1) (c ∷ text)
@@ -108,7 +108,7 @@ plain_takes at b (Some element) rest x is e =
     let same : ◌≡◌ {A = ElementType × List ℕ} (element, rest) x = cc in
     subst (λ (y : ElementType × List ℕ). IsElementType (b ∷ []) y.0 × (rest ≡ y.1)) same (letter_takes b element is, refl)
 
--- a text begins with a spelling of what is read, and behind it stands the rest
+-- a text begins with a spelling of what is read, and after it stands the rest
 abbrev Front : {A : Type 0} → (List ℕ → A → Type 0) → List ℕ → A × List ℕ → Type 0
 Front Is text x = (front : List ℕ) × Is front x.0 × (text ≡ front ++ x.1)
 
@@ -210,7 +210,7 @@ field_again at front type rest is =
 abbrev with_first : FieldType → List FieldType × List ℕ → Result (List FieldType × List ℕ) ReadFault
 with_first first others = Ok (first ∷ others.0, others.1)
 
--- types behind one another, and a closing bracket
+-- types after one another, and a closing bracket
 abbrev Closed : List ℕ → List FieldType × List ℕ → Type 0
 Closed text x = (front : List ℕ) × AreFieldTypes front x.0 × (text ≡ front ++ (41 ∷ x.1))
 
@@ -446,17 +446,17 @@ malformed_method_descriptor at text =
 -- a reading of a text that takes what is spelled, and nothing else
 module _ {A : Type 0} (Is : List ℕ → A → Type 0) (at : ℕ) (text : List ℕ) (reading : Result A ReadFault) (takes : (x : A) → reading ≡ Ok x → Is text x) (again : (x : A) → Is text x → reading ≡ Ok x)
     (one_way : Malformed at reading) where
-  spelling_fails : (rule : Rule) (place : ℕ) → reading ≡ Err (Broken rule place) → (spelling Is at text).Fails rule place
-  spelling_fails rule place e =
-      let same : Broken rule place ≡ Broken rules.Descriptor at = one_way (Broken rule place) e in
+  spelling_fails : (rule : Rule) (position : ℕ) → reading ≡ Err (Broken rule position) → (spelling Is at text).Fails rule position
+  spelling_fails rule position e =
+      let same : Broken rule position ≡ Broken rules.Descriptor at = one_way (Broken rule position) e in
       (cc, cc, λ x is. spelled x (sym (again x is) ∙ e))
     where
-      spelled : (x : A) → answered x ≡ Err (Broken rule place) → ⊥
+      spelled : (x : A) → answered x ≡ Err (Broken rule position) → ⊥
       spelled x h = cc
 
-  spelling_refuses : (r : Result A ReadFault) → reading ≡ r → (rule : Rule) (place : ℕ) → (spelling Is at text).Fails rule place → r ≡ Err (Broken rule place)
-  spelling_refuses (Ok x) read rule place h = absurd (h.2 x (takes x read))
-  spelling_refuses (Err fault) read rule place h = ap Err (one_way fault read ∙ broken_is (sym h.0) (sym h.1))
+  spelling_refuses : (r : Result A ReadFault) → reading ≡ r → (rule : Rule) (position : ℕ) → (spelling Is at text).Fails rule position → r ≡ Err (Broken rule position)
+  spelling_refuses (Ok x) read rule position h = absurd (h.2 x (takes x read))
+  spelling_refuses (Err fault) read rule position h = ap Err (one_way fault read ∙ broken_is (sym h.0) (sym h.1))
 
   spelling_ample : reading ≡ Err Memory → ⊥
   spelling_ample e = apart (one_way Memory e)

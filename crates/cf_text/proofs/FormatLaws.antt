@@ -78,7 +78,7 @@ pub run_reads : (n : ℕ) (bytes : List ℕ) (from : ℕ) → Reads (bytes_at n 
 run_reads n bytes from =
     item_reads n bytes from (take n (drop from bytes)) (run_format n bytes) (λ to item. (item, refl)) (λ x to h. h) (λ rule at cut. cut) (λ rule at cut. cut)
 
--- ---- one behind the other
+-- ---- one after the other
 
 pub done_reads : {A : Type 0} (a : A) (from : ℕ) → Reads (answered (a, from)) from (done a)
 done_reads {A} a from = record {
@@ -220,7 +220,7 @@ faults reads (Ok x) given = tt
 faults reads (Err (Broken rule at)) given = reads.fails (Broken rule at) given
 faults reads (Err Memory) given = tt
 
--- what stands is one value, up to one place
+-- what stands is one value, up to one position
 pub one_stands : {A : Type 0} {reading : Result (A × ℕ) ReadFault} {from : ℕ} {format : Format A} → Reads reading from format → (x y : A × ℕ)
     → format.Stands from x.0 x.1 → format.Stands from y.0 y.1 → x ≡ y
 one_stands {A} {reading} reads x y a b = same x y (sym (reads.again x a) ∙ reads.again y b)

@@ -19,17 +19,6 @@ with_front-push front first (Err fault) = refl
 pub with_front-end : {A R : Type 0} (front : List A) (rest : R) → with_front front (Ok ([], rest)) ≡ Ok (front, rest)
 with_front-end front rest = ap (λ items. Ok (items, rest)) (append-nil front)
 
--- a step that fails is how all of it fails
-pub with_front-fails : {A B R : Type 0} (fault : ReadFault) (front : List A) (step : Result B ReadFault) (others : B → Result (List A × R) ReadFault)
-    → Fails step fault → Fails (with_front front (step >>= others)) fault
-with_front-fails (Broken rule at) front step others fails = rw fails refl
-with_front-fails Memory front step others fails = tt
-
--- a fault of the one reading is a fault of an equal one
-pub Fails-along : {A : Type 0} (fault : ReadFault) (one other : Result A ReadFault) → one ≡ other → Fails one fault → Fails other fault
-Fails-along (Broken rule at) one other same fails = rw (← same) fails
-Fails-along Memory one other same fails = tt
-
 -- Of so many values, `done` were read, and stand in front.
 module _ {A : Type 0} (read : ℕ → Result (A × ℕ) ReadFault) (front : List A) (count done at : ℕ) (all : Result (List A × ℕ) ReadFault)
     (so_far : with_front front (many read (count - done) at) ≡ all) where
@@ -45,9 +34,9 @@ module _ {A : Type 0} (read : ℕ → Result (A × ℕ) ReadFault) (front : List
   -- the next one fails, and so do all
   pub many-fails : (fault : ReadFault) → done < count → Fails (read at) fault → Fails all fault
   unfolding many
-  many-fails (Broken rule place) more fails =
+  many-fails (Broken rule position) more fails =
       let left : count - done ≡ suc (count - (done + 1)) = omega arith in
-      let one : with_front front (many read (count - done) at) ≡ Err (Broken rule place) = rw (left, fails) refl in
+      let one : with_front front (many read (count - done) at) ≡ Err (Broken rule position) = rw (left, fails) refl in
       sym so_far ∙ one
   many-fails Memory more fails = tt
 

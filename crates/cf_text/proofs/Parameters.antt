@@ -28,9 +28,9 @@ module _ (front : List FieldType) (most done at : ℕ) (text : List ℕ) (all : 
 
   pub parameters-fail : (fault : ReadFault) → done < most → begins_with 41 text ≡ false → Fails (field_type_of at text) fault → Fails all fault
   unfolding parameters_of
-  parameters-fail (Broken rule place) more unclosed fails =
+  parameters-fail (Broken rule position) more unclosed fails =
       let left : most - done ≡ suc (most - (done + 1)) = omega arith in
-      let one : with_front front (parameters_of (most - done) at text) ≡ Err (Broken rule place) = rw (left, unclosed, fails) refl in
+      let one : with_front front (parameters_of (most - done) at text) ≡ Err (Broken rule position) = rw (left, unclosed, fails) refl in
       sym so_far ∙ one
   parameters-fail Memory more unclosed fails = tt
 

@@ -1,4 +1,4 @@
--- Demands in order, between two bounds: places and rules' numbers as one number.
+-- Demands in order, between two bounds: positions and rules' numbers as one number.
 use Rattle.std.proofs.Common.{◌≡◌, ◌+◌, ◌*◌, ◌<◌, ◌≤◌, ◌⊎◌, ℕ, zero, suc, List, [], ◌∷◌, ◌++◌, sym, subst, inl, inr, arith}
 use Rattle.std.specs.List.{AllByRecursion}
 use Rattle.std.proofs.lemmas.Bool.{cases_lt}
@@ -8,7 +8,7 @@ use Rattle.cf_text.specs.Demands.{Demand, of_each}
 use Rattle.cf_text.specs.Formats.{Format, many_format}
 use Rattle.cf_text.specs.Order.{IsBefore, Rises, number_of}
 
--- a demand's place and its rule's number
+-- a demand's position and its rule's number
 abbrev pub key : Demand → ℕ
 key d = 16 * d.at + number_of d.rule
 
@@ -66,7 +66,7 @@ pub span_rises : (low high : ℕ) (ds : List Demand) → Span low high ds → Ri
 span_rises low high [] span = tt
 span_rises low high (d ∷ ds) span = (all_after d (key d) high ds (omega_le (key d)) span.1, span_rises (key d) high ds span.1)
 
--- one demand behind the other, of what stands behind each other
+-- one demand after the other, of what stands after each other
 pub many_span : {A : Type 0} (format : ℕ → Format A) (demands : ℕ → A → List Demand)
     → ((index at to : ℕ) (x : A) → (format at).Stands at x to → Span (16 * at) (16 * to) (demands index x)) → (n at to index : ℕ) (xs : List A)
     → (many_format format n at).Stands at xs to → Span (16 * at) (16 * to) (of_each demands index xs)

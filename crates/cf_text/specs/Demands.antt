@@ -4,7 +4,7 @@ use Rattle.cf_text.specs.declared.fault.Rule.{Rule}
 use Rattle.cf_text.specs.declared.fault.ReadFault.{ReadFault}
 use Rattle.cf_text.specs.declared.fault.ReadFault.TheVariants.{Broken, Memory}
 
--- the item at this place keeps this rule
+-- the item at this position keeps this rule
 pub record Demand : Type 0 where
   pub at : ℕ
   pub rule : Rule

@@ -1,4 +1,4 @@
--- Formats: what bytes spell between two places, and how they fail to, as relations by cases. A format is apart from
+-- Formats: what bytes spell between two positions, and how they fail to, as relations by cases. A format is apart from
 -- reading: it says what stands, and not how it is looked for.
 use Rattle.std.specs.Prelude.{◌≡◌, ◌≤◌, ◌<◌, ◌+◌, ℕ, zero, suc, Bool, true, false, ◌⊎◌, List, [], ◌∷◌, length, take, drop, Result, Ok, Err}
 use Rattle.byteorder.specs.Endian.{big_number}
@@ -7,8 +7,8 @@ use Rattle.cf_text.specs.declared.fault.Rule.TheVariants.{Truncated}
 use Rattle.cf_text.specs.declared.fault.ReadFault.{ReadFault}
 use Rattle.cf_text.specs.declared.fault.ReadFault.TheVariants.{Broken, Memory}
 
--- Stands from x to: from this place up to that one, the bytes spell x.
--- Fails from rule at: from this place on, the bytes spell nothing, since this rule is broken at that place.
+-- Stands from x to: from this position up to that one, the bytes spell x.
+-- Fails from rule at: from this position on, the bytes spell nothing, since this rule is broken at that position.
 pub record Format (A : Type 0) : Type 1 where
   pub Stands : ℕ → A → ℕ → Type 0
   pub Fails : ℕ → Rule → ℕ → Type 0
@@ -45,7 +45,7 @@ done a = record {
   Fails = λ from rule at. ⊥;
 }
 
--- One format, and behind it one that depends on what stood, and on where that ended. It fails where the one fails, or
+-- One format, and after it one that depends on what stood, and on where that ended. It fails where the one fails, or
 -- where the one stands and the other fails.
 infixl 10 ◌>>=◌
 abbrev pub ◌>>=◌ : {A B : Type 0} → Format A → (A × ℕ → Format B) → Format B
@@ -54,31 +54,31 @@ abbrev pub ◌>>=◌ : {A B : Type 0} → Format A → (A × ℕ → Format B) �
   Fails = λ from rule at. one.Fails from rule at ⊎ ((x : A × ℕ) × one.Stands from x.0 x.1 × (other x).Fails x.1 rule at);
 }
 
--- a rule that is kept at a place, and a format behind it
+-- a rule that is kept at a position, and a format after it
 abbrev pub asking : {A : Type 0} → Bool → Rule → ℕ → Format A → Format A
 asking holds rule at format = record {
   Stands = λ from x to. (holds ≡ true) × format.Stands from x to;
-  Fails = λ from broken place. ((holds ≡ false) × (broken ≡ rule) × (place ≡ at)) ⊎ ((holds ≡ true) × format.Fails from broken place);
+  Fails = λ from broken position. ((holds ≡ false) × (broken ≡ rule) × (position ≡ at)) ⊎ ((holds ≡ true) × format.Fails from broken position);
 }
 
--- nothing that stands: a rule is broken at a place
+-- nothing that stands: a rule is broken at a position
 abbrev pub refused : {A : Type 0} → Rule → ℕ → Format A
 refused rule at = record {
   Stands = λ from x to. ⊥;
-  Fails = λ from broken place. (broken ≡ rule) × (place ≡ at);
+  Fails = λ from broken position. (broken ≡ rule) × (position ≡ at);
 }
 
--- so many of one format, which may name the place where it begins, one behind the other
+-- so many of one format, which may name the position where it begins, one after the other
 abbrev pub many_format : {A : Type 0} → (ℕ → Format A) → ℕ → ℕ → Format (List A)
 many_format format zero at = done []
 many_format format (suc n) at = format at >>= λ first. many_format format n first.1 >>= λ others. done (first.0 ∷ others.0)
 
--- a fault of what stands from a place on: want of memory says nothing of it
+-- a fault of what stands from a position on: out of memory says nothing of it
 abbrev pub FailsBy : {A : Type 0} → Format A → ℕ → ReadFault → Type 0
 FailsBy format from (Broken rule at) = format.Fails from rule at
 FailsBy format from Memory = Unit {0}
 
--- A reading from a place on gives what stands there, and nothing else; it refuses what the format fails for, and
+-- A reading from a position on gives what stands there, and nothing else; it refuses what the format fails for, and
 -- nothing else; and it asks for no memory.
 pub record Reads {A : Type 0} (reading : Result (A × ℕ) ReadFault) (from : ℕ) (format : Format A) : Type 0 where
   pub takes : (x : A × ℕ) → reading ≡ Ok x → format.Stands from x.0 x.1

@@ -1,4 +1,4 @@
--- Looks: what is found where no place behind it is of interest, and how it fails to be, as relations by cases. They
+-- Looks: what is found where no position after it is of interest, and how it fails to be, as relations by cases. They
 -- stand beside formats, and are put together of them.
 use Rattle.std.specs.Prelude.{◌≡◌, ℕ, Bool, true, false, ◌⊎◌, List, Option, Some, None, Result, Ok, Err}
 use Rattle.cf_text.specs.declared.fault.Rule.{Rule}
@@ -6,12 +6,12 @@ use Rattle.cf_text.specs.declared.fault.ReadFault.{ReadFault}
 use Rattle.cf_text.specs.declared.fault.ReadFault.TheVariants.{Broken, Memory}
 use Rattle.cf_text.specs.Formats.{Format, IsCut, IsItem}
 
--- Is x: x is what is found. Fails rule at: nothing is, since this rule is broken at that place.
+-- Is x: x is what is found. Fails rule at: nothing is, since this rule is broken at that position.
 pub record Look (A : Type 0) : Type 1 where
   pub Is : A → Type 0
   pub Fails : Rule → ℕ → Type 0
 
--- what stands from a place on, with where it ends
+-- what stands from a position on, with where it ends
 abbrev pub standing : {A : Type 0} → Format A → ℕ → Look (A × ℕ)
 standing format from = record {
   Is = λ x. format.Stands from x.0 x.1;
@@ -41,11 +41,11 @@ abbrev pub ◌>>=◌ : {A B : Type 0} → Look A → (A → Look B) → Look B
   Fails = λ rule at. one.Fails rule at ⊎ ((x : A) × one.Is x × (other x).Fails rule at);
 }
 
--- a rule is kept at a place
+-- a rule is kept at a position
 abbrev pub keeping : Bool → Rule → ℕ → Look (Unit {0})
 keeping holds rule at = record {
   Is = λ x. holds ≡ true;
-  Fails = λ broken place. (holds ≡ false) × (broken ≡ rule) × (place ≡ at);
+  Fails = λ broken position. (holds ≡ false) × (broken ≡ rule) × (position ≡ at);
 }
 
 -- one look or another
@@ -55,11 +55,11 @@ choosing test one other = record {
   Fails = λ rule at. ((test ≡ true) × one.Fails rule at) ⊎ ((test ≡ false) × other.Fails rule at);
 }
 
--- a look whose failure is one of a rule at a place, whatever failed
+-- a look whose failure is one of a rule at a position, whatever failed
 abbrev pub blaming : {A : Type 0} → Rule → ℕ → Look A → Look A
 blaming rule at look = record {
   Is = look.Is;
-  Fails = λ broken place. (broken ≡ rule) × (place ≡ at) × ((r : Rule) × (a : ℕ) × look.Fails r a);
+  Fails = λ broken position. (broken ≡ rule) × (position ≡ at) × ((r : Rule) × (a : ℕ) × look.Fails r a);
 }
 
 -- an outcome is what a look finds, or how it fails

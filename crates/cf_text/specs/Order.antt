@@ -1,4 +1,4 @@
--- The order of demands: that of bytes, and at one place that of the rules' numbers.
+-- The order of demands: that of bytes, and at one position that of the rules' numbers.
 use Rattle.std.specs.Prelude.{◌≡◌, ◌<◌, ◌≤◌, ◌⊎◌, ℕ, List, [], ◌∷◌}
 use Rattle.std.specs.List.{AllByRecursion}
 use Rattle.cf_text.specs.declared.fault.Rule.{Rule}
@@ -22,7 +22,7 @@ number_of rules.Trailing = 12
 number_of rules.OutOfProfile = 13
 number_of rules.TooLarge = 14
 
--- one stands at an earlier place, or at the same place, by a rule of no higher number
+-- one stands at an earlier position, or at the same position, by a rule of no higher number
 abbrev pub IsBefore : Demand → Demand → Type 0
 IsBefore d e = (d.at < e.at) ⊎ ((d.at ≡ e.at) × (number_of d.rule ≤ number_of e.rule))
 

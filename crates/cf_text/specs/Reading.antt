@@ -9,12 +9,12 @@ abbrev pub ◌>>=◌ : {A B : Type 0} → Result A ReadFault → (A → Result B
 (Ok x) >>= f = f x
 (Err fault) >>= f = Err fault
 
--- what fails of a reading: want of memory may come in place of any answer
+-- what fails of a reading: any answer may be that memory ran out instead
 abbrev pub Fails : {A : Type 0} → Result A ReadFault → ReadFault → Type 0
 Fails reading (Broken rule at) = reading ≡ Err (Broken rule at)
 Fails reading Memory = Unit {0}
 
--- an answer is what the reading gives, want of memory apart
+-- an answer is what the reading gives, out of memory apart
 abbrev pub Gives : {A : Type 0} → Result A ReadFault → Result A ReadFault → Type 0
 Gives reading (Ok x) = reading ≡ Ok x
 Gives reading (Err fault) = Fails reading fault

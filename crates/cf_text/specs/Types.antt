@@ -1,5 +1,5 @@
--- Descriptors (JVMS 4.3), read from the front of a text: what is read, and the text behind it. A fault
--- is at the place where the text is used.
+-- Descriptors (JVMS 4.3), read from the front of a text: what is read, and the text after it. A fault
+-- is at the position where the text is used.
 use Rattle.std.specs.Prelude.{ℕ, zero, suc, Bool, false, ◌==◌, ◌&&◌, ◌+◌, not, nat_lt, List, [], ◌∷◌, length, take, drop, Option, Some, None, Result, Ok, Err, is_ok, if◌then◌else◌}
 use Rattle.cf_text.specs.declared.fault.ReadFault.{ReadFault}
 use Rattle.cf_text.specs.declared.fault.ReadFault.TheVariants.{Broken}
@@ -39,14 +39,14 @@ abbrev pub begins_with : ℕ → List ℕ → Bool
 begins_with c [] = false
 begins_with c (b ∷ bs) = b == c
 
--- a class behind its L: a name, and a semicolon
+-- a class after its L: a name, and a semicolon
 unfoldable pub class_type_of : ℕ → List ℕ → Result (ElementType × List ℕ) ReadFault
 class_type_of at text =
     let name = take (name_length text) text in
     if nat_lt (name_length text) (length text) && is_class_name name
     then Ok (Class name, drop (name_length text + 1) text) else malformed at
 
--- the same, with the text behind it
+-- the same, with the text after it
 abbrev pub plain_type_of : ℕ → Option ElementType → List ℕ → Result (ElementType × List ℕ) ReadFault
 plain_type_of at None rest = malformed at
 plain_type_of at (Some element) rest = Ok (element, rest)

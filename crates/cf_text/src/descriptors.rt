@@ -1,4 +1,4 @@
-//! Reading descriptors (JVMS 4.3), from the front of a text on. A fault is at the place where the
+//! Reading descriptors (JVMS 4.3), from the front of a text on. A fault is at the position where the
 //! text is used.
 
 ghost use Rattle.std.specs.Prelude.{◌≡◌, ◌<◌, ◌≤◌, length, IsTrue, IfOk};
@@ -75,7 +75,7 @@ fn letter_type(letter: u8) -> Option<ElementType>
     }
 }
 
-// A class behind its `L`, and the text behind its semicolon.
+// A class after its `L`, and the text after its semicolon.
 #[tactic(auto, unfolding(crate::specs::Types::class_type_of))]
 fn class_type(alloc: Global, text: &[u8], at: usize) -> Result<(ElementType, &[u8]), ReadFault>
     ensures { GivesSeen (λ x. (x.0, x.1.now)) (class_type_of at text.now) result }
@@ -85,7 +85,7 @@ fn class_type(alloc: Global, text: &[u8], at: usize) -> Result<(ElementType, &[u
     if length == text.len() || !is_class_name(name) {
         return Err(malformed(at));
     }
-    let name = Text::new(Vec::from_slice(alloc, name)?);
+    let name = Text::new(alloc, Vec::from_slice(alloc, name)?)?;
     Ok((ElementType::Class(name), &text[length + 1..]))
 }
 
@@ -105,7 +105,7 @@ fn element_type(alloc: Global, text: &[u8], at: usize) -> Result<(ElementType, &
     }
 }
 
-// A field type, and the text behind it.
+// A field type, and the text after it.
 #[tactic(auto, unfolding(crate::specs::Types::field_type_of))]
 fn field_type(alloc: Global, text: &[u8], at: usize) -> Result<(FieldType, &[u8]), ReadFault>
     ensures { GivesSeen (λ x. (x.0, x.1.now)) (field_type_of at text.now) result }
@@ -125,7 +125,7 @@ fn field_type(alloc: Global, text: &[u8], at: usize) -> Result<(FieldType, &[u8]
     ))
 }
 
-// At most so many field types, up to a closing bracket, and the text behind it.
+// At most so many field types, up to a closing bracket, and the text after it.
 fn parameters(
     alloc: Global,
     text: &[u8],
@@ -217,7 +217,7 @@ fn descriptor_in(alloc: Global, text: &[u8]) -> Result<Option<Descriptor>, Alloc
 
 /// What a text says as a descriptor (JVMS 4.3): a method descriptor where it begins with `(`, else a
 /// field type. `None` exactly where it is neither. Every type of the standard is read, in this
-/// project's profile or not; `Err` is want of memory.
+/// project's profile or not; `Err` is out of memory.
 pub fn descriptor(alloc: Global, text: &[u8]) -> Result<Option<Descriptor>, AllocError>
     // The one descriptor that the text spells, or none where it spells none.
     ensures exactly { IfOk result (λ found. Exactly found (IsDescriptor text.now)) }

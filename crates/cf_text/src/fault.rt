@@ -13,7 +13,7 @@ use thiserror::Error;
 /// A rule of the class file format (JVMS 4.1 to 4.8) or of this project's profile.
 #[derive(Clone, Copy, Debug, PartialEq, Eq, Error)]
 pub enum Rule {
-    /// An item is cut; the place is its first byte.
+    /// An item is cut; the position is its first byte.
     Truncated = 1,
     /// The file does not begin with CAFEBABE.
     Magic = 2,

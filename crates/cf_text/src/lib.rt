@@ -9,6 +9,7 @@ pub use descriptors::{begins_with, descriptor, read_field_descriptor, read_metho
 pub use fault::{ReadFault, Rule};
 pub use names::{CLASS_INITIALIZER, INITIALIZER, is_class_name, is_method_name, is_name};
 pub use numbers::{read_i32, read_row, read_text, read_u8, read_u16, read_u32, skip};
+pub use shared::Shared;
 pub use table::Table;
 pub use text::Text;
 pub use types::{Descriptor, ElementType, FieldType, MethodDescriptor};
@@ -19,6 +20,7 @@ mod descriptors;
 mod fault;
 mod names;
 mod numbers;
+mod shared;
 mod table;
 mod text;
 mod types;

@@ -1,5 +1,5 @@
-//! Items of a class file: big-endian numbers and runs of bytes, each read from a place on, with the
-//! place behind it. Places count from the start of the file. An item that is cut is a fault at its
+//! Items of a class file: big-endian numbers and runs of bytes, each read from a position on, with the
+//! position after it. Positions count from the start of the file. An item that is cut is a fault at its
 //! first byte.
 
 ghost use Rattle.cf_text.specs.Reading.{Gives};
@@ -9,7 +9,7 @@ use super::{ReadFault, Row, Rule, Text};
 use byteorder::{BigEndian, ByteOrder};
 use std::alloc::Global;
 
-/// The place behind the next `len` bytes.
+/// The position after the next `len` bytes.
 pub fn skip(bytes: &[u8], at: usize, len: usize) -> Result<usize, ReadFault>
     ensures { Gives (skip_at len bytes.now at) result }
 {
@@ -66,7 +66,7 @@ pub fn read_text(
 {
     let to = skip(bytes, at, len)?;
     let text = Vec::from_slice(alloc, &bytes[at..to])?;
-    Ok((Text::new(text), to))
+    Ok((Text::new(alloc, text)?, to))
 }
 
 /// The next `len` bytes, as a row.

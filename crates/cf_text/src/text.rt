@@ -2,14 +2,15 @@
 
 ghost use Rattle.std.specs.Prelude.{◌≡◌, ◌↔◌, IsTrue, IfOk};
 
-use std::alloc::AllocError;
+use super::Shared;
+use std::alloc::{AllocError, Global};
 use std::marker::Model;
 
 /// A text in modified UTF-8, as a class file has it: a name, a descriptor. A contract sees it as the
-/// list of its bytes.
+/// list of its bytes. However many copies there are, the bytes stand once in memory.
 #[derive(Debug, Drop)]
 pub struct Text {
-    bytes: Vec<u8>,
+    bytes: Shared<Vec<u8>>,
 }
 
 impl Model for Text {
@@ -21,11 +22,12 @@ impl Model for Text {
 }
 
 impl Text {
-    /// The text of these bytes. It takes no memory.
-    pub fn new(bytes: Vec<u8>) -> Text
-        ensures { result ≡ bytes.items }
+    /// The text of these bytes.
+    pub fn new(alloc: Global, bytes: Vec<u8>) -> Result<Text, AllocError>
+        ensures { IfOk result (λ text. text ≡ bytes.items) }
     {
-        Text { bytes }
+        let bytes = Shared::new(alloc, bytes)?;
+        Ok(Text { bytes })
     }
 
     /// Its bytes.
@@ -39,14 +41,14 @@ impl Text {
     pub fn is(&self, bytes: &[u8]) -> bool
         ensures { IsTrue result ↔ (self.now ≡ bytes.now) }
     {
-        self.bytes.as_slice() == bytes
+        self.as_bytes() == bytes
     }
 
-    /// A copy of its own.
+    /// A copy, which shares the bytes: it takes no memory.
     pub fn copy(&self) -> Result<Text, AllocError>
         ensures { IfOk result (λ copy. copy ≡ self.now) }
     {
-        let bytes = self.bytes.clone()?;
+        let bytes = self.bytes.share()?;
         Ok(Text { bytes })
     }
 }

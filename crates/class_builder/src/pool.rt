@@ -7,7 +7,18 @@ use std::alloc::Global;
 #[derive(Drop)]
 enum Entry {
     Utf8(String),
+    Integer(i32),
     Class(u16),
+    Member(MemberTag, u16, u16),
+    NameAndType(u16, u16),
+}
+
+/// The tag of an entry that names a member.
+#[derive(Clone, Copy, PartialEq, Eq)]
+pub enum MemberTag {
+    Field = 9,
+    Method = 10,
+    InterfaceMethod = 11,
 }
 
 /// The entries so far, by index from 1 on.
@@ -51,6 +62,53 @@ impl PoolParts {
         self.add(Entry::Class(name))
     }
 
+    /// The index of an int, which is added where it is new.
+    pub fn integer(&mut self, value: i32) -> Result<u16, BuildFault> {
+        for (before, entry) in self.entries.iter().enumerate() {
+            if let Entry::Integer(known) = entry
+                && *known == value
+            {
+                return index_after(before);
+            }
+        }
+        self.add(Entry::Integer(value))
+    }
+
+    fn name_and_type(&mut self, name: u16, descriptor: u16) -> Result<u16, BuildFault> {
+        for (before, entry) in self.entries.iter().enumerate() {
+            if let Entry::NameAndType(known, of_type) = entry
+                && *known == name
+                && *of_type == descriptor
+            {
+                return index_after(before);
+            }
+        }
+        self.add(Entry::NameAndType(name, descriptor))
+    }
+
+    /// The index of a member by its class, its name and its descriptor, which is added where it is new.
+    pub fn member(
+        &mut self,
+        tag: MemberTag,
+        class: &str,
+        name: &str,
+        descriptor: &str,
+    ) -> Result<u16, BuildFault> {
+        let class = self.class(class)?;
+        let (name, descriptor) = (self.utf8(name)?, self.utf8(descriptor)?);
+        let name_and_type = self.name_and_type(name, descriptor)?;
+        for (before, entry) in self.entries.iter().enumerate() {
+            if let Entry::Member(known, of_class, named) = entry
+                && *known == tag
+                && *of_class == class
+                && *named == name_and_type
+            {
+                return index_after(before);
+            }
+        }
+        self.add(Entry::Member(tag, class, name_and_type))
+    }
+
     fn add(&mut self, entry: Entry) -> Result<u16, BuildFault> {
         let index = index_after(self.entries.len())?;
         self.entries.push(entry)?;
@@ -70,14 +128,30 @@ impl PoolParts {
                     out.extend_from_slice(&length.to_be_bytes())?;
                     out.extend_from_slice(text.as_bytes())?;
                 }
-                Entry::Class(name) => {
-                    out.push(7)?;
-                    out.extend_from_slice(&name.to_be_bytes())?;
+                Entry::Integer(value) => {
+                    out.push(3)?;
+                    out.extend_from_slice(&value.to_be_bytes())?;
+                }
+                Entry::Class(name) => put_entry(&mut out, 7, &[*name])?,
+                Entry::Member(tag, class, named) => {
+                    put_entry(&mut out, *tag as u8, &[*class, *named])?;
+                }
+                Entry::NameAndType(name, descriptor) => {
+                    put_entry(&mut out, 12, &[*name, *descriptor])?;
                 }
             }
         }
         Ok(out)
     }
+}
+
+// An entry of a tag and indices.
+fn put_entry(out: &mut Vec<u8>, tag: u8, indices: &[u16]) -> Result<(), BuildFault> {
+    out.push(tag)?;
+    for index in indices {
+        out.extend_from_slice(&index.to_be_bytes())?;
+    }
+    Ok(())
 }
 
 // The index of the entry behind so many others.

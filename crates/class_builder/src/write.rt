@@ -4,8 +4,9 @@ ghost use Rattle.class_builder.specs.declared.write.BuildFault.TheVariants.{Memo
 ghost use Rattle.std.specs.Prelude.{◌≡◌, IfOk};
 ghost use Rattle.std.specs.Io.{StartsWith};
 
+use super::lines::put_line;
 use super::pool::PoolParts;
-use super::{AttributeParts, ClassParts, CodeParts, MethodParts};
+use super::{AttributeParts, ClassParts, CodeParts, FieldParts, MethodParts};
 use std::alloc::{AllocError, AllocFailed, Global};
 use thiserror::Error;
 
@@ -14,6 +15,8 @@ use thiserror::Error;
 pub enum BuildFault {
     #[error("a part is too long for its count or length")]
     TooLong,
+    #[error("a line has no mnemonic that is known")]
+    UnknownMnemonic,
     #[error("memory ran out")]
     Memory,
 }
@@ -51,8 +54,7 @@ pub fn class_bytes(alloc: Global, class: &ClassParts) -> Result<Vec<u8>, BuildFa
     for interface in class.interfaces {
         put_u16(&mut rest, pool.class(interface)?)?;
     }
-    let no_fields = 0;
-    put_u16(&mut rest, no_fields)?;
+    put_fields(&mut pool, &mut rest, class.fields)?;
     put_methods(alloc, &mut pool, &mut rest, class.methods)?;
     put_attributes(&mut pool, &mut rest, class.attributes)?;
 
@@ -60,6 +62,40 @@ pub fn class_bytes(alloc: Global, class: &ClassParts) -> Result<Vec<u8>, BuildFa
     file.extend_from_slice(&pool.bytes()?)?;
     file.extend_from_slice(&rest)?;
     Ok(file)
+}
+
+fn put_fields(
+    pool: &mut PoolParts,
+    out: &mut Vec<u8>,
+    fields: &[FieldParts],
+) -> Result<(), BuildFault> {
+    put_count(out, fields.len())?;
+    for field in fields {
+        put_field(pool, out, field)?;
+    }
+    Ok(())
+}
+
+fn put_field(
+    pool: &mut PoolParts,
+    out: &mut Vec<u8>,
+    field: &FieldParts,
+) -> Result<(), BuildFault> {
+    put_u16(out, field.flags)?;
+    put_u16(out, pool.utf8(field.name)?)?;
+    put_u16(out, pool.utf8(field.descriptor)?)?;
+    let Some(value) = field.constant else {
+        return put_attributes(pool, out, field.attributes);
+    };
+    let name = pool.utf8("ConstantValue")?;
+    let index = pool.integer(value)?;
+    put_count(out, field.attributes.len().saturating_add(1))?;
+    put_u16(out, name)?;
+    put_sized(out, &index.to_be_bytes())?;
+    for attribute in field.attributes {
+        put_attribute(pool, out, attribute)?;
+    }
+    Ok(())
 }
 
 fn put_methods(
@@ -107,7 +143,11 @@ fn code_bytes(
     let mut out = Vec::new(alloc);
     put_u16(&mut out, code.max_stack)?;
     put_u16(&mut out, code.max_locals)?;
-    put_sized(&mut out, code.bytes)?;
+    let mut bytes = Vec::from_slice(alloc, code.bytes)?;
+    for line in code.lines {
+        put_line(pool, &mut bytes, line)?;
+    }
+    put_sized(&mut out, &bytes)?;
     let no_handlers = 0;
     put_u16(&mut out, no_handlers)?;
     put_attributes(pool, &mut out, code.attributes)?;
@@ -148,7 +188,7 @@ fn put_count(out: &mut Vec<u8>, count: usize) -> Result<(), BuildFault> {
     put_u16(out, count)
 }
 
-fn put_u16(out: &mut Vec<u8>, number: u16) -> Result<(), BuildFault> {
+pub(crate) fn put_u16(out: &mut Vec<u8>, number: u16) -> Result<(), BuildFault> {
     out.extend_from_slice(&number.to_be_bytes())?;
     Ok(())
 }

@@ -1,16 +1,15 @@
-use Rattle.std.proofs.Common.{◌≡◌, ℕ, zero, suc, ◌+◌, ◌<◌, Option, Some, None, List, [], ◌∷◌, ◌++◌, length, get_or, take, drop, refl, sym, subst, ap, ◌∙◌, arith, add-one, append-nil, append_assoc, add-zero, zero-add}
-use Rattle.std.specs.Prelude.{All, IfSome, IsSomeAnd, MatchOption}
+use Rattle.std.proofs.Common.{◌≡◌, ℕ, zero, suc, ◌+◌, ◌<◌, List, [], ◌∷◌, ◌++◌, length, get_or, take, drop, refl, sym, subst, ap, ◌∙◌, arith, add-one, append-nil, append_assoc, add-zero, zero-add}
+use Rattle.std.specs.Prelude.{All}
 use Rattle.std.specs.List.{AllZip}
-use Rattle.std.proofs.lemmas.List.Elements.{All-append, All-cons, All-nil, All-push}
+use Rattle.std.proofs.lemmas.List.Elements.{All-append, All-push}
 use Rattle.cls_set.specs.declared.Method.{Method}
 use Rattle.cls_set.specs.declared.class.Class.{Class}
 use Rattle.space_ids.specs.declared.ids.ClassId.{ClassId}
 use Rattle.cls_link.specs.declared.fault.LinkFault.{LinkFault}
 use Rattle.cls_link.specs.declared.fault.LinkFault.TheVariants.{Broken, Memory}
-use Rattle.cf_insns.specs.Listing.{Listing, IsListing}
-use Rattle.cls_link.specs.declared.linked.LinkedCode.{LinkedCode}
 use Rattle.cls_link.specs.declared.linked.LinkedMethod.{LinkedMethod}
-use Rattle.cls_link.specs.Links.{Declared, declared_in, declared_from, HasListing, IsLinked, IsLinkedCode, IsLinkFault, IsMethodFault}
+use Rattle.cls_link.specs.LinkFaults.{IsFaultOf, IsMethodFault, IsSoundMethod}
+use Rattle.cls_link.specs.Links.{Declared, declared_in, declared_from, IsLinked}
 
 abbrev pub declare : ClassId → List ℕ → ℕ → Method → Declared
 declare class name place method = record { class = class; class_name = name; place = place; method = method }
@@ -29,50 +28,33 @@ pub declared_more : (class : ClassId) (name : List ℕ) (ms : List Method) (i : 
 declared_more class name ms i d h =
     rw add-one (declared_more_from class name 0 ms i d h ∙ ap (λ n. declared_in class name 0 (take i ms) ++ declare class name n (get_or ms i d) ∷ []) (zero-add i))
 
-zip_push : (ds : List Declared) (ms : List LinkedMethod) (d : Declared) (m : LinkedMethod) → AllZip IsLinked ds ms → IsLinked d m → AllZip IsLinked (ds ++ d ∷ []) (ms ++ m ∷ [])
-zip_push [] [] d m all one = (one, tt)
-zip_push [] (x ∷ ms) d m all one = absurd all
-zip_push (x ∷ ds) [] d m all one = absurd all
-zip_push (e ∷ ds) (x ∷ ms) d m all one = (all.0, zip_push ds ms d m all.1 one)
+zip_push : {classes : List Class} (ds : List Declared) (ms : List LinkedMethod) (d : Declared) (m : LinkedMethod) → AllZip (IsLinked classes) ds ms → IsLinked classes d m → AllZip (IsLinked classes) (ds ++ d ∷ []) (ms ++ m ∷ [])
+zip_push {classes} [] [] d m all one = (one, tt)
+zip_push {classes} [] (x ∷ ms) d m all one = absurd all
+zip_push {classes} (x ∷ ds) [] d m all one = absurd all
+zip_push {classes} (e ∷ ds) (x ∷ ms) d m all one = (all.0, zip_push ds ms d m all.1 one)
 
 -- one more is linked
-pub link_more : (before ds : List Declared) (ms : List LinkedMethod) (d : Declared) (m : LinkedMethod) → AllZip IsLinked (before ++ ds) ms → IsLinked d m → AllZip IsLinked (before ++ (ds ++ d ∷ [])) (ms ++ m ∷ [])
-link_more before ds ms d m all one =
-    subst (λ es. AllZip IsLinked es (ms ++ m ∷ [])) (append_assoc before ds (d ∷ [])) (zip_push (before ++ ds) ms d m all one)
+pub link_more : {classes : List Class} (before ds : List Declared) (ms : List LinkedMethod) (d : Declared) (m : LinkedMethod) → AllZip (IsLinked classes) (before ++ ds) ms → IsLinked classes d m → AllZip (IsLinked classes) (before ++ (ds ++ d ∷ [])) (ms ++ m ∷ [])
+link_more {classes} before ds ms d m all one =
+    subst (λ es. AllZip (IsLinked classes) es (ms ++ m ∷ [])) (append_assoc before ds (d ∷ [])) (zip_push (before ++ ds) ms d m all one)
 
-of_code : (bytes : List ℕ) (o : Option LinkedCode) → IsSomeAnd o (IsLinkedCode bytes) → (listing : Listing) × IsListing bytes listing
-of_code bytes None h = absurd h
-of_code bytes (Some code) h = (h.listing, h.read)
+-- the first of the methods at fault, where those before it break no rule
+pub first_fault : (classes : List Class) (ds before : List Declared) (d : Declared) (after : List Declared) (fault : LinkFault) → ds ≡ before ++ d ∷ after → All (IsSoundMethod classes) before → IsMethodFault classes d fault → IsFaultOf classes ds fault
+first_fault classes ds before d after Memory whole sound wrong = tt
+first_fault classes ds before d after (Broken rule class method descriptor at) whole sound wrong =
+    record { before = before; faulty = d; after = after; whole = whole; sound = sound; wrong = wrong }
 
--- a linked method has a listing
-pub listing_of : (d : Declared) (m : LinkedMethod) → IsLinked d m → HasListing d
-listing_of d m linked =
-    elim d.method.code as (λ o. MatchOption o (m.code ≡ None) (λ code. IsSomeAnd m.code (IsLinkedCode code.bytes)) → IfSome o (λ code. (listing : Listing) × IsListing code.bytes listing)) [
-      | None ↦ λ _. tt
-      | Some code ↦ λ some. of_code code.bytes m.code some
-    ] linked.code
-
-pub listings_of : (ds : List Declared) (ms : List LinkedMethod) → AllZip IsLinked ds ms → All HasListing ds
-listings_of [] ms all = All-nil HasListing
-listings_of (d ∷ ds) [] all = absurd all
-listings_of (d ∷ ds) (m ∷ ms) all = All-cons HasListing d ds (listing_of d m all.0) (listings_of ds ms all.1)
-
--- the first of the methods at fault, where those before it have listings
-pub first_fault : (ds before : List Declared) (d : Declared) (after : List Declared) (fault : LinkFault) → ds ≡ before ++ d ∷ after → All HasListing before → IsMethodFault d fault → IsLinkFault ds fault
-first_fault ds before d after Memory whole listings wrong = tt
-first_fault ds before d after (Broken rule class method descriptor at) whole listings wrong =
-    record { before = before; faulty = d; after = after; whole = whole; listings = listings; wrong = wrong }
-
--- the same among more methods, where those before have listings
-pub fault_widened : (all pre ds post : List Declared) (fault : LinkFault) → all ≡ pre ++ (ds ++ post) → All HasListing pre → IsLinkFault ds fault → IsLinkFault all fault
-fault_widened all pre ds post Memory whole listings f = tt
-fault_widened all pre ds post (Broken rule class method descriptor at) whole listings f =
+-- the same among more methods, where those before break no rule
+pub fault_widened : (classes : List Class) (all pre ds post : List Declared) (fault : LinkFault) → all ≡ pre ++ (ds ++ post) → All (IsSoundMethod classes) pre → IsFaultOf classes ds fault → IsFaultOf classes all fault
+fault_widened classes all pre ds post Memory whole sound f = tt
+fault_widened classes all pre ds post (Broken rule class method descriptor at) whole sound f =
     record {
       before = pre ++ f.before;
       faulty = f.faulty;
       after = f.after ++ post;
       whole = whole ∙ (ap (λ xs. pre ++ (xs ++ post)) f.whole ∙ (ap (λ xs. pre ++ xs) (append_assoc f.before (f.faulty ∷ f.after) post) ∙ sym (append_assoc pre f.before (f.faulty ∷ (f.after ++ post)))));
-      listings = All-append HasListing pre f.before listings f.listings;
+      sound = All-append (IsSoundMethod classes) pre f.before sound f.sound;
       wrong = f.wrong;
     }
 
@@ -108,30 +90,30 @@ declared_split k (c ∷ cs) (suc n) =
     let first = declared_in (record { 0 = k }) c.file.name 0 c.file.methods in
     (rest.0, ap (λ ds. first ++ ds) rest.1 ∙ sym (append_assoc first (declared_from (suc k) (take n cs)) rest.0))
 
--- a fault of a class is one of all classes, where those before have listings
-pub class_fault : (cs : List Class) (n : ℕ) (d : Class) (fault : LinkFault) → n < length cs → All HasListing (declared_from 0 (take n cs)) → IsLinkFault (declared_in (record { 0 = n }) (get_or cs n d).file.name 0 (get_or cs n d).file.methods) fault → IsLinkFault (declared_from 0 cs) fault
-class_fault cs n d fault h listings f =
+-- a fault of a class is one of all classes, where those before break no rule
+pub class_fault : (classes cs : List Class) (n : ℕ) (d : Class) (fault : LinkFault) → n < length cs → All (IsSoundMethod classes) (declared_from 0 (take n cs)) → IsFaultOf classes (declared_in (record { 0 = n }) (get_or cs n d).file.name 0 (get_or cs n d).file.methods) fault → IsFaultOf classes (declared_from 0 cs) fault
+class_fault classes cs n d fault h sound f =
     let rest = declared_split 0 cs (n + 1) in
     let own = declared_in (record { 0 = n }) (get_or cs n d).file.name 0 (get_or cs n d).file.methods in
-    fault_widened (declared_from 0 cs) (declared_from 0 (take n cs)) own rest.0 fault
+    fault_widened classes (declared_from 0 cs) (declared_from 0 (take n cs)) own rest.0 fault
     (rest.1 ∙ (ap (λ ds. ds ++ rest.0) (declared_class cs n d h) ∙ append_assoc (declared_from 0 (take n cs)) own rest.0))
-    listings f
+    sound f
 
 -- the fault of a method is one of its class
-pub method_fault : (class : ClassId) (name : List ℕ) (methods items : List Method) (i : ℕ) (m : Method) (fault : LinkFault) → items ≡ methods → i < length items → m ≡ get_or items i m → All HasListing (declared_in class name 0 (take i items)) → IsMethodFault (declare class name i m) fault → IsLinkFault (declared_in class name 0 methods) fault
-method_fault class name methods items i m fault e h is listings wrong =
-    subst (λ ms. IsLinkFault (declared_in class name 0 ms) fault) e
-    (first_fault (declared_in class name 0 items) (declared_in class name 0 (take i items)) (declare class name i (get_or items i m)) (declared_in class name (suc i) (drop (suc i) items)) fault (declared_round class name items i m h) listings
-    (subst (λ x. IsMethodFault (declare class name i x) fault) is wrong))
+pub method_fault : (classes : List Class) (class : ClassId) (name : List ℕ) (methods items : List Method) (i : ℕ) (m : Method) (fault : LinkFault) → items ≡ methods → i < length items → m ≡ get_or items i m → All (IsSoundMethod classes) (declared_in class name 0 (take i items)) → IsMethodFault classes (declare class name i m) fault → IsFaultOf classes (declared_in class name 0 methods) fault
+method_fault classes class name methods items i m fault e h is sound wrong =
+    subst (λ ms. IsFaultOf classes (declared_in class name 0 ms) fault) e
+    (first_fault classes (declared_in class name 0 items) (declared_in class name 0 (take i items)) (declare class name i (get_or items i m)) (declared_in class name (suc i) (drop (suc i) items)) fault (declared_round class name items i m h) sound
+    (subst (λ x. IsMethodFault classes (declare class name i x) fault) is wrong))
 
 -- what is linked with one more method
-pub linked_more : (class : ClassId) (name : List ℕ) (items : List Method) (i : ℕ) (m : Method) (before : List Declared) (old new : List LinkedMethod) (one : LinkedMethod) → i < length items → m ≡ get_or items i m → new ≡ old ++ one ∷ [] → AllZip IsLinked (before ++ declared_in class name 0 (take i items)) old → IsLinked (declare class name i m) one → AllZip IsLinked (before ++ declared_in class name 0 (take (i + 1) items)) new
-linked_more class name items i m before old new one h is e all linked =
-    subst (AllZip IsLinked (before ++ declared_in class name 0 (take (i + 1) items))) (sym e)
-    (subst (λ ds. AllZip IsLinked (before ++ ds) (old ++ one ∷ [])) (sym (declared_more class name items i m h))
-    (link_more before (declared_in class name 0 (take i items)) old (declare class name i (get_or items i m)) one all (subst (λ x. IsLinked (declare class name i x) one) is linked)))
+pub linked_more : (classes : List Class) (class : ClassId) (name : List ℕ) (items : List Method) (i : ℕ) (m : Method) (before : List Declared) (old new : List LinkedMethod) (one : LinkedMethod) → i < length items → m ≡ get_or items i m → new ≡ old ++ one ∷ [] → AllZip (IsLinked classes) (before ++ declared_in class name 0 (take i items)) old → IsLinked classes (declare class name i m) one → AllZip (IsLinked classes) (before ++ declared_in class name 0 (take (i + 1) items)) new
+linked_more classes class name items i m before old new one h is e all linked =
+    subst (AllZip (IsLinked classes) (before ++ declared_in class name 0 (take (i + 1) items))) (sym e)
+    (subst (λ ds. AllZip (IsLinked classes) (before ++ ds) (old ++ one ∷ [])) (sym (declared_more class name items i m h))
+    (link_more before (declared_in class name 0 (take i items)) old (declare class name i (get_or items i m)) one all (subst (λ x. IsLinked classes (declare class name i x) one) is linked)))
 
-pub listings_more : (class : ClassId) (name : List ℕ) (items : List Method) (i : ℕ) (m : Method) (one : LinkedMethod) → i < length items → m ≡ get_or items i m → All HasListing (declared_in class name 0 (take i items)) → IsLinked (declare class name i m) one → All HasListing (declared_in class name 0 (take (i + 1) items))
-listings_more class name items i m one h is all linked =
-    subst (All HasListing) (sym (declared_more class name items i m h))
-    (All-push HasListing (declared_in class name 0 (take i items)) (declare class name i (get_or items i m)) all (listing_of (declare class name i (get_or items i m)) one (subst (λ x. IsLinked (declare class name i x) one) is linked)))
+pub sound_more : (classes : List Class) (class : ClassId) (name : List ℕ) (items : List Method) (i : ℕ) (m : Method) → i < length items → m ≡ get_or items i m → All (IsSoundMethod classes) (declared_in class name 0 (take i items)) → IsSoundMethod classes (declare class name i m) → All (IsSoundMethod classes) (declared_in class name 0 (take (i + 1) items))
+sound_more classes class name items i m h is all one =
+    subst (All (IsSoundMethod classes)) (sym (declared_more class name items i m h))
+    (All-push (IsSoundMethod classes) (declared_in class name 0 (take i items)) (declare class name i (get_or items i m)) all (subst (λ x. IsSoundMethod classes (declare class name i x)) is one))

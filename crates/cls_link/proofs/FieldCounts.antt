@@ -1,9 +1,9 @@
 -- Fields: their places, their slots, and how many there are.
-use Rattle.std.proofs.Common.{◌≡◌, ℕ, zero, suc, ◌+◌, ◌-◌, ◌<◌, ◌≤◌, ◌⊎◌, inl, inr, Option, Some, None, List, [], ◌∷◌, ◌++◌, length, get_or, take, drop, drop-cons, refl, sym, subst, ap, ◌∙◌, arith, add-one, Bool, true, false}
-use Rattle.std.specs.Prelude.{◌&&◌, if◌then◌else◌, IfNone, IfSome, IsSome, IsTrue, bytes_eq, cond, option_and_then, slice_get}
+use Rattle.std.proofs.Common.{◌≡◌, ℕ, zero, suc, ◌+◌, ◌-◌, ◌<◌, ◌≤◌, ◌⊎◌, inl, inr, Option, Some, None, List, [], ◌∷◌, ◌++◌, length, get_or, take, drop, refl, sym, subst, ap, ◌∙◌, arith, Bool, true, false}
+use Rattle.std.specs.Prelude.{if◌then◌else◌, IfNone, IfSome, IsSome, IsTrue, cond, option_and_then, slice_get}
 use Rattle.std.specs.List.{count_by}
 use Rattle.std.proofs.lemmas.Grind.{get_or_default_zero}
-use Rattle.std.proofs.lemmas.List.{length-append, get_or-append-add, get_or_append_left, get_or-append_right}
+use Rattle.std.proofs.lemmas.List.{length-append, get_or-append-add}
 use Rattle.std.proofs.lemmas.List.Sums.{sum_by-cons}
 use Rattle.std.proofs.lemmas.Option.{slice_get-get_or, get_or_from_slice_get, slice_get_within}
 use Rattle.cls_set.proofs.Hierarchy.{same_some}
@@ -11,15 +11,10 @@ use Rattle.cf_reader.specs.declared.class_file.Field.{Field}
 use Rattle.cls_set.specs.declared.class.Class.{Class}
 use Rattle.space_ids.specs.declared.ids.ClassId.{ClassId}
 use Rattle.cls_link.specs.Fields as fields
-use Rattle.cls_link.specs.Fields.{place_from, field_at, is_instance, instance_fields, AreFieldCounts, HasFields, CountsFields, IsFieldSlot}
-use Rattle.cls_link.specs.declared.fields.FieldPlace.{FieldPlace}
+use Rattle.cls_link.specs.Fields.{is_instance, instance_fields, AreFieldCounts, HasFields, CountsFields, IsFieldSlot}
+use Rattle.cls_search.specs.FieldSearches.{field_at}
+use Rattle.cls_search.specs.declared.fields.FieldPlace.{FieldPlace}
 use Rattle.cls_link.specs.declared.linked.FieldSlot.{FieldSlot}
-
--- a search among what is left
-pub place_passed : (fs : List Field) (i : ℕ) (f : Field) (n t : List ℕ) → i < length fs → f ≡ get_or fs i f → (bytes_eq f.name n && bytes_eq f.descriptor t) ≡ false → place_from i (drop i fs) n t ≡ place_from (i + 1) (drop (i + 1) fs) n t
-place_passed fs i f n t h is e =
-    let test : (bytes_eq (get_or fs i f).name n && bytes_eq (get_or fs i f).descriptor t) ≡ false = subst (λ (x : Field). (bytes_eq x.name n && bytes_eq x.descriptor t) ≡ false) is e in
-    rw (drop-cons fs i f, test, add-one) refl
 
 cases : (b : Bool) → (b ≡ true) ⊎ (b ≡ false)
 cases true = inl refl
@@ -87,26 +82,6 @@ module _ (classes : List Class) (class : ClassId) (c : Class) (at : slice_get cl
       let more = added class 0 c.file.fields in
       let few = h.counted in
       record { fields = h.fields ++ own; has = fields.HasFields.of_subclass class s c h.fields at is h.has; counted = omega (arith, both, more, few, e) }
-
-least : (a n : ℕ) → a < n + 1 → (a ≡ n) ⊎ (a < n)
-least zero zero h = inl refl
-least zero (suc n) h = inr (omega arith)
-least (suc a) zero h = absurd (omega (arith, h))
-least (suc a) (suc n) h =
-    elim (least a n (omega (arith, h))) [
-      | inl e ↦ inl (ap suc e)
-      | inr l ↦ inr (omega (arith, l))
-    ]
-
--- the count of one class more
-pub counts_pushed : (classes : List Class) (counts : List ℕ) (k x : ℕ) → length counts ≡ k → ((class : ClassId) → class.0 < k → CountsFields classes class (get_or counts class.0 0)) → CountsFields classes (record { 0 = k }) x → (class : ClassId) → class.0 < k + 1 → CountsFields classes class (get_or (counts ++ x ∷ []) class.0 0)
-counts_pushed classes counts k x long before this class h =
-    elim (least class.0 k h) [
-      | inl e ↦
-          let last : get_or (counts ++ x ∷ []) class.0 0 ≡ x = ap (λ n. get_or (counts ++ x ∷ []) n 0) (e ∙ (sym long ∙ sym (plus_zero (length counts)))) ∙ get_or-append-add counts (x ∷ []) 0 0 in
-          subst (CountsFields classes class) (sym last) (subst (λ n. CountsFields classes (record { 0 = n }) x) (sym e) this)
-      | inr l ↦ subst (CountsFields classes class) (sym (get_or_append_left counts (x ∷ []) 0 class.0 (omega (arith, l, long)))) (before class l)
-    ]
 
 no_field : (i : ℕ) → i < length {A = Field} [] → ⊥
 no_field i h = absurd (omega (arith, h))
@@ -199,16 +174,6 @@ false_true e = cc
 some_is : {A : Type 0} (o : Option A) → IsSome o → (x : A) × (o ≡ Some x)
 some_is None h = absurd (false_true h)
 some_is (Some x) h = (x, refl)
-
-outer : (o : Option Class) (place : ℕ) → IsSome (option_and_then (λ (c : Class). slice_get c.file.fields place) o) → IsSome o
-outer None place h = h
-outer (Some c) place h = refl
-
--- the class of a field that stands in the set
-pub class_in : (classes : List Class) (field : FieldPlace) → IsSome (field_at classes field) → field.class.0 < length classes
-class_in classes field h =
-    let s = some_is (slice_get classes field.class.0) (outer (slice_get classes field.class.0) field.place h) in
-    slice_get_within classes field.class.0 s.0 s.1
 
 -- a field that stands in the set, read from its class
 pub record IsHeld (classes : List Class) (field : FieldPlace) (c : Class) : Type 0 where

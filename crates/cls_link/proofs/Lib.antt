@@ -1,9 +1,10 @@
+pub mod ByIndex
+pub mod ByNumber
 pub mod Declarations
 pub mod FieldCounts
-pub mod Found
-pub mod Heights
+pub mod Growing
 pub mod Indices
-pub mod Interfaces
 pub mod Landing
 pub mod MethodNumbers
 pub mod Places
+pub mod Sound

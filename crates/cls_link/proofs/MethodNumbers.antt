@@ -1,21 +1,18 @@
-use Rattle.std.proofs.Common.{◌≡◌, ◌≢◌, ℕ, zero, suc, ◌+◌, ◌^◌, ◌<◌, ◌≤◌, true, false, Some, None, List, [], ◌∷◌, ◌++◌, length, get_or, take, drop, refl, sym, subst, ap, ◌∙◌, arith, add-one, add-zero, zero-add, append-nil, append_assoc, drop-cons}
-use Rattle.std.specs.Prelude.{All, ◌&&◌, bytes_eq, cond, nat_eq, option_map}
+use Rattle.std.proofs.Common.{◌≡◌, ◌≢◌, ℕ, zero, suc, ◌+◌, ◌<◌, ◌≤◌, inl, inr, true, false, Option, Some, None, List, [], ◌∷◌, ◌++◌, length, get_or, take, drop, refl, sym, subst, ap, ◌∙◌, arith, add-one, add-zero, zero-add, append-nil, append_assoc}
+use Rattle.std.specs.Prelude.{All, ◌&&◌, IsSome, bytes_eq, cond, nat_eq, option_and_then, option_map, slice_get}
 use Rattle.std.specs.List.{AllZip}
 use Rattle.std.proofs.lemmas.Bool.Decides.{nat_tests}
 use Rattle.std.proofs.lemmas.List.{get_or_default, length-append, length-take-le}
 use Rattle.std.proofs.lemmas.List.Elements.{All-append, All-cons, All-head, All-nil, All-tail, All-weaker}
+use Rattle.std.proofs.lemmas.Option.{get_or_from_slice_get, slice_get_cases}
 use Rattle.cls_set.specs.declared.Method.{Method}
 use Rattle.cls_set.specs.declared.class.Class.{Class}
 use Rattle.space_ids.specs.declared.ids.ClassId.{ClassId}
 use Rattle.cls_link.specs.declared.linked.LinkedMethod.{LinkedMethod}
 use Rattle.cls_link.specs.Links.{Declared, IsLinked, declared_in, declared_from, is_declared_as, number_from, number_of}
-use Rattle.cls_link.specs.Numbers.{starts, place_from}
-
--- a search among what is left
-pub place_passed : (ms : List Method) (i : ℕ) (m : Method) (n t : List ℕ) → i < length ms → m ≡ get_or ms i m → (bytes_eq m.name n && bytes_eq m.descriptor t) ≡ false → place_from i (drop i ms) n t ≡ place_from (i + 1) (drop (i + 1) ms) n t
-place_passed ms i m n t h is e =
-    let test : (bytes_eq (get_or ms i m).name n && bytes_eq (get_or ms i m).descriptor t) ≡ false = subst (λ (x : Method). (bytes_eq x.name n && bytes_eq x.descriptor t) ≡ false) is e in
-    rw (drop-cons ms i m, test, add-one) refl
+use Rattle.cls_search.specs.declared.methods.MethodIndex.{MethodIndex}
+use Rattle.cls_link.specs.Numbers.{number_in, starts}
+use Rattle.cls_search.specs.MethodSearches.{place_from, method_in, own_method}
 
 suc_moves : (p i : ℕ) → suc p + i ≡ p + suc i
 suc_moves p i = omega arith
@@ -66,14 +63,14 @@ number_none : (k : ℕ) (ds : List Declared) (class : ClassId) (n t : List ℕ) 
 number_none k ds class n t none = subst (λ xs. number_from k xs class n t ≡ None) (append-nil ds) (number_passed k ds [] class n t none)
 
 -- the number of a method by its place in its class
-number_in : (s k p : ℕ) (class : ClassId) (name : List ℕ) (ms : List Method) (post : List Declared) (n t : List ℕ) → All (λ d. d.class.0 ≢ class.0) post → number_from (s + k) (declared_in class name p ms ++ post) class n t ≡ option_map (λ i. record { 0 = s + i }) (place_from k ms n t)
-number_in s k p class name [] post n t none = number_none (s + k) post class n t none
-number_in s k p class name (m ∷ ms) post n t none =
+number_among : (s k p : ℕ) (class : ClassId) (name : List ℕ) (ms : List Method) (post : List Declared) (n t : List ℕ) → All (λ d. d.class.0 ≢ class.0) post → number_from (s + k) (declared_in class name p ms ++ post) class n t ≡ option_map (λ i. record { 0 = s + i }) (place_from k ms n t)
+number_among s k p class name [] post n t none = number_none (s + k) post class n t none
+number_among s k p class name (m ∷ ms) post n t none =
     let own = same_number class.0 in
     rw own
     (elim (bytes_eq m.name n && bytes_eq m.descriptor t) as (λ b. cond b (Some (record { 0 = s + k })) (number_from (suc (s + k)) (declared_in class name (suc p) ms ++ post) class n t) ≡ option_map (λ i. record { 0 = s + i }) (cond b (Some k) (place_from (suc k) ms n t))) [
       | true ↦ refl
-      | false ↦ ap (λ i. number_from i (declared_in class name (suc p) ms ++ post) class n t) (next s k) ∙ number_in s (suc k) (suc p) class name ms post n t none
+      | false ↦ ap (λ i. number_from i (declared_in class name (suc p) ms ++ post) class n t) (next s k) ∙ number_among s (suc k) (suc p) class name ms post n t none
     ])
 
 declared_around : (k : ℕ) (cs : List Class) (n : ℕ) (d : Class) → n < length cs → declared_from k cs ≡ declared_from k (take n cs) ++ (declared_in (record { 0 = k + n }) (get_or cs n d).file.name 0 (get_or cs n d).file.methods ++ declared_from (suc (k + n)) (drop (suc n) cs))
@@ -99,7 +96,7 @@ number_by_place cs class c n t h is =
     ∙ (number_passed 0 pre (own c ++ post) class n t before
     ∙ (ap (λ i. number_from i (own c ++ post) class n t) (start (length pre))
     ∙ (ap (λ i. number_from (length pre + 0) (declared_in (record { 0 = i }) c.file.name 0 c.file.methods ++ post) class n t) (zero-add class.0)
-    ∙ number_in (length pre) 0 0 class c.file.name c.file.methods post n t behind)))
+    ∙ number_among (length pre) 0 0 class c.file.name c.file.methods post n t behind)))
 
 -- where the methods of a class start
 starts_at : (s k : ℕ) (cs : List Class) (n : ℕ) → n < length cs → get_or (starts s cs) n 0 ≡ s + length (declared_from k (take n cs))
@@ -152,37 +149,62 @@ start_read cs first n k f kept h same is =
     let within : n < length (starts 0 cs) = subst (λ i. n < i) (sym (length_starts 0 cs)) h in
     is ∙ (ap (λ i. get_or first i f) same ∙ (ap (λ xs. get_or xs n f) kept ∙ (get_or_default (starts 0 cs) n f 0 within ∙ start_of cs n h)))
 
-module _ (cs classes : List Class) (class : ClassId) (c : Class) (f : ℕ) (items : List Method) (n t : List ℕ) (same : cs ≡ classes) (within : class.0 < length cs) (here : get_or cs class.0 c ≡ c) (start : f ≡ length (declared_from 0 (take class.0 cs))) (methods : items ≡ c.file.methods) where
-  pub method_found : (place : ℕ) → Some place ≡ place_from 0 items n t → Some (record { 0 = f + place }) ≡ number_of classes class n t
-  method_found place found =
-      ap (λ i. Some (record { 0 = i + place })) start
-      ∙ (ap (option_map (λ i. record { 0 = length (declared_from 0 (take class.0 cs)) + i })) (found ∙ ap (λ ms. place_from 0 ms n t) methods)
-      ∙ (sym (number_by_place cs class c n t within (sym here)) ∙ ap (λ xs. number_of xs class n t) same))
+-- no class declares a method if the set has no such class
+number_absent : (cs : List Class) (class : ClassId) (n t : List ℕ) → length cs ≤ class.0 → number_of cs class n t ≡ None
+number_absent cs class n t h =
+    number_none 0 (declared_from 0 cs) class n t
+    (All-weaker (Between 0 (0 + length cs)) (λ d. d.class.0 ≢ class.0) (λ d b. let high = b.1 in omega (arith, high, h)) (declared_from 0 cs) (classes_between 0 cs))
 
-  pub method_absent : None ≡ place_from 0 items n t → None ≡ number_of classes class n t
-  method_absent found =
-      ap (option_map (λ i. record { 0 = length (declared_from 0 (take class.0 cs)) + i })) (found ∙ ap (λ ms. place_from 0 ms n t) methods)
-      ∙ (sym (number_by_place cs class c n t within (sym here)) ∙ ap (λ xs. number_of xs class n t) same)
+numbers : (cs : List Class) (class : ClassId) (o : Option ℕ) → option_map (λ i. record { 0 = length (declared_from 0 (take class.0 cs)) + i }) o ≡ option_map (number_in cs) (option_map (λ i. record { class = class; index = i }) o)
+numbers cs class None = refl
+numbers cs class (Some i) = refl
 
-  pub method_small : (place count : ℕ) → place < length items → count ≡ length (declared_from 0 cs) → count < 2 ^ 32 → f + place < 2 ^ 32
-  method_small place count small all few =
-      let own : place < length c.file.methods = subst (λ ms. place < length ms) methods small in
-      let below = number_below cs class.0 c place within (sym here) own in
-      omega (arith, below, start, all, few)
+abbrev own_of : ClassId → List ℕ → List ℕ → Class → Option MethodIndex
+own_of class n t c = option_map (λ i. record { class = class; index = i }) (place_from 0 c.file.methods n t)
 
-  pub method_within : (place count : ℕ) → place < length items → count ≡ length (declared_from 0 cs) → f + place < count
-  method_within place count small all =
-      let own : place < length c.file.methods = subst (λ ms. place < length ms) methods small in
-      let below = number_below cs class.0 c place within (sym here) own in
-      omega (arith, below, start, all)
+-- the number of a class's method is that of what it declares
+pub number_found : (cs : List Class) (class : ClassId) (n t : List ℕ) → number_of cs class n t ≡ option_map (number_in cs) (own_method cs n t class)
+number_found cs class n t =
+    elim (slice_get_cases cs class.0).1 [
+      | inl r ↦
+          number_by_place cs class r.0 n t r.1 (sym r.3)
+          ∙ (numbers cs class (place_from 0 r.0.file.methods n t) ∙ ap (λ o. option_map (number_in cs) (option_and_then (own_of class n t) o)) (sym r.2))
+      | inr r ↦ number_absent cs class n t r.0 ∙ ap (λ o. option_map (number_in cs) (option_and_then (own_of class n t) o)) (sym r.1)
+    ]
 
-pub zip_length : (ds : List Declared) (ms : List LinkedMethod) → AllZip IsLinked ds ms → length ds ≡ length ms
-zip_length [] [] all = refl
-zip_length [] (m ∷ ms) all = absurd all
-zip_length (d ∷ ds) [] all = absurd all
-zip_length (d ∷ ds) (m ∷ ms) all = ap suc (zip_length ds ms all.1)
+-- a method of the set: its class, and where it stands
+pub record StandsIn (cs : List Class) (m : MethodIndex) : Type 0 where
+  pub c : Class
+  pub at : slice_get cs m.class.0 ≡ Some c
+  pub class_within : m.class.0 < length cs
+  pub within : m.index < length c.file.methods
+
+none_not : {X : Type 0} (o : Option X) → o ≡ None → IsSome o → ⊥
+none_not o e h = let n : false ≡ true = subst IsSome e h in cc
+
+pub stands : (cs : List Class) (m : MethodIndex) → IsSome (method_in cs m) → StandsIn cs m
+stands cs m h =
+    let there : Option Class → Option Method = option_and_then (λ (k : Class). slice_get k.file.methods m.index) in
+    elim (slice_get_cases cs m.class.0).1 [
+      | inl r ↦
+          elim (slice_get_cases r.0.file.methods m.index).1 [
+            | inl s ↦ record { c = r.0; at = r.2; class_within = r.1; within = s.1 }
+            | inr s ↦ absurd (none_not (method_in cs m) (ap there r.2 ∙ s.1) h)
+          ]
+      | inr r ↦ absurd (none_not (method_in cs m) (ap there r.1) h)
+    ]
+
+-- its number is below the number of methods
+pub number_small : (cs : List Class) (m : MethodIndex) → StandsIn cs m → length (declared_from 0 (take m.class.0 cs)) + m.index < length (declared_from 0 cs)
+number_small cs m s = number_below cs m.class.0 s.c m.index s.class_within (sym (get_or_from_slice_get cs m.class.0 s.c s.c s.at)) s.within
+
+pub zip_length : (classes : List Class) (ds : List Declared) (ms : List LinkedMethod) → AllZip (IsLinked classes) ds ms → length ds ≡ length ms
+zip_length classes [] [] all = refl
+zip_length classes [] (m ∷ ms) all = absurd all
+zip_length classes (d ∷ ds) [] all = absurd all
+zip_length classes (d ∷ ds) (m ∷ ms) all = ap suc (zip_length classes ds ms all.1)
 
 -- the start of one more class is kept
-pub starts_pushed : (cs : List Class) (n : ℕ) (old new : List ℕ) (count : ℕ) (ms : List LinkedMethod) → n < length cs → old ≡ starts 0 (take n cs) → AllZip IsLinked (declared_from 0 (take n cs)) ms → count ≡ length ms → new ≡ old ++ count ∷ [] → new ≡ starts 0 (take (n + 1) cs)
-starts_pushed cs n old new count ms h kept all is e =
-    e ∙ (ap (λ xs. xs ++ count ∷ []) kept ∙ (ap (λ i. starts 0 (take n cs) ++ i ∷ []) (is ∙ sym (zip_length (declared_from 0 (take n cs)) ms all)) ∙ sym (starts_more cs n h)))
+pub starts_pushed : (classes cs : List Class) (n : ℕ) (old new : List ℕ) (count : ℕ) (ms : List LinkedMethod) → n < length cs → old ≡ starts 0 (take n cs) → AllZip (IsLinked classes) (declared_from 0 (take n cs)) ms → count ≡ length ms → new ≡ old ++ count ∷ [] → new ≡ starts 0 (take (n + 1) cs)
+starts_pushed classes cs n old new count ms h kept all is e =
+    e ∙ (ap (λ xs. xs ++ count ∷ []) kept ∙ (ap (λ i. starts 0 (take n cs) ++ i ∷ []) (is ∙ sym (zip_length classes (declared_from 0 (take n cs)) ms all)) ∙ sym (starts_more cs n h)))

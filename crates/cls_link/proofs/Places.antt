@@ -1,5 +1,5 @@
 -- Where methods are declared.
-use Rattle.std.proofs.Common.{◌≡◌, ℕ, zero, suc, ◌+◌, ◌-◌, ◌<◌, ◌≤◌, ◌⊎◌, inl, inr, Option, Some, None, List, [], ◌∷◌, ◌++◌, length, get_or, drop, refl, sym, subst, ap, ◌∙◌, arith}
+use Rattle.std.proofs.Common.{◌≡◌, ℕ, zero, suc, ◌-◌, ◌<◌, ◌≤◌, inl, inr, Some, List, [], ◌∷◌, length, get_or, drop, refl, sym, subst, ap, ◌∙◌, arith}
 use Rattle.std.specs.Prelude.{All, IsSomeAnd, option_map, slice_get}
 use Rattle.std.specs.List.{AllZip}
 use Rattle.std.proofs.lemmas.List.Elements.{All-append, All-cons, All-nil, All-weaker, All-get_or}
@@ -64,7 +64,7 @@ placed k (c ∷ cs) =
 same_zero : (n : ℕ) → n - 0 ≡ n
 same_zero n = omega arith
 
-linked_at : (ds : List Declared) (ms : List LinkedMethod) (i : ℕ) (d : Declared) (m : LinkedMethod) → AllZip IsLinked ds ms → i < length ds → IsLinked (get_or ds i d) (get_or ms i m)
+linked_at : {classes : List Class} (ds : List Declared) (ms : List LinkedMethod) (i : ℕ) (d : Declared) (m : LinkedMethod) → AllZip (IsLinked classes) ds ms → i < length ds → IsLinked classes (get_or ds i d) (get_or ms i m)
 linked_at [] ms i d m all h = absurd (omega (arith, h))
 linked_at (x ∷ ds) [] i d m all h = absurd all
 linked_at (x ∷ ds) (y ∷ ms) zero d m all h = all.0
@@ -78,13 +78,13 @@ pub record IsAt (classes : List Class) (methods : List LinkedMethod) (i : ℕ) (
   pub method_there : slice_get class.file.methods entry.place ≡ Some method
   pub declared : option_map (λ (d : Declared). d.method) (slice_get (declared_methods classes) i) ≡ Some method
 
-pub at_number : (classes : List Class) (methods : List LinkedMethod) (i : ℕ) (entry : LinkedMethod) → AllZip IsLinked (declared_methods classes) methods → i < length (declared_methods classes) → entry ≡ get_or methods i entry → IsAt classes methods i entry
+pub at_number : (classes : List Class) (methods : List LinkedMethod) (i : ℕ) (entry : LinkedMethod) → AllZip (IsLinked classes) (declared_methods classes) methods → i < length (declared_methods classes) → entry ≡ get_or methods i entry → IsAt classes methods i entry
 at_number classes methods i entry all h is =
     let ds = declared_methods classes in
     elim (slice_get_cases ds i).1 [
       | inl r ↦
           let d = r.0 in
-          let linked : IsLinked d entry = subst (IsLinked d) (sym is) (subst (λ x. IsLinked x (get_or methods i entry)) r.3 (linked_at ds methods i d entry all h)) in
+          let linked : IsLinked classes d entry = subst (IsLinked classes d) (sym is) (subst (λ x. IsLinked classes x (get_or methods i entry)) r.3 (linked_at ds methods i d entry all h)) in
           let here : IsPlaced 0 classes d = subst (IsPlaced 0 classes) r.3 (All-get_or (IsPlaced 0 classes) ds i d h (placed 0 classes)) in
           let found = some_of (slice_get classes (d.class.0 - 0)) (λ (c : Class). slice_get c.file.methods d.place ≡ Some d.method) here.at in
           record {

@@ -1,7 +1,8 @@
+pub mod FaultNames
 pub mod Fields
+pub mod LinkFaults
+pub mod LinkedForms
 pub mod Links
 pub mod Numbers
-pub mod Searches
 pub mod Selections
 pub mod Targets
-pub mod FaultNames

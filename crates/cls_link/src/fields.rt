@@ -1,8 +1,8 @@
-//! Searches for fields, and how many of them objects have.
+//! How many fields objects have, and where they keep them.
 
 ghost use Rattle.std.specs.Prelude.{◌≡◌, ◌+◌, ◌-◌, ◌*◌, ◌<◌, ◌≤◌, ◌&&◌, ℕ, suc, Some, IfSome, IfNone, IfOk, IsSome, IsTrue, bytes_eq, count_by, drop, length, slice_get};
-ghost use Rattle.cls_link.specs.Fields as spec;
-ghost use Rattle.cls_link.specs.Fields.{place_from, is_instance, field_at, AreFieldCounts, CountsFields, IsRanking, ResolvesField};
+ghost use Rattle.cls_link.specs.Fields.{is_instance, AreFieldCounts, CountsFields};
+ghost use Rattle.cls_search.specs.Searches.{IsRanking};
 ghost use Rattle.cf_reader.specs.declared.class_file.Field.{Field};
 ghost use Rattle.space_ids.specs.declared.ids.ClassId.{ClassId};
 ghost use Rattle.cls_set.specs.Sets.{IsClassSet};
@@ -10,72 +10,6 @@ ghost use Rattle.cls_set.specs.Sets.{IsClassSet};
 use super::FieldSlot;
 use cls_set::{ClassId, ClassSet, Field, Flags};
 use std::alloc::{AllocError, Global};
-
-// A field: the class that declares it, and its place among the fields of that class.
-#[derive(Clone, Copy)]
-pub(crate) struct FieldPlace {
-    pub(crate) class: ClassId,
-    pub(crate) place: usize,
-}
-
-fn is_named(field: &Field, name: &[u8], descriptor: &[u8]) -> bool
-    ensures { result ≡ (bytes_eq field.now.name name.now && bytes_eq field.now.descriptor descriptor.now) }
-{
-    field.name.as_bytes() == name && field.descriptor.as_bytes() == descriptor
-}
-
-// The place of the first field with this name and descriptor.
-fn find(fields: &[Field], name: &[u8], descriptor: &[u8]) -> Option<usize>
-    ensures found { result ≡ place_from 0 fields.now name.now descriptor.now }
-    ensures within { IfSome result (λ place. place < length fields.now) }
-{
-    for (place, field) in fields.iter().enumerate() {
-        if is_named(field, name, descriptor) {
-            return Some(place);
-        }
-    }
-    None
-}
-
-// The field that a class declares with this name and descriptor.
-fn own_field(set: &ClassSet, class: ClassId, name: &[u8], descriptor: &[u8]) -> Option<FieldPlace>
-    requires in_set { class.0 < length set.now }
-    ensures found { result ≡ spec.own_field set.now name.now descriptor.now class }
-    ensures within { IfSome result (λ f. IsSome (field_at set.now f)) }
-{
-    let fields = set.class(class).file.fields.as_slice();
-    match find(fields, name, descriptor) {
-        Some(place) => Some(FieldPlace { class, place }),
-        None => None,
-    }
-}
-
-// The field that a name and a descriptor mean in a class.
-pub(crate) fn find_field(
-    set: &ClassSet,
-    class: ClassId,
-    name: &[u8],
-    descriptor: &[u8],
-) -> Option<FieldPlace>
-    requires set { IsClassSet set.now }
-    requires in_set { class.0 < length set.now }
-    ensures found { ResolvesField set.now class name.now descriptor.now result }
-    ensures within { IfSome result (λ f. IsSome (field_at set.now f)) }
-{
-    if let Some(field) = own_field(set, class, name, descriptor) {
-        return Some(field);
-    }
-    let entry = set.class(class);
-    'superinterfaces: for superinterface in entry.interfaces.as_slice() {
-        if let Some(field) = find_field(set, *superinterface, name, descriptor) {
-            return Some(field);
-        }
-    }
-    match entry.superclass {
-        Some(superclass) => find_field(set, superclass, name, descriptor),
-        None => None,
-    }
-}
 
 fn is_of_instances(field: &Field) -> bool
     ensures { result ≡ is_instance field.now }

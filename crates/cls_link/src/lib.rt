@@ -2,13 +2,19 @@
 //! resolved before anything runs, and the look-ups of members by name and descriptor.
 #![tactic(auto)]
 
-pub use cf_insns::{BinaryOperator, CodeRule, Condition, StackOperation, UnaryOperator, ValueKind};
+pub use cf_insns::{
+    ArrayOperation, BinaryOperator, CodeRule, Condition, Equality, InvokeKind, StackOperation,
+    UnaryOperator, ValueKind,
+};
+pub use cls_resolve::{CastType, LinkRule, MemberIndex};
 pub use cls_set::{
     Class, ClassFile, ClassId, ClassSet, Code, ElementType, Field, FieldType, Flags, Method,
-    MethodDescriptor, Numbered, Pool, Row, SetFault, SetRule, Table, Text,
+    MethodDescriptor, Numbered, Pool, Row, SetFault, SetRule, Shared, Table, Text,
 };
-pub use fault::{LinkFault, LinkRule};
-pub use linked::{FieldSlot, LinkedCode, LinkedInsn, LinkedMethod, MethodId, Selection};
+pub use fault::LinkFault;
+pub use linked::{
+    FieldSlot, LinkedCode, LinkedInsn, LinkedMethod, LinkedSwitch, MethodId, Selection,
+};
 pub use links::{Linked, link};
 
 mod fault;
@@ -17,3 +23,6 @@ mod linked;
 mod linking;
 mod links;
 mod methods;
+mod naming;
+mod stop;
+mod targets;

@@ -1,14 +1,14 @@
 //! Linked class sets: their look-ups.
 
-ghost use Rattle.std.specs.Prelude.{◌≡◌, ◌<◌, ◌&&◌, IfOk, IfErr, IfSome, bytes_eq, length};
-ghost use Rattle.cls_link.specs.Links.{declared_methods, AreLinks, IsLinkFault};
-ghost use Rattle.cls_link.specs.Numbers.{place_from};
-ghost use Rattle.cls_link.specs.Selections as selections;
+ghost use Rattle.std.specs.Prelude.{◌≡◌, IfOk, IfErr, OnOk};
+ghost use Rattle.cls_link.specs.LinkFaults.{AreSound, IsLinkFault};
+ghost use Rattle.cls_link.specs.Links.{AreLinks};
 
-use super::fields::{FieldPlace, count_all, find_field, slot_in};
+use super::fields::{count_all, slot_in};
 use super::linking::link_class;
-use super::methods::{in_interfaces, in_superclasses, selected};
-use super::{FieldSlot, LinkFault, LinkedMethod, MethodId, Selection};
+use super::methods::selected;
+use super::{FieldSlot, LinkFault, LinkedMethod, MemberIndex, MethodId, Selection};
+use cls_search::{FieldPlace, MethodIndex, find_field, find_method, own_method};
 use cls_set::{ClassId, ClassSet, Method};
 use std::alloc::Global;
 use std::marker::Model;
@@ -40,9 +40,13 @@ impl Model for Linked {
 
 impl Linked {
     ghost use Rattle.std.specs.Prelude.{◌≡◌, ◌<◌, Some, IfSome, IsSome, length, slice_get};
-    ghost use Rattle.cls_link.specs.Fields.{field_at, IsFieldSlot, IsSlot};
+    ghost use Rattle.cls_link.specs.Fields.{CountsFields, IsFieldSlot, IsSlot};
+    ghost use Rattle.cls_search.specs.FieldSearches.{field_at};
     ghost use Rattle.cls_link.specs.Links.{AreLinks, method_at, number_of};
+    ghost use Rattle.cls_resolve.specs.Meanings.{field_of, method_of};
+    ghost use Rattle.cls_link.specs.Numbers.{number_in};
     ghost use Rattle.cls_link.specs.Selections.{IsSelection, ResolvesMethod, Selects};
+    ghost use Rattle.cls_search.specs.MethodSearches.{method_in};
 
     /// How many methods it has.
     pub fn len(&self) -> usize
@@ -71,12 +75,33 @@ impl Linked {
         ensures number { result ≡ number_of self.now.classes class name.now descriptor.now }
         ensures within { IfSome result (λ id. id.0 < length self.now.methods) }
     {
-        let first = self.first[usize::from(class.0)];
-        let methods = self.set.class(class).file.methods.as_slice();
-        match find(methods, name, descriptor) {
-            Some(place) => Some(MethodId((first + place) as u32)),
+        match own_method(&self.set, class, name, descriptor) {
+            Some(method) => Some(self.number(method)),
             None => None,
         }
+    }
+
+    // The number of a method.
+    fn number(&self, method: MethodIndex) -> MethodId
+        requires { IsSome (method_in self.now.classes method) }
+        ensures number { result ≡ number_in self.now.classes method }
+        ensures within { result.0 < length self.now.methods }
+    {
+        let first = self.first[usize::from(method.class.0)];
+        MethodId((first + method.index) as u32)
+    }
+
+    /// The number of a method that is told by its index, as linked instructions tell it.
+    pub fn method_id(&self, member: MemberIndex) -> MethodId
+        requires { IsSome (method_in self.now.classes (method_of member)) }
+        ensures declared { method_at self.now.classes result ≡ method_in self.now.classes (method_of member) }
+        ensures number { result ≡ number_in self.now.classes (method_of member) }
+        ensures within { result.0 < length self.now.methods }
+    {
+        self.number(MethodIndex {
+            class: member.class,
+            index: usize::from(member.index),
+        })
     }
 
     /// The number of the method that a name and a descriptor mean in a class or an interface (JVMS
@@ -88,15 +113,9 @@ impl Linked {
         ensures resolved { ResolvesMethod self.now.classes class name.now descriptor.now result }
         ensures within { IfSome result (λ id. id.0 < length self.now.methods) }
     {
-        if is_initializer(name) {
-            return self.declared_method(class, name, descriptor);
-        }
-        if self.set.class(class).is_interface() {
-            return in_interfaces(self, class, name, descriptor);
-        }
-        match in_superclasses(self, class, name, descriptor) {
-            Some(method) => Some(method),
-            None => in_interfaces(self, class, name, descriptor),
+        match find_method(&self.set, class, name, descriptor, &mut []) {
+            Some(method) => Some(self.number(method)),
+            None => None,
         }
     }
 
@@ -107,10 +126,30 @@ impl Linked {
         requires { class.0 < length self.now.classes }
         ensures { IsSlot self.now.classes class name.now descriptor.now result }
     {
-        match find_field(&self.set, class, name, descriptor) {
+        match find_field(&self.set, class, name, descriptor, &mut []) {
             Some(field) => self.slot_of(field),
             None => None,
         }
+    }
+
+    /// Where an object keeps a field that is told by its index, as linked instructions tell it: `None` for
+    /// a static one.
+    pub fn field_slot_of(&self, member: MemberIndex) -> Option<FieldSlot>
+        requires { IsSome (field_at self.now.classes (field_of member)) }
+        ensures { IsFieldSlot self.now.classes (field_of member) result }
+    {
+        self.slot_of(FieldPlace {
+            class: member.class,
+            place: usize::from(member.index),
+        })
+    }
+
+    /// How many fields an object of a class has, those of its superclasses too.
+    pub fn field_count(&self, class: ClassId) -> u32
+        requires { class.0 < length self.now.classes }
+        ensures { CountsFields self.now.classes class result }
+    {
+        self.field_counts[usize::from(class.0)]
     }
 
     // Where an object keeps a field: nowhere, where it is static.
@@ -123,7 +162,7 @@ impl Linked {
         slot_in(fields, field.place, count)
     }
 
-    /// The method that a call of a resolved method runs (JVMS 5.4.6): the first instance method of its
+    /// The method that a call of a resolved method runs (JVMS 5.4.5, 6.5): the first instance method of its
     /// name and descriptor from this class up its superclasses, a private one too. The class is that of
     /// the receiver, or for invokespecial that with which its rule begins (JVMS 6.5).
     pub fn select(&self, class: ClassId, method: MethodId) -> Selection
@@ -150,8 +189,8 @@ impl Linked {
         }
     }
 
-    // The method with this number, as declared.
-    pub(crate) fn declaration(&self, method: MethodId) -> &Method
+    /// The method with this number, as declared.
+    pub fn declaration(&self, method: MethodId) -> &Method
         requires { method.0 < length self.now.methods }
         ensures declared { method_at self.now.classes method ≡ Some result.now }
         ensures links { AreLinks self.now }
@@ -170,48 +209,31 @@ impl Linked {
     }
 }
 
-fn is_initializer(name: &[u8]) -> bool
-    ensures { result ≡ selections.is_initializer name.now }
-{
-    name == b"<init>".as_slice()
-}
-
-fn is_named(method: &Method, name: &[u8], descriptor: &[u8]) -> bool
-    ensures { result ≡ (bytes_eq method.now.name name.now && bytes_eq method.now.descriptor descriptor.now) }
-{
-    method.name.as_bytes() == name && method.descriptor.as_bytes() == descriptor
-}
-
-// The place of the first method with this name and descriptor.
-fn find(methods: &[Method], name: &[u8], descriptor: &[u8]) -> Option<usize>
-    ensures found { result ≡ place_from 0 methods.now name.now descriptor.now }
-    ensures within { IfSome result (λ place. place < length methods.now) }
-{
-    for (place, method) in methods.iter().enumerate() {
-        if is_named(method, name, descriptor) {
-            return Some(place);
-        }
-    }
-    None
-}
-
 /// Links the methods of a class set: each code is read once, with each branch as the index of the
-/// instruction that it goes to.
+/// instruction that it goes to. Every class, field and method that code names is looked for here, also
+/// where the code is never reached (JVMS 5.4.3).
 ///
-/// The first method at fault counts, by class number and then as declared. In this project's profile
-/// of now, whose instructions name nothing, only `Code` faults can come.
+/// The first method at fault counts, by class number and then as declared. In it a `Code` fault counts
+/// first, else the first instruction that breaks a rule on what it names. At one instruction the rules
+/// are looked for in this order: `AbsentClass`, `WrongRefKind`, `Access` of the class, `Abstract`,
+/// `AbsentField` or `AbsentMethod`, `Access` of the member, `StaticMismatch`, `FinalField`,
+/// `PrivateVirtual`.
 pub fn link(alloc: Global, set: ClassSet) -> Result<Linked, LinkFault>
     ensures classes { IfOk result (λ linked. linked.classes ≡ set) }
     ensures links { IfOk result AreLinks }
-    ensures fault { IfErr result (IsLinkFault (declared_methods set)) }
+    ensures found { OnOk result (AreSound set) }
+    ensures only { AreSound set → IfErr result (λ fault. fault ≡ LinkFault.Memory) }
+    ensures fault { IfErr result (IsLinkFault set) }
 {
     let field_counts = count_all(alloc, &set)?;
     let mut methods = Vec::new(alloc);
     let mut first = Vec::with_capacity(alloc, set.len())?;
+    let mut marks = vec![in alloc; false; set.len()]?;
     for number in 0..set.len() {
         first.push(methods.len())?;
         let class = ClassId(number as u16);
-        link_class(alloc, class, &set.class(class).file, &mut methods)?;
+        let file = &set.class(class).file;
+        link_class(alloc, &set, class, file, &mut marks, &mut methods)?;
     }
     Ok(Linked {
         set,

@@ -1,8 +1,8 @@
-use Rattle.std.proofs.Common.{◌≡◌, ℕ, zero, suc, ◌+◌, ◌-◌, ◌<◌, ◌≤◌, true, false, Option, Some, List, [], ◌∷◌, length, get_or, map, refl, sym, subst, ap, ◌∙◌, arith}
-use Rattle.std.specs.Prelude.{All, Contains, IsPermutation, IfSome, IsSome, OnSome, bytes_eq, count_by, cond, slice_get, option_map}
+use Rattle.std.proofs.Common.{◌≡◌, ℕ, zero, suc, ◌+◌, ◌-◌, ◌<◌, ◌≤◌, inl, inr, true, false, Option, Some, None, List, [], ◌∷◌, length, get_or, map, refl, sym, subst, ap, ◌∙◌, arith}
+use Rattle.std.specs.Prelude.{All, Contains, IsPermutation, IfSome, IsSome, bytes_eq, count_by, cond, slice_get, option_map}
 use Rattle.std.specs.List.Sorted.{IsStrictlySortedBy}
 use Rattle.std.proofs.lemmas.List.{get_or-map, length-append, length-map}
-use Rattle.std.proofs.lemmas.List.Elements.{All-map, Contains-append_left}
+use Rattle.std.proofs.lemmas.List.Elements.{All-get_or, All-map, Contains-append_left}
 use Rattle.std.proofs.lemmas.List.Sorted.{IsPermutation-map, IsPermutation-sym, Contains-permutation, length_permutation, sum_by-IsPermutation}
 use Rattle.std.proofs.lemmas.Slice.Eq.{bytes_eq-Decides}
 use Rattle.cf_reader.specs.declared.class_file.ClassFile.{ClassFile}
@@ -12,19 +12,21 @@ use Rattle.cls_set.specs.declared.fault.SetFault.TheVariants.{Broken, Memory}
 use Rattle.cls_set.specs.declared.fault.SetRule.TheVariants.{Duplicate, AbsentClass, Cycle, TooMany}
 use Rattle.cls_set.specs.declared.members.Member.{Member}
 use Rattle.cls_set.specs.BuiltIn.{built_ins, built_in_files, file_of}
-use Rattle.cls_set.specs.Building.{ranked_from, kept, origins_of, IsAbsentFault, IsCycleFault, IsDuplicateFault, IsFaultOf}
+use Rattle.cls_set.specs.Building.{ranked_from, kept, origins_of, IsAbsentFault, IsCycleFault, IsDuplicateFault, IsFaultOf, IsWhole}
 use Rattle.cls_set.specs.Classes.{name_cmp, names, number_from, number_of}
-use Rattle.cls_set.specs.Members.{classes_of, AreMembers, IsRanked}
-use Rattle.cls_set.specs.Sets.{Origin, origin, origins, origin_names, HasClasses, HasAbsent, IsResolved, IsFirstCycle, IsFirstDuplicate, IsSetFault, IsTooMany, IsWithoutAbsent, IsWithoutCycles, IsWithoutDuplicates}
+use Rattle.cls_set.specs.Members.{classes_of, AreArranged, IsRanked}
+use Rattle.cls_set.specs.Sets.{Origin, origin, origins, origin_names, HasClasses, HasAbsent, IsResolved, IsFirstCycle, IsFirstDuplicate, IsWithoutAbsent, IsWithoutCycles, IsWithoutDuplicates}
+use Rattle.cls_set.specs.Faults.{IsSetFault}
 use Rattle.cls_set.specs.Subtypes.{IsDirectSupertype}
+use Rattle.cls_set.proofs.Turns.{AreKeptBelow, kept_next}
 use Rattle.cls_set.specs.Walks.{IsFirstOwn}
-use Rattle.std.proofs.lemmas.Option.{slice_get-map}
+use Rattle.std.proofs.lemmas.Option.{slice_get-get_or, slice_get-map, slice_get_cases, slice_get_within}
 use Rattle.cls_set.proofs.Absent.{cycle_fault}
-use Rattle.cls_set.proofs.Cycles.{first_cycle, more_named, none_absent, none_own}
+use Rattle.cls_set.proofs.Cycles.{first_cycle, more_named, none_own, standing}
 use Rattle.cls_set.proofs.Gathered.{length_ranked}
 use Rattle.cls_set.proofs.Resolved.{names_kept, length_kept, origins_kept}
 use Rattle.cls_set.proofs.Sorting.{matches, count_strict}
-use Rattle.cls_set.proofs.Hierarchy.{class_of_read, rank_of}
+use Rattle.cls_set.proofs.Hierarchy.{class_of_read, rank_of, same_some, true_false}
 use Rattle.cls_set.proofs.Supertypes.{ranks}
 
 abbrev pub origin_of : Member → Origin
@@ -76,7 +78,7 @@ named k (c ∷ cs) o (suc i) h e =
       | false ↦ named (suc k) cs o i (omega arith) e
     ]
 
-built_in_stands : (files : List ClassFile) (classes : List Class) → HasClasses files classes → All (λ b. IsSome (number_of classes b.name)) built_ins
+pub built_in_stands : (files : List ClassFile) (classes : List Class) → HasClasses files classes → All (λ b. IsSome (number_of classes b.name)) built_ins
 built_in_stands files classes has k d h =
     let b = get_or built_ins k d in
     let built : ClassFile → Origin = λ file. (file, true) in
@@ -106,7 +108,7 @@ module _ (files : List ClassFile) (members : List Member) (all : IsPermutation (
       }
 
   pub duplicate_fault : (fault : SetFault) → IsDuplicateFault (names (classes_of members)) fault → IsSetFault files fault
-  duplicate_fault (Broken Duplicate name) h = duplicate_held name h
+  duplicate_fault (Broken Duplicate name) h = (duplicate_held name h, λ other l. absurd (omega (arith, l)))
   duplicate_fault Memory h = tt
   duplicate_fault (Broken _ name) h = absurd h
 
@@ -119,11 +121,33 @@ module _ (files : List ClassFile) (members : List Member) (all : IsPermutation (
   all_long : length members ≡ length (origins files)
   all_long = length_permutation (ranked_from 0 (origins files)) members all ∙ length_ranked 0 (origins files)
 
-  pub few_held : length files ≤ 1 → length members ≤ 4096
-  few_held few =
+  pub few_held : (last : Option (List ℕ)) → last ≡ option_map (λ (file : ClassFile). file.name) (slice_get files (length files - 1)) → (IsSome last → length members ≤ 4096) → length members ≤ 4096
+  few_held last is few =
+      elim (slice_get_cases files (length files - 1)).1 [
+        | inl r ↦ few (subst IsSome (sym (is ∙ ap (option_map (λ (file : ClassFile). file.name)) r.2)) refl)
+        | inr r ↦
+            let whole = all_long in
+            let both = length_origins files in
+            let past = r.0 in
+            omega (arith, whole, both, past)
+      ]
+
+  few_origins : length members ≤ 4096 → length (origins files) ≤ 4096
+  few_origins few = let whole = all_long in omega (arith, whole, few)
+
+  -- the rules so far are kept
+  pub kept_distinct : IsStrictlySortedBy name_cmp (names (classes_of members)) → AreKeptBelow files 1
+  kept_distinct ordered = kept_next files Duplicate 0 refl (λ other l. absurd (omega (arith, l))) (distinct ordered)
+
+  pub kept_few : IsStrictlySortedBy name_cmp (names (classes_of members)) → length members ≤ 4096 → AreKeptBelow files 2
+  kept_few ordered few = kept_next files TooMany 1 refl (kept_distinct ordered) (few_origins few)
+
+  pub many_fault : IsStrictlySortedBy name_cmp (names (classes_of members)) → (last : Option (List ℕ)) → last ≡ option_map (λ (file : ClassFile). file.name) (slice_get files (length files - 1)) → (fault : SetFault) → 4096 < length members → IfSome last (λ name. IsFaultOf TooMany name fault) → IsSome last → IsSetFault files fault
+  many_fault ordered (Some name) is (Broken rule n) over h some =
       let whole = all_long in
-      let both = length_origins files in
-      omega (arith, whole, both)
+      subst (λ r. IsSetFault files (Broken r n)) (sym h.0) (record { many = omega (arith, whole, over); last = sym is ∙ ap (λ x. Some x) (sym h.1) }, kept_distinct ordered)
+  many_fault ordered (Some name) is Memory over h some = tt
+  many_fault ordered None is fault over h some = absurd (true_false (sym some))
 
   forth : (o : Origin) → Contains (origins files) o → Contains (origins_of members) o
   forth o among = Contains-permutation (origins files) (origins_of members) o origins_held among
@@ -132,59 +156,32 @@ module _ (files : List ClassFile) (members : List Member) (all : IsPermutation (
   back o among = Contains-permutation (origins_of members) (origins files) o (IsPermutation-sym (origins files) (origins_of members) origins_held) among
 
   absent_out : (file : ClassFile) → HasAbsent (names (classes_of members)) file → HasAbsent (origin_names files) file
-  absent_out file h = record { super = h.super; declared = h.declared; absent = λ among. h.absent (Contains-permutation (origin_names files) (names (classes_of members)) h.super names_held among) }
+  absent_out file h = record { name = h.name; mentioned = h.mentioned; absent = λ among. h.absent (Contains-permutation (origin_names files) (names (classes_of members)) h.name names_held among) }
 
   absent_in : (file : ClassFile) → HasAbsent (origin_names files) file → HasAbsent (names (classes_of members)) file
   absent_in file h =
       record {
-        super = h.super;
-        declared = h.declared;
-        absent = λ among. h.absent (Contains-permutation (names (classes_of members)) (origin_names files) h.super (IsPermutation-sym (origin_names files) (names (classes_of members)) names_held) among);
+        name = h.name;
+        mentioned = h.mentioned;
+        absent = λ among. h.absent (Contains-permutation (names (classes_of members)) (origin_names files) h.name (IsPermutation-sym (origin_names files) (names (classes_of members)) names_held) among);
       }
 
-  pub absent_fault : IsStrictlySortedBy name_cmp (names (classes_of members)) → (fault : SetFault) → IsAbsentFault (names (classes_of members)) (origins_of members) fault → IsSetFault files fault
-  absent_fault ordered (Broken AbsentClass name) h =
-      record {
-        distinct = distinct ordered;
-        absent = record {
-          class = h.class;
-          stands = back h.class h.stands;
-          named = h.named;
-          absent = absent_out h.class.0 h.absent;
-          first = λ other among less a. h.first other (forth other among) less (absent_in other.0 a);
-        };
-      }
-  absent_fault ordered Memory h = tt
-  absent_fault ordered (Broken _ name) h = absurd h
-
-  -- the last file's name, where there are more than one
-  module _ (given : List ClassFile) (is_given : given ≡ files) (last : Option (List ℕ)) (name : List ℕ) (is : last ≡ Some name) (many : OnSome last (1 < length given)) (end : IfSome last (λ n. option_map (λ (file : ClassFile). file.name) (slice_get given (length given - 1)) ≡ Some n)) where
-    too_many : IsWithoutDuplicates (origin_names files) → (length (origins files) ≤ 4096 → IsWithoutAbsent (origin_names files) (origins files)) → (length (origins files) ≤ 4096 → IsWithoutCycles (origins files)) → IsTooMany files name
-    too_many d complete acyclic =
-        record {
-          distinct = d;
-          complete = complete;
-          acyclic = acyclic;
-          many = subst (λ fs. 1 < length fs) is_given (subst (λ o. OnSome o (1 < length given)) is many);
-          last = subst (λ (fs : List ClassFile). option_map (λ file. file.name) (slice_get fs (length fs - 1)) ≡ Some name) is_given (subst (λ o. IfSome o (λ n. option_map (λ (file : ClassFile). file.name) (slice_get given (length given - 1)) ≡ Some n)) is end);
-        }
-
-    many_fault : (fault : SetFault) → IsTooMany files name → IsFaultOf TooMany name fault → IsSetFault files fault
-    many_fault (Broken rule n) t h = subst (λ r. IsSetFault files (Broken r n)) (sym h.0) (subst (IsTooMany files) (sym h.1) t)
-    many_fault Memory t h = tt
-
-    -- more than can be numbered
-    pub unnumbered : IsStrictlySortedBy name_cmp (names (classes_of members)) → (fault : SetFault) → 4096 < length members → IsFaultOf TooMany name fault → IsSetFault files fault
-    unnumbered ordered fault over h =
-        let whole = all_long in
-        many_fault fault (too_many (distinct ordered) (λ few. absurd (omega (arith, few, whole, over))) (λ few. absurd (omega (arith, few, whole, over)))) h
-
-    -- more than one
-    pub numbered : IsWithoutDuplicates (origin_names files) → IsWithoutAbsent (origin_names files) (origins files) → IsWithoutCycles (origins files) → (fault : SetFault) → IsFaultOf TooMany name fault → IsSetFault files fault
-    numbered d complete acyclic fault h = many_fault fault (too_many d (λ _. complete) (λ _. acyclic)) h
+  pub absent_fault : IsStrictlySortedBy name_cmp (names (classes_of members)) → length members ≤ 4096 → (fault : SetFault) → IsAbsentFault (names (classes_of members)) (origins_of members) fault → IsSetFault files fault
+  absent_fault ordered few (Broken AbsentClass name) h = (
+    record {
+      class = h.class;
+      stands = back h.class h.stands;
+      named = h.named;
+      absent = absent_out h.class.0 h.absent;
+      first = λ other among less a. h.first other (forth other among) less (absent_in other.0 a);
+    },
+    kept_few ordered few,
+  )
+  absent_fault ordered few Memory h = tt
+  absent_fault ordered few (Broken _ name) h = absurd h
 
   -- the members once they are resolved
-  module _ (resolved : List Member) (same : map kept resolved ≡ map kept members) (ordered : IsStrictlySortedBy name_cmp (names (classes_of members))) (found : All (λ m. IsResolved (names (classes_of members)) m.class) resolved) where
+  module _ (resolved : List Member) (same : map kept resolved ≡ map kept members) (ordered : IsStrictlySortedBy name_cmp (names (classes_of members))) (found : All (λ m. IsWhole (names (classes_of members)) m.class) resolved) where
     pub has_classes : HasClasses files (classes_of resolved)
     has_classes =
         subst (IsPermutation (origins files)) (sym (origins_of_classes resolved ∙ (origins_from_kept resolved ∙ (ap (map (λ (k : Origin × ℕ). k.0)) same ∙ sym (origins_from_kept members))))) origins_held
@@ -194,31 +191,38 @@ module _ (files : List ClassFile) (members : List Member) (all : IsPermutation (
 
     pub found_kept : All (IsResolved (names (classes_of resolved))) (classes_of resolved)
     found_kept =
-        All-map (IsResolved (names (classes_of resolved))) (λ (m : Member). m.class) resolved (subst (λ n. All (λ m. IsResolved n m.class) resolved) (sym (names_kept resolved members same)) found)
+        All-map (IsResolved (names (classes_of resolved))) (λ (m : Member). m.class) resolved (subst (λ n. All (λ m. IsResolved n m.class) resolved) (sym (names_kept resolved members same)) (λ k d h. (found k d h).resolved))
 
     inside : (o : Origin) → Contains (origins files) o → Contains (map origin (classes_of resolved)) o
     inside o among = subst (λ os. Contains os o) (sym (origins_of_classes resolved ∙ origins_kept resolved members same)) (forth o among)
 
+    whole_at : (i : ℕ) (c : Class) → slice_get (classes_of resolved) i ≡ Some c → IsWhole (names (classes_of members)) c
+    whole_at i c e =
+        let h = slice_get_within (classes_of resolved) i c e in
+        subst (IsWhole (names (classes_of members))) (same_some (sym (slice_get-get_or (classes_of resolved) i c h) ∙ e))
+        (All-get_or (IsWhole (names (classes_of members))) (classes_of resolved) i c h (All-map (IsWhole (names (classes_of members))) (λ (m : Member). m.class) resolved found))
+
     pub complete : IsWithoutAbsent (origin_names files) (origins files)
     complete o among a =
-        none_absent (classes_of resolved) ordered_kept found_kept o (inside o among)
-        (subst (λ ns. HasAbsent ns o.0) (sym (names_kept resolved members same)) (absent_in o.0 a))
+        let at = standing (classes_of resolved) ordered_kept found_kept o (inside o among) in
+        (whole_at at.0 at.1 at.2).present (subst (λ (o : Origin). HasAbsent (names (classes_of members)) o.0) (sym at.3) (absent_in o.0 a))
 
     outside : (o : Origin) → Contains (origins_of resolved) o → Contains (origins files) o
     outside o among = back o (subst (λ os. Contains os o) (origins_kept resolved members same) among)
 
-    pub cycle_held : (fault : SetFault) → IsCycleFault (origins_of resolved) fault → IsSetFault files fault
-    cycle_held (Broken Cycle name) h =
-        record {
-          distinct = distinct ordered;
-          complete = complete;
-          cycle = record {
-            cycle = more_named (origins_of resolved) (origins files) outside name name h.cycle;
-            first = λ other less s. h.first other less (more_named (origins files) (origins_of resolved) (λ o among. subst (λ os. Contains os o) (origins_of_classes resolved) (inside o among)) other other s);
-          };
-        }
-    cycle_held Memory h = tt
-    cycle_held (Broken _ name) h = absurd h
+    pub kept_complete : length members ≤ 4096 → AreKeptBelow files 3
+    kept_complete few = kept_next files AbsentClass 2 refl (kept_few ordered few) complete
+
+    pub cycle_held : length members ≤ 4096 → (fault : SetFault) → IsCycleFault (origins_of resolved) fault → IsSetFault files fault
+    cycle_held few (Broken Cycle name) h = (
+      record {
+        cycle = more_named (origins_of resolved) (origins files) outside name name h.cycle;
+        first = λ other less s. h.first other less (more_named (origins files) (origins_of resolved) (λ o among. subst (λ os. Contains os o) (origins_of_classes resolved) (inside o among)) other other s);
+      },
+      kept_complete few,
+    )
+    cycle_held few Memory h = tt
+    cycle_held few (Broken _ name) h = absurd h
 
     -- once they are ranked too
     module _ (final : List Member) (is_final : classes_of final ≡ classes_of resolved) (ranked : All (IsRanked final) final) where
@@ -230,16 +234,17 @@ module _ (files : List ClassFile) (members : List Member) (all : IsPermutation (
       pub has_classes_ranked : HasClasses files (classes_of final)
       has_classes_ranked = subst (HasClasses files) (sym is_final) has_classes
 
-      pub are_members : length files ≤ 1 → AreMembers final
-      are_members few =
+      pub kept_acyclic : length members ≤ 4096 → AreKeptBelow files 4
+      kept_acyclic few = kept_next files Cycle 3 refl (kept_complete few) acyclic
+
+      pub arranged : length members ≤ 4096 → AreArranged final
+      arranged few =
           record {
-            set = record {
-              ordered = subst (λ cs. IsStrictlySortedBy name_cmp (names cs)) (sym is_final) ordered_kept;
-              few = subst (λ (cs : List Class). length cs ≤ 4096) (sym is_final) (subst (λ n. n ≤ 4096) (sym (length-map resolved (λ m. m.class) ∙ length_kept resolved members same)) (few_held few));
-              resolved = subst (λ cs. All (IsResolved (names cs)) cs) (sym is_final) found_kept;
-              built_in = built_in_stands files (classes_of final) has_classes_ranked;
-              rank = rank_of final;
-              ranked = ranks final ranked;
-            };
+            ordered = subst (λ cs. IsStrictlySortedBy name_cmp (names cs)) (sym is_final) ordered_kept;
+            few = subst (λ n. n ≤ 4096) (sym (sym (length-map final (λ m. m.class)) ∙ (ap length is_final ∙ (length-map resolved (λ m. m.class) ∙ length_kept resolved members same)))) few;
+            resolved = subst (λ cs. All (IsResolved (names cs)) cs) (sym is_final) found_kept;
             ranked = ranked;
           }
+
+      pub held : IsPermutation (origins files) (origins_of final)
+      held = subst (IsPermutation (origins files)) (origins_of_classes final) has_classes_ranked

@@ -1,10 +1,9 @@
 -- Supertypes by number are those by name.
-use Rattle.std.proofs.Common.{◌≡◌, ℕ, zero, suc, ◌<◌, ◌≤◌, ◌⊎◌, inl, inr, Option, Some, None, List, [], ◌∷◌, ◌++◌, length, get_or, map, refl, sym, subst, ap, ◌∙◌, arith}
+use Rattle.std.proofs.Common.{◌≡◌, ℕ, ◌<◌, inl, inr, Option, Some, None, List, [], ◌∷◌, ◌++◌, length, get_or, map, refl, sym, subst, ap, ◌∙◌, arith}
 use Rattle.std.specs.Prelude.{All, Contains, slice_get, option_map, option_to_list}
 use Rattle.std.specs.List.Sorted.{IsStrictlySortedBy}
 use Rattle.std.specs.Ordering.{ordering_reverse}
-use Rattle.std.specs.declared.cmp.Ordering.{Ordering}
-use Rattle.std.specs.declared.cmp.Ordering.TheVariants.{Less, Equal, Greater}
+use Rattle.std.specs.declared.cmp.Ordering.TheVariants.{Less, Greater}
 use Rattle.std.proofs.lemmas.Cmp.{nat_list_cmp_total}
 use Rattle.std.proofs.lemmas.List.{get_or-map, length-map, map-append}
 use Rattle.std.proofs.lemmas.List.Elements.{All-get_or, Contains-append_cases, Contains-append_left, Contains-append_right}
@@ -13,11 +12,11 @@ use Rattle.cls_set.specs.declared.class.Class.{Class}
 use Rattle.space_ids.specs.declared.ids.ClassId.{ClassId}
 use Rattle.cls_set.specs.Classes.{name_cmp, names, direct_supertypes}
 use Rattle.cls_set.specs.Sets as sets
-use Rattle.cls_set.specs.Sets.{Origin, origin, super_names, HasAbsent, IsResolved, IsFirstCycle, IsSupertypeByName, NamesSupertype}
+use Rattle.cls_set.specs.Sets.{Origin, origin, super_names, IsResolved, IsFirstCycle, IsSupertypeByName, NamesSupertype}
 use Rattle.cls_set.specs.Subtypes as types
 use Rattle.cls_set.specs.Subtypes.{IsDirectSupertype, IsProperSubtype}
 use Rattle.cls_set.specs.Walks.{ups, ups_of, IsFirstOwn, IsOwn}
-use Rattle.cls_set.proofs.Hierarchy.{some_of, same_some, none_some, same_read}
+use Rattle.cls_set.proofs.Hierarchy.{same_some, none_some, same_read}
 use Rattle.cls_set.proofs.Names.{sorted_far}
 use Rattle.cls_set.proofs.Walks.{before, same_class, of_class, up_among}
 
@@ -37,7 +36,7 @@ not_both x y e f = less_greater (sym e ∙ (nat_list_cmp_total.antisymm x y ∙ 
 name_here : (ns : List (List ℕ)) (i : ℕ) (name : List ℕ) → slice_get ns i ≡ Some name → get_or ns i [] ≡ name
 name_here ns i name e = same_some (sym (slice_get-get_or ns i [] (slice_get_within ns i name e)) ∙ e)
 
--- of two names the later is at a later place
+-- of two names the later is at a later index
 pub later : (ns : List (List ℕ)) (i j : ℕ) (x y : List ℕ) → IsStrictlySortedBy name_cmp ns → slice_get ns i ≡ Some x → slice_get ns j ≡ Some y → name_cmp x y ≡ Less → i < j
 later ns i j x y s e f less =
     elim (before i j) [
@@ -54,9 +53,9 @@ later ns i j x y s e f less =
           ]
     ]
 
--- a name stands at one place
-pub one_place : (ns : List (List ℕ)) (i j : ℕ) (x : List ℕ) → IsStrictlySortedBy name_cmp ns → slice_get ns i ≡ Some x → slice_get ns j ≡ Some x → i ≡ j
-one_place ns i j x s e f =
+-- a name stands at one index
+pub one_index : (ns : List (List ℕ)) (i j : ℕ) (x : List ℕ) → IsStrictlySortedBy name_cmp ns → slice_get ns i ≡ Some x → slice_get ns j ≡ Some x → i ≡ j
+one_index ns i j x s e f =
     elim (before i j) [
       | inl low ↦
           let far = sorted_far name_cmp ns i j [] s low (slice_get_within ns j x f) in
@@ -108,11 +107,11 @@ module _ (ns : List (List ℕ)) (ids : List ClassId) (given : List (List ℕ)) (
       (b, (i, h, same_read ids i b (record { 0 = 0 }) h), paired i (record { 0 = 0 }) h ∙ ap (λ x. Some x) (same_read given i [] n among.1 ∙ among.2))
 
 -- a resolved class has no absent supertype
-pub not_absent : (ns : List (List ℕ)) (c : Class) → IsResolved ns c → HasAbsent ns c.file → ⊥
-not_absent ns c r a =
-    let id = to_id ns (direct_supertypes c) (super_names c.file) (ids_named ns c r) a.super a.declared in
-    let h = slice_get_within ns id.0.0 a.super id.2 in
-    a.absent (id.0.0, h, same_some (sym (slice_get-get_or ns id.0.0 a.super h) ∙ id.2))
+pub supertype_present : (ns : List (List ℕ)) (c : Class) → IsResolved ns c → (name : List ℕ) → Contains (super_names c.file) name → (Contains ns name → ⊥) → ⊥
+supertype_present ns c r name among none =
+    let id = to_id ns (direct_supertypes c) (super_names c.file) (ids_named ns c r) name among in
+    let h = slice_get_within ns id.0.0 name id.2 in
+    none (id.0.0, h, same_some (sym (slice_get-get_or ns id.0.0 name h) ∙ id.2))
 
 pub turned : (c : Class) (s : ClassId) → Contains (ups c) s → Contains (direct_supertypes c) s
 turned c s among =
@@ -144,10 +143,10 @@ ranked_above classes rank ranked sub sup (types.IsProperSubtype.through a m b p 
     omega (arith, low, high)
 
 module _ (classes : List Class) (ordered : IsStrictlySortedBy name_cmp (names classes)) (resolved : All (IsResolved (names classes)) classes) where
-  class_named : (i : ℕ) (c : Class) → slice_get classes i ≡ Some c → slice_get (names classes) i ≡ Some c.file.name
+  pub class_named : (i : ℕ) (c : Class) → slice_get classes i ≡ Some c → slice_get (names classes) i ≡ Some c.file.name
   class_named i c e = slice_get-map (λ (c : Class). c.file.name) classes i ∙ ap (option_map (λ (c : Class). c.file.name)) e
 
-  resolved_read : (i : ℕ) (c : Class) → slice_get classes i ≡ Some c → IsResolved (names classes) c
+  pub resolved_read : (i : ℕ) (c : Class) → slice_get classes i ≡ Some c → IsResolved (names classes) c
   resolved_read i c e =
       let h = slice_get_within classes i c e in
       subst (IsResolved (names classes)) (same_some (sym (slice_get-get_or classes i c h) ∙ e)) (All-get_or (IsResolved (names classes)) classes i c h resolved)
@@ -158,7 +157,7 @@ module _ (classes : List Class) (ordered : IsStrictlySortedBy name_cmp (names cl
       (i, subst (λ n. i < n) (sym (length-map classes origin)) h, get_or-map origin classes i c (origin c) h ∙ ap origin (same_some (sym (slice_get-get_or classes i c h) ∙ e)))
 
   -- the class at which an origin stands
-  standing : (o : Origin) → Contains (map origin classes) o → (i : ℕ) × (c : Class) × (slice_get classes i ≡ Some c) × (origin c ≡ o)
+  pub standing : (o : Origin) → Contains (map origin classes) o → (i : ℕ) × (c : Class) × (slice_get classes i ≡ Some c) × (origin c ≡ o)
   standing o among =
       let i = among.0 in
       let h : i < length classes = subst (λ n. i < n) (length-map classes origin) among.1 in
@@ -200,8 +199,8 @@ module _ (classes : List Class) (ordered : IsStrictlySortedBy name_cmp (names cl
       let at = standing n.class n.stands in
       let c = at.1 in
       let called : slice_get (names classes) at.0 ≡ Some p = class_named at.0 c at.2 ∙ ap (λ x. Some x) (ap (λ (o : Origin). o.0.name) at.3 ∙ n.named) in
-      let place : at.0 ≡ a.0 = one_place (names classes) at.0 a.0 p ordered called e in
-      let is : slice_get classes a.0 ≡ Some c = subst (λ i. slice_get classes i ≡ Some c) place at.2 in
+      let index : at.0 ≡ a.0 = one_index (names classes) at.0 a.0 p ordered called e in
+      let is : slice_get classes a.0 ≡ Some c = subst (λ i. slice_get classes i ≡ Some c) index at.2 in
       let declared : Contains (super_names c.file) q = subst (λ (o : Origin). Contains (super_names o.0) q) (sym at.3) n.declared in
       let found = to_id (names classes) (direct_supertypes c) (super_names c.file) (ids_named (names classes) c (resolved_read a.0 c is)) q declared in
       (found.0, found.2, types.IsProperSubtype.direct a found.0 (of_class classes a found.0 c is (back c found.0 found.1)))
@@ -215,7 +214,7 @@ module _ (classes : List Class) (ordered : IsStrictlySortedBy name_cmp (names cl
   own_by_number x s =
       let a = named_at x x s in
       let b = by_number x x a.0 a.1 s in
-      let same : b.0 ≡ a.0 = same_class b.0 a.0 (one_place (names classes) b.0.0 a.0.0 x ordered b.1 a.1) in
+      let same : b.0 ≡ a.0 = same_class b.0 a.0 (one_index (names classes) b.0.0 a.0.0 x ordered b.1 a.1) in
       (a.0.0, a.1, subst (IsProperSubtype classes a.0) same b.2)
 
   pub own_by_name : (k : ℕ) (x : List ℕ) → slice_get (names classes) k ≡ Some x → IsOwn classes k → IsSupertypeByName (map origin classes) x x
@@ -232,13 +231,7 @@ module _ (classes : List Class) (ordered : IsStrictlySortedBy name_cmp (names cl
             f.first own.0 (later (names classes) own.0 k other x ordered own.1 e less) own.2;
       }
 
-  -- no class of resolved ones has an absent supertype
-  pub none_absent : (o : Origin) → Contains (map origin classes) o → HasAbsent (names classes) o.0 → ⊥
-  none_absent o among a =
-      let at = standing o among in
-      not_absent (names classes) at.1 (resolved_read at.0 at.1 at.2) (subst (λ (o : Origin). HasAbsent (names classes) o.0) (sym at.3) a)
-
-  -- nor is any of ranked ones its own supertype
+  -- no ranked class is its own supertype
   pub none_own : (rank : ClassId → ℕ) → ((sub sup : ClassId) → IsDirectSupertype classes sub sup → rank sup < rank sub) → (x : List ℕ) → IsSupertypeByName (map origin classes) x x → ⊥
   none_own rank ranked x s =
       let own = own_by_number x s in

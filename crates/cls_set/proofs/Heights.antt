@@ -1,6 +1,6 @@
 -- Classes are ranked by the number of their supertypes.
-use Rattle.std.proofs.Common.{◌≡◌, ◌≢◌, ℕ, zero, suc, ◌+◌, ◌<◌, ◌≤◌, ◌⊎◌, inl, inr, Bool, true, false, Some, None, List, [], ◌∷◌, ◌++◌, length, get_or, replicate, refl, sym, subst, ap, ◌∙◌, arith, zero-add}
-use Rattle.std.specs.Prelude.{◌↔◌, All, Contains, IsSomeAnd, IsTrue, cond, count_by, set, slice_get, option_to_list}
+use Rattle.std.proofs.Common.{◌≡◌, ◌≢◌, ℕ, zero, suc, ◌+◌, ◌<◌, ◌≤◌, inl, inr, Bool, true, false, Some, List, [], ◌∷◌, ◌++◌, length, get_or, replicate, refl, sym, subst, ap, ◌∙◌, arith, zero-add}
+use Rattle.std.specs.Prelude.{◌↔◌, All, Contains, IsTrue, cond, count_by, set, slice_get, option_to_list}
 use Rattle.std.proofs.lemmas.List.{get_or-map, get_or-set_other, get_or-set_same, length-map}
 use Rattle.std.proofs.lemmas.List.Elements.{All-contains, All-get_or, Contains-append_cases, Contains-append_left, Contains-append_right, Contains-get_or}
 use Rattle.std.proofs.lemmas.Option.{slice_get_cases, slice_get-get_or}
@@ -9,11 +9,12 @@ use Rattle.space_ids.specs.declared.ids.ClassId.{ClassId}
 use Rattle.cls_set.specs.declared.members.Member.{Member}
 use Rattle.cls_set.specs.declared.walking.Walk.{Walk}
 use Rattle.cls_set.specs.Classes.{direct_supertypes}
-use Rattle.cls_set.specs.Members.{classes_of, IsLower, IsRanked}
+use Rattle.cls_set.specs.Members.{classes_of, IsRanked, IsTable}
+use Rattle.std.proofs.Math.ListN.{get_or-append}
 use Rattle.cls_set.specs.Subtypes as types
 use Rattle.cls_set.specs.Subtypes.{IsProperSubtype}
-use Rattle.cls_set.specs.Walks.{Met, WasMet, met_by, ups, AreWithin, IsOwn, IsWalked}
-use Rattle.cls_set.proofs.Hierarchy.{some_and, same_read, true_false, by_contradiction_false}
+use Rattle.cls_set.specs.Walks.{Met, met_by, ups, AreWithin, IsOwn, IsWalked}
+use Rattle.cls_set.proofs.Hierarchy.{some_and, true_false, by_contradiction_false}
 use Rattle.cls_set.proofs.Walks.{IsUnderway, IsWalking, before, complete, count_cons, of_class}
 
 none_met : (n k : ℕ) → get_or (replicate n false) k false ≡ true → ⊥
@@ -150,13 +151,33 @@ any_member xs k h =
     ]
 
 -- one more is ranked
-pub one_more : (classes : List Class) (members : List Member) (place : ℕ) (y : Member) → place < length members → ((j : ℕ) (d : Member) → j < place → IsHeight classes j (get_or members j d).rank) → IsHeight classes place y.rank → (j : ℕ) (d : Member) → j < place + 1 → IsHeight classes j (get_or (set members place y) j d).rank
-one_more classes members place y within old new j d l =
-    elim (before j place) [
+pub one_more : (classes : List Class) (members : List Member) (index : ℕ) (y : Member) → index < length members → ((j : ℕ) (d : Member) → j < index → IsHeight classes j (get_or members j d).rank) → IsHeight classes index y.rank → (j : ℕ) (d : Member) → j < index + 1 → IsHeight classes j (get_or (set members index y) j d).rank
+one_more classes members index y within old new j d l =
+    elim (before j index) [
       | inl past ↦
-          let other : j ≢ place = omega (arith, past) in
-          subst (λ (m : Member). IsHeight classes j m.rank) (sym (get_or-set_other members place j y d other)) (old j d past)
+          let other : j ≢ index = omega (arith, past) in
+          subst (λ (m : Member). IsHeight classes j m.rank) (sym (get_or-set_other members index j y d other)) (old j d past)
       | inr high ↦
-          let here : place ≡ j = omega (arith, high, l) in
-          subst (λ i. IsHeight classes i (get_or (set members place y) i d).rank) here (subst (λ (m : Member). IsHeight classes place m.rank) (sym (get_or-set_same members place y d within)) new)
+          let here : index ≡ j = omega (arith, high, l) in
+          subst (λ i. IsHeight classes i (get_or (set members index y) i d).rank) here (subst (λ (m : Member). IsHeight classes index m.rank) (sym (get_or-set_same members index y d within)) new)
     ]
+
+-- the table of a class is what a walk from it has met
+pub table_of : (classes : List Class) (k : ℕ) (walk : Walk) → IsWalked classes (record { 0 = k }) walk → IsTable classes k walk.met.items
+table_of classes k walk w = record { long = w.long; supertypes = w.met }
+
+last_read : {X : Type 0} (xs : List X) (x d : X) → get_or (xs ++ x ∷ []) (length xs) d ≡ x
+last_read [] x d = refl
+last_read (y ∷ ys) x d = last_read ys x d
+
+-- a table more
+pub table_more : (classes : List Class) (tables : List (List Bool)) (n : ℕ) (row : List Bool) (more : List (List Bool)) → length tables ≡ n → more ≡ tables ++ row ∷ [] → ((j : ℕ) → j < n → IsTable classes j (get_or tables j [])) → IsTable classes n row → (j : ℕ) → j < n + 1 → IsTable classes j (get_or more j [])
+table_more classes tables n row more long is old new j l =
+    subst (λ (ts : List (List Bool)). IsTable classes j (get_or ts j [])) (sym is)
+    (elim (before j n) [
+      | inl low ↦ subst (IsTable classes j) (sym (get_or-append tables (row ∷ []) [] j (omega (arith, low, long)))) (old j low)
+      | inr high ↦
+          let same : length tables ≡ j = omega (arith, long, high, l) in
+          let here : n ≡ j = omega (arith, high, l) in
+          subst (λ i. IsTable classes j (get_or (tables ++ row ∷ []) i [])) same (subst (IsTable classes j) (sym (last_read tables row [])) (subst (λ i. IsTable classes i row) here new))
+    ])

@@ -9,3 +9,11 @@ pub mod Supertypes
 pub mod Cycles
 pub mod Heights
 pub mod Walks
+pub mod Supers
+pub mod Broken
+pub mod Turns
+pub mod Arranged
+pub mod Remotes
+pub mod Overrides
+pub mod Unfit
+pub mod Orders

@@ -46,7 +46,7 @@ name_read members k d e h =
     get_or-map (λ (c : Class). c.file.name) (classes_of members) k d.class e (subst (λ n. k < n) (sym (length-map members (λ m. m.class))) h)
     ∙ ap (λ (c : Class). c.file.name) (get_or-map (λ (m : Member). m.class) members k d d.class h)
 
--- the order of the names of two members, by place
+-- the order of the names of two members, by index
 far_names : (members : List Member) (i j : ℕ) (d : Member) → IsStrictlySortedBy name_cmp (names (classes_of members)) → i < j → j < length members → name_cmp (name_of (get_or members i d)) (name_of (get_or members j d)) ≡ Less
 far_names members i j d s l h =
     let far = sorted_far name_cmp (names (classes_of members)) i j [] s l (subst (λ n. j < n) (sym (length_names members)) h) in

@@ -1,14 +1,12 @@
-use Rattle.std.proofs.Common.{◌≡◌, ◌≢◌, ℕ, ◌+◌, Some, None, List, [], ◌∷◌, ◌++◌, length, get_or, map, refl, sym, subst, ap, ◌∙◌, arith, Option}
-use Rattle.std.specs.Prelude.{All, Contains, IfSome, option_to_list}
+use Rattle.std.proofs.Common.{◌≡◌, ◌≢◌, ℕ, ◌+◌, List, [], ◌∷◌, length, get_or, map, refl, sym, subst, ap, ◌∙◌, arith}
 use Rattle.std.specs.List.{AllWithin, HoldsAt}
 use Rattle.std.proofs.lemmas.List.{length-map}
-use Rattle.std.proofs.lemmas.List.Elements.{All-append, All-cons, All-contains, All-nil, AllWithin-more, Contains-get_or, Contains-append_right}
-use Rattle.space_ids.specs.declared.ids.ClassId.{ClassId}
+use Rattle.std.proofs.lemmas.List.Elements.{AllWithin-more}
 use Rattle.cls_set.specs.declared.members.Member.{Member}
 use Rattle.cls_set.specs.declared.fault.SetFault.{SetFault}
 use Rattle.cls_set.specs.Building.{kept, origins_of, IsAbsentFault}
-use Rattle.cls_set.specs.Classes.{names, direct_supertypes}
-use Rattle.cls_set.specs.Members.{classes_of, IsLower, IsRanked}
+use Rattle.cls_set.specs.Classes.{names}
+use Rattle.cls_set.specs.Members.{classes_of}
 use Rattle.cls_set.specs.Sets.{Origin, origin}
 
 names_from_kept : (members : List Member) → names (classes_of members) ≡ map (λ (k : Origin × ℕ). k.0.0.name) (map kept members)

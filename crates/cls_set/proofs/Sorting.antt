@@ -86,7 +86,7 @@ less_if x y e ne =
 not_less : (x y : List ℕ) → is_lt (name_cmp x y) ≡ false → name_cmp x y ≡ Less → ⊥
 not_less x y e f = true_false (sym (ap is_lt f) ∙ e)
 
--- the name at a place, where those before it ascend strictly, it is the one before it, and no later one is below it
+-- the name at an index, where those before it ascend strictly, it is the one before it, and no later one is below it
 pub first_duplicate : (ks : List (List ℕ)) (i : ℕ) (name : List ℕ) → suc i < length ks → IsStrictlySortedBy name_cmp (take (suc i) ks) → get_or ks i [] ≡ name → get_or ks (suc i) [] ≡ name → All (λ n. is_lt (name_cmp n name) ≡ false) (drop (suc i) ks) → IsFirstDuplicate ks name
 first_duplicate ks i name h front before here rest =
     let parts = λ (x : List ℕ). subst (λ l. count_by (matches x) l ≡ count_by (matches x) (take (suc i) ks) + count_by (matches x) (drop (suc i) ks)) (take-append-drop (suc i) ks) (sum_by-append (λ n. cond (matches x n) 1 0) (take (suc i) ks) (drop (suc i) ks)) in

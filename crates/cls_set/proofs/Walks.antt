@@ -12,7 +12,7 @@ use Rattle.space_ids.specs.declared.ids.ClassId.{ClassId}
 use Rattle.cls_set.specs.Subtypes as types
 use Rattle.cls_set.specs.Subtypes.{IsDirectSupertype, IsProperSubtype}
 use Rattle.cls_set.specs.Walks.{Met, WasMet, meet_one, meet_all, ups, ups_of, ups_at, AreWithin}
-use Rattle.cls_set.proofs.Hierarchy.{some_of, some_and, equal, differ_by, same_read, true_false}
+use Rattle.cls_set.proofs.Hierarchy.{some_of, some_and, equal, differ_by, same_read}
 
 pub same_class : (a b : ClassId) → a.0 ≡ b.0 → a ≡ b
 same_class a b e = ap (λ n. record { 0 = n }) e

@@ -1,5 +1,6 @@
 -- How a set is built.
-use Rattle.std.specs.Prelude.{◌≡◌, ℕ, suc, None, Contains, List, [], ◌∷◌, map}
+use Rattle.std.specs.Prelude.{◌≡◌, ◌⊎◌, ℕ, suc, None, Contains, List, [], ◌∷◌, map}
+use Rattle.std.specs.List.{Any}
 use Rattle.std.specs.List.Sorted.{IsSortedBy}
 use Rattle.std.specs.Ordering.{is_lt}
 use Rattle.cls_set.specs.declared.class.Class.{Class}
@@ -9,8 +10,12 @@ use Rattle.cls_set.specs.declared.fault.SetRule.{SetRule}
 use Rattle.cls_set.specs.declared.fault.SetRule.TheVariants.{Duplicate, AbsentClass, Cycle}
 use Rattle.cls_set.specs.declared.members.Member.{Member}
 use Rattle.cls_set.specs.Classes.{name_cmp}
-use Rattle.cls_set.specs.Sets.{Origin, origin, HasAbsent, IsFirstAbsent, IsFirstCycle, IsFirstDuplicate}
+use Rattle.cls_set.specs.Sets.{Origin, origin, DescriptorNames, HasAbsent, IsFirstAbsent, IsFirstCycle, IsFirstDuplicate, IsResolved, TypeNames}
+use Rattle.cf_text.specs.declared.types.FieldType.{FieldType}
+use Rattle.cf_text.specs.declared.types.MethodDescriptor.{MethodDescriptor}
 use Rattle.cf_reader.specs.declared.class_file.ClassFile.{ClassFile}
+use Rattle.cf_reader.specs.declared.class_file.Field.{Field}
+use Rattle.cf_reader.specs.declared.class_file.Method.{Method}
 
 -- a class whose supertypes are not resolved yet
 abbrev pub unresolved : Origin → Class
@@ -49,7 +54,7 @@ IsMissing names super name (Broken AbsentClass n) = (n ≡ name) × (Contains na
 IsMissing names super name (Broken rule n) = ⊥
 IsMissing names super name Memory = Unit {0}
 
--- a class has an absent supertype, unless memory ran out
+-- a class mentions an absent class, unless memory ran out
 abbrev pub IsClassFault : List (List ℕ) → ClassFile → SetFault → Type 0
 IsClassFault names file (Broken AbsentClass n) = (n ≡ file.name) × HasAbsent names file
 IsClassFault names file (Broken rule n) = ⊥
@@ -66,3 +71,23 @@ abbrev pub IsCycleFault : List Origin → SetFault → Type 0
 IsCycleFault classes (Broken Cycle n) = IsFirstCycle classes n
 IsCycleFault classes (Broken rule n) = ⊥
 IsCycleFault classes Memory = Unit {0}
+
+-- a type names a class of none of these names
+abbrev pub NamesAbsent : List (List ℕ) → FieldType → Type 0
+NamesAbsent names type = (name : List ℕ) × TypeNames type name × (Contains names name → ⊥)
+
+-- a method descriptor does
+pub record DescriptorNamesAbsent (names : List (List ℕ)) (types : MethodDescriptor) : Type 0 where
+  pub name : List ℕ
+  pub named : DescriptorNames types name
+  pub absent : Contains names name → ⊥
+
+-- the descriptor of a member does
+abbrev pub MembersNameAbsent : List (List ℕ) → ClassFile → Type 0
+MembersNameAbsent names file =
+    Any (λ (field : Field). NamesAbsent names field.kind) file.fields ⊎ Any (λ (method : Method). DescriptorNamesAbsent names method.types) file.methods
+
+-- a class whose supertypes are known by number, and that mentions no absent class
+pub record IsWhole (names : List (List ℕ)) (c : Class) : Type 0 where
+  pub resolved : IsResolved names c
+  pub present : HasAbsent names c.file → ⊥

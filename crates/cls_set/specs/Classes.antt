@@ -6,7 +6,7 @@ use Rattle.cls_set.specs.declared.class.Class.{Class}
 use Rattle.space_ids.specs.declared.ids.ClassId.{ClassId}
 use Rattle.cf_reader.specs.declared.flags.TheConstants.Flags.{INTERFACE}
 
--- In a list of classes a class's number is its place. Names are lists of bytes.
+-- In a list of classes a class's number is its index. Names are lists of bytes.
 
 -- the order of names: by their bytes
 abbrev pub name_cmp : List ℕ → List ℕ → Ordering

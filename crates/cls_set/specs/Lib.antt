@@ -1,7 +1,11 @@
 pub mod BuiltIn
 pub mod Building
+pub mod ClassRules
 pub mod Classes
+pub mod Faults
 pub mod Members
+pub mod Orders
+pub mod Rules
 pub mod Sets
 pub mod Subtypes
 pub mod Walks

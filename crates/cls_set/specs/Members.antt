@@ -1,9 +1,14 @@
-use Rattle.std.specs.Prelude.{ℕ, ◌<◌, List, All, IsSomeAnd, map, slice_get}
+use Rattle.std.specs.Prelude.{◌≡◌, ◌≤◌, ◌<◌, ◌↔◌, ℕ, Bool, false, List, [], All, IsSomeAnd, IsTrue, length, map, slice_get, slice_index_or}
+use Rattle.std.specs.List.Sorted.{IsStrictlySortedBy}
 use Rattle.cls_set.specs.declared.class.Class.{Class}
 use Rattle.space_ids.specs.declared.ids.ClassId.{ClassId}
 use Rattle.cls_set.specs.declared.members.Member.{Member}
-use Rattle.cls_set.specs.Classes.{direct_supertypes}
-use Rattle.cls_set.specs.Sets.{IsClassSet}
+use Rattle.cls_set.specs.Classes.{direct_supertypes, name_cmp, names}
+use Rattle.cls_set.specs.Sets.{IsClassSet, IsResolved}
+use Rattle.cls_set.specs.Subtypes.{IsProperSubtype}
+use Rattle.cls_set.specs.Walks.{IsFirstOwn}
+use Rattle.cls_set.specs.declared.walking.Ranks.{Ranks}
+use Rattle.cls_set.specs.declared.walking.Ranks.TheVariants.{Cyclic, Tables}
 
 -- How a set keeps its classes.
 
@@ -19,6 +24,34 @@ IsLower members rank class = IsSomeAnd (slice_get members class.0) (λ m. m.rank
 abbrev pub IsRanked : List Member → Member → Type 0
 IsRanked members m = All (IsLower members m.rank) (direct_supertypes m.class)
 
-pub record AreMembers (members : List Member) : Type 0 where
+-- a table tells by number which classes are proper supertypes of class k
+pub record IsTable (classes : List Class) (k : ℕ) (table : List Bool) : Type 0 where
+  pub long : length table ≡ length classes
+  pub supertypes : (sup : ClassId) → IsTrue (slice_index_or table sup.0 false) ↔ IsProperSubtype classes (record { 0 = k }) sup
+
+-- there is a table for each class
+pub record HaveTables (classes : List Class) (tables : List (List Bool)) : Type 0 where
+  pub one_each : length tables ≡ length classes
+  pub table : (k : ℕ) → k < length classes → IsTable classes k (slice_index_or tables k [])
+
+-- members that stand in the order of their names, and can be numbered
+pub record AreOrdered (members : List Member) : Type 0 where
+  pub ordered : IsStrictlySortedBy name_cmp (names (classes_of members))
+  pub few : length members ≤ 4096
+
+-- members whose supertypes are known
+pub record AreArranged (members : List Member) : Type 0 where
+  pub ordered : IsStrictlySortedBy name_cmp (names (classes_of members))
+  pub few : length members ≤ 4096
+  pub resolved : All (IsResolved (names (classes_of members))) (classes_of members)
+  pub ranked : All (IsRanked members) members
+
+pub record AreMembers (members : List Member) (told : List (List Bool)) : Type 0 where
   pub set : IsClassSet (classes_of members)
   pub ranked : All (IsRanked members) members
+  pub tables : HaveTables (classes_of members) told
+
+-- what ranking classes comes to
+abbrev pub AreRanks : List Class → List Member → Ranks → Type 0
+AreRanks classes members (Cyclic k) = IsFirstOwn classes k
+AreRanks classes members (Tables tables) = All (IsRanked members) members × HaveTables classes tables.items

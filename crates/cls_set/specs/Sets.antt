@@ -1,14 +1,17 @@
-use Rattle.std.specs.Prelude.{◌≡◌, ◌≤◌, ◌<◌, ◌-◌, ℕ, Bool, true, false, Some, List, ◌++◌, map, option_map, option_to_list, length, All, Contains, IsSome, IsPermutation, bytes_eq, count_by, slice_get}
+-- What a class set is, and what its classes are by name (JVMS 5.3.5): a class names its direct supertypes, and no class is among its own.
+use Rattle.std.specs.Prelude.{◌≡◌, ◌≤◌, ◌<◌, ℕ, Bool, true, false, Some, None, List, ◌++◌, codes, map, option_map, option_to_list, length, All, Contains, IsSome, IsSomeAnd, IsPermutation, bytes_eq, count_by, slice_get}
 use Rattle.std.specs.declared.cmp.Ordering.TheVariants.{Less}
 use Rattle.std.specs.List.Sorted.{IsStrictlySortedBy}
+use Rattle.cf_text.specs.declared.types.FieldType.{FieldType}
+use Rattle.cf_text.specs.declared.types.ElementType.TheVariants as elements
+use Rattle.cf_text.specs.declared.types.MethodDescriptor.{MethodDescriptor}
 use Rattle.cf_reader.specs.declared.class_file.ClassFile.{ClassFile}
+use Rattle.cf_reader.specs.declared.class_file.Field.{Field}
+use Rattle.cf_reader.specs.declared.class_file.Method.{Method}
 use Rattle.cls_set.specs.declared.class.Class.{Class}
 use Rattle.space_ids.specs.declared.ids.ClassId.{ClassId}
-use Rattle.cls_set.specs.declared.fault.SetFault.{SetFault}
-use Rattle.cls_set.specs.declared.fault.SetFault.TheVariants.{Broken, Memory}
-use Rattle.cls_set.specs.declared.fault.SetRule.TheVariants.{Duplicate, AbsentClass, Cycle, BadSuper, FinalSuper, RemoteField, RemoteMethod, Override, TooMany}
-use Rattle.cls_set.specs.Classes.{name_cmp, names, number_of}
-use Rattle.cls_set.specs.Subtypes.{IsDirectSupertype}
+use Rattle.cls_set.specs.Classes.{name_cmp, names, number_of, IsInterface}
+use Rattle.cls_set.specs.Subtypes.{Extends, IsDirectSupertype}
 use Rattle.cls_set.specs.BuiltIn.{BuiltIn, built_ins, built_in_files}
 
 -- the supertypes of a class, by number among these names, are those that its file names
@@ -24,6 +27,12 @@ pub record IsClassSet (classes : List Class) : Type 0 where
   pub resolved : All (IsResolved (names classes)) classes
   -- each class that stands in every set stands in it
   pub built_in : All (λ (b : BuiltIn). IsSome (number_of classes b.name)) built_ins
+  -- only java/lang/Object has no superclass (JVMS 4.1)
+  pub rooted : All (λ c. c.superclass ≡ None → c.file.name ≡ codes "java/lang/Object") classes
+  -- the superclass of an interface is java/lang/Object (JVMS 4.1)
+  pub below_object : All (λ c. IsInterface c → c.file.superclass ≡ Some (codes "java/lang/Object")) classes
+  -- no superclass is an interface (JVMS 5.3.5)
+  pub extended : (sub sup : ClassId) → Extends classes sub sup → IsSomeAnd (slice_get classes sup.0) (λ c. ¬ IsInterface c)
   -- no class is its own supertype (JVMS 5.3.5): they can be ranked, each above its direct supertypes
   pub rank : ClassId → ℕ
   pub ranked : (sub sup : ClassId) → IsDirectSupertype classes sub sup → rank sup < rank sub
@@ -64,13 +73,28 @@ IsWithoutDuplicates names = (name : List ℕ) → ¬ IsTwice names name
 abbrev pub super_names : ClassFile → List (List ℕ)
 super_names file = option_to_list file.superclass ++ file.interfaces
 
--- a direct supertype has none of these names
-pub record HasAbsent (names : List (List ℕ)) (file : ClassFile) : Type 0 where
-  pub super : List ℕ
-  pub declared : Contains (super_names file) super
-  pub absent : ¬ Contains names super
+-- a field type names a class: it is the class, or an array of it (JVMS 4.3.2)
+abbrev pub TypeNames : FieldType → List ℕ → Type 0
+TypeNames type name = type.element ≡ elements.Class name
 
--- a class of this name has a direct supertype of none of these names, and no class before it by name has one
+-- a method descriptor names a class: as the type of a parameter, or of the result (JVMS 4.3.3)
+pub data DescriptorNames (types : MethodDescriptor) (name : List ℕ) : Type 0 where
+  by_parameter : (type : FieldType) → Contains types.parameters type → TypeNames type name → DescriptorNames types name
+  by_result : (type : FieldType) → types.result ≡ Some type → TypeNames type name → DescriptorNames types name
+
+-- a class file mentions a class: as a direct supertype, or in the descriptor of a field or a method
+pub data Mentions (file : ClassFile) (name : List ℕ) : Type 0 where
+  as_supertype : Contains (super_names file) name → Mentions file name
+  by_field : (field : Field) → Contains file.fields field → TypeNames field.kind name → Mentions file name
+  by_method : (method : Method) → Contains file.methods method → DescriptorNames method.types name → Mentions file name
+
+-- a class mentions a class of none of these names
+pub record HasAbsent (names : List (List ℕ)) (file : ClassFile) : Type 0 where
+  pub name : List ℕ
+  pub mentioned : Mentions file name
+  pub absent : ¬ Contains names name
+
+-- a class of this name mentions a class of none of these names, and no class before it by name does
 pub record IsFirstAbsent (names : List (List ℕ)) (classes : List Origin) (name : List ℕ) : Type 0 where
   pub class : Origin
   pub stands : Contains classes class
@@ -78,7 +102,7 @@ pub record IsFirstAbsent (names : List (List ℕ)) (classes : List Origin) (name
   pub absent : HasAbsent names class.0
   pub first : (other : Origin) → Contains classes other → name_cmp other.0.name name ≡ Less → ¬ HasAbsent names other.0
 
--- no class has a direct supertype of none of these names
+-- no class mentions a class of none of these names
 abbrev pub IsWithoutAbsent : List (List ℕ) → List Origin → Type 0
 IsWithoutAbsent names classes = (class : Origin) → Contains classes class → ¬ HasAbsent names class.0
 
@@ -102,36 +126,3 @@ pub record IsFirstCycle (classes : List Origin) (name : List ℕ) : Type 0 where
 -- no class is its own supertype
 abbrev pub IsWithoutCycles : List Origin → Type 0
 IsWithoutCycles classes = (name : List ℕ) → ¬ IsSupertypeByName classes name name
-
--- more files than this stage takes, the last of which has this name (a rule of this project)
-pub record IsTooMany (files : List ClassFile) (name : List ℕ) : Type 0 where
-  pub distinct : IsWithoutDuplicates (origin_names files)
-  -- more classes than can be numbered are refused before their supertypes are looked for
-  pub complete : length (origins files) ≤ 4096 → IsWithoutAbsent (origin_names files) (origins files)
-  pub acyclic : length (origins files) ≤ 4096 → IsWithoutCycles (origins files)
-  pub many : 1 < length files
-  pub last : option_map (λ file. file.name) (slice_get files (length files - 1)) ≡ Some name
-
--- a supertype is not there
-pub record IsAbsent (files : List ClassFile) (name : List ℕ) : Type 0 where
-  pub distinct : IsWithoutDuplicates (origin_names files)
-  pub absent : IsFirstAbsent (origin_names files) (origins files) name
-
--- a class is its own supertype
-pub record IsCycle (files : List ClassFile) (name : List ℕ) : Type 0 where
-  pub distinct : IsWithoutDuplicates (origin_names files)
-  pub complete : IsWithoutAbsent (origin_names files) (origins files)
-  pub cycle : IsFirstCycle (origins files) name
-
--- the fault of files that make no set, unless memory ran out
-abbrev pub IsSetFault : List ClassFile → SetFault → Type 0
-IsSetFault files Memory = Unit {0}
-IsSetFault files (Broken Duplicate name) = IsFirstDuplicate (origin_names files) name
-IsSetFault files (Broken AbsentClass name) = IsAbsent files name
-IsSetFault files (Broken Cycle name) = IsCycle files name
-IsSetFault files (Broken TooMany name) = IsTooMany files name
-IsSetFault files (Broken BadSuper name) = ⊥
-IsSetFault files (Broken FinalSuper name) = ⊥
-IsSetFault files (Broken RemoteField name) = ⊥
-IsSetFault files (Broken RemoteMethod name) = ⊥
-IsSetFault files (Broken Override name) = ⊥

@@ -1,20 +1,24 @@
 //! Building class sets from files: the classes are gathered, sorted by name, and their supertypes
 //! found by name.
 
-ghost use Rattle.std.specs.Prelude.{◌≡◌, ◌<◌, ◌++◌, ◌-◌, ◌≤◌, Some, OnOk, IfOk, IfErr, OnSome, IfSome, IfNone, All, IsPermutation, map, length, option_map, slice_get};
+ghost use Rattle.std.specs.Prelude.{◌≡◌, ◌<◌, ◌++◌, ◌-◌, ◌≤◌, OnOk, IfOk, IfErr, IfSome, IfNone, IsSome, All, IsPermutation, map, length, option_map, slice_get};
 ghost use Rattle.std.specs.List.Sorted.{IsStrictlySortedBy};
-ghost use Rattle.cls_set.specs.Building.{ranked_from, origins_of, AscendByName, IsCycleFault, IsDuplicateFault};
+ghost use Rattle.cls_set.specs.Building.{ranked_from, origins_of, AscendByName, IsCycleFault, IsDuplicateFault, IsFaultOf};
 ghost use Rattle.cls_set.specs.Classes.{name_cmp, names};
-ghost use Rattle.cls_set.specs.Members.{classes_of, IsRanked};
+ghost use Rattle.cls_set.specs.Members.{classes_of, HaveTables, IsRanked};
+ghost use Rattle.cls_set.specs.declared.fault.SetRule.TheVariants.{TooMany};
 ghost use Rattle.cls_set.specs.Sets.{origins, IsFirstDuplicate, IsResolved};
 
 use super::built_in::built_in_classes;
 use super::members::Member;
 use super::resolving::broken;
-use super::walking::rank;
+use super::walking::{Ranks, rank};
 use super::{Class, SetFault, SetRule};
 use cf_reader::{ClassFile, Row, Text};
 use std::alloc::{AllocError, Global};
+
+// How many classes of a set are numbered (a rule of this project).
+const MAX_CLASSES: usize = 4096;
 
 // Adds the classes of the files, with ranks in their order.
 fn add_classes(
@@ -49,17 +53,17 @@ fn sort(members: &mut Vec<Member>) -> Result<(), AllocError>
     })
 }
 
-// The place of the first class whose name stands before it too.
+// The index of the first class whose name stands before it too.
 fn first_duplicate(members: &[Member]) -> Option<usize>
     requires { AscendByName members.now }
     ensures within { IfSome result (λ k. k < length members.now) }
     ensures found { IfSome result (λ k. IfSome (slice_get members.now k) (λ m. IsFirstDuplicate (names (classes_of members.now)) m.class.file.name)) }
     ensures none { IfNone result (IsStrictlySortedBy name_cmp (names (classes_of members.now))) }
 {
-    for place in 1..members.len() {
-        let before = members[place - 1].class.file.name.as_bytes();
-        if members[place].class.file.name.is(before) {
-            return Some(place);
+    for index in 1..members.len() {
+        let before = members[index - 1].class.file.name.as_bytes();
+        if members[index].class.file.name.is(before) {
+            return Some(index);
         }
     }
     None
@@ -77,15 +81,24 @@ pub(crate) fn gather(alloc: Global, files: Vec<ClassFile>) -> Result<Vec<Member>
     Ok(members)
 }
 
-// The name of the last file, where there are more than this stage takes.
-pub(crate) fn last_of_many(files: &[ClassFile]) -> Result<Option<Text>, AllocError>
-    ensures some { IfOk result (λ last. OnSome last (1 < length files.now)) }
-    ensures last { IfOk result (λ last. IfSome last (λ name. option_map (λ file. file.name) (slice_get files.now (length files.now - 1)) ≡ Some name)) }
-    ensures none { IfOk result (λ last. IfNone last (length files.now ≤ 1)) }
+// The name of the last file.
+pub(crate) fn last_name(files: &[ClassFile]) -> Result<Option<Text>, AllocError>
+    ensures { IfOk result (λ last. last ≡ option_map (λ file. file.name) (slice_get files.now (length files.now - 1))) }
 {
     match files {
-        [_, .., last] => Ok(Some(last.name.copy()?)),
-        _ => Ok(None),
+        [.., last] => Ok(Some(last.name.copy()?)),
+        [] => Ok(None),
+    }
+}
+
+// Refuses more classes than can be numbered: the last file's is named.
+pub(crate) fn refuse_many(count: usize, last: Option<Text>) -> Result<(), SetFault>
+    ensures ok { OnOk result (IsSome last → count ≤ 4096) }
+    ensures fault { IfErr result (λ fault. (4096 < count) × IfSome last (λ name. IsFaultOf TooMany name fault) × IsSome last) }
+{
+    match last {
+        Some(name) if count > MAX_CLASSES => Err(broken(SetRule::TooMany, &name)),
+        _ => Ok(()),
     }
 }
 
@@ -96,22 +109,26 @@ pub(crate) fn refuse_duplicates(members: &[Member]) -> Result<(), SetFault>
     ensures fault { IfErr result (IsDuplicateFault (names (classes_of members.now))) }
 {
     match first_duplicate(members) {
-        Some(place) => Err(broken(SetRule::Duplicate, &members[place].class.file.name)),
+        Some(index) => Err(broken(SetRule::Duplicate, &members[index].class.file.name)),
         None => Ok(()),
     }
 }
 
-// Ranks the classes, and refuses one that is its own supertype.
-pub(crate) fn refuse_cycles(alloc: Global, members: &mut Vec<Member>) -> Result<(), SetFault>
+// Ranks the classes, tells their supertypes in tables, and refuses a class that is its own supertype.
+pub(crate) fn refuse_cycles(
+    alloc: Global,
+    members: &mut Vec<Member>,
+) -> Result<Vec<Row<bool>>, SetFault>
     requires ordered { IsStrictlySortedBy name_cmp (names (classes_of members.old.items)) }
     requires few { length members.old.items ≤ 4096 }
     requires resolved { All (IsResolved (names (classes_of members.old.items))) (classes_of members.old.items) }
     ensures classes { classes_of members.new.items ≡ classes_of members.old.items }
-    ensures ok { OnOk result (All (IsRanked members.new.items) members.new.items) }
+    ensures ranked { OnOk result (All (IsRanked members.new.items) members.new.items) }
+    ensures tables { IfOk result (λ tables. HaveTables (classes_of members.old.items) tables.items) }
     ensures fault { IfErr result (IsCycleFault (origins_of members.old.items)) }
 {
     match rank(alloc, members)? {
-        Some(place) => Err(broken(SetRule::Cycle, &members[place].class.file.name)),
-        None => Ok(()),
+        Ranks::Cyclic(index) => Err(broken(SetRule::Cycle, &members[index].class.file.name)),
+        Ranks::Tables(tables) => Ok(tables),
     }
 }

@@ -4,7 +4,7 @@
 ghost use Rattle.std.specs.Prelude.{◌≡◌, ◌++◌, IfOk, OnOk, map};
 ghost use Rattle.cls_set.specs.BuiltIn.{built_in_files, built_in_init, built_in_methods, built_in_flags, file_of};
 
-use cf_reader::{ClassFile, Code, Flags, Method, MethodDescriptor, Pool, Row, Table, Text};
+use cf_reader::{ClassFile, Code, Flags, Method, MethodDescriptor, Pool, Row, Shared, Table, Text};
 use std::alloc::{AllocError, Global};
 
 // What a built-in class is.
@@ -15,158 +15,66 @@ pub(crate) enum Kind {
     Interface,
 }
 
-// The names of those below java/lang/Object, with those of their superclasses: superclasses first.
-const BELOW_OBJECT: [(&[u8], &[u8], Kind); 28] = [
-    (b"java/lang/Throwable", b"java/lang/Object", Kind::Concrete),
-    (
-        b"java/lang/Exception",
-        b"java/lang/Throwable",
-        Kind::Concrete,
-    ),
-    (
-        b"java/lang/RuntimeException",
-        b"java/lang/Exception",
-        Kind::Concrete,
-    ),
-    (
-        b"java/lang/ArithmeticException",
-        b"java/lang/RuntimeException",
-        Kind::Concrete,
-    ),
-    (
-        b"java/lang/NullPointerException",
-        b"java/lang/RuntimeException",
-        Kind::Concrete,
-    ),
-    (
-        b"java/lang/ClassCastException",
-        b"java/lang/RuntimeException",
-        Kind::Concrete,
-    ),
-    (
-        b"java/lang/NegativeArraySizeException",
-        b"java/lang/RuntimeException",
-        Kind::Concrete,
-    ),
-    (
-        b"java/lang/IndexOutOfBoundsException",
-        b"java/lang/RuntimeException",
-        Kind::Concrete,
-    ),
-    (
-        b"java/lang/ArrayIndexOutOfBoundsException",
-        b"java/lang/IndexOutOfBoundsException",
-        Kind::Concrete,
-    ),
-    (b"java/lang/Error", b"java/lang/Throwable", Kind::Concrete),
-    (
-        b"java/lang/VirtualMachineError",
-        b"java/lang/Error",
-        Kind::Abstract,
-    ),
-    (
-        b"java/lang/StackOverflowError",
-        b"java/lang/VirtualMachineError",
-        Kind::Concrete,
-    ),
-    (
-        b"java/lang/OutOfMemoryError",
-        b"java/lang/VirtualMachineError",
-        Kind::Concrete,
-    ),
-    (
-        b"java/lang/LinkageError",
-        b"java/lang/Error",
-        Kind::Concrete,
-    ),
-    (
-        b"java/lang/IncompatibleClassChangeError",
-        b"java/lang/LinkageError",
-        Kind::Concrete,
-    ),
-    (
-        b"java/lang/AbstractMethodError",
-        b"java/lang/IncompatibleClassChangeError",
-        Kind::Concrete,
-    ),
-    (
-        b"java/lang/IllegalAccessError",
-        b"java/lang/IncompatibleClassChangeError",
-        Kind::Concrete,
-    ),
-    (
-        b"java/io/IOException",
-        b"java/lang/Exception",
-        Kind::Concrete,
-    ),
-    (b"java/rmi/Remote", b"java/lang/Object", Kind::Interface),
-    (
-        b"java/rmi/RemoteException",
-        b"java/io/IOException",
-        Kind::Concrete,
-    ),
-    (
-        b"java/rmi/ConnectException",
-        b"java/rmi/RemoteException",
-        Kind::Concrete,
-    ),
-    (
-        b"java/rmi/MarshalException",
-        b"java/rmi/RemoteException",
-        Kind::Concrete,
-    ),
-    (
-        b"java/rmi/UnmarshalException",
-        b"java/rmi/RemoteException",
-        Kind::Concrete,
-    ),
-    (
-        b"java/rmi/NoSuchObjectException",
-        b"java/rmi/RemoteException",
-        Kind::Concrete,
-    ),
-    (
-        b"java/rmi/ServerError",
-        b"java/rmi/RemoteException",
-        Kind::Concrete,
-    ),
-    (
-        b"java/rmi/ServerException",
-        b"java/rmi/RemoteException",
-        Kind::Concrete,
-    ),
-    (
-        b"java/rmi/NotBoundException",
-        b"java/lang/Exception",
-        Kind::Concrete,
-    ),
-    (
-        b"java/rmi/AlreadyBoundException",
-        b"java/lang/Exception",
-        Kind::Concrete,
-    ),
-];
+// A row for each class: its name, that of its superclass, and what it is.
+macro_rules! rows {
+    ($($name:literal extends $superclass:literal as $kind:ident;)*) => {
+        [$(($name, $superclass, Kind::$kind)),*]
+    };
+}
+
+// The classes below java/lang/Object: superclasses first.
+const BELOW_OBJECT: [(&[u8], &[u8], Kind); 28] = rows! {
+    b"java/lang/Throwable" extends b"java/lang/Object" as Concrete;
+    b"java/lang/Exception" extends b"java/lang/Throwable" as Concrete;
+    b"java/lang/RuntimeException" extends b"java/lang/Exception" as Concrete;
+    b"java/lang/ArithmeticException" extends b"java/lang/RuntimeException" as Concrete;
+    b"java/lang/NullPointerException" extends b"java/lang/RuntimeException" as Concrete;
+    b"java/lang/ClassCastException" extends b"java/lang/RuntimeException" as Concrete;
+    b"java/lang/NegativeArraySizeException" extends b"java/lang/RuntimeException" as Concrete;
+    b"java/lang/IndexOutOfBoundsException" extends b"java/lang/RuntimeException" as Concrete;
+    b"java/lang/ArrayIndexOutOfBoundsException" extends b"java/lang/IndexOutOfBoundsException" as Concrete;
+    b"java/lang/Error" extends b"java/lang/Throwable" as Concrete;
+    b"java/lang/VirtualMachineError" extends b"java/lang/Error" as Abstract;
+    b"java/lang/StackOverflowError" extends b"java/lang/VirtualMachineError" as Concrete;
+    b"java/lang/OutOfMemoryError" extends b"java/lang/VirtualMachineError" as Concrete;
+    b"java/lang/LinkageError" extends b"java/lang/Error" as Concrete;
+    b"java/lang/IncompatibleClassChangeError" extends b"java/lang/LinkageError" as Concrete;
+    b"java/lang/AbstractMethodError" extends b"java/lang/IncompatibleClassChangeError" as Concrete;
+    b"java/lang/IllegalAccessError" extends b"java/lang/IncompatibleClassChangeError" as Concrete;
+    b"java/io/IOException" extends b"java/lang/Exception" as Concrete;
+    b"java/rmi/Remote" extends b"java/lang/Object" as Interface;
+    b"java/rmi/RemoteException" extends b"java/io/IOException" as Concrete;
+    b"java/rmi/ConnectException" extends b"java/rmi/RemoteException" as Concrete;
+    b"java/rmi/MarshalException" extends b"java/rmi/RemoteException" as Concrete;
+    b"java/rmi/UnmarshalException" extends b"java/rmi/RemoteException" as Concrete;
+    b"java/rmi/NoSuchObjectException" extends b"java/rmi/RemoteException" as Concrete;
+    b"java/rmi/ServerError" extends b"java/rmi/RemoteException" as Concrete;
+    b"java/rmi/ServerException" extends b"java/rmi/RemoteException" as Concrete;
+    b"java/rmi/NotBoundException" extends b"java/lang/Exception" as Concrete;
+    b"java/rmi/AlreadyBoundException" extends b"java/lang/Exception" as Concrete;
+};
 
 fn text(alloc: Global, bytes: &[u8]) -> Result<Text, AllocError>
     ensures { IfOk result (λ text. text ≡ bytes.now) }
 {
-    Ok(Text::new(Vec::from_slice(alloc, bytes)?))
+    Text::new(alloc, Vec::from_slice(alloc, bytes)?)
 }
 
 // The `<init>()V` of a built-in class: the one instruction `return`.
 fn init(alloc: Global) -> Result<Method, AllocError>
     ensures { IfOk result (λ method. method ≡ built_in_init) }
 {
+    let types = MethodDescriptor {
+        parameters: Row::new(Vec::new(alloc)),
+        result: None,
+    };
     Ok(Method {
         flags: Flags {
             bits: Flags::PUBLIC,
         },
         name: text(alloc, b"<init>")?,
         descriptor: text(alloc, b"()V")?,
-        types: MethodDescriptor {
-            parameters: Row::new(Vec::new(alloc)),
-            result: None,
-        },
+        types: Shared::new(alloc, types)?,
         code: Some(Code {
             max_stack: 0,
             max_locals: 1,

@@ -1,21 +1,20 @@
 //! Class sets: their look-ups.
 
-use super::building::{gather, last_of_many, refuse_cycles, refuse_duplicates};
-use super::members::{Member, find, is_below, leads_to};
-use super::resolving::{broken, resolve};
-use super::{Class, ClassId, SetFault, SetRule};
-use cf_reader::{ClassFile, Text};
+use super::arranging::arrange;
+use super::members::{Member, find, is_below, is_in};
+use super::rules::refuse_broken;
+use super::{Class, ClassId, SetFault};
+use cf_reader::{ClassFile, Row, Text};
 use std::alloc::Global;
 use std::marker::Model;
-
-// How many classes of a set are numbered.
-const MAX_CLASSES: usize = 4096;
 
 /// Classes in the order of their names, with the built-in ones. A contract sees it as the list of its
 /// classes: the class with number k is item k.
 #[derive(Debug, Drop)]
 pub struct ClassSet {
     members: Vec<Member>,
+    // For each class a table that tells by number which classes are its supertypes.
+    tables: Vec<Row<bool>>,
 }
 
 impl Model for ClassSet {
@@ -28,45 +27,42 @@ impl Model for ClassSet {
 
     ghost view = { λ set. classes_of set.members.items };
 
-    ghost invariant = { λ set. AreMembers set.members.items };
+    ghost invariant = { λ set. AreMembers set.members.items set.tables.items };
 }
 
 impl ClassSet {
-    ghost use Rattle.std.specs.Prelude.{◌≡◌, ◌<◌, ◌≤◌, ◌↔◌, Some, IsTrue, IfOk, IfErr, IfSome, OnOk, length, slice_get};
+    ghost use Rattle.std.specs.Prelude.{◌≡◌, ◌<◌, ◌↔◌, Some, IsTrue, IfOk, IfErr, IfSome, OnOk, length, slice_get};
     ghost use Rattle.cls_set.specs.Classes.{name_at, number_of};
     ghost use Rattle.space_ids.specs.declared.ids.ClassId.{ClassId};
-    ghost use Rattle.cls_set.specs.Sets.{HasClasses, IsClassSet, IsSetFault};
+    ghost use Rattle.cls_set.specs.Faults.{IsSetFault, MakeASet};
+    ghost use Rattle.cls_set.specs.Sets.{HasClasses, IsClassSet};
+    ghost use Rattle.cls_set.specs.declared.fault.SetFault.TheVariants.{Memory};
     ghost use Rattle.cls_set.specs.Subtypes.{IsProperSubtype, IsRemote, IsSubclass, IsSubtype};
 
-    /// The set of the files' classes and the built-in ones. The files may come in any order, and
-    /// nothing of them is handed back with a fault.
+    /// The set of the files' classes and the built-in ones: just of files that break none of the rules. The
+    /// files may come in any order, and nothing of them is handed back with a fault.
     ///
-    /// Faults are looked for in this order, each over all classes: `Duplicate`, `AbsentClass`, `Cycle`,
-    /// `TooMany` (more than one file). Of the classes at fault the first by name is named. More classes than
-    /// can be numbered, 4,096, are `TooMany` before their supertypes are looked for. Of files that this
-    /// project's reader takes now, which extend java/lang/Object alone and have no fields, only `Duplicate`
-    /// and `TooMany` can come.
+    /// Faults are looked for in this order, each over all classes: `Duplicate`, `TooMany` (more classes than
+    /// can be numbered, 4,096 with the built-in ones), `AbsentClass`, `Cycle`, `BadSuper`, `FinalSuper`,
+    /// `RemoteField`, `RemoteMethod`, `Override`, `NotYet`. Of the classes at fault the first by name is named;
+    /// `TooMany` names that of the last file.
     pub fn build(alloc: Global, files: Vec<ClassFile>) -> Result<ClassSet, SetFault>
         ensures set { IfOk result (λ set. IsClassSet set) }
         ensures classes { IfOk result (λ set. HasClasses files.items set) }
-        ensures few { OnOk result (length files.items ≤ 1) }
+        ensures found { OnOk result (MakeASet files.items) }
+        ensures only { MakeASet files.items → IfErr result (λ fault. fault ≡ Memory) }
         ensures fault { IfErr result (IsSetFault files.items) }
     {
-        let last_of_many = last_of_many(files.as_slice())?;
-        let mut members = gather(alloc, files)?;
-        refuse_duplicates(members.as_slice())?;
-        if members.len() > MAX_CLASSES {
-            let Some(name) = &last_of_many else {
-                unreachable!()
-            };
-            return Err(broken(SetRule::TooMany, name));
-        }
-        resolve(alloc, &mut members)?;
-        refuse_cycles(alloc, &mut members)?;
-        if let Some(name) = &last_of_many {
-            return Err(broken(SetRule::TooMany, name));
-        }
-        Ok(ClassSet { members })
+        let arranged = arrange(alloc, files)?;
+        refuse_broken(
+            alloc,
+            arranged.members.as_slice(),
+            arranged.tables.as_slice(),
+        )?;
+        Ok(ClassSet {
+            members: arranged.members,
+            tables: arranged.tables,
+        })
     }
 
     /// How many classes it has.
@@ -116,7 +112,8 @@ impl ClassSet {
         requires { class.0 < length self.now }
         ensures { IsTrue result ↔ IsSubtype self.now class interface }
     {
-        leads_to(&self.members, class, interface)
+        let table = self.tables[usize::from(class.0)].as_slice();
+        class == interface || is_in(table, usize::from(interface.0))
     }
 
     /// Whether a class is remote: a class, not an interface, that implements java/rmi/Remote (Java RMI

@@ -28,10 +28,12 @@ pub enum SetRule {
     RemoteField = 35,
     /// A remote interface has or inherits a method with a parameter or a result that cannot cross.
     RemoteMethod = 36,
-    /// A method stands in place of a superclass's method that it may not override.
+    /// A method overrides or hides a superclass's method that it may not.
     Override = 37,
     /// The set has more classes than this project's profile takes.
     TooMany = 38,
+    /// The class is remote: it, and no interface, is below java/rmi/Remote. Such classes come later.
+    NotYet = 39,
 }
 
 impl fmt::Display for SetRule {
@@ -48,6 +50,7 @@ impl fmt::Display for SetRule {
             SetRule::RemoteMethod => "RemoteMethod",
             SetRule::Override => "Override",
             SetRule::TooMany => "TooMany",
+            SetRule::NotYet => "NotYet",
         })
     }
 }

@@ -4,18 +4,24 @@
 
 pub use cf_reader::{
     ClassFile, Code, ElementType, Field, FieldType, Flags, Method, MethodDescriptor, Numbered,
-    Pool, Row, Table, Text,
+    Pool, Row, Shared, Table, Text,
 };
 pub use class::Class;
 pub use class_set::ClassSet;
 pub use fault::{SetFault, SetRule};
 pub use space_ids::ClassId;
 
+mod arranging;
 mod building;
 mod built_in;
 mod class;
 mod class_set;
 mod fault;
 mod members;
+mod mentions;
+mod ordering;
+mod overriding;
+mod remote;
 mod resolving;
+mod rules;
 mod walking;

@@ -1,11 +1,11 @@
 //! How a class set keeps its classes: in the order of their names, each with a rank above those of
 //! its direct supertypes, so that every walk up ends.
 
-ghost use Rattle.std.specs.Prelude.{◌≡◌, ◌<◌, ◌≤◌, ◌↔◌, All, IfSome, IsTrue, Some, length};
+ghost use Rattle.std.specs.Prelude.{◌≡◌, ◌<◌, ◌≤◌, ◌↔◌, All, IfSome, IsTrue, Some, false, length, slice_index_or};
 ghost use Rattle.std.specs.List.Sorted.{IsStrictlySortedBy};
 ghost use Rattle.cls_set.specs.Classes.{name_at, name_cmp, names, number_of};
 ghost use Rattle.cls_set.specs.Members.{classes_of, IsRanked};
-ghost use Rattle.cls_set.specs.Subtypes.{IsSubclass, IsSubtype};
+ghost use Rattle.cls_set.specs.Subtypes.{IsSubclass};
 
 use super::{Class, ClassId};
 
@@ -47,23 +47,12 @@ pub(crate) fn is_below(members: &[Member], sub: ClassId, sup: ClassId) -> bool
     true
 }
 
-// Whether a class or interface is a subtype of another.
-pub(crate) fn leads_to(members: &[Member], sub: ClassId, sup: ClassId) -> bool
-    requires ranked { All (IsRanked members.now) members.now }
-    requires in_set { sub.0 < length members.now }
-    ensures { IsTrue result ↔ IsSubtype (classes_of members.now) sub sup }
+// What a table says of a class.
+pub(crate) fn is_in(table: &[bool], index: usize) -> bool
+    ensures { result ≡ slice_index_or table.now index false }
 {
-    if sub == sup {
-        return true;
-    }
-    let class = &members[usize::from(sub.0)].class;
-    'superinterfaces: for superinterface in class.interfaces.as_slice() {
-        if leads_to(members, *superinterface, sup) {
-            return true;
-        }
-    }
-    match class.superclass {
+    match table.get(index) {
+        Some(is) => *is,
         None => false,
-        Some(superclass) => leads_to(members, superclass, sup),
     }
 }

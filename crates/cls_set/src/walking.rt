@@ -1,12 +1,13 @@
 //! Walks up the supertypes of classes: each class is ranked by the number of its supertypes, and none may
 //! be among its own.
 
-ghost use Rattle.std.specs.Prelude.{◌≡◌, ◌<◌, ◌≤◌, All, IfOk, IfSome, IfNone, OnOk, length};
-ghost use Rattle.cls_set.specs.Members.{classes_of, IsRanked};
-ghost use Rattle.cls_set.specs.Walks.{met_by, meet_one, meet_all, ups_at, AreWithin, IsWalked, IsFirstOwn};
+ghost use Rattle.std.specs.Prelude.{◌≡◌, ◌<◌, ◌≤◌, All, IfOk, OnOk, length};
+ghost use Rattle.cls_set.specs.Members.{classes_of, AreRanks};
+ghost use Rattle.cls_set.specs.Walks.{met_by, meet_one, meet_all, ups_at, AreWithin, IsWalked};
 
 use super::ClassId;
 use super::members::Member;
+use cf_reader::Row;
 use std::alloc::{AllocError, Global};
 
 // The classes that a walk up has met: whether it has, by number, and in the order in which it has.
@@ -20,11 +21,11 @@ fn meet(class: ClassId, walk: &mut Walk) -> Result<(), AllocError>
     requires { class.0 < length walk.old.met.items }
     ensures { OnOk result (met_by walk.new ≡ meet_one (met_by walk.old) class) }
 {
-    let place = usize::from(class.0);
-    if walk.met[place] {
+    let index = usize::from(class.0);
+    if walk.met[index] {
         return Ok(());
     }
-    walk.met[place] = true;
+    walk.met[index] = true;
     walk.order.push(class)?;
     Ok(())
 }
@@ -73,21 +74,30 @@ fn walk_up(alloc: Global, members: &[Member], from: ClassId) -> Result<Walk, All
     Ok(walk)
 }
 
-// Ranks the classes, up to the first that is its own supertype, and gives its place. It takes a step for
-// each class and each supertype of it.
-pub(crate) fn rank(alloc: Global, members: &mut Vec<Member>) -> Result<Option<usize>, AllocError>
+// What ranking comes to: the index of the first class that is its own supertype, or for each class a table that
+// tells by number which classes are its supertypes.
+#[derive(Debug, Drop)]
+pub(crate) enum Ranks {
+    Cyclic(usize),
+    Tables(Vec<Row<bool>>),
+}
+
+// Ranks the classes. It takes a step for each class and each supertype of it.
+pub(crate) fn rank(alloc: Global, members: &mut Vec<Member>) -> Result<Ranks, AllocError>
     requires few { length members.old.items ≤ 4096 }
     requires within { AreWithin (length members.old.items) (classes_of members.old.items) }
     ensures classes { classes_of members.new.items ≡ classes_of members.old.items }
-    ensures own { IfOk result (λ own. IfSome own (IsFirstOwn (classes_of members.old.items))) }
-    ensures ranked { IfOk result (λ own. IfNone own (All (IsRanked members.new.items) members.new.items)) }
+    ensures ranks { IfOk result (AreRanks (classes_of members.old.items) members.new.items) }
 {
-    for place in 0..members.len() {
-        let walk = walk_up(alloc, members.as_slice(), ClassId(place as u16))?;
-        if walk.met[place] {
-            return Ok(Some(place));
+    let mut tables = Vec::with_capacity(alloc, members.len())?;
+    for index in 0..members.len() {
+        let walk = walk_up(alloc, members.as_slice(), ClassId(index as u16))?;
+        if walk.met[index] {
+            return Ok(Ranks::Cyclic(index));
         }
-        members[place].rank = walk.order.len();
+        let height = walk.order.len();
+        tables.push(Row::new(walk.met))?;
+        members[index].rank = height;
     }
-    Ok(None)
+    Ok(Ranks::Tables(tables))
 }

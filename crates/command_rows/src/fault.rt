@@ -30,7 +30,7 @@ impl<T: Drop> From<AllocFailed<T>> for LineFault {
 impl From<BuildFault> for LineFault {
     fn from(fault: BuildFault) -> LineFault {
         match fault {
-            BuildFault::TooLong => LineFault::Bad,
+            BuildFault::TooLong | BuildFault::UnknownMnemonic => LineFault::Bad,
             BuildFault::Memory => LineFault::Memory,
         }
     }

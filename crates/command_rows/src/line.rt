@@ -1,6 +1,6 @@
 //! The lines of a script.
 
-use super::class_draft::Method;
+use super::class_draft::{Field, Method, MethodCode};
 use super::fault::LineFault;
 use super::shelf::Change;
 use class_builder::SUM;
@@ -15,7 +15,13 @@ pub enum Line<'a> {
     /// A file at this path. A file without bytes is listed and cannot be opened.
     File(&'a str, Option<Vec<u8>>),
     Class { path: &'a str, name: &'a str },
+    Flags(u16),
+    Extends(&'a str),
+    Implements(&'a str),
+    Field(Field),
     Method(Method),
+    /// A line of the last method's code.
+    Code(&'a str),
     Change(Change),
     /// Words for the program over the folder in memory.
     InMemory(&'a str),
@@ -31,6 +37,9 @@ pub fn line_of<'a>(alloc: Global, text: &'a str) -> Result<Line<'a>, LineFault> 
     if let Some(words) = text.strip_prefix("> ") {
         return Ok(Line::InMemory(words));
     }
+    if let Some(code) = text.strip_prefix("| ") {
+        return Ok(Line::Code(code));
+    }
     if let Some(words) = text.strip_prefix("@ ") {
         return Ok(Line::OnDisk(words));
     }
@@ -43,7 +52,38 @@ pub fn line_of<'a>(alloc: Global, text: &'a str) -> Result<Line<'a>, LineFault> 
             path: *path,
             name: *name,
         }),
-        ["method", parts @ ..] => Ok(Line::Method(method_of(alloc, parts)?)),
+        ["flags", flags] => Ok(Line::Flags(flags_of(flags)?)),
+        ["extends", name] => Ok(Line::Extends(*name)),
+        ["implements", name] => Ok(Line::Implements(*name)),
+        ["field", parts @ ..] => Ok(Line::Field(field_of(alloc, parts)?)),
+        ["abstract", flags, name, descriptor] => {
+            Ok(Line::Method(named(alloc, flags, name, descriptor, None)?))
+        }
+        [
+            "code",
+            flags,
+            name,
+            descriptor,
+            max_stack,
+            max_locals,
+            frames @ ..,
+        ] => {
+            let code = code_of(alloc, max_stack, max_locals, "", frames)?;
+            Ok(Line::Method(named(alloc, flags, name, descriptor, Some(code))?))
+        }
+        [
+            "method",
+            flags,
+            name,
+            descriptor,
+            max_stack,
+            max_locals,
+            bytes,
+            frames @ ..,
+        ] => {
+            let code = code_of(alloc, max_stack, max_locals, *bytes, frames)?;
+            Ok(Line::Method(named(alloc, flags, name, descriptor, Some(code))?))
+        }
         parts => Ok(Line::Change(change_of(alloc, parts)?)),
     }
 }
@@ -58,24 +98,64 @@ fn example_of(alloc: Global, words: &[&str]) -> Result<Vec<u8>, LineFault> {
     }
 }
 
-fn method_of(alloc: Global, words: &[&str]) -> Result<Method, LineFault> {
-    let (sized, frames) = match words {
-        [sized @ .., frames] if words.len() == 7 => (sized, Some(hex::decode(alloc, *frames)?)),
-        _ => (words, None),
-    };
-    let [flags, name, descriptor, max_stack, max_locals, code] = sized else {
+fn flags_of(word: &str) -> Result<u16, LineFault> {
+    let mut bytes = [0u8; 2];
+    hex::decode_to_slice(word, &mut bytes)?;
+    Ok(u16::from_be_bytes(bytes))
+}
+
+// A field: its flags, name and descriptor, and the value of its ConstantValue attribute, if it has one.
+fn field_of(alloc: Global, words: &[&str]) -> Result<Field, LineFault> {
+    let [flags, name, descriptor, constant @ ..] = words else {
         return Err(LineFault::Bad);
     };
-    let mut flag_bytes = [0u8; 2];
-    hex::decode_to_slice(*flags, &mut flag_bytes)?;
-    Ok(Method {
-        flags: u16::from_be_bytes(flag_bytes),
+    let constant = match constant {
+        [] => None,
+        [value] => Some(value.parse::<i32>().map_err(|_| LineFault::Bad)?),
+        _ => return Err(LineFault::Bad),
+    };
+    Ok(Field {
+        flags: flags_of(flags)?,
         name: String::from_str(alloc, name)?,
         descriptor: String::from_str(alloc, descriptor)?,
+        constant,
+    })
+}
+
+// Code: its first bytes, and the bytes of its StackMapTable, if it has one.
+fn code_of(
+    alloc: Global,
+    max_stack: &str,
+    max_locals: &str,
+    bytes: &str,
+    frames: &[&str],
+) -> Result<MethodCode, LineFault> {
+    let frames = match frames {
+        [] => None,
+        [frames] => Some(hex::decode(alloc, *frames)?),
+        _ => return Err(LineFault::Bad),
+    };
+    Ok(MethodCode {
         max_stack: short_number(max_stack)?,
         max_locals: short_number(max_locals)?,
-        code: hex::decode(alloc, *code)?,
+        bytes: hex::decode(alloc, bytes)?,
+        lines: Vec::new(alloc),
         frames,
+    })
+}
+
+fn named(
+    alloc: Global,
+    flags: &str,
+    name: &str,
+    descriptor: &str,
+    code: Option<MethodCode>,
+) -> Result<Method, LineFault> {
+    Ok(Method {
+        flags: flags_of(flags)?,
+        name: String::from_str(alloc, name)?,
+        descriptor: String::from_str(alloc, descriptor)?,
+        code,
     })
 }
 

@@ -10,6 +10,11 @@
 //! | `file PATH absent` | the path is listed, and its file cannot be opened |
 //! | `class PATH NAME` | adds a class file: a public class below java/lang/Object |
 //! | `method FLAGS NAME DESCRIPTOR MAX_STACK MAX_LOCALS CODE [FRAMES]` | adds a method to that class; flags, code and the bytes of its StackMapTable in hex digits |
+//! | `flags FLAGS`, `extends NAME`, `implements NAME` | gives that class these flags, this superclass, one more superinterface |
+//! | `field FLAGS NAME DESCRIPTOR [VALUE]` | adds a field; a value is that of its ConstantValue attribute |
+//! | `abstract FLAGS NAME DESCRIPTOR` | adds a method without code |
+//! | `code FLAGS NAME DESCRIPTOR MAX_STACK MAX_LOCALS [FRAMES]` | adds a method whose code follows |
+//! | `\| LINE` | adds a line of code to that method, as `javap` shows it |
 //! | `byte OFFSET VALUE` | sets a byte of the last file, to two hex digits |
 //! | `cut N`, `append HEX` | keeps the first N bytes of the last file, or adds bytes to it |
 //! | `again FROM TO` | appends the last file's own bytes from FROM up to TO |
@@ -28,6 +33,7 @@ use std::io;
 use std::io::{BufRead, BufReader, BufWriter, ErrorKind, Write};
 
 mod class_draft;
+mod code_line;
 mod fault;
 mod line;
 mod said;

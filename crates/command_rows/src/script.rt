@@ -1,6 +1,6 @@
 //! A script as it is played: the folder that its lines make, and what the program says over it.
 
-use super::class_draft::{ClassDraft, Method};
+use super::class_draft::ClassDraft;
 use super::fault::LineFault;
 use super::line::{Line, line_of};
 use super::said::Said;
@@ -64,13 +64,31 @@ impl Script {
                 self.shelf.add(path, bytes)?;
             }
             Line::Class { path, name } => self.begin_class(path, name)?,
-            Line::Method(method) => self.add_method(method)?,
-            Line::Change(change) => {
-                self.draft = None;
-                self.shelf.change(change)?;
-            }
+            line => self.change(line)?,
         }
         Ok(Reply::Silent)
+    }
+
+    // Changes the last file, by a part of its class or in its bytes.
+    fn change(&mut self, line: Line<'_>) -> Result<(), LineFault> {
+        if let Line::Change(change) = line {
+            self.draft = None;
+            return self.shelf.change(change);
+        }
+        let Some(draft) = &mut self.draft else {
+            return Err(LineFault::Bad);
+        };
+        let alloc = self.alloc;
+        match line {
+            Line::Flags(flags) => draft.set_flags(flags),
+            Line::Extends(name) => draft.set_superclass(String::from_str(alloc, name)?),
+            Line::Implements(name) => draft.add_interface(String::from_str(alloc, name)?)?,
+            Line::Field(field) => draft.add_field(field)?,
+            Line::Method(method) => draft.add(method)?,
+            Line::Code(code) => draft.add_line(String::from_str(alloc, code)?)?,
+            _ => return Err(LineFault::Bad),
+        }
+        self.shelf.replace(draft.bytes()?)
     }
 
     fn begin_class(&mut self, path: &str, name: &str) -> Result<(), LineFault> {
@@ -78,13 +96,5 @@ impl Script {
         self.shelf.add(path, Some(draft.bytes()?))?;
         self.draft = Some(draft);
         Ok(())
-    }
-
-    fn add_method(&mut self, method: Method) -> Result<(), LineFault> {
-        let Some(draft) = &mut self.draft else {
-            return Err(LineFault::Bad);
-        };
-        draft.add(method)?;
-        self.shelf.replace(draft.bytes()?)
     }
 }

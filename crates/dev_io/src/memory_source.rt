@@ -10,7 +10,7 @@ use std::marker::Model;
 #[derive(Drop)]
 pub struct MemSource {
     bytes: Vec<u8>,
-    place: usize,
+    position: usize,
     step: usize,
     calls: Calls,
 }
@@ -21,9 +21,9 @@ impl Model for MemSource {
 
     ghost Value = { Supply };
 
-    ghost view = { λ s. record { bytes = drop s.place s.bytes.items; step = s.step; calls = s.calls } };
+    ghost view = { λ s. record { bytes = drop s.position s.bytes.items; step = s.step; calls = s.calls } };
 
-    ghost invariant = { λ s. (s.place ≤ vec_len s.bytes) × (0 < s.step) };
+    ghost invariant = { λ s. (s.position ≤ vec_len s.bytes) × (0 < s.step) };
 }
 
 impl MemSource {
@@ -37,7 +37,7 @@ impl MemSource {
     {
         MemSource {
             bytes,
-            place: 0,
+            position: 0,
             step,
             calls: Calls::Unlimited,
         }
@@ -87,9 +87,9 @@ impl Source for MemSource {
         ensures calls { self.new.calls ≡ after_call self.old.calls }
     {
         self.calls.count()?;
-        let (_, rest) = self.bytes.split_at(self.place);
+        let (_, rest) = self.bytes.split_at(self.position);
         let count = copy_front(rest, buffer, self.step);
-        self.place += count;
+        self.position += count;
         Ok(count)
     }
 

@@ -1,6 +1,6 @@
 //! Reading the bytes of a source, up to a number of them.
 
-ghost use Rattle.std.specs.Prelude.{◌≡◌, ◌<◌, ◌↔◌, length, take, IfOk, IfSome, IsErrOf, IsTrue};
+ghost use Rattle.std.specs.Prelude.{◌≡◌, ◌<◌, ◌≤◌, ◌↔◌, length, take, IfOk, IfSome, IsErrOf, IsTrue};
 ghost use Rattle.std.specs.Io.KnownBytes.{Consumes};
 ghost use Rattle.dev_io.specs.Reading.{GivesPiece};
 
@@ -55,6 +55,7 @@ pub fn read_bytes<S: Source>(
     ensures passed { IfOk result (λ bytes. Consumes (S.remaining source.old) (S.remaining source.new) bytes.items) }
     // It gave all that it had, or its first `most` bytes.
     ensures all { IfOk result (λ bytes. IfSome (S.remaining source.old) (λ all. bytes.items ≡ take most all)) }
+    ensures within { IfOk result (λ bytes. length bytes.items ≤ most) }
     ensures device { IsErrOf result ReadError.Device ↔ IsTrue (S.has_failed source.new) }
 {
     let mut bytes = Vec::new(alloc);

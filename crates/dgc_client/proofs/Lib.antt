@@ -1,5 +1,9 @@
+pub mod DeadlinesLemmas
 pub mod GroupsLemmas
+pub mod KeptLemmas
 pub mod LeaseLemmas
 pub mod OrderLemmas
+pub mod RoomLemmas
 pub mod TouchedLemmas
 pub mod TableLemmas
+pub mod SoundLemmas

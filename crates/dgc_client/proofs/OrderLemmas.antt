@@ -15,7 +15,7 @@ use Rattle.dgc_client.proofs.GroupsLemmas.{same-kind, left-true, right-true, are
 same-bytes : (p q : List ℕ) → bytes_eq p q ≡ true → p ≡ q
 same-bytes p q h = (bytes_eq-Decides p q).0 h
 
-self-bytes : (p : List ℕ) → bytes_eq p p ≡ true
+pub self-bytes : (p : List ℕ) → bytes_eq p p ≡ true
 self-bytes p = (bytes_eq-Decides p p).1 refl
 
 -- peers that differ one way differ the other way
@@ -25,7 +25,7 @@ swap-bytes p q h = elim (bytes_eq q p) as (λ t. bytes_eq q p ≡ t → t ≡ fa
   | false ↦ λ _. refl
 ] refl
 
-at-peer : (p : List ℕ) (k : Due) (call : DueCall) → is_of p k call ≡ true → call.reference.space ≡ p
+pub at-peer : (p : List ℕ) (k : Due) (call : DueCall) → is_of p k call ≡ true → call.reference.space ≡ p
 at-peer p k call h = same-bytes call.reference.space p (left-true (bytes_eq call.reference.space p) (is_same_kind call.kind k) h)
 
 of-kind : (p : List ℕ) (k : Due) (call : DueCall) → is_of p k call ≡ true → call.kind ≡ k
@@ -59,12 +59,12 @@ filter-flat_map : (f : DueCall → Bool) (g : List ℕ → List DueCall) (ps : L
 filter-flat_map f g [] = refl
 filter-flat_map f g (p ∷ ps) = filter-append f (g p) (flat_map g ps) ∙ ap (λ (rest : List DueCall). filter f (g p) ++ rest) (filter-flat_map f g ps)
 
-nothing : (g : List ℕ → List DueCall) (ps : List (List ℕ)) → ((p : List ℕ) → g p ≡ []) → flat_map g ps ≡ []
+pub nothing : (g : List ℕ → List DueCall) (ps : List (List ℕ)) → ((p : List ℕ) → g p ≡ []) → flat_map g ps ≡ []
 nothing g [] none = refl
 nothing g (p ∷ ps) none = ap (λ (x : List DueCall). x ++ flat_map g ps) (none p) ∙ nothing g ps none
 
 -- each peer stands once
-abbrev StandOnce : List (List ℕ) → Type 0
+abbrev pub StandOnce : List (List ℕ) → Type 0
 StandOnce [] = Unit {0}
 StandOnce (p ∷ ps) = (list_any (bytes_eq p) ps ≡ false) × StandOnce ps
 
@@ -94,11 +94,11 @@ any-push p x (q ∷ ps) = by (bytes_eq p q) (any-push p x ps)
     by true more = refl
     by false more = more
 
-left-false : (s t : Bool) → (s || t) ≡ false → s ≡ false
+pub left-false : (s t : Bool) → (s || t) ≡ false → s ≡ false
 left-false true t h = h
 left-false false t h = refl
 
-right-false : (s t : Bool) → (s || t) ≡ false → t ≡ false
+pub right-false : (s t : Bool) → (s || t) ≡ false → t ≡ false
 right-false true t h = absurd (false≢true (sym h))
 right-false false t h = h
 
@@ -187,7 +187,7 @@ all-or-none p k calls = elim (list_any (bytes_eq p) (peers_of (is_clean_kind k) 
   ] refl))
 ] refl
 
-once-peers : (clean : Bool) (calls : List DueCall) → StandOnce (peers_of clean calls)
+pub once-peers : (clean : Bool) (calls : List DueCall) → StandOnce (peers_of clean calls)
 once-peers clean calls = once-all (map (λ (call : DueCall). call.reference.space) (filter (λ call. is_same_answer (is_clean call) clean) calls)) [] none-once
 
 -- calls of a kind among those of that kind

@@ -1,17 +1,13 @@
-use Rattle.std.proofs.Common.{◌≡◌, ℕ, Bool, true, false, cond, ◌&&◌, ◌||◌, eqb, List, [], ◌∷◌, ◌++◌, zero, suc, ◌+◌, ◌<◌, length, get_or, take, drop, filter, max, is_some, Option, None, Some, refl, sym, ap, subst, ◌∙◌, arith}
-use Rattle.std.specs.Prelude.{All, unwrap_or, if◌then◌else◌, map, position, slice_get, nat_lt}
-use Rattle.std.proofs.lemmas.List.Quantifiers.{position-Some}
-use Rattle.std.specs.Cmp.{IsEquivalence}
+use Rattle.std.proofs.Common.{◌≡◌, ℕ, Bool, true, false, cond, ◌&&◌, ◌||◌, List, [], ◌∷◌, ◌++◌, zero, suc, ◌+◌, ◌<◌, length, get_or, take, filter, max, is_some, Option, None, Some, refl, sym, ap, subst, ◌∙◌, arith}
+use Rattle.std.specs.Prelude.{All, unwrap_or, if◌then◌else◌, map, slice_get, nat_lt}
 use Rattle.std.specs.List.{IsDistinct, filter_map, cons_option}
-use Rattle.std.specs.Map.{lookup, keys_of, values_of}
+use Rattle.std.specs.Map.{lookup, keys_of}
 use Rattle.indexmap.specs.IndexMap.{set_value_at}
 use Rattle.std.proofs.lemmas.Bool.Decides.{nat_tests}
-use Rattle.std.specs.Str.{bytes_eq}
-use Rattle.std.proofs.lemmas.Bool.{false≢true, eqb-true}
+use Rattle.std.proofs.lemmas.Bool.{false≢true}
 use Rattle.std.proofs.lemmas.List.{take_more}
 use Rattle.std.proofs.lemmas.List.Elements.{All-nil, All-cons}
 use Rattle.std.proofs.lemmas.Map.Entries.{lookup_from_place}
-use Rattle.std.proofs.lemmas.Slice.Eq.{bytes_eq-Decides}
 use Rattle.space_ids.specs.declared.ids.ObjId.{ObjId}
 use Rattle.dgc_client.specs.declared.lease.Change.{Change}
 use Rattle.dgc_client.specs.declared.lease.Change.TheVariants as change
@@ -24,62 +20,14 @@ use Rattle.dgc_client.specs.declared.table.Clients.{Clients}
 use Rattle.dgc_client.specs.Groups.{is_clean}
 use Rattle.dgc_client.specs.Lease.{fresh, after_moment, due}
 use Rattle.dgc_client.specs.History.{Event, lease_of, after, event_of}
-use Rattle.dgc_client.specs.Table.{Told, is_same, is_among, is_hold, with_reference, held, own, moment_of, lease_at, is_known, Puts, IsAfter, on_each, references_at, due_of, IsCovered}
+use Rattle.dgc_client.specs.Table.{Told, is_same, is_among, is_hold, with_reference, held, own, moment_of, leases_of, lease_at, is_known, Puts, IsAfter, on_each, references_at, making, made_each, due_of, IsSound}
 use Rattle.dgc_client.specs.Table.Told.{On, At}
-use Rattle.dgc_client.specs.Touched.{IsTouched, due_call, call_of_entry}
+use Rattle.dgc_client.specs.declared.picked.Question.{Question}
+use Rattle.dgc_client.specs.Touched.{due_call, holds, reference_of}
 use Rattle.dgc_client.proofs.LeaseLemmas.{clean-unheld}
+use Rattle.dgc_client.proofs.KeptLemmas.{same-reference, same-laws}
 
-left-true : (s t : Bool) → (s && t) ≡ true → s ≡ true
-left-true true t h = refl
-left-true false t h = h
-
-right-true : (s t : Bool) → (s && t) ≡ true → t ≡ true
-right-true true t h = h
-right-true false t h = absurd (false≢true h)
-
--- references that are the same are one
-pub same-reference : (a b : ForeignId) → is_same a b ≡ true → a ≡ b
-same-reference a b h =
-    let space : a.space ≡ b.space = (bytes_eq-Decides a.space b.space).0 (left-true (bytes_eq a.space b.space) (eqb a.id.0 b.id.0) h) in
-    let id : a.id.0 ≡ b.id.0 = eqb-true _ _ (right-true (bytes_eq a.space b.space) (eqb a.id.0 b.id.0) h) in
-    λ i. record { space = space i; id = record { 0 = id i } }
-
-both-self : (s t : Bool) → s ≡ true → t ≡ true → (s && t) ≡ true
-both-self true t h g = g
-both-self false t h g = h
-
--- a reference is the same as itself
-pub same-self : (a : ForeignId) → is_same a a ≡ true
-same-self a = both-self (bytes_eq a.space a.space) (eqb a.id.0 a.id.0) ((bytes_eq-Decides a.space a.space).1 refl) (grind (arith, nat_tests))
-
-same-swap : (a b : ForeignId) → is_same a b ≡ is_same b a
-same-swap a b = by (is_same a b) (is_same b a) refl refl
-  where
-    by : (s t : Bool) → is_same a b ≡ s → is_same b a ≡ t → s ≡ t
-    by true true h g = refl
-    by false false h g = refl
-    by true false h g = sym (subst (λ (x : ForeignId). is_same x a ≡ true) (same-reference a b h) (same-self a)) ∙ g
-    by false true h g = sym h ∙ subst (λ (x : ForeignId). is_same x b ≡ true) (same-reference b a g) (same-self b)
-
-pub same-laws : IsEquivalence is_same
-same-laws = record {
-  refl = same-self;
-  symm = same-swap;
-  congr = λ a b c h. ap (λ (x : ForeignId). is_same x c) (same-reference a b h);
-}
-
-entry-here : (r : ForeignId) (es : List (ForeignId × ClientLease)) (i : ℕ) (v : ClientLease) → i < length (keys_of es) → r ≡ get_or (keys_of es) i r → slice_get (values_of es) i ≡ Some v → slice_get es i ≡ Some (r, v)
-entry-here r [] i v within key value = absurd (omega arith)
-entry-here r (e ∷ es) zero v within key value = let mine : e.1 ≡ v = cc in λ j. Some (sym key j, mine j)
-entry-here r (e ∷ es) (suc i) v within key value = entry-here r es i v (omega arith) key value
-
--- what stands at the place of a reference
-pub entry-at : (r : ForeignId) (es : List (ForeignId × ClientLease)) (i : ℕ) (v : ClientLease) → position (is_same r) (keys_of es) ≡ Some i → slice_get (values_of es) i ≡ Some v → slice_get es i ≡ Some (r, v)
-entry-at r es i v place value =
-    let at = position-Some (is_same r) (keys_of es) i r place in
-    entry-here r es i v at.0 (same-reference r (get_or (keys_of es) i r) at.1) value
-
--- a reference has a place in the table where it is among the keys
+-- a reference has an index in the table where it is among the keys
 pub known-among : (r : ForeignId) (es : List (ForeignId × ClientLease)) → is_some (lookup (is_same r) es) ≡ is_among r (keys_of es)
 known-among r [] = refl
 known-among r (e ∷ es) = elim (is_same r e.0) as (λ t. is_some (cond t (Some e.1) (lookup (is_same r) es)) ≡ (t || is_among r (keys_of es))) [ true ↦ refl | false ↦ known-among r es ]
@@ -89,19 +37,19 @@ or-fresh true w x l = refl
 or-fresh false w x l = refl
 
 -- what the table keeps after a write of one reference
-pub each-after : (reference : ForeignId) (lease : ClientLease) (old new : Clients) → new.moment ≡ old.moment
-    → ((q : ForeignId) → lookup (is_same q) new.references.entries ≡ cond (is_same reference q) (Some lease) (lookup (is_same q) old.references.entries))
+pub each-after : (reference : ForeignId) (lease : ClientLease) (old new : Clients) → new.leases.moment ≡ old.leases.moment
+    → ((q : ForeignId) → lookup (is_same q) (leases_of new.leases) ≡ cond (is_same reference q) (Some lease) (lookup (is_same q) (leases_of old.leases)))
     → (q : ForeignId) → lease_at new q ≡ cond (is_same reference q) lease (lease_at old q)
 each-after reference lease old new moment at q =
-    ap (λ o. unwrap_or o (fresh new.moment)) (at q) ∙ ap (λ m. unwrap_or (cond (is_same reference q) (Some lease) (lookup (is_same q) old.references.entries)) (fresh m)) moment
-    ∙ or-fresh (is_same reference q) lease (lookup (is_same q) old.references.entries) (fresh old.moment)
+    ap (λ o. unwrap_or o (fresh new.leases.moment)) (at q) ∙ ap (λ m. unwrap_or (cond (is_same reference q) (Some lease) (lookup (is_same q) (leases_of old.leases))) (fresh m)) moment
+    ∙ or-fresh (is_same reference q) lease (lookup (is_same q) (leases_of old.leases)) (fresh old.leases.moment)
 
 -- a write of one reference that is known
-pub puts : (reference : ForeignId) (lease : ClientLease) (old new : Clients) → new.moment ≡ old.moment → new.numbers ≡ old.numbers
-    → keys_of new.references.entries ≡ keys_of old.references.entries
-    → ((q : ForeignId) → lookup (is_same q) new.references.entries ≡ cond (is_same reference q) (Some lease) (lookup (is_same q) old.references.entries))
-    → (IsCovered old → IsCovered new) → Puts reference lease old new
-puts reference lease old new moment numbers keys at covered = record { moment = moment; numbers = numbers; keys = keys; each = each-after reference lease old new moment at; covered = covered }
+pub puts : (reference : ForeignId) (lease : ClientLease) (old new : Clients) → new.leases.moment ≡ old.leases.moment → new.numbers ≡ old.numbers
+    → keys_of (leases_of new.leases) ≡ keys_of (leases_of old.leases)
+    → ((q : ForeignId) → lookup (is_same q) (leases_of new.leases) ≡ cond (is_same reference q) (Some lease) (lookup (is_same q) (leases_of old.leases)))
+    → (IsSound old → IsSound new) → Puts reference lease old new
+puts reference lease old new moment numbers keys at sound = record { moment = moment; numbers = numbers; keys = keys; each = each-after reference lease old new moment at; sound = sound }
 
 counted : (s x : Bool) (a b : List Event) → x ≡ true → cond (s && x) a b ≡ cond s a b
 counted true x a b e = ap (λ t. cond t a b) e
@@ -113,11 +61,11 @@ uncounted false x a b e = refl
 
 -- an event of one reference, from the write that makes it
 pub after-event : (h : List Told) (old new : Clients) (reference : ForeignId) (event : Event) (lease : ClientLease)
-    → new.moment ≡ old.moment → new.numbers ≡ old.numbers
-    → keys_of new.references.entries ≡ (if is_hold event then with_reference (keys_of old.references.entries) reference else keys_of old.references.entries)
+    → new.leases.moment ≡ old.leases.moment → new.numbers ≡ old.numbers
+    → keys_of (leases_of new.leases) ≡ (if is_hold event then with_reference (keys_of (leases_of old.leases)) reference else keys_of (leases_of old.leases))
     → ((q : ForeignId) → lease_at new q ≡ cond (is_same reference q) lease (lease_at old q))
-    → (is_hold event || is_among reference (keys_of old.references.entries)) ≡ true
-    → lease ≡ after event (lease_at old reference) → (IsCovered old → IsCovered new) → IsAfter h old → IsAfter (On reference event ∷ h) new
+    → (is_hold event || is_among reference (keys_of (leases_of old.leases))) ≡ true
+    → lease ≡ after event (lease_at old reference) → (IsSound old → IsSound new) → IsAfter h old → IsAfter (On reference event ∷ h) new
 after-event h old new reference event lease moment numbers keys each counts is covered was =
     let told : (is_hold event || is_among reference (held h)) ≡ true = ap (λ (ks : List ForeignId). is_hold event || is_among reference ks) (sym was.held) ∙ counts in
     record {
@@ -128,21 +76,21 @@ after-event h old new reference event lease moment numbers keys each counts is c
         | true ↦ λ same. subst (λ (r : ForeignId). lease ≡ after event (lease_of (own r h))) (same-reference reference q same) (is ∙ ap (after event) (was.each reference))
         | false ↦ λ _. was.each q
       ] refl) ∙ ap lease_of (sym (counted (is_same reference q) (is_hold event || is_among reference (held h)) (event ∷ own q h) (own q h) told));
-      covered = covered was.covered;
+      sound = covered was.sound;
     }
 
 -- what is told of a reference that was never held is none of it
-pub after-nothing : (h : List Told) (clients : Clients) (reference : ForeignId) (event : Event) → is_hold event ≡ false → is_among reference (keys_of clients.references.entries) ≡ false
+pub after-nothing : (h : List Told) (clients : Clients) (reference : ForeignId) (event : Event) → is_hold event ≡ false → is_among reference (keys_of (leases_of clients.leases)) ≡ false
     → IsAfter h clients → IsAfter (On reference event ∷ h) clients
 after-nothing h clients reference event new_none absent was =
     let untold : (is_hold event || is_among reference (held h)) ≡ false =
-    ap (λ (ks : List ForeignId). is_hold event || is_among reference ks) (sym was.held) ∙ ap (λ t. t || is_among reference (keys_of clients.references.entries)) new_none ∙ absent in
+    ap (λ (ks : List ForeignId). is_hold event || is_among reference ks) (sym was.held) ∙ ap (λ t. t || is_among reference (keys_of (leases_of clients.leases))) new_none ∙ absent in
     record {
       moment = was.moment;
       numbers = was.numbers;
       held = was.held ∙ ap (λ t. if t then with_reference (held h) reference else held h) (sym new_none);
       each = λ q. was.each q ∙ ap lease_of (sym (uncounted (is_same reference q) (is_hold event || is_among reference (held h)) (event ∷ own q h) (own q h) untold));
-      covered = was.covered;
+      sound = was.sound;
     }
 
 -- no change is a new holder
@@ -165,20 +113,20 @@ after-change h old new reference change lease put left is was = by (is_known old
     by : (t : Bool) → is_known old reference ≡ t → IsAfter (On reference (event_of change) ∷ h) new
     by true known =
         let p = put known in
-        after-event h old new reference (event_of change) lease p.moment p.numbers (p.keys ∙ ap (λ t. if t then with_reference (keys_of old.references.entries) reference else keys_of old.references.entries) (sym (no-hold change)))
-        p.each (ap (λ t. t || is_among reference (keys_of old.references.entries)) (no-hold change) ∙ sym (known-among reference old.references.entries) ∙ known) is p.covered was
+        after-event h old new reference (event_of change) lease p.moment p.numbers (p.keys ∙ ap (λ t. if t then with_reference (keys_of (leases_of old.leases)) reference else keys_of (leases_of old.leases)) (sym (no-hold change)))
+        p.each (ap (λ t. t || is_among reference (keys_of (leases_of old.leases))) (no-hold change) ∙ sym (known-among reference (leases_of old.leases)) ∙ known) is p.sound was
     by false unknown = subst (λ (l : Clients). IsAfter (On reference (event_of change) ∷ h) l) (sym (left unknown))
-        (after-nothing h old reference (event_of change) (no-hold change) (sym (known-among reference old.references.entries) ∙ unknown) was)
+        (after-nothing h old reference (event_of change) (no-hold change) (sym (known-among reference (leases_of old.leases)) ∙ unknown) was)
 
 -- a new holder
 pub after-held : (h : List Told) (old new : Clients) (reference : ForeignId) (event : Event) (lease : ClientLease) → is_hold event ≡ true
-    → new.moment ≡ old.moment → new.numbers ≡ old.numbers → keys_of new.references.entries ≡ with_reference (keys_of old.references.entries) reference
-    → ((q : ForeignId) → lookup (is_same q) new.references.entries ≡ cond (is_same reference q) (Some lease) (lookup (is_same q) old.references.entries))
-    → lease ≡ after event (lease_at old reference) → (IsCovered old → IsCovered new) → IsAfter h old → IsAfter (On reference event ∷ h) new
+    → new.leases.moment ≡ old.leases.moment → new.numbers ≡ old.numbers → keys_of (leases_of new.leases) ≡ with_reference (keys_of (leases_of old.leases)) reference
+    → ((q : ForeignId) → lookup (is_same q) (leases_of new.leases) ≡ cond (is_same reference q) (Some lease) (lookup (is_same q) (leases_of old.leases)))
+    → lease ≡ after event (lease_at old reference) → (IsSound old → IsSound new) → IsAfter h old → IsAfter (On reference event ∷ h) new
 after-held h old new reference event lease holds moment numbers keys at is covered was =
     after-event h old new reference event lease moment numbers
-    (keys ∙ ap (λ t. if t then with_reference (keys_of old.references.entries) reference else keys_of old.references.entries) (sym holds))
-    (each-after reference lease old new moment at) (ap (λ t. t || is_among reference (keys_of old.references.entries)) holds) is covered was
+    (keys ∙ ap (λ t. if t then with_reference (keys_of (leases_of old.leases)) reference else keys_of (leases_of old.leases)) (sym holds))
+    (each-after reference lease old new moment at) (ap (λ t. t || is_among reference (keys_of (leases_of old.leases))) holds) is covered was
 
 on-each-push : (rs : List ForeignId) (r : ForeignId) (event : Event) (h : List Told) → on_each (rs ++ r ∷ []) event h ≡ On r event ∷ on_each rs event h
 on-each-push [] r event h = refl
@@ -202,6 +150,16 @@ told-next peer ids shown i d event h is below =
     subst (λ (xs : List ObjId). on_each (references_at peer (take (i + 1) xs)) event h ≡ On (record { space = peer; id = get_or shown i d }) event ∷ on_each (references_at peer (take i xs)) event h) is
     (told-one peer shown i d event h below)
 
+made-push : (calls : List DueCall) (x : DueCall) (call : ℕ) (h : List Told) → made_each (calls ++ x ∷ []) call h ≡ On x.reference (making x.kind call) ∷ made_each calls call h
+made-push [] x call h = refl
+made-push (c ∷ calls) x call h = made-push calls x call (On c.reference (making c.kind call) ∷ h)
+
+-- the calls so far that are made, and the next
+pub made-next : (calls : List DueCall) (i : ℕ) (d : DueCall) (call : ℕ) (h : List Told) → i < length calls
+    → made_each (take (i + 1) calls) call h ≡ On (get_or calls i d).reference (making (get_or calls i d).kind call) ∷ made_each (take i calls) call h
+made-next calls i d call h below =
+    ap (λ (xs : List DueCall). made_each xs call h) (take_more calls i d below) ∙ made-push (take i calls) (get_or calls i d) call h
+
 -- entries whose values a function of the keys tells
 entries-told : (f : ForeignId → ClientLease) (es : List (ForeignId × ClientLease)) → ((i : ℕ) (k : ForeignId) (v : ClientLease) → slice_get es i ≡ Some (k, v) → f k ≡ v)
     → es ≡ map (λ (k : ForeignId). (k, f k)) (keys_of es)
@@ -209,11 +167,11 @@ entries-told f [] tells = refl
 entries-told f (e ∷ es) tells = λ j. (e.0, sym (tells zero e.0 e.1 refl) j) ∷ entries-told f es (λ i. tells (suc i)) j
 
 -- the entries are what the history leaves of each reference that was held
-pub entries-are : (h : List Told) (clients : Clients) → IsDistinct is_same (keys_of clients.references.entries) → IsAfter h clients
-    → clients.references.entries ≡ map (λ (k : ForeignId). (k, lease_of (own k h))) (held h)
+pub entries-are : (h : List Told) (clients : Clients) → IsDistinct is_same (keys_of (leases_of clients.leases)) → IsAfter h clients
+    → (leases_of clients.leases) ≡ map (λ (k : ForeignId). (k, lease_of (own k h))) (held h)
 entries-are h clients distinct was =
-    entries-told (λ k. lease_of (own k h)) clients.references.entries
-    (λ i k v at. sym (was.each k) ∙ ap (λ o. unwrap_or o (fresh clients.moment)) (lookup_from_place same-laws clients.references.entries i k v distinct at))
+    entries-told (λ k. lease_of (own k h)) (leases_of clients.leases)
+    (λ i k v at. sym (was.each k) ∙ ap (λ o. unwrap_or o (fresh clients.leases.moment)) (lookup_from_place same-laws (leases_of clients.leases) i k v distinct at))
     ∙ ap (λ (ks : List ForeignId). map (λ (k : ForeignId). (k, lease_of (own k h))) ks) was.held
 
 due-map : (f : ForeignId → ClientLease) (ks : List ForeignId)
@@ -221,15 +179,9 @@ due-map : (f : ForeignId → ClientLease) (ks : List ForeignId)
 due-map f [] = refl
 due-map f (k ∷ ks) = ap (cons_option (due_call k (due (f k)))) (due-map f ks)
 
-picked-map : (f : ForeignId → ClientLease) (p : ClientLease → Bool) (ks : List ForeignId)
-    → map (λ (e : ForeignId × ClientLease). e.0) (filter (λ (e : ForeignId × ClientLease). p e.1) (map (λ (k : ForeignId). (k, f k)) ks)) ≡ filter (λ (k : ForeignId). p (f k)) ks
-picked-map f p [] = refl
-picked-map f p (k ∷ ks) = elim (p (f k)) as (λ t. map (λ (e : ForeignId × ClientLease). e.0) (cond t ((k, f k) ∷ filter (λ (e : ForeignId × ClientLease). p e.1) (map (λ (k : ForeignId). (k, f k)) ks)) (filter (λ (e : ForeignId × ClientLease). p e.1) (map (λ (k : ForeignId). (k, f k)) ks)))
-    ≡ cond t (k ∷ filter (λ (k : ForeignId). p (f k)) ks) (filter (λ (k : ForeignId). p (f k)) ks)) [ true ↦ ap (λ (rest : List ForeignId). k ∷ rest) (picked-map f p ks) | false ↦ picked-map f p ks ]
-
 -- the calls that are due, from the entries
-pub due-calls : (h : List Told) (clients : Clients) (calls : List DueCall) → IsDistinct is_same (keys_of clients.references.entries)
-    → calls ≡ filter_map (λ (e : ForeignId × ClientLease). due_call e.0 (due e.1)) clients.references.entries → IsAfter h clients → calls ≡ due_of h
+pub due-calls : (h : List Told) (clients : Clients) (calls : List DueCall) → IsDistinct is_same (keys_of (leases_of clients.leases))
+    → calls ≡ filter_map (λ (e : ForeignId × ClientLease). due_call e.0 (due e.1)) (leases_of clients.leases) → IsAfter h clients → calls ≡ due_of h
 due-calls h clients calls distinct is was =
     is ∙ ap (λ (es : List (ForeignId × ClientLease)). filter_map (λ (e : ForeignId × ClientLease). due_call e.0 (due e.1)) es) (entries-are h clients distinct was)
     ∙ due-map (λ k. lease_of (own k h)) (held h)
@@ -244,23 +196,6 @@ cleans-unheld f (k ∷ ks) = by (due (f k)) refl (cleans-unheld f ks)
     by None e rest = rest
     by (Some Dirty) e rest = All-cons (λ (call : DueCall). is_clean call ≡ true → (f call.reference).holders ≡ 0) _ _ (λ clean. absurd (false≢true clean)) rest
     by (Some (Clean strong)) e rest = All-cons (λ (call : DueCall). is_clean call ≡ true → (f call.reference).holders ≡ 0) _ _ (λ clean. clean-unheld (f k) strong e) rest
-
--- the references that pass a test of what is kept of them, from the entries
-pub picked : (p : ClientLease → Bool) (h : List Told) (clients : Clients) (references : List ForeignId) → IsDistinct is_same (keys_of clients.references.entries)
-    → references ≡ map (λ (e : ForeignId × ClientLease). e.0) (filter (λ (e : ForeignId × ClientLease). p e.1) clients.references.entries) → IsAfter h clients
-    → references ≡ filter (λ (r : ForeignId). p (lease_of (own r h))) (held h)
-picked p h clients references distinct is was =
-    is ∙ ap (λ (es : List (ForeignId × ClientLease)). map (λ (e : ForeignId × ClientLease). e.0) (filter (λ (e : ForeignId × ClientLease). p e.1) es)) (entries-are h clients distinct was)
-    ∙ picked-map (λ k. lease_of (own k h)) p (held h)
-
--- the moment comes for one more reference
-pub pass-step : (m : ℕ) (es : List (ForeignId × ClientLease)) (i : ℕ) (v : ClientLease) → i < length es
-    → slice_get (values_of (map (λ (e : ForeignId × ClientLease). (e.0, after_moment m e.1)) (take i es) ++ drop i es)) i ≡ Some v
-    → set_value_at (map (λ (e : ForeignId × ClientLease). (e.0, after_moment m e.1)) (take i es) ++ drop i es) i (after_moment m v)
-    ≡ map (λ (e : ForeignId × ClientLease). (e.0, after_moment m e.1)) (take (suc i) es) ++ drop (suc i) es
-pass-step m [] i v l here = absurd (omega arith)
-pass-step m (e ∷ es) zero v l here = let same : v ≡ e.1 = cc in rw same refl
-pass-step m (e ∷ es) (suc i) v l here = ap (λ rest. (e.0, after_moment m e.1) ∷ rest) (pass-step m es i v (omega arith) here)
 
 fresh-moment : (m n : ℕ) → fresh (max n m) ≡ after_moment m (fresh n)
 fresh-moment m n = elim (nat_lt m n) as (λ t. nat_lt m n ≡ t → fresh (max n m) ≡ cond t (fresh n) (fresh m)) [
@@ -278,35 +213,46 @@ passed-keys : (m : ℕ) (es : List (ForeignId × ClientLease)) → keys_of (map 
 passed-keys m [] = refl
 passed-keys m (e ∷ es) = ap (λ (rest : List ForeignId). e.0 ∷ rest) (passed-keys m es)
 
+pub keys-set : (es : List (ForeignId × ClientLease)) (i : ℕ) (l : ClientLease) → keys_of (set_value_at es i l) ≡ keys_of es
+keys-set [] i l = refl
+keys-set (e ∷ es) zero l = refl
+keys-set (e ∷ es) (suc i) l = ap (λ (rest : List ForeignId). e.0 ∷ rest) (keys-set es i l)
+
+questioned : (question : Question) (f : ForeignId → ClientLease) (ks : List ForeignId)
+    → filter_map (reference_of question) (map (λ (k : ForeignId). (k, f k)) ks) ≡ filter (λ (k : ForeignId). holds question (f k)) ks
+questioned question f [] = refl
+questioned question f (k ∷ ks) =
+    elim (holds question (f k)) as (λ t. cons_option (cond t (Some k) None) (filter_map (reference_of question) (map (λ (k : ForeignId). (k, f k)) ks)) ≡ cond t (k ∷ filter (λ (k : ForeignId). holds question (f k)) ks) (filter (λ (k : ForeignId). holds question (f k)) ks))
+    [ true ↦ ap (λ (rest : List ForeignId). k ∷ rest) (questioned question f ks) | false ↦ questioned question f ks ]
+
+-- the references of which a question holds, from the leases
+pub picked : (question : Question) (h : List Told) (clients : Clients) (references : List ForeignId) → IsDistinct is_same (keys_of (leases_of clients.leases))
+    → references ≡ filter_map (reference_of question) (leases_of clients.leases) → IsAfter h clients
+    → references ≡ filter (λ (r : ForeignId). holds question (lease_of (own r h))) (held h)
+picked question h clients references distinct is was =
+    is ∙ ap (λ (es : List (ForeignId × ClientLease)). filter_map (reference_of question) es) (entries-are h clients distinct was) ∙ questioned question (λ k. lease_of (own k h)) (held h)
+
 -- a moment, from what it makes of each reference
-pub after-pass : (h : List Told) (old new : Clients) (m : ℕ) → new.moment ≡ max old.moment m → new.numbers ≡ old.numbers
-    → new.references.entries ≡ map (λ (e : ForeignId × ClientLease). (e.0, after_moment m e.1)) old.references.entries → ((at : ℕ) → IsTouched new.touched at)
+pub after-pass : (h : List Told) (old new : Clients) (m : ℕ) → new.leases.moment ≡ max old.leases.moment m → new.numbers ≡ old.numbers
+    → (leases_of new.leases) ≡ map (λ (e : ForeignId × ClientLease). (e.0, after_moment m e.1)) (leases_of old.leases) → (IsSound old → IsSound new)
     → IsAfter h old → IsAfter (At m ∷ h) new
 after-pass h old new m moment numbers is all was = record {
   moment = moment ∙ ap (λ n. max n m) was.moment ∙ (let flipped : max (moment_of h) m ≡ max m (moment_of h) = omega arith in flipped);
   numbers = numbers ∙ was.numbers;
-  held = ap (λ (es : List (ForeignId × ClientLease)). keys_of es) is ∙ passed-keys m old.references.entries ∙ was.held;
-  each = λ r. ap (λ n. unwrap_or (lookup (is_same r) new.references.entries) (fresh n)) moment
-      ∙ ap (λ (es : List (ForeignId × ClientLease)). unwrap_or (lookup (is_same r) es) (fresh (max old.moment m))) is
-      ∙ passed m old.moment r old.references.entries ∙ ap (after_moment m) (was.each r);
-  covered = λ at _. all at;
+  held = ap (λ (es : List (ForeignId × ClientLease)). keys_of es) is ∙ passed-keys m (leases_of old.leases) ∙ was.held;
+  each = λ r. ap (λ n. unwrap_or (lookup (is_same r) (leases_of new.leases)) (fresh n)) moment
+      ∙ ap (λ (es : List (ForeignId × ClientLease)). unwrap_or (lookup (is_same r) es) (fresh (max old.leases.moment m))) is
+      ∙ passed m old.leases.moment r (leases_of old.leases) ∙ ap (after_moment m) (was.each r);
+  sound = all was.sound;
 }
 
-pub pass-next : (m : ℕ) (es now : List (ForeignId × ClientLease)) (i : ℕ) (v w : ClientLease) → i < length es
-    → now ≡ map (λ (e : ForeignId × ClientLease). (e.0, after_moment m e.1)) (take i es) ++ drop i es
-    → slice_get (values_of now) i ≡ Some v → w ≡ after_moment m v
-    → set_value_at now i w ≡ map (λ (e : ForeignId × ClientLease). (e.0, after_moment m e.1)) (take (i + 1) es) ++ drop (i + 1) es
-pass-next m es now i v w l is here set =
-    let next : i + 1 ≡ suc i = omega arith in
-    rw (set, is, next) (pass-step m es i v l (subst (λ (xs : List (ForeignId × ClientLease)). slice_get (values_of xs) i ≡ Some v) is here))
-
 -- where other references may have a call due the table is the same otherwise
-pub after-touched : (h : List Told) (old new : Clients) → new.moment ≡ old.moment → new.numbers ≡ old.numbers → new.references.entries ≡ old.references.entries
-    → IsCovered new → IsAfter h old → IsAfter h new
+pub after-touched : (h : List Told) (old new : Clients) → new.leases.moment ≡ old.leases.moment → new.numbers ≡ old.numbers → (leases_of new.leases) ≡ (leases_of old.leases)
+    → IsSound new → IsAfter h old → IsAfter h new
 after-touched h old new moment numbers entries covered was = record {
   moment = moment ∙ was.moment;
   numbers = numbers ∙ was.numbers;
   held = ap (λ (es : List (ForeignId × ClientLease)). keys_of es) entries ∙ was.held;
   each = λ r. (λ i. unwrap_or (lookup (is_same r) (entries i)) (fresh (moment i))) ∙ was.each r;
-  covered = covered;
+  sound = covered;
 }

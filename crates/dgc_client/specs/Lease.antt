@@ -6,7 +6,7 @@ use Rattle.dgc_client.specs.declared.lease.Due.TheVariants.{Dirty, Clean as Clea
 use Rattle.dgc_client.specs.declared.lease.Made.{Made}
 use Rattle.dgc_client.specs.declared.lease.Owed.{Owed}
 use Rattle.dgc_client.specs.declared.lease.Owed.TheVariants.{Nothing, Clean, Strong, Again}
-use Rattle.dgc_client.specs.declared.lease.Term.{Term}
+use Rattle.dgc_index.specs.declared.plans.Term.{Term}
 
 -- a reference of which nothing happened yet
 abbrev pub fresh : ℕ → ClientLease

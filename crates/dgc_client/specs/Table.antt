@@ -1,8 +1,7 @@
 -- All foreign references of a client, in the order in which they were first held, and what is told of each. (This project's own form of the Java RMI specification, 9.1.)
-use Rattle.std.specs.Prelude.{◌≡◌, ℕ, ◌+◌, Bool, true, false, List, [], ◌∷◌, ◌++◌, map, Option, None, Some, ◌==◌, ◌&&◌, ◌||◌, unwrap_or, is_some, max, if◌then◌else◌}
+use Rattle.std.specs.Prelude.{◌≡◌, ℕ, ◌+◌, Some, Bool, true, false, List, [], ◌∷◌, ◌++◌, map, ◌&&◌, ◌||◌, unwrap_or, is_some, slice_get, max, length, ◌≤◌, ◌⊎◌, if◌then◌else◌}
 use Rattle.std.specs.List.{list_any, filter_map}
 use Rattle.std.specs.Map.{lookup, keys_of}
-use Rattle.std.specs.Str.{bytes_eq}
 use Rattle.indexmap.specs.IndexMap.{spare}
 use Rattle.space_ids.specs.declared.ids.ObjId.{ObjId}
 use Rattle.dgc_client.specs.declared.groups.DueCall.{DueCall}
@@ -13,7 +12,16 @@ use Rattle.dgc_client.specs.declared.lease.Due.TheVariants.{Dirty, Clean}
 use Rattle.space_ids.specs.declared.ids.ForeignId.{ForeignId}
 use Rattle.dgc_client.specs.declared.table.Clients.{Clients}
 use Rattle.dgc_client.specs.Lease.{fresh, due}
-use Rattle.dgc_client.specs.Touched.{IsTouched, due_call, IsDueAt}
+pub use Rattle.dgc_client.specs.Kept.{is_same}
+use Rattle.dgc_client.specs.Kept.{leases_now}
+use Rattle.dgc_index.specs.declared.plans.Term.{Term}
+use Rattle.dgc_index.specs.declared.plans.Plans.{Plans}
+use Rattle.dgc_index.specs.declared.touched.Touched.{Touched}
+use Rattle.dgc_index.specs.Deadlines.{IsPlanned}
+use Rattle.dgc_index.specs.Plans.{IsPlannedTerm}
+use Rattle.dgc_client.specs.declared.leases.Leases.{Leases}
+use Rattle.dgc_index.specs.Touched.{IsTouched}
+use Rattle.dgc_client.specs.Touched.{due_call, IsDueAt}
 use Rattle.dgc_client.specs.History.{Event, lease_of}
 use Rattle.dgc_client.specs.History.Event.{Held, Dropped, Moment, DirtyMade, CleanMade, DirtySent, DirtyAnswered, DirtyFailed, CleanAnswered, CleanFailed}
 
@@ -22,10 +30,6 @@ pub data Told : Type 0 where
   On : (reference : ForeignId) (event : Event) → Told
   At : (moment : ℕ) → Told
   Numbered : Told
-
--- whether two references name one object
-abbrev pub is_same : ForeignId → ForeignId → Bool
-is_same a b = bytes_eq a.space b.space && a.id.0 == b.id.0
 
 abbrev pub is_among : ForeignId → List ForeignId → Bool
 is_among reference references = list_any (is_same reference) references
@@ -96,6 +100,11 @@ making (Clean strong) call = CleanMade call
 abbrev pub made : Group → ℕ → List Told → List Told
 made group call h = told group (making group.kind call) h
 
+-- each of these calls is made
+abbrev pub made_each : List DueCall → ℕ → List Told → List Told
+made_each [] call h = h
+made_each (due ∷ calls) call h = made_each calls call (On due.reference (making due.kind call) ∷ h)
+
 abbrev pub sent_as : Due → Group → ℕ → List Told → List Told
 sent_as Dirty group call h = told group (DirtySent call) h
 sent_as (Clean strong) group call h = h
@@ -108,34 +117,60 @@ sent group call h = Numbered ∷ sent_as group.kind group call h
 abbrev pub due_of : List Told → List DueCall
 due_of h = filter_map (λ reference. due_call reference (due (lease_of (own reference h)))) (held h)
 
+-- the leases now, in the order in which their references were first held
+abbrev pub leases_of : Leases → List (ForeignId × ClientLease)
+leases_of leases = leases_now leases.moment leases.moments leases.references.entries
+
+-- the lease of a reference now
+abbrev pub lease_in : Leases → ForeignId → ClientLease
+lease_in leases reference = unwrap_or (lookup (is_same reference) (leases_of leases)) (fresh leases.moment)
+
+-- how many references were ever held
+abbrev pub references_in : Clients → ℕ
+references_in clients = length (leases_of clients.leases)
+
 -- how many references that were never held the table has room for
 abbrev pub room : Clients → ℕ
-room clients = spare clients.references
+room clients = spare clients.leases.references
 
 -- what is kept of a reference
 abbrev pub lease_at : Clients → ForeignId → ClientLease
-lease_at clients reference = unwrap_or (lookup (is_same reference) clients.references.entries) (fresh clients.moment)
+lease_at clients reference = lease_in clients.leases reference
 
--- whether the reference has a place in the table
+-- whether the reference is in the table
 abbrev pub is_known : Clients → ForeignId → Bool
-is_known clients reference = is_some (lookup (is_same reference) clients.references.entries)
+is_known clients reference = is_some (lookup (is_same reference) (leases_of clients.leases))
 
--- Each reference of which a call is due is among those that were touched.
-abbrev pub IsCovered : Clients → Type 0
-IsCovered clients = (at : ℕ) → IsDueAt clients.references.entries at → IsTouched clients.touched at
+-- The reference at an index is looked at when the calls that are due are asked for: it was touched, or its lease may be half over since a moment came.
+abbrev pub IsLookedAtIn : Leases → Touched → Plans → Bool → ℕ → Type 0
+IsLookedAtIn leases touched plans moved at =
+    IsTouched touched at
+    ⊎ ((moved ≡ true) × ((moment : ℕ) × (moment ≤ leases.moment) × IsPlanned plans.halves (record { moment = moment; index = at })))
+
+abbrev pub IsLookedAt : Clients → ℕ → Type 0
+IsLookedAt clients at = IsLookedAtIn clients.leases clients.touched clients.plans clients.moved at
+
+-- No call that is due is missed, nor will one be at any later moment: a lease has its deadlines, and a reference of which a call failed is known.
+pub record IsSoundIn (leases : Leases) (touched later : Touched) (plans : Plans) (moved : Bool) : Type 0 where
+  pub covered : (at : ℕ) → IsDueAt (leases_of leases) at → IsLookedAtIn leases touched plans moved at
+  pub planned : (at : ℕ) (r : ForeignId) (l : ClientLease) (term : Term) → slice_get (leases_of leases) at ≡ Some (r, l) → l.lease ≡ Some term → IsPlannedTerm plans term at
+  pub waiting : (at : ℕ) (r : ForeignId) (l : ClientLease) → slice_get (leases_of leases) at ≡ Some (r, l) → l.waits ≡ true → IsTouched later at
+
+abbrev pub IsSound : Clients → Type 0
+IsSound clients = IsSoundIn clients.leases clients.touched clients.later clients.plans clients.moved
 
 -- this is kept of the reference now, and all else stays
 pub record Puts (reference : ForeignId) (lease : ClientLease) (old new : Clients) : Type 0 where
-  pub moment : new.moment ≡ old.moment
+  pub moment : new.leases.moment ≡ old.leases.moment
   pub numbers : new.numbers ≡ old.numbers
-  pub keys : keys_of new.references.entries ≡ keys_of old.references.entries
+  pub keys : keys_of (leases_of new.leases) ≡ keys_of (leases_of old.leases)
   pub each : (other : ForeignId) → lease_at new other ≡ (if is_same reference other then lease else lease_at old other)
-  pub covered : IsCovered old → IsCovered new
+  pub sound : IsSound old → IsSound new
 
 -- The table is what the history leaves.
 pub record IsAfter (h : List Told) (clients : Clients) : Type 0 where
-  pub moment : clients.moment ≡ moment_of h
+  pub moment : clients.leases.moment ≡ moment_of h
   pub numbers : clients.numbers ≡ numbers_of h
-  pub held : keys_of clients.references.entries ≡ held h
+  pub held : keys_of (leases_of clients.leases) ≡ held h
   pub each : (reference : ForeignId) → lease_at clients reference ≡ lease_of (own reference h)
-  pub covered : IsCovered clients
+  pub sound : IsSound clients

@@ -1,21 +1,16 @@
-//! The calls that are due, found at the places that were touched.
+//! The calls that are due, found at the references that were touched.
 
-ghost use Rattle.std.specs.Prelude.{◌≡◌, IfOk};
+ghost use Rattle.std.specs.Prelude.{◌≡◌, ◌≤◌, ◌<◌, ◌+◌, ◌++◌, ℕ, length, min, vec_len, vec_capacity, option_to_list};
 ghost use Rattle.std.specs.List.{filter_map};
 ghost use Rattle.dgc_client.specs.Lease.{due};
-ghost use Rattle.dgc_client.specs.Touched.{Rises, due_call, call_of_entry, call_at, HasAll};
+ghost use Rattle.dgc_client.specs.Table.{leases_of};
+ghost use Rattle.dgc_index.specs.Touched.{IsTouched, Rises};
+ghost use Rattle.dgc_client.specs.Touched.{due_call, call_of_entry, call_at, IsDueAt, HasAll};
 
 use crate::groups::DueCall;
+use crate::leases::Leases;
 use crate::{ClientLease, ForeignId};
-use indexmap::IndexMap;
-use std::alloc::{AllocError, Global};
-
-/// The calls that are due, in the order of the references, and the places of these.
-#[derive(Drop)]
-pub(crate) struct DueNow {
-    pub(crate) calls: Vec<DueCall>,
-    pub(crate) places: Vec<usize>,
-}
+use dgc_index::Touched;
 
 // The call that is due of a reference.
 fn due_call(reference: &ForeignId, lease: &ClientLease) -> Option<DueCall>
@@ -30,39 +25,68 @@ fn due_call(reference: &ForeignId, lease: &ClientLease) -> Option<DueCall>
     }
 }
 
-// The call that is due at a place.
-fn call_at(references: &IndexMap<ForeignId, ClientLease>, at: usize) -> Option<DueCall>
-    ensures { result ≡ call_at references.now.entries at }
+// The call that is due at an index.
+fn call_at(leases: &Leases, at: usize) -> Option<DueCall>
+    ensures { result ≡ call_at (leases_of leases.now) at }
 {
-    let (reference, lease) = references.get_index(at)?;
-    due_call(reference, lease)
+    let (reference, lease) = leases.at(at)?;
+    due_call(&reference, &lease)
 }
 
-// The calls that are due at these places, which rise: all that are due, where no other place has one.
-pub(crate) fn due_now(
-    alloc: Global,
-    references: &IndexMap<ForeignId, ClientLease>,
-    candidates: &[usize],
-) -> Result<DueNow, AllocError>
-    requires { Rises candidates.now }
-    ensures calls { IfOk result (λ now. HasAll references.now.entries candidates.now → now.calls.items ≡ filter_map call_of_entry references.now.entries) }
-    ensures places { IfOk result (λ now. HasAll references.now.entries candidates.now → HasAll references.now.entries now.places.items) }
+// Adds the call that is due at an index, if one is, and has the index looked at again.
+fn add_call(leases: &Leases, at: usize, calls: &mut Vec<DueCall>, again: &mut Touched)
+    requires { vec_len calls.old < vec_capacity calls.old }
+    ensures calls { calls.new.items ≡ calls.old.items ++ option_to_list (call_at (leases_of leases.now) at) }
+    ensures len { vec_len calls.new ≤ vec_len calls.old + 1 }
+    ensures capacity { vec_capacity calls.new ≡ vec_capacity calls.old }
+    ensures here { IsDueAt (leases_of leases.now) at → IsTouched again.new at }
+    ensures kept { (other : ℕ) → IsTouched again.old other → IsTouched again.new other }
 {
-    let mut calls = Vec::new(alloc);
-    let mut places = Vec::new(alloc);
+    match call_at(leases, at) {
+        Some(call) => {
+            calls.push_reserved(call);
+            again.add(at, leases.len());
+        }
+        None => {}
+    }
+}
+
+// The calls that are due at these indexes, which rise, in room that is there: all that are due, if no
+// other index has one. Their indexes are looked at again.
+pub(crate) fn due_now(
+    leases: &Leases,
+    candidates: &[usize],
+    calls: &mut Vec<DueCall>,
+    again: &mut Touched,
+)
+    requires rising { Rises candidates.now }
+    requires room { min (length candidates.now) (length (leases_of leases.now)) ≤ vec_capacity calls.old }
+    ensures calls { HasAll (leases_of leases.now) candidates.now → calls.new.items ≡ filter_map call_of_entry (leases_of leases.now) }
+    ensures again { HasAll (leases_of leases.now) candidates.now → (at : ℕ) → IsDueAt (leases_of leases.now) at → IsTouched again.new at }
+    ensures few { vec_len calls.new ≤ min (length candidates.now) (length (leases_of leases.now)) }
+    ensures capacity { vec_capacity calls.new ≡ vec_capacity calls.old }
+{
+    calls.clear();
     let mut passed = 0;
     for at in candidates {
-        if *at < passed || *at >= references.len() {
+        if *at < passed || *at >= leases.len() {
             continue;
         }
-        match call_at(references, *at) {
-            Some(call) => {
-                calls.push(call)?;
-                places.push(*at)?;
-            }
-            None => {}
-        }
+        add_call(leases, *at, calls, again);
         passed = *at + 1;
     }
-    Ok(DueNow { calls, places })
+}
+
+// All calls that are due, in room that is there. Their indexes are looked at again.
+pub(crate) fn all_due(leases: &Leases, calls: &mut Vec<DueCall>, again: &mut Touched)
+    requires { length (leases_of leases.now) ≤ vec_capacity calls.old }
+    ensures calls { calls.new.items ≡ filter_map call_of_entry (leases_of leases.now) }
+    ensures again { (at : ℕ) → IsDueAt (leases_of leases.now) at → IsTouched again.new at }
+    ensures few { vec_len calls.new ≤ length (leases_of leases.now) }
+    ensures capacity { vec_capacity calls.new ≡ vec_capacity calls.old }
+{
+    calls.clear();
+    for at in 0..leases.len() {
+        add_call(leases, at, calls, again);
+    }
 }

@@ -4,15 +4,10 @@ ghost use Rattle.std.specs.Prelude.{◌≡◌};
 ghost use Rattle.dgc_client.specs.Lease.{fresh, is_made, after_hold, after_drop, standing, is_half_over, after_moment, after_dirty, after_clean, after_sent, after_answer, after_failed_dirty, after_answered_clean, after_failed_clean, due_held, due_unheld, is_waiting, due, is_renewed_at, lapses_at};
 ghost use Rattle.dgc_client.specs.History.{after, event_of};
 
+use dgc_index::Term;
+
 /// The period that each dirty call asks for, in milliseconds.
 pub const LONGEST_LEASE: u64 = 600_000;
-
-/// A lease: when its dirty call was sent, and the period that was granted, in milliseconds.
-#[derive(Clone, Copy, Debug, PartialEq, Eq)]
-pub struct Term {
-    pub sent: u64,
-    pub period: u64,
-}
 
 /// A call that was made: its number among the space's dirty and clean calls as they are made, and the
 /// moment at which it was sent, or made where it is not sent yet.

@@ -6,14 +6,18 @@
 //! the references were first held; it answers the calls that are due in [`Group`]s.
 #![tactic(auto)]
 
+pub use dgc_index::Term;
+pub use due_calls::DueCalls;
 pub use groups::{DueCall, Group};
-pub use lease::{ClientLease, Due, LONGEST_LEASE, Made, Owed, Term};
+pub use lease::{ClientLease, Due, LONGEST_LEASE, Made, Owed};
 pub use space_ids::ForeignId;
 pub use table::Clients;
 
+mod due_calls;
 mod due_now;
 mod groups;
-pub mod laws;
 mod lease;
+mod leases;
+mod picked;
+mod planning;
 mod table;
-mod touched;

@@ -1,18 +1,28 @@
 //! All foreign references of a space.
 
-ghost use Rattle.std.specs.Prelude.{◌≡◌, ◌≤◌, ◌<◌, ◌+◌, ◌^◌, ℕ, List, [], ◌∷◌, OnOk, OnErr, IfOk, IfSome, IfNone, IsTrue, false, map, filter};
+ghost use Rattle.std.specs.Prelude.{◌≡◌, ◌≤◌, ◌<◌, ◌+◌, ◌^◌, ℕ, List, [], ◌∷◌, OnOk, OnErr, IfOk, IfSome, IfNone, IsTrue, Contains, Some, length, vec_len, true, false, map, filter};
 ghost use Rattle.std.specs.List.{filter_map, IsDistinct};
 ghost use Rattle.std.specs.Map.{keys_of};
-ghost use Rattle.indexmap.specs.IndexMap.{spare};
-ghost use Rattle.dgc_client.specs.Lease.{after_moment, is_renewed_at, lapses_at};
-ghost use Rattle.dgc_client.specs.Table.{is_same};
+ghost use Rattle.dgc_client.specs.Kept.{is_same};
+ghost use Rattle.dgc_client.specs.Lease.{is_renewed_at, lapses_at};
+ghost use Rattle.dgc_client.specs.Touched.{call_of_entry, HasAll, IsAnswered, IsDueAt, reference_of};
+ghost use Rattle.dgc_index.specs.Touched.{IsTouched, Rises};
+ghost use Rattle.dgc_index.specs.declared.deadlines.Deadline.{Deadline};
+ghost use Rattle.dgc_index.specs.declared.plans.Term.{Term};
+ghost use Rattle.dgc_index.specs.Deadlines.{IsPlanned};
+ghost use Rattle.dgc_index.specs.Plans.{IsPlannedTerm};
+ghost use Rattle.dgc_client.specs.History.{event_of};
+ghost use Rattle.dgc_client.specs.Table.{leases_of, making};
 
-use crate::due_now::due_now;
-use crate::groups::{Group, grouped, in_order};
+use crate::due_calls::DueCalls;
+use crate::due_now::{all_due, due_now};
+use crate::groups::{DueCall, Group, grouped};
 use crate::lease::Change;
-use crate::touched::Touched;
-use crate::{ClientLease, Due};
-use indexmap::IndexMap;
+use crate::leases::Leases;
+use crate::picked::{Question, picked};
+use crate::planning::plan_anew;
+use crate::{ClientLease, Due, Term};
+use dgc_index::{Plans, Touched, sorted, up_to};
 use space_ids::{ForeignId, ObjId};
 use std::alloc::{AllocError, Global};
 use uuid::Uuid;
@@ -22,17 +32,22 @@ use uuid::Uuid;
 /// A contract names the histories that the value may stand for: it is what each of them leaves.
 #[derive(Debug, Drop)]
 pub struct Clients {
-    references: IndexMap<ForeignId, ClientLease>,
+    leases: Leases,
+    // Those that may have a call due now, and those that may have one at any later moment.
     touched: Touched,
-    moment: u64,
+    later: Touched,
+    // When leases are half over and end, and whether a moment came since the last question for calls.
+    plans: Plans,
+    moved: bool,
     numbers: u64,
 }
 
 impl Clients {
-    ghost use Rattle.dgc_client.specs.History.{Event, lease_of, event_of};
+    ghost use Rattle.dgc_client.specs.History.{Event, lease_of};
     ghost use Rattle.dgc_client.specs.History.Event.{Held, Dropped, DirtyAnswered, DirtyFailed, CleanAnswered, CleanFailed};
     ghost use Rattle.dgc_client.specs.Groups.{grouped, in_order};
-    ghost use Rattle.dgc_client.specs.Table.{Told, IsAfter, room, own, held, is_among, numbers_of, told, made, sent, due_of, is_known, Puts};
+    ghost use Rattle.dgc_client.specs.DueCalls.{calls_in, HasRoomFor};
+    ghost use Rattle.dgc_client.specs.Table.{Told, IsAfter, room, references_in, made_each, own, held, is_among, numbers_of, told, made, sent, due_of, IsSound, is_known, Puts};
     ghost use Rattle.dgc_client.specs.Table.Told.{On, At};
 
     /// No reference was held and no number given, at moment 0.
@@ -40,9 +55,11 @@ impl Clients {
         ensures { IsAfter [] result }
     {
         Clients {
-            references: IndexMap::new(alloc),
+            leases: Leases::new(alloc),
             touched: Touched::new(alloc),
-            moment: 0,
+            later: Touched::new(alloc),
+            plans: Plans::new(alloc),
+            moved: false,
             numbers: 0,
         }
     }
@@ -51,10 +68,7 @@ impl Clients {
     pub fn lease(&self, reference: &ForeignId) -> ClientLease
         ensures { (h : List Told) → IsAfter h self.now → result ≡ lease_of (own reference.now h) }
     {
-        match self.references.get(reference) {
-            Some(lease) => *lease,
-            None => ClientLease::new(self.moment),
-        }
+        self.leases.get(reference)
     }
 
     /// Makes room for this many references that were never held before.
@@ -63,7 +77,7 @@ impl Clients {
         ensures same { (h : List Told) → IsAfter h self.old → IsAfter h self.new }
         ensures kept { room self.old ≤ room self.new }
     {
-        self.references.reserve(references)
+        self.leases.reserve(references)
     }
 
     /// The reference has one more holder: a parked frame, a task, a field, or a result that nobody
@@ -76,11 +90,18 @@ impl Clients {
         ensures no_room { OnErr result (room self.old ≡ 0) }
         ensures room { room self.old ≤ room self.new + 1 }
     {
-        let mut lease = self.lease(reference);
+        let kept = self.leases.last_term(reference);
+        let before = self.leases.get(reference);
+        let mut lease = before;
         lease.hold();
-        let (at, _) = self.references.insert_full(*reference, lease)?;
-        let count = self.references.len();
-        self.touched.add(at, count);
+        let index = self.leases.insert(reference, lease)?;
+        let changed = Changed {
+            index,
+            kept,
+            before: before.lease,
+            after: lease,
+        };
+        self.note(changed);
         Ok(())
     }
 
@@ -108,18 +129,52 @@ impl Clients {
     /// strong clean calls in groups of their own before the others. References stand in the order in
     /// which they were first held, and peers in the order of their first reference. Nothing happens:
     /// each group that is answered is to be [`made`](Clients::made). Looks at the references alone that
-    /// something happened to since the last call, or at all after a moment.
+    /// something happened to since the last call, and after a moment at those whose lease is half over.
     pub fn due(&mut self, alloc: Global) -> Result<Vec<Group>, AllocError>
         ensures groups { IfOk result (λ groups. (h : List Told) → IsAfter h self.old → groups.items ≡ grouped (in_order (due_of h))) }
         ensures same { (h : List Told) → IsAfter h self.old → IsAfter h self.new }
         ensures room { room self.new ≡ room self.old }
     {
-        let candidates = self.touched.rising(alloc, self.references.len())?;
-        let now = due_now(alloc, &self.references, candidates.as_slice())?;
-        let ordered = in_order(alloc, now.calls.as_slice())?;
-        let groups = grouped(alloc, ordered.as_slice())?;
-        self.touched.only(now.places);
+        let candidates = self.candidates(alloc)?;
+        let mut due = DueCalls::new(alloc);
+        due.reserve(candidates.len().min(self.leases.len()))?;
+        let mut again = Touched::new(alloc);
+        due_now(
+            &self.leases,
+            candidates.as_slice(),
+            &mut due.found,
+            &mut again,
+        );
+        due.put_in_order();
+        let groups = grouped(alloc, due.as_slice())?;
+        self.touched = again;
+        self.moved = false;
         Ok(groups)
+    }
+
+    /// How many references were ever held: no more calls can be due.
+    pub fn references(&self) -> usize
+        ensures count { result ≡ references_in self.now }
+        ensures held { (h : List Told) → IsAfter h self.now → result ≡ length (held h) }
+    {
+        self.leases.len()
+    }
+
+    /// The calls that are due now, as [`due`](Clients::due) groups them, in room that is there: it
+    /// cannot fail. A group is a longest stretch of calls of one peer and kind. Nothing happens: the
+    /// calls of each group that is answered are to be [`made`](Clients::made_calls). If there is no
+    /// memory for what it looks at, it looks at all references.
+    pub fn due_reserved(&mut self, due: &mut DueCalls)
+        requires { HasRoomFor (references_in self.old) due.old }
+        ensures calls { (h : List Told) → IsAfter h self.old → calls_in due.new ≡ in_order (due_of h) }
+        ensures same { (h : List Told) → IsAfter h self.old → IsAfter h self.new }
+        ensures room { room self.new ≡ room self.old }
+        ensures kept { (calls : ℕ) → HasRoomFor calls due.old → HasRoomFor calls due.new }
+    {
+        let again = self.find_due(due);
+        due.put_in_order();
+        self.touched = again;
+        self.moved = false;
     }
 
     /// The references whose lease is due for renewal once this moment has come, in the order in which
@@ -127,14 +182,14 @@ impl Clients {
     pub fn renewals(&self, alloc: Global, moment: u64) -> Result<Vec<ForeignId>, AllocError>
         ensures { IfOk result (λ references. (h : List Told) → IsAfter h self.now → references.items ≡ filter (λ r. is_renewed_at moment (lease_of (own r h))) (held h)) }
     {
-        renewed_at(alloc, &self.references, moment)
+        self.picked(alloc, Question::Renewed(moment))
     }
 
     /// The references whose lease this moment ends, in the order in which they were first held.
     pub fn lapsed(&self, alloc: Global, moment: u64) -> Result<Vec<ForeignId>, AllocError>
         ensures { IfOk result (λ references. (h : List Told) → IsAfter h self.now → references.items ≡ filter (λ r. lapses_at moment (lease_of (own r h))) (held h)) }
     {
-        lapsed_at(alloc, &self.references, moment)
+        self.picked(alloc, Question::Lapses(moment))
     }
 
     /// The group's call was made, under this number: by it the group is known until its answer. A
@@ -143,9 +198,16 @@ impl Clients {
         ensures made { (h : List Told) → IsAfter h self.old → IsAfter (made group.now call h) self.new }
         ensures room { room self.new ≡ room self.old }
     {
-        match group.kind {
-            Due::Dirty => self.tell(group, Change::DirtyMade(call)),
-            Due::Clean { .. } => self.tell(group, Change::CleanMade(call)),
+        self.tell(group, making(group.kind, call));
+    }
+
+    /// Each of these calls was made, under this number, as [`made`](Clients::made) tells it of a group.
+    pub fn made_calls(&mut self, calls: &[DueCall], call: u64)
+        ensures made { (h : List Told) → IsAfter h self.old → IsAfter (made_each calls.now call h) self.new }
+        ensures room { room self.new ≡ room self.old }
+    {
+        for due in calls {
+            self.change(&due.reference, making(due.kind, call));
         }
     }
 
@@ -213,9 +275,129 @@ impl Clients {
         ensures moment { (h : List Told) → IsAfter h self.old → IsAfter (At moment ∷ h) self.new }
         ensures room { room self.new ≡ room self.old }
     {
-        pass(&mut self.references, moment);
+        self.plan_anew();
+        if moment < self.leases.last_moment() {
+            return;
+        }
+        self.leases.pass(moment);
+        self.touched.join(&mut self.later, self.leases.len());
+        self.later.clear();
+        self.moved = true;
+    }
+
+    // Knows the deadlines of all leases again, if there was no memory for some of them.
+    fn plan_anew(&mut self)
+        ensures same { (h : List Told) → IsAfter h self.old → IsAfter h self.new }
+        ensures room { room self.new ≡ room self.old }
+    {
+        if !self.plans.lacks_deadlines() {
+            return;
+        }
+        plan_anew(&mut self.plans, &self.leases);
         self.touched.add_all();
-        self.moment = self.moment.max(moment);
+    }
+
+    // The calls that are due, in the order of their references, and the references to look at again.
+    fn find_due(&self, due: &mut DueCalls) -> Touched
+        requires { HasRoomFor (references_in self.now) due.old }
+        ensures found { IsSound self.now → due.new.found.items ≡ filter_map call_of_entry (leases_of self.now.leases) }
+        ensures again { IsSound self.now → (at : ℕ) → IsDueAt (leases_of self.now.leases) at → IsTouched result at }
+        ensures unique { IsDistinct is_same (keys_of (leases_of self.now.leases)) }
+        ensures few { vec_len due.new.found ≤ references_in self.now }
+        ensures room { (calls : ℕ) → HasRoomFor calls due.old → HasRoomFor calls due.new }
+    {
+        let alloc = due.alloc();
+        let mut again = Touched::new(alloc);
+        match self.candidates(alloc) {
+            Ok(candidates) => due_now(
+                &self.leases,
+                candidates.as_slice(),
+                &mut due.found,
+                &mut again,
+            ),
+            Err(_) => all_due(&self.leases, &mut due.found, &mut again),
+        }
+        again
+    }
+
+    // The indexes of the references that may have a call due, rising.
+    fn candidates(&self, alloc: Global) -> Result<Vec<usize>, AllocError>
+        ensures rising { IfOk result (λ found. Rises found.items) }
+        ensures there { IfOk result (λ found. IsSound self.now → HasAll (leases_of self.now.leases) found.items) }
+        ensures unique { IsDistinct is_same (keys_of (leases_of self.now.leases)) }
+    {
+        let count = self.leases.len();
+        let halves = self.half_over(alloc, count)?;
+        let found = self.touched.rising(alloc, count, halves)?;
+        Ok(found)
+    }
+
+    // The indexes of the leases that are half over, if a moment came since the last question for calls.
+    fn half_over(&self, alloc: Global, count: usize) -> Result<Vec<usize>, AllocError>
+        ensures { IfOk result (λ found. self.now.moved ≡ true → (d : Deadline) → d.moment ≤ self.now.leases.moment → d.index < count → IsPlanned self.now.plans.halves d → Contains found.items d.index) }
+    {
+        if self.moved {
+            self.plans
+                .halves
+                .up_to(alloc, self.leases.last_moment(), count)
+        } else {
+            Ok(Vec::new(alloc))
+        }
+    }
+
+    // The references of which the question holds, in the order in which they were first held.
+    fn picked(&self, alloc: Global, question: Question) -> Result<Vec<ForeignId>, AllocError>
+        ensures references { IfOk result (λ references. IsSound self.now → references.items ≡ filter_map (reference_of question) (leases_of self.now.leases)) }
+        ensures distinct { IsDistinct is_same (keys_of (leases_of self.now.leases)) }
+    {
+        let count = self.leases.len();
+        let candidates = sorted(self.questioned(alloc, question, count)?);
+        picked(alloc, &self.leases, candidates.as_slice(), question)
+    }
+
+    // The indexes of the references of which the question may hold: of all, before the last moment.
+    fn questioned(
+        &self,
+        alloc: Global,
+        question: Question,
+        count: usize,
+    ) -> Result<Vec<usize>, AllocError>
+        ensures { IfOk result (λ found. IsSound self.now → (at : ℕ) → at < count → IsAnswered (reference_of question) (leases_of self.now.leases) at → Contains found.items at) }
+    {
+        let last = self.leases.last_moment();
+        match question {
+            Question::Renewed(moment) if moment >= last => {
+                self.plans.halves.up_to(alloc, moment, count)
+            }
+            Question::Lapses(moment) if moment >= last => {
+                self.plans.ends.up_to(alloc, moment, count)
+            }
+            _ => up_to(alloc, count),
+        }
+    }
+
+    // Something happened to a reference.
+    fn note(&mut self, changed: Changed)
+        ensures leases { self.new.leases ≡ self.old.leases }
+        ensures numbers { self.new.numbers ≡ self.old.numbers }
+        ensures moved { self.new.moved ≡ self.old.moved }
+        ensures touched { IsTouched self.new.touched changed.index }
+        ensures touched_kept { (at : ℕ) → IsTouched self.old.touched at → IsTouched self.new.touched at }
+        ensures later { changed.after.waits ≡ true → IsTouched self.new.later changed.index }
+        ensures later_kept { (at : ℕ) → IsTouched self.old.later at → IsTouched self.new.later at }
+        ensures planned { (term : Term) → changed.after.lease ≡ Some term → (changed.before ≡ Some term → IsPlannedTerm self.old.plans term changed.index) → IsPlannedTerm self.new.plans term changed.index }
+        ensures planned_kept { (term : Term) (other : ℕ) → (other ≡ changed.index → ⊥) → IsPlannedTerm self.old.plans term other → IsPlannedTerm self.new.plans term other }
+        ensures halves_kept { (other : Deadline) → (other.index ≡ changed.index → ⊥) → IsPlanned self.old.plans.halves other → IsPlanned self.new.plans.halves other }
+    {
+        let count = self.leases.len();
+        self.touched.add(changed.index, count);
+        self.later.add_if(changed.after.waits, changed.index, count);
+        self.plans.change(
+            changed.index,
+            changed.kept,
+            changed.before,
+            changed.after.lease,
+        );
     }
 
     // The change happened to each reference of the group.
@@ -239,65 +421,37 @@ impl Clients {
         ensures numbers { self.new.numbers ≡ self.old.numbers }
         ensures room { room self.new ≡ room self.old }
     {
-        let mut lease = self.lease(reference);
+        let kept = self.leases.last_term(reference);
+        let before = self.leases.get(reference);
+        let mut lease = before;
         lease.change(change);
-        self.put_known(reference, lease);
-    }
-
-    // Sets what is kept of a reference that is known; another is left out.
-    fn put_known(&mut self, reference: &ForeignId, lease: ClientLease)
-        ensures known { IsTrue (is_known self.old reference.now) → Puts reference.now lease self.old self.new }
-        ensures unknown { is_known self.old reference.now ≡ false → self.new ≡ self.old }
-        ensures numbers { self.new.numbers ≡ self.old.numbers }
-        ensures room { room self.new ≡ room self.old }
-    {
-        if let Some(at) = self.references.get_index_of(reference) {
-            self.references[at] = lease;
-            self.touched.add(at, self.references.len());
+        match self.leases.put(reference, lease) {
+            Some(index) => self.note(Changed {
+                index,
+                kept,
+                before: before.lease,
+                after: lease,
+            }),
+            None => {}
         }
     }
 }
 
-// The references whose lease is due for renewal at the moment, in their order.
-fn renewed_at(
-    alloc: Global,
-    references: &IndexMap<ForeignId, ClientLease>,
-    moment: u64,
-) -> Result<Vec<ForeignId>, AllocError>
-    ensures references { IfOk result (λ found. found.items ≡ map (λ entry. entry.0) (filter (λ entry. is_renewed_at moment entry.1) references.now.entries)) }
-    ensures distinct { IsDistinct is_same (keys_of references.now.entries) }
+// That a call of this kind is made.
+fn making(kind: Due, call: u64) -> Change
+    ensures { event_of result ≡ making kind call }
 {
-    references
-        .iter()
-        .filter(|entry| entry.1.is_renewed_at(moment))
-        .map(|entry| *entry.0)
-        .collect(alloc)
-}
-
-// The references whose lease the moment ends, in their order.
-fn lapsed_at(
-    alloc: Global,
-    references: &IndexMap<ForeignId, ClientLease>,
-    moment: u64,
-) -> Result<Vec<ForeignId>, AllocError>
-    ensures references { IfOk result (λ found. found.items ≡ map (λ entry. entry.0) (filter (λ entry. lapses_at moment entry.1) references.now.entries)) }
-    ensures distinct { IsDistinct is_same (keys_of references.now.entries) }
-{
-    references
-        .iter()
-        .filter(|entry| entry.1.lapses_at(moment))
-        .map(|entry| *entry.0)
-        .collect(alloc)
-}
-
-// The moment comes for each reference.
-fn pass(references: &mut IndexMap<ForeignId, ClientLease>, moment: u64)
-    ensures each { references.new.entries ≡ map (λ entry. (entry.0, after_moment moment entry.1)) references.old.entries }
-    ensures room { spare references.new ≡ spare references.old }
-{
-    for at in 0..references.len() {
-        let mut lease = references[at];
-        lease.moment(moment);
-        references[at] = lease;
+    match kind {
+        Due::Dirty => Change::DirtyMade(call),
+        Due::Clean { .. } => Change::CleanMade(call),
     }
+}
+
+// A change of the lease at an index: the term that was kept, the one before it, and the lease after it.
+#[derive(Clone, Copy)]
+struct Changed {
+    index: usize,
+    kept: Option<Term>,
+    before: Option<Term>,
+    after: ClientLease,
 }

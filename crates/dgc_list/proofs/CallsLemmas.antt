@@ -39,7 +39,7 @@ named-other o ids id apart = named-push o ids id ∙ or-false (is_named o ids) (
     flip true h = absurd (false≢true (sym apart ∙ is_same-sym o id h))
     flip false h = refl
 
-leased_after-same : (c : List ℕ) (t : Bool) (cs : List (List ℕ)) → leased_after c t t cs ≡ cs
+pub leased_after-same : (c : List ℕ) (t : Bool) (cs : List (List ℕ)) → leased_after c t t cs ≡ cs
 leased_after-same c true cs = refl
 leased_after-same c false cs = refl
 

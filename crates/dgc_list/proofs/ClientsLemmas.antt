@@ -1,19 +1,27 @@
-use Rattle.std.proofs.Common.{◌≡◌, ℕ, zero, suc, ◌+◌, ◌<◌, Bool, true, false, cond, List, [], ◌∷◌, ◌++◌, length, get_or, take, Option, None, Some, is_some, IsTrue, refl, sym, ap, subst, ◌∙◌, arith}
-use Rattle.std.proofs.lemmas.Option.{slice_get_within, slice_get-get_or}
-use Rattle.std.proofs.lemmas.List.{take_more}
-use Rattle.std.proofs.lemmas.List.Edits.{length-remove, insert_end}
-use Rattle.std.specs.Prelude.{slice_get, unwrap_or}
-use Rattle.std.specs.List.{remove, position, IsDistinct, AllByRecursion}
-use Rattle.std.specs.Map.{lookup, keys_of, remove_entry}
+use Rattle.std.proofs.Common.{◌≡◌, ℕ, ◌+◌, ◌-◌, ◌≤◌, Bool, true, false, cond, List, [], ◌∷◌, ◌++◌, length, map, filter, Option, None, Some, is_some, IsTrue, refl, sym, ap, subst, ◌∙◌, arith}
+use Rattle.std.specs.Prelude.{unwrap_or, count_by}
+use Rattle.std.specs.List.{IsDistinct, AllByRecursion}
+use Rattle.std.specs.Cmp.{IsEquivalence}
+use Rattle.std.specs.Map.{lookup, lookup_entry, keys_of, remove_entry, set_value}
 use Rattle.std.specs.Str.{bytes_eq}
-use Rattle.std.proofs.lemmas.List.Quantifiers.{position-Some}
-use Rattle.std.proofs.lemmas.Map.Keys.{IsDistinct-head, IsDistinct-tail}
-use Rattle.std.proofs.lemmas.Slice.Eq.{bytes_eq-Decides}
-use Rattle.indexmap.specs.IndexMap.{insert_entry, move_index}
-use Rattle.dgc_list.specs.declared.remembered.Remembered.{Remembered}
 use Rattle.std.proofs.lemmas.Bool.{false≢true}
+use Rattle.std.proofs.lemmas.List.{take_all, length-map}
+use Rattle.std.proofs.lemmas.List.Sums.{length-filter}
+use Rattle.std.proofs.lemmas.Map.{lookup-remove_entry, lookup-set_value}
+use Rattle.std.proofs.lemmas.Map.Keys.{IsDistinct-head, IsDistinct-tail, IsDistinct-cons, IsDistinct-push}
+use Rattle.std.proofs.lemmas.Map.Made.{is_some-lookup}
+use Rattle.std.proofs.lemmas.Slice.Eq.{bytes_eq-Decides}
+use Rattle.std.specs.Cmp.Lexicographic.{nat_list_eq_equiv}
+use Rattle.lru.specs.LruCache.{LruCache, demoted, put_entries}
+use Rattle.dgc_list.specs.declared.remembered.Remembered.{Remembered}
 use Rattle.dgc_list.specs.Remembered.{blank}
 use Rattle.dgc_list.specs.Clients.{remembered_in, is_known, leased, leased_after, without, IsSame, Sets}
+
+bytes_eq-laws : IsEquivalence bytes_eq
+bytes_eq-laws = nat_list_eq_equiv
+
+bytes_eq-refl : (c : List ℕ) → bytes_eq c c ≡ true
+bytes_eq-refl c = (bytes_eq-Decides c c).1 refl
 
 -- clients that are known are all others: none is taken out
 without-absent : (c : List ℕ) (es : List (List ℕ × Remembered)) → AllByRecursion (λ k. bytes_eq c k ≡ false) (keys_of es) → without c (leased es) ≡ leased es
@@ -43,7 +51,7 @@ without-cons c e es fs apart h =
 leased-bare : (e : List ℕ × Remembered) (es : List (List ℕ × Remembered)) → is_some e.1.expires ≡ false → leased (e ∷ es) ≡ leased es
 leased-bare e es bare = rw bare refl
 
--- the client's own place is written
+-- the client's own index is written
 put-first : (c : List ℕ) (r : Remembered) (e : List ℕ × Remembered) (es : List (List ℕ × Remembered)) → without c (leased (e ∷ es)) ≡ leased es
     → (had has : Bool) → is_some e.1.expires ≡ had → is_some r.expires ≡ has → (IsTrue has → IsTrue had)
     → leased ((e.0, r) ∷ es) ≡ leased_after c had has (leased (e ∷ es))
@@ -52,7 +60,7 @@ put-first c r e es alone true false h g may = rw g (sym alone)
 put-first c r e es alone false true h g may = absurd (false≢true (may refl))
 put-first c r e es alone false false h g may = rw (h, g) refl
 
--- another's place stands before it
+-- another's index stands before it
 put-cons : (c : List ℕ) (e : List ℕ × Remembered) (es fs : List (List ℕ × Remembered)) → bytes_eq c e.0 ≡ false → (had has : Bool) → (IsTrue has → IsTrue had)
     → leased fs ≡ leased_after c had has (leased es) → leased (e ∷ fs) ≡ leased_after c had has (leased (e ∷ es))
 put-cons c e es fs apart true true may h = rw h refl
@@ -88,19 +96,19 @@ without-unleased c (e ∷ es) distinct bare =
       | false ↦ λ apart none. sym (without-cons c e es es apart (sym (without-unleased c es tail none)))
     ] refl bare
 
--- writing in place, where no entry is set anew
+-- writing at the same index, where no entry is set anew
 pub leased-put : (c : List ℕ) (r : Remembered) (es : List (List ℕ × Remembered)) → IsDistinct bytes_eq (keys_of es)
     → IsTrue (is_known es c) → (IsTrue (is_some r.expires) → IsTrue (is_some (remembered_in es c).expires))
-    → leased (insert_entry bytes_eq es c r) ≡ leased_after c (is_some (remembered_in es c).expires) (is_some r.expires) (leased es)
+    → leased (set_value (bytes_eq c) es r) ≡ leased_after c (is_some (remembered_in es c).expires) (is_some r.expires) (leased es)
 leased-put c r [] distinct known kept = cc
 leased-put c r (e ∷ es) distinct known kept =
     let tail = IsDistinct-tail bytes_eq e.0 (keys_of es) distinct in
     elim (bytes_eq c e.0) as (λ t. bytes_eq c e.0 ≡ t → IsTrue (is_some (cond t (Some e.1) (lookup (bytes_eq c) es)))
     → (IsTrue (is_some r.expires) → IsTrue (is_some (unwrap_or (cond t (Some e.1) (lookup (bytes_eq c) es)) blank).expires))
-    → leased (cond t ((e.0, r) ∷ es) (e ∷ insert_entry bytes_eq es c r))
+    → leased (cond t ((e.0, r) ∷ es) (e ∷ set_value (bytes_eq c) es r))
     ≡ leased_after c (is_some (unwrap_or (cond t (Some e.1) (lookup (bytes_eq c) es)) blank).expires) (is_some r.expires) (leased (e ∷ es))) [
       | true ↦ λ here _ may. put-first c r e es (without-first c e es here (rest-absent c e es distinct here)) (is_some e.1.expires) (is_some r.expires) refl refl may
-      | false ↦ λ apart there may. put-cons c e es (insert_entry bytes_eq es c r) apart (is_some (remembered_in es c).expires) (is_some r.expires) may (leased-put c r es tail there may)
+      | false ↦ λ apart there may. put-cons c e es (set_value (bytes_eq c) es r) apart (is_some (remembered_in es c).expires) (is_some r.expires) may (leased-put c r es tail there may)
     ] refl known kept
 
 -- taking a client out, by whether it had an entry
@@ -129,65 +137,132 @@ sets-from c r w old new at is order = record {
   known = λ q there apart. subst (λ (o : Option Remembered). IsTrue (is_some o)) (sym (at q)) (still-known (bytes_eq c q) w (lookup (bytes_eq q) old) apart there);
 }
 
-module _ (c : List ℕ) (r : Remembered) where
-  -- the entry that is written, at its place
-  entry-here : (es : List (List ℕ × Remembered)) (i : ℕ) (d : List ℕ) → i < length (keys_of es)
-      → ((k : ℕ) → k < i → bytes_eq c (get_or (keys_of es) k d) ≡ false) → bytes_eq c (get_or (keys_of es) i d) ≡ true
-      → slice_get (insert_entry bytes_eq es c r) i ≡ Some (c, r)
-  entry-here [] i d l before here = absurd (omega arith)
-  entry-here (e ∷ es) zero d l before here = rw here (ap (λ (k : List ℕ). Some (k, r)) (sym ((bytes_eq-Decides c e.0).0 here)))
-  entry-here (e ∷ es) (suc i) d l before here =
-      rw (before 0 (omega arith)) (entry-here es i d (omega arith) (λ k h. before (suc k) (omega arith)) here)
+-- an entry behind all others
+leased-last : (c : List ℕ) (r : Remembered) (es : List (List ℕ × Remembered)) → is_some r.expires ≡ true → leased (es ++ (c, r) ∷ []) ≡ leased es ++ c ∷ []
+leased-last c r [] set = rw set refl
+leased-last c r (e ∷ es) set =
+    elim (is_some e.1.expires) as (λ t. cond t (e.0 ∷ leased (es ++ (c, r) ∷ [])) (leased (es ++ (c, r) ∷ [])) ≡ cond t (e.0 ∷ leased es) (leased es) ++ c ∷ [])
+    [ true ↦ ap (λ cs. e.0 ∷ cs) (leased-last c r es set) | false ↦ leased-last c r es set ]
 
-  rest-here : (es : List (List ℕ × Remembered)) (i : ℕ) (d : List ℕ) → i < length (keys_of es)
-      → ((k : ℕ) → k < i → bytes_eq c (get_or (keys_of es) k d) ≡ false) → bytes_eq c (get_or (keys_of es) i d) ≡ true
-      → remove (insert_entry bytes_eq es c r) i ≡ remove_entry (bytes_eq c) es
-  rest-here [] i d l before here = absurd (omega arith)
-  rest-here (e ∷ es) zero d l before here = rw here refl
-  rest-here (e ∷ es) (suc i) d l before here =
-      rw (before 0 (omega arith)) (ap (λ rest. e ∷ rest) (rest-here es i d (omega arith) (λ k h. before (suc k) (omega arith)) here))
+-- an entry that is set anew behind all others
+pub leased-put_last : (c : List ℕ) (r : Remembered) (es : List (List ℕ × Remembered)) → IsDistinct bytes_eq (keys_of es)
+    → is_some (remembered_in es c).expires ≡ false → is_some r.expires ≡ true
+    → leased (remove_entry (bytes_eq c) es ++ (c, r) ∷ []) ≡ leased_after c (is_some (remembered_in es c).expires) (is_some r.expires) (leased es)
+leased-put_last c r es distinct bare set =
+    rw (bare, set, leased-last c r (remove_entry (bytes_eq c) es) set, leased-remove c es distinct)
+    (ap (λ cs. cs ++ c ∷ []) (without-unleased c es distinct bare))
 
-  -- an entry behind all others
-  leased-last : (es : List (List ℕ × Remembered)) → is_some r.expires ≡ true → leased (es ++ (c, r) ∷ []) ≡ leased es ++ c ∷ []
-  leased-last [] set = rw set refl
-  leased-last (e ∷ es) set =
-      elim (is_some e.1.expires) as (λ t. cond t (e.0 ∷ leased (es ++ (c, r) ∷ [])) (leased (es ++ (c, r) ∷ [])) ≡ cond t (e.0 ∷ leased es) (leased es) ++ c ∷ [])
-      [ true ↦ ap (λ cs. e.0 ∷ cs) (leased-last es set) | false ↦ leased-last es set ]
+-- the entry of a client that has room
+entry-here : (c : List ℕ) (es : List (List ℕ × Remembered)) → IsTrue (is_known es c) → (v : Remembered) × (lookup_entry (bytes_eq c) es ≡ Some (c, v))
+entry-here c [] there = cc
+entry-here c (e ∷ es) there =
+    elim (bytes_eq c e.0) as (λ t. bytes_eq c e.0 ≡ t → IsTrue (is_some (cond t (Some e.1) (lookup (bytes_eq c) es))) → (v : Remembered) × (cond t (Some e) (lookup_entry (bytes_eq c) es) ≡ Some (c, v))) [
+      | true ↦ λ here _. (e.1, ap (λ (k : List ℕ). Some (k, e.1)) (sym ((bytes_eq-Decides c e.0).0 here)))
+      | false ↦ λ _ rest. entry-here c es rest
+    ] refl there
 
-  -- a new entry that is moved behind all others
-  pub leased-moved : (es : List (List ℕ × Remembered)) (i last : ℕ) → IsDistinct bytes_eq (keys_of es) → position (bytes_eq c) (keys_of es) ≡ Some i
-      → last + 1 ≡ length (insert_entry bytes_eq es c r) → is_some (remembered_in es c).expires ≡ false → is_some r.expires ≡ true
-      → leased (move_index (insert_entry bytes_eq es c r) i last) ≡ leased es ++ c ∷ []
-  leased-moved es i last distinct place count bare set =
-      let at = position-Some (bytes_eq c) (keys_of es) i c place in
-      let here = entry-here es i c at.0 at.2 at.1 in
-      let rest = rest-here es i c at.0 at.2 at.1 in
-      let within : i < length (insert_entry bytes_eq es c r) = slice_get_within (insert_entry bytes_eq es c r) i (c, r) here in
-      let short : last ≡ length (remove_entry (bytes_eq c) es) = rw (← rest) (omega (arith, length-remove (insert_entry bytes_eq es c r) i within)) in
-      rw (here, rest, short, insert_end (remove_entry (bytes_eq c) es) (c, r), leased-last (remove_entry (bytes_eq c) es) set, leased-remove c es distinct)
-      (ap (λ cs. cs ++ c ∷ []) (without-unleased c es distinct bare))
-
-  -- the same, as the change that it is
-  pub leased-put_last : (es : List (List ℕ × Remembered)) (i last : ℕ) → IsDistinct bytes_eq (keys_of es) → position (bytes_eq c) (keys_of es) ≡ Some i
-      → last + 1 ≡ length (insert_entry bytes_eq es c r) → is_some (remembered_in es c).expires ≡ false → is_some r.expires ≡ true
-      → leased (move_index (insert_entry bytes_eq es c r) i last) ≡ leased_after c (is_some (remembered_in es c).expires) (is_some r.expires) (leased es)
-  leased-put_last es i last distinct place count bare set = rw (bare, set) (leased-moved es i last distinct place count bare set)
-
--- a client that gets room has no entry
-leased-added : (c : List ℕ) (es : List (List ℕ × Remembered)) → lookup (bytes_eq c) es ≡ None → leased (insert_entry bytes_eq es c blank) ≡ leased es
-leased-added c [] absent = refl
-leased-added c (e ∷ es) absent =
-    elim (bytes_eq c e.0) as (λ t. cond t (Some e.1) (lookup (bytes_eq c) es) ≡ None → leased (cond t ((e.0, blank) ∷ es) (e ∷ insert_entry bytes_eq es c blank)) ≡ leased (e ∷ es)) [
+entry-none : (c : List ℕ) (es : List (List ℕ × Remembered)) → lookup (bytes_eq c) es ≡ None → lookup_entry (bytes_eq c) es ≡ None
+entry-none c [] absent = refl
+entry-none c (e ∷ es) absent =
+    elim (bytes_eq c e.0) as (λ t. cond t (Some e.1) (lookup (bytes_eq c) es) ≡ None → cond t (Some e) (lookup_entry (bytes_eq c) es) ≡ None) [
       | true ↦ λ none. cc
-      | false ↦ λ none. ap (λ cs. cond (is_some e.1.expires) (e.0 ∷ cs) cs) (leased-added c es none)
+      | false ↦ λ none. entry-none c es none
     ] absent
+
+-- a client that has room is written, and goes behind all others
+pub demoted-put : (c : List ℕ) (r : Remembered) (cache : LruCache (List ℕ) Remembered) → IsTrue (is_known cache.entries c)
+    → demoted (bytes_eq c) (put_entries bytes_eq cache c r) ≡ remove_entry (bytes_eq c) cache.entries ++ (c, r) ∷ []
+demoted-put c r cache there = let (v, found) = entry-here c cache.entries there in rw (found, bytes_eq-refl c) refl
+
+-- a client that has no room gets it before all others, and none of these goes
+pub put-new : (c : List ℕ) (r : Remembered) (cache : LruCache (List ℕ) Remembered) → lookup (bytes_eq c) cache.entries ≡ None
+    → length cache.entries + 1 ≤ cache.cap → put_entries bytes_eq cache c r ≡ (c, r) ∷ cache.entries
+put-new c r cache absent fits =
+    let few : length cache.entries ≤ cache.cap - 1 = omega arith in
+    rw (entry-none c cache.entries absent) (ap (λ es. (c, r) ∷ es) (take_all (cache.cap - 1) cache.entries few))
+
+one-key : (c x y : List ℕ) → bytes_eq c x ≡ true → bytes_eq c y ≡ bytes_eq x y
+one-key c x y here = ap (λ k. bytes_eq k y) ((bytes_eq-Decides c x).0 here)
+
+-- what is found where a client is written, taken out, or set behind all others
+pub lookup-written : (c q : List ℕ) (r : Remembered) (es : List (List ℕ × Remembered)) → IsTrue (is_known es c)
+    → lookup (bytes_eq q) (set_value (bytes_eq c) es r) ≡ cond (bytes_eq c q) (Some r) (lookup (bytes_eq q) es)
+lookup-written c q r es there = lookup-set_value bytes_eq-laws (bytes_eq c) (one-key c) q r es there
+
+pub lookup-taken : (c q : List ℕ) (es : List (List ℕ × Remembered)) → IsDistinct bytes_eq (keys_of es)
+    → lookup (bytes_eq q) (remove_entry (bytes_eq c) es) ≡ cond (bytes_eq c q) None (lookup (bytes_eq q) es)
+lookup-taken c q es distinct = lookup-remove_entry bytes_eq-laws (bytes_eq c) (one-key c) q es distinct
+
+lookup-push : (test : List ℕ → Bool) (e : List ℕ × Remembered) (es : List (List ℕ × Remembered))
+    → lookup test (es ++ e ∷ []) ≡ cond (is_some (lookup test es)) (lookup test es) (cond (test e.0) (Some e.1) None)
+lookup-push test e [] = refl
+lookup-push test e (x ∷ es) =
+    elim (test x.0) as (λ t. cond t (Some x.1) (lookup test (es ++ e ∷ []))
+    ≡ cond (is_some (cond t (Some x.1) (lookup test es))) (cond t (Some x.1) (lookup test es)) (cond (test e.0) (Some e.1) None))
+    [ true ↦ refl | false ↦ lookup-push test e es ]
+
+or-itself : (o : Option Remembered) → cond (is_some o) o None ≡ o
+or-itself None = refl
+or-itself (Some r) = refl
+
+apart-flips : (c q : List ℕ) → bytes_eq c q ≡ false → bytes_eq q c ≡ false
+apart-flips c q apart = bytes_eq-laws.symm q c ∙ apart
+
+pub lookup-put_last : (c q : List ℕ) (r : Remembered) (es : List (List ℕ × Remembered)) → IsDistinct bytes_eq (keys_of es)
+    → lookup (bytes_eq q) (remove_entry (bytes_eq c) es ++ (c, r) ∷ []) ≡ cond (bytes_eq c q) (Some r) (lookup (bytes_eq q) es)
+lookup-put_last c q r es distinct =
+    lookup-push (bytes_eq q) (c, r) (remove_entry (bytes_eq c) es)
+    ∙ (rw (lookup-taken c q es distinct) (elim (bytes_eq c q) as (λ t. bytes_eq c q ≡ t
+    → cond (is_some (cond t None (lookup (bytes_eq q) es))) (cond t None (lookup (bytes_eq q) es)) (cond (bytes_eq q c) (Some r) None) ≡ cond t (Some r) (lookup (bytes_eq q) es)) [
+      | true ↦ λ same. let flipped : bytes_eq q c ≡ true = sym (one-key c q c same) ∙ bytes_eq-refl c in rw flipped refl
+      | false ↦ λ apart. rw (apart-flips c q apart) (or-itself (lookup (bytes_eq q) es))
+    ] refl))
+
+-- each client stands once where one is taken out, or set behind all others
+absent-removed : (c k : List ℕ) (es : List (List ℕ × Remembered)) → AllByRecursion (λ x. bytes_eq k x ≡ false) (keys_of es)
+    → AllByRecursion (λ x. bytes_eq k x ≡ false) (keys_of (remove_entry (bytes_eq c) es))
+absent-removed c k [] h = h
+absent-removed c k (e ∷ es) h =
+    elim (bytes_eq c e.0) as (λ t. AllByRecursion (λ x. bytes_eq k x ≡ false) (keys_of (cond t es (e ∷ remove_entry (bytes_eq c) es))))
+    [ true ↦ h.1 | false ↦ (h.0, absent-removed c k es h.1) ]
+
+pub distinct-removed : (c : List ℕ) (es : List (List ℕ × Remembered)) → IsDistinct bytes_eq (keys_of es) → IsDistinct bytes_eq (keys_of (remove_entry (bytes_eq c) es))
+distinct-removed c [] distinct = distinct
+distinct-removed c (e ∷ es) distinct =
+    let tail = IsDistinct-tail bytes_eq e.0 (keys_of es) distinct in
+    elim (bytes_eq c e.0) as (λ t. IsDistinct bytes_eq (keys_of (cond t es (e ∷ remove_entry (bytes_eq c) es)))) [
+      | true ↦ tail
+      | false ↦ IsDistinct-cons bytes_eq e.0 (keys_of (remove_entry (bytes_eq c) es)) (absent-removed c e.0 es (IsDistinct-head bytes_eq e.0 (keys_of es) distinct)) (distinct-removed c es tail)
+    ]
+
+keys-push : (es : List (List ℕ × Remembered)) (e : List ℕ × Remembered) → keys_of (es ++ e ∷ []) ≡ keys_of es ++ e.0 ∷ []
+keys-push [] e = refl
+keys-push (x ∷ es) e = ap (λ (ks : List (List ℕ)). x.0 ∷ ks) (keys-push es e)
+
+pub distinct-put_last : (c : List ℕ) (r : Remembered) (es : List (List ℕ × Remembered)) → IsDistinct bytes_eq (keys_of es)
+    → IsDistinct bytes_eq (keys_of (remove_entry (bytes_eq c) es ++ (c, r) ∷ []))
+distinct-put_last c r es distinct =
+    let gone : lookup (bytes_eq c) (remove_entry (bytes_eq c) es) ≡ None = rw (lookup-taken c c es distinct, bytes_eq-refl c) refl in
+    rw (keys-push (remove_entry (bytes_eq c) es) (c, r)) (IsDistinct-push bytes_eq-laws (keys_of (remove_entry (bytes_eq c) es)) c (distinct-removed c es distinct)
+    (sym (is_some-lookup (bytes_eq c) (remove_entry (bytes_eq c) es)) ∙ ap (λ o. is_some o) gone))
+
+pub distinct-added : (c : List ℕ) (r : Remembered) (es : List (List ℕ × Remembered)) → IsDistinct bytes_eq (keys_of es) → lookup (bytes_eq c) es ≡ None
+    → IsDistinct bytes_eq (keys_of ((c, r) ∷ es))
+distinct-added c r es distinct absent = IsDistinct-cons bytes_eq c (keys_of es) (all-apart es absent) distinct
+  where
+    all-apart : (xs : List (List ℕ × Remembered)) → lookup (bytes_eq c) xs ≡ None → AllByRecursion (λ x. bytes_eq c x ≡ false) (keys_of xs)
+    all-apart [] none = tt
+    all-apart (x ∷ xs) none = elim (bytes_eq c x.0) as (λ t. bytes_eq c x.0 ≡ t → cond t (Some x.1) (lookup (bytes_eq c) xs) ≡ None → (bytes_eq c x.0 ≡ false) × AllByRecursion (λ y. bytes_eq c y ≡ false) (keys_of xs)) [
+      | true ↦ λ _ some. cc
+      | false ↦ λ apart rest. (apart, all-apart xs rest)
+    ] refl none
 
 -- nothing is remembered of a client that gets room
 blank-added : (c q : List ℕ) (es : List (List ℕ × Remembered)) → lookup (bytes_eq c) es ≡ None
-    → unwrap_or (cond (bytes_eq c q) (Some blank) (lookup (bytes_eq q) es)) blank ≡ remembered_in es q
+    → unwrap_or (cond (bytes_eq q c) (Some blank) (lookup (bytes_eq q) es)) blank ≡ remembered_in es q
 blank-added c q es absent =
-    elim (bytes_eq c q) as (λ t. bytes_eq c q ≡ t → unwrap_or (cond t (Some blank) (lookup (bytes_eq q) es)) blank ≡ remembered_in es q) [
-      | true ↦ λ same. ap (λ o. unwrap_or o blank) (sym absent) ∙ ap (remembered_in es) ((bytes_eq-Decides c q).0 same)
+    elim (bytes_eq q c) as (λ t. bytes_eq q c ≡ t → unwrap_or (cond t (Some blank) (lookup (bytes_eq q) es)) blank ≡ remembered_in es q) [
+      | true ↦ λ same. ap (λ o. unwrap_or o blank) (sym absent) ∙ ap (remembered_in es) (sym ((bytes_eq-Decides q c).0 same))
       | false ↦ λ _. refl
     ] refl
 
@@ -196,39 +271,27 @@ known-added true w x there = refl
 known-added false w x there = there
 
 -- room for a client changes nothing that is remembered
-pub same-added : (c : List ℕ) (es new : List (List ℕ × Remembered)) → lookup (bytes_eq c) es ≡ None
-    → ((q : List ℕ) → lookup (bytes_eq q) new ≡ cond (bytes_eq c q) (Some blank) (lookup (bytes_eq q) es)) → new ≡ insert_entry bytes_eq es c blank → IsSame es new
-same-added c es new absent at is = record {
-  remembered = λ q. ap (λ o. unwrap_or o blank) (at q) ∙ blank-added c q es absent;
-  leased = ap leased is ∙ leased-added c es absent;
-  known = λ q there. subst (λ (o : Option Remembered). IsTrue (is_some o)) (sym (at q)) (known-added (bytes_eq c q) blank (lookup (bytes_eq q) es) there);
+pub same-added : (c : List ℕ) (es : List (List ℕ × Remembered)) → lookup (bytes_eq c) es ≡ None → IsSame es ((c, blank) ∷ es)
+same-added c es absent = record {
+  remembered = λ q. blank-added c q es absent;
+  leased = refl;
+  known = λ q there. known-added (bytes_eq q c) blank (lookup (bytes_eq q) es) there;
 }
+
+pub known-first : (c : List ℕ) (r : Remembered) (es : List (List ℕ × Remembered)) → IsTrue (is_known ((c, r) ∷ es) c)
+known-first c r es = rw (bytes_eq-refl c) refl
 
 pub lookup-none_from : (o : Option Remembered) → is_some o ≡ false → o ≡ None
 lookup-none_from None h = refl
 lookup-none_from (Some r) h = cc
 
--- what was written into is not empty
-pub insert_entry-some : (c : List ℕ) (r : Remembered) (es : List (List ℕ × Remembered)) → 0 < length (insert_entry bytes_eq es c r)
-insert_entry-some c r [] = omega arith
-insert_entry-some c r (e ∷ es) =
-    elim (bytes_eq c e.0) as (λ t. 0 < length (cond t ((e.0, r) ∷ es) (e ∷ insert_entry bytes_eq es c r))) [ true ↦ omega arith | false ↦ omega arith ]
+-- the clients with an entry, as a filter
+pub leased_filter : (es : List (List ℕ × Remembered)) → leased es ≡ map (λ (e : List ℕ × Remembered). e.0) (filter (λ (e : List ℕ × Remembered). is_some e.1.expires) es)
+leased_filter [] = refl
+leased_filter (e ∷ es) =
+    elim (is_some e.1.expires) as (λ t. cond t (e.0 ∷ leased es) (leased es) ≡ map (λ (x : List ℕ × Remembered). x.0) (cond t (e ∷ filter (λ (x : List ℕ × Remembered). is_some x.1.expires) es) (filter (λ (x : List ℕ × Remembered). is_some x.1.expires) es)))
+    [ true ↦ ap (λ cs. e.0 ∷ cs) (leased_filter es) | false ↦ leased_filter es ]
 
--- the clients with an entry, with one more place at the end
-pub leased-push : (es : List (List ℕ × Remembered)) (e : List ℕ × Remembered)
-    → leased (es ++ e ∷ []) ≡ leased es ++ cond (is_some e.1.expires) (e.0 ∷ []) []
-leased-push [] e = refl
-leased-push (x ∷ es) e =
-    elim (is_some x.1.expires) as (λ t. cond t (x.0 ∷ leased (es ++ e ∷ [])) (leased (es ++ e ∷ [])) ≡ cond t (x.0 ∷ leased es) (leased es) ++ cond (is_some e.1.expires) (e.0 ∷ []) [])
-    [ true ↦ ap (λ cs. x.0 ∷ cs) (leased-push es e) | false ↦ leased-push es e ]
-
--- the clients with an entry, as far as a place
-pub leased-at : (es : List (List ℕ × Remembered)) (i : ℕ) (k : List ℕ) (r : Remembered) (t : Bool) → slice_get es i ≡ Some (k, r) → is_some r.expires ≡ t
-    → leased (take (i + 1) es) ≡ leased (take i es) ++ cond t (k ∷ []) []
-leased-at es i k r t here is =
-    let within = slice_get_within es i (k, r) here in
-    let same : get_or es i (k, r) ≡ (k, r) = some-same (get_or es i (k, r)) (k, r) (sym (slice_get-get_or es i (k, r) within) ∙ here) in
-    rw (take_more es i (k, r) within, leased-push (take i es) (get_or es i (k, r)), same, is) refl
-  where
-    some-same : (a b : List ℕ × Remembered) → Some a ≡ Some b → a ≡ b
-    some-same a b h = cc
+pub leased_count : (es : List (List ℕ × Remembered)) → length (leased es) ≡ count_by (λ (e : List ℕ × Remembered). is_some e.1.expires) es
+leased_count es = ap length (leased_filter es) ∙ length-map (filter (λ (e : List ℕ × Remembered). is_some e.1.expires) es) (λ (e : List ℕ × Remembered). e.0)
+    ∙ length-filter (λ (e : List ℕ × Remembered). is_some e.1.expires) es

@@ -6,5 +6,6 @@ pub mod LawsLemmas
 pub mod ListLemmas
 pub mod MomentLemmas
 pub mod ObjectsLemmas
+pub mod ReleaseLemmas
 pub mod RememberedLemmas
 pub mod ReplaceLemmas

@@ -1,3 +1,4 @@
+-- The clients of one object, in the order in which their entries were first set. (The order is this project's own; the Java RMI specification, 9.1, has a set of clients.)
 use Rattle.std.specs.Prelude.{◌≡◌, ℕ, Bool, true, false, List, [], ◌∷◌, ◌++◌, is_some, not, filter, unwrap_or, IsTrue, if◌then◌else◌}
 use Rattle.std.specs.Map.{lookup}
 use Rattle.std.specs.Str.{bytes_eq}
@@ -8,7 +9,7 @@ use Rattle.dgc_list.specs.Remembered.{blank}
 abbrev pub remembered_in : List (List ℕ × Remembered) → List ℕ → Remembered
 remembered_in clients client = unwrap_or (lookup (bytes_eq client) clients) blank
 
--- whether the client has a place among them
+-- whether there is room for the client
 abbrev pub is_known : List (List ℕ × Remembered) → List ℕ → Bool
 is_known clients client = is_some (lookup (bytes_eq client) clients)
 
@@ -22,6 +23,11 @@ pub record IsSame (old new : List (List ℕ × Remembered)) : Type 0 where
   pub remembered : (client : List ℕ) → remembered_in new client ≡ remembered_in old client
   pub leased : leased new ≡ leased old
   pub known : (client : List ℕ) → IsTrue (is_known old client) → IsTrue (is_known new client)
+
+-- the same is remembered of each client, and the entries stand in the same order; there may be less room
+pub record IsAlike (old new : List (List ℕ × Remembered)) : Type 0 where
+  pub remembered : (client : List ℕ) → remembered_in new client ≡ remembered_in old client
+  pub leased : leased new ≡ leased old
 
 -- the clients without one
 abbrev pub without : List ℕ → List (List ℕ) → List (List ℕ)

@@ -1,3 +1,4 @@
+-- An owner's reference lists: dirty calls add a client and grant a lease, clean calls remove it, and calls are ordered by their sequence numbers (Java RMI specification, 9.1: `DGC.dirty` and `DGC.clean`), as a history: this project's own form.
 use Rattle.std.specs.Prelude.{◌≡◌, ℕ, ◌+◌, ◌≤◌, Bool, false, List, [], ◌∷◌, is_some, IsTrue, ◌&&◌, nat_lt, min, max, filter, if◌then◌else◌}
 use Rattle.std.specs.Str.{bytes_eq}
 use Rattle.space_ids.specs.declared.ids.ObjId.{ObjId}
@@ -56,12 +57,12 @@ clients_of (Moment moment ∷ h) o = filter (λ c. is_leased (Moment moment ∷ 
 clients_of (Forget object ∷ h) o = if is_same object o then [] else clients_of h o
 
 -- There is room for what is remembered of the client at each of these objects.
-abbrev pub HasPlaces : List ℕ → List ObjId → RefList → Type 0
-HasPlaces client objects list = AreKnown client objects list.objects
+abbrev pub HasRoomForClean : List ℕ → List ObjId → RefList → Type 0
+HasRoomForClean client objects list = AreKnown client objects list.objects
 
 -- There is room for a dirty call of the client, of this number and period, that comes now.
-pub record HasRoom (client : List ℕ) (objects : List ObjId) (number period : ℕ) (list : RefList) : Type 0 where
-  pub places : HasPlaces client objects list
+pub record HasRoomForDirty (client : List ℕ) (objects : List ObjId) (number period : ℕ) (list : RefList) : Type 0 where
+  pub clients : HasRoomForClean client objects list
   pub planned : ArePlanned client objects number (list.moment + granted period) list.objects list.expiries
 
 -- The list is what the history leaves.

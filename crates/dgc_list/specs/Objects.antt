@@ -1,3 +1,4 @@
+-- Dirty and clean calls name several objects; each object has its own clients, and each entry its expiry (Java RMI specification, 9.1: `DGC.dirty`, `Lease`).
 use Rattle.std.specs.Prelude.{◌≡◌, ℕ, Bool, false, List, [], Some, is_some, IsTrue, unwrap_or, ◌==◌, ◌&&◌, Contains, filter, if◌then◌else◌}
 use Rattle.std.specs.List.{list_any}
 use Rattle.std.specs.Map.{lookup}

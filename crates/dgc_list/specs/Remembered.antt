@@ -1,3 +1,4 @@
+-- What an owner remembers of one client and one object: a call with a sequence number that is not above the last is late, and a strong clean call has its number remembered (Java RMI specification, 9.1: `DGC.clean`).
 use Rattle.std.specs.Prelude.{ℕ, Bool, false, Option, None, Some, is_none, ◌&&◌, ◌||◌, not, nat_le, if◌then◌else◌}
 use Rattle.dgc_list.specs.declared.remembered.Remembered.{Remembered}
 

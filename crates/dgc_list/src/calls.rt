@@ -4,7 +4,7 @@ ghost use Rattle.std.specs.Prelude.{◌≡◌, ◌<◌, ℕ, IsTrue, OnOk, Conta
 ghost use Rattle.space_ids.specs.declared.ids.ObjId.{ObjId};
 ghost use Rattle.dgc_list.specs.declared.expiries.Expiry.{Expiry};
 ghost use Rattle.dgc_list.specs.Remembered.{after_dirty, after_clean, is_blank};
-ghost use Rattle.dgc_list.specs.Clients.{is_known, IsSame, Sets};
+ghost use Rattle.dgc_list.specs.Clients.{is_known, IsAlike, IsSame, Sets};
 ghost use Rattle.dgc_list.specs.Objects.{is_same, clients_at, remembered_at, is_named, AreKnown, ArePlanned, IsCovered, Tells, Expires};
 
 use crate::Remembered;
@@ -27,6 +27,25 @@ pub(crate) fn make_room(
         objects.add(*id, client)?;
     }
     Ok(())
+}
+
+// Takes back the room for a client at those of the objects at which nothing is remembered of it.
+pub(crate) fn release(objects: &mut Objects, client: &Uuid, ids: &[ObjId])
+    ensures { (other : ObjId) → IsAlike (clients_at objects.old other) (clients_at objects.new other) }
+{
+    for id in ids {
+        release_at(objects, client, *id);
+    }
+}
+
+// Takes back the room for a client at an object, if nothing is remembered of it there.
+fn release_at(objects: &mut Objects, client: &Uuid, id: ObjId)
+    ensures { (other : ObjId) → IsAlike (clients_at objects.old other) (clients_at objects.new other) }
+{
+    let remembered = objects.get(id, client);
+    if remembered.is_blank() {
+        objects.set(id, client, remembered);
+    }
 }
 
 // Adds the expiries of the entries that a client's call sets for the objects: none where it is late.

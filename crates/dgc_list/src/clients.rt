@@ -1,20 +1,22 @@
 //! The clients that are remembered of one object.
 
-ghost use Rattle.std.specs.Prelude.{◌≡◌, ◌+◌, ◌<◌, ◌++◌, [], take, option_to_list, false, IsTrue, IfOk, OnOk, length, is_some, ◌||◌};
+ghost use Rattle.std.specs.Prelude.{◌≡◌, [], false, IsTrue, IfOk, OnOk, length, map, filter, is_some, ◌||◌};
 ghost use Rattle.dgc_list.specs.Remembered.{blank, is_blank};
 ghost use Rattle.dgc_list.specs.Clients.{remembered_in, is_known, leased, IsSame, Sets};
 
 use crate::Remembered;
-use indexmap::IndexMap;
+use lru::LruCache;
 use std::alloc::{AllocError, Global};
 use std::marker::Model;
 use uuid::Uuid;
 
 /// The clients that are remembered of one object. Those with an entry are in the order in which the
-/// entries were first set. A contract sees the list of the clients with what is remembered of each.
+/// entries were first set: a list through the entries of a hash map keeps it, so a client comes and goes
+/// at a cost that does not depend on how many there are. A contract sees the list of the clients with
+/// what is remembered of each.
 #[derive(Debug, Drop)]
 pub(crate) struct Clients {
-    remembered: IndexMap<Uuid, Remembered>,
+    remembered: LruCache<Uuid, Remembered>,
 }
 
 impl Model for Clients {
@@ -23,22 +25,23 @@ impl Model for Clients {
 
     ghost Value = { List (List ℕ × Remembered) };
 
+    ghost use Rattle.std.specs.Prelude.{◌≡◌, ◌-◌, ◌^◌};
     ghost use Rattle.std.specs.List.{IsDistinct};
     ghost use Rattle.std.specs.Map.{keys_of};
     ghost use Rattle.std.specs.Str.{bytes_eq};
 
     ghost view = { λ clients. clients.remembered.entries };
 
-    ghost invariant = { λ clients. IsDistinct bytes_eq (keys_of clients.remembered.entries) };
+    ghost invariant = { λ clients. IsDistinct bytes_eq (keys_of clients.remembered.entries) × (clients.remembered.cap ≡ 2 ^ 64 - 1) };
 }
 
 impl Clients {
-    pub(crate) fn new(alloc: Global) -> Clients
-        ensures { result ≡ [] }
+    pub(crate) fn new(alloc: Global) -> Result<Clients, AllocError>
+        ensures { IfOk result (λ clients. clients ≡ []) }
     {
-        Clients {
-            remembered: IndexMap::new(alloc),
-        }
+        Ok(Clients {
+            remembered: LruCache::unbounded(alloc)?,
+        })
     }
 
     pub(crate) fn is_empty(&self) -> bool
@@ -51,7 +54,7 @@ impl Clients {
     pub(crate) fn get(&self, client: &Uuid) -> Remembered
         ensures { result ≡ remembered_in self.now client.now }
     {
-        match self.remembered.get(client) {
+        match self.remembered.peek(client) {
             Some(remembered) => *remembered,
             None => Remembered::BLANK,
         }
@@ -59,41 +62,24 @@ impl Clients {
 
     // The clients with an entry, in their order.
     pub(crate) fn leased(&self, alloc: Global) -> Result<Vec<Uuid>, AllocError>
-        ensures { IfOk result (λ clients. clients.items ≡ leased self.now) }
+        ensures { IfOk result (λ clients. clients.items ≡ map (λ entry. entry.0) (filter (λ entry. is_some entry.1.expires) self.now)) }
     {
-        let mut clients = Vec::new(alloc);
-        for at in 0..self.remembered.len() {
-            if let Some(client) = self.leased_at(at) {
-                clients.push(client)?;
-            }
-        }
-        Ok(clients)
-    }
-
-    // The client at a place, if it has an entry.
-    fn leased_at(&self, at: usize) -> Option<Uuid>
-        requires { at < length self.now }
-        ensures { leased (take (at + 1) self.now) ≡ leased (take at self.now) ++ option_to_list result }
-    {
-        let (client, remembered) = self.remembered.get_index(at)?;
-        if remembered.expires.is_some() {
-            Some(*client)
-        } else {
-            None
-        }
+        self.remembered
+            .iter()
+            .filter(|entry| entry.1.expires.is_some())
+            .map(|entry| *entry.0)
+            .collect(alloc)
     }
 
     // How many clients have an entry.
+    #[tactic(auto, using(crate::proofs::ClientsLemmas::leased_count))]
     pub(crate) fn count(&self) -> usize
         ensures { result ≡ length (leased self.now) }
     {
-        let mut count = 0;
-        for at in 0..self.remembered.len() {
-            if self.leased_at(at).is_some() {
-                count += 1;
-            }
-        }
-        count
+        self.remembered
+            .iter()
+            .filter(|entry| entry.1.expires.is_some())
+            .count()
     }
 
     // Makes room for the client. That nothing is remembered of it stays so.
@@ -101,25 +87,28 @@ impl Clients {
         ensures known { OnOk result (IsTrue (is_known self.new client.now)) }
         ensures same { IsSame self.old self.new }
     {
-        if !self.remembered.contains_key(client) {
-            self.remembered.insert(*client, Remembered::BLANK)?;
+        if self.remembered.contains(client) {
+            return Ok(());
         }
+        let count = self.remembered.len();
+        prove!(count < usize::MAX);
+        self.remembered.put(*client, Remembered::BLANK)?;
         Ok(())
     }
 
     // Sets what is remembered of a client that has room, or of which nothing is; another is left out.
-    // A new entry goes behind the others, and a client of which nothing is remembered goes.
+    // A new entry goes after the others, and a client of which nothing is remembered goes.
     pub(crate) fn set(&mut self, client: &Uuid, remembered: Remembered)
         ensures { IsTrue (is_known self.old client.now || is_blank remembered) → Sets client.now remembered self.old self.new }
     {
         if remembered.is_blank() {
             self.take_out(client);
-        } else if self.remembered.contains_key(client) {
+        } else if self.remembered.contains(client) {
             self.put_anywhere(client, remembered);
         }
     }
 
-    // Sets what is remembered of a client: a new entry goes behind the others.
+    // Sets what is remembered of a client: a new entry goes after the others.
     fn put_anywhere(&mut self, client: &Uuid, remembered: Remembered)
         requires { IsTrue (is_known self.old client.now) }
         ensures { Sets client.now remembered self.old self.new }
@@ -135,33 +124,31 @@ impl Clients {
     fn take_out(&mut self, client: &Uuid)
         ensures { Sets client.now blank self.old self.new }
     {
-        let _ = self.remembered.shift_remove(client);
+        let _ = self.remembered.pop(client);
     }
 
-    // Sets what is remembered of a client in its place: no entry is set anew.
+    // Sets what is remembered of a client, whose index stays: no entry is set anew.
     fn put(&mut self, client: &Uuid, remembered: Remembered)
         requires known { IsTrue (is_known self.old client.now) }
         requires kept { IsTrue (is_some remembered.expires) → IsTrue (is_some (remembered_in self.old client.now).expires) }
         ensures { Sets client.now remembered self.old self.new }
     {
-        let Ok(_) = self.remembered.insert(*client, remembered) else {
-            unreachable!();
-        };
+        match self.remembered.peek_mut(client) {
+            Some(before) => *before = remembered,
+            None => unreachable!(),
+        }
     }
 
-    // Sets an entry of a client that had none, behind all others.
+    // Sets an entry of a client that had none, after all others.
     fn put_last(&mut self, client: &Uuid, remembered: Remembered)
         requires known { IsTrue (is_known self.old client.now) }
         requires none { is_some (remembered_in self.old client.now).expires ≡ false }
         requires set { IsTrue (is_some remembered.expires) }
         ensures { Sets client.now remembered self.old self.new }
     {
-        let Some(at) = self.remembered.get_index_of(client) else {
+        let Ok(_) = self.remembered.put(*client, remembered) else {
             unreachable!();
         };
-        let Ok(_) = self.remembered.insert(*client, remembered) else {
-            unreachable!();
-        };
-        self.remembered.move_index(at, self.remembered.len() - 1);
+        let _ = self.remembered.demote(client);
     }
 }

@@ -3,7 +3,7 @@
 ghost use Rattle.std.specs.Prelude.{◌≡◌, ◌<◌, ◌^◌, List, [], ◌∷◌, false, IsTrue, IsOk, IfOk, OnOk, OnErr, length};
 ghost use Rattle.space_ids.specs.declared.ids.ObjId.{ObjId};
 
-use crate::calls::{add_expiries, expire, make_room, tell_clean, tell_dirty};
+use crate::calls::{add_expiries, expire, make_room, release, tell_clean, tell_dirty};
 use crate::expiries::Expiries;
 use crate::objects::Objects;
 use space_ids::ObjId;
@@ -26,7 +26,7 @@ pub struct RefList {
 }
 
 impl RefList {
-    ghost use Rattle.dgc_list.specs.History.{Call, granted, remembered_of, clients_of, HasPlaces, HasRoom, IsAfter};
+    ghost use Rattle.dgc_list.specs.History.{Call, granted, remembered_of, clients_of, HasRoomForClean, HasRoomForDirty, IsAfter};
     ghost use Rattle.dgc_list.specs.History.Call.{Dirty, Clean, Moment, Forget};
 
     /// Reference lists of which nothing is told yet, at moment 0.
@@ -43,11 +43,25 @@ impl RefList {
     /// Makes room for what is remembered of a client of these objects, so that a strong
     /// [`clean_reserved`](RefList::clean_reserved) takes no memory. Nothing else changes, at out of
     /// memory too.
-    pub fn reserve_places(&mut self, client: &Uuid, objects: &[ObjId]) -> Result<(), AllocError>
-        ensures places { OnOk result (HasPlaces client.now objects.now self.new) }
+    pub fn reserve_clean(&mut self, client: &Uuid, objects: &[ObjId]) -> Result<(), AllocError>
+        ensures room { OnOk result (HasRoomForClean client.now objects.now self.new) }
         ensures same { (h : List Call) → IsAfter h self.old → IsAfter h self.new }
     {
-        make_room(&mut self.objects, client, objects)
+        match make_room(&mut self.objects, client, objects) {
+            Ok(()) => Ok(()),
+            Err(fault) => {
+                self.release(client, objects);
+                Err(fault)
+            }
+        }
+    }
+
+    /// Takes back the room that was made for a client of these objects, where nothing is remembered of
+    /// it: an event that made room and was refused leaves nothing behind.
+    pub fn release(&mut self, client: &Uuid, objects: &[ObjId])
+        ensures { (h : List Call) → IsAfter h self.old → IsAfter h self.new }
+    {
+        release(&mut self.objects, client, objects);
     }
 
     /// Makes room for a dirty call of this number and period that comes now, so that
@@ -60,19 +74,26 @@ impl RefList {
         number: u64,
         period: u64,
     ) -> Result<(), AllocError>
-        ensures room { OnOk result (HasRoom client.now objects.now number period self.new) }
+        ensures room { OnOk result (HasRoomForDirty client.now objects.now number period self.new) }
         ensures same { (h : List Call) → IsAfter h self.old → IsAfter h self.new }
     {
-        self.reserve_places(client, objects)?;
+        self.reserve_clean(client, objects)?;
         let expires = self.moment + period.min(LONGEST_LEASE);
-        add_expiries(
+        let added = add_expiries(
             &mut self.expiries,
             &self.objects,
             client,
             objects,
             number,
             expires,
-        )
+        );
+        match added {
+            Ok(()) => Ok(()),
+            Err(fault) => {
+                self.release(client, objects);
+                Err(fault)
+            }
+        }
     }
 
     /// A dirty call, as [`dirty`](RefList::dirty) tells it, for which there is
@@ -84,7 +105,7 @@ impl RefList {
         number: u64,
         period: u64,
     ) -> u64
-        requires { HasRoom client.now objects.now number period self.old }
+        requires { HasRoomForDirty client.now objects.now number period self.old }
         ensures granted { result ≡ granted period }
         ensures told { (h : List Call) → IsAfter h self.old → IsAfter (Dirty client.now objects.now number period ∷ h) self.new }
     {
@@ -121,9 +142,9 @@ impl RefList {
     }
 
     /// A clean call, as [`clean`](RefList::clean) tells it, for which there is
-    /// [room](RefList::reserve_places) if it is strong. It takes no memory.
+    /// [room](RefList::reserve_clean) if it is strong. It takes no memory.
     pub fn clean_reserved(&mut self, client: &Uuid, objects: &[ObjId], number: u64, strong: bool)
-        requires { IsTrue strong → HasPlaces client.now objects.now self.old }
+        requires { IsTrue strong → HasRoomForClean client.now objects.now self.old }
         ensures { (h : List Call) → IsAfter h self.old → IsAfter (Clean client.now objects.now number strong ∷ h) self.new }
     {
         tell_clean(
@@ -152,7 +173,7 @@ impl RefList {
         ensures err { OnErr result ((h : List Call) → IsAfter h self.old → IsAfter h self.new) }
     {
         if strong {
-            self.reserve_places(client, objects)?;
+            self.reserve_clean(client, objects)?;
         }
         self.clean_reserved(client, objects, number, strong);
         Ok(())
@@ -187,6 +208,7 @@ impl RefList {
 
     /// The clients with an entry for the object, in the order in which the entries that stand were
     /// first set (an order of our own).
+    #[tactic(auto, using(crate::proofs::ClientsLemmas::leased_filter))]
     pub fn clients_of(&self, alloc: Global, object: ObjId) -> Result<Vec<Uuid>, AllocError>
         ensures { IfOk result (λ clients. (h : List Call) → IsAfter h self.now → clients.items ≡ clients_of h object) }
     {

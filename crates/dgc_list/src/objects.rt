@@ -75,7 +75,7 @@ impl Objects {
         ensures same { (other : ObjId) → clients_at self.new other ≡ clients_at self.old other }
     {
         if !self.lists.contains_key(&object) {
-            let clients = Clients::new(*self.lists.allocator());
+            let clients = Clients::new(*self.lists.allocator())?;
             self.lists.insert(object, clients)?;
         }
         Ok(())

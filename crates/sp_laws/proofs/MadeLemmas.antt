@@ -1,6 +1,6 @@
 -- Every event of every world keeps each reference to what its space made.
 use mathlib.Core.Path.{sym, ap, subst, ◌∙◌}
-use Rattle.std.specs.Prelude.{◌≡◌, ◌⊎◌, refl, ℕ, zero, suc, ◌+◌, length, Bool, true, false, List, [], ◌∷◌, ◌++◌, Option, None, Some, slice_get, take, map, if◌then◌else◌}
+use Rattle.std.specs.Prelude.{◌≡◌, refl, ℕ, zero, suc, ◌+◌, length, Bool, true, false, List, [], ◌∷◌, ◌++◌, Option, None, Some, slice_get, take, map, if◌then◌else◌}
 use Rattle.std.specs.Str.{bytes_eq}
 use Rattle.std.proofs.Common.{inl, inr}
 use Rattle.std.proofs.lemmas.Bool.{eqb-true}
@@ -14,11 +14,11 @@ use Rattle.space_ids.specs.declared.value.Value.{Value}
 use Rattle.sp_rules.specs.Behaviours.{Op, Create, Get, Put, Call}
 use Rattle.sp_rules.specs.Classes.{Setting}
 use Rattle.sp_rules.specs.Events.{Event, Moment, Sweep, Root, RootAck, Bind, Rebind, Unbind, Lookup, Opened, Refused, Received, Closed, ReadFailed, Bad, WriteFailed, Committed, Parked, GivenBack, Finished, Output, Started, Ended, Withdrawn, Denied, Send, Dial, Close, Ready}
-use Rattle.sp_rules.specs.Holders.{fields_of}
+use Rattle.sp_rules.specs.Holders.{fields_of, references_of_frame}
 use Rattle.sp_rules.specs.Laws.{AllOf, IsOne}
 use Rattle.sp_rules.specs.Lists.{each, with_some, at_index}
 use Rattle.sp_rules.specs.LivingTasks
-use Rattle.sp_rules.specs.Origins.{references_of_message, references_of_frame, own_reference}
+use Rattle.sp_rules.specs.Origins.{references_of_message, own_reference}
 use Rattle.sp_rules.specs.References.{references_of}
 use Rattle.sp_rules.specs.Refusals
 use Rattle.sp_rules.specs.Refusals.{Refusal, refusal, first_refusal, checks}
@@ -31,9 +31,9 @@ use Rattle.sp_rules.proofs.AllLemmas.{all-weaken, all-more}
 use Rattle.sp_rules.proofs.OriginLemmas.{Only, FrameIs, FieldsAre}
 use Rattle.sp_rules.proofs.OriginsOfFrames.{Waits, OutputIs, After, on_only}
 use Rattle.sp_rules.proofs.OwnLemmas
-use Rattle.sp_rules.proofs.OwnLemmas.{unrefused, taken-brings, only-wider, create-stores, root-arguments, root-names, fields-all, NamesIn, Names}
+use Rattle.sp_rules.proofs.OwnLemmas.{unrefused, taken-brings, only-wider, create-stores, root-arguments, root-names, root-held, held-is, frame-only, fields-all, NamesIn, Names}
 use Rattle.sp_rules.proofs.Stable.{Core, IsStable, on_keeps}
-use Rattle.sp_laws.specs.Made.{IsMade, IsMadeBy, TargetIs, HasOnly, QueueIs, PipeIs, AllMade, IsOwn, EventIs, RootIs, RootsAre, ReferencesAreMade, IsPlainEvent, IsPlain, PlainRootsAre}
+use Rattle.sp_laws.specs.Made.{IsMade, IsMadeBy, TargetIs, HasOnly, QueueIs, PipeIs, AllMade, ReferencesAreMade}
 
 -- ---- what was made stays made
 
@@ -318,37 +318,37 @@ own-made all s h r names own =
     one-of o (p ∷ os) (inr one) a = one-of o os one a.1
 
 root-made : (w : World) (i : ℕ) (s : Space) (lent : List ℕ) (method : ℕ) (arguments : List Value) (fuel : ℕ) → slice_get w.spaces i ≡ Some s → first_refusal (checks s.setting lent s.state (Root method arguments fuel)) ≡ None
-    → EventIs w i (Root method arguments fuel) → Sound w → AllOf (IsMadeBy w.spaces) (references_of arguments)
-root-made w i s lent method arguments fuel is t b h =
-    OwnLemmas.all-and (λ (r : Ref). IsOwn (slice_get w.spaces i) r ⊎ IsMadeBy w.spaces r) (λ r. Refusals.is_root_argument s.setting s.state r ≡ true) (IsMadeBy w.spaces) (references_of arguments) each-made b (root-arguments s.setting lent s.state method arguments fuel t)
+    → Sound w → AllOf (IsMadeBy w.spaces) (references_of arguments)
+root-made w i s lent method arguments fuel is t h =
+    all-weaken (λ r. Refusals.is_root_argument s.setting s.state r ≡ true) (IsMadeBy w.spaces) (references_of arguments) (λ r right. each-made r right (bytes_eq r.space s.setting.id) refl) (root-arguments s.setting lent s.state method arguments fuel t)
   where
-    each-made : (r : Ref) → IsOwn (slice_get w.spaces i) r ⊎ IsMadeBy w.spaces r → Refusals.is_root_argument s.setting s.state r ≡ true → IsMadeBy w.spaces r
-    each-made r (inl own) right = own-made w.spaces s (at-holds (SpaceIs w.spaces) i w.spaces s is h.spaces) r (root-names s.setting s.state r right) (subst (λ x. IsOwn x r) is own)
-    each-made r (inr made) right = made
+    each-made : (r : Ref) → Refusals.is_root_argument s.setting s.state r ≡ true → (b : Bool) → bytes_eq r.space s.setting.id ≡ b → IsMadeBy w.spaces r
+    each-made r right true own = own-made w.spaces s (at-holds (SpaceIs w.spaces) i w.spaces s is h.spaces) r (root-names s.setting s.state r right) own
+    each-made r right false foreign = held-is r (root-held s.setting s.state r right foreign) (at-holds (SpaceIs w.spaces) i w.spaces s is h.spaces)
 
-own-comes : (w : World) (i : ℕ) (e : Event) → Worlds.is_own e ≡ true → EventIs w i e → Sound w → AllCome w i (e ∷ [])
-own-comes w i e own b h = ((λ s lent is t. by e own b s lent is (unrefused s.setting lent s.state e t)), tt)
+own-comes : (w : World) (i : ℕ) (e : Event) → Worlds.is_own e ≡ true → Sound w → AllCome w i (e ∷ [])
+own-comes w i e own h = ((λ s lent is t. by e own s lent is (unrefused s.setting lent s.state e t)), tt)
   where
-    by : (e : Event) → Worlds.is_own e ≡ true → EventIs w i e → (s : Space) (lent : List ℕ) → slice_get w.spaces i ≡ Some s → first_refusal (checks s.setting lent s.state e) ≡ None → Comes (IsMadeBy w.spaces) e
-    by (Root method arguments fuel) own b s lent is t = root-made w i s lent method arguments fuel is t b h
-    by (Received conn m) own b s lent is t = absurd (Rattle.std.proofs.lemmas.Bool.true≢false (sym own))
-    by (Moment moment) own b s lent is t = tt
-    by Sweep own b s lent is t = tt
-    by (RootAck task) own b s lent is t = tt
-    by (Bind name value) own b s lent is t = tt
-    by (Rebind name value) own b s lent is t = tt
-    by (Unbind name) own b s lent is t = tt
-    by (Lookup peer name) own b s lent is t = tt
-    by (Opened conn dialled) own b s lent is t = tt
-    by (Refused peer) own b s lent is t = tt
-    by (Closed conn) own b s lent is t = tt
-    by (ReadFailed conn) own b s lent is t = tt
-    by (Bad conn) own b s lent is t = tt
-    by (WriteFailed conn unsent) own b s lent is t = tt
-    by (Committed task k op) own b s lent is t = tt
-    by (Parked task k) own b s lent is t = tt
-    by (GivenBack task k) own b s lent is t = tt
-    by (Finished task k) own b s lent is t = tt
+    by : (e : Event) → Worlds.is_own e ≡ true → (s : Space) (lent : List ℕ) → slice_get w.spaces i ≡ Some s → first_refusal (checks s.setting lent s.state e) ≡ None → Comes (IsMadeBy w.spaces) e
+    by (Root method arguments fuel) own s lent is t = root-made w i s lent method arguments fuel is t h
+    by (Received conn m) own s lent is t = absurd (Rattle.std.proofs.lemmas.Bool.true≢false (sym own))
+    by (Moment moment) own s lent is t = tt
+    by Sweep own s lent is t = tt
+    by (RootAck task) own s lent is t = tt
+    by (Bind name value) own s lent is t = tt
+    by (Rebind name value) own s lent is t = tt
+    by (Unbind name) own s lent is t = tt
+    by (Lookup peer name) own s lent is t = tt
+    by (Opened conn dialled) own s lent is t = tt
+    by (Refused peer) own s lent is t = tt
+    by (Closed conn) own s lent is t = tt
+    by (ReadFailed conn) own s lent is t = tt
+    by (Bad conn) own s lent is t = tt
+    by (WriteFailed conn unsent) own s lent is t = tt
+    by (Committed task k op) own s lent is t = tt
+    by (Parked task k) own s lent is t = tt
+    by (GivenBack task k) own s lent is t = tt
+    by (Finished task k) own s lent is t = tt
 
 if-sound : {t u : World} (b : Bool) → (b ≡ true → Sound t) → Sound u → Sound (if b then t else u)
 if-sound true h k = h refl
@@ -362,75 +362,44 @@ unfolding Worlds.step_task
 step-sound i task w h = some-sound (slice_get w.spaces i) _ h (λ s is. some-sound (task_at s.state task) _ (record { same = refl; spaces = h.spaces; queues = h.queues })
     (λ t found. if-sound t.waits (λ e. record { same = refl; spaces = h.spaces; queues = h.queues }) (acts-sound w i (Worlds.step_events task t.task) w (quiet-come w i _ (lent-silent task t.task)) h h)))
 
-happens-sound : (e : WorldEvent) (w : World) → RootIs w e → Sound w → Sound (happens e w)
+happens-sound : (e : WorldEvent) (w : World) → Sound w → Sound (happens e w)
 unfolding Worlds.open_pipe Worlds.refuse Worlds.accept Worlds.deliver Worlds.read_fails Worlds.write_fails
-happens-sound (Own i e) w b h = if-sound (Worlds.is_own e) (λ own. acts-sound w i (e ∷ []) w (own-comes w i e own b h) h h) h
-happens-sound (Step i task) w b h = step-sound i task w h
-happens-sound (Open a c) w b h = if-sound (Worlds.is_asked a c w)
+happens-sound (Own i e) w h = if-sound (Worlds.is_own e) (λ own. acts-sound w i (e ∷ []) w (own-comes w i e own h) h h) h
+happens-sound (Step i task) w h = step-sound i task w h
+happens-sound (Open a c) w h = if-sound (Worlds.is_asked a c w)
     (λ asked. acts-sound w a (Opened (length w.pipes) (Worlds.id_at c w) ∷ []) (record w { asked = Worlds.without_pair a c w.asked; pipes = w.pipes ++ Worlds.new_pipe a c ∷ [] })
     (silent-one (record w { asked = Worlds.without_pair a c w.asked; pipes = w.pipes ++ Worlds.new_pipe a c ∷ [] }) a (Opened (length w.pipes) (Worlds.id_at c w)) tt) h (moved refl (all-more (PipeIs (IsMadeBy w.spaces)) w.pipes (Worlds.new_pipe a c) h.queues (tt, tt)) h)) h
-happens-sound (Refuse a c) w b h = if-sound (Worlds.is_asked a c w) (λ asked. to (Worlds.id_at c w)) h
+happens-sound (Refuse a c) w h = if-sound (Worlds.is_asked a c w) (λ asked. to (Worlds.id_at c w)) h
   where
     to : (peer : Option Uuid) → Sound (Worlds.refuse_to w a peer (record w { asked = Worlds.without_pair a c w.asked }))
     to None = h
     to (Some peer) = acts-sound w a (Refused peer ∷ []) (record w { asked = Worlds.without_pair a c w.asked }) (silent-one (record w { asked = Worlds.without_pair a c w.asked }) a (Refused peer) tt) h (moved refl h.queues h)
-happens-sound (Accept conn) w b h = some-sound (slice_get w.pipes conn) _ h (λ p is. at p.accepter.space p.accepter.phase)
+happens-sound (Accept conn) w h = some-sound (slice_get w.pipes conn) _ h (λ p is. at p.accepter.space p.accepter.phase)
   where
     at : (space : ℕ) (phase : Worlds.Phase) → Sound (Worlds.accept_at conn w space phase)
     at space Worlds.Unopened = acts-sound w space (Opened conn None ∷ []) (Worlds.on_side Worlds.begin_side conn Accepter w) (silent-one (Worlds.on_side Worlds.begin_side conn Accepter w) space (Opened conn None) tt) h (moved refl (on-side w Worlds.begin_side conn Accepter w.pipes (λ s k. k) h.queues) h)
     at space Worlds.Live = h
     at space Worlds.Over = h
-happens-sound (Deliver conn end) w b h = some-sound (slice_get w.pipes conn) _ h (λ p is.
+happens-sound (Deliver conn end) w h = some-sound (slice_get w.pipes conn) _ h (λ p is.
     if-sound (Worlds.is_live (Worlds.side end p).phase) (λ live. first (Worlds.side end p).space _ (Worlds.side end p).queue (side-is (IsMadeBy w.spaces) end p (at-holds (PipeIs (IsMadeBy w.spaces)) conn w.pipes p is h.queues))) h)
   where
     first : (space : ℕ) (over : Bool) (queue : List Message) → AllOf (λ (m : Message). AllOf (IsMadeBy w.spaces) (references_of_message m)) queue → Sound (Worlds.deliver_first conn end w space over queue)
     first space over (m ∷ ms) a = acts-sound w space (Received conn m ∷ []) (Worlds.on_side Worlds.take_front conn end w) ((λ s lent is t. a.0), tt) h (moved refl (on-side w Worlds.take_front conn end w.pipes (λ s k. all-front (IsMadeBy w.spaces) s.queue k) h.queues) h)
     first space true [] a = acts-sound w space (Closed conn ∷ []) (Worlds.on_side Worlds.ends conn end w) (silent-one (Worlds.on_side Worlds.ends conn end w) space (Closed conn) tt) h (moved refl (on-side w Worlds.ends conn end w.pipes (λ s k. k) h.queues) h)
     first space false [] a = h
-happens-sound (ReadFails conn end) w b h = some-sound (slice_get w.pipes conn) _ h (λ p is.
+happens-sound (ReadFails conn end) w h = some-sound (slice_get w.pipes conn) _ h (λ p is.
     if-sound (Worlds.is_live (Worlds.side end p).phase) (λ live. acts-sound w (Worlds.side end p).space (ReadFailed conn ∷ []) (Worlds.on_side Worlds.ends conn end w) (silent-one (Worlds.on_side Worlds.ends conn end w) (Worlds.side end p).space (ReadFailed conn) tt) h (moved refl (on-side w Worlds.ends conn end w.pipes (λ s k. k) h.queues) h)) h)
-happens-sound (WriteFails conn end unsent) w b h = some-sound (slice_get w.pipes conn) _ h (λ p is.
+happens-sound (WriteFails conn end unsent) w h = some-sound (slice_get w.pipes conn) _ h (λ p is.
     if-sound (Worlds.is_live (Worlds.side end p).phase) (λ live. acts-sound w (Worlds.side end p).space (WriteFailed conn (Worlds.lost unsent end p) ∷ []) (failed p) (silent-one (failed p) (Worlds.side end p).space (WriteFailed conn (Worlds.lost unsent end p)) tt) h
     (moved refl (on-side w Worlds.ends conn end _ (λ s k. k) (on-side w (Worlds.cut_end (Worlds.lost unsent end p)) conn (Worlds.other end) w.pipes (λ s k. all-take (λ (m : Message). AllOf (IsMadeBy w.spaces) (references_of_message m)) _ s.queue k) h.queues)) h)) h)
   where
     failed : Pipe → World
     failed p = Worlds.on_side Worlds.ends conn end (Worlds.on_side (Worlds.cut_end (Worlds.lost unsent end p)) conn (Worlds.other end) w)
 
-run-sound : (events : List WorldEvent) (w : World) → RootsAre w events → Sound w → Sound (run w events)
+run-sound : (events : List WorldEvent) (w : World) → Sound w → Sound (run w events)
 unfolding run after
-run-sound [] w b h = h
-run-sound (e ∷ es) w b h = run-sound es (happens e (record w { refused = None })) b.1 (happens-sound e (record w { refused = None }) (roots e b.0) (record { same = refl; spaces = h.spaces; queues = h.queues }))
-  where
-    events-are : (i : ℕ) (x : Event) → EventIs w i x → EventIs (record w { refused = None }) i x
-    events-are i (Root method arguments fuel) k = k
-    events-are i (Received conn m) k = k
-    events-are i (Moment moment) k = k
-    events-are i Sweep k = k
-    events-are i (RootAck task) k = k
-    events-are i (Bind name value) k = k
-    events-are i (Rebind name value) k = k
-    events-are i (Unbind name) k = k
-    events-are i (Lookup peer name) k = k
-    events-are i (Opened conn dialled) k = k
-    events-are i (Refused peer) k = k
-    events-are i (Closed conn) k = k
-    events-are i (ReadFailed conn) k = k
-    events-are i (Bad conn) k = k
-    events-are i (WriteFailed conn unsent) k = k
-    events-are i (Committed task k op) j = j
-    events-are i (Parked task k) j = j
-    events-are i (GivenBack task k) j = j
-    events-are i (Finished task k) j = j
-
-    roots : (x : WorldEvent) → RootIs w x → RootIs (record w { refused = None }) x
-    roots (Own i x) k = events-are i x k
-    roots (Step i task) k = tt
-    roots (Open a c) k = tt
-    roots (Refuse a c) k = tt
-    roots (Accept conn) k = tt
-    roots (Deliver conn end) k = tt
-    roots (ReadFails conn end) k = tt
-    roots (WriteFails conn end unsent) k = tt
+run-sound [] w h = h
+run-sound (e ∷ es) w h = run-sound es (happens e (record w { refused = None })) (happens-sound e (record w { refused = None }) (record { same = refl; spaces = h.spaces; queues = h.queues }))
 
 -- ---- a new world
 
@@ -459,10 +428,6 @@ begins all (g ∷ gs) = (
 
 -- ---- as the law says it
 
-frame-only : (g : Setting) (Is : Ref → Type 0) (x : Frame) → FrameIs g Is x → AllOf Is (references_of_frame x)
-frame-only g Is (CallFrame target method fuel arguments) a = a.1
-frame-only g Is (ReturnedFrame value fuel) a = a
-
 target-only : (g : Setting) (Is : Ref → Type 0) (x : Frame) → FrameIs g Is x → TargetIs g Is x
 target-only g Is (CallFrame target method fuel arguments) a = a.0
 target-only g Is (ReturnedFrame value fuel) a = tt
@@ -479,44 +444,7 @@ has-only all s h = record {
 
 pub references_are_made : ReferencesAreMade
 unfolding new_world
-references_are_made settings events b = ends (run (new_world settings) events) (run-sound events (new_world settings) b (record { same = refl; spaces = begins (map new_space settings) settings; queues = tt }))
+references_are_made settings events = ends (run (new_world settings) events) (run-sound events (new_world settings) (record { same = refl; spaces = begins (map new_space settings) settings; queues = tt }))
   where
     ends : (w : World) → Sound w → AllMade w
     ends w h = record { spaces = all-weaken (SpaceIs w.spaces) (HasOnly (IsMadeBy w.spaces)) w.spaces (has-only w.spaces) h.spaces; queues = h.queues }
-
--- ---- roots without references
-
-plain-event : (w : World) (i : ℕ) (e : Event) → IsPlainEvent e → EventIs w i e
-plain-event w i (Root method arguments fuel) p = subst (λ refs. AllOf (λ (r : Ref). IsOwn (slice_get w.spaces i) r ⊎ IsMadeBy w.spaces r) refs) (sym p) tt
-plain-event w i (Received conn m) p = tt
-plain-event w i (Moment moment) p = tt
-plain-event w i Sweep p = tt
-plain-event w i (RootAck task) p = tt
-plain-event w i (Bind name value) p = tt
-plain-event w i (Rebind name value) p = tt
-plain-event w i (Unbind name) p = tt
-plain-event w i (Lookup peer name) p = tt
-plain-event w i (Opened conn dialled) p = tt
-plain-event w i (Refused peer) p = tt
-plain-event w i (Closed conn) p = tt
-plain-event w i (ReadFailed conn) p = tt
-plain-event w i (Bad conn) p = tt
-plain-event w i (WriteFailed conn unsent) p = tt
-plain-event w i (Committed task k op) p = tt
-plain-event w i (Parked task k) p = tt
-plain-event w i (GivenBack task k) p = tt
-plain-event w i (Finished task k) p = tt
-
-plain-root : (w : World) (e : WorldEvent) → IsPlain e → RootIs w e
-plain-root w (Own i e) p = plain-event w i e p
-plain-root w (Step i task) p = tt
-plain-root w (Open a c) p = tt
-plain-root w (Refuse a c) p = tt
-plain-root w (Accept conn) p = tt
-plain-root w (Deliver conn end) p = tt
-plain-root w (ReadFails conn end) p = tt
-plain-root w (WriteFails conn end unsent) p = tt
-
-pub plain_roots_are : PlainRootsAre
-plain_roots_are w [] p = tt
-plain_roots_are w (e ∷ es) p = (plain-root w e p.0, plain_roots_are (after w e) es p.1)

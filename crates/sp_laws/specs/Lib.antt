@@ -1,1 +1,9 @@
 pub mod Made
+pub mod Counted
+pub mod Waiting
+pub mod Inbound
+pub mod CallsHeld
+pub mod Owing
+pub mod AllSpaces
+pub mod Answered
+pub mod Others

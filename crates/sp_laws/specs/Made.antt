@@ -1,18 +1,16 @@
 -- Every reference names an object that its space made, of the class that it was made with, whatever is lost or fails (Java RMI specification, 2.6: a remote reference names a remote object).
-use Rattle.std.specs.Prelude.{◌≡◌, ◌⊎◌, ℕ, true, List, [], ◌∷◌, Option, None, Some, slice_get}
-use Rattle.std.specs.Str.{bytes_eq}
+use Rattle.std.specs.Prelude.{◌≡◌, ◌⊎◌, List, [], ◌∷◌}
 use Rattle.space_ids.specs.declared.ids.ClassId.{ClassId}
 use Rattle.net_message.specs.declared.message.Message.{Message}
 use Rattle.space_ids.specs.declared.ids.ObjId.{ObjId}
 use Rattle.space_ids.specs.declared.ids.Ref.{Ref}
 use Rattle.sp_rules.specs.Classes.{Setting}
-use Rattle.sp_rules.specs.Events.{Event, Root}
-use Rattle.sp_rules.specs.Holders.{fields_of}
+use Rattle.sp_rules.specs.Holders.{fields_of, references_of_frame}
 use Rattle.sp_rules.specs.Laws.{AllOf}
-use Rattle.sp_rules.specs.Origins.{references_of_message, references_of_frame, references_of_asked}
+use Rattle.sp_rules.specs.Origins.{references_of_message, references_of_asked}
 use Rattle.sp_rules.specs.References.{references_in, references_of}
 use Rattle.sp_rules.specs.State.{Object, Stored, Made, Written, Gone, Living, Request, KeptResult, Frame, CallFrame, ReturnedFrame, ParkedFrame, standing}
-use Rattle.sp_rules.specs.Worlds.{World, Space, Side, Pipe, WorldEvent, Own, after, run, new_world}
+use Rattle.sp_rules.specs.Worlds.{World, Space, Side, Pipe, WorldEvent, run, new_world}
 
 -- ---- what was made
 
@@ -55,41 +53,6 @@ pub record AllMade (w : World) : Type 0 where
   pub spaces : AllOf (HasOnly (IsMadeBy w.spaces)) w.spaces
   pub queues : AllOf (PipeIs (IsMadeBy w.spaces)) w.pipes
 
--- ---- what is asked of roots
-
--- the space's own reference
-abbrev pub IsOwn : Option Space → Ref → Type 0
-IsOwn None r = ⊥
-IsOwn (Some s) r = bytes_eq r.space s.setting.id ≡ true
-
--- The references among a root's arguments are the space's own, or name what their space made. (A space refuses a root for an own one that does not stand, and for a foreign one that it has no lease of; the class of a foreign one it cannot know.)
-abbrev pub EventIs : World → ℕ → Event → Type 0
-EventIs w i (Root method arguments fuel) = AllOf (λ (r : Ref). IsOwn (slice_get w.spaces i) r ⊎ IsMadeBy w.spaces r) (references_of arguments)
-EventIs w i _ = Unit {0}
-
-abbrev pub RootIs : World → WorldEvent → Type 0
-RootIs w (Own i e) = EventIs w i e
-RootIs w _ = Unit {0}
-
--- so of each root of a run
-abbrev pub RootsAre : World → List WorldEvent → Type 0
-RootsAre w [] = Unit {0}
-RootsAre w (e ∷ es) = RootIs w e × RootsAre (after w e) es
-
+-- In every run of every world, with every loss, failure and order, each reference names what its space made.
 abbrev pub ReferencesAreMade : Type 0
-ReferencesAreMade = (settings : List Setting) (events : List WorldEvent) → RootsAre (new_world settings) events → AllMade (run (new_world settings) events)
-
--- ---- who meets what is asked
-
--- a root whose arguments have no references
-abbrev pub IsPlainEvent : Event → Type 0
-IsPlainEvent (Root method arguments fuel) = references_of arguments ≡ []
-IsPlainEvent _ = Unit {0}
-
-abbrev pub IsPlain : WorldEvent → Type 0
-IsPlain (Own i e) = IsPlainEvent e
-IsPlain _ = Unit {0}
-
--- Every run whose roots are given ints, arrays and null alone meets it; what they then do is free.
-abbrev pub PlainRootsAre : Type 0
-PlainRootsAre = (w : World) (events : List WorldEvent) → AllOf IsPlain events → RootsAre w events
+ReferencesAreMade = (settings : List Setting) (events : List WorldEvent) → AllMade (run (new_world settings) events)

@@ -1,12 +1,94 @@
-//! The laws of worlds.
+//! The laws of spaces and worlds that need more than one event.
 
-ghost use Rattle.sp_laws.specs.Made.{ReferencesAreMade, PlainRootsAre};
+ghost use Rattle.sp_laws.specs.AllSpaces.{SpacesAreInOrder};
+ghost use Rattle.sp_laws.specs.Answered.{AnswersAreParked};
+ghost use Rattle.sp_laws.specs.CallsHeld.{CallsAreHeld};
+ghost use Rattle.sp_laws.specs.Counted.{HoldersAreCounted};
+ghost use Rattle.sp_laws.specs.Inbound.{CallsThatComeAreOnce, CallsThatWentStayGone};
+ghost use Rattle.sp_laws.specs.Made.{ReferencesAreMade};
+ghost use Rattle.sp_laws.specs.Others.{ConnectionsAreOpenedOnce, OthersAreDialled};
+ghost use Rattle.sp_laws.specs.Owing.{LeasesOweTheirEnd};
+ghost use Rattle.sp_laws.specs.Waiting.{EndedCallsStayEnded, WaitingTasksHaveOneCall};
 
 /// In every run of every world each reference in a task, a field, a result, a parked frame, a request or
 /// a frame on its way names an object that its space made, of the class that it was made with; and a
-/// parked call's target was made. Of a root it is asked that its arguments are references of its own
-/// space, or name what their space made; a run whose roots are given no references meets that.
+/// parked call's target was made.
 pub fn every_reference_is_made()
-    ensures made { ReferencesAreMade }
-    ensures met { PlainRootsAre }
+    ensures { ReferencesAreMade }
+{}
+
+/// After every history that a space took, its leases count as many holders of a foreign reference as
+/// there are: the living tasks, fields of standing objects, results that are held and parked frames that
+/// have it. Fewer than 2^64 - 1 times has a holder of it come.
+pub fn holders_are_counted()
+    ensures { HoldersAreCounted }
+{}
+
+/// After every history of a space each task that waits for a reply has one call among the requests, one
+/// that is ready has none, and each call is of a task that waits. Each number of a call or
+/// lookup stands at one request at most, and at none if it was not given yet.
+pub fn waiting_tasks_have_one_call()
+    ensures { WaitingTasksHaveOneCall }
+{}
+
+/// After every history of a space in which no number of a connection comes again, a call that came on a
+/// connection under a number occurs once at most: as a parked frame, as a living task, or as a result
+/// that is held until its Ack. One above the last of its connection does not occur.
+pub fn calls_that_come_are_once()
+    ensures { CallsThatComeAreOnce }
+{}
+
+/// After every history that a space took, a call that waits to be sent or answered is what its task
+/// asks for: the task stands at it, the frame says it, and the task holds its target and the references
+/// among its arguments.
+pub fn calls_are_held()
+    ensures { CallsAreHeld }
+{}
+
+/// Of each foreign reference after every history of a space: where a dirty call is on its way a clean call
+/// is owed, and no failed one is remembered; where there is a lease a clean call is owed, ordinary or
+/// strong; and while a clean call is on its way there is neither, and nothing is owed.
+pub fn leases_owe_their_end()
+    ensures { LeasesOweTheirEnd }
+{}
+
+/// In every run of every world, whatever is lost or fails, each space is in order: its own references
+/// stand, its lines wait for Hellos, each of its tasks that waits has one call, which it holds, its
+/// requests and parked frames stand with their connections, and its leases count the holders that there
+/// are, and owe their ends.
+pub fn spaces_are_in_order()
+    ensures { SpacesAreInOrder }
+{}
+
+/// A call or lookup that was made and is no longer among the requests of its space never stands among
+/// them again, whatever happens then. So it ends once.
+pub fn ended_calls_stay_ended()
+    ensures { EndedCallsStayEnded }
+{}
+
+/// A call that came on a connection, of a number not above the connection's last, and that occurs no more
+/// never occurs again, where no number of a connection comes again.
+pub fn calls_that_went_stay_gone()
+    ensures { CallsThatWentStayGone }
+{}
+
+/// After every history that a space took each request that is out, or answered, went to its peer on a
+/// connection that this space dialled there and whose Hello came; each parked call came on a connection
+/// that a peer dialled, each parked result on one that this space dialled. A call or lookup is answered
+/// exactly while its result is parked, once.
+pub fn answers_are_parked()
+    ensures { AnswersAreParked }
+{}
+
+/// After every history that a space took it dials other spaces alone: each Dial that it answers is to a
+/// space of another id.
+pub fn others_are_dialled()
+    ensures { OthersAreDialled }
+{}
+
+/// In every run of every world the two ends of a connection are two spaces, and no number of a connection
+/// comes again in the history of a space. So a call that came on a connection under a number occurs once
+/// at most in its space: as a parked frame, as a living task, or as a result that is held until its Ack.
+pub fn connections_are_opened_once()
+    ensures { ConnectionsAreOpenedOnce }
 {}

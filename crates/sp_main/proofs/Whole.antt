@@ -17,7 +17,7 @@ use Rattle.vm_heap.specs.Tagged.{Unset}
 use Rattle.space_ids.specs.declared.value.Value.{Value}
 use Rattle.vm_stack.specs.Frames.{empty_frame, frame_cost}
 use Rattle.vm_step.specs.Run.{State, Running, Over, run, IsNeverStuck}
-use Rattle.vm_step.specs.Start.{started, startable, refusal, opening_frame, opening_state, passed}
+use Rattle.vm_step.specs.Start.{are_run, started, startable, refusal, opening_frame, opening_state, passed}
 use Rattle.vm_step.specs.Subjects.{Declared}
 use Rattle.vm_step.specs.Task as tasks
 use Rattle.vm_step.specs.Task.{Tasked, fuel_left, thrown_name, IsOutcome}
@@ -48,6 +48,7 @@ record Starts (program : Links) (method : MethodId) (arguments : List Value) (li
   declared : Declared
   found : startable program method ≡ Some declared
   taken : refusal declared.method arguments ≡ None
+  run : are_run program ≡ true
   state : task.state ≡ opening_state method declared.code arguments limits
 
 starts : (program : Links) (method : MethodId) (arguments : List Value) (limits : Limits) (task : Tasked)
@@ -56,11 +57,15 @@ starts program method arguments limits task e = on (startable program method) re
   where
     begun : (d : Declared) → startable program method ≡ Some d → (why : Option StartFault) → refusal d.method arguments ≡ why → Starts program method arguments limits task
     begun d is (Some why) refused = absurd (let f : started program zero_bytes method arguments limits ≡ Err why = rw (is, refused) refl in cc)
-    begun d is None refused =
-        let opened : Tasked = record { program = program; own = zero_bytes; state = opening_state method d.code arguments limits } in
-        let f : started program zero_bytes method arguments limits ≡ Ok opened = rw (is, refused) refl in
-        let same : task ≡ opened = cc in
-        record { declared = d; found = is; taken = refused; state = ap (λ (t : Tasked). t.state) same }
+    begun d is None refused = whole (are_run program) refl
+      where
+        whole : (b : Bool) → are_run program ≡ b → Starts program method arguments limits task
+        whole false all = absurd (let f : started program zero_bytes method arguments limits ≡ Err fault.NotYet = rw (is, refused, all) refl in cc)
+        whole true all =
+            let opened : Tasked = record { program = program; own = zero_bytes; state = opening_state method d.code arguments limits } in
+            let f : started program zero_bytes method arguments limits ≡ Ok opened = rw (is, refused, all) refl in
+            let same : task ≡ opened = cc in
+            record { declared = d; found = is; taken = refused; run = all; state = ap (λ (t : Tasked). t.state) same }
 
     on : (o : Option Declared) → startable program method ≡ o → Starts program method arguments limits task
     on None is = absurd (let f : started program zero_bytes method arguments limits ≡ Err fault.AbsentMethod = rw is refl in cc)
@@ -96,7 +101,7 @@ pub whole_run : (program : Links) (method : MethodId) (arguments : List Value) (
     → IsOutcome program.classes (run program steps task.state) o → IsNamed program.classes o named → Runs program method arguments limits named
 whole_run program method arguments limits task steps o named linked safe start never fuel is name =
     let begun : Starts program method arguments limits task = starts program method arguments limits task start in
-    let begins : Begins program method begun.declared arguments limits = startable-begins program method begun.declared arguments limits linked safe begun.found begun.taken in
+    let begins : Begins program method begun.declared arguments limits = startable-begins program method begun.declared arguments limits linked safe begun.found begun.taken begun.run in
     let left : fuel_left (run program steps task.state) ≡ is.left = ap fuel_left is.over in
     record {
       declared = begun.declared;

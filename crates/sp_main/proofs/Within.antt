@@ -118,6 +118,7 @@ module _ (code : Code) where
       pop-keeps (λ first. pop (λ second. push first (push second go_on))) m kept
       (λ first after still. pop-keeps (λ second. push first (push second go_on)) after still
       (λ second below less. push-keeps first (push second go_on) below less (λ next more. push-keeps second go_on next more go_on-keeps)))
+  act-keeps (insn.Stack _) m kept = tt
   act-keeps (insn.Unary operator) m kept =
       pop_int-keeps (λ n. push (Int (unary_result operator n)) go_on) m kept
       (λ n after still. push-keeps (Int (unary_result operator n)) go_on after still go_on-keeps)
@@ -135,6 +136,7 @@ module _ (code : Code) where
   act-keeps (insn.Goto target) m kept = jump-keeps target m kept
   act-keeps (insn.ReturnValue kind.Int) m kept = pop_int-keeps (λ n m. Ends (ReturnedInt n)) m kept (λ n after still. tt)
   act-keeps insn.Return m kept = tt
+  act-keeps _ m kept = tt
 
   -- a state within the bounds, with its room
   abbrev Within : State → Type 0

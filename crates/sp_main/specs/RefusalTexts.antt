@@ -9,7 +9,7 @@ use Rattle.cf_load.specs.declared.load_fault.LoadFault.TheVariants as load
 use Rattle.cf_text.specs.FaultNames.{name_of}
 use Rattle.cf_text.specs.Order.{number_of}
 use Rattle.cf_text.specs.declared.fault.ReadFault.TheVariants as read
-use Rattle.cls_link.specs.FaultNames.{link_rule_name, link_rule_number}
+use Rattle.cls_resolve.specs.RuleNames.{link_rule_name, link_rule_number}
 use Rattle.cls_link.specs.declared.fault.LinkFault.{LinkFault}
 use Rattle.cls_link.specs.declared.fault.LinkFault.TheVariants as link
 use Rattle.cls_set.specs.FaultNames.{set_rule_name, set_rule_number}
@@ -19,9 +19,9 @@ use Rattle.sp_main.specs.Reports.{line_of}
 use Rattle.sp_main.specs.declared.refusal.Refusal.{Refusal}
 use Rattle.sp_main.specs.declared.refusal.Refusal.TheVariants as refusal
 use Rattle.sp_main.specs.declared.running.ClassBytes.{ClassBytes}
-use Rattle.ver_check.specs.FaultNames.{check_rule_name, check_rule_number}
-use Rattle.ver_check.specs.declared.fault.CheckFault.{CheckFault}
-use Rattle.ver_check.specs.declared.fault.CheckFault.TheVariants as check
+use Rattle.ver_rules.specs.FaultNames.{check_rule_name, check_rule_number}
+use Rattle.ver_rules.specs.declared.fault.CheckFault.{CheckFault}
+use Rattle.ver_rules.specs.declared.fault.CheckFault.TheVariants as check
 use Rattle.vm_step.specs.FaultNames.{start_fault_name, start_fault_number}
 use Rattle.vm_step.specs.declared.fault.StartFault.{StartFault}
 use Rattle.vm_step.specs.declared.fault.StartFault.TheVariants as start

@@ -7,12 +7,14 @@ use Rattle.cf_layout.specs.declared.items.Layout.{Layout}
 use Rattle.cf_reader.specs.Spells.{IsAtFault, IsInProfile, Spells}
 use Rattle.cf_load.specs.declared.load_fault.LoadFault.{LoadFault}
 use Rattle.cf_load.specs.declared.load_fault.LoadFault.TheVariants as load
-use Rattle.cls_link.specs.Links.{Links, AreLinks, IsLinkFault}
+use Rattle.cls_link.specs.LinkFaults.{IsLinkFault}
+use Rattle.cls_link.specs.Links.{Links, AreLinks}
 use Rattle.cls_link.specs.declared.fault.LinkFault.{LinkFault}
 use Rattle.cls_link.specs.Links as links
 use Rattle.cls_link.specs.declared.linked.MethodId.{MethodId}
 use Rattle.cls_set.specs.Classes as sets
-use Rattle.cls_set.specs.Sets.{HasClasses, IsClassSet, IsSetFault}
+use Rattle.cls_set.specs.Faults.{IsSetFault}
+use Rattle.cls_set.specs.Sets.{HasClasses, IsClassSet}
 use Rattle.cls_set.specs.declared.fault.SetFault.{SetFault}
 use Rattle.cls_set.specs.declared.class.Class.{Class}
 use Rattle.sp_main.specs.declared.running.ClassBytes.{ClassBytes}
@@ -25,7 +27,7 @@ use Rattle.sp_main.specs.declared.refusal.Refusal.TheVariants as refusal
 use Rattle.uuid.specs.Parts.{zero_bytes}
 use Rattle.ver_check.specs.Acceptance.{AreSafe}
 use Rattle.ver_check.specs.Faults.{IsCheckFault}
-use Rattle.ver_check.specs.declared.fault.CheckFault.{CheckFault}
+use Rattle.ver_rules.specs.declared.fault.CheckFault.{CheckFault}
 use Rattle.space_ids.specs.declared.value.Value.{Value}
 use Rattle.space_ids.specs.declared.value.Value.TheVariants as value
 use Rattle.vm_step.specs.Run.{State, Running, Over, Lost, run, step, IsNeverStuck}
@@ -149,7 +151,7 @@ pub data IsNoProgram (files : List ClassBytes) : Refusal → Type 0 where
   unread : (refused : Refusal) → IsUnread files refused → IsNoProgram files refused
   no_set : (classes : List ClassFile) (fault : SetFault) → AreSpelled files classes → IsSetFault classes fault → IsNoProgram files (refusal.Set fault)
   not_linked : (classes : List ClassFile) (set : List Class) (fault : LinkFault) → AreSpelled files classes → HasClasses classes set → IsClassSet set
-      → IsLinkFault (links.declared_methods set) fault → IsNoProgram files (refusal.Link fault)
+      → IsLinkFault set fault → IsNoProgram files (refusal.Link fault)
   not_safe : (classes : List ClassFile) (linked : Links) (fault : CheckFault) → AreSpelled files classes → HasClasses classes linked.classes → AreLinks linked
       → IsCheckFault linked fault → IsNoProgram files (refusal.Check fault)
 

@@ -1,6 +1,5 @@
-use Rattle.std.proofs.Common.{◌≡◌, ℕ, zero, suc, ◌+◌, ◌<◌, ◌≤◌, Bool, true, false, cond, List, [], ◌∷◌, ◌++◌, length, get_or, set, Option, None, Some, Ok, Err, subst, refl, sym, ap, ◌∙◌, arith, rules}
+use Rattle.std.proofs.Common.{◌≡◌, ℕ, zero, suc, ◌<◌, ◌≤◌, Bool, true, false, cond, List, [], ◌∷◌, ◌++◌, length, get_or, set, Option, None, Some, Ok, Err, subst, refl, sym, ap, ◌∙◌, arith}
 use Rattle.std.specs.Prelude.{if◌then◌else◌, is_some, IsSome, map}
-use Rattle.std.specs.Bool.{Decides}
 use Rattle.std.specs.List.{position, position_or_len, remove}
 use Rattle.std.specs.Str.{bytes_eq}
 use Rattle.std.proofs.lemmas.Bool.Decides.{same_from_decides, Decides-like}
@@ -11,7 +10,7 @@ use Rattle.std.proofs.lemmas.Slice.Eq.{bytes_eq-Decides}
 use Rattle.space_ids.specs.declared.ids.ObjId.{ObjId}
 use Rattle.sp_registry.specs.declared.registry.Binding.{Binding}
 use Rattle.sp_registry.specs.declared.fault.RegistryFault.TheVariants.{AlreadyBound}
-use Rattle.sp_registry.specs.Bindings.{allowed, bind, is_of, lookup, rebound, unbound, IsPlaceOf, HasNamesOnce}
+use Rattle.sp_registry.specs.Bindings.{allowed, bind, is_of, lookup, rebound, unbound, IsIndexOf, HasNamesOnce}
 
 pub bytes_eq-refl : (a : List ℕ) → bytes_eq a a ≡ true
 bytes_eq-refl a = (bytes_eq-Decides a a).1 refl
@@ -40,9 +39,9 @@ unbound-here (b ∷ bs) name zero d l before here = rw here refl
 unbound-here (b ∷ bs) name (suc i) d l before here =
     rw (before 0 (omega arith)) (ap (λ rest. b ∷ rest) (unbound-here bs name i d (omega arith) (λ k h. before (suc k) (omega arith)) here))
 
-pub placed : (bindings : List Binding) (name : List ℕ) (i : ℕ) → position (is_of name) bindings ≡ Some i → IsPlaceOf bindings name i
-placed [] name i h = absurd (let e : ◌≡◌ {A = Option ℕ} None (Some i) = h in cc)
-placed (d ∷ rest) name i h =
+pub index-found : (bindings : List Binding) (name : List ℕ) (i : ℕ) → position (is_of name) bindings ≡ Some i → IsIndexOf bindings name i
+index-found [] name i h = absurd (let e : ◌≡◌ {A = Option ℕ} None (Some i) = h in cc)
+index-found (d ∷ rest) name i h =
     let bs : List Binding = d ∷ rest in
     let at : (x : Binding) → (i < length bs) × (is_of name (get_or bs i x) ≡ true) × ((k : ℕ) → k < i → is_of name (get_or bs k x) ≡ false) =
     λ x. position-Some (is_of name) bs i x h in
@@ -53,8 +52,8 @@ placed (d ∷ rest) name i h =
       unbinds = unbound-here bs name i d (at d).0 (at d).2 (at d).1;
     }
 
-pub unplaced : (bindings : List Binding) (name : List ℕ) → position (is_of name) bindings ≡ None → lookup bindings name ≡ None
-unplaced bs name h = lookup-absent bs name (grind (arith, nat_tests))
+pub none-found : (bindings : List Binding) (name : List ℕ) → position (is_of name) bindings ≡ None → lookup bindings name ≡ None
+none-found bs name h = lookup-absent bs name (grind (arith, nat_tests))
 
 -- what a name is bound to in bindings with one more at the end
 pub lookup-append : (bindings : List Binding) (name : List ℕ) (other : Binding)
@@ -147,7 +146,7 @@ rebound-new (b ∷ bs) name object new =
     let parts = unbound-parts (bytes_eq b.name name) b.object (lookup bs name) new in
     rw parts.0 (ap (λ rest. b ∷ rest) (rebound-new bs name object parts.1))
 
--- a name that is bound anew keeps its place
+-- a name that is bound anew keeps its index
 pub names-rebound : (bindings : List Binding) (name : List ℕ) (object : ObjId) → IsSome (lookup bindings name)
     → map (λ (b : Binding). b.name) (rebound bindings name object) ≡ map (λ (b : Binding). b.name) bindings
 names-rebound [] name object is_bound = cc

@@ -1,3 +1,4 @@
+-- A registry binds names to remote objects of its own: `bind`, `rebind`, `unbind`, `lookup` and `list` (Java RMI specification, 6.1: `java.rmi.registry.Registry`). Which names are allowed, and the order of the bindings, are this project's own rules.
 use Rattle.std.specs.Prelude.{◌≡◌, ℕ, Bool, List, [], ◌∷◌, ◌++◌, Option, None, Some, Result, Ok, Err, is_some, length, ◌<◌, remove, slice_set, if◌then◌else◌}
 use Rattle.std.specs.List.{slice_index_or}
 use Rattle.std.specs.Str.{bytes_eq}
@@ -9,6 +10,11 @@ use Rattle.sp_registry.specs.declared.fault.BindFault.TheVariants.{Memory, Denie
 use Rattle.sp_registry.specs.declared.registry.Binding.{Binding}
 use Rattle.sp_registry.specs.Names.{is_name}
 
+-- what a registry is seen as: its bindings, in the order in which the names were bound, and for how many more there is room
+pub record Names : Type 0 where
+  pub bindings : List Binding
+  pub room : ℕ
+
 -- whether the binding is of that name
 abbrev pub is_of : List ℕ → Binding → Bool
 is_of name binding = bytes_eq binding.name name
@@ -18,7 +24,7 @@ abbrev pub lookup : List Binding → List ℕ → Option ObjId
 lookup [] name = None
 lookup (binding ∷ bindings) name = if is_of name binding then Some binding.object else lookup bindings name
 
--- the bindings with the name bound to the object: at its place where it was bound, else at the end
+-- the bindings with the name bound to the object: at its index where it was bound, else at the end
 abbrev pub rebound : List Binding → List ℕ → ObjId → List Binding
 rebound [] name object = record { name = name; object = object } ∷ []
 rebound (binding ∷ bindings) name object =
@@ -29,13 +35,13 @@ abbrev pub unbound : List Binding → List ℕ → List Binding
 unbound [] name = []
 unbound (binding ∷ bindings) name = if is_of name binding then bindings else binding ∷ unbound bindings name
 
--- the name's binding stands at this place: what it is bound to, and what a change there leaves
-pub record IsPlaceOf (bindings : List Binding) (name : List ℕ) (place : ℕ) : Type 0 where
-  pub within : place < length bindings
-  pub bound : (other : Binding) → lookup bindings name ≡ Some (slice_index_or bindings place other).object
+-- the name's binding stands at this index: what it is bound to, and what a change there leaves
+pub record IsIndexOf (bindings : List Binding) (name : List ℕ) (index : ℕ) : Type 0 where
+  pub within : index < length bindings
+  pub bound : (other : Binding) → lookup bindings name ≡ Some (slice_index_or bindings index other).object
   pub rebinds : (other : Binding) (object : ObjId)
-      → rebound bindings name object ≡ slice_set bindings place (record (slice_index_or bindings place other) { object = object })
-  pub unbinds : unbound bindings name ≡ remove bindings place
+      → rebound bindings name object ≡ slice_set bindings index (record (slice_index_or bindings index other) { object = object })
+  pub unbinds : unbound bindings name ≡ remove bindings index
 
 -- each name is bound once
 abbrev pub HasNamesOnce : List Binding → Type 0

@@ -1,4 +1,4 @@
--- The number of each fault.
+-- The number of each fault of the registry. (This project's own; the Java RMI specification, 6.1, has exceptions: `AlreadyBoundException`, `NotBoundException`.)
 use Rattle.std.specs.Prelude.{ℕ}
 use Rattle.sp_registry.specs.declared.fault.RegistryFault.TheVariants as registry_fault
 use Rattle.sp_registry.specs.declared.fault.RegistryFault.{RegistryFault}

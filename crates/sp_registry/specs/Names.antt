@@ -1,3 +1,4 @@
+-- Which names a registry binds: 1 to 255 ASCII letters, digits, `_` and `.` (this project's own rule; the Java RMI specification, 6.1, has a name be any string).
 use Rattle.std.specs.Prelude.{ℕ, Bool, List, length, ◌&&◌, ◌||◌, ◌==◌, nat_le}
 use Rattle.std.specs.Char.{is_ascii_alphanumeric}
 use Rattle.std.specs.List.{list_all}

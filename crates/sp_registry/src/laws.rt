@@ -7,9 +7,9 @@ ghost use Rattle.sp_registry.specs.declared.registry.Binding.{Binding};
 ghost use Rattle.sp_registry.specs.Bindings.{lookup, rebound, unbound, HasNamesOnce};
 
 /// A name is bound to the object that it was bound to last, and to none once it was taken away. No
-/// other name is touched, and a name that is bound anew keeps its place.
+/// other name is touched, and a name that is bound anew keeps its index.
 pub fn a_change_touches_one_name()
     ensures last { (bindings : List Binding) (name other : List ℕ) (object : ObjId) → lookup (rebound bindings name object) other ≡ (if bytes_eq name other then Some object else lookup bindings other) }
-    ensures place { (bindings : List Binding) (name : List ℕ) (object : ObjId) → IsSome (lookup bindings name) → map (λ (b : Binding). b.name) (rebound bindings name object) ≡ map (λ (b : Binding). b.name) bindings }
+    ensures index { (bindings : List Binding) (name : List ℕ) (object : ObjId) → IsSome (lookup bindings name) → map (λ (b : Binding). b.name) (rebound bindings name object) ≡ map (λ (b : Binding). b.name) bindings }
     ensures gone { (bindings : List Binding) (name other : List ℕ) → HasNamesOnce bindings → lookup (unbound bindings name) other ≡ (if bytes_eq name other then None else lookup bindings other) }
 {}

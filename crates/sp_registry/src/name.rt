@@ -1,10 +1,13 @@
 //! Names of the registry.
 
-ghost use Rattle.std.specs.Prelude.{◌≡◌, IsTrue, IfOk};
+ghost use Rattle.std.specs.Prelude.{◌≡◌, true, IsTrue, IfOk, IfErr, OnOk, if◌then◌else◌};
+ghost use Rattle.sp_registry.specs.declared.fault.BindFault.TheVariants.{Memory, Denied};
+ghost use Rattle.sp_registry.specs.declared.fault.RegistryFault.TheVariants.{BadName};
 ghost use Rattle.std.specs.List.{list_all};
 ghost use Rattle.std.specs.Str.{bytes_eq};
 ghost use Rattle.sp_registry.specs.Names.{is_name, is_name_byte};
 
+use super::{BindFault, RegistryFault};
 use std::alloc::{AllocError, Global};
 use std::marker::Model;
 
@@ -27,8 +30,20 @@ impl Model for Name {
 }
 
 impl Name {
-    /// The name of these bytes, in memory of its own.
-    pub(crate) fn new(alloc: Global, bytes: &[u8]) -> Result<Name, AllocError>
+    /// The name of these bytes, in memory of its own; if they are no name, `BadName`.
+    pub fn new(alloc: Global, bytes: &[u8]) -> Result<Name, BindFault>
+        ensures ok { IfOk result (λ name. name ≡ bytes.now) }
+        ensures allowed { OnOk result (is_name bytes.now ≡ true) }
+        ensures refused { IfErr result (λ fault. fault ≡ (if is_name bytes.now then Memory else Denied BadName)) }
+    {
+        if !is_allowed(bytes) {
+            return Err(BindFault::Denied(RegistryFault::BadName));
+        }
+        Ok(Name::copied(alloc, bytes)?)
+    }
+
+    // The name of these bytes, which are allowed.
+    pub(crate) fn copied(alloc: Global, bytes: &[u8]) -> Result<Name, AllocError>
         requires { IsTrue (is_name bytes.now) }
         ensures { IfOk result (λ name. name ≡ bytes.now) }
     {

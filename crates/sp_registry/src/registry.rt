@@ -1,13 +1,13 @@
 //! The registry: a list of names with their objects.
 
-ghost use Rattle.std.specs.Prelude.{◌≡◌, [], ◌∷◌, ◌++◌, IsTrue, IfErr, OnOk, OnErr, None, MatchResult, MatchOption, position};
+ghost use Rattle.std.specs.Prelude.{◌≡◌, ◌≤◌, ◌<◌, ◌+◌, [], ◌∷◌, ◌++◌, IsTrue, IfErr, OnOk, OnErr, None, MatchResult, MatchOption, position};
 ghost use Rattle.sp_registry.specs.Names.{is_name};
-ghost use Rattle.sp_registry.specs.Bindings.{bind, rebind, unbind, lookup, allowed as may_bind, is_of, IsPlaceOf, Refuses, HasNamesOnce};
+ghost use Rattle.sp_registry.specs.Bindings.{bind, rebind, unbind, lookup, allowed as may_bind, is_of, IsIndexOf, Refuses, HasNamesOnce};
 
 use super::name::is_allowed;
 use super::{BindFault, Name, RegistryFault};
 use space_ids::ObjId;
-use std::alloc::Global;
+use std::alloc::{AllocError, Global};
 use std::marker::Model;
 
 /// A name and the own standing object that it is bound to.
@@ -18,20 +18,20 @@ pub struct Binding {
 }
 
 /// The names of a space. A contract sees the list of its bindings, in the order in which the names
-/// were bound.
+/// were bound, and for how many more there is room.
 #[derive(Debug, Drop)]
 pub struct Registry {
     bindings: Vec<Binding>,
 }
 
 impl Model for Registry {
-    ghost use Rattle.std.specs.Prelude.{List};
-    ghost use Rattle.sp_registry.specs.declared.registry.Binding.{Binding};
-    ghost use Rattle.sp_registry.specs.Bindings.{HasNamesOnce};
+    ghost use Rattle.std.specs.Prelude.{◌-◌};
+    ghost use Rattle.std.specs.Vec.{vec_len, vec_capacity};
+    ghost use Rattle.sp_registry.specs.Bindings.{Names, HasNamesOnce};
 
-    ghost Value = { List Binding };
+    ghost Value = { Names };
 
-    ghost view = { λ registry. registry.bindings.items };
+    ghost view = { λ registry. record { bindings = registry.bindings.items; room = vec_capacity registry.bindings - vec_len registry.bindings } };
 
     ghost invariant = { λ registry. HasNamesOnce registry.bindings.items };
 }
@@ -39,36 +39,65 @@ impl Model for Registry {
 impl Registry {
     /// A registry without names.
     pub fn new(alloc: Global) -> Registry
-        ensures { result ≡ [] }
+        ensures { result.bindings ≡ [] }
     {
         Registry {
             bindings: Vec::new(alloc),
         }
     }
 
-    /// Binds the name to the object, behind all others. `None` is a reference that is no own object
+    /// Makes room for this many more bindings. Nothing else changes, at out of memory too.
+    pub fn reserve(&mut self, bindings: usize) -> Result<(), AllocError>
+        ensures ok { OnOk result (bindings ≤ self.new.room) }
+        ensures same { self.new.bindings ≡ self.old.bindings }
+        ensures room { self.old.room ≤ self.new.room }
+    {
+        self.bindings.reserve(bindings)
+    }
+
+    /// Binds the name to the object, after all others. `None` is a reference that is no own object
     /// that stands. A name that is bound already is denied.
     pub fn bind(&mut self, name: &[u8], object: Option<ObjId>) -> Result<(), BindFault>
-        ensures ok { OnOk result (bind self.old name.now object ≡ Ok self.new) }
-        ensures refused { IfErr result (Refuses (bind self.old name.now object)) }
-        ensures unchanged { OnErr result (self.new ≡ self.old) }
+        ensures ok { OnOk result (bind self.old.bindings name.now object ≡ Ok self.new.bindings) }
+        ensures refused { IfErr result (Refuses (bind self.old.bindings name.now object)) }
+        ensures unchanged { OnErr result (self.new.bindings ≡ self.old.bindings) }
+        ensures room { self.old.room ≤ self.new.room + 1 }
     {
         let own = allowed(name, object)?;
-        match place_of(&self.bindings, name) {
+        match index_of(&self.bindings, name) {
             Some(_) => Err(BindFault::Denied(RegistryFault::AlreadyBound)),
             None => self.add(name, own),
         }
     }
 
-    /// Binds the name to the object in place of the one that it was bound to; it keeps its place. A
-    /// name that was not bound is bound behind all others.
-    pub fn rebind(&mut self, name: &[u8], object: Option<ObjId>) -> Result<(), BindFault>
-        ensures ok { OnOk result (rebind self.old name.now object ≡ Ok self.new) }
-        ensures refused { IfErr result (Refuses (rebind self.old name.now object)) }
+    /// Binds the name to the object, as [`bind`](Registry::bind) does, and takes no memory: the name
+    /// has memory of its own, and there is [room](Registry::reserve) for one more binding.
+    pub fn bind_reserved(&mut self, name: Name, object: Option<ObjId>) -> Result<(), RegistryFault>
+        requires { 0 < self.old.room }
+        ensures answer { MatchResult result (λ _. bind self.old.bindings name object ≡ Ok self.new.bindings) (λ fault. bind self.old.bindings name object ≡ Err fault) }
         ensures unchanged { OnErr result (self.new ≡ self.old) }
+        ensures room { self.old.room ≤ self.new.room + 1 }
+    {
+        let own = allowed(name.as_bytes(), object)?;
+        match index_of(&self.bindings, name.as_bytes()) {
+            Some(_) => Err(RegistryFault::AlreadyBound),
+            None => {
+                self.add_reserved(name, own);
+                Ok(())
+            }
+        }
+    }
+
+    /// Binds the name to the object in place of the one that it was bound to; its index stays. A name
+    /// that was not bound is bound after all others.
+    pub fn rebind(&mut self, name: &[u8], object: Option<ObjId>) -> Result<(), BindFault>
+        ensures ok { OnOk result (rebind self.old.bindings name.now object ≡ Ok self.new.bindings) }
+        ensures refused { IfErr result (Refuses (rebind self.old.bindings name.now object)) }
+        ensures unchanged { OnErr result (self.new.bindings ≡ self.old.bindings) }
+        ensures room { self.old.room ≤ self.new.room + 1 }
     {
         let object = allowed(name, object)?;
-        match place_of(&self.bindings, name) {
+        match index_of(&self.bindings, name) {
             Some(at) => {
                 self.bindings[at].object = object;
                 Ok(())
@@ -77,15 +106,36 @@ impl Registry {
         }
     }
 
+    /// Binds the name to the object, as [`rebind`](Registry::rebind) does, and takes no memory: the
+    /// name has memory of its own, and there is [room](Registry::reserve) for one more binding.
+    pub fn rebind_reserved(
+        &mut self,
+        name: Name,
+        object: Option<ObjId>,
+    ) -> Result<(), RegistryFault>
+        requires { 0 < self.old.room }
+        ensures answer { MatchResult result (λ _. rebind self.old.bindings name object ≡ Ok self.new.bindings) (λ fault. rebind self.old.bindings name object ≡ Err fault) }
+        ensures unchanged { OnErr result (self.new ≡ self.old) }
+        ensures room { self.old.room ≤ self.new.room + 1 }
+    {
+        let object = allowed(name.as_bytes(), object)?;
+        match index_of(&self.bindings, name.as_bytes()) {
+            Some(at) => self.bindings[at].object = object,
+            None => self.add_reserved(name, object),
+        }
+        Ok(())
+    }
+
     /// Takes the name and its binding away. The order of the others stays.
     pub fn unbind(&mut self, name: &[u8]) -> Result<(), RegistryFault>
-        ensures answer { MatchResult result (λ _. unbind self.old name.now ≡ Ok self.new) (λ fault. unbind self.old name.now ≡ Err fault) }
+        ensures answer { MatchResult result (λ _. unbind self.old.bindings name.now ≡ Ok self.new.bindings) (λ fault. unbind self.old.bindings name.now ≡ Err fault) }
         ensures unchanged { OnErr result (self.new ≡ self.old) }
+        ensures room { self.old.room ≤ self.new.room }
     {
         if !is_allowed(name) {
             return Err(RegistryFault::BadName);
         }
-        match place_of(&self.bindings, name) {
+        match index_of(&self.bindings, name) {
             Some(at) => {
                 let _ = self.bindings.remove(at);
                 Ok(())
@@ -96,15 +146,15 @@ impl Registry {
 
     /// The object that the name is bound to, if it is bound.
     pub fn lookup(&self, name: &[u8]) -> Option<ObjId>
-        ensures { result ≡ lookup self.now name.now }
+        ensures { result ≡ lookup self.now.bindings name.now }
     {
-        let at = place_of(&self.bindings, name)?;
+        let at = index_of(&self.bindings, name)?;
         Some(self.bindings[at].object)
     }
 
     /// All bindings, in the order in which the names were bound.
     pub fn list(&self) -> &[Binding]
-        ensures bindings { result.now ≡ self.now }
+        ensures bindings { result.now ≡ self.now.bindings }
         ensures once { HasNamesOnce result.now }
     {
         &self.bindings
@@ -113,18 +163,29 @@ impl Registry {
     // Adds a binding of an allowed name at the end.
     fn add(&mut self, name: &[u8], object: ObjId) -> Result<(), BindFault>
         requires allowed { IsTrue (is_name name.now) }
-        requires unbound { lookup self.old name.now ≡ None }
-        ensures ok { OnOk result (self.new ≡ self.old ++ record { name = name.now; object = object } ∷ []) }
+        requires unbound { lookup self.old.bindings name.now ≡ None }
+        ensures ok { OnOk result (self.new.bindings ≡ self.old.bindings ++ record { name = name.now; object = object } ∷ []) }
         ensures memory { IfErr result (λ fault. fault ≡ BindFault.Memory) }
-        ensures unchanged { OnErr result (self.new ≡ self.old) }
+        ensures unchanged { OnErr result (self.new.bindings ≡ self.old.bindings) }
+        ensures room { self.old.room ≤ self.new.room + 1 }
     {
-        let name = Name::new(*self.bindings.allocator(), name)?;
+        let name = Name::copied(*self.bindings.allocator(), name)?;
         self.bindings.push(Binding { name, object })?;
         Ok(())
     }
+
+    // Adds a binding at the end, where there is room for it.
+    fn add_reserved(&mut self, name: Name, object: ObjId)
+        requires room { 0 < self.old.room }
+        requires unbound { lookup self.old.bindings name ≡ None }
+        ensures added { self.new.bindings ≡ self.old.bindings ++ record { name = name; object = object } ∷ [] }
+        ensures room { self.old.room ≤ self.new.room + 1 }
+    {
+        self.bindings.push_reserved(Binding { name, object });
+    }
 }
 
-// The object, where the name may be bound to it.
+// The object, if the name may be bound to it.
 fn allowed(name: &[u8], object: Option<ObjId>) -> Result<ObjId, RegistryFault>
     ensures { result ≡ may_bind name.now object }
 {
@@ -135,13 +196,13 @@ fn allowed(name: &[u8], object: Option<ObjId>) -> Result<ObjId, RegistryFault>
 }
 
 // Where the name is bound, with what stands there.
-fn place_of(bindings: &[Binding], name: &[u8]) -> Option<usize>
-    ensures { MatchOption result (lookup bindings.now name.now ≡ None) (IsPlaceOf bindings.now name.now) }
+fn index_of(bindings: &[Binding], name: &[u8]) -> Option<usize>
+    ensures { MatchOption result (lookup bindings.now name.now ≡ None) (IsIndexOf bindings.now name.now) }
 {
     first_of(bindings, name)
 }
 
-// The first place of the name among the bindings.
+// The first index of the name among the bindings.
 fn first_of(bindings: &[Binding], name: &[u8]) -> Option<usize>
     ensures { result ≡ position (is_of name.now) bindings.now }
 {

@@ -72,6 +72,9 @@ take_within {n} {s} p e =
     let k : total parked_units (filter (λ q. not (ParkedFrames.is_parked_at p.conn p.number q)) s.parked) ≤ total parked_units s.parked = total-filter parked_units (λ q. not (ParkedFrames.is_parked_at p.conn p.number q)) s.parked in
     record { bound = omega arith }
 
+let_go_within : {n : ℕ} {s : State} (p : ParkedFrame) (parked : List ParkedFrame) → Within n s → Within n (ParkedFrames.let_go_parked p parked s)
+let_go_within p parked e = each_same _ (filter (ParkedFrames.is_parked_at p.conn p.number) parked) (λ t q h. drop_within q.references h) e
+
 pub go_frame_within : {n : ℕ} {s : State} (g : Setting) (q : ParkedFrame) (f : Frame) → Within n s → Within (n + frame_units f) (ParkedFrames.go_frame g q f s)
 unfolding back
 go_frame_within g q (CallFrame target method fuel arguments) e = start_call_within g q target method fuel arguments e
@@ -87,8 +90,8 @@ go_within {n} {s} g p e = some_within (find (ParkedFrames.is_parked_at p.conn p.
     let rows : List ParkedFrame = filter (λ r. not (ParkedFrames.is_parked_at p.conn p.number r)) s.parked in
     let m : ℕ = units (record s { parked = rows }) in
     let self : m ≤ m = omega arith in
-    let out : Within (m + parked_units q) (drop_ids q.references (ParkedFrames.go_frame g q q.frame (ParkedFrames.take_parked p s))) = drop_within q.references (go_frame_within {n = m} g q q.frame (record { bound = self })) in
-    let bound : units (drop_ids q.references (ParkedFrames.go_frame g q q.frame (ParkedFrames.take_parked p s))) ≤ m + parked_units q = out.bound in
+    let out : Within (m + parked_units q) (ParkedFrames.let_go_parked p s.parked (ParkedFrames.go_frame g q q.frame (ParkedFrames.take_parked p s))) = let_go_within p s.parked (go_frame_within {n = m} g q q.frame (record { bound = self })) in
+    let bound : units (ParkedFrames.let_go_parked p s.parked (ParkedFrames.go_frame g q q.frame (ParkedFrames.take_parked p s))) ≤ m + parked_units q = out.bound in
     record { bound = omega arith })
 
 pub go_all_within : {n : ℕ} {s : State} (g : Setting) → Within n s → Within n (ParkedFrames.go_all g s)
@@ -112,7 +115,7 @@ fail_frame_within g p (ReturnedFrame value fuel) e = plus-zero (answer_parked_wi
 
 pub fail_parked_within : {n : ℕ} {s : State} (g : Setting) (p : ParkedFrame) → Within n s → Within n (ParkedFrames.fail_parked g s p)
 unfolding ParkedFrames.fail_parked
-fail_parked_within g p e = fail_frame_within g p p.frame (drop_within p.references (take_within p e))
+fail_parked_within g p e = fail_frame_within g p p.frame (let_go_within p _ (take_within p e))
 
 pub fail_dirty_within : {n : ℕ} {s : State} (g : Setting) (call : ℕ) (id : ForeignId) → Within n s → Within n (Endings.fail_dirty g call s id)
 unfolding Endings.fail_dirty
@@ -147,7 +150,7 @@ end_requests_within g is why e =
 pub end_connection_within : {n : ℕ} {s : State} (g : Setting) (why : Asked → ClassId) (conn : ℕ) → Within n s → Within n (Endings.end_connection g why conn s)
 unfolding Endings.end_connection
 end_connection_within {n} {s} g why conn e = some_within (connection_at s conn) _ e (λ c is. end_requests_within g _ why
-    (each_same _ _ (λ t p h. drop_within p.references (take_within p h)) (record { bound = e.bound })))
+    (each_same _ _ (λ t p h. let_go_within p t.parked (take_within p h)) (record { bound = e.bound })))
 
 pub close_within : {n : ℕ} {s : State} (g : Setting) (class : ClassId) (conn : ℕ) → Within n s → Within n (Endings.close g class conn s)
 unfolding Endings.close

@@ -12,7 +12,7 @@ use Rattle.space_ids.specs.declared.ids.ObjId.{ObjId}
 use Rattle.space_ids.specs.declared.value.Value.{Value}
 use Rattle.sp_rules.specs.Behaviours.{Behaviour, Plain, Asks, Ends, Over, Outcome, Returned, Threw, Spent, Op, Create, Get, Put, Call, Reply, Gives, GivesBack, Throws, RunsOut}
 use Rattle.sp_rules.specs.Classes.{Setting}
-use Rattle.sp_rules.specs.Events.{Output, Started, Ended, Dial, Ready, Place, Waited, Says, Sends}
+use Rattle.sp_rules.specs.Events.{Output, Started, Ended, Dial, Ready, Turn, Waited, Says, Sends}
 use Rattle.sp_rules.specs.Fuel.{units, task_units, message_units, asked_units, request_units, parked_units, output_units, note_units, fresh_units, in_stage}
 use Rattle.sp_rules.specs.Holders.{hold_ids, drop_ids}
 use Rattle.sp_rules.specs.Lists.{each, with_some, at_first, total}
@@ -61,11 +61,11 @@ say_within {n} {s} o e =
     let q : total note_units (s.notes ++ Says o ∷ []) ≡ total note_units s.notes + output_units o = total-snoc note_units s.notes (Says o) in
     record { bound = omega arith }
 
-pub send_within : {n : ℕ} {s : State} (place : Place) (conn : ℕ) (m : Message) → Within n s → Within (n + message_units m) (send place conn m s)
+pub send_within : {n : ℕ} {s : State} (turn : Turn) (conn : ℕ) (m : Message) → Within n s → Within (n + message_units m) (send turn conn m s)
 unfolding send
-send_within {n} {s} place conn m e =
+send_within {n} {s} turn conn m e =
     let b : units s ≤ n = e.bound in
-    let q : total note_units (s.notes ++ Sends place conn m ∷ []) ≡ total note_units s.notes + message_units m = total-snoc note_units s.notes (Sends place conn m) in
+    let q : total note_units (s.notes ++ Sends turn conn m ∷ []) ≡ total note_units s.notes + message_units m = total-snoc note_units s.notes (Sends turn conn m) in
     if_within (is_open s conn) (record { bound = omega arith }) (more (message_units m) e)
 
 pub hold_within : {n : ℕ} {s : State} (refs : List ForeignId) → Within n s → Within n (hold_ids refs s)
@@ -92,23 +92,23 @@ pub group_units : (kind : Due) (sequence : ℕ) (ids : List ObjId) → message_u
 group_units due.Dirty sequence ids = refl
 group_units (due.Clean strong) sequence ids = refl
 
-pub send_nothing : {n : ℕ} {s : State} (place : Place) (conn : ℕ) (m : Message) → message_units m ≡ 0 → Within n s → Within n (send place conn m s)
-send_nothing {n} {s} place conn m z e =
-    let b : units (send place conn m s) ≤ n + message_units m = (send_within place conn m e).bound in record { bound = omega arith }
+pub send_nothing : {n : ℕ} {s : State} (turn : Turn) (conn : ℕ) (m : Message) → message_units m ≡ 0 → Within n s → Within n (send turn conn m s)
+send_nothing {n} {s} turn conn m z e =
+    let b : units (send turn conn m s) ≤ n + message_units m = (send_within turn conn m e).bound in record { bound = omega arith }
 
-pub part_within : {n : ℕ} {s : State} (place : Place) (conn call : ℕ) (part : Group) → Within n s → Within n (Requests.part_goes_out place conn call s part)
+pub part_within : {n : ℕ} {s : State} (turn : Turn) (conn call : ℕ) (part : Group) → Within n s → Within n (Requests.part_goes_out turn conn call s part)
 unfolding Requests.part_goes_out
-part_within {n} place conn call part e =
-    send_nothing place conn _ (group_units part.kind _ part.ids) (plus-zero (add_within {n = n} _ (record { bound = e.bound })))
+part_within {n} turn conn call part e =
+    send_nothing turn conn _ (group_units part.kind _ part.ids) (plus-zero (add_within {n = n} _ (record { bound = e.bound })))
 
-pub goes_within : {n : ℕ} {s : State} (place : Place) (conn : ℕ) (peer : Uuid) (a : Asked) → Within n s → Within (n + asked_units a) (goes_out place conn peer a s)
-goes_within place conn peer (Calls number task lent kind m) e = send_within place conn m (plus-zero (add_within _ e))
-goes_within place conn peer (LooksUp number task name) e = more 0 (send_nothing place conn _ refl (plus-zero (add_within _ e)))
-goes_within place conn peer (Tells call group) e = more 0 (each_same _ _ (λ t part h. part_within place conn call part h) e)
+pub goes_within : {n : ℕ} {s : State} (turn : Turn) (conn : ℕ) (peer : Uuid) (a : Asked) → Within n s → Within (n + asked_units a) (goes_out turn conn peer a s)
+goes_within turn conn peer (Calls number task lent kind m) e = send_within turn conn m (plus-zero (add_within _ e))
+goes_within turn conn peer (LooksUp number task name) e = more 0 (send_nothing turn conn _ refl (plus-zero (add_within _ e)))
+goes_within turn conn peer (Tells call group) e = more 0 (each_same _ _ (λ t part h. part_within turn conn call part h) e)
 
-pub go_out_within : {n : ℕ} {s : State} (place : Place) (conn : ℕ) (q : Request) → Within n s → Within (n + asked_units q.asked) (go_out place conn q s)
+pub go_out_within : {n : ℕ} {s : State} (turn : Turn) (conn : ℕ) (q : Request) → Within n s → Within (n + asked_units q.asked) (go_out turn conn q s)
 unfolding go_out
-go_out_within place conn q e = goes_within place conn q.peer q.asked e
+go_out_within turn conn q e = goes_within turn conn q.peer q.asked e
 
 pub dial_within : {n : ℕ} {s : State} (peer : Uuid) → Within n s → Within n (dial peer s)
 unfolding dial

@@ -12,7 +12,7 @@ use Rattle.uuid.specs.declared.Uuid.{Uuid}
 use Rattle.sp_rules.proofs.AllLemmas.{some-none, or-left, or-right, all-weaken, all-filter, all-map, all-more, all-both-filter, none-found, found-is}
 use Rattle.sp_rules.proofs.OwnLemmas.{some-same}
 use Rattle.sp_rules.specs.Classes.{Setting}
-use Rattle.sp_rules.specs.Events.{Place}
+use Rattle.sp_rules.specs.Events.{Turn}
 use Rattle.sp_rules.specs.Holders
 use Rattle.sp_rules.specs.Holders.{hold_ids, drop_ids}
 use Rattle.sp_rules.specs.Laws.{AllOf}
@@ -68,9 +68,9 @@ unfolding each
 each_lines f [] k h = h
 each_lines {s = s} f (x ∷ xs) k h = each_lines f xs k (k s x h)
 
-pub send_lines : {g : Setting} {skip : Request → Bool} {s : State} (place : Place) (conn : ℕ) (m : Message) → Lines g skip s → Lines g skip (send place conn m s)
+pub send_lines : {g : Setting} {skip : Request → Bool} {s : State} (turn : Turn) (conn : ℕ) (m : Message) → Lines g skip s → Lines g skip (send turn conn m s)
 unfolding send
-send_lines {s = s} place conn m h = if_lines (is_open s conn) (quiet _ refl h) h
+send_lines {s = s} turn conn m h = if_lines (is_open s conn) (quiet _ refl h) h
 
 pub hold_lines : {g : Setting} {skip : Request → Bool} {s : State} (ids : List ForeignId) → Lines g skip s → Lines g skip (hold_ids ids s)
 unfolding hold_ids

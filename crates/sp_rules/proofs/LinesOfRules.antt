@@ -29,7 +29,7 @@ use Rattle.sp_rules.proofs.OwnLemmas.{unrefused, some-same}
 use Rattle.sp_rules.specs.Behaviours.{Outcome, Returned, Threw, Spent, Op, Create, Get, Put, Call, Reply, Throws}
 use Rattle.sp_rules.specs.Classes.{Setting, fit_kinds}
 use Rattle.sp_rules.specs.Endings
-use Rattle.sp_rules.specs.Events.{Started, Ended, Dial, Ready, Note, Says, Sends, Place, output_of, Event, Moment, Sweep, Root, RootAck, Bind, Rebind, Unbind, Lookup, Opened, Refused, Received, Closed, ReadFailed, Bad, WriteFailed, Committed, Parked, GivenBack, Finished, Output, Withdrawn, Denied, Send, Close, in_order, ranks}
+use Rattle.sp_rules.specs.Events.{Started, Ended, Dial, Ready, Note, Says, Sends, Turn, output_of, Event, Moment, Sweep, Root, RootAck, Bind, Rebind, Unbind, Lookup, Opened, Refused, Received, Closed, ReadFailed, Bad, WriteFailed, Committed, Parked, GivenBack, Finished, Output, Withdrawn, Denied, Send, Close, in_order, ranks}
 use Rattle.sp_rules.specs.Frames
 use Rattle.sp_rules.specs.Holders
 use Rattle.sp_rules.specs.Holders.{hold_ids, drop_ids}
@@ -69,18 +69,18 @@ now_requests rs a h = record { parts = record { numbers = h.parts.numbers; conne
 fewer_lines : {g : Setting} {skip : Request → Bool} {s : State} (is : Request → Bool) → Lines g skip s → Lines g skip (record s { requests = filter is s.requests })
 fewer_lines {g} {skip} {s} is h = now_requests _ (all-filter (λ q. skip q ≡ false → WaitsForHello s.connections s.dialling q) is s.requests h.parts.waiting) h
 
-part_lines : {g : Setting} {skip : Request → Bool} {s : State} (place : Place) (conn call : ℕ) (part : Group) → Lines g skip s → Lines g skip (Requests.part_goes_out place conn call s part)
+part_lines : {g : Setting} {skip : Request → Bool} {s : State} (turn : Turn) (conn call : ℕ) (part : Group) → Lines g skip s → Lines g skip (Requests.part_goes_out turn conn call s part)
 unfolding Requests.part_goes_out
-part_lines {s = s} place conn call part h = send_lines place conn _ (add_lines _ refl (quiet (record s { leases = client.sent part call s.leases }) refl h))
+part_lines {s = s} turn conn call part h = send_lines turn conn _ (add_lines _ refl (quiet (record s { leases = client.sent part call s.leases }) refl h))
 
-go_out_lines : {g : Setting} {skip : Request → Bool} {s : State} (place : Place) (conn : ℕ) (r : Request) → Lines g skip s → Lines g skip (Requests.go_out place conn r s)
+go_out_lines : {g : Setting} {skip : Request → Bool} {s : State} (turn : Turn) (conn : ℕ) (r : Request) → Lines g skip s → Lines g skip (Requests.go_out turn conn r s)
 unfolding Requests.go_out
-go_out_lines {g} {skip} {s = s} place conn r h = goes r.asked
+go_out_lines {g} {skip} {s = s} turn conn r h = goes r.asked
   where
-    goes : (asked : Asked) → Lines g skip (Requests.goes_out place conn r.peer asked s)
-    goes (Calls number task lent kind m) = send_lines place conn m (add_lines _ refl h)
-    goes (LooksUp number task name) = send_lines place conn _ (add_lines _ refl h)
-    goes (Tells call group) = each_lines _ _ (λ t part k. part_lines place conn call part k) h
+    goes : (asked : Asked) → Lines g skip (Requests.goes_out turn conn r.peer asked s)
+    goes (Calls number task lent kind m) = send_lines turn conn m (add_lines _ refl h)
+    goes (LooksUp number task name) = send_lines turn conn _ (add_lines _ refl h)
+    goes (Tells call group) = each_lines _ _ (λ t part k. part_lines turn conn call part k) h
 
 -- what is asked of a peer whose Hello has not come waits, and the peer is dialled
 dial_lines : {g : Setting} {skip : Request → Bool} {s : State} (r : Request) → Requests.hello_came (connection_to s r.peer) ≡ None → Lines g skip s → Lines g skip (Requests.dial r.peer (Requests.add_request r s))
@@ -119,7 +119,7 @@ ask_lines : {g : Setting} {skip : Request → Bool} {s : State} (r : Request) �
 unfolding Requests.ask
 ask_lines {g} {skip} {s = s} r h = pick (Requests.hello_came (connection_to s r.peer)) refl
   where
-    pick : (o : Option ℕ) → Requests.hello_came (connection_to s r.peer) ≡ o → Lines g skip (with_some o (Requests.dial r.peer (Requests.add_request r s)) (λ conn. Requests.go_out (Requests.place_asked r.asked) conn r s))
+    pick : (o : Option ℕ) → Requests.hello_came (connection_to s r.peer) ≡ o → Lines g skip (with_some o (Requests.dial r.peer (Requests.add_request r s)) (λ conn. Requests.go_out (Requests.turn_asked r.asked) conn r s))
     pick None e = dial_lines r e h
     pick (Some conn) e = go_out_lines _ conn r h
 
@@ -218,9 +218,12 @@ answer_parked_lines : {g : Setting} {skip : Request → Bool} {s : State} (p : P
 unfolding ParkedFrames.answer_parked
 answer_parked_lines {s = s} p reply h = some_lines (find (ParkedFrames.is_call_on p.conn p.number) s.requests) _ h (λ r is. reply_to_lines r.asked reply (send_lines _ p.conn _ (fewer_lines _ h)))
 
+let_go_lines : {g : Setting} {skip : Request → Bool} {s : State} (p : ParkedFrame) (parked : List ParkedFrame) → Lines g skip s → Lines g skip (ParkedFrames.let_go_parked p parked s)
+let_go_lines p parked h = each_lines _ (filter (ParkedFrames.is_parked_at p.conn p.number) parked) (λ t q k. drop_lines q.references k) h
+
 go_lines : {g : Setting} {skip : Request → Bool} {s : State} (p : ParkedFrame) → Lines g skip s → Lines g skip (ParkedFrames.go g s p)
 unfolding ParkedFrames.go
-go_lines {g} {skip} {s = s} p h = some_lines (find (ParkedFrames.is_parked_at p.conn p.number) s.parked) _ h (λ q is. drop_lines q.references (frame q q.frame (quiet _ refl h)))
+go_lines {g} {skip} {s = s} p h = some_lines (find (ParkedFrames.is_parked_at p.conn p.number) s.parked) _ h (λ q is. let_go_lines p s.parked (frame q q.frame (quiet _ refl h)))
   where
     frame : (q : ParkedFrame) (f : Frame) {t : State} → Lines g skip t → Lines g skip (ParkedFrames.go_frame g q f t)
     frame q (CallFrame target method fuel arguments) k = start_call_lines q target method fuel arguments k
@@ -236,7 +239,7 @@ park_frame_lines conn number f references h = go_all_lines (hold_lines reference
 
 fail_parked_lines : {g : Setting} {skip : Request → Bool} {s : State} (p : ParkedFrame) → Lines g skip s → Lines g skip (ParkedFrames.fail_parked g s p)
 unfolding ParkedFrames.fail_parked
-fail_parked_lines {g} {skip} {s = s} p h = frame p.frame (drop_lines p.references (quiet _ refl h))
+fail_parked_lines {g} {skip} {s = s} p h = frame p.frame (let_go_lines p s.parked (quiet _ refl h))
   where
     frame : (f : Frame) {t : State} → Lines g skip t → Lines g skip (ParkedFrames.fail_frame g p f t)
     frame (CallFrame target method fuel arguments) k = send_lines _ p.conn _ k
@@ -282,7 +285,7 @@ waits-elsewhere conn (Some peer) r e waits = other-way r.peer peer (pick (bytes_
 
 end_connection_lines : {g : Setting} {s : State} (why : Asked → ClassId) (conn : ℕ) → Lines g none s → Lines g none (Endings.end_connection g why conn s)
 unfolding Endings.end_connection
-end_connection_lines {g} {s = s} why conn h = some_lines (connection_at s conn) _ h (λ c is. end_requests_lines (Endings.is_of_connection conn c.dialled) why (each_lines _ _ (λ t p k. drop_lines p.references (quiet _ refl k)) (without c is)))
+end_connection_lines {g} {s = s} why conn h = some_lines (connection_at s conn) _ h (λ c is. end_requests_lines (Endings.is_of_connection conn c.dialled) why (each_lines _ _ (λ t p k. let_go_lines p t.parked (quiet _ refl k)) (without c is)))
   where
     without : (c : Connection) → connection_at s conn ≡ Some c → Lines g (Endings.is_of_connection conn c.dialled) (Endings.without_connection conn s)
     without c is = record {

@@ -16,7 +16,7 @@ use Rattle.space_ids.specs.declared.value.Value.{Value}
 use Rattle.space_ids.specs.declared.value.Value.TheVariants as values
 use Rattle.sp_rules.specs.Behaviours.{Outcome, Returned, Threw, Spent, Op, Create, Get, Put, Call, Reply, Gives, GivesBack, Throws, RunsOut}
 use Rattle.sp_rules.specs.Classes.{Setting, Kind, IntKind, IntArrayKind, ReferenceKind, VoidKind, blank, field_kind}
-use Rattle.sp_rules.specs.Events.{Started, Ended, Dial, Ready, Note, Says, Sends, Place, output_of}
+use Rattle.sp_rules.specs.Events.{Started, Ended, Dial, Ready, Note, Says, Sends, Turn, output_of}
 use Rattle.sp_rules.specs.Holders
 use Rattle.sp_rules.specs.Holders.{hold_ids, drop_ids}
 use Rattle.sp_rules.specs.Laws.{AllOf}
@@ -130,9 +130,9 @@ each_with {s = s} Q f (x ∷ xs) a k h = each_with Q f xs a.1 k (k s x a.0 h)
 pub note_only : {g : Setting} {Is Out : Ref → Type 0} {Kept : ParkedFrame → Type 0} {s : State} (n : Note) → NoteIs Out n → Only g Is Out Kept s → Only g Is Out Kept (record s { notes = s.notes ++ n ∷ [] })
 note_only {Out = Out} {s = s} n a h = now_notes _ (all-more (NoteIs Out) s.notes n h.parts.notes a) h
 
-pub send_only : {g : Setting} {Is Out : Ref → Type 0} {Kept : ParkedFrame → Type 0} {s : State} (place : Place) (conn : ℕ) (m : Message) → AllOf Out (references_of_message m) → Only g Is Out Kept s → Only g Is Out Kept (send place conn m s)
+pub send_only : {g : Setting} {Is Out : Ref → Type 0} {Kept : ParkedFrame → Type 0} {s : State} (turn : Turn) (conn : ℕ) (m : Message) → AllOf Out (references_of_message m) → Only g Is Out Kept s → Only g Is Out Kept (send turn conn m s)
 unfolding send
-send_only {s = s} place conn m a h = if_only (is_open s conn) (note_only (Sends place conn m) a h) h
+send_only {s = s} turn conn m a h = if_only (is_open s conn) (note_only (Sends turn conn m) a h) h
 
 pub hold_only : {g : Setting} {Is Out : Ref → Type 0} {Kept : ParkedFrame → Type 0} {s : State} (ids : List ForeignId) → Only g Is Out Kept s → Only g Is Out Kept (hold_ids ids s)
 unfolding hold_ids
@@ -151,19 +151,19 @@ pub group-has-none : (Out : Ref → Type 0) (kind : Due) (sequence : ℕ) (ids :
 group-has-none Out due.Dirty sequence ids = tt
 group-has-none Out (due.Clean strong) sequence ids = tt
 
-pub part_only : {g : Setting} {Is Out : Ref → Type 0} {Kept : ParkedFrame → Type 0} {s : State} (place : Place) (conn call : ℕ) (part : Group) → Only g Is Out Kept s → Only g Is Out Kept (Requests.part_goes_out place conn call s part)
+pub part_only : {g : Setting} {Is Out : Ref → Type 0} {Kept : ParkedFrame → Type 0} {s : State} (turn : Turn) (conn call : ℕ) (part : Group) → Only g Is Out Kept s → Only g Is Out Kept (Requests.part_goes_out turn conn call s part)
 unfolding Requests.part_goes_out
-part_only {Out = Out} {s = s} place conn call part h =
-    send_only place conn _ (group-has-none Out part.kind (client.numbers_of s.leases + 1) part.ids) (add_only _ tt (quiet (record s { leases = client.sent part call s.leases }) refl h))
+part_only {Out = Out} {s = s} turn conn call part h =
+    send_only turn conn _ (group-has-none Out part.kind (client.numbers_of s.leases + 1) part.ids) (add_only _ tt (quiet (record s { leases = client.sent part call s.leases }) refl h))
 
-pub go_out_only : {g : Setting} {Is Out : Ref → Type 0} {Kept : ParkedFrame → Type 0} {s : State} (place : Place) (conn : ℕ) (r : Request) → AskedIs Out r → Only g Is Out Kept s → Only g Is Out Kept (Requests.go_out place conn r s)
+pub go_out_only : {g : Setting} {Is Out : Ref → Type 0} {Kept : ParkedFrame → Type 0} {s : State} (turn : Turn) (conn : ℕ) (r : Request) → AskedIs Out r → Only g Is Out Kept s → Only g Is Out Kept (Requests.go_out turn conn r s)
 unfolding Requests.go_out
-go_out_only {g} {Is} {Out} {Kept} {s = s} place conn r a h = goes r.asked a
+go_out_only {g} {Is} {Out} {Kept} {s = s} turn conn r a h = goes r.asked a
   where
-    goes : (asked : Asked) → AllOf Out (references_of_asked asked) → Only g Is Out Kept (Requests.goes_out place conn r.peer asked s)
-    goes (Calls number task lent kind m) b = send_only place conn m b (add_only _ b h)
-    goes (LooksUp number task name) b = send_only place conn _ tt (add_only _ tt h)
-    goes (Tells call group) b = each_only _ _ (λ t part k. part_only place conn call part k) h
+    goes : (asked : Asked) → AllOf Out (references_of_asked asked) → Only g Is Out Kept (Requests.goes_out turn conn r.peer asked s)
+    goes (Calls number task lent kind m) b = send_only turn conn m b (add_only _ b h)
+    goes (LooksUp number task name) b = send_only turn conn _ tt (add_only _ tt h)
+    goes (Tells call group) b = each_only _ _ (λ t part k. part_only turn conn call part k) h
 
 pub dial_only : {g : Setting} {Is Out : Ref → Type 0} {Kept : ParkedFrame → Type 0} {s : State} (peer : Uuid) → Only g Is Out Kept s → Only g Is Out Kept (Requests.dial peer s)
 unfolding Requests.dial

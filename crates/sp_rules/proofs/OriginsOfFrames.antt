@@ -26,7 +26,7 @@ use Rattle.space_ids.specs.declared.value.Value.TheVariants as values
 use Rattle.sp_rules.specs.Behaviours.{Reply, Throws}
 use Rattle.sp_rules.specs.Classes.{Setting, fit_kinds}
 use Rattle.sp_rules.specs.Endings
-use Rattle.sp_rules.specs.Events.{Event, Moment, Sweep, Root, RootAck, Bind, Rebind, Unbind, Lookup, Opened, Refused, Received, Closed, ReadFailed, Bad, WriteFailed, Committed, Parked, GivenBack, Finished, Output, Started, Ended, Withdrawn, Denied, Send, Dial, Close, Ready, Note, Says, Sends, Place, output_of, in_order, ranks}
+use Rattle.sp_rules.specs.Events.{Event, Moment, Sweep, Root, RootAck, Bind, Rebind, Unbind, Lookup, Opened, Refused, Received, Closed, ReadFailed, Bad, WriteFailed, Committed, Parked, GivenBack, Finished, Output, Started, Ended, Withdrawn, Denied, Send, Dial, Close, Ready, Note, Says, Sends, Turn, output_of, in_order, ranks}
 use Rattle.sp_rules.specs.Frames
 use Rattle.sp_rules.specs.Holders
 use Rattle.sp_rules.specs.Holders.{hold_ids, drop_ids}
@@ -106,6 +106,9 @@ take_only {g} {Is} {Out} {Kept} {s = s} p h = now_parked _ (all-filter (λ (q : 
 parked_weaken : {g : Setting} {Is Out : Ref → Type 0} {Kept Kept' : ParkedFrame → Type 0} {s : State} → ((p : ParkedFrame) → Kept p → Kept' p) → Only g Is Out Kept s → Only g Is Out Kept' s
 parked_weaken {Kept = Kept} {Kept' = Kept'} {s = s} f h = now_parked s.parked h.parts.parked (all-weaken Kept Kept' s.parked f h.parts.kept) h
 
+let_go_only : {g : Setting} {Is Out : Ref → Type 0} {Kept : ParkedFrame → Type 0} {s : State} (p : ParkedFrame) (parked : List ParkedFrame) → Only g Is Out Kept s → Only g Is Out Kept (ParkedFrames.let_go_parked p parked s)
+let_go_only p parked h = each_only _ (filter (ParkedFrames.is_parked_at p.conn p.number) parked) (λ t q k. drop_only q.references k) h
+
 -- a frame that goes is parked no more
 go_step : {g : Setting} {Is Out : Ref → Type 0} {Kept : ParkedFrame → Type 0} {s : State} (p : ParkedFrame) → Only g Is Out Kept s → Only g Is Out (λ q. Kept q × (IsAt p q ≡ false)) (ParkedFrames.go g s p)
 unfolding ParkedFrames.go
@@ -116,9 +119,9 @@ go_step {g} {Is} {Out} {Kept} {s = s} p h = pick (find (IsAt p) s.parked) refl
     frame q (ReturnedFrame value fuel) a k = answer_parked_only q _ a k
 
     pick : (found : Option ParkedFrame) → find (IsAt p) s.parked ≡ found
-        → Only g Is Out (λ q. Kept q × (IsAt p q ≡ false)) (with_some found s (λ q. drop_ids q.references (ParkedFrames.go_frame g q q.frame (ParkedFrames.take_parked p s))))
+        → Only g Is Out (λ q. Kept q × (IsAt p q ≡ false)) (with_some found s (λ q. ParkedFrames.let_go_parked p s.parked (ParkedFrames.go_frame g q q.frame (ParkedFrames.take_parked p s))))
     pick None e = now_parked s.parked h.parts.parked (all-with Kept (λ q. IsAt p q ≡ false) (λ q. Kept q × (IsAt p q ≡ false)) s.parked (λ q a b. (a, b)) h.parts.kept (none-found (IsAt p) s.parked e)) h
-    pick (Some q) e = drop_only q.references (frame q q.frame (all-found (λ (x : ParkedFrame). FrameIs g Is x.frame) (IsAt p) s.parked q e h.parts.parked) (take_only p h))
+    pick (Some q) e = let_go_only p s.parked (frame q q.frame (all-found (λ (x : ParkedFrame). FrameIs g Is x.frame) (IsAt p) s.parked q e h.parts.parked) (take_only p h))
 
 go_only : {g : Setting} {Is Out : Ref → Type 0} {Kept : ParkedFrame → Type 0} {s : State} (p : ParkedFrame) → Only g Is Out Kept s → Only g Is Out Kept (ParkedFrames.go g s p)
 go_only p h = parked_weaken (λ q k. k.0) (go_step p h)
@@ -173,7 +176,7 @@ park_frame_only {g} {Is} {Out} {Kept} {s = s} conn number f references a waits h
 
 fail_parked_only : {g : Setting} {Is Out : Ref → Type 0} {Kept : ParkedFrame → Type 0} {s : State} (p : ParkedFrame) → Only g Is Out Kept s → Only g Is Out Kept (ParkedFrames.fail_parked g s p)
 unfolding ParkedFrames.fail_parked
-fail_parked_only {g} {Is} {Out} {Kept} {s = s} p h = frame p.frame (drop_only p.references (parked_weaken (λ q j. j.0) (take_only p h)))
+fail_parked_only {g} {Is} {Out} {Kept} {s = s} p h = frame p.frame (let_go_only p s.parked (parked_weaken (λ q j. j.0) (take_only p h)))
   where
     frame : (f : Frame) {t : State} → Only g Is Out Kept t → Only g Is Out Kept (ParkedFrames.fail_frame g p f t)
     frame (CallFrame target method fuel arguments) k = threw_only p.conn p.number _ k
@@ -204,7 +207,7 @@ end_requests_only {Out = Out} {s = s} is why h =
 abbrev row_of : Until → Option Value → KeptResult
 row_of until value = record { until = until; value = value }
 
-orphan-value : (conn moment : ℕ) (k : KeptResult) → (Endings.orphan conn moment k).value ≡ k.value
+pub orphan-value : (conn moment : ℕ) (k : KeptResult) → (Endings.orphan conn moment k).value ≡ k.value
 orphan-value conn moment k = by k.until k.value
   where
     by : (until : Until) (value : Option Value) → (Endings.orphan conn moment (row_of until value)).value ≡ value
@@ -219,7 +222,7 @@ orphan-value conn moment k = by k.until k.value
 end_connection_only : {g : Setting} {Is Out : Ref → Type 0} {Kept : ParkedFrame → Type 0} {s : State} (why : Asked → ClassId) (conn : ℕ) → Only g Is Out Kept s → Only g Is Out Kept (Endings.end_connection g why conn s)
 unfolding Endings.end_connection
 end_connection_only {g} {Is} {s = s} why conn h = some_only (connection_at s conn) _ h (λ c is. end_requests_only _ why
-    (each_only _ _ (λ t p k. drop_only p.references (parked_weaken (λ q j. j.0) (take_only p k))) (quiet (Endings.without_connection conn s) refl
+    (each_only _ _ (λ t p k. let_go_only p t.parked (parked_weaken (λ q j. j.0) (take_only p k))) (quiet (Endings.without_connection conn s) refl
     (now_results (map (Endings.orphan conn s.moment) s.results) (all-map (λ (k : KeptResult). AllOf Is (references_in k.value)) (λ (k : KeptResult). AllOf Is (references_in k.value)) (Endings.orphan conn s.moment) s.results
     (λ k a. subst (λ v. AllOf Is (references_in v)) (sym (orphan-value conn s.moment k)) a) h.parts.results) h))))
 

@@ -18,11 +18,11 @@ use Rattle.sp_rules.specs.Behaviours.{Outcome, Op, Create, Get, Put, Call}
 use Rattle.sp_rules.specs.Classes.{Setting, field_kind}
 use Rattle.sp_rules.specs.Events.{Event, Moment, Sweep, Root, RootAck, Bind, Rebind, Unbind, Lookup, Opened, Refused, Received, Closed, ReadFailed, Bad, WriteFailed, Committed, Parked, GivenBack, Finished, output_of}
 use Rattle.sp_rules.specs.Holders
-use Rattle.sp_rules.specs.Holders.{has_reason, class_is, fields_of}
+use Rattle.sp_rules.specs.Holders.{has_reason, has_holder, class_is, fields_of, references_of_frame}
 use Rattle.sp_rules.specs.Laws.{AllOf, IsOne, RisesWithin, is_sweep, stands}
 use Rattle.sp_rules.specs.Lists.{numbers_below, with_some}
 use Rattle.sp_rules.specs.LivingTasks
-use Rattle.sp_rules.specs.Origins.{references_of_message, references_of_frame, references_of_asked, references_of_output, own_reference, IsTaken, HasTaken, HistoriesAreTaken, IsRight, TargetStands, OwnStand, OwnReferencesStand}
+use Rattle.sp_rules.specs.Origins.{references_of_message, references_of_asked, references_of_output, own_reference, IsTaken, HasTaken, HistoriesAreTaken, IsRight, TargetStands, OwnStand, OwnReferencesStand}
 use Rattle.sp_rules.specs.OwnEvents
 use Rattle.sp_rules.specs.References.{references_of, references_in, reference_of, own_ids, own_id, foreign_ids, is_same_reference, is_reference_in, is_id, is_id_in}
 use Rattle.sp_rules.specs.Refusals
@@ -50,26 +50,26 @@ pub unrefused : (g : Setting) (lent : List ℕ) (s : State) (e : Event) → refu
 unfolding refusal
 unrefused g lent s e h = (if-none (Refusals.is_worn s && not (Refusals.is_give_back e)) WornOut _ h).1
 
-later : (xs ys : List Check) → first_refusal (xs ++ ys) ≡ None → first_refusal ys ≡ None
+pub later : (xs ys : List Check) → first_refusal (xs ++ ys) ≡ None → first_refusal ys ≡ None
 later [] ys e = e
 later (c ∷ xs) ys e = later xs ys (if-none c.fails c.refusal _ e).1
 
-first-of : (b : Bool) (x : Refusal) (rest : List Check) → first_refusal (Refusals.refuse_if b x ++ rest) ≡ None → (b ≡ false) × (first_refusal rest ≡ None)
+pub first-of : (b : Bool) (x : Refusal) (rest : List Check) → first_refusal (Refusals.refuse_if b x ++ rest) ≡ None → (b ≡ false) × (first_refusal rest ≡ None)
 first-of b x rest e = if-none b x (first_refusal rest) e
 
-not-false : (b : Bool) → not b ≡ false → b ≡ true
+pub not-false : (b : Bool) → not b ≡ false → b ≡ true
 not-false true e = refl
 not-false false e = absurd (true≢false e)
 
-and-left : (a b : Bool) → a && b ≡ true → a ≡ true
+pub and-left : (a b : Bool) → a && b ≡ true → a ≡ true
 and-left true b e = refl
 and-left false b e = absurd (true≢false (sym e))
 
-and-right : (a b : Bool) → a && b ≡ true → b ≡ true
+pub and-right : (a b : Bool) → a && b ≡ true → b ≡ true
 and-right true b e = e
 and-right false b e = absurd (true≢false (sym e))
 
-has-some : {A : Type 0} (o : Option A) → is_some o ≡ true → (x : A) × (o ≡ Some x)
+pub has-some : {A : Type 0} (o : Option A) → is_some o ≡ true → (x : A) × (o ≡ Some x)
 has-some None e = absurd (true≢false (sym e))
 has-some (Some x) e = (x, refl)
 
@@ -329,7 +329,7 @@ brought-names g s r e own = own-names g s r (pick (not (g.classes.is_remote r.cl
 pub root-names : (g : Setting) (s : State) (r : Ref) → Refusals.is_root_argument g s r ≡ true → Names g (standing s.store) r
 root-names g s r e own = own-names g s r (pick (bytes_eq r.space g.id) own e)
   where
-    pick : (b : Bool) → b ≡ true → (if b then Holders.is_own_standing g s r else Rattle.std.specs.Prelude.nat_lt 0 (Holders.lease_now s (record { space = r.space; id = r.id })).holders && is_some (Holders.lease_now s (record { space = r.space; id = r.id })).lease) ≡ true → Holders.is_own_standing g s r ≡ true
+    pick : (b : Bool) → b ≡ true → (if b then Holders.is_own_standing g s r else has_holder g s r && is_some (Holders.lease_now s (record { space = r.space; id = r.id })).lease) ≡ true → Holders.is_own_standing g s r ≡ true
     pick true t f = f
     pick false t f = absurd (true≢false (sym t))
 
@@ -374,7 +374,7 @@ own-events g lent s (Parked task k) r lift = tt
 own-events g lent s (GivenBack task k) r lift = tt
 own-events g lent s (Finished task k) r lift = tt
 
-abbrev OwnOnly : Setting → State → Type 0
+abbrev pub OwnOnly : Setting → State → Type 0
 OwnOnly g s = Only g (Names g (standing s.store)) Any (Waits g) s
 
 no-sweep-keeps : (g : Setting) (lent : List ℕ) (s : State) (e : Event) → is_sweep e ≡ false → refusal g lent s e ≡ None → OwnOnly g s → OwnOnly g (Space.on g e s).0
@@ -401,7 +401,7 @@ one-filter is o (p ∷ os) t (inr one) = pick (is p.id) (one-filter is o os t on
     pick true r = inr r
     pick false r = r
 
-same-id : (a : ObjId) → is_id a a ≡ true
+pub same-id : (a : ObjId) → is_id a a ≡ true
 same-id a = eq-eqb a.0 a.0 refl
 
 in-append : (id : ObjId) (xs ys : List ObjId) → is_id_in ys id ≡ true → is_id_in (xs ++ ys) id ≡ true
@@ -610,7 +610,7 @@ own-keeps g lent s (Parked task k) t h = no-sweep-keeps g lent s (Parked task k)
 own-keeps g lent s (GivenBack task k) t h = no-sweep-keeps g lent s (GivenBack task k) refl t h
 own-keeps g lent s (Finished task k) t h = no-sweep-keeps g lent s (Finished task k) refl t h
 
-own-only : (g : Setting) (h : List Event) → IsTaken g h → OwnOnly g (Space.state_of g h)
+pub own-only : (g : Setting) (h : List Event) → IsTaken g h → OwnOnly g (Space.state_of g h)
 unfolding Space.state_of opening
 own-only g [] t = record {
   parts = record {
@@ -630,7 +630,7 @@ own-only g [] t = record {
 }
 own-only g (e ∷ h) t = own-keeps g t.0.0 (Space.state_of g h) e t.0.1 (own-only g h t.1)
 
-fresh-of : (g : Setting) (h : List Event) → Fresh (Space.state_of g h)
+pub fresh-of : (g : Setting) (h : List Event) → Fresh (Space.state_of g h)
 unfolding Space.state_of opening
 fresh-of g [] = (omega arith, omega arith)
 fresh-of g (e ∷ h) = fresh_after g (Space.state_of g h) e (fresh-of g h)
@@ -731,3 +731,41 @@ pub histories_are_taken : HistoriesAreTaken
 unfolding Space.state_of
 histories_are_taken settings events = all-weaken TakenSpace HasTaken _ (λ s h. h.1)
     (all_hold {P = TakenSpace} (record { grows = λ e s lent t h. (ap (λ u. (Space.on s.setting e u).0) h.0, ((lent, subst (λ u. refusal s.setting lent u e ≡ None) h.0 t), h.1)) }) (λ g. (refl, tt)) settings events)
+
+-- ---- what has a holder
+
+any-one : {A : Type 0} (Is : Ref → Type 0) (of : A → List Ref) (xs : List A) (r : Ref) → AllOf (λ x. AllOf Is (of x)) xs → list_any (λ x. is_reference_in (of x) r) xs ≡ true → Is r
+any-one Is of [] r a e = absurd (true≢false (sym e))
+any-one Is of (x ∷ xs) r a e = pick (is_reference_in (of x) r) refl e (any-one Is of xs r a.1)
+  where
+    pick : (b : Bool) → is_reference_in (of x) r ≡ b → b || list_any (λ y. is_reference_in (of y) r) xs ≡ true → (list_any (λ y. is_reference_in (of y) r) xs ≡ true → Is r) → Is r
+    pick true is f rest = held-one Is (of x) r a.0 is
+    pick false is f rest = rest f
+
+pub frame-only : (g : Setting) (Is : Ref → Type 0) (x : Frame) → FrameIs g Is x → AllOf Is (references_of_frame x)
+frame-only g Is (CallFrame target method fuel arguments) a = a.1
+frame-only g Is (ReturnedFrame value fuel) a = a
+
+one-of-four : {C : Type 0} (a b c d : Bool) → a || (b || (c || d)) ≡ true → (a ≡ true → C) → (b ≡ true → C) → (c ≡ true → C) → (d ≡ true → C) → C
+one-of-four true b c d e f h k l = f refl
+one-of-four false true c d e f h k l = h refl
+one-of-four false false true d e f h k l = k refl
+one-of-four false false false d e f h k l = l e
+
+-- a reference that has a holder is of the kind of all that a space holds
+pub held-is : {g : Setting} {Is Out : Ref → Type 0} {Kept : ParkedFrame → Type 0} {s : State} (r : Ref) → has_holder g s r ≡ true → Only g Is Out Kept s → Is r
+held-is {g} {Is} {s = s} r e h =
+    one-of-four (list_any (λ (t : Living). is_reference_in t.task.held r) s.tasks) (list_any (λ o. is_reference_in (references_of (fields_of g s o)) r) (standing s.store))
+    (list_any (λ (k : KeptResult). is_reference_in (references_in k.value) r) s.results) (list_any (λ (p : ParkedFrame). is_reference_in (references_of_frame p.frame) r) s.parked) e
+    (any-one Is (λ (t : Living). t.task.held) s.tasks r h.parts.tasks)
+    (any-one Is (λ (o : Object). references_of (fields_of g s o)) (standing s.store) r (all-weaken (FieldsAre g Is s.store) (λ (o : Object). AllOf Is (references_of (fields_of g s o))) (standing s.store) (λ o a. fields-all Is g s o a) h.parts.fields))
+    (any-one Is (λ (k : KeptResult). references_in k.value) s.results r h.parts.results)
+    (any-one Is (λ (p : ParkedFrame). references_of_frame p.frame) s.parked r (all-weaken (λ (p : ParkedFrame). FrameIs g Is p.frame) (λ (p : ParkedFrame). AllOf Is (references_of_frame p.frame)) s.parked (λ p a. frame-only g Is p.frame a) h.parts.parked))
+
+-- a foreign reference of a root has a holder
+pub root-held : (g : Setting) (s : State) (r : Ref) → Refusals.is_root_argument g s r ≡ true → bytes_eq r.space g.id ≡ false → has_holder g s r ≡ true
+root-held g s r e foreign = pick (bytes_eq r.space g.id) foreign e
+  where
+    pick : (b : Bool) → b ≡ false → (if b then Holders.is_own_standing g s r else has_holder g s r && is_some (Holders.lease_now s (record { space = r.space; id = r.id })).lease) ≡ true → has_holder g s r ≡ true
+    pick true t f = absurd (true≢false t)
+    pick false t f = and-left (has_holder g s r) _ f

@@ -23,7 +23,7 @@ use Rattle.sp_rules.specs.Behaviours.{Outcome, Returned, Threw, Spent, Op, Creat
 use Rattle.sp_rules.specs.Classes
 use Rattle.sp_rules.specs.Classes.{Setting}
 use Rattle.sp_rules.specs.Endings
-use Rattle.sp_rules.specs.Events.{Event, Moment, Sweep, Root, RootAck, Bind, Rebind, Unbind, Lookup, Opened, Refused, Received, Closed, ReadFailed, Bad, WriteFailed, Committed, Parked, GivenBack, Finished, Output, Started, Ended, Withdrawn, Denied, Send, Dial, Close, Ready, Place}
+use Rattle.sp_rules.specs.Events.{Event, Moment, Sweep, Root, RootAck, Bind, Rebind, Unbind, Lookup, Opened, Refused, Received, Closed, ReadFailed, Bad, WriteFailed, Committed, Parked, GivenBack, Finished, Output, Started, Ended, Withdrawn, Denied, Send, Dial, Close, Ready, Turn}
 use Rattle.sp_rules.specs.Frames
 use Rattle.sp_rules.specs.Holders
 use Rattle.sp_rules.specs.Holders.{hold_ids, drop_ids}
@@ -111,9 +111,9 @@ unfolding each
 each_keeps F f [] h e = e
 each_keeps F {s = s} f (x ∷ xs) h e = each_keeps F f xs h (h s x e)
 
-pub send_keeps : {P : State → Type 0} (F : IsFramed P) {s : State} (place : Place) (conn : ℕ) (m : Message) → P s → P (send place conn m s)
+pub send_keeps : {P : State → Type 0} (F : IsFramed P) {s : State} (turn : Turn) (conn : ℕ) (m : Message) → P s → P (send turn conn m s)
 unfolding send
-send_keeps F {s = s} place conn m e = if_keeps F (is_open s conn) (F.frame s _ refl e) e
+send_keeps F {s = s} turn conn m e = if_keeps F (is_open s conn) (F.frame s _ refl e) e
 
 pub hold_keeps : {P : State → Type 0} (F : IsFramed P) {s : State} (ids : List ForeignId) → P s → P (hold_ids ids s)
 unfolding hold_ids
@@ -123,21 +123,24 @@ pub drop_keeps : {P : State → Type 0} (F : IsFramed P) {s : State} (ids : List
 unfolding drop_ids
 drop_keeps F ids e = each_keeps F Holders.holder_goes ids (λ t x h. F.frame t _ refl h) e
 
+let_go_keeps : {P : State → Type 0} (F : IsFramed P) {s : State} (p : ParkedFrame) (parked : List ParkedFrame) → P s → P (ParkedFrames.let_go_parked p parked s)
+let_go_keeps F p parked e = each_keeps F _ (filter (ParkedFrames.is_parked_at p.conn p.number) parked) (λ t q h. drop_keeps F q.references h) e
+
 -- ---- requests
 
-part_keeps : {P : State → Type 0} (F : IsFramed P) {s : State} (place : Place) (conn call : ℕ) (part : Group)
-    → P s → P (Requests.part_goes_out place conn call s part)
+part_keeps : {P : State → Type 0} (F : IsFramed P) {s : State} (turn : Turn) (conn call : ℕ) (part : Group)
+    → P s → P (Requests.part_goes_out turn conn call s part)
 unfolding Requests.part_goes_out
-part_keeps F {s = s} place conn call part e = send_keeps F place conn _ (F.frame s _ refl e)
+part_keeps F {s = s} turn conn call part e = send_keeps F turn conn _ (F.frame s _ refl e)
 
-go_out_keeps : {P : State → Type 0} (F : IsFramed P) {s : State} (place : Place) (conn : ℕ) (q : Request) → P s → P (Requests.go_out place conn q s)
+go_out_keeps : {P : State → Type 0} (F : IsFramed P) {s : State} (turn : Turn) (conn : ℕ) (q : Request) → P s → P (Requests.go_out turn conn q s)
 unfolding Requests.go_out
-go_out_keeps {P = P} F {s = s} place conn q e = goes q.asked
+go_out_keeps {P = P} F {s = s} turn conn q e = goes q.asked
   where
-    goes : (a : Asked) → P (Requests.goes_out place conn q.peer a s)
-    goes (Calls number task lent kind m) = send_keeps F place conn m (F.frame s _ refl e)
-    goes (LooksUp number task name) = send_keeps F place conn _ (F.frame s _ refl e)
-    goes (Tells call group) = each_keeps F _ _ (λ t part h. part_keeps F place conn call part h) e
+    goes : (a : Asked) → P (Requests.goes_out turn conn q.peer a s)
+    goes (Calls number task lent kind m) = send_keeps F turn conn m (F.frame s _ refl e)
+    goes (LooksUp number task name) = send_keeps F turn conn _ (F.frame s _ refl e)
+    goes (Tells call group) = each_keeps F _ _ (λ t part h. part_keeps F turn conn call part h) e
 
 dial_keeps : {P : State → Type 0} (F : IsFramed P) {s : State} (peer : Uuid) → P s → P (Requests.dial peer s)
 unfolding Requests.dial
@@ -260,7 +263,7 @@ answer_parked_keeps S {s = s} p reply e = some_keeps S.framed (find (ParkedFrame
 
 go_keeps : {g : Setting} {P : State → Type 0} (S : IsStable g P) {s : State} (p : ParkedFrame) → P s → P (ParkedFrames.go g s p)
 unfolding ParkedFrames.go
-go_keeps {g} {P} S {s = s} p e = some_keeps S.framed (find (ParkedFrames.is_parked_at p.conn p.number) s.parked) _ e (λ q is. drop_keeps S.framed q.references (frame q q.frame (S.framed.frame s _ refl e)))
+go_keeps {g} {P} S {s = s} p e = some_keeps S.framed (find (ParkedFrames.is_parked_at p.conn p.number) s.parked) _ e (λ q is. let_go_keeps S.framed p s.parked (frame q q.frame (S.framed.frame s _ refl e)))
   where
     frame : (q : ParkedFrame) (f : Frame) {t : State} → P t → P (ParkedFrames.go_frame g q f t)
     frame q (CallFrame target method fuel arguments) h = start_call_keeps S q target method fuel arguments h
@@ -277,7 +280,7 @@ park_frame_keeps S {s = s} conn number f references e = go_all_keeps S (hold_kee
 
 fail_parked_keeps : {g : Setting} {P : State → Type 0} (S : IsStable g P) {s : State} (p : ParkedFrame) → P s → P (ParkedFrames.fail_parked g s p)
 unfolding ParkedFrames.fail_parked
-fail_parked_keeps {g} {P} S {s = s} p e = frame p.frame (drop_keeps S.framed p.references (S.framed.frame s _ refl e))
+fail_parked_keeps {g} {P} S {s = s} p e = frame p.frame (let_go_keeps S.framed p s.parked (S.framed.frame s _ refl e))
   where
     frame : (f : Frame) {t : State} → P t → P (ParkedFrames.fail_frame g p f t)
     frame (CallFrame target method fuel arguments) h = answer_threw_keeps S p.conn p.number _ h
@@ -307,7 +310,7 @@ end_requests_keeps S {s = s} is why e =
 end_connection_keeps : {g : Setting} {P : State → Type 0} (S : IsStable g P) {s : State} (why : Asked → ClassId) (conn : ℕ) → P s → P (Endings.end_connection g why conn s)
 unfolding Endings.end_connection
 end_connection_keeps S {s = s} why conn e = some_keeps S.framed (connection_at s conn) _ e (λ c is. end_requests_keeps S _ why
-    (each_keeps S.framed _ _ (λ t p h. drop_keeps S.framed p.references (S.framed.frame t _ refl h)) (S.framed.frame s _ refl e)))
+    (each_keeps S.framed _ _ (λ t p h. let_go_keeps S.framed p t.parked (S.framed.frame t _ refl h)) (S.framed.frame s _ refl e)))
 
 pub close_keeps : {g : Setting} {P : State → Type 0} (S : IsStable g P) {s : State} (class : ClassId) (conn : ℕ) → P s → P (Endings.close g class conn s)
 unfolding Endings.close

@@ -15,10 +15,10 @@ use Rattle.uuid.specs.declared.Uuid.{Uuid}
 use Rattle.sp_rules.specs.Behaviours.{Throws}
 use Rattle.sp_rules.specs.Classes.{Setting}
 use Rattle.sp_rules.specs.Events.{Close}
-use Rattle.sp_rules.specs.Holders.{lease_now, drop_ids}
+use Rattle.sp_rules.specs.Holders.{lease_now}
 use Rattle.sp_rules.specs.Lists.{each, with_some}
 use Rattle.sp_rules.specs.LivingTasks.{reply_to}
-use Rattle.sp_rules.specs.ParkedFrames.{is_out_on, remove_requests, take_parked, fail_parked, names}
+use Rattle.sp_rules.specs.ParkedFrames.{is_out_on, remove_requests, take_parked, let_go_parked, fail_parked, names}
 use Rattle.sp_rules.specs.Requests.{waits_for}
 use Rattle.sp_rules.specs.State.{State, Request, Asked, Calls, LooksUp, Tells, Until, RootAcked, Acked, Passed, KeptResult, Connection, ParkedFrame, connection_at, say}
 
@@ -65,7 +65,7 @@ end_requests g is why s =
 
 -- A parked call of the connection is dropped.
 abbrev pub unpark : State → ParkedFrame → State
-unpark s p = drop_ids p.references (take_parked p s)
+unpark s p = let_go_parked p s.parked (take_parked p s)
 
 -- Where the connection ends before the Ack of a result, the owner holds the result for 600,000 ms after its last moment.
 abbrev pub orphan : ℕ → ℕ → KeptResult → KeptResult

@@ -46,28 +46,28 @@ pub data Output : Type 0 where
 -- ---- the order of outputs
 
 -- The frames of one event stand in this order: Hello, replies, requests that waited, Clean, Dirty, Call and Lookup, Ack.
-pub data Place : Type 0 where
-  Hellos Replies Waited Cleans Dirties Calls Acks : Place
+pub data Turn : Type 0 where
+  Hellos Replies Waited Cleans Dirties Calls Acks : Turn
 
--- what an event answers, while it is under way: a frame, with its place among frames, or another output
+-- what an event answers, while it is under way: a frame, with its turn among frames, or another output
 pub data Note : Type 0 where
   Says : (output : Output) → Note
-  Sends : (place : Place) (conn : ℕ) (message : Message) → Note
+  Sends : (turn : Turn) (conn : ℕ) (message : Message) → Note
 
-abbrev pub place_rank : Place → ℕ
-place_rank Hellos = 4
-place_rank Replies = 5
-place_rank Waited = 6
-place_rank Cleans = 7
-place_rank Dirties = 8
-place_rank Calls = 9
-place_rank Acks = 10
+abbrev pub turn_rank : Turn → ℕ
+turn_rank Hellos = 4
+turn_rank Replies = 5
+turn_rank Waited = 6
+turn_rank Cleans = 7
+turn_rank Dirties = 8
+turn_rank Calls = 9
+turn_rank Acks = 10
 
 -- how many ranks there are
 abbrev pub ranks : ℕ
 ranks = 14
 
--- The outputs of one event stand in this order of kinds: Started, Ended, Withdrawn, Denied, Send, Dial, Close, Ready. (A frame is noted with its place; a Send without one has no rank and is not answered.)
+-- The outputs of one event stand in this order of kinds: Started, Ended, Withdrawn, Denied, Send, Dial, Close, Ready. (A frame is noted with its turn; a Send without one has no rank and is not answered.)
 abbrev pub output_rank : Output → ℕ
 output_rank (Started task) = 0
 output_rank (Ended task outcome) = 1
@@ -80,11 +80,11 @@ output_rank (Ready task) = 13
 
 abbrev pub rank : Note → ℕ
 rank (Says output) = output_rank output
-rank (Sends place conn message) = place_rank place
+rank (Sends turn conn message) = turn_rank turn
 
 abbrev pub output_of : Note → Output
 output_of (Says output) = output
-output_of (Sends place conn message) = Send conn message
+output_of (Sends turn conn message) = Send conn message
 
 abbrev pub of_rank : List Note → ℕ → List Output
 of_rank notes k = map output_of (filter (λ n. rank n == k) notes)

@@ -15,7 +15,7 @@ use Rattle.space_ids.specs.declared.value.Value.{Value}
 use Rattle.space_ids.specs.declared.value.Value.TheVariants as values
 use Rattle.sp_rules.specs.Classes.{Setting, blank, field_kind}
 use Rattle.sp_rules.specs.Lists.{each, numbers_below, total}
-use Rattle.sp_rules.specs.References.{references_in, references_of, own_ids, foreign_ids, is_id, is_id_in}
+use Rattle.sp_rules.specs.References.{references_in, references_of, is_reference_in, own_ids, foreign_ids, is_id, is_id_in}
 use Rattle.sp_rules.specs.State.{State, Object, Living, KeptResult, ParkedFrame, Frame, CallFrame, ReturnedFrame, standing, last_written, object_at}
 
 -- ---- holders come and go
@@ -64,6 +64,20 @@ holders_of g s r =
     + (total (λ o. times_in r (foreign_ids g.id (references_of (fields_of g s o)))) (standing s.store)
     + (total (λ (k : KeptResult). times_in r (foreign_ids g.id (references_in k.value))) s.results
     + total (λ (p : ParkedFrame). times_in r p.references) s.parked))
+
+-- ---- whether a reference has a holder
+
+abbrev pub references_of_frame : Frame → List Ref
+references_of_frame (CallFrame target method fuel arguments) = references_of arguments
+references_of_frame (ReturnedFrame value fuel) = references_in value
+
+-- A reference, under its class, has a holder while a living task, a field of a standing object, a result that is held or a parked frame has it.
+abbrev pub has_holder : Setting → State → Ref → Bool
+has_holder g s r =
+    list_any (λ (t : Living). is_reference_in t.task.held r) s.tasks
+    || (list_any (λ o. is_reference_in (references_of (fields_of g s o)) r) (standing s.store)
+    || (list_any (λ (k : KeptResult). is_reference_in (references_in k.value) r) s.results
+    || list_any (λ (p : ParkedFrame). is_reference_in (references_of_frame p.frame) r) s.parked))
 
 -- ---- reasons to stay
 

@@ -6,7 +6,7 @@ use Rattle.net_message.specs.declared.message.Message.TheVariants as message
 use Rattle.space_ids.specs.declared.ids.Ref.{Ref}
 use Rattle.sp_rules.specs.Classes.{Setting}
 use Rattle.sp_rules.specs.Events.{Event, Output, Send}
-use Rattle.sp_rules.specs.Holders.{class_is, fields_of}
+use Rattle.sp_rules.specs.Holders.{class_is, fields_of, references_of_frame}
 use Rattle.sp_rules.specs.Laws.{AllOf, stands}
 use Rattle.sp_rules.specs.References.{references_in, references_of}
 use Rattle.sp_rules.specs.Refusals.{refusal}
@@ -21,10 +21,6 @@ abbrev pub references_of_message : Message → List Ref
 references_of_message (message.Call number object method fuel arguments) = references_of arguments
 references_of_message (message.Returned number fuel value) = references_in value
 references_of_message _ = []
-
-abbrev pub references_of_frame : Frame → List Ref
-references_of_frame (CallFrame target method fuel arguments) = references_of arguments
-references_of_frame (ReturnedFrame value fuel) = references_in value
 
 abbrev pub references_of_asked : Asked → List Ref
 references_of_asked (Calls number task lent kind m) = references_of_message m

@@ -60,6 +60,10 @@ has_lease s r = is_some (lease_now s r).lease
 abbrev pub take_parked : ParkedFrame → State → State
 take_parked p s = record s { parked = filter (λ q. not (is_parked_at p.conn p.number q)) s.parked }
 
+-- What was parked under the connection and number of a frame lets its references go.
+abbrev pub let_go_parked : ParkedFrame → List ParkedFrame → State → State
+let_go_parked p parked s = each (λ t (q : ParkedFrame). drop_ids q.references t) (filter (is_parked_at p.conn p.number) parked) s
+
 -- A call's method is selected at the owner. Where selection finds none, no task starts and the answer is ServerError.
 abbrev pub start_selected : Setting → ℕ → ℕ → Ref → Option ℕ → ℕ → List Value → State → State
 start_selected g conn number receiver None fuel arguments s = answer_threw conn number g.classes.server_error s
@@ -82,7 +86,7 @@ go_frame g p (ReturnedFrame value fuel) s = answer_parked g p (GivesBack value f
 -- A task or a result holds the references of a frame before the parked frame lets them go.
 unfoldable pub go : Setting → State → ParkedFrame → State
 go g s p = with_some (find (is_parked_at p.conn p.number) s.parked) s (λ q.
-    drop_ids q.references (go_frame g q q.frame (take_parked p s)))
+    let_go_parked p s.parked (go_frame g q q.frame (take_parked p s)))
 
 -- A frame is parked until every foreign reference in it has a lease. Those that wait for nothing go in the order in which they came.
 unfoldable pub go_all : Setting → State → State
@@ -102,7 +106,7 @@ fail_frame g p (ReturnedFrame value fuel) s = answer_parked g p (Throws g.classe
 
 -- A parked frame of which a reference's dirty call failed ends with UnmarshalException.
 unfoldable pub fail_parked : Setting → State → ParkedFrame → State
-fail_parked g s p = fail_frame g p p.frame (drop_ids p.references (take_parked p s))
+fail_parked g s p = fail_frame g p p.frame (let_go_parked p s.parked (take_parked p s))
 
 -- the frames that wait for a reference
 abbrev pub names : ForeignId → ParkedFrame → Bool

@@ -11,7 +11,7 @@ use Rattle.sp_rules.specs.Behaviours.{Op, Create, Get, Put, Call, Outcome, Retur
 use Rattle.sp_rules.specs.Classes.{Setting, StartRefusal, AbsentMethod, BadSignature, BadArgument, fit_kinds, fits_field, field_kind}
 use Rattle.sp_rules.specs.Events.{Event, Moment, Sweep, Root, RootAck, Bind, Rebind, Unbind, Lookup, Opened, Refused, Received, Closed, ReadFailed, Bad, WriteFailed, Committed, Parked, GivenBack, Finished}
 use Rattle.sp_rules.specs.Frames.{is_busy}
-use Rattle.sp_rules.specs.Holders.{is_own_standing, lease_now}
+use Rattle.sp_rules.specs.Holders.{is_own_standing, lease_now, has_holder}
 use Rattle.sp_rules.specs.OwnEvents.{is_of_root}
 use Rattle.sp_rules.specs.References.{references_of, references_in, reference_of, is_reference_in, own_ids, is_id_in}
 use Rattle.sp_rules.specs.State.{State, Living, Object, is_open, is_dialling, task_at, ready_at, object_at}
@@ -74,11 +74,11 @@ is_give_back _ = false
 
 -- ---- roots
 
--- Root arguments that are references must be of standing own objects, or foreign references that have a holder and a lease.
+-- Root arguments that are references must be of standing own objects, of their class, or foreign references that have a holder, under their class, and a lease.
 abbrev pub is_root_argument : Setting → State → Ref → Bool
 is_root_argument g s r =
     if bytes_eq r.space g.id then is_own_standing g s r
-    else nat_lt 0 (lease_now s (record { space = r.space; id = r.id })).holders
+    else has_holder g s r
     && is_some (lease_now s (record { space = r.space; id = r.id })).lease
 
 abbrev pub refuse_start : Option StartRefusal → List Check

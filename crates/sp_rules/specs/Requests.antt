@@ -10,7 +10,7 @@ use Rattle.net_message.specs.declared.message.Message.{Message}
 use Rattle.net_message.specs.declared.message.Message.TheVariants as message
 use Rattle.uuid.specs.declared.Uuid.{Uuid}
 use Rattle.space_ids.specs.declared.ids.ObjId.{ObjId}
-use Rattle.sp_rules.specs.Events.{Place, Waited, Cleans, Dirties, Dial}
+use Rattle.sp_rules.specs.Events.{Turn, Waited, Cleans, Dirties, Dial}
 use Rattle.sp_rules.specs.Events as event
 use Rattle.sp_rules.specs.Lists.{each, with_some}
 use Rattle.sp_rules.specs.State.{State, Request, Asked, Calls, LooksUp, Tells, Stage, Waits, Out, Answered, Connection, connection_to, is_dialling, send, say}
@@ -23,15 +23,15 @@ due_groups h = groups.grouped (groups.in_order (client.due_of h))
 
 -- ---- going out
 
-abbrev pub place_of : Due → Place
-place_of due.Dirty = Dirties
-place_of (due.Clean strong) = Cleans
+abbrev pub turn_of : Due → Turn
+turn_of due.Dirty = Dirties
+turn_of (due.Clean strong) = Cleans
 
--- the place among frames of a request that goes out as it is made
-abbrev pub place_asked : Asked → Place
-place_asked (Calls number task lent kind m) = event.Calls
-place_asked (LooksUp number task name) = event.Calls
-place_asked (Tells call group) = place_of group.kind
+-- the turn among frames of a request that goes out as it is made
+abbrev pub turn_asked : Asked → Turn
+turn_asked (Calls number task lent kind m) = event.Calls
+turn_asked (LooksUp number task name) = event.Calls
+turn_asked (Tells call group) = turn_of group.kind
 
 -- A dirty call asks for 600,000 ms.
 abbrev pub group_frame : Due → ℕ → List ObjId → Message
@@ -42,23 +42,23 @@ abbrev pub add_request : Request → State → State
 add_request r s = record s { requests = s.requests ++ r ∷ [] }
 
 -- Dirty and Clean are numbered as they go out; their numbers rise by one from 1 over all Dirty and Clean frames of a space. A lease counts from the moment at which its dirty call was sent.
-unfoldable pub part_goes_out : Place → ℕ → ℕ → State → Group → State
-part_goes_out place conn call s part =
+unfoldable pub part_goes_out : Turn → ℕ → ℕ → State → Group → State
+part_goes_out turn conn call s part =
     let sequence = client.numbers_of s.leases + 1 in
-    send place conn (group_frame part.kind sequence part.ids)
+    send turn conn (group_frame part.kind sequence part.ids)
     (add_request (record { peer = part.peer; asked = Tells call part; stage = Out conn sequence })
     (record s { leases = client.sent part call s.leases }))
 
 -- Calls go out with the numbers that they have. Dirty and Clean are cut as they go out: more than 1,024 ids go in several frames.
-abbrev pub goes_out : Place → ℕ → Uuid → Asked → State → State
-goes_out place conn peer (Calls number task lent kind m) s =
-    send place conn m (add_request (record { peer = peer; asked = Calls number task lent kind m; stage = Out conn 0 }) s)
-goes_out place conn peer (LooksUp number task name) s =
-    send place conn (message.Lookup number name) (add_request (record { peer = peer; asked = LooksUp number task name; stage = Out conn 0 }) s)
-goes_out place conn peer (Tells call group) s = each (part_goes_out place conn call) (groups.parts_of 1024 group) s
+abbrev pub goes_out : Turn → ℕ → Uuid → Asked → State → State
+goes_out turn conn peer (Calls number task lent kind m) s =
+    send turn conn m (add_request (record { peer = peer; asked = Calls number task lent kind m; stage = Out conn 0 }) s)
+goes_out turn conn peer (LooksUp number task name) s =
+    send turn conn (message.Lookup number name) (add_request (record { peer = peer; asked = LooksUp number task name; stage = Out conn 0 }) s)
+goes_out turn conn peer (Tells call group) s = each (part_goes_out turn conn call) (groups.parts_of 1024 group) s
 
-unfoldable pub go_out : Place → ℕ → Request → State → State
-go_out place conn r s = goes_out place conn r.peer r.asked s
+unfoldable pub go_out : Turn → ℕ → Request → State → State
+go_out turn conn r s = goes_out turn conn r.peer r.asked s
 
 -- ---- asking
 
@@ -75,7 +75,7 @@ dial peer s =
 
 -- A request goes out where the peer's Hello has come; else it waits for it.
 unfoldable pub ask : State → Request → State
-ask s r = with_some (hello_came (connection_to s r.peer)) (dial r.peer (add_request r s)) (λ conn. go_out (place_asked r.asked) conn r s)
+ask s r = with_some (hello_came (connection_to s r.peer)) (dial r.peer (add_request r s)) (λ conn. go_out (turn_asked r.asked) conn r s)
 
 abbrev pub is_waiting : Stage → Bool
 is_waiting Waits = true

@@ -14,7 +14,7 @@ use Rattle.space_ids.specs.declared.ids.ObjId.{ObjId}
 use Rattle.space_ids.specs.declared.value.Value.{Value}
 use Rattle.sp_rules.specs.Behaviours.{Reply}
 use Rattle.sp_rules.specs.Classes.{Kind}
-use Rattle.sp_rules.specs.Events.{Output, Note, Says, Sends, Place}
+use Rattle.sp_rules.specs.Events.{Output, Note, Says, Sends, Turn}
 use Rattle.sp_rules.specs.Lists.{at_first}
 use Rattle.sp_rules.specs.References.{is_id, is_id_in}
 use Rattle.sp_rules.specs.Tasks.{Task}
@@ -237,5 +237,5 @@ abbrev pub say : Output → State → State
 say output s = record s { notes = s.notes ++ Says output ∷ [] }
 
 -- A frame goes out where its connection is open.
-unfoldable pub send : Place → ℕ → Message → State → State
-send place conn message s = if is_open s conn then record s { notes = s.notes ++ Sends place conn message ∷ [] } else s
+unfoldable pub send : Turn → ℕ → Message → State → State
+send turn conn message s = if is_open s conn then record s { notes = s.notes ++ Sends turn conn message ∷ [] } else s

@@ -15,7 +15,7 @@ use Rattle.sp_rules.specs.Refusals.{Refusal, CannotStart, UnknownTask, NotLent, 
 use Rattle.sp_rules.specs.Space.{on}
 use Rattle.sp_rules.specs.State.{State, opening}
 use Rattle.sp_rules.specs.Worlds.{lent_for}
-use Rattle.sp_scripts.specs.Names.{class_of, absent_method, box_class, box_clear, box_make, box_put, box_same, counter_bump, counter_class, counter_make, connect_exception, link_fresh, link_class, link_make, not_bound_exception, out_of_memory_error, remote_exception, unmarshal_exception}
+use Rattle.sp_scripts.specs.Names.{class_of, absent_method, box_class, box_clear, box_make, box_put, box_same, counter_bump, counter_class, counter_make, connect_exception, link_fresh, link_class, link_make, no_such_object_exception, not_bound_exception, out_of_memory_error, remote_exception, unmarshal_exception}
 use Rattle.sp_scripts.specs.Programs.{setting_of}
 
 -- an event is refused, or answers this
@@ -107,12 +107,14 @@ RefusedDial = heard space (Lookup peer name ∷ Refused peer ∷ []) ≡ asked_l
 
 -- ---- frames that close a connection
 
--- A dialled end that sends what answers; an Ack of nothing; a number that is not above the last.
+-- A dialled end that sends what answers; an Ack of nothing; a Lookup's or a Call's number that is not above the last.
 abbrev pub ClosedByThoseThatAsk : Type 0
 ClosedByThoseThatAsk = (heard space (greeted (Received 0 (message.Returned 1 0 None) ∷ [])) ≡ said_hello ∷ Answers [] ∷ Answers (Close 0 ∷ []) ∷ [])
     × (heard space (greeted (Received 0 (message.Ack 1) ∷ [])) ≡ said_hello ∷ Answers [] ∷ Answers (Close 0 ∷ []) ∷ [])
     × (heard space (greeted (Received 0 (message.Lookup 1 name) ∷ Received 0 (message.Lookup 1 name) ∷ [])) ≡
     said_hello ∷ Answers [] ∷ Answers (Send 0 (message.Threw 1 (class_of not_bound_exception)) ∷ []) ∷ Answers (Close 0 ∷ []) ∷ [])
+    × (heard space (greeted (Received 0 (message.Call 1 (object 1) counter_bump 5 []) ∷ Received 0 (message.Call 1 (object 1) counter_bump 5 []) ∷ [])) ≡
+    said_hello ∷ Answers [] ∷ Answers (Send 0 (message.Threw 1 (class_of no_such_object_exception)) ∷ []) ∷ Answers (Close 0 ∷ []) ∷ [])
 
 -- An end that asks; an answer to nothing, to calls and to dirty calls.
 abbrev pub ClosedByThoseThatAnswer : Type 0

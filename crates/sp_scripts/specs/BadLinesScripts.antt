@@ -2,7 +2,7 @@
 use Rattle.std.specs.Prelude.{◌≡◌, List, [], ◌∷◌, Some, pos}
 use Rattle.space_ids.specs.declared.value.Value.TheVariants as values
 use Rattle.sp_scripts.specs.Names.{counter_bump, counter_make}
-use Rattle.sp_scripts.specs.Scripts.{Line, RootLine, AckLine, BindLine, LookupLine, RefuseLine, ReadFailLine, MomentLine, SettleLine, Variable, Literal, bad_line}
+use Rattle.sp_scripts.specs.Scripts.{Line, RootLine, AckLine, BindLine, LookupLine, RefuseLine, ReadFailLine, MomentLine, SweepLine, SettleLine, Variable, Literal, bad_line}
 
 -- ---- bad lookup self
 
@@ -60,3 +60,13 @@ lines_of_lapsed_lease_is_no_root_argument =
 
 abbrev pub LapsedLeaseIsNoRootArgument : Type 0
 LapsedLeaseIsNoRootArgument = bad_line 2 lines_of_lapsed_lease_is_no_root_argument ≡ Some 12
+
+-- ---- bad space
+
+abbrev pub lines_of_bad_space : List Line
+lines_of_bad_space =
+    SweepLine 2
+    ∷ []
+
+abbrev pub BadSpace : Type 0
+BadSpace = bad_line 2 lines_of_bad_space ≡ Some 3

@@ -1,5 +1,5 @@
 -- What the methods of the scripts' remote classes do, as behaviours: instructions of their own, what they ask for, and how they end.
-use Rattle.std.specs.Prelude.{ℕ, zero, suc, ◌+◌, ◌==◌, ◌&&◌, ◌||◌, not, nat_le, Bool, true, false, List, [], ◌∷◌, Option, None, Some, ℤ, pos, negsuc, if◌then◌else◌}
+use Rattle.std.specs.Prelude.{ℕ, zero, suc, ◌+◌, ◌==◌, ◌&&◌, ◌||◌, not, nat_le, Bool, true, false, List, [], ◌∷◌, Option, None, Some, ℤ, pos, negsuc, ◌+ℤ◌, length, if◌then◌else◌}
 use Rattle.std.specs.Str.{bytes_eq}
 use Rattle.uuid.specs.declared.Uuid.{Uuid}
 use Rattle.space_ids.specs.declared.ids.ObjId.{ObjId}
@@ -8,7 +8,7 @@ use Rattle.space_ids.specs.declared.value.Value.{Value}
 use Rattle.space_ids.specs.declared.value.Value.TheVariants as values
 use Rattle.sp_rules.specs.Behaviours.{Behaviour, Plain, Asks, Ends, Create, Get, Put, Call, Threw}
 use Rattle.sp_rules.specs.References.{is_same_reference}
-use Rattle.sp_scripts.specs.Names.{abstract_method_error, adder_class, arithmetic_exception, back_method, box_class, bump_method, class_of, counter_class, deep_class, deep_method, divide_method, down_method, ends_class, error_method, factory_class, flag_method, get_method, hidden_class, illegal_access_error, inc_method, incompatible_class_change_error, keep_method, lacks_class, link_class, make_cell_method, make_method, marshal_exception, next_method, nil_method, null_pointer_exception, p_class, peer_method, ping_method, plain_class, plain_error, plain_exception, plainly_method, put_method, relay_method, remote_exception, remote_method, spin_method, stack_overflow_error, twice_class, use_method, user_class}
+use Rattle.sp_scripts.specs.Names.{abstract_method_error, adder_class, arithmetic_exception, array_index_exception, back_method, box_class, bump_method, class_of, counter_class, deep_class, deep_method, divide_method, double_method, down_method, ends_class, error_method, factory_class, flag_method, get_method, hidden_class, illegal_access_error, inc_method, incompatible_class_change_error, keep_method, lacks_class, link_class, make_cell_method, make_method, marshal_exception, next_method, nil_method, null_pointer_exception, p_class, peer_method, ping_method, plain_class, plain_error, plain_exception, plainly_method, put_method, relay_method, remote_exception, remote_method, spin_method, stack_overflow_error, sum_method, three_method, twice_class, use_method, user_class}
 
 abbrev pub threw : ℕ → Behaviour
 threw n = Ends (Threw (class_of n))
@@ -65,7 +65,7 @@ abbrev pub has : ℕ → ℕ → Bool
 has c m =
     if c == user_class then m == use_method else (if c == p_class then nat_le ping_method m && nat_le m peer_method else (if c == box_class || c == plain_class then nat_le put_method m && nat_le m bump_method
     else (if c == ends_class then nat_le divide_method m && nat_le m plainly_method else (if c == deep_class then m == down_method else (if c == link_class then nat_le next_method m && nat_le m keep_method
-    else (if c == factory_class then nat_le make_method m && nat_le m make_cell_method else (if c == adder_class then false else m == inc_method)))))))
+    else (if c == factory_class then nat_le make_method m && nat_le m make_cell_method else (if c == adder_class then nat_le sum_method m && nat_le m three_method else m == inc_method)))))))
 
 abbrev pub selection : ℕ → ℕ → Option ℕ
 selection c m = if c == lacks_class then Some abstract_method_error else (if c == hidden_class then Some illegal_access_error else None)
@@ -135,6 +135,50 @@ id_of (values.Ref r) = r.id
 abbrev pub make_cell : Value → Next → Behaviour
 make_cell v k = create box_class 8 (λ r. Asks (Put (id_of (val r)) 0 v) (λ w. k r))
 
+-- ---- arrays
+
+abbrev pub sum_of : List ℤ → ℤ
+sum_of [] = pos 0
+sum_of (n ∷ ns) = n +ℤ sum_of ns
+
+-- sum's loop, with 12 instructions an element
+abbrev pub sum_ints : List ℤ → Behaviour → Behaviour
+sum_ints [] last = plains 5 last
+sum_ints (n ∷ ns) last = plains 12 (sum_ints ns last)
+
+abbrev pub sum_body : Value → Next → Behaviour
+sum_body values.Null k = plains 6 (threw null_pointer_exception)
+sum_body (values.Int n) k = plains 6 (threw null_pointer_exception)
+sum_body (values.Ints ns) k = plains 4 (sum_ints ns (k (Some (values.Int (sum_of ns)))))
+sum_body (values.Ref r) k = plains 6 (threw null_pointer_exception)
+
+-- the array with the element at an index doubled
+abbrev pub doubled : ℕ → List ℤ → List ℤ
+doubled i [] = []
+doubled zero (n ∷ ns) = (n +ℤ n) ∷ ns
+doubled (suc i) (n ∷ ns) = n ∷ doubled i ns
+
+abbrev pub element : ℕ → List ℤ → ℤ
+element i [] = pos 0
+element zero (n ∷ ns) = n
+element (suc i) (n ∷ ns) = element i ns
+
+abbrev pub double_ints : List ℤ → ℕ → Next → Behaviour
+double_ints ns i k = if nat_le (length ns) i then plains 4 (threw array_index_exception) else plains 9 (k (Some (values.Ints (doubled i ns))))
+
+abbrev pub double_body : Value → Value → Next → Behaviour
+double_body values.Null index k = plains 4 (threw null_pointer_exception)
+double_body (values.Int n) index k = plains 4 (threw null_pointer_exception)
+double_body (values.Ints ns) index k = double_ints ns (nat_of index) k
+double_body (values.Ref r) index k = plains 4 (threw null_pointer_exception)
+
+-- the first element of an array
+abbrev pub first_int : Value → Option Value
+first_int values.Null = None
+first_int (values.Int n) = None
+first_int (values.Ints ns) = Some (values.Int (element 0 ns))
+first_int (values.Ref r) = None
+
 abbrev pub body_of : Inner → Uuid → ℕ → Ref → List Value → Next → Behaviour
 body_of inner own m r arguments k =
     if m == inc_method then (if r.class.0 == twice_class then twice r k else inc r k)
@@ -158,7 +202,9 @@ body_of inner own m r arguments k =
     else (if m == spin_method then plains 700 (k None)
     else (if m == deep_method then plains 700 (threw stack_overflow_error)
     else (if m == flag_method then plains 2 (Asks (Put r.id 0 (arg 0 arguments)) (λ v. Plain (Asks (Get r.id 0) k)))
-    else plains 4 (threw plain_exception)))))))))))))))))))))
+    else (if m == sum_method then sum_body (arg 0 arguments) k
+    else (if m == double_method then double_body (arg 0 arguments) (arg 1 arguments) k
+    else plains 4 (threw plain_exception)))))))))))))))))))))))
 
 abbrev pub body : ℕ → Uuid → ℕ → Ref → List Value → Next → Behaviour
 body zero own m r arguments k = threw stack_overflow_error

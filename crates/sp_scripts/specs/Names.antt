@@ -100,6 +100,9 @@ illegal_access_error = 115
 abbrev pub stack_overflow_error : ℕ
 stack_overflow_error = 116
 
+abbrev pub array_index_exception : ℕ
+array_index_exception = 117
+
 -- ---- methods of remote interfaces
 
 abbrev pub inc_method : ℕ
@@ -307,6 +310,18 @@ link_fail = 81
 
 abbrev pub box_move : ℕ
 box_move = 82
+
+abbrev pub adder_make : ℕ
+adder_make = 83
+
+abbrev pub adder_sum : ℕ
+adder_sum = 84
+
+abbrev pub adder_twice : ℕ
+adder_twice = 85
+
+abbrev pub adder_copy : ℕ
+adder_copy = 86
 
 abbrev pub absent_method : ℕ
 absent_method = 999

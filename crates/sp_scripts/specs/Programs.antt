@@ -1,13 +1,13 @@
 -- The static methods that scripts start, and the class set of the scripts.
-use Rattle.std.specs.Prelude.{ℕ, zero, suc, ◌-◌, ◌==◌, ◌&&◌, ◌||◌, not, nat_lt, nat_le, Bool, false, List, [], ◌∷◌, ◌++◌, Option, None, Some, if◌then◌else◌}
+use Rattle.std.specs.Prelude.{ℕ, zero, suc, ◌-◌, ◌==◌, ◌&&◌, ◌||◌, not, nat_lt, nat_le, Bool, false, List, [], ◌∷◌, ◌++◌, Option, None, Some, pos, if◌then◌else◌}
 use Rattle.std.specs.Str.{bytes_eq}
 use Rattle.uuid.specs.declared.Uuid.{Uuid}
 use Rattle.space_ids.specs.declared.value.Value.{Value}
 use Rattle.space_ids.specs.declared.value.Value.TheVariants as values
 use Rattle.sp_rules.specs.Behaviours.{Behaviour, Ends, Returned}
-use Rattle.sp_rules.specs.Classes.{Classes, Setting, Kind, IntKind, ReferenceKind, VoidKind, StartRefusal, AbsentMethod, BadArgument, fit_kinds}
-use Rattle.sp_scripts.specs.Methods.{threw, plains, val, nat_of, int_value, arg, same, has, selection, Next, invoke, create, inner_of, body}
-use Rattle.sp_scripts.specs.Names.{absent_method, abstract_method_error, back_method, box_bump, box_class, box_clear, box_fetch, box_get, box_make, box_move, box_object, box_plain, box_put, box_same, bump_method, class_of, connect_exception, counter_bump, counter_class, counter_make, deep_class, deep_make, deep_run, divide_method, down_method, ends_class, ends_deep, ends_divide, ends_error, ends_flag, ends_make, ends_nil, ends_plainly, ends_remote, ends_spin, factory_churn, factory_class, factory_create, factory_make, factory_make_cell, flag_method, get_method, hidden_class, hidden_make, illegal_access_error, inc_method, incompatible_class_change_error, keep_method, lacks_class, lacks_make, link_back, link_class, link_fail, link_fresh, link_keep, link_make, link_next, link_relay, make_cell_method, make_method, marshal_exception, next_method, no_such_object_exception, not_bound_exception, null_pointer_exception, out_of_memory_error, p_class, p_go, p_join, p_make, peer_method, ping_method, plain_class, plain_error, plain_make, put_method, relay_method, remote_exception, server_error, server_exception, stack_overflow_error, twice_class, unmarshal_exception, use_method, user_class, user_make, user_pass}
+use Rattle.sp_rules.specs.Classes.{Classes, Setting, Kind, IntKind, IntArrayKind, ReferenceKind, VoidKind, StartRefusal, AbsentMethod, BadArgument, fit_kinds}
+use Rattle.sp_scripts.specs.Methods.{threw, plains, val, nat_of, int_value, arg, same, has, selection, Next, invoke, create, first_int, inner_of, body}
+use Rattle.sp_scripts.specs.Names.{absent_method, abstract_method_error, adder_class, adder_copy, adder_make, adder_sum, adder_twice, array_index_exception, back_method, box_bump, box_class, box_clear, box_fetch, box_get, box_make, box_move, box_object, box_plain, box_put, box_same, bump_method, class_of, connect_exception, counter_bump, counter_class, counter_make, deep_class, deep_make, deep_run, divide_method, double_method, down_method, ends_class, ends_deep, ends_divide, ends_error, ends_flag, ends_make, ends_nil, ends_plainly, ends_remote, ends_spin, factory_churn, factory_class, factory_create, factory_make, factory_make_cell, flag_method, get_method, hidden_class, hidden_make, illegal_access_error, inc_method, incompatible_class_change_error, keep_method, lacks_class, lacks_make, link_back, link_class, link_fail, link_fresh, link_keep, link_make, link_next, link_relay, make_cell_method, make_method, marshal_exception, next_method, no_such_object_exception, not_bound_exception, null_pointer_exception, out_of_memory_error, p_class, p_go, p_join, p_make, peer_method, ping_method, plain_class, plain_error, plain_make, put_method, relay_method, remote_exception, server_error, server_exception, stack_overflow_error, sum_method, twice_class, unmarshal_exception, use_method, user_class, user_make, user_pass}
 
 abbrev pub churn : ℕ → Uuid → Value → Next → Behaviour
 churn zero own maker k = plains 3 (k (int_value 0))
@@ -29,6 +29,10 @@ plain own (values.Ref r) = if not (has r.class.0 put_method) then plains 5 (thre
 abbrev pub calls : Uuid → ℕ → ℕ → List Value → Next → Behaviour
 calls own n m [] k = threw null_pointer_exception
 calls own n m (v ∷ vs) k = plains n (invoke (inner_of own) own v m vs k)
+
+-- An array that is passed afar is a copy; at home it is the callee's too.
+abbrev pub copy_of : Uuid → List Value → Next → Behaviour
+copy_of own vs k = calls own 3 double_method (vs ++ values.Int (pos 0) ∷ []) (λ v. plains 4 (k (first_int (if is_own own (arg 0 vs) then val v else arg 1 vs))))
 
 abbrev pub static : Uuid → ℕ → List Value → Next → Behaviour
 static own m vs k =
@@ -69,7 +73,11 @@ static own m vs k =
     else (if m == factory_churn then (if nat_of (arg 1 vs) == 0 then plains 3 (k (Some (arg 1 vs))) else churn (nat_of (arg 1 vs)) own (arg 0 vs) k)
     else (if m == link_fail then calls own 2 relay_method (vs ++ values.Null ∷ []) k
     else (if m == box_move then plains 2 (invoke (inner_of own) own (arg 0 vs) get_method [] (λ v. invoke (inner_of own) own (arg 1 vs) put_method (val v ∷ []) k))
-    else create twice_class 9 k))))))))))))))))))))))))))))))))))))
+    else (if m == adder_make then create adder_class 3 k
+    else (if m == adder_sum then calls own 2 sum_method vs k
+    else (if m == adder_twice then calls own 3 double_method vs k
+    else (if m == adder_copy then copy_of own vs k
+    else create twice_class 9 k))))))))))))))))))))))))))))))))))))))))
 
 abbrev pub ends : Next
 ends v = Ends (Returned v)
@@ -97,14 +105,18 @@ parameters m =
     else (if m == divide_method || m == flag_method then IntKind ∷ []
     else (if is_one_of m (ends_divide ∷ ends_flag ∷ factory_churn ∷ []) then ReferenceKind ∷ IntKind ∷ []
     else (if m == deep_run then ReferenceKind ∷ IntKind ∷ ReferenceKind ∷ []
-    else [])))))
+    else (if m == sum_method then IntArrayKind ∷ []
+    else (if m == double_method then IntArrayKind ∷ IntKind ∷ []
+    else (if m == adder_sum || m == adder_copy then ReferenceKind ∷ IntArrayKind ∷ []
+    else (if m == adder_twice then ReferenceKind ∷ IntArrayKind ∷ IntKind ∷ []
+    else [])))))))))
 
 -- what a method of a remote interface gives
 abbrev pub result : ℕ → Kind
 result m =
     if is_one_of m (ping_method ∷ peer_method ∷ put_method ∷ next_method ∷ []) then VoidKind
     else (if is_one_of m (get_method ∷ back_method ∷ make_method ∷ make_cell_method ∷ []) then ReferenceKind
-    else IntKind)
+    else (if m == double_method then IntArrayKind else IntKind))
 
 -- the fields of a class
 abbrev pub fields : ℕ → List Kind
@@ -140,7 +152,7 @@ script_classes = record {
   start_refusal = λ own m vs. start_refusal_of m vs;
   behaviour = λ own limits m vs fuel. plan own m vs;
   fields = λ c. fields c.0;
-  is_throwable = λ c. nat_le out_of_memory_error c.0 && nat_le c.0 stack_overflow_error;
+  is_throwable = λ c. nat_le out_of_memory_error c.0 && nat_le c.0 array_index_exception;
   is_error = λ c. is_error c.0;
   is_remote_exception = λ c. is_remote_exception c.0;
   out_of_memory = class_of out_of_memory_error;

@@ -1,5 +1,6 @@
 -- The lines of a script, and what they do to a world of the scripts' classes: how the worked scripts of spaces are played. (This project's own rule; docs/SPACE.md says the lines.)
 use Rattle.std.specs.Prelude.{ℕ, zero, suc, ◌+◌, ◌==◌, ◌&&◌, nat_lt, List, [], ◌∷◌, ◌++◌, Option, None, Some, filter, map, find, length, slice_get, if◌then◌else◌}
+use Rattle.std.specs.List.{list_all}
 use Rattle.dgc_list.specs.History.{clients_of}
 use Rattle.sp_registry.specs.declared.registry.Binding.{Binding}
 use Rattle.uuid.specs.declared.Uuid.{Uuid}
@@ -195,9 +196,32 @@ line_of k (SweptLine space) s = record s { world = settle_swept space 100000 s.w
 line_of k (EventLine event) s = does event s
 line_of k SettleLine s = record s { world = settle_world 100000 s.world }
 
+-- the spaces that a line names
+abbrev pub spaces_in : Line → List ℕ
+spaces_in (RootLine space var fuel method arguments) = space ∷ []
+spaces_in (AckLine space var) = space ∷ []
+spaces_in (BindLine space name var) = space ∷ []
+spaces_in (RebindLine space name var) = space ∷ []
+spaces_in (UnbindLine space name) = space ∷ []
+spaces_in (LookupLine space peer name var) = space ∷ peer ∷ []
+spaces_in (OpenLine space peer) = space ∷ peer ∷ []
+spaces_in (RefuseLine space peer) = space ∷ peer ∷ []
+spaces_in (DeliverLine space peer) = space ∷ peer ∷ []
+spaces_in (ReplyLine space peer) = space ∷ peer ∷ []
+spaces_in (ReadFailLine space peer) = space ∷ peer ∷ []
+spaces_in (WriteFailLine space peer unsent) = space ∷ peer ∷ []
+spaces_in (MomentLine space moment) = space ∷ []
+spaces_in (SweepLine space) = space ∷ []
+spaces_in (StepLine space) = space ∷ []
+spaces_in (ShowLine space) = space ∷ []
+spaces_in (SweptLine space) = space ∷ []
+spaces_in (EventLine event) = []
+spaces_in SettleLine = []
+
+-- A line that names a space that is not there is bad.
 abbrev pub unless_bad : ℕ → Line → Option ℕ → Sim → Sim
 unless_bad k line (Some bad) s = s
-unless_bad k line None s = line_of k line s
+unless_bad k line None s = if list_all (λ i. nat_lt i (length s.world.spaces)) (spaces_in line) then line_of k line s else bad_at k s
 
 unfoldable pub run_lines : ℕ → List Line → Sim → Sim
 run_lines k [] s = s

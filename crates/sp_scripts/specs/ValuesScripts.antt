@@ -2,7 +2,7 @@
 use Rattle.std.specs.Prelude.{◌≡◌, List, [], ◌∷◌, None, Some, pos, negsuc}
 use Rattle.space_ids.specs.declared.value.Value.TheVariants as values
 use Rattle.sp_rules.specs.Behaviours.{Returned, Threw}
-use Rattle.sp_scripts.specs.Names.{arithmetic_exception, box_bump, box_clear, box_get, box_make, box_object, box_plain, box_put, class_of, counter_bump, counter_class, counter_make, ends_deep, ends_divide, ends_error, ends_flag, ends_make, ends_nil, ends_plainly, ends_remote, incompatible_class_change_error, marshal_exception, not_bound_exception, null_pointer_exception, plain_error, plain_exception, plain_make, remote_exception, server_error, server_exception, stack_overflow_error}
+use Rattle.sp_scripts.specs.Names.{adder_copy, adder_make, adder_sum, adder_twice, arithmetic_exception, array_index_exception, box_bump, box_clear, box_get, box_make, box_object, box_plain, box_put, class_of, counter_bump, counter_class, counter_make, ends_deep, ends_divide, ends_error, ends_flag, ends_make, ends_nil, ends_plainly, ends_remote, incompatible_class_change_error, marshal_exception, not_bound_exception, null_pointer_exception, plain_error, plain_exception, plain_make, remote_exception, server_error, server_exception, stack_overflow_error}
 use Rattle.sp_scripts.specs.Scripts.{Line, RootLine, BindLine, RebindLine, UnbindLine, LookupLine, ShowLine, SettleLine, Variable, Literal, seen, reference}
 
 -- ---- booleans
@@ -190,4 +190,32 @@ FieldOverwritten = seen 2 lines_of_field_overwritten ≡ (
   None,
   record { space = 0; id = 1; class = counter_class; names = 0; entries = 1 } ∷ record { space = 0; id = 1; class = counter_class; names = 0; entries = 0 } ∷ [],
   Some (reference 1 1) ∷ Some (reference 2 1) ∷ Some (reference 2 1) ∷ Some (Returned None) ∷ Some (Returned None) ∷ [],
+)
+
+-- ---- arrays
+
+abbrev pub lines_of_arrays : List Line
+lines_of_arrays =
+    RootLine 0 0 100 adder_make []
+    ∷ SettleLine
+    ∷ BindLine 0 (110 ∷ []) 0
+    ∷ LookupLine 1 0 (110 ∷ []) 1
+    ∷ SettleLine
+    ∷ RootLine 1 2 1000 adder_sum (Variable 1 ∷ Literal (values.Ints (pos 1 ∷ pos 2 ∷ negsuc 29 ∷ [])) ∷ [])
+    ∷ RootLine 1 3 1000 adder_sum (Variable 1 ∷ Literal (values.Ints []) ∷ [])
+    ∷ RootLine 1 4 1000 adder_sum (Variable 1 ∷ Literal values.Null ∷ [])
+    ∷ RootLine 1 5 1000 adder_twice (Variable 1 ∷ Literal (values.Ints (pos 7 ∷ pos 8 ∷ [])) ∷ Literal (values.Int (pos 1)) ∷ [])
+    ∷ RootLine 1 6 1000 adder_copy (Variable 1 ∷ Literal (values.Ints (pos 21 ∷ [])) ∷ [])
+    ∷ RootLine 0 7 1000 adder_copy (Variable 0 ∷ Literal (values.Ints (pos 21 ∷ [])) ∷ [])
+    ∷ RootLine 1 8 1000 adder_twice (Variable 1 ∷ Literal (values.Ints (pos 7 ∷ pos 8 ∷ [])) ∷ Literal (values.Int (pos 2)) ∷ [])
+    ∷ SettleLine
+    ∷ RootLine 1 9 1000 adder_sum (Variable 1 ∷ Variable 5 ∷ [])
+    ∷ SettleLine
+    ∷ []
+
+abbrev pub Arrays : Type 0
+Arrays = seen 2 lines_of_arrays ≡ (
+  None,
+  [],
+  Some (reference 1 1) ∷ Some (reference 1 1) ∷ Some (Returned (Some (values.Int (negsuc 26)))) ∷ Some (Returned (Some (values.Int (pos 0)))) ∷ Some (Threw (class_of null_pointer_exception)) ∷ Some (Returned (Some (values.Ints (pos 7 ∷ pos 16 ∷ [])))) ∷ Some (Returned (Some (values.Int (pos 21)))) ∷ Some (Returned (Some (values.Int (pos 42)))) ∷ Some (Threw (class_of array_index_exception)) ∷ Some (Returned (Some (values.Int (pos 23)))) ∷ [],
 )

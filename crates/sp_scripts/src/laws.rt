@@ -1,11 +1,11 @@
 //! The worked scripts of spaces, computed by the rules.
 
-ghost use Rattle.sp_scripts.specs.ValuesScripts.{Booleans, Nulls, PlainObjects, Endings, ResultCannotCross, Names, LookupUnbound, FieldOverwritten};
+ghost use Rattle.sp_scripts.specs.ValuesScripts.{Booleans, Nulls, PlainObjects, Endings, ResultCannotCross, Names, LookupUnbound, FieldOverwritten, Arrays};
 ghost use Rattle.sp_scripts.specs.FuelScripts.{OneSpace, TwoSpaces, FuelOfFiveRoots, TwoTasksOnOneCounter, TwoWaitingCallsInOrder, RecursionAtHome, Spin, ZeroLent, ThirdSpaceShort1, ThirdSpaceShort4, AThousandUnits};
 ghost use Rattle.sp_scripts.specs.FailuresScripts.{AckLost, CallLost, CallReadFails, CallWrittenThenFails, HelloReadFails, NoRetry, RecursionFails, RefusedThenOpen, ReplyQueuedReadFails, ReturnedLostHolds, TaskDropsResult, ParkedCallDropped};
 ghost use Rattle.sp_scripts.specs.LeasesScripts.{WithdrawnObject, CleanNotRepeatedWithHolder, CleanRepeatedUntilNotYet, LastHolderOfTwo, LateDirtyAfterStrongClean, LookupNeedsAckOfLease, MomentBelow, RenewalFailedAgain, WeakCleanForgets, OvertakenLease, LeaseOfAnOvertakenDirty, ParkedCallIsAReason, KeptFar, ChurnCleans, CycleStays, CellMadeAfar};
 ghost use Rattle.sp_scripts.specs.ThirdSpacesScripts.{ThirdSpace, ThirdSpaceSwept, FetchThroughThird, FreshRoundTrip, EntryBeforeStart};
-ghost use Rattle.sp_scripts.specs.BadLinesScripts.{BadLookupSelf, BadRootKind, BadRootNoHolder, LapsedLeaseIsNoRootArgument};
+ghost use Rattle.sp_scripts.specs.BadLinesScripts.{BadLookupSelf, BadRootKind, BadRootNoHolder, LapsedLeaseIsNoRootArgument, BadSpace};
 ghost use Rattle.sp_scripts.specs.Answers.{RightHello, WrongDigest, WrongId, NoHello, RefusedDial, ClosedByThoseThatAsk, ClosedByThoseThatAnswer, UnfitReplies, OrderOfFrames, Refusals, RefusalsOfLentTasks, HeldByATask, HeldByAField, HeldAfterTheEnd, TooManyReferences};
 
 /// Values that cross, and how calls end.
@@ -18,6 +18,7 @@ pub fn scripts_of_values()
     ensures names { Names }
     ensures lookup_unbound { LookupUnbound }
     ensures field_overwritten { FieldOverwritten }
+    ensures arrays { Arrays }
 {}
 
 /// One space, two spaces, and fuel.
@@ -86,6 +87,7 @@ pub fn scripts_of_bad_lines()
     ensures bad_root_kind { BadRootKind }
     ensures bad_root_no_holder { BadRootNoHolder }
     ensures lapsed_lease_is_no_root_argument { LapsedLeaseIsNoRootArgument }
+    ensures bad_space { BadSpace }
 {}
 
 /// What one space refuses and answers before peers that send anything: Hellos, frames that close a

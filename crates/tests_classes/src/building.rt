@@ -1,9 +1,13 @@
 //! Class files that are built from parts.
 
 use class_builder::{
-    AttributeParts, BuildFault, ClassParts, CodeParts, MethodParts, SUM, class_bytes,
+    AttributeParts, BuildFault, ClassParts, CodeParts, Line, MethodParts, SUM, class_bytes,
 };
 use std::test::Fail;
+
+fn no_lines<'a>() -> &'a [Line<'a>] {
+    &[]
+}
 
 #[test]
 fn parts_make_the_class_of_the_example(rt: HostRuntime) -> Result<(), Fail> {
@@ -15,6 +19,7 @@ fn parts_make_the_class_of_the_example(rt: HostRuntime) -> Result<(), Fail> {
         max_stack: 2,
         max_locals: 2,
         bytes: b"\x03\x3c\x1a\x9e\x00\x0d\x1b\x1a\x60\x3c\x84\x00\xff\xa7\xff\xf5\x1b\xac",
+        lines: no_lines(),
         attributes: &[frames],
     };
     let method = MethodParts {
@@ -29,6 +34,7 @@ fn parts_make_the_class_of_the_example(rt: HostRuntime) -> Result<(), Fail> {
         name: "T",
         superclass: "java/lang/Object",
         interfaces: &[],
+        fields: &[],
         methods: &[method],
         attributes: &[],
     };
@@ -47,6 +53,7 @@ fn what_is_too_long_is_refused(rt: HostRuntime) -> Result<(), Fail> {
         name: &name,
         superclass: "java/lang/Object",
         interfaces: &[],
+        fields: &[],
         methods: &[],
         attributes: &[],
     };

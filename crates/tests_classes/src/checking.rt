@@ -1,5 +1,6 @@
 //! Type checking.
 
+use cf_text::Shared;
 use cls_link::link;
 use std::alloc::{AllocError, Global};
 use std::test::Fail;
@@ -43,7 +44,7 @@ fn int() -> FieldType {
 }
 
 fn text(alloc: Global, bytes: &[u8]) -> Result<Text, AllocError> {
-    Ok(Text::new(bytes.to_vec(alloc)?))
+    Text::new(alloc, bytes.to_vec(alloc)?)
 }
 
 fn code_bytes(alloc: Global, bytes: &[u8]) -> Result<Table<u8>, Fail> {
@@ -59,14 +60,15 @@ fn method(alloc: Global, case: Case) -> Result<Method, Fail> {
         parameters.push(int())?;
     }
     let result = if case.is_void { None } else { Some(int()) };
+    let types = MethodDescriptor {
+        parameters: Row::new(parameters),
+        result,
+    };
     Ok(Method {
         flags: Flags { bits: case.flags },
         name: text(alloc, case.name)?,
         descriptor: text(alloc, b"(I)I")?,
-        types: MethodDescriptor {
-            parameters: Row::new(parameters),
-            result,
-        },
+        types: Shared::new(alloc, types)?,
         code: Some(Code {
             max_stack: case.max_stack,
             max_locals: case.max_locals,
@@ -143,5 +145,7 @@ fn methods_at_fault(rt: HostRuntime) -> Result<(), Fail> {
         ..make_case(&[0x60], &none)
     };
     assert_eq!(rt; checked(rt.alloc(), arguments)?, (67, 0));
+    // Code of no instruction, which no class file has.
+    assert_eq!(rt; checked(rt.alloc(), make_case(&[], &none))?, (66, 0));
     Ok(())
 }

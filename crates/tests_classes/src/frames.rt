@@ -8,7 +8,7 @@ use class_builder::SUM;
 use cls_link::link;
 use std::alloc::Global;
 use std::test::Fail;
-use ver_frames::{ClassSet, Linked, MethodView, TypeFrame, VType, declared};
+use ver_frames::{ClassSet, Linked, MethodView, TypeFrame, VType, declared, frame_assignable};
 
 // The class of examples/sum: its method f begins a loop at 2, which it leaves to 16.
 fn sum(alloc: Global) -> Result<Linked, Fail> {
@@ -53,13 +53,22 @@ fn a_method_declares_its_frames(rt: HostRuntime) -> Result<(), Fail> {
         return Err("offsets that do not rise".into());
     }
     let frames = declared(rt.alloc(), &method)?;
-    let [first, second] = frames.as_slice() else {
-        return Err("not two frames".into());
-    };
-    assert_eq!(rt; (first.0, second.0), (2, 16));
-    for frame in [&first.1, &second.1] {
-        assert_eq!(rt; frame.locals(), [VType::Int, VType::Int].as_slice());
-        assert_eq!(rt; (frame.depth(), frame.flag_this_uninit()), (0, false));
+    assert_eq!(rt; (frames.len(), frames.is_empty()), (2, false));
+    assert_eq!(rt;
+        (frames.offset(0), frames.offset(1), frames.offset(2)),
+        (Some(2), Some(16), None)
+    );
+    let mut copy = TypeFrame::new(0, Vec::new(rt.alloc()), Vec::new(rt.alloc()), true);
+    for index in 0..frames.len() {
+        let frame = frames.get(index).ok_or("no frame")?;
+        assert_eq!(rt; (frame.local_count(), frame.flag_this_uninit()), (2, false));
+        copy.copy_from(&frame)?;
+        assert_eq!(rt;
+            (copy.local(0), copy.local(1), copy.local(2)),
+            (Some(VType::Int), Some(VType::Int), None)
+        );
+        assert_eq!(rt; (copy.depth(), copy.flag_this_uninit()), (0, false));
+        assert!(rt; frame_assignable(linked.set(), &copy, &frame));
     }
     Ok(())
 }
@@ -71,22 +80,27 @@ fn a_method_begins_with_its_arguments(rt: HostRuntime) -> Result<(), Fail> {
     let arguments = method.argument_types(rt.alloc())?;
     assert_eq!(rt; arguments.as_slice(), [VType::Int].as_slice());
     let opening = method.opening(rt.alloc())?;
-    assert_eq!(rt; opening.locals(), [VType::Int, VType::Top].as_slice());
+    assert_eq!(rt;
+        (opening.local(0), opening.local(1), opening.local(2)),
+        (Some(VType::Int), Some(VType::Top), None)
+    );
+    assert_eq!(rt; opening.local_count(), 2);
     assert_eq!(rt; (opening.depth(), opening.flag_this_uninit()), (0, false));
     Ok(())
 }
 
 #[test]
-fn a_frame_takes_operands_and_becomes_a_copy(rt: HostRuntime) -> Result<(), Fail> {
+fn a_frame_takes_operands_and_local_variables(rt: HostRuntime) -> Result<(), Fail> {
     let alloc = rt.alloc();
-    let mut frame = TypeFrame::new(Vec::new(alloc), Vec::new(alloc), true);
+    let mut frame = TypeFrame::new(3, Vec::new(alloc), Vec::new(alloc), true);
     frame.push(VType::Int)?;
     frame.push(VType::Null)?;
     assert_eq!(rt; frame.stack(), [VType::Int, VType::Null].as_slice());
-    let locals = Vec::from_slice(alloc, &[VType::Top, VType::IntArray])?;
-    let mut copy = TypeFrame::new(locals, Vec::new(alloc), false);
-    copy.copy_from(&frame)?;
-    assert!(rt; copy.locals().is_empty() && copy.flag_this_uninit());
-    assert_eq!(rt; copy.stack(), [VType::Int, VType::Null].as_slice());
+    assert_eq!(rt; (frame.pop(), frame.depth()), (Some(VType::Null), 1));
+    frame.set_local(1, VType::IntArray)?;
+    assert_eq!(rt;
+        (frame.local(0), frame.local(1), frame.local(2)),
+        (Some(VType::Top), Some(VType::IntArray), Some(VType::Top))
+    );
     Ok(())
 }

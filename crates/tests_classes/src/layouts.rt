@@ -38,7 +38,7 @@ const TABLE: Attribute = Attribute {
 #[test]
 fn a_class_is_laid_out(rt: HostRuntime) -> Result<(), Fail> {
     let layout = read_layout(rt.alloc(), CLASS).ok().ok_or("refused")?;
-    assert_eq!(rt; layout.pool.places.as_slice().len(), 1);
+    assert_eq!(rt; layout.pool.positions.as_slice().len(), 1);
     assert_eq!(rt;
         layout.flags,
         Item {

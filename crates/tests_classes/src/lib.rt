@@ -7,9 +7,13 @@ mod building;
 #[cfg(test)]
 mod checking;
 #[cfg(test)]
+mod checking_objects;
+#[cfg(test)]
 mod decoding;
 #[cfg(test)]
 mod devices;
+#[cfg(test)]
+mod flags;
 #[cfg(test)]
 mod frames;
 #[cfg(test)]

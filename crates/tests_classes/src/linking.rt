@@ -2,14 +2,14 @@
 
 use cls_link::{
     ClassFile, ClassSet, Code, ElementType, Field, FieldSlot, FieldType, Flags, Linked, Method,
-    MethodDescriptor, MethodId, Pool, Row, Selection, Table, Text, link,
+    MethodDescriptor, MethodId, Pool, Row, Selection, Shared, Table, Text, link,
 };
 use std::alloc::{AllocError, Global};
 use std::process::Abort;
 use std::test::Fail;
 
 fn text(alloc: Global, bytes: &[u8]) -> Result<Text, AllocError> {
-    Ok(Text::new(bytes.to_vec(alloc)?))
+    Text::new(alloc, bytes.to_vec(alloc)?)
 }
 
 // A method that takes nothing and gives an int, 0 where it has code.
@@ -27,28 +27,30 @@ fn method(alloc: Global, flags: u16, name: &[u8]) -> Result<Method, AllocError> 
         dimensions: 0,
         element: ElementType::Int,
     });
+    let types = MethodDescriptor {
+        parameters: Row::new(Vec::new(alloc)),
+        result,
+    };
     Ok(Method {
         flags: Flags { bits: flags },
         name: text(alloc, name)?,
         descriptor: text(alloc, b"()I")?,
-        types: MethodDescriptor {
-            parameters: Row::new(Vec::new(alloc)),
-            result,
-        },
+        types: Shared::new(alloc, types)?,
         code,
     })
 }
 
 // A field of an int.
 fn field(alloc: Global, flags: u16, name: &[u8]) -> Result<Field, AllocError> {
+    let kind = FieldType {
+        dimensions: 0,
+        element: ElementType::Int,
+    };
     Ok(Field {
         flags: Flags { bits: flags },
         name: text(alloc, name)?,
         descriptor: text(alloc, b"I")?,
-        kind: FieldType {
-            dimensions: 0,
-            element: ElementType::Int,
-        },
+        kind: Shared::new(alloc, kind)?,
         constant: None,
     })
 }
@@ -65,7 +67,10 @@ fn linked(alloc: Global, flags: u16, superclass: &[u8]) -> Result<Linked, Fail> 
     fields.push(field(alloc, Flags::PUBLIC | Flags::STATIC, b"b")?)?;
     fields.push(field(alloc, Flags::PUBLIC, b"c")?)?;
     let mut interfaces = Vec::new(alloc);
-    interfaces.push(text(alloc, b"java/rmi/Remote")?)?;
+    // A class that implements it is a remote class.
+    if flags & Flags::INTERFACE != 0 {
+        interfaces.push(text(alloc, b"java/rmi/Remote")?)?;
+    }
     let file = ClassFile {
         pool: Pool::new(Vec::new(alloc)),
         flags: Flags { bits: flags },

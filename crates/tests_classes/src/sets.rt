@@ -14,8 +14,8 @@ fn file(alloc: Global, name: &[u8]) -> Result<ClassFile, AllocError> {
         flags: Flags {
             bits: Flags::PUBLIC,
         },
-        name: Text::new(name.to_vec(alloc)?),
-        superclass: Some(Text::new(b"java/lang/Object".to_vec(alloc)?)),
+        name: Text::new(alloc, name.to_vec(alloc)?)?,
+        superclass: Some(Text::new(alloc, b"java/lang/Object".to_vec(alloc)?)?),
         interfaces: Table::new(Vec::new(alloc)),
         fields: Table::new(Vec::new(alloc)),
         methods: Table::new(Vec::new(alloc)),
@@ -105,8 +105,8 @@ fn faults_name_the_class(rt: HostRuntime) -> Result<(), Fail> {
     refused(&rt, built_in, 30, b"java/lang/Object");
     let twice = ClassSet::build(alloc, files(alloc, &[b"U", b"T", b"U", b"T"])?);
     refused(&rt, twice, 30, b"T");
-    let two = ClassSet::build(alloc, files(alloc, &[b"U", b"T"])?);
-    refused(&rt, two, 38, b"T");
+    let two = ClassSet::build(alloc, files(alloc, &[b"U", b"T"])?)?;
+    assert_eq!(rt; two.len(), 31);
     Ok(())
 }
 
@@ -120,9 +120,9 @@ fn under(
     let mut file = file(alloc, name)?;
     let mut names = Vec::new(alloc);
     for interface in interfaces {
-        names.push(Text::new(interface.to_vec(alloc)?))?;
+        names.push(Text::new(alloc, interface.to_vec(alloc)?)?)?;
     }
-    file.superclass = Some(Text::new(superclass.to_vec(alloc)?));
+    file.superclass = Some(Text::new(alloc, superclass.to_vec(alloc)?)?);
     if names.len() > 65_535 {
         return Err(Fail::from("too many interfaces"));
     }
@@ -201,5 +201,41 @@ fn classes_that_cannot_be_numbered_are_too_many(rt: HostRuntime) -> Result<(), F
         files.push(under(alloc, name.as_bytes(), b"No", &[])?)?;
     }
     refused(&rt, ClassSet::build(alloc, files), 38, b"T4067");
+    Ok(())
+}
+
+// A class with these flags.
+fn flagged(alloc: Global, name: &[u8], superclass: &[u8], bits: u16) -> Result<ClassFile, Fail> {
+    let mut file = under(alloc, name, superclass, &[])?;
+    file.flags = Flags { bits };
+    Ok(file)
+}
+
+#[test]
+fn bad_supertypes_are_refused(rt: HostRuntime) -> Result<(), Fail> {
+    let alloc = rt.alloc();
+    let extended = set_of(alloc, &[(b"T", b"java/rmi/Remote", &[])])?;
+    refused(&rt, extended, 33, b"T");
+    let implemented = set_of(
+        alloc,
+        &[(b"T", b"java/lang/Object", &[b"java/lang/Exception"])],
+    )?;
+    refused(&rt, implemented, 33, b"T");
+    let interface = Flags::PUBLIC | Flags::INTERFACE | Flags::ABSTRACT;
+    let mut below_class = Vec::new(alloc);
+    below_class.push(flagged(alloc, b"I", b"java/lang/Exception", interface)?)?;
+    refused(&rt, ClassSet::build(alloc, below_class), 33, b"I");
+    // A final superclass, and the same beside a class that extends an interface: the lower number.
+    let mut finals = Vec::new(alloc);
+    finals.push(flagged(alloc, b"F", b"java/lang/Object", Flags::FINAL)?)?;
+    finals.push(under(alloc, b"G", b"F", &[])?)?;
+    refused(&rt, ClassSet::build(alloc, finals), 34, b"G");
+    let mut both = Vec::new(alloc);
+    both.push(flagged(alloc, b"F", b"java/lang/Object", Flags::FINAL)?)?;
+    both.push(under(alloc, b"G", b"F", &[])?)?;
+    both.push(under(alloc, b"T", b"java/rmi/Remote", &[])?)?;
+    refused(&rt, ClassSet::build(alloc, both), 33, b"T");
+    let remote = set_of(alloc, &[(b"T", b"java/lang/Object", &[b"java/rmi/Remote"])])?;
+    refused(&rt, remote, 39, b"T");
     Ok(())
 }

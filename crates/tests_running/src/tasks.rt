@@ -7,7 +7,7 @@ use class_builder::SUM;
 use cls_link::link;
 use cls_set::{
     ClassFile, ClassSet, Code, ElementType, FieldType, Flags, Method, MethodDescriptor, Pool, Row,
-    Table, Text,
+    Shared, Table, Text,
 };
 use std::alloc::{AllocError, Global};
 use std::process::Abort;
@@ -175,6 +175,7 @@ fn a_task_does_not_start(rt: HostRuntime) -> Result<(), Fail> {
         (StartFault::AbsentMethod, 85),
         (StartFault::BadSignature, 86),
         (StartFault::BadArgument, 87),
+        (StartFault::NotYet, 69),
         (StartFault::Memory, 15),
     ] {
         assert_eq!(rt; fault.number(), number);
@@ -189,17 +190,18 @@ fn program_of_bytes(alloc: Global) -> Result<Accepted, Fail> {
         dimensions: 0,
         element: ElementType::Byte,
     })?;
+    let types = MethodDescriptor {
+        parameters: Row::new(parameters),
+        result: None,
+    };
     let mut methods = Vec::new(alloc);
     methods.push(Method {
         flags: Flags {
             bits: Flags::STATIC,
         },
-        name: Text::new(b"f".to_vec(alloc)?),
-        descriptor: Text::new(b"(B)V".to_vec(alloc)?),
-        types: MethodDescriptor {
-            parameters: Row::new(parameters),
-            result: None,
-        },
+        name: Text::new(alloc, b"f".to_vec(alloc)?)?,
+        descriptor: Text::new(alloc, b"(B)V".to_vec(alloc)?)?,
+        types: Shared::new(alloc, types)?,
         code: Some(Code {
             max_stack: 0,
             max_locals: 1,
@@ -213,8 +215,8 @@ fn program_of_bytes(alloc: Global) -> Result<Accepted, Fail> {
         flags: Flags {
             bits: Flags::PUBLIC,
         },
-        name: Text::new(b"T".to_vec(alloc)?),
-        superclass: Some(Text::new(b"java/lang/Object".to_vec(alloc)?)),
+        name: Text::new(alloc, b"T".to_vec(alloc)?)?,
+        superclass: Some(Text::new(alloc, b"java/lang/Object".to_vec(alloc)?)?),
         interfaces: Table::new(Vec::new(alloc)),
         fields: Table::new(Vec::new(alloc)),
         methods: Table::new(methods),

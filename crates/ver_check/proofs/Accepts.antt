@@ -10,8 +10,8 @@ use Rattle.ver_check.specs.Acceptance.{IsSafeAt, subject_of}
 use Rattle.ver_check.specs.Faults.{IsCheckFault, IsMethodFault, IsNamed}
 use Rattle.ver_check.specs.Listed.{IsListed}
 use Rattle.ver_check.specs.Refusals.{IsFaultAt, IsFaultIn, IsFaultOf}
-use Rattle.ver_check.specs.declared.fault.CheckFault.{CheckFault}
-use Rattle.ver_check.specs.declared.fault.CheckFault.TheVariants as fault
+use Rattle.ver_rules.specs.declared.fault.CheckFault.{CheckFault}
+use Rattle.ver_rules.specs.declared.fault.CheckFault.TheVariants as fault
 use Rattle.ver_frames.specs.Method.{Subject}
 
 some_of : (o : Option Subject) (P : Subject → Type 0) → IsSomeAnd o P → (m : Subject) × (o ≡ Some m) × P m

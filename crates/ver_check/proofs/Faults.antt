@@ -1,26 +1,24 @@
 -- A fault tells of a body, a method or a class set that it is not type safe.
-use Rattle.std.proofs.Common.{◌≡◌, ℕ, suc, ◌<◌, ◌≤◌, ◌⊎◌, inl, inr, Bool, true, false, Option, Some, None, Result, Ok, Err, List, [], ◌∷◌, length, sym, subst, ap, ◌∙◌, arith}
-use Rattle.std.specs.Prelude.{IsSomeAnd, MatchBool, MatchOption, option_and_then, slice_get}
+use Rattle.std.proofs.Common.{◌≡◌, ℕ, zero, suc, cond, refl, ◌<◌, ◌≤◌, ◌⊎◌, inl, inr, Bool, true, false, Option, Some, None, Result, Ok, Err, List, [], ◌∷◌, length, sym, subst, ap, ◌∙◌, arith}
+use Rattle.std.specs.Prelude.{IsSomeAnd, MatchBool, MatchOption, option_and_then, slice_get, slice_index}
 use Rattle.std.specs.List.{AllByRecursion}
 use Rattle.cls_link.specs.Links.{Links}
 use Rattle.cls_link.specs.declared.linked.LinkedInsn.{LinkedInsn}
 use Rattle.cls_link.specs.declared.linked.LinkedMethod.{LinkedMethod}
 use Rattle.cls_set.specs.declared.class.Class.{Class}
-use Rattle.ver_check.proofs.Outcomes.{made, effect_made}
 use Rattle.ver_check.proofs.Typings.{refuted, refuted_opening}
 use Rattle.ver_check.specs.Acceptance.{AreSafe, IsSafe, IsSafeMethod, subject_of}
-use Rattle.ver_check.specs.Bodies.{Body, body_of, declared_at}
+use Rattle.ver_check.specs.Bodies.{Body, body_of, declared_at, offset_at}
 use Rattle.ver_check.specs.Effects.{effect, falls_through, targets}
 use Rattle.ver_check.specs.Faults as faults
 use Rattle.ver_check.specs.Faults.{IsBodyFault, IsCheckFault, IsFaultWith, IsMethodFault, IsMissing, IsWrongAmong, IsWrongAt, IsWrongBody, IsWrongEntry, IsWrongNext}
 use Rattle.ver_check.specs.Flow.{ComesIn, GoesTo, Passes}
-use Rattle.ver_check.specs.Outcomes.{outcome}
 use Rattle.ver_check.specs.Refusals.{SettlesSet}
 use Rattle.ver_check.specs.Typing.{IsTypeSafe, Lands}
-use Rattle.ver_check.specs.declared.fault.CheckFault.{CheckFault}
-use Rattle.ver_check.specs.declared.fault.CheckFault.TheVariants as fault
-use Rattle.ver_check.specs.declared.fault.CheckRule.{CheckRule}
-use Rattle.ver_check.specs.declared.fault.CheckRule.TheVariants.{NoFrame, NotAssignable}
+use Rattle.ver_rules.specs.declared.fault.CheckFault.{CheckFault}
+use Rattle.ver_rules.specs.declared.fault.CheckFault.TheVariants as fault
+use Rattle.ver_rules.specs.declared.fault.CheckRule.{CheckRule}
+use Rattle.ver_rules.specs.declared.fault.CheckRule.TheVariants.{NoFrame, NotAssignable}
 use Rattle.ver_frames.specs.Assignable.{IsFrameAssignable}
 use Rattle.ver_frames.specs.Frames.{Frame}
 use Rattle.ver_frames.specs.Method.{Subject}
@@ -55,22 +53,19 @@ next_stops body place true after next rule told R S (inl ends) goes = let past =
 next_stops body place true after next rule told R S (inr wrong) goes = entry_stops body.classes (declared_at body (suc place)) after next (rule ≡ NotAssignable) (told ≡ place) wrong.1 goes.1
 next_stops body place false after next rule told R S wrong goes = let some = goes wrong.0 in let none = wrong.1.0 in absurd (cc)
 
-same_some : (f g : Frame) → ◌≡◌ {A = Option Frame} (Some f) (Some g) → f ≡ g
-same_some f g e = cc
+same_ok : (f g : Frame) → ◌≡◌ {A = Result Frame CheckRule} (Ok f) (Ok g) → f ≡ g
+same_ok f g e = cc
 
-none_acts : (body : Body) (i : LinkedInsn) (here after : Frame) (rule : CheckRule) → outcome body i here ≡ Err rule → effect body i here ≡ Some after → ⊥
-none_acts body i here after rule e acts =
-    let none : effect body i here ≡ None = sym (effect_made body i here) ∙ ap made e in
-    let both : ◌≡◌ {A = Option Frame} None (Some after) = sym none ∙ acts in
-    absurd (cc)
+none_acts : (rule : CheckRule) (r : Result Frame CheckRule) (after : Frame) → r ≡ Err rule → r ≡ Ok after → ⊥
+none_acts rule r after e acts = absurd (cc)
 
 -- the pass does not come through an instruction that is at fault
 pub wrong_stops : (body : Body) (place : ℕ) (i : LinkedInsn) (here next : Frame) (rule : CheckRule) (told : ℕ) → IsWrongAt body place i here rule told → Passes body place i here next → ⊥
-wrong_stops body place i here next rule told (faults.IsWrongAt.acts e at) passes = none_acts body i here passes.after rule e passes.acts
+wrong_stops body place i here next rule told (faults.IsWrongAt.acts e at) passes = none_acts rule (effect body (offset_at body place) i here) passes.after e passes.acts
 wrong_stops body place i here next rule told (faults.IsWrongAt.lands after acts wrong) passes =
-    among_stops body place after (targets i) rule told wrong (subst (λ (f : Frame). AllByRecursion (Lands body f) (targets i)) (same_some passes.after after (sym passes.acts ∙ acts)) passes.lands)
+    among_stops body place after (targets body i) rule told wrong (subst (λ (f : Frame). AllByRecursion (Lands body f) (targets body i)) (same_ok passes.after after (sym passes.acts ∙ acts)) passes.lands)
 wrong_stops body place i here next rule told (faults.IsWrongAt.goes_on after acts lands wrong) passes =
-    next_stops body place (falls_through i) after next rule told _ _ wrong (subst (λ (f : Frame). GoesTo body place i f next) (same_some passes.after after (sym passes.acts ∙ acts)) passes.goes_to)
+    next_stops body place (falls_through i) after next rule told _ _ wrong (subst (λ (f : Frame). GoesTo body place i f next) (same_ok passes.after after (sym passes.acts ∙ acts)) passes.goes_to)
 
 -- a body that is at fault is not type safe
 pub body_unsafe : (body : Body) (rule : CheckRule) (told : ℕ) → IsWrongBody body rule told → ¬ IsTypeSafe body

@@ -3,31 +3,16 @@ use Rattle.std.proofs.Common.{◌≡◌, ℕ, suc, ◌<◌, ◌≤◌, ◌⊎◌
 use Rattle.std.specs.Prelude.{MatchBool}
 use Rattle.std.specs.List.{AllByRecursion}
 use Rattle.cls_link.specs.declared.linked.LinkedInsn.{LinkedInsn}
-use Rattle.ver_check.proofs.Outcomes.{made, effect_made}
-use Rattle.ver_check.specs.Bodies.{Body, declared_at}
+use Rattle.ver_check.specs.Bodies.{Body, declared_at, offset_at}
 use Rattle.ver_check.specs.Effects.{effect, falls_through, targets}
 use Rattle.ver_check.specs.Faults as faults
 use Rattle.ver_check.specs.Faults.{IsMissing, IsWrongAmong, IsWrongAt, IsWrongEntry, IsWrongNext, IsWrongTarget}
 use Rattle.ver_check.specs.Flow.{ComesIn, GoesTo, LandsOnAll, Passes, Settles}
-use Rattle.ver_check.specs.Outcomes.{outcome}
 use Rattle.ver_check.specs.Typing.{Lands}
-use Rattle.ver_check.specs.declared.fault.CheckRule.TheVariants.{FallsOff}
+use Rattle.ver_rules.specs.declared.fault.CheckRule.TheVariants.{FallsOff}
 use Rattle.ver_check.specs.declared.stop.Stop.{Stop}
 use Rattle.ver_check.specs.declared.stop.Stop.TheVariants.{Broken, Missing, Memory}
 use Rattle.ver_frames.specs.Frames.{Frame}
-
-landed_on : (body : Body) (from target : ℕ) (after : Frame) (r : Result (Unit {0}) Stop) → Settles from r (Lands body after target) (IsWrongTarget body from after target)
-    → Settles from r (AllByRecursion (Lands body after) (target ∷ [])) (IsWrongAmong body from after (target ∷ []))
-landed_on body from target after (Ok x) h = (h, tt)
-landed_on body from target after (Err (Broken rule)) h = inl h
-landed_on body from target after (Err (Missing place)) h = inl h
-landed_on body from target after (Err Memory) h = tt
-
--- at the one target
-pub landed : (body : Body) (from target : ℕ) (insn : LinkedInsn) (after : Frame) (r : Result (Unit {0}) Stop) → targets insn ≡ target ∷ [] → Settles from r (Lands body after target) (IsWrongTarget body from after target)
-    → Settles from r (LandsOnAll body insn after) (IsWrongAmong body from after (targets insn))
-landed body from target insn after r e h =
-    subst (λ (ts : List ℕ). Settles from r (AllByRecursion (Lands body after) ts) (IsWrongAmong body from after ts)) (sym e) (landed_on body from target after r h)
 
 came_from : (body : Body) (place : ℕ) (given here : Frame) (falls : Bool) (r : Result (Unit {0}) Stop) → falls ≡ true → suc place < length body.insns
     → Settles place r (ComesIn body (suc place) given here) (IsWrongEntry body (suc place) given place)
@@ -45,22 +30,19 @@ pub came : (body : Body) (place : ℕ) (insn : LinkedInsn) (given here : Frame) 
     → Settles place r (GoesTo body place insn given here) (IsWrongNext body place insn given)
 came body place insn given here r e inside h = came_from body place given here (falls_through insn) r e inside h
 
-acted : (body : Body) (insn : LinkedInsn) (here after : Frame) → outcome body insn here ≡ Ok after → effect body insn here ≡ Some after
-acted body insn here after e = sym (effect_made body insn here) ∙ ap made e
-
 -- it does not land on a target
-pub not_landed : (body : Body) (place : ℕ) (insn : LinkedInsn) (here after next : Frame) (s : Stop) → outcome body insn here ≡ Ok after
-    → Settles {X = Unit {0}} place (Err s) (LandsOnAll body insn after) (IsWrongAmong body place after (targets insn))
+pub not_landed : (body : Body) (place : ℕ) (insn : LinkedInsn) (here after next : Frame) (s : Stop) → effect body (offset_at body place) insn here ≡ Ok after
+    → Settles {X = Unit {0}} place (Err s) (LandsOnAll body insn after) (IsWrongAmong body place after (targets body insn))
     → Settles {X = Unit {0}} place (Err s) (Passes body place insn here next) (IsWrongAt body place insn here)
-not_landed body place insn here after next (Broken rule) e wrong = faults.IsWrongAt.lands after (acted body insn here after e) wrong
-not_landed body place insn here after next (Missing missing) e wrong = faults.IsWrongAt.lands after (acted body insn here after e) wrong
+not_landed body place insn here after next (Broken rule) e wrong = faults.IsWrongAt.lands after e wrong
+not_landed body place insn here after next (Missing missing) e wrong = faults.IsWrongAt.lands after e wrong
 not_landed body place insn here after next Memory e wrong = tt
 
 -- it goes on, or it does not
-pub went : (body : Body) (place : ℕ) (insn : LinkedInsn) (here after next : Frame) (r : Result (Unit {0}) Stop) → outcome body insn here ≡ Ok after → LandsOnAll body insn after
+pub went : (body : Body) (place : ℕ) (insn : LinkedInsn) (here after next : Frame) (r : Result (Unit {0}) Stop) → effect body (offset_at body place) insn here ≡ Ok after → LandsOnAll body insn after
     → Settles place r (GoesTo body place insn after next) (IsWrongNext body place insn after)
     → Settles place r (Passes body place insn here next) (IsWrongAt body place insn here)
-went body place insn here after next (Ok x) e lands goes = record { after = after; acts = acted body insn here after e; lands = lands; goes_to = goes }
-went body place insn here after next (Err (Broken rule)) e lands wrong = faults.IsWrongAt.goes_on after (acted body insn here after e) lands wrong
-went body place insn here after next (Err (Missing missing)) e lands wrong = faults.IsWrongAt.goes_on after (acted body insn here after e) lands wrong
+went body place insn here after next (Ok x) e lands goes = record { after = after; acts = e; lands = lands; goes_to = goes }
+went body place insn here after next (Err (Broken rule)) e lands wrong = faults.IsWrongAt.goes_on after e lands wrong
+went body place insn here after next (Err (Missing missing)) e lands wrong = faults.IsWrongAt.goes_on after e lands wrong
 went body place insn here after next (Err Memory) e lands wrong = tt

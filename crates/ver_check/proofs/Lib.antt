@@ -3,7 +3,7 @@ pub mod Faults
 pub mod Flows
 pub mod FrameIndices
 pub mod Links
-pub mod Outcomes
+pub mod Makings
 pub mod Starts
 pub mod Stops
 pub mod Typings

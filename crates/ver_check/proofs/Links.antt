@@ -6,15 +6,18 @@ use Rattle.std.specs.List.Sorted.{IsStrictlyIncreasing}
 use Rattle.cf_insns.proofs.Exact.{listing_reads}
 use Rattle.cf_insns.proofs.Listings.{listing_from-rises}
 use Rattle.cf_insns.specs.Listing.{Listing, offsets, Rises}
-use Rattle.cf_insns.specs.Reading.{◌>>=◌, reading, listing_from, if_none_astray}
+use Rattle.cf_insns.specs.Reading.{◌>>=◌}
+use Rattle.cf_insns.specs.ReadListing.{reading, listing_from, if_none_astray}
 use Rattle.cf_insns.specs.Listing.{first_astray}
 use Rattle.cf_insns.specs.declared.fault.CodeFault.{CodeFault}
 use Rattle.cf_insns.specs.declared.insn.Insn.{Insn}
 use Rattle.cf_reader.specs.declared.class_file.Code.{Code}
+use Rattle.cf_reader.specs.declared.class_file.Method.{Method}
+use Rattle.cls_set.specs.declared.class.Class.{Class}
+use Rattle.space_ids.specs.declared.ids.ClassId.{ClassId}
 use Rattle.cls_link.specs.Links.{Declared, IsLinked, IsLinkedCode}
-use Rattle.cls_link.specs.Targets.{AreLinked, linked_insn}
+use Rattle.cls_link.specs.LinkedForms.{IsLinkedEntry}
 use Rattle.cls_link.specs.declared.linked.LinkedCode.{LinkedCode}
-use Rattle.cls_link.specs.declared.linked.LinkedInsn.{LinkedInsn}
 use Rattle.cls_link.specs.declared.linked.LinkedMethod.{LinkedMethod}
 use Rattle.ver_check.specs.Bodies.{body_of, declared_at, frame_at_offset}
 use Rattle.ver_check.specs.Listed.{IsListed}
@@ -44,33 +47,38 @@ map_long : {A B : Type 0} (f : A → B) (xs : List A) → length (map f xs) ≡ 
 map_long f [] = refl
 map_long f (x ∷ xs) = ap suc (map_long f xs)
 
-linked_long : (listing : Listing) (insns : List LinkedInsn) → AreLinked listing insns → length insns ≡ length listing
-linked_long listing insns linked =
-    sym (map_long (λ (i : LinkedInsn). Some i) insns) ∙ ap length linked ∙ map_long (λ (e : ℕ × Insn). linked_insn (offsets listing) e.0 e.1) listing
+zip_long : {A B : Type 0} (R : A → B → Type 0) (xs : List A) (ys : List B) → AllZip R xs ys → length ys ≡ length xs
+zip_long R [] [] zip = refl
+zip_long R [] (y ∷ ys) zip = absurd zip
+zip_long R (x ∷ xs) [] zip = absurd zip
+zip_long R (x ∷ xs) (y ∷ ys) zip = ap suc (zip_long R xs ys zip.1)
 
-code_listed : (bytes : List ℕ) (code : LinkedCode) → IsLinkedCode bytes code → IsListed code
-code_listed bytes code linked =
-    let rises = increasing (offsets linked.listing) (read_rises bytes linked.listing (listing_reads bytes linked.listing linked.read)) in
-    record {
-      rising = subst (λ (ns : List ℕ). IsStrictlyIncreasing ns) (sym linked.offsets_of) rises;
-      listed = ap length linked.offsets_of ∙ map_long (λ (e : ℕ × Insn). e.0) linked.listing ∙ sym (linked_long linked.listing code.insns linked.insns);
-    }
+module _ (classes : List Class) where
+  code_listed : (class : ClassId) (method : Method) (bytes : List ℕ) (code : LinkedCode) → IsLinkedCode classes class method bytes code → IsListed code
+  code_listed class method bytes code linked =
+      let rises = increasing (offsets linked.listing) (read_rises bytes linked.listing (listing_reads bytes linked.listing linked.read)) in
+      record {
+        rising = subst (λ (ns : List ℕ). IsStrictlyIncreasing ns) (sym linked.offsets_of) rises;
+        listed = ap length linked.offsets_of ∙ map_long (λ (e : ℕ × Insn). e.0) linked.listing
+            ∙ sym (zip_long (IsLinkedEntry classes class (offsets linked.listing) code.switches) linked.listing code.insns linked.insns);
+      }
 
-of_method : (o : Option Code) (c : Option LinkedCode) → MatchOption o (c ≡ None) (λ code. IsSomeAnd c (IsLinkedCode code.bytes)) → IfSome c IsListed
-of_method None None h = tt
-of_method None (Some code) h = absurd (cc)
-of_method (Some read) None h = tt
-of_method (Some read) (Some code) h = code_listed read.bytes code h
+  of_method : (class : ClassId) (method : Method) (o : Option Code) (c : Option LinkedCode)
+      → MatchOption o (c ≡ None) (λ code. IsSomeAnd c (IsLinkedCode classes class method code.bytes)) → IfSome c IsListed
+  of_method class method None None h = tt
+  of_method class method None (Some code) h = absurd (cc)
+  of_method class method (Some read) None h = tt
+  of_method class method (Some read) (Some code) h = code_listed class method read.bytes code h
 
--- the code of each method of a linked class set is listed
-pub method_listed : (declared : List Declared) (methods : List LinkedMethod) → AllZip IsLinked declared methods → (k : ℕ) (m : LinkedMethod) → slice_get methods k ≡ Some m → IfSome m.code IsListed
-method_listed [] [] linked k m at = absurd (cc)
-method_listed (d ∷ ds) [] linked k m at = absurd linked
-method_listed [] (n ∷ ns) linked k m at = absurd linked
-method_listed (d ∷ ds) (n ∷ ns) linked zero m at =
-    let same : n ≡ m = cc in
-    subst (λ (x : LinkedMethod). IfSome x.code IsListed) same (of_method d.method.code n.code linked.0.code)
-method_listed (d ∷ ds) (n ∷ ns) linked (suc k) m at = method_listed ds ns linked.1 k m at
+  -- the code of each method of a linked class set is listed
+  pub method_listed : (declared : List Declared) (methods : List LinkedMethod) → AllZip (IsLinked classes) declared methods → (k : ℕ) (m : LinkedMethod) → slice_get methods k ≡ Some m → IfSome m.code IsListed
+  method_listed [] [] linked k m at = absurd (cc)
+  method_listed (d ∷ ds) [] linked k m at = absurd linked
+  method_listed [] (n ∷ ns) linked k m at = absurd linked
+  method_listed (d ∷ ds) (n ∷ ns) linked zero m at =
+      let same : n ≡ m = cc in
+      subst (λ (x : LinkedMethod). IfSome x.code IsListed) same (of_method d.class d.method d.method.code n.code linked.0.code)
+  method_listed (d ∷ ds) (n ∷ ns) linked (suc k) m at = method_listed ds ns linked.1 k m at
 
 -- ---- the frame at each place fits
 

@@ -3,8 +3,8 @@ use Rattle.std.proofs.Common.{ℕ, List, Err}
 use Rattle.std.specs.Prelude.{slice_index}
 use Rattle.ver_check.specs.Flow.{Settles}
 use Rattle.ver_check.specs.Settled.{SettlesBody, fault_of}
-use Rattle.ver_check.specs.declared.fault.CheckRule.{CheckRule}
-use Rattle.ver_check.specs.declared.fault.CheckRule.TheVariants.{NoFrame}
+use Rattle.ver_rules.specs.declared.fault.CheckRule.{CheckRule}
+use Rattle.ver_rules.specs.declared.fault.CheckRule.TheVariants.{NoFrame}
 use Rattle.ver_check.specs.declared.stop.Stop.{Stop}
 use Rattle.ver_check.specs.declared.stop.Stop.TheVariants as stop
 

@@ -1,6 +1,6 @@
 -- The one pass and the typings of a body: a typing has the frames that the pass reaches, and where the pass comes
 -- through all instructions there is a typing.
-use Rattle.std.proofs.Common.{◌≡◌, ◌≢◌, inl, inr, ℕ, zero, suc, ◌+◌, ◌<◌, ◌≤◌, Bool, true, false, Option, Some, None, List, length, refl, sym, ap, subst, ◌∙◌, arith}
+use Rattle.std.proofs.Common.{◌≡◌, ◌≢◌, inl, inr, ℕ, zero, suc, ◌+◌, ◌<◌, ◌≤◌, Bool, true, false, Option, Some, None, Result, Ok, List, length, refl, sym, ap, subst, ◌∙◌, arith}
 use Rattle.std.specs.Prelude.{◌==◌, if◌then◌else◌, MatchOption, MatchBool, IsSome, slice_get, option_and_then}
 use Rattle.std.proofs.lemmas.Bool.{eq-eqb, ne_eqb}
 use Rattle.std.proofs.lemmas.Option.{slice_get_cases, slice_get_within}
@@ -8,11 +8,12 @@ use borrow.Author.Count.{below_more}
 use Rattle.cls_link.specs.declared.linked.LinkedInsn.{LinkedInsn}
 use Rattle.cls_set.specs.declared.class.Class.{Class}
 use Rattle.ver_check.proofs.Within.{effect_within}
-use Rattle.ver_check.specs.Bodies.{Body, insn_at, declared_at, frame_at_offset}
+use Rattle.ver_check.specs.Bodies.{Body, insn_at, declared_at, frame_at_offset, offset_at}
 use Rattle.ver_check.specs.Effects.{effect, falls_through}
 use Rattle.ver_check.specs.Flow.{ComesIn, Passes, Reaches}
 use Rattle.ver_check.specs.Flow.Reaches.{begins, comes_on}
 use Rattle.ver_check.specs.Typing.{Enters, GoesOn, IsFineAt, IsTyping, IsTypeSafe, IsWithin}
+use Rattle.ver_rules.specs.declared.fault.CheckRule.{CheckRule}
 use Rattle.ver_frames.specs.Assignable.{IsFrameAssignable}
 use Rattle.ver_frames.specs.Frames.{Frame}
 
@@ -25,6 +26,9 @@ Entered classes o given here = MatchOption o (here ≡ given) (λ declared. IsFr
 
 same_some : (f g : Frame) → ◌≡◌ {A = Option Frame} (Some f) (Some g) → f ≡ g
 same_some f g e = cc
+
+same_ok : (f g : Frame) → ◌≡◌ {A = Result Frame CheckRule} (Ok f) (Ok g) → f ≡ g
+same_ok f g e = cc
 
 came_same : (classes : List Class) (o : Option Frame) (given here g : Frame) → Came classes o given here → Entered classes o given g → ((d : Frame) → o ≡ Some d → g ≡ d) → g ≡ here
 came_same classes None given here g came entered declared = entered ∙ sym came
@@ -65,7 +69,7 @@ module _ (body : Body) (frames : ℕ → Frame) (typing : IsTyping body frames) 
   reached place here (comes_on last insn before next reaches at passes) inside =
       let same : frames last ≡ before = reached last before reaches (omega arith) in
       let fine = typing.fine last insn at in
-      let after_same : fine.after ≡ passes.after = same_some fine.after passes.after (sym fine.acts ∙ ap (effect body insn) same ∙ passes.acts) in
+      let after_same : fine.after ≡ passes.after = same_ok fine.after passes.after (sym fine.acts ∙ ap (effect body (offset_at body last) insn) same ∙ passes.acts) in
       next_same last (falls_through insn) passes.after next passes.goes_to (subst (λ (f : Frame). GoesOn body frames last insn f) after_same fine.goes_on) inside
 
   goes_from : (place : ℕ) (falls : Bool) (after : Frame)
@@ -79,7 +83,7 @@ module _ (body : Body) (frames : ℕ → Frame) (typing : IsTyping body frames) 
       let fine = typing.fine place insn at in
       record {
         after = fine.after;
-        acts = ap (effect body insn) (sym same) ∙ fine.acts;
+        acts = ap (effect body (offset_at body place) insn) (sym same) ∙ fine.acts;
         lands = fine.lands;
         goes_to = goes_from place (falls_through insn) fine.after fine.goes_on;
       }
@@ -141,7 +145,7 @@ moved : (body : Body) (frames others : ℕ → Frame) (place : ℕ) (insn : Link
     → IsFineAt body frames place insn → IsFineAt body others place insn
 moved body frames others place insn here next fine = record {
   after = fine.after;
-  acts = ap (effect body insn) (sym here) ∙ fine.acts;
+  acts = ap (effect body (offset_at body place) insn) (sym here) ∙ fine.acts;
   lands = fine.lands;
   goes_on = moved_on body frames others place (falls_through insn) fine.after next fine.goes_on;
 }
@@ -189,7 +193,7 @@ module _ (body : Body) (opening_within : IsWithin body body.opening) (declared_w
       let old : (k : ℕ) → k < suc place → frames k ≡ before.frames k = λ k lt. elsewhere before.frames (suc place) next k (omega arith) in
       let new : frames (suc place) ≡ next = at_it before.frames (suc place) next in
       let here_within : IsWithin body here = subst (λ (f : Frame). IsWithin body f) before.at_last (before.within place (omega arith) (slice_get_within body.insns place insn at)) in
-      let after_within : IsWithin body passes.after = effect_within body insn here passes.after here_within passes.acts in
+      let after_within : IsWithin body passes.after = effect_within body (offset_at body place) insn here passes.after here_within passes.acts in
       record {
         frames = frames;
         at_last = new;
@@ -204,7 +208,7 @@ module _ (body : Body) (opening_within : IsWithin body body.opening) (declared_w
             (λ j below i is. moved body before.frames frames j i (sym (old j (omega arith))) (sym (old (suc j) (omega arith))) (before.fine j below i is))
             (λ i is. subst (λ (x : LinkedInsn). IsFineAt body frames place x) (same_insn insn i (sym at ∙ is)) (record {
               after = passes.after;
-              acts = ap (effect body insn) (old place (omega arith) ∙ before.at_last) ∙ passes.acts;
+              acts = ap (effect body (offset_at body place) insn) (old place (omega arith) ∙ before.at_last) ∙ passes.acts;
               lands = passes.lands;
               goes_on = on_from body frames place (falls_through insn) passes.after next new passes.goes_to;
             })) k (omega arith);

@@ -1,106 +1,322 @@
 -- Effects keep a frame within the local variables and operands of the method.
-use Rattle.std.proofs.Common.{◌≡◌, ℕ, ◌<◌, Bool, true, false, Option, Some, None, List, [], ◌∷◌, length, refl, subst, arith}
-use Rattle.std.specs.Prelude.{nat_lt, if◌then◌else◌, option_and_then, option_map, slice_set, is_none, not}
+use Rattle.std.proofs.Common.{◌≡◌, ℕ, suc, ◌==◌, ◌<◌, ◌≤◌, Bool, true, false, Option, Some, None, Result, Ok, Err, List, [], ◌∷◌, length, refl, subst, arith}
+use Rattle.std.specs.Prelude.{nat_lt, if◌then◌else◌, map, slice_get, slice_set, is_none, not, IfOk}
+use Rattle.std.specs.List.{list_any}
+use Rattle.std.specs.Option.{option_map_or}
 use Rattle.std.proofs.lemmas.Bool.Decides.{nat_tests}
-use Rattle.std.proofs.lemmas.Option.{option_and_then_some}
+use Rattle.std.proofs.lemmas.List.{length-map}
 use Rattle.std.proofs.Math.ListN.{length-set}
+use Rattle.cf_insns.specs.declared.insn.ArrayOperation.{ArrayOperation}
+use Rattle.cf_insns.specs.declared.insn.ArrayOperation.TheVariants as array
+use Rattle.cf_insns.specs.declared.insn.InvokeKind.{InvokeKind}
+use Rattle.cf_insns.specs.declared.insn.InvokeKind.TheVariants.{Virtual, Special, Static}
 use Rattle.cf_insns.specs.declared.insn.StackOperation.{StackOperation}
-use Rattle.cf_insns.specs.declared.insn.StackOperation.TheVariants.{Pop, Dup, Swap}
+use Rattle.cf_insns.specs.declared.insn.StackOperation.TheVariants.{Pop, Pop2, Dup, DupX1, DupX2, Dup2, Dup2X1, Dup2X2, Swap}
+use Rattle.cf_insns.specs.declared.insn.ValueKind.{ValueKind}
+use Rattle.cf_insns.specs.declared.insn.ValueKind.TheVariants as kind
+use Rattle.cf_reader.specs.declared.class_file.Field.{Field}
+use Rattle.cf_reader.specs.declared.class_file.Method.{Method}
+use Rattle.cf_text.specs.declared.types.FieldType.{FieldType}
 use Rattle.cls_link.specs.declared.linked.LinkedInsn.{LinkedInsn}
 use Rattle.cls_link.specs.declared.linked.LinkedInsn.TheVariants as insn
+use Rattle.cls_resolve.specs.declared.named.MemberIndex.{MemberIndex}
+use Rattle.space_ids.specs.declared.ids.ClassId.{ClassId}
 use Rattle.ver_check.specs.Bodies.{Body}
-use Rattle.ver_check.specs.Effects.{effect, taken, take, give, set_local, local_type, moved, where_true, returns_kind, is_int, is_word, is_kind}
+use Rattle.ver_check.specs.Effects.{array_effect, cast_vtype, effect, reference_result, return_int, return_nothing, return_reference, throwable}
+use Rattle.ver_check.specs.Members.{arguments_of, call, call_interface, call_special, call_static, call_super, call_virtual, construct, field_at, get_field, give_result, is_init, is_made_of, is_own_init, make_new, method_at, put_field, take_arguments, this_initialized, written_object}
+use Rattle.ver_check.specs.Steps.{◌>>=◌, combined, demand, found_or, give, give_all, incremented, load, local_type, popped_into, rearranged, replaced, store, take, take_all, take_two, taken, taken_two}
 use Rattle.ver_check.specs.Typing.{IsWithin}
+use Rattle.ver_rules.specs.Wants.{is_int, is_wanted, kind_wanted, operand_fault}
+use Rattle.ver_rules.specs.declared.fault.CheckRule.{CheckRule}
+use Rattle.ver_rules.specs.declared.fault.CheckRule.TheVariants as rule
+use Rattle.ver_rules.specs.declared.want.Want.{Want}
+use Rattle.ver_rules.specs.declared.want.Want.TheVariants as want
+use Rattle.ver_frames.specs.AssignableTest.{is_assignable}
+use Rattle.ver_frames.specs.Changes.{cleared, is_made_at, made_is, map_locals, map_types, this_is}
 use Rattle.ver_frames.specs.Frames.{Frame}
+use Rattle.ver_frames.specs.Types.{field_vtype}
 use Rattle.ver_frames.specs.declared.vtype.VType.{VType}
-use Rattle.ver_frames.specs.declared.vtype.VType.TheVariants.{Int}
+use Rattle.ver_frames.specs.declared.vtype.VType.TheVariants.{Top, Int, Null, Object, IntArray, Uninitialized, UninitializedThis}
+
+-- one after the other
+and_then : {A B : Type 0} (P : A → Type 0) (Q : B → Type 0) (r : Result A CheckRule) (k : A → Result B CheckRule) → IfOk r P → ((x : A) → P x → IfOk (k x) Q) → IfOk (r >>= k) Q
+and_then P Q (Ok x) k here further = further x here
+and_then P Q (Err e) k here further = tt
+
+-- whatever there is
+any : {A : Type 0} (r : Result A CheckRule) → IfOk r (λ x. Unit {0})
+any (Ok x) = tt
+any (Err e) = tt
+
+chosen : {A : Type 0} (P : A → Type 0) (test : Bool) (x : A) (broken : CheckRule) → P x → IfOk (if test then Ok x else Err broken) P
+chosen P true x broken fits = fits
+chosen P false x broken fits = tt
 
 module _ (body : Body) where
-  same_fits : (f g : Frame) → ◌≡◌ {A = Option Frame} (Some f) (Some g) → IsWithin body f → IsWithin body g
-  same_fits f g e fits = let same : f ≡ g = cc in subst (λ (h : Frame). IsWithin body h) same fits
+  abbrev Fits : Result Frame CheckRule → Type 0
+  Fits r = IfOk r (λ f. IsWithin body f)
 
-  kept_fits : (test : Bool) (t : VType) (f : Frame) (p : VType × Frame) → ◌≡◌ {A = Option (VType × Frame)} (if test then Some (t, f) else None) (Some p) → IsWithin body f → IsWithin body p.1
-  kept_fits true t f p e fits =
-      let same : ◌≡◌ {A = VType × Frame} (t, f) p = cc in
-      subst (λ (q : VType × Frame). IsWithin body q.1) same fits
-  kept_fits false t f p e fits = absurd (cc)
+  next : (r : Result Frame CheckRule) (k : Frame → Result Frame CheckRule) → Fits r → ((f : Frame) → IsWithin body f → Fits (k f)) → Fits (r >>= k)
+  next r k here further = and_then (λ f. IsWithin body f) (λ f. IsWithin body f) r k here further
 
-  popped_fits : (test : VType → Bool) (locals stack : List VType) (flag : Bool) (p : VType × Frame)
-      → taken test (record { locals = locals; stack = stack; flag_this_uninit = flag }) ≡ Some p
-      → IsWithin body (record { locals = locals; stack = stack; flag_this_uninit = flag }) → IsWithin body p.1
+  found : {A : Type 0} (r : Result A CheckRule) (k : A → Result Frame CheckRule) → ((x : A) → Fits (k x)) → Fits (r >>= k)
+  found r k further = and_then (λ x. Unit {0}) (λ f. IsWithin body f) r k (any r) (λ x _. further x)
+
+  -- ---- operands
+
+  popped : (asked : Want) (locals stack : List VType) (flag : Bool) → IsWithin body (record { locals = locals; stack = stack; flag_this_uninit = flag })
+      → IfOk (taken body asked (record { locals = locals; stack = stack; flag_this_uninit = flag })) (λ p. IsWithin body p.1)
   unfolding taken
-  popped_fits test locals [] flag p e fits = absurd (cc)
-  popped_fits test locals (t ∷ below) flag p e fits =
-      kept_fits (test t) t (record { locals = locals; stack = below; flag_this_uninit = flag }) p e (record { locals = fits.locals; stack = omega (arith, fits.stack) })
+  popped asked locals [] flag fits = tt
+  popped asked locals (t ∷ below) flag fits =
+      chosen (λ (p : VType × Frame). IsWithin body p.1) (is_wanted body.classes asked t) (t, record { locals = locals; stack = below; flag_this_uninit = flag }) (operand_fault asked t)
+      (record { locals = fits.locals; stack = omega (arith, fits.stack) })
 
-  taken_fits : (test : VType → Bool) (f : Frame) (p : VType × Frame) → taken test f ≡ Some p → IsWithin body f → IsWithin body p.1
-  taken_fits test f p e fits = popped_fits test f.locals f.stack f.flag_this_uninit p e fits
+  taken_fits : (asked : Want) (f : Frame) → IsWithin body f → IfOk (taken body asked f) (λ p. IsWithin body p.1)
+  taken_fits asked f fits = popped asked f.locals f.stack f.flag_this_uninit fits
 
-  mapped_fits : (o : Option (VType × Frame)) (g : Frame) → option_map (λ (p : VType × Frame). p.1) o ≡ Some g → ((p : VType × Frame) → o ≡ Some p → IsWithin body p.1) → IsWithin body g
-  mapped_fits None g e fits = absurd (cc)
-  mapped_fits (Some p) g e fits = same_fits p.1 g e (fits p refl)
+  after_taken : (asked : Want) (f : Frame) (k : VType × Frame → Result Frame CheckRule) → IsWithin body f → ((p : VType × Frame) → IsWithin body p.1 → Fits (k p)) → Fits (taken body asked f >>= k)
+  after_taken asked f k fits further = and_then (λ (p : VType × Frame). IsWithin body p.1) (λ f. IsWithin body f) (taken body asked f) k (taken_fits asked f fits) further
 
-  take_fits : (test : VType → Bool) (f g : Frame) → take test f ≡ Some g → IsWithin body f → IsWithin body g
-  take_fits test f g e fits = mapped_fits (taken test f) g e (λ p is. taken_fits test f p is fits)
+  take_fits : (asked : Want) (f : Frame) → IsWithin body f → Fits (take body asked f)
+  take_fits asked f fits = after_taken asked f (λ top. Ok top.1) fits (λ p fits. fits)
 
-  given_fits : (test : Bool) (t : VType) (f g : Frame) → nat_lt (length f.stack) body.max_stack ≡ test
-      → ◌≡◌ {A = Option Frame} (if test then Some (record f { stack = t ∷ f.stack }) else None) (Some g) → IsWithin body f → IsWithin body g
-  given_fits true t f g room e fits =
-      let lt : length f.stack < body.max_stack = grind (arith, nat_tests) in
-      same_fits (record f { stack = t ∷ f.stack }) g e (record { locals = fits.locals; stack = omega arith })
-  given_fits false t f g room e fits = absurd (cc)
+  take_all_fits : (types : List VType) (f : Frame) → IsWithin body f → Fits (take_all body types f)
+  unfolding take_all
+  take_all_fits [] f fits = fits
+  take_all_fits (t ∷ types) f fits = next (take body (want.Fits t) f) (take_all body types) (take_fits (want.Fits t) f fits) (λ g. take_all_fits types g)
 
-  give_fits : (t : VType) (f g : Frame) → give body t f ≡ Some g → IsWithin body f → IsWithin body g
+  given : (test : Bool) (t : VType) (f : Frame) → nat_lt (length f.stack) body.max_stack ≡ test → IsWithin body f
+      → Fits (if test then Ok (record f { stack = t ∷ f.stack }) else Err rule.Overflow)
+  given true t f room fits =
+      let lt : length f.stack < body.max_stack = grind (arith, nat_tests) in record { locals = fits.locals; stack = omega arith }
+  given false t f room fits = tt
+
+  give_fits : (t : VType) (f : Frame) → IsWithin body f → Fits (give body t f)
   unfolding give
-  give_fits t f g e fits = given_fits (nat_lt (length f.stack) body.max_stack) t f g refl e fits
+  give_fits t f fits = given (nat_lt (length f.stack) body.max_stack) t f refl fits
 
-  written_fits : (test : Bool) (n : ℕ) (t : VType) (f g : Frame) → ◌≡◌ {A = Option Frame} (if test then Some (record f { locals = slice_set f.locals n t }) else None) (Some g) → IsWithin body f → IsWithin body g
-  written_fits true n t f g e fits =
-      same_fits (record f { locals = slice_set f.locals n t }) g e (record { locals = rw length-set fits.locals; stack = fits.stack })
-  written_fits false n t f g e fits = absurd (cc)
+  give_all_fits : (types : List VType) (f : Frame) → IsWithin body f → Fits (give_all body types f)
+  unfolding give_all
+  give_all_fits [] f fits = fits
+  give_all_fits (t ∷ types) f fits = next (give body t f) (give_all body types) (give_fits t f fits) (λ g. give_all_fits types g)
 
-  set_fits : (n : ℕ) (t : VType) (f g : Frame) → set_local n t f ≡ Some g → IsWithin body f → IsWithin body g
-  unfolding set_local
-  set_fits n t f g e fits = written_fits (nat_lt n (length f.locals)) n t f g e fits
+  take_two_fits : (asked : Want) (f : Frame) → IsWithin body f → Fits (take_two body asked f)
+  take_two_fits asked f fits = next (take body asked f) (take body asked) (take_fits asked f fits) (take_fits asked)
 
-  where_fits : (test : Bool) (f g : Frame) → where_true test f ≡ Some g → IsWithin body f → IsWithin body g
-  where_fits true f g e fits = same_fits f g e fits
-  where_fits false f g e fits = absurd (cc)
+  replaced_fits : (asked : Want) (t : VType) (f : Frame) → IsWithin body f → Fits (replaced body asked t f)
+  replaced_fits asked t f fits = next (take body asked f) (give body t) (take_fits asked f fits) (give_fits t)
 
-  moved_fits : (operation : StackOperation) (f g : Frame) → moved body operation f ≡ Some g → IsWithin body f → IsWithin body g
-  moved_fits Pop f g e fits = take_fits is_word f g e fits
-  moved_fits Dup f g e fits =
-      option_and_then_some (λ (top : VType × Frame). option_and_then (give body top.0) (give body top.0 top.1)) (taken is_word f) g e (λ top is goes.
-      option_and_then_some (give body top.0) (give body top.0 top.1) g goes (λ h first second.
-      give_fits top.0 h g second (give_fits top.0 top.1 h first (taken_fits is_word f top is fits))))
-  moved_fits Swap f g e fits =
-      option_and_then_some (λ (top : VType × Frame). option_and_then (λ (next : VType × Frame). option_and_then (give body next.0) (give body top.0 next.1)) (taken is_word top.1)) (taken is_word f) g e (λ top is goes.
-      option_and_then_some (λ (next : VType × Frame). option_and_then (give body next.0) (give body top.0 next.1)) (taken is_word top.1) g goes (λ next below gives.
-      option_and_then_some (give body next.0) (give body top.0 next.1) g gives (λ h first second.
-      give_fits next.0 h g second (give_fits top.0 next.1 h first (taken_fits is_word top.1 next below (taken_fits is_word f top is fits))))))
+  after_two : (f : Frame) (k : VType × VType × Frame → Result Frame CheckRule) → IsWithin body f → ((p : VType × VType × Frame) → IsWithin body p.2 → Fits (k p)) → Fits (taken_two body f >>= k)
+  after_two f k fits further =
+      and_then (λ (p : VType × VType × Frame). IsWithin body p.2) (λ f. IsWithin body f) (taken_two body f) k
+      (and_then (λ (p : VType × Frame). IsWithin body p.1) (λ (p : VType × VType × Frame). IsWithin body p.2) (taken body want.Word f) (λ a. taken body want.Word a.1 >>= λ b. Ok (a.0, b.0, b.1)) (taken_fits want.Word f fits)
+      (λ a fits. and_then (λ (p : VType × Frame). IsWithin body p.1) (λ (p : VType × VType × Frame). IsWithin body p.2) (taken body want.Word a.1) (λ b. Ok (a.0, b.0, b.1)) (taken_fits want.Word a.1 fits) (λ b fits. fits)))
+      further
 
-  pub effect_within : (i : LinkedInsn) (f g : Frame) → IsWithin body f → effect body i f ≡ Some g → IsWithin body g
+  rearranged_fits : (operation : StackOperation) (f : Frame) → IsWithin body f → Fits (rearranged body operation f)
+  unfolding rearranged
+  rearranged_fits Pop f fits = take_fits want.Word f fits
+  rearranged_fits Pop2 f fits = take_two_fits want.Word f fits
+  rearranged_fits Dup f fits = after_taken want.Word f (λ a. give_all body (a.0 ∷ a.0 ∷ []) a.1) fits (λ a. give_all_fits (a.0 ∷ a.0 ∷ []) a.1)
+  rearranged_fits DupX1 f fits = after_two f (λ ab. give_all body (ab.0 ∷ ab.1 ∷ ab.0 ∷ []) ab.2) fits (λ ab. give_all_fits (ab.0 ∷ ab.1 ∷ ab.0 ∷ []) ab.2)
+  rearranged_fits DupX2 f fits =
+      after_two f (λ ab. taken body want.Word ab.2 >>= λ c. give_all body (ab.0 ∷ c.0 ∷ ab.1 ∷ ab.0 ∷ []) c.1) fits
+      (λ ab fits. after_taken want.Word ab.2 (λ c. give_all body (ab.0 ∷ c.0 ∷ ab.1 ∷ ab.0 ∷ []) c.1) fits (λ c. give_all_fits (ab.0 ∷ c.0 ∷ ab.1 ∷ ab.0 ∷ []) c.1))
+  rearranged_fits Dup2 f fits = after_two f (λ ab. give_all body (ab.1 ∷ ab.0 ∷ ab.1 ∷ ab.0 ∷ []) ab.2) fits (λ ab. give_all_fits (ab.1 ∷ ab.0 ∷ ab.1 ∷ ab.0 ∷ []) ab.2)
+  rearranged_fits Dup2X1 f fits =
+      after_two f (λ ab. taken body want.Word ab.2 >>= λ c. give_all body (ab.1 ∷ ab.0 ∷ c.0 ∷ ab.1 ∷ ab.0 ∷ []) c.1) fits
+      (λ ab fits. after_taken want.Word ab.2 (λ c. give_all body (ab.1 ∷ ab.0 ∷ c.0 ∷ ab.1 ∷ ab.0 ∷ []) c.1) fits (λ c. give_all_fits (ab.1 ∷ ab.0 ∷ c.0 ∷ ab.1 ∷ ab.0 ∷ []) c.1))
+  rearranged_fits Dup2X2 f fits =
+      after_two f (λ ab. taken_two body ab.2 >>= λ cd. give_all body (ab.1 ∷ ab.0 ∷ cd.1 ∷ cd.0 ∷ ab.1 ∷ ab.0 ∷ []) cd.2) fits
+      (λ ab fits. after_two ab.2 (λ cd. give_all body (ab.1 ∷ ab.0 ∷ cd.1 ∷ cd.0 ∷ ab.1 ∷ ab.0 ∷ []) cd.2) fits (λ cd. give_all_fits (ab.1 ∷ ab.0 ∷ cd.1 ∷ cd.0 ∷ ab.1 ∷ ab.0 ∷ []) cd.2))
+  rearranged_fits Swap f fits = after_two f (λ ab. give_all body (ab.0 ∷ ab.1 ∷ []) ab.2) fits (λ ab. give_all_fits (ab.0 ∷ ab.1 ∷ []) ab.2)
+
+  -- ---- local variables
+
+  demand_fits : (broken : CheckRule) (test : Bool) (f : Frame) → IsWithin body f → Fits (demand broken test f)
+  demand_fits broken test f fits = chosen (λ f. IsWithin body f) test f broken fits
+
+  load_fits : (k : ValueKind) (n : ℕ) (f : Frame) → IsWithin body f → Fits (load body k n f)
+  load_fits k n f fits = found (local_type body (kind_wanted k) n f) (λ t. give body t f) (λ t. give_fits t f fits)
+
+  set_fits : (n : ℕ) (t : VType) (f : Frame) → IsWithin body f → IsWithin body (record f { locals = slice_set f.locals n t })
+  set_fits n t f fits = record { locals = rw length-set fits.locals; stack = fits.stack }
+
+  popped_into_fits : (k : ValueKind) (n : ℕ) (f : Frame) → IsWithin body f → Fits (popped_into body k n f)
+  popped_into_fits k n f fits =
+      after_taken (kind_wanted k) f (λ top. Ok (record top.1 { locals = slice_set top.1.locals n top.0 })) fits (λ top. set_fits n top.0 top.1)
+
+  store_fits : (k : ValueKind) (n : ℕ) (f : Frame) → IsWithin body f → Fits (store body k n f)
+  store_fits k n f fits =
+      next (demand rule.Local (nat_lt n (length f.locals)) f) (popped_into body k n) (demand_fits rule.Local (nat_lt n (length f.locals)) f fits) (popped_into_fits k n)
+
+  -- ---- members
+
+  mapped : (change : VType → VType) (f : Frame) → IsWithin body f → IsWithin body (map_types change f)
+  mapped change f fits =
+      let locals : length (map change f.locals) ≡ length f.locals = length-map f.locals change in
+      let stack : length (map change f.stack) ≡ length f.stack = length-map f.stack change in
+      record { locals = omega (arith, locals, fits.locals); stack = omega (arith, stack, fits.stack) }
+
+  mapped_locals : (change : VType → VType) (f : Frame) → IsWithin body f → IsWithin body (map_locals change f)
+  mapped_locals change f fits =
+      let locals : length (map change f.locals) ≡ length f.locals = length-map f.locals change in
+      record { locals = omega (arith, locals, fits.locals); stack = fits.stack }
+
+  get_field_fits : (class : ClassId) (field : Field) (f : Frame) → IsWithin body f → Fits (get_field body class field f)
+  unfolding get_field
+  get_field_fits class field f fits = replaced_fits (want.Fits (Object class)) (field_vtype body.classes field.kind) f fits
+
+  put_field_fits : (class : ClassId) (m : MemberIndex) (field : Field) (f : Frame) → IsWithin body f → Fits (put_field body class m field f)
+  unfolding put_field
+  put_field_fits class m field f fits =
+      next (take body (want.Fits (field_vtype body.classes field.kind)) f) (take body (written_object body class m))
+      (take_fits (want.Fits (field_vtype body.classes field.kind)) f fits) (take_fits (written_object body class m))
+
+  make_new_fits : (at : ℕ) (f : Frame) → IsWithin body f → Fits (make_new body at f)
+  unfolding make_new
+  make_new_fits at f fits =
+      next (demand rule.Uninitialized (not (list_any (is_made_at at) f.stack)) f) (λ g. give body (Uninitialized at) (map_locals (cleared at) g))
+      (demand_fits rule.Uninitialized (not (list_any (is_made_at at) f.stack)) f fits)
+      (λ g fits. give_fits (Uninitialized at) (map_locals (cleared at) g) (mapped_locals (cleared at) g fits))
+
+  result_fits : (method : Method) (f : Frame) → IsWithin body f → Fits (give_result body method f)
+  unfolding give_result
+  result_fits method f fits = of_result method.types.result
+    where
+      of_result : (o : Option FieldType) → Fits (option_map_or (λ (kind : FieldType). give body (field_vtype body.classes kind) f) o (Ok f))
+      of_result None = fits
+      of_result (Some kind) = give_fits (field_vtype body.classes kind) f fits
+
+  arguments_fit : (method : Method) (f : Frame) → IsWithin body f → Fits (take_arguments body method f)
+  arguments_fit method f fits = take_all_fits (arguments_of body method) f fits
+
+  call_static_fits : (method : Method) (f : Frame) → IsWithin body f → Fits (call_static body method f)
+  unfolding call_static
+  call_static_fits method f fits = next (take_arguments body method f) (give_result body method) (arguments_fit method f fits) (result_fits method)
+
+  receiver_fits : (method : Method) (asked : Want) (f : Frame) → IsWithin body f → Fits (take_arguments body method f >>= take body asked)
+  receiver_fits method asked f fits = next (take_arguments body method f) (take body asked) (arguments_fit method f fits) (take_fits asked)
+
+  call_virtual_fits : (class : ClassId) (method : Method) (f : Frame) → IsWithin body f → Fits (call_virtual body class method f)
+  unfolding call_virtual
+  call_virtual_fits class method f fits =
+      next (take_arguments body method f >>= take body (want.Fits (Object class))) (give_result body method) (receiver_fits method (want.Fits (Object class)) f fits) (result_fits method)
+
+  tested_fits : (method : Method) (asked : Want) (test : Bool) (f : Frame) → IsWithin body f
+      → Fits (take_arguments body method f >>= take body asked >>= demand rule.Mismatch test >>= give_result body method)
+  tested_fits method asked test f fits =
+      next (take_arguments body method f >>= take body asked >>= demand rule.Mismatch test) (give_result body method)
+      (next (take_arguments body method f >>= take body asked) (demand rule.Mismatch test) (receiver_fits method asked f fits) (demand_fits rule.Mismatch test))
+      (result_fits method)
+
+  call_interface_fits : (count : ℕ) (class : ClassId) (method : Method) (f : Frame) → IsWithin body f → Fits (call_interface body count class method f)
+  unfolding call_interface
+  call_interface_fits count class method f fits = tested_fits method (want.Fits (Object class)) (count == suc (length method.types.parameters)) f fits
+
+  call_super_fits : (class : ClassId) (method : Method) (f : Frame) → IsWithin body f → Fits (call_super body class method f)
+  unfolding call_super
+  call_super_fits class method f fits =
+      tested_fits method (want.Fits (Object body.class_id)) (is_assignable body.classes (Object body.class_id) (Object class)) f fits
+
+  constructed : (class : ClassId) (locals stack : List VType) (flag : Bool) → IsWithin body (record { locals = locals; stack = stack; flag_this_uninit = flag })
+      → Fits (construct body class (record { locals = locals; stack = stack; flag_this_uninit = flag }))
+  unfolding construct
+  constructed class locals [] flag fits = tt
+  constructed class locals (Uninitialized offset ∷ below) flag fits =
+      let f : Frame = record { locals = locals; stack = below; flag_this_uninit = flag } in
+      chosen (λ f. IsWithin body f) (is_made_of body offset class) (map_types (made_is offset class) f) rule.Mismatch
+      (mapped (made_is offset class) f (record { locals = fits.locals; stack = omega (arith, fits.stack) }))
+  constructed class locals (UninitializedThis ∷ below) flag fits =
+      let f : Frame = record { locals = locals; stack = below; flag_this_uninit = flag } in
+      let within : IsWithin body (map_types (this_is body.class_id) f) = mapped (this_is body.class_id) f (record { locals = fits.locals; stack = omega (arith, fits.stack) }) in
+      chosen (λ f. IsWithin body f) (is_own_init body class) (this_initialized body f) rule.Mismatch
+      (record { locals = within.locals; stack = within.stack })
+  constructed class locals (Top ∷ below) flag fits = tt
+  constructed class locals (Int ∷ below) flag fits = tt
+  constructed class locals (Null ∷ below) flag fits = tt
+  constructed class locals (Object c ∷ below) flag fits = tt
+  constructed class locals (IntArray ∷ below) flag fits = tt
+
+  call_special_fits : (class : ClassId) (method : Method) (f : Frame) → IsWithin body f → Fits (call_special body class method f)
+  unfolding call_special
+  call_special_fits class method f fits = by_name (is_init method)
+    where
+      by_name : (test : Bool) → Fits (if test then take_arguments body method f >>= construct body class else call_super body class method f)
+      by_name true = next (take_arguments body method f) (construct body class) (arguments_fit method f fits) (λ g fits. constructed class g.locals g.stack g.flag_this_uninit fits)
+      by_name false = call_super_fits class method f fits
+
+  call_fits : (k : InvokeKind) (class : ClassId) (method : Method) (f : Frame) → IsWithin body f → Fits (call body k class method f)
+  unfolding call
+  call_fits Virtual class method f fits = call_virtual_fits class method f fits
+  call_fits Special class method f fits = call_special_fits class method f fits
+  call_fits Static class method f fits = call_static_fits method f fits
+
+  -- ---- all instructions
+
+  array_fits : (operation : ArrayOperation) (f : Frame) → IsWithin body f → Fits (array_effect body operation f)
+  unfolding array_effect
+  array_fits array.New f fits = replaced_fits want.Int IntArray f fits
+  array_fits array.Load f fits =
+      next (take body want.Int f >>= take body (want.Fits IntArray)) (give body Int)
+      (next (take body want.Int f) (take body (want.Fits IntArray)) (take_fits want.Int f fits) (take_fits (want.Fits IntArray))) (give_fits Int)
+  array_fits array.Store f fits =
+      next (take body want.Int f >>= take body want.Int) (take body (want.Fits IntArray)) (take_two_fits want.Int f fits) (take_fits (want.Fits IntArray))
+  array_fits array.Length f fits = replaced_fits (want.Fits IntArray) Int f fits
+
+  return_int_fits : (f : Frame) → IsWithin body f → Fits (return_int body f)
+  unfolding return_int
+  return_int_fits f fits =
+      next (take body want.Int f) (demand rule.Return (option_map_or is_int body.result false)) (take_fits want.Int f fits) (demand_fits rule.Return (option_map_or is_int body.result false))
+
+  return_reference_fits : (f : Frame) → IsWithin body f → Fits (return_reference body f)
+  unfolding return_reference
+  return_reference_fits f fits = of_result (reference_result body.result)
+    where
+      of_result : (o : Option VType) → Fits (option_map_or (λ (t : VType). take body (want.Fits t) f) o (take body want.Reference f >>= λ g. Err rule.Return))
+      of_result None = next (take body want.Reference f) (λ g. Err rule.Return) (take_fits want.Reference f fits) (λ g fits. tt)
+      of_result (Some t) = take_fits (want.Fits t) f fits
+
+  return_nothing_fits : (f : Frame) → IsWithin body f → Fits (return_nothing body f)
+  unfolding return_nothing
+  return_nothing_fits f fits =
+      next (demand rule.Uninitialized (not f.flag_this_uninit) f) (demand rule.Return (is_none body.result)) (demand_fits rule.Uninitialized (not f.flag_this_uninit) f fits) (demand_fits rule.Return (is_none body.result))
+
+  effect_fits : (at : ℕ) (i : LinkedInsn) (f : Frame) → IsWithin body f → Fits (effect body at i f)
   unfolding effect
-  effect_within insn.Nop f g fits e = same_fits f g e fits
-  effect_within (insn.Constant value) f g fits e = give_fits Int f g e fits
-  effect_within (insn.Load k n) f g fits e =
-      option_and_then_some (λ (t : VType). give body t f) (local_type (is_kind k) n f) g e (λ t is gives. give_fits t f g gives fits)
-  effect_within (insn.Store k n) f g fits e =
-      option_and_then_some (λ (top : VType × Frame). set_local n top.0 top.1) (taken (is_kind k) f) g e (λ top is sets. set_fits n top.0 top.1 g sets (taken_fits (is_kind k) f top is fits))
-  effect_within (insn.Increment n by) f g fits e =
-      option_and_then_some (λ (t : VType). Some f) (local_type is_int n f) g e (λ t is same. same_fits f g same fits)
-  effect_within (insn.Stack operation) f g fits e = moved_fits operation f g e fits
-  effect_within (insn.Unary operator) f g fits e =
-      option_and_then_some (give body Int) (take is_int f) g e (λ h first gives. give_fits Int h g gives (take_fits is_int f h first fits))
-  effect_within (insn.Binary operator) f g fits e =
-      option_and_then_some (give body Int) (option_and_then (take is_int) (take is_int f)) g e (λ h both gives.
-      option_and_then_some (take is_int) (take is_int f) h both (λ k first second.
-      give_fits Int h g gives (take_fits is_int k h second (take_fits is_int f k first fits))))
-  effect_within (insn.If condition target) f g fits e = take_fits is_int f g e fits
-  effect_within (insn.IfCompare condition target) f g fits e =
-      option_and_then_some (take is_int) (take is_int f) g e (λ k first second. take_fits is_int k g second (take_fits is_int f k first fits))
-  effect_within (insn.Goto target) f g fits e = same_fits f g e fits
-  effect_within (insn.ReturnValue k) f g fits e =
-      option_and_then_some (where_true (returns_kind k body.result)) (take (is_kind k) f) g e (λ h first returns. where_fits (returns_kind k body.result) h g returns (take_fits (is_kind k) f h first fits))
-  effect_within insn.Return f g fits e =
-      option_and_then_some (where_true (is_none body.result)) (where_true (not f.flag_this_uninit) f) g e (λ h first returns. where_fits (is_none body.result) h g returns (where_fits (not f.flag_this_uninit) f h first fits))
+  effect_fits at insn.Nop f fits = fits
+  effect_fits at insn.Null f fits = give_fits Null f fits
+  effect_fits at (insn.Constant value) f fits = give_fits Int f fits
+  effect_fits at (insn.Load k n) f fits = load_fits k n f fits
+  effect_fits at (insn.Store k n) f fits = store_fits k n f fits
+  effect_fits at (insn.Increment n by) f fits = found (local_type body want.Int n f) (λ t. Ok f) (λ t. fits)
+  effect_fits at (insn.Stack operation) f fits = rearranged_fits operation f fits
+  effect_fits at (insn.Unary operator) f fits = replaced_fits want.Int Int f fits
+  effect_fits at (insn.Binary operator) f fits = next (take_two body want.Int f) (give body Int) (take_two_fits want.Int f fits) (give_fits Int)
+  effect_fits at (insn.Array operation) f fits = array_fits operation f fits
+  effect_fits at (insn.If condition target) f fits = take_fits want.Int f fits
+  effect_fits at (insn.IfCompare condition target) f fits = take_two_fits want.Int f fits
+  effect_fits at (insn.IfSame equality target) f fits = take_two_fits want.Reference f fits
+  effect_fits at (insn.IfNull equality target) f fits = take_fits want.Reference f fits
+  effect_fits at (insn.Goto target) f fits = fits
+  effect_fits at (insn.Switch index) f fits = take_fits want.Int f fits
+  effect_fits at (insn.ReturnValue kind.Int) f fits = return_int_fits f fits
+  effect_fits at (insn.ReturnValue kind.Reference) f fits = return_reference_fits f fits
+  effect_fits at insn.Return f fits = return_nothing_fits f fits
+  effect_fits at insn.Throw f fits = take_fits (want.Fits (throwable body.classes)) f fits
+  effect_fits at (insn.GetField class m) f fits = found (found_or rule.Mismatch (field_at body.classes m)) (λ field. get_field body class field f) (λ field. get_field_fits class field f fits)
+  effect_fits at (insn.PutField class m) f fits = found (found_or rule.Mismatch (field_at body.classes m)) (λ field. put_field body class m field f) (λ field. put_field_fits class m field f fits)
+  effect_fits at (insn.Invoke k class m) f fits = found (found_or rule.Mismatch (method_at body.classes m)) (λ method. call body k class method f) (λ method. call_fits k class method f fits)
+  effect_fits at (insn.InvokeInterface count class m) f fits =
+      found (found_or rule.Mismatch (method_at body.classes m)) (λ method. call_interface body count class method f) (λ method. call_interface_fits count class method f fits)
+  effect_fits at (insn.New class) f fits = make_new_fits at f fits
+  effect_fits at (insn.CheckCast type) f fits = replaced_fits want.Initialized (cast_vtype type) f fits
+  effect_fits at (insn.InstanceOf type) f fits = replaced_fits want.Initialized Int f fits
+
+  of_ok : (r : Result Frame CheckRule) (g : Frame) → Fits r → r ≡ Ok g → IsWithin body g
+  of_ok (Ok f) g fits e = let same : f ≡ g = cc in subst (λ (h : Frame). IsWithin body h) same fits
+  of_ok (Err broken) g fits e = absurd (cc)
+
+  pub effect_within : (at : ℕ) (i : LinkedInsn) (f g : Frame) → IsWithin body f → effect body at i f ≡ Ok g → IsWithin body g
+  effect_within at i f g fits e = of_ok (effect body at i f) g (effect_fits at i f fits) e

@@ -1,112 +1,126 @@
-use Rattle.std.specs.Prelude.{ℕ, Bool, true, false, not, nat_lt, if◌then◌else◌, Option, Some, None, List, [], ◌∷◌, length, slice_get, slice_set, option_and_then, option_map, is_none}
-use Rattle.cf_insns.specs.declared.insn.StackOperation.{StackOperation}
-use Rattle.cf_insns.specs.declared.insn.StackOperation.TheVariants.{Pop, Dup, Swap}
-use Rattle.cf_insns.specs.declared.insn.ValueKind.{ValueKind}
+use Rattle.std.specs.Prelude.{ℕ, Bool, true, false, not, if◌then◌else◌, Option, Some, None, Result, Ok, Err, List, [], ◌∷◌, is_none, codes, slice_get}
+use Rattle.std.specs.Option.{option_map_or}
+use Rattle.cf_insns.specs.declared.insn.ArrayOperation.{ArrayOperation}
+use Rattle.cf_insns.specs.declared.insn.ArrayOperation.TheVariants as array
 use Rattle.cf_insns.specs.declared.insn.ValueKind.TheVariants as kind
+use Rattle.cls_resolve.specs.declared.named.CastType.{CastType}
+use Rattle.cls_resolve.specs.declared.named.CastType.TheVariants as cast
 use Rattle.cls_link.specs.declared.linked.LinkedInsn.{LinkedInsn}
 use Rattle.cls_link.specs.declared.linked.LinkedInsn.TheVariants as insn
+use Rattle.cls_link.specs.declared.linked.LinkedSwitch.{LinkedSwitch}
+use Rattle.cls_link.specs.declared.linked.LinkedSwitch.TheVariants as switch
+use Rattle.cls_set.specs.declared.class.Class.{Class}
+use Rattle.cls_set.specs.Classes.{number_of}
+use Rattle.space_ids.specs.declared.ids.ClassId.{ClassId}
 use Rattle.ver_check.specs.Bodies.{Body}
+use Rattle.ver_check.specs.Members.{call, call_interface, field_at, get_field, make_new, method_at, put_field}
+use Rattle.ver_check.specs.Steps.{◌>>=◌, combined, demand, found_or, give, incremented, load, rearranged, replaced, store, take, take_two}
+use Rattle.ver_rules.specs.Wants.{is_int, is_reference}
+use Rattle.ver_rules.specs.declared.fault.CheckRule.{CheckRule}
+use Rattle.ver_rules.specs.declared.fault.CheckRule.TheVariants as rule
+use Rattle.ver_rules.specs.declared.want.Want.TheVariants as want
 use Rattle.ver_frames.specs.Frames.{Frame}
 use Rattle.ver_frames.specs.declared.vtype.VType.{VType}
-use Rattle.ver_frames.specs.declared.vtype.VType.TheVariants.{Top, Int}
+use Rattle.ver_frames.specs.declared.vtype.VType.TheVariants.{Top, Int, Null, Object, IntArray}
 
--- The effect of each instruction on a frame (JVMS 4.10.1.9): none where it may not stand in it.
+-- The effect of each instruction on a frame (JVMS 4.10.1.9): the frame after it, or the first rule that it breaks. At one instruction
+-- the local variable comes first, then the operands from the top, then further conditions, then the result of the method, then the
+-- room on the operand stack.
 
--- one effect after the other
-infixl 10 ◌>>=◌
-abbrev pub ◌>>=◌ : {A B : Type 0} → Option A → (A → Option B) → Option B
-o >>= f = option_and_then f o
+-- ---- arrays of ints
 
--- whether a type is int
-abbrev pub is_int : VType → Bool
-is_int Int = true
-is_int _ = false
+unfoldable pub array_effect : Body → ArrayOperation → Frame → Result Frame CheckRule
+array_effect body array.New f = take body want.Int f >>= give body IntArray
+array_effect body array.Load f = take body want.Int f >>= take body (want.Fits IntArray) >>= give body Int
+array_effect body array.Store f = take body want.Int f >>= take body want.Int >>= take body (want.Fits IntArray)
+array_effect body array.Length f = take body (want.Fits IntArray) f >>= give body Int
 
--- whether a type is that of a single word on the operand stack: any but top
-abbrev pub is_word : VType → Bool
-is_word Top = false
-is_word _ = true
+-- ---- returns and athrow
 
--- whether a type is of the kind that a load, a store or a return moves
-abbrev pub is_kind : ValueKind → VType → Bool
-is_kind kind.Int t = is_int t
+-- the type of a method's result, where that is a reference
+abbrev pub reference_result : Option VType → Option VType
+reference_result None = None
+reference_result (Some t) = if is_reference t then Some t else None
 
--- the operand on top, where it passes the test, and the frame without it
-unfoldable pub taken : (VType → Bool) → Frame → Option (VType × Frame)
-taken test f = taken_from f.stack
-  where
-    taken_from : List VType → Option (VType × Frame)
-    taken_from [] = None
-    taken_from (t ∷ below) = if test t then Some (t, record f { stack = below }) else None
+-- ireturn: the method's result is int
+unfoldable pub return_int : Body → Frame → Result Frame CheckRule
+return_int body f = take body want.Int f >>= demand rule.Return (option_map_or is_int body.result false)
 
--- the frame without the operand on top, which passes the test
-abbrev pub take : (VType → Bool) → Frame → Option Frame
-take test f = option_map (λ (p : VType × Frame). p.1) (taken test f)
+-- areturn: the value fits the method's result; in a method with no reference as its result the rule on results is broken
+unfoldable pub return_reference : Body → Frame → Result Frame CheckRule
+return_reference body f =
+    option_map_or (λ (t : VType). take body (want.Fits t) f) (reference_result body.result) (take body want.Reference f >>= λ g. Err rule.Return)
 
--- the frame with one more operand on top, where there is room
-unfoldable pub give : Body → VType → Frame → Option Frame
-give body t f =
-    if nat_lt (length f.stack) body.max_stack then Some (record f { stack = t ∷ f.stack }) else None
+-- return: the method has no result, and if it is an `<init>`, it has called another one
+unfoldable pub return_nothing : Body → Frame → Result Frame CheckRule
+return_nothing body f =
+    demand rule.Uninitialized (not f.flag_this_uninit) f >>= demand rule.Return (is_none body.result)
 
--- the type of this local variable, where it passes the test
-unfoldable pub local_type : (VType → Bool) → ℕ → Frame → Option VType
-local_type test n f = option_and_then (λ t. if test t then Some t else None) (slice_get f.locals n)
+-- the type of what is thrown: java/lang/Throwable, which stands in every class set
+abbrev pub throwable : List Class → VType
+throwable classes = option_map_or Object (number_of classes (codes "java/lang/Throwable")) Top
 
--- the frame with this type for a local variable, where there is one of this number
-unfoldable pub set_local : ℕ → VType → Frame → Option Frame
-set_local n t f =
-    if nat_lt n (length f.locals) then Some (record f { locals = slice_set f.locals n t }) else None
+-- ---- casts
 
--- pushes a local variable
-abbrev pub load : Body → ValueKind → ℕ → Frame → Option Frame
-load body k n f = local_type (is_kind k) n f >>= λ t. give body t f
+abbrev pub cast_vtype : CastType → VType
+cast_vtype (cast.Class class) = Object class
+cast_vtype cast.IntArray = IntArray
 
--- pops into a local variable
-abbrev pub store : ValueKind → ℕ → Frame → Option Frame
-store k n f = taken (is_kind k) f >>= λ top. set_local n top.0 top.1
+-- ---- all instructions
 
--- the frame, where the test passes
-abbrev pub where_true : Bool → Frame → Option Frame
-where_true test f = if test then Some f else None
+-- the effect of the instruction at an offset
+unfoldable pub effect : Body → ℕ → LinkedInsn → Frame → Result Frame CheckRule
+effect body at insn.Nop f = Ok f
+effect body at insn.Null f = give body Null f
+effect body at (insn.Constant value) f = give body Int f
+effect body at (insn.Load k n) f = load body k n f
+effect body at (insn.Store k n) f = store body k n f
+effect body at (insn.Increment n by) f = incremented body n f
+effect body at (insn.Stack operation) f = rearranged body operation f
+effect body at (insn.Unary operator) f = replaced body want.Int Int f
+effect body at (insn.Binary operator) f = combined body f
+effect body at (insn.Array operation) f = array_effect body operation f
+effect body at (insn.If condition target) f = take body want.Int f
+effect body at (insn.IfCompare condition target) f = take_two body want.Int f
+effect body at (insn.IfSame equality target) f = take_two body want.Reference f
+effect body at (insn.IfNull equality target) f = take body want.Reference f
+effect body at (insn.Goto target) f = Ok f
+effect body at (insn.Switch index) f = take body want.Int f
+effect body at (insn.ReturnValue kind.Int) f = return_int body f
+effect body at (insn.ReturnValue kind.Reference) f = return_reference body f
+effect body at insn.Return f = return_nothing body f
+effect body at insn.Throw f = take body (want.Fits (throwable body.classes)) f
+effect body at (insn.GetField class m) f = found_or rule.Mismatch (field_at body.classes m) >>= λ field. get_field body class field f
+effect body at (insn.PutField class m) f = found_or rule.Mismatch (field_at body.classes m) >>= λ field. put_field body class m field f
+effect body at (insn.Invoke k class m) f = found_or rule.Mismatch (method_at body.classes m) >>= λ method. call body k class method f
+effect body at (insn.InvokeInterface count class m) f =
+    found_or rule.Mismatch (method_at body.classes m) >>= λ method. call_interface body count class method f
+effect body at (insn.New class) f = make_new body at f
+effect body at (insn.CheckCast type) f = replaced body want.Initialized (cast_vtype type) f
+effect body at (insn.InstanceOf type) f = replaced body want.Initialized Int f
 
--- whether the result of the method is of the kind that a return moves
-abbrev pub returns_kind : ValueKind → Option VType → Bool
-returns_kind k None = false
-returns_kind k (Some t) = is_kind k t
-
--- pop, dup and swap
-abbrev pub moved : Body → StackOperation → Frame → Option Frame
-moved body Pop f = take is_word f
-moved body Dup f = taken is_word f >>= λ top. give body top.0 top.1 >>= give body top.0
-moved body Swap f =
-    taken is_word f >>= λ top. taken is_word top.1 >>= λ next. give body top.0 next.1 >>= give body next.0
-
--- the frame after an instruction, where the instruction may stand in the frame before it
-unfoldable pub effect : Body → LinkedInsn → Frame → Option Frame
-effect body insn.Nop f = Some f
-effect body (insn.Constant value) f = give body Int f
-effect body (insn.Load k n) f = load body k n f
-effect body (insn.Store k n) f = store k n f
-effect body (insn.Increment n by) f = local_type is_int n f >>= λ _. Some f
-effect body (insn.Stack operation) f = moved body operation f
-effect body (insn.Unary operator) f = take is_int f >>= give body Int
-effect body (insn.Binary operator) f = take is_int f >>= take is_int >>= give body Int
-effect body (insn.If condition target) f = take is_int f
-effect body (insn.IfCompare condition target) f = take is_int f >>= take is_int
-effect body (insn.Goto target) f = Some f
-effect body (insn.ReturnValue k) f = take (is_kind k) f >>= where_true (returns_kind k body.result)
-effect body insn.Return f = where_true (not f.flag_this_uninit) f >>= where_true (is_none body.result)
+-- ---- what comes after an instruction
 
 -- whether the next instruction may come after it
 abbrev pub falls_through : LinkedInsn → Bool
 falls_through (insn.Goto target) = false
+falls_through (insn.Switch index) = false
 falls_through (insn.ReturnValue k) = false
 falls_through insn.Return = false
+falls_through insn.Throw = false
 falls_through _ = true
 
--- the places of the instructions to which it may branch
-abbrev pub targets : LinkedInsn → List ℕ
-targets (insn.If condition target) = target ∷ []
-targets (insn.IfCompare condition target) = target ∷ []
-targets (insn.Goto target) = target ∷ []
-targets _ = []
+-- what a switch goes to: the default target first, then the others in order
+abbrev pub switch_targets : LinkedSwitch → List ℕ
+switch_targets (switch.Table default low targets) = default ∷ targets
+switch_targets (switch.Lookup default keys targets) = default ∷ targets
+
+-- the indices of the instructions to which an instruction may branch
+abbrev pub targets : Body → LinkedInsn → List ℕ
+targets body (insn.If condition target) = target ∷ []
+targets body (insn.IfCompare condition target) = target ∷ []
+targets body (insn.IfSame equality target) = target ∷ []
+targets body (insn.IfNull equality target) = target ∷ []
+targets body (insn.Goto target) = target ∷ []
+targets body (insn.Switch index) = option_map_or switch_targets (slice_get body.switches index) []
+targets body _ = []

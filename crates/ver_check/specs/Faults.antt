@@ -1,17 +1,16 @@
 -- Why a class set is not accepted: what the check meets first.
-use Rattle.std.specs.Prelude.{◌≡◌, ◌⊎◌, ℕ, suc, ◌<◌, ◌≤◌, Some, None, Result, Ok, Err, List, [], ◌∷◌, length, slice_get, slice_index, option_and_then, MatchBool, IsSomeAnd}
+use Rattle.std.specs.Prelude.{◌≡◌, ◌⊎◌, ℕ, suc, ◌<◌, ◌≤◌, Option, Some, None, Result, Ok, Err, List, [], ◌∷◌, length, slice_get, slice_index, option_and_then, MatchBool, IsSomeAnd}
 use Rattle.cls_link.specs.Links.{Links}
 use Rattle.cls_link.specs.declared.linked.LinkedInsn.{LinkedInsn}
 use Rattle.ver_check.specs.Acceptance.{IsSafeAt, subject_of}
-use Rattle.ver_check.specs.Bodies.{Body, body_of, insn_at, declared_at}
+use Rattle.ver_check.specs.Bodies.{Body, body_of, insn_at, declared_at, offset_at}
 use Rattle.ver_check.specs.Effects.{effect, falls_through, targets}
 use Rattle.ver_check.specs.Flow.{LandsOnAll, Reaches}
-use Rattle.ver_check.specs.Outcomes.{outcome}
 use Rattle.ver_check.specs.Typing.{Lands}
-use Rattle.ver_check.specs.declared.fault.CheckFault.{CheckFault}
-use Rattle.ver_check.specs.declared.fault.CheckFault.TheVariants as fault
-use Rattle.ver_check.specs.declared.fault.CheckRule.{CheckRule}
-use Rattle.ver_check.specs.declared.fault.CheckRule.TheVariants.{StackMap, NoFrame, NotAssignable, FallsOff, Local}
+use Rattle.ver_rules.specs.declared.fault.CheckFault.{CheckFault}
+use Rattle.ver_rules.specs.declared.fault.CheckFault.TheVariants as fault
+use Rattle.ver_rules.specs.declared.fault.CheckRule.{CheckRule}
+use Rattle.ver_rules.specs.declared.fault.CheckRule.TheVariants.{StackMap, NoFrame, NotAssignable, FallsOff, Local}
 use Rattle.ver_frames.specs.Assignable.{IsFrameAssignable}
 use Rattle.ver_frames.specs.Frames.{Frame}
 use Rattle.ver_frames.specs.Method.{Subject}
@@ -51,9 +50,9 @@ IsWrongNext body place insn after rule told =
 -- the pass does not come through an instruction: it breaks a rule in this frame; or it does not, and then its
 -- targets are looked at, in order; or they are in order, and then what is behind it
 pub data IsWrongAt (body : Body) (place : ℕ) (insn : LinkedInsn) (here : Frame) (rule : CheckRule) (told : ℕ) : Type 0 where
-  acts : outcome body insn here ≡ Err rule → told ≡ place → IsWrongAt body place insn here rule told
-  lands : (after : Frame) → effect body insn here ≡ Some after → IsWrongAmong body place after (targets insn) rule told → IsWrongAt body place insn here rule told
-  goes_on : (after : Frame) → effect body insn here ≡ Some after → LandsOnAll body insn after → IsWrongNext body place insn after rule told → IsWrongAt body place insn here rule told
+  acts : effect body (offset_at body place) insn here ≡ Err rule → told ≡ place → IsWrongAt body place insn here rule told
+  lands : (after : Frame) → effect body (offset_at body place) insn here ≡ Ok after → IsWrongAmong body place after (targets body insn) rule told → IsWrongAt body place insn here rule told
+  goes_on : (after : Frame) → effect body (offset_at body place) insn here ≡ Ok after → LandsOnAll body insn after → IsWrongNext body place insn after rule told → IsWrongAt body place insn here rule told
 
 -- the pass over a body stops: there are more arguments than local variables; or they fit, and there is no instruction, or
 -- the opening frame is not assignable to the one that is declared at the first; or the pass reaches an instruction and
@@ -80,7 +79,7 @@ abbrev pub IsFaultWith : Subject → Result (List (ℕ × Frame)) StackMapFault 
 IsFaultWith m (Ok declared) rule at = IsBodyFault (body_of m declared) rule at
 IsFaultWith m (Err broken) rule at = IsFrameFault broken rule at
 
--- the table of a method declares no frames, which comes first; or the body with them is at fault
+-- its table declares no frames; or the body with them is at fault
 abbrev pub IsMethodFault : Subject → CheckRule → ℕ → Type 0
 IsMethodFault m rule at = IsFaultWith m (declared_frames m) rule at
 

@@ -1,11 +1,11 @@
 use Rattle.std.specs.Prelude.{◌≡◌, ℕ, suc, ◌<◌, Some, Result, Ok, Err, length, MatchOption, MatchBool}
 use Rattle.std.specs.List.{AllByRecursion}
 use Rattle.cls_link.specs.declared.linked.LinkedInsn.{LinkedInsn}
-use Rattle.ver_check.specs.Bodies.{Body, insn_at, declared_at}
+use Rattle.ver_check.specs.Bodies.{Body, insn_at, declared_at, offset_at}
 use Rattle.ver_check.specs.Effects.{effect, falls_through, targets}
 use Rattle.ver_check.specs.Typing.{Lands}
-use Rattle.ver_check.specs.declared.fault.CheckRule.{CheckRule}
-use Rattle.ver_check.specs.declared.fault.CheckRule.TheVariants.{NoFrame}
+use Rattle.ver_rules.specs.declared.fault.CheckRule.{CheckRule}
+use Rattle.ver_rules.specs.declared.fault.CheckRule.TheVariants.{NoFrame}
 use Rattle.ver_check.specs.declared.stop.Stop.{Stop}
 use Rattle.ver_check.specs.declared.stop.Stop.TheVariants.{Broken, Missing, Memory}
 use Rattle.ver_frames.specs.Assignable.{IsFrameAssignable}
@@ -28,12 +28,12 @@ GoesTo body place insn after next =
 
 -- the frame lands on a declared one at each target
 abbrev pub LandsOnAll : Body → LinkedInsn → Frame → Type 0
-LandsOnAll body insn after = AllByRecursion (Lands body after) (targets insn)
+LandsOnAll body insn after = AllByRecursion (Lands body after) (targets body insn)
 
 -- the pass comes through an instruction, from this frame to this one at the next place
 pub record Passes (body : Body) (place : ℕ) (insn : LinkedInsn) (here next : Frame) : Type 0 where
   pub after : Frame
-  pub acts : effect body insn here ≡ Some after
+  pub acts : effect body (offset_at body place) insn here ≡ Ok after
   pub lands : LandsOnAll body insn after
   pub goes_to : GoesTo body place insn after next
 

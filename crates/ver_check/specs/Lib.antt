@@ -6,9 +6,9 @@ pub mod Flow
 pub mod Indices
 pub mod Listed
 pub mod Makes
+pub mod Members
 pub mod Offsets
-pub mod Outcomes
 pub mod Refusals
 pub mod Settled
+pub mod Steps
 pub mod Typing
-pub mod FaultNames

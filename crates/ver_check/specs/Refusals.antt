@@ -4,8 +4,8 @@ use Rattle.ver_check.specs.Acceptance.{subject_of}
 use Rattle.ver_check.specs.Faults.{IsMethodFault, IsNamed}
 use Rattle.ver_check.specs.declared.check.BodyFault.{BodyFault}
 use Rattle.ver_check.specs.declared.check.BodyFault.TheVariants as body
-use Rattle.ver_check.specs.declared.fault.CheckFault.{CheckFault}
-use Rattle.ver_check.specs.declared.fault.CheckFault.TheVariants as fault
+use Rattle.ver_rules.specs.declared.fault.CheckFault.{CheckFault}
+use Rattle.ver_rules.specs.declared.fault.CheckFault.TheVariants as fault
 use Rattle.ver_frames.specs.Method.{Subject}
 
 -- the value is so; or the second is so, and the fault tells where; or memory ran out

@@ -1,8 +1,8 @@
 use Rattle.std.specs.Prelude.{ℕ, List, Result, Ok, Err, slice_index}
 use Rattle.ver_check.specs.declared.check.BodyFault.{BodyFault}
 use Rattle.ver_check.specs.declared.check.BodyFault.TheVariants as fault
-use Rattle.ver_check.specs.declared.fault.CheckRule.{CheckRule}
-use Rattle.ver_check.specs.declared.fault.CheckRule.TheVariants.{NoFrame}
+use Rattle.ver_rules.specs.declared.fault.CheckRule.{CheckRule}
+use Rattle.ver_rules.specs.declared.fault.CheckRule.TheVariants.{NoFrame}
 use Rattle.ver_check.specs.declared.stop.Stop.{Stop}
 use Rattle.ver_check.specs.declared.stop.Stop.TheVariants as stop
 

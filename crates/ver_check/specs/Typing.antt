@@ -1,7 +1,7 @@
-use Rattle.std.specs.Prelude.{◌≡◌, ℕ, suc, ◌<◌, ◌≤◌, Some, length, MatchOption, MatchBool, IsSomeAnd, IsSome}
+use Rattle.std.specs.Prelude.{◌≡◌, ℕ, suc, ◌<◌, ◌≤◌, Some, Ok, length, MatchOption, MatchBool, IsSomeAnd, IsSome}
 use Rattle.std.specs.List.{AllByRecursion}
 use Rattle.cls_link.specs.declared.linked.LinkedInsn.{LinkedInsn}
-use Rattle.ver_check.specs.Bodies.{Body, insn_at, declared_at}
+use Rattle.ver_check.specs.Bodies.{Body, insn_at, declared_at, offset_at}
 use Rattle.ver_check.specs.Effects.{effect, falls_through, targets}
 use Rattle.ver_frames.specs.Assignable.{IsFrameAssignable}
 use Rattle.ver_frames.specs.Frames.{Frame}
@@ -30,8 +30,8 @@ GoesOn body frames place insn after =
 -- the instruction at a place agrees with the frames
 pub record IsFineAt (body : Body) (frames : ℕ → Frame) (place : ℕ) (insn : LinkedInsn) : Type 0 where
   pub after : Frame
-  pub acts : effect body insn (frames place) ≡ Some after
-  pub lands : AllByRecursion (Lands body after) (targets insn)
+  pub acts : effect body (offset_at body place) insn (frames place) ≡ Ok after
+  pub lands : AllByRecursion (Lands body after) (targets body insn)
   pub goes_on : GoesOn body frames place insn after
 
 -- a frame has no more local variables and operands than the method

@@ -43,10 +43,15 @@ impl Accepted {
 
 /// Accepts a linked class set, where every method is type safe. A method without code is.
 ///
-/// A fault names the first method, by number, that is not type safe. In it the faults of its
-/// StackMapTable come first, then more arguments than local variables (`Local` at 0), then code without an
-/// instruction (`FallsOff` at 0), then the first instruction at which the pass over it stops (JVMS 4.10.1.6): by its local variables, its operands
-/// from the top, the method's result, the room on the stack, its targets in order, and what is behind
+/// A fault names the first method, by number, that is not type safe. In it these are looked for in this order:
+///
+/// 1. the faults of its StackMapTable;
+/// 2. more arguments than local variables (`Local` at 0);
+/// 3. code without an instruction (`FallsOff` at 0);
+/// 4. the first instruction at which the pass over it stops (JVMS 4.10.1.6).
+///
+/// At that instruction its local variables come first, then its operands
+/// from the top, further conditions, the method's result, the room on the stack, its targets in order, and what is behind
 /// it. `NoFrame` names the offset at which the frame is missing, every other rule the instruction
 /// that breaks it.
 ///

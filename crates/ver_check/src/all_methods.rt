@@ -63,12 +63,11 @@ fn check_code(alloc: Global, method: &MethodView) -> Result<(), BodyFault>
         }
         Err(StackMapFault::Memory) => return Err(BodyFault::Memory),
     };
-    let declared = frames.as_slice();
     let offsets = method.linked.offsets.as_slice();
-    let indices = find_frames(alloc, offsets, declared)?;
+    let indices = find_frames(alloc, offsets, &frames)?;
     let body = BodyView {
         method,
-        declared,
+        declared: &frames,
         indices: &indices,
     };
     body.check(alloc)

@@ -95,7 +95,7 @@ impl BodyView<'_> {
             (IsBodyFault self.now) }
     {
         let mut frame = self.opening(alloc)?;
-        if frame.locals().len() > self.max_locals() {
+        if frame.local_count() > self.max_locals() {
             return Err(self.fault(Stop::Broken(CheckRule::Local), 0));
         }
         if self.insn_count() == 0 {

@@ -1,91 +1,40 @@
 //! The effect of each instruction on a frame (JVMS 4.10.1.9).
 
 ghost use Rattle.std.specs.Prelude.{◌≡◌};
-ghost use Rattle.ver_check.specs.Effects.{is_kind};
-ghost use Rattle.ver_check.specs.Outcomes.{taken, give, load, store, moved, outcome, local_type};
-ghost use Rattle.cls_link.specs.declared.linked.LinkedInsn.TheVariants.{Return, ReturnValue};
-ghost use Rattle.ver_check.specs.Makes.{Makes, wanted};
+ghost use Rattle.cls_link.specs.declared.linked.LinkedInsn.TheVariants.{GetField, Increment, Invoke, InvokeInterface, PutField};
+ghost use Rattle.ver_check.specs.Effects.{array_effect, cast_vtype, effect, reference_result, return_int, return_nothing, return_reference, throwable};
+ghost use Rattle.ver_check.specs.Makes.{Makes};
 
 use super::body::BodyView;
+use super::members::{field_at, method_at};
 use super::stop::Stop;
-use super::{CheckRule, LinkedInsn, StackOperation, TypeFrame, VType, ValueKind};
+use super::{
+    ArrayOperation, CastType, CheckRule, ClassId, InvokeKind, LinkedInsn, MemberIndex, TypeFrame,
+    VType, ValueKind,
+};
+use ver_rules::{Want, is_reference};
 
-// What an instruction asks of the operand on top.
-#[derive(Clone, Copy, Debug, PartialEq, Eq)]
-pub(crate) enum Want {
-    Int,
-    // Any single word.
-    Word,
-}
-
-// Whether a type is what is wanted.
-fn is_wanted(want: Want, kind: VType) -> bool
-    ensures { result ≡ wanted want kind }
-{
-    match (want, kind) {
-        (Want::Int, VType::Int) => true,
-        (Want::Int, _) => false,
-        (Want::Word, VType::Top) => false,
-        (Want::Word, _) => true,
-    }
-}
-
-// What is asked of an operand of this kind.
-fn kind_wanted(kind: ValueKind) -> Want
-    ensures { wanted result ≡ is_kind kind }
+// The type of a method's result, where that is a reference.
+fn reference_result(kind: Option<VType>) -> Option<VType>
+    ensures { result ≡ reference_result kind }
 {
     match kind {
-        ValueKind::Int => Want::Int,
+        Some(kind) if is_reference(kind) => Some(kind),
+        _ => None,
     }
 }
 
-// Takes the operand off the top, where it is what is wanted.
-#[tactic(auto, unfolding(crate::specs::Outcomes::taken))]
-fn take(frame: &mut TypeFrame, want: Want) -> Result<VType, Stop>
-    ensures taken { Makes (λ top. (top, frame.new)) result (taken (wanted want) frame.old) }
-    ensures locals { frame.new.locals ≡ frame.old.locals }
+// The type that a cast names.
+fn cast_vtype(kind: CastType) -> VType
+    ensures { result ≡ cast_vtype kind }
 {
-    let Some(top) = frame.pop() else {
-        return Err(Stop::Broken(CheckRule::Underflow));
-    };
-    if !is_wanted(want, top) {
-        return Err(Stop::Broken(CheckRule::Mismatch));
+    match kind {
+        CastType::Class(class) => VType::Object(class),
+        CastType::IntArray => VType::IntArray,
     }
-    Ok(top)
-}
-
-// The type of a local variable, where it is what is wanted.
-#[tactic(auto, unfolding(crate::specs::Outcomes::local_type))]
-fn local_type(frame: &TypeFrame, want: Want, local: u16) -> Result<VType, Stop>
-    ensures { Makes (λ kind. kind) result (local_type (wanted want) local frame.now) }
-{
-    match frame.locals().get(usize::from(local)) {
-        Some(kind) if is_wanted(want, *kind) => Ok(*kind),
-        _ => Err(Stop::Broken(CheckRule::Local)),
-    }
-}
-
-// Pops into a local variable.
-fn store(frame: &mut TypeFrame, kind: ValueKind, local: u16) -> Result<(), Stop>
-    ensures { Makes (λ _. frame.new) result (store kind local frame.old) }
-{
-    if usize::from(local) >= frame.locals().len() {
-        return Err(Stop::Broken(CheckRule::Local));
-    }
-    let top = take(frame, kind_wanted(kind))?;
-    frame.set_local(local, top);
-    Ok(())
 }
 
 impl BodyView<'_> {
-    // How many operands there may be.
-    fn max_stack(&self) -> usize
-        ensures { result ≡ self.now.max_stack }
-    {
-        let method = self.method;
-        usize::from(method.code.max_stack)
-    }
-
     // The type of the method's result, where there is one.
     fn result_type(&self) -> Option<VType>
         ensures { result ≡ self.now.result }
@@ -94,61 +43,72 @@ impl BodyView<'_> {
         method.result_type()
     }
 
-    // Puts an operand on top, where there is room.
-    #[tactic(auto, unfolding(crate::specs::Outcomes::give))]
-    fn give(&self, frame: &mut TypeFrame, kind: VType) -> Result<(), Stop>
-        ensures { Makes (λ _. frame.new) result (give self.now kind frame.old) }
+    // The type of what is thrown.
+    fn throwable(&self) -> VType
+        ensures { result ≡ throwable self.now.classes }
     {
-        if frame.depth() >= self.max_stack() {
-            return Err(Stop::Broken(CheckRule::Overflow));
+        let method = self.method;
+        match method.classes.number(b"java/lang/Throwable") {
+            Some(class) => VType::Object(class),
+            None => VType::Top,
         }
-        frame.push(kind)?;
-        Ok(())
     }
 
-    // Pushes a local variable.
-    fn load(&self, frame: &mut TypeFrame, kind: ValueKind, local: u16) -> Result<(), Stop>
-        ensures { Makes (λ _. frame.new) result (load self.now kind local frame.old) }
+    // newarray, iaload, iastore, arraylength.
+    #[tactic(auto, unfolding(crate::specs::Effects::array_effect))]
+    fn use_array(&self, frame: &mut TypeFrame, operation: ArrayOperation) -> Result<(), Stop>
+        ensures { Makes (λ _. frame.new) result (array_effect self.now operation frame.old) }
     {
-        let kind = local_type(frame, kind_wanted(kind), local)?;
-        self.give(frame, kind)
-    }
-
-    // pop, dup and swap.
-    fn rearrange(&self, frame: &mut TypeFrame, operation: StackOperation) -> Result<(), Stop>
-        ensures { Makes (λ _. frame.new) result (moved self.now operation frame.old) }
-    {
-        let top = take(frame, Want::Word)?;
         match operation {
-            StackOperation::Pop => Ok(()),
-            StackOperation::Dup => {
-                self.give(frame, top)?;
-                self.give(frame, top)
+            ArrayOperation::New => {
+                self.take(frame, Want::Int)?;
+                self.give(frame, VType::IntArray)
             }
-            StackOperation::Swap => {
-                let next = take(frame, Want::Word)?;
-                self.give(frame, top)?;
-                self.give(frame, next)
+            ArrayOperation::Load => {
+                self.take(frame, Want::Int)?;
+                self.take(frame, Want::Fits(VType::IntArray))?;
+                self.give(frame, VType::Int)
+            }
+            ArrayOperation::Store => {
+                self.take(frame, Want::Int)?;
+                self.take(frame, Want::Int)?;
+                self.take(frame, Want::Fits(VType::IntArray))
+            }
+            ArrayOperation::Length => {
+                self.take(frame, Want::Fits(VType::IntArray))?;
+                self.give(frame, VType::Int)
             }
         }
     }
 
-    // Returns the operand on top.
-    #[tactic(auto, unfolding(crate::specs::Outcomes::outcome))]
-    fn return_value(&self, frame: &mut TypeFrame, kind: ValueKind) -> Result<(), Stop>
-        ensures { Makes (λ _. frame.new) result (outcome self.now (ReturnValue kind) frame.old) }
+    // ireturn.
+    #[tactic(auto, unfolding(crate::specs::Effects::return_int))]
+    fn return_int(&self, frame: &mut TypeFrame) -> Result<(), Stop>
+        ensures { Makes (λ _. frame.new) result (return_int self.now frame.old) }
     {
-        take(frame, kind_wanted(kind))?;
+        self.take(frame, Want::Int)?;
         match self.result_type() {
-            Some(result_type) if is_wanted(kind_wanted(kind), result_type) => Ok(()),
+            Some(VType::Int) => Ok(()),
             _ => Err(Stop::Broken(CheckRule::Return)),
         }
     }
 
-    // Returns nothing.
-    #[tactic(auto, unfolding(crate::specs::Outcomes::outcome))]
+    // areturn.
+    #[tactic(auto, unfolding(crate::specs::Effects::return_reference))]
+    fn return_reference(&self, frame: &mut TypeFrame) -> Result<(), Stop>
+        ensures { Makes (λ _. frame.new) result (return_reference self.now frame.old) }
+    {
+        if let Some(kind) = reference_result(self.result_type()) {
+            return self.take(frame, Want::Fits(kind));
+        }
+        self.take(frame, Want::Reference)?;
+        Err(Stop::Broken(CheckRule::Return))
+    }
+
+    // return.
+    #[tactic(auto, unfolding(crate::specs::Effects::return_nothing))]
     fn return_nothing(&self, frame: &TypeFrame) -> Result<(), Stop>
-        ensures { Makes (λ _. frame.now) result (outcome self.now Return frame.now) }
+        ensures { Makes (λ _. frame.now) result (return_nothing self.now frame.now) }
     {
         if frame.flag_this_uninit() {
             return Err(Stop::Broken(CheckRule::Uninitialized));
@@ -159,41 +119,119 @@ impl BodyView<'_> {
         Ok(())
     }
 
-    // Makes the effect of an instruction.
-    #[tactic(auto, unfolding(crate::specs::Outcomes::outcome))]
-    pub(crate) fn apply(&self, frame: &mut TypeFrame, insn: LinkedInsn) -> Result<(), Stop>
-        ensures { Makes (λ _. frame.new) result (outcome self.now insn frame.old) }
+    // getfield.
+    #[tactic(auto, unfolding(crate::specs::Effects::effect))]
+    fn read_field(
+        &self,
+        frame: &mut TypeFrame,
+        at: u16,
+        class: ClassId,
+        field: MemberIndex,
+    ) -> Result<(), Stop>
+        ensures { Makes (λ _. frame.new) result (effect self.now at (GetField class field) frame.old) }
+    {
+        let method = self.method;
+        match field_at(method.classes, field) {
+            Some(field) => self.get_field(frame, class, field),
+            None => Err(Stop::Broken(CheckRule::Mismatch)),
+        }
+    }
+
+    // putfield.
+    #[tactic(auto, unfolding(crate::specs::Effects::effect))]
+    fn write_field(
+        &self,
+        frame: &mut TypeFrame,
+        at: u16,
+        class: ClassId,
+        member: MemberIndex,
+    ) -> Result<(), Stop>
+        ensures { Makes (λ _. frame.new) result (effect self.now at (PutField class member) frame.old) }
+    {
+        let method = self.method;
+        match field_at(method.classes, member) {
+            Some(field) => self.put_field(frame, class, member, field),
+            None => Err(Stop::Broken(CheckRule::Mismatch)),
+        }
+    }
+
+    // invokevirtual, invokespecial, invokestatic.
+    #[tactic(auto, unfolding(crate::specs::Effects::effect))]
+    fn invoke(
+        &self,
+        frame: &mut TypeFrame,
+        at: u16,
+        kind: InvokeKind,
+        class: ClassId,
+        method: MemberIndex,
+    ) -> Result<(), Stop>
+        ensures { Makes (λ _. frame.new) result (effect self.now at (Invoke kind class method) frame.old) }
+    {
+        let current = self.method;
+        match method_at(current.classes, method) {
+            Some(callee) => self.call(frame, kind, class, callee),
+            None => Err(Stop::Broken(CheckRule::Mismatch)),
+        }
+    }
+
+    // invokeinterface.
+    #[tactic(auto, unfolding(crate::specs::Effects::effect))]
+    fn invoke_interface(
+        &self,
+        frame: &mut TypeFrame,
+        at: u16,
+        count: u8,
+        class: ClassId,
+        method: MemberIndex,
+    ) -> Result<(), Stop>
+        ensures { Makes (λ _. frame.new) result (effect self.now at (InvokeInterface count class method) frame.old) }
+    {
+        let current = self.method;
+        match method_at(current.classes, method) {
+            Some(callee) => self.call_interface(frame, count, class, callee),
+            None => Err(Stop::Broken(CheckRule::Mismatch)),
+        }
+    }
+
+    // Makes the effect of the instruction at an offset.
+    #[tactic(auto, unfolding(crate::specs::Effects::effect))]
+    pub(crate) fn apply(&self, frame: &mut TypeFrame, at: u16, insn: LinkedInsn) -> Result<(), Stop>
+        ensures { Makes (λ _. frame.new) result (effect self.now at insn frame.old) }
     {
         match insn {
             LinkedInsn::Nop | LinkedInsn::Goto { .. } => Ok(()),
+            LinkedInsn::Null => self.give(frame, VType::Null),
             LinkedInsn::Constant(_) => self.give(frame, VType::Int),
             LinkedInsn::Load(kind, local) => self.load(frame, kind, local),
-            LinkedInsn::Store(kind, local) => store(frame, kind, local),
-            LinkedInsn::Increment { local, .. } => {
-                local_type(frame, Want::Int, local)?;
-                Ok(())
-            }
+            LinkedInsn::Store(kind, local) => self.store(frame, kind, local),
+            LinkedInsn::Increment { local, .. } => self.increment(frame, local),
             LinkedInsn::Stack(operation) => self.rearrange(frame, operation),
-            LinkedInsn::Unary(_) => {
-                take(frame, Want::Int)?;
-                self.give(frame, VType::Int)
-            }
-            LinkedInsn::Binary(_) => {
-                take(frame, Want::Int)?;
-                take(frame, Want::Int)?;
-                self.give(frame, VType::Int)
-            }
-            LinkedInsn::If { .. } => {
-                take(frame, Want::Int)?;
-                Ok(())
-            }
-            LinkedInsn::IfCompare { .. } => {
-                take(frame, Want::Int)?;
-                take(frame, Want::Int)?;
-                Ok(())
-            }
-            LinkedInsn::ReturnValue(kind) => self.return_value(frame, kind),
+            LinkedInsn::Unary(_) => self.replace(frame, Want::Int, VType::Int),
+            LinkedInsn::Binary(_) => self.combine(frame),
+            LinkedInsn::Array(operation) => self.use_array(frame, operation),
+            LinkedInsn::If { .. } | LinkedInsn::Switch(_) => self.take(frame, Want::Int),
+            LinkedInsn::IfCompare { .. } => self.take_two(frame, Want::Int),
+            LinkedInsn::IfSame { .. } => self.take_two(frame, Want::Reference),
+            LinkedInsn::IfNull { .. } => self.take(frame, Want::Reference),
+            LinkedInsn::ReturnValue(ValueKind::Int) => self.return_int(frame),
+            LinkedInsn::ReturnValue(ValueKind::Reference) => self.return_reference(frame),
             LinkedInsn::Return => self.return_nothing(frame),
+            LinkedInsn::Throw => self.take(frame, Want::Fits(self.throwable())),
+            LinkedInsn::GetField { class, field } => self.read_field(frame, at, class, field),
+            LinkedInsn::PutField { class, field } => self.write_field(frame, at, class, field),
+            LinkedInsn::Invoke {
+                kind,
+                class,
+                method,
+            } => self.invoke(frame, at, kind, class, method),
+            LinkedInsn::InvokeInterface {
+                count,
+                class,
+                method,
+            } => self.invoke_interface(frame, at, count, class, method),
+            LinkedInsn::New(_) => self.make_new(frame, at),
+            LinkedInsn::CheckCast(kind) => self.replace(frame, Want::Initialized, cast_vtype(kind)),
+            LinkedInsn::InstanceOf(_) => self.replace(frame, Want::Initialized, VType::Int),
         }
     }
 }

@@ -1,12 +1,14 @@
 //! The pass over the instructions of a body, with the frame at the current one.
 
 ghost use Rattle.std.specs.Prelude.{◌≡◌};
+ghost use Rattle.cls_link.specs.declared.linked.LinkedInsn.TheVariants.{Switch};
+ghost use Rattle.std.specs.Prelude.{◌∷◌};
 ghost use Rattle.ver_check.specs.Effects.{falls_through};
 
 use super::body::BodyView;
 use super::stop::Stop;
-use super::{CheckRule, LinkedInsn, TypeFrame};
-use ver_frames::frame_assignable;
+use super::{CheckRule, LinkedInsn, LinkedSwitch, TypeFrame};
+use ver_frames::{DeclaredFrame, frame_assignable};
 
 // Whether the next instruction may come after it.
 fn falls_through(insn: LinkedInsn) -> bool
@@ -14,14 +16,20 @@ fn falls_through(insn: LinkedInsn) -> bool
 {
     !matches!(
         insn,
-        LinkedInsn::Goto { .. } | LinkedInsn::ReturnValue(_) | LinkedInsn::Return
+        LinkedInsn::Goto { .. }
+            | LinkedInsn::Switch(_)
+            | LinkedInsn::ReturnValue(_)
+            | LinkedInsn::Return
+            | LinkedInsn::Throw
     )
 }
 
 impl BodyView<'_> {
-    ghost use Rattle.std.specs.Prelude.{◌≡◌, ◌<◌, option_copied, length, ℕ};
-    ghost use Rattle.ver_check.specs.Bodies.{declared_at};
-    ghost use Rattle.ver_check.specs.Effects.{targets};
+    ghost use Rattle.std.specs.Prelude.{◌≡◌, ◌<◌, [], length, slice_get, ℕ};
+    ghost use Rattle.std.specs.List.{AllByRecursion};
+    ghost use Rattle.std.specs.Option.{option_map_or};
+    ghost use Rattle.ver_check.specs.Bodies.{declared_at, offset_at};
+    ghost use Rattle.ver_check.specs.Effects.{switch_targets, targets};
     ghost use Rattle.ver_check.specs.Faults.{IsWrongAmong, IsWrongAt, IsWrongEntry, IsWrongNext, IsWrongTarget};
     ghost use Rattle.ver_check.specs.Flow.{ComesIn, GoesTo, LandsOnAll, Passes, Settles};
     ghost use Rattle.ver_check.specs.Indices.{frame_of};
@@ -42,16 +50,19 @@ impl BodyView<'_> {
     {
         match self.indices.get(place) {
             Some(index) => usize::from(*index),
-            None => self.declared.len(),
+            None => {
+                let declared = self.declared;
+                declared.len()
+            }
         }
     }
 
     // The frame that is declared at the instruction at a place.
-    fn declared_at(&self, place: usize) -> Option<&TypeFrame>
-        ensures { option_copied result ≡ declared_at self.now place }
+    fn declared_at(&self, place: usize) -> Option<DeclaredFrame<'_>>
+        ensures { result ≡ declared_at self.now place }
     {
-        let declared = self.declared.get(self.index_at(place))?;
-        Some(&declared.1)
+        let declared = self.declared;
+        declared.get(self.index_at(place))
     }
 
     // A frame comes in at a place, and becomes the one that is declared there, where one is.
@@ -62,10 +73,10 @@ impl BodyView<'_> {
             return Ok(());
         };
         let method = self.method;
-        if !frame_assignable(method.classes, frame, declared) {
+        if !frame_assignable(method.classes, frame, &declared) {
             return Err(Stop::Broken(CheckRule::NotAssignable));
         }
-        frame.copy_from(declared)?;
+        frame.copy_from(&declared)?;
         Ok(())
     }
 
@@ -78,20 +89,65 @@ impl BodyView<'_> {
             return Err(Stop::Missing(place));
         };
         let method = self.method;
-        if !frame_assignable(method.classes, frame, declared) {
+        if !frame_assignable(method.classes, frame, &declared) {
             return Err(Stop::Broken(CheckRule::NotAssignable));
         }
         Ok(())
     }
 
+    // A frame comes in at each of the targets.
+    fn land_on_each(&self, frame: &TypeFrame, targets: &[u16]) -> Result<(), Stop>
+        ensures { (from : ℕ) → Settles from result (AllByRecursion (Lands self.now frame.now) targets.now) (IsWrongAmong self.now from frame.now targets.now) }
+    {
+        for target in targets {
+            self.land(frame, *target)?;
+        }
+        Ok(())
+    }
+
+    // A frame comes in at the default target, and at each of the others.
+    fn land_on_cases(&self, frame: &TypeFrame, default: u16, targets: &[u16]) -> Result<(), Stop>
+        ensures { (from : ℕ) → Settles from result (AllByRecursion (Lands self.now frame.now) (default ∷ targets.now)) (IsWrongAmong self.now from frame.now (default ∷ targets.now)) }
+    {
+        self.land(frame, default)?;
+        self.land_on_each(frame, targets)
+    }
+
+    // A frame comes in at each target of a switch.
+    fn land_on_switch(&self, frame: &TypeFrame, index: u16) -> Result<(), Stop>
+        ensures { (from : ℕ) → Settles from result (LandsOnAll self.now (Switch index) frame.now) (IsWrongAmong self.now from frame.now (targets self.now (Switch index))) }
+    {
+        let method = self.method;
+        match method.linked.switches.as_slice().get(usize::from(index)) {
+            Some(
+                LinkedSwitch::Table {
+                    default,
+                    targets,
+                    ..
+                },
+            ) => self.land_on_cases(frame, *default, targets.as_slice()),
+            Some(
+                LinkedSwitch::Lookup {
+                    default,
+                    targets,
+                    ..
+                },
+            ) => self.land_on_cases(frame, *default, targets.as_slice()),
+            None => Ok(()),
+        }
+    }
+
     // A frame comes in at each target of an instruction.
     fn land_on_all(&self, frame: &TypeFrame, insn: LinkedInsn) -> Result<(), Stop>
-        ensures { (from : ℕ) → Settles from result (LandsOnAll self.now insn frame.now) (IsWrongAmong self.now from frame.now (targets insn)) }
+        ensures { (from : ℕ) → Settles from result (LandsOnAll self.now insn frame.now) (IsWrongAmong self.now from frame.now (targets self.now insn)) }
     {
         match insn {
             LinkedInsn::If { target, .. }
             | LinkedInsn::IfCompare { target, .. }
-            | LinkedInsn::Goto { target } => self.land(frame, target),
+            | LinkedInsn::IfSame { target, .. }
+            | LinkedInsn::IfNull { target, .. }
+            | LinkedInsn::Goto { target } => self.land_on_each(frame, &[target]),
+            LinkedInsn::Switch(index) => self.land_on_switch(frame, index),
             _ => Ok(()),
         }
     }
@@ -114,9 +170,20 @@ impl BodyView<'_> {
             let Some(declared) = self.declared_at(next) else {
                 return Err(Stop::Missing(next));
             };
-            frame.copy_from(declared)?;
+            frame.copy_from(&declared)?;
         }
         Ok(())
+    }
+
+    // The offset of the instruction at a place.
+    fn offset_at(&self, place: usize) -> u16
+        ensures { result ≡ offset_at self.now place }
+    {
+        let method = self.method;
+        match method.linked.offsets.as_slice().get(place) {
+            Some(offset) => *offset,
+            None => 0,
+        }
     }
 
     // The pass comes through an instruction.
@@ -129,7 +196,7 @@ impl BodyView<'_> {
         requires { place < length self.now.insns }
         ensures { Settles place result (Passes self.now place insn frame.old frame.new) (IsWrongAt self.now place insn frame.old) }
     {
-        self.apply(frame, insn)?;
+        self.apply(frame, self.offset_at(place), insn)?;
         self.land_on_all(frame, insn)?;
         self.go_on(frame, place, insn)
     }

@@ -7,27 +7,27 @@ ghost use Rattle.std.specs.Option.{option_map_or};
 ghost use Rattle.ver_check.specs.Indices.{AreIndices};
 ghost use Rattle.ver_check.specs.Offsets.{declared_offsets};
 
-use super::TypeFrame;
 use std::alloc::{AllocError, Global};
+use ver_frames::DeclaredFrames;
 
 // Whether the frame at an index is declared at an offset.
-fn is_at(declared: &[(u16, TypeFrame)], index: usize, offset: u16) -> bool
+fn is_at(declared: &DeclaredFrames, index: usize, offset: u16) -> bool
     ensures test { result ≡ option_map_or (λ frame. frame.0 == offset) (slice_get declared.now index) false }
     ensures inside { result ≡ true → index < length declared.now }
 {
-    match declared.get(index) {
-        Some(frame) => frame.0 == offset,
+    match declared.offset(index) {
+        Some(declared_offset) => declared_offset == offset,
         None => false,
     }
 }
 
 // For each instruction, by its offset, the index of the frame that is declared there, which is past the
-// last where none is: one pass over the instructions and the frames, each of which stands at one of
+// last if none is: one pass over the instructions and the frames, each of which stands at one of
 // them.
 pub(crate) fn find_frames(
     alloc: Global,
     offsets: &[u16],
-    declared: &[(u16, TypeFrame)],
+    declared: &DeclaredFrames,
 ) -> Result<Vec<u16>, AllocError>
     requires offsets { IsStrictlyIncreasing offsets.now }
     requires declared { IsStrictlyIncreasing (declared_offsets declared.now) }

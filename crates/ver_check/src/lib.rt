@@ -2,22 +2,24 @@
 #![tactic(auto)]
 
 pub use accepted::{Accepted, accept};
-pub use fault::{CheckFault, CheckRule};
 pub use laws::one_typing;
 pub use ver_frames::{
-    BinaryOperator, Class, ClassFile, ClassId, ClassSet, Code, Condition, ElementType, Field,
-    FieldType, Flags, Linked, LinkedCode, LinkedInsn, LinkedMethod, Method, MethodDescriptor,
-    MethodId, MethodView, Numbered, Pool, Row, StackMapFault, StackMapRule, StackOperation, Table,
-    Text, TypeFrame, UnaryOperator, VType, ValueKind,
+    ArrayOperation, BinaryOperator, CastType, Class, ClassFile, ClassId, ClassSet, Code, Condition,
+    ElementType, Equality, Field, FieldType, Flags, InvokeKind, Linked, LinkedCode, LinkedInsn,
+    LinkedMethod, LinkedSwitch, MemberIndex, Method, MethodDescriptor, MethodId, MethodView,
+    Numbered, Pool, Row, StackMapFault, StackMapRule, StackOperation, Table, Text, TypeChange,
+    TypeFrame, UnaryOperator, VType, ValueKind,
 };
+pub use ver_rules::{CheckFault, CheckRule};
 
 mod accepted;
 mod all_methods;
 mod body;
 mod check;
 mod effects;
-mod fault;
 mod flow;
 mod indices;
 mod laws;
+mod members;
+mod steps;
 mod stop;

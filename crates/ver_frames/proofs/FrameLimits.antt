@@ -7,6 +7,7 @@ use Rattle.std.specs.List.Sorted.{IsStrictlyIncreasing}
 use Rattle.std.specs.Option.{option_map_or}
 use Rattle.std.proofs.lemmas.Bool.Decides.{nat_tests}
 use Rattle.std.proofs.lemmas.List.{length-append, length-replicate, length-reverse}
+use Rattle.ver_frames.proofs.Fillings.{filled_long}
 use Rattle.ver_frames.specs.Frames.{Frame, filled}
 use Rattle.ver_frames.specs.Limits.{FitsMethod}
 use Rattle.ver_frames.specs.Method.{Subject, argument_types}
@@ -127,12 +128,6 @@ frame_fits m last before (tag ∷ rest) read e =
     let distance = both (or_broken Reserved (unwrap_or last 0) (delta tag rest)) _ read e in
     let fits = behind_fits m (next_offset last distance.0.0) before tag distance.0.1 read distance.1.1 in
     record { after = subst (λ (n : ℕ). IsAfter last n) (sym fits.offset) (after_last last distance.0.0); locals = fits.locals; stack = fits.stack }
-
-filled_long : (n : ℕ) (types : List VType) → length types ≤ n → length (filled n types) ≡ n
-filled_long n types le =
-    let e : length (filled n types) ≡ length types + length (replicate (n - length types) Top) = length-append types (replicate (n - length types) Top) in
-    let f : length (replicate (n - length types) Top) ≡ n - length types = length-replicate (n - length types) Top in
-    omega arith
 
 -- the declared frames rise and fit
 pub frames_fit : (m : Subject) (n : ℕ) (last : Option ℕ) (before : List VType) (bytes : List ℕ) (ds : List (ℕ × Frame)) → frames m n last before bytes ≡ Ok ds → RiseAndFit m last ds

@@ -1,3 +1,9 @@
+pub mod AssignableTests
+pub mod ChainFrames
+pub mod ChainZips
+pub mod Chains
+pub mod Changing
+pub mod Fillings
 pub mod FrameKinds
 pub mod FrameLimits
 pub mod FrameLoops

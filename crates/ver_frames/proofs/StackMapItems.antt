@@ -4,8 +4,8 @@ use Rattle.std.specs.Prelude.{if◌then◌else◌, option_and_then, option_map}
 use Rattle.std.proofs.lemmas.Bool.{eqb-true}
 use Rattle.ver_frames.specs.Method.{Subject}
 use Rattle.ver_frames.specs.StackMap.{after_item, after_items, item, items, u2}
-use Rattle.ver_frames.specs.StackMapFormat.{SaysType, SayTypes, object_type, two_bytes}
-use Rattle.ver_frames.specs.StackMapFormat.SaysType.{top, integer, null, uninitialized_this, object}
+use Rattle.ver_frames.specs.StackMapFormat.{SaysType, SayTypes, made_type, object_type, two_bytes}
+use Rattle.ver_frames.specs.StackMapFormat.SaysType.{top, integer, null, uninitialized_this, object, uninitialized}
 use Rattle.ver_frames.specs.StackMapFormat.SayTypes.{none, one_more}
 use Rattle.ver_frames.specs.declared.vtype.VType.{VType}
 use Rattle.ver_frames.specs.declared.vtype.VType.TheVariants.{Top, Int, Null, UninitializedThis}
@@ -61,6 +61,18 @@ object_says m tag rest found is e =
     let bytes : 7 ∷ two.0 ∷ two.1 ∷ index.0.1 ≡ tag ∷ rest = sym (ap (λ (n : ℕ). n ∷ rest) (eqb-true tag 7 is) ∙ ap (λ (r : List ℕ). 7 ∷ r) two.2) in
     says_as m (7 ∷ two.0 ∷ two.1 ∷ index.0.1) (tag ∷ rest) (type.0, index.0.1) found bytes type.2 (object two.0 two.1 index.0.1 type.0 named)
 
+abbrev made_item : Subject → List ℕ → Option (VType × List ℕ)
+made_item m rest = option_and_then (λ offset. option_map (λ t. (t, offset.1)) (made_type m offset.0)) (u2 rest)
+
+made_says : (m : Subject) (tag : ℕ) (rest : List ℕ) (found : VType × List ℕ) → eqb tag 8 ≡ true → made_item m rest ≡ Some found → SaysType m (tag ∷ rest) found.0 found.1
+made_says m tag rest found is e =
+    let offset = both_options (u2 rest) _ found e in
+    let type = mapped (made_type m offset.0.0) (λ (t : VType). (t, offset.0.1)) found offset.1.1 in
+    let two = two_of rest offset.0 offset.1.0 in
+    let made : made_type m (two_bytes two.0 two.1) ≡ Some type.0 = subst (λ (n : ℕ). made_type m n ≡ Some type.0) two.3 type.1 in
+    let bytes : 8 ∷ two.0 ∷ two.1 ∷ offset.0.1 ≡ tag ∷ rest = sym (ap (λ (n : ℕ). n ∷ rest) (eqb-true tag 8 is) ∙ ap (λ (r : List ℕ). 8 ∷ r) two.2) in
+    says_as m (8 ∷ two.0 ∷ two.1 ∷ offset.0.1) (tag ∷ rest) (type.0, offset.0.1) found bytes type.2 (uninitialized two.0 two.1 offset.0.1 type.0 made)
+
 -- what is read of an item it says
 pub item_says : (m : Subject) (bytes : List ℕ) (found : VType × List ℕ) → item m bytes ≡ Some found → SaysType m bytes found.0 found.1
 unfolding item
@@ -72,7 +84,8 @@ item_says m (tag ∷ rest) found e =
     (λ not_1. by_test P (eqb tag 5) _ _ (λ is e. tagged m tag 5 rest Null found is e (null rest))
     (λ not_5. by_test P (eqb tag 6) _ _ (λ is e. tagged m tag 6 rest UninitializedThis found is e (uninitialized_this rest))
     (λ not_6. by_test P (eqb tag 7) _ _ (λ is e. object_says m tag rest found is e)
-    (λ not_7 e. absurd (cc)))))) e
+    (λ not_7. by_test P (eqb tag 8) _ _ (λ is e. made_says m tag rest found is e)
+    (λ not_8 e. absurd (cc))))))) e
 
 -- what an item says is read of it
 pub says_again : (m : Subject) {bytes rest : List ℕ} {type : VType} → SaysType m bytes type rest → item m bytes ≡ Some (type, rest)
@@ -82,6 +95,7 @@ says_again m (integer rest) = refl
 says_again m (null rest) = refl
 says_again m (uninitialized_this rest) = refl
 says_again m (object high low rest type named) = rw named refl
+says_again m (uninitialized high low rest type made) = rw made refl
 
 -- the bytes after an item are found without its type
 pub says_after : (m : Subject) {bytes rest : List ℕ} {type : VType} → SaysType m bytes type rest → after_item bytes ≡ Some rest
@@ -91,6 +105,7 @@ says_after m (integer rest) = refl
 says_after m (null rest) = refl
 says_after m (uninitialized_this rest) = refl
 says_after m (object high low rest type named) = refl
+says_after m (uninitialized high low rest type made) = refl
 
 -- ---- so many
 

@@ -1,6 +1,8 @@
 -- Offsets at which no instruction stands.
-use Rattle.std.proofs.Common.{◌≡◌, ◌≢◌, ℕ, suc, ◌<◌, ◌≤◌, false, List, [], ◌∷◌, length, get_or, Err, ◌==◌, Fits, w16, refl, arith}
+use Rattle.std.proofs.Common.{◌≡◌, ◌≢◌, ℕ, zero, suc, inl, inr, ◌+◌, sym, subst, add-one, ◌<◌, ◌≤◌, false, List, [], ◌∷◌, length, get_or, Err, ◌==◌, Fits, w16, refl, arith}
 use Rattle.std.specs.List.{list_any}
+use Rattle.cf_insns.specs.Listing.{Rises}
+use Rattle.cls_set.proofs.Walks.{before}
 use Rattle.std.specs.List.Sorted.{IsBinarySearchResult, IsStrictlyIncreasing}
 use Rattle.std.specs.Ordering.{nat_cmp}
 use Rattle.std.proofs.lemmas.Bool.Decides.{nat_tests}
@@ -28,3 +30,14 @@ pub not_found : (xs : List ℕ) (x i : ℕ) → IsStrictlyIncreasing xs → IsBi
 not_found xs x i rising search_says =
     let outside = searched xs x (Err i) search_says (λ i' j le lt. non_decreasing_from_sorted xs (sorted_from_strictly_increasing xs rising) i' j 0 le lt) in
     not_among xs x (λ k lt. apart k i (length xs) (get_or xs k 0) x (outside.1 k) (outside.2 k) lt)
+
+-- each of rising numbers is below all that come after it
+pub rise : (xs : List ℕ) → IsStrictlyIncreasing xs → Rises xs
+rise xs rising i zero lt inside = absurd (omega (arith, lt))
+rise xs rising i (suc j) lt inside =
+    let next : j + 1 ≡ suc j = add-one j in
+    let last : get_or xs j 0 < get_or xs (suc j) 0 = rw next at (rising j (omega (arith, inside))) in
+    elim (before i j) [
+      | inl less ↦ let far : get_or xs i 0 < get_or xs j 0 = rise xs rising i j less (omega (arith, inside)) in omega (arith, far, last)
+      | inr more ↦ let same : i ≡ j = omega (arith, lt, more) in subst (λ (k : ℕ). get_or xs k 0 < get_or xs (suc j) 0) (sym same) last
+    ]

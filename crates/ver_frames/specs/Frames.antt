@@ -1,4 +1,4 @@
-use Rattle.std.specs.Prelude.{ℕ, ◌-◌, Bool, List, ◌++◌, length, replicate}
+use Rattle.std.specs.Prelude.{ℕ, ◌-◌, Bool, List, ◌++◌, length, replicate, take}
 use Rattle.ver_frames.specs.declared.vtype.VType.{VType}
 use Rattle.ver_frames.specs.declared.vtype.VType.TheVariants.{Top}
 
@@ -12,3 +12,7 @@ pub record Frame : Type 0 where
 -- the types, and top up to so many
 abbrev pub filled : ℕ → List VType → List VType
 filled n types = types ++ replicate (n - length types) Top
+
+-- the first n types, top where there are no more
+abbrev pub first_types : ℕ → List VType → List VType
+first_types n types = take n (filled n types)

@@ -1,7 +1,11 @@
 pub mod Assignable
+pub mod AssignableTest
+pub mod Chains
+pub mod Changes
 pub mod Frames
 pub mod Gives
 pub mod Limits
+pub mod Made
 pub mod Method
 pub mod StackMap
 pub mod StackMapFormat

@@ -3,7 +3,7 @@ use Rattle.std.specs.List.{list_any}
 use Rattle.std.specs.Option.{option_map_or}
 use Rattle.ver_frames.specs.Frames.{Frame}
 use Rattle.ver_frames.specs.Method.{Subject, argument_types}
-use Rattle.ver_frames.specs.StackMapFormat.{Spelled, declared_by, next_offset, object_type}
+use Rattle.ver_frames.specs.StackMapFormat.{Spelled, declared_by, next_offset, made_type, object_type}
 use Rattle.ver_frames.specs.declared.fault.StackMapFault.{StackMapFault}
 use Rattle.ver_frames.specs.declared.fault.StackMapFault.TheVariants.{Broken}
 use Rattle.ver_frames.specs.declared.fault.StackMapRule.{StackMapRule}
@@ -34,7 +34,7 @@ u2 (high ∷ low ∷ rest) = Some (256 * high + low, rest)
 u2 _ = None
 
 -- the type that an item says. An item of a long, a float or a double says none of this project's
--- profile; one of a `new` says none, since no instruction of the profile is one yet
+-- profile
 unfoldable pub item : Subject → List ℕ → Option (VType × List ℕ)
 item m [] = None
 item m (tag ∷ rest) =
@@ -43,7 +43,8 @@ item m (tag ∷ rest) =
     else (if tag == 5 then Some (Null, rest)
     else (if tag == 6 then Some (UninitializedThis, rest)
     else (if tag == 7 then option_and_then (λ index. option_map (λ t. (t, index.1)) (object_type m index.0)) (u2 rest)
-    else None))))
+    else (if tag == 8 then option_and_then (λ offset. option_map (λ t. (t, offset.1)) (made_type m offset.0)) (u2 rest)
+    else None)))))
 
 -- the types that so many items say
 unfoldable pub items : Subject → ℕ → List ℕ → Option (List VType × List ℕ)

@@ -4,9 +4,10 @@ use Rattle.std.specs.List.{AllByRecursion, list_any}
 use Rattle.cf_pool.specs.Pools.{class_at}
 use Rattle.cls_set.specs.Classes.{number_of}
 use Rattle.ver_frames.specs.Frames.{Frame, filled}
+use Rattle.ver_frames.specs.Made.{made_at}
 use Rattle.ver_frames.specs.Method.{Subject, argument_types}
 use Rattle.ver_frames.specs.declared.vtype.VType.{VType}
-use Rattle.ver_frames.specs.declared.vtype.VType.TheVariants.{Top, Int, Null, Object, IntArray, UninitializedThis}
+use Rattle.ver_frames.specs.declared.vtype.VType.TheVariants.{Top, Int, Null, Object, IntArray, Uninitialized, UninitializedThis}
 
 -- the number of two bytes, the high one first
 abbrev pub two_bytes : ℕ → ℕ → ℕ
@@ -22,8 +23,12 @@ object_type m index = option_and_then named (class_at m.class.file.pool index)
     named name =
         if bytes_eq name (codes "[I") then Some IntArray else option_map Object (number_of m.classes name)
 
+-- the type of what the `new` at an offset of the method makes
+unfoldable pub made_type : Subject → ℕ → Option VType
+made_type m offset = option_map (λ class. Uninitialized offset) (made_at m.linked.insns m.linked.offsets offset)
+
 -- The bytes begin with an item that says the type, and these bytes are behind it. An item of a long, a float or a double
--- says no type of this project's profile; one of a `new` says none, since no instruction of the profile is one yet.
+-- says no type of this project's profile.
 pub data SaysType (m : Subject) : List ℕ → VType → List ℕ → Type 0 where
   -- Top_variable_info
   top : (rest : List ℕ) → SaysType m (0 ∷ rest) Top rest
@@ -36,6 +41,9 @@ pub data SaysType (m : Subject) : List ℕ → VType → List ℕ → Type 0 whe
   -- Object_variable_info: behind the tag the index of a Class entry
   object : (high low : ℕ) (rest : List ℕ) (type : VType) → object_type m (two_bytes high low) ≡ Some type
       → SaysType m (7 ∷ high ∷ low ∷ rest) type rest
+  -- Uninitialized_variable_info: behind the tag the offset of a `new`
+  uninitialized : (high low : ℕ) (rest : List ℕ) (type : VType) → made_type m (two_bytes high low) ≡ Some type
+      → SaysType m (8 ∷ high ∷ low ∷ rest) type rest
 
 -- the bytes begin with items that say the types, one behind the other, and these bytes are behind them
 pub data SayTypes (m : Subject) : List ℕ → List VType → List ℕ → Type 0 where

@@ -1,18 +1,23 @@
 //! Which verification types may stand for which (JVMS 4.10.1.2, 4.10.1.4).
 
-ghost use Rattle.std.specs.Prelude.{◌↔◌, ◌≡◌, ◌<◌, IsTrue, IsSomeAnd, Some, length, slice_get, codes};
-ghost use Rattle.std.specs.List.{AllZip};
+ghost use Rattle.std.specs.Prelude.{◌↔◌, ◌≡◌, ◌<◌, IsTrue, IsSomeAnd, Some, length, slice_get, slice_index_or, codes};
 ghost use Rattle.cls_set.specs.Classes.{name_at, IsInterface};
 ghost use Rattle.cls_set.specs.Subtypes.{IsSubclass};
-ghost use Rattle.ver_frames.specs.Assignable.{IsAssignable, IsFrameAssignable};
+ghost use Rattle.ver_frames.specs.AssignableTest.{is_assignable, is_below, is_interface, is_named_object};
+ghost use Rattle.ver_frames.specs.Assignable.{AreAssignable, IsAssignable, IsFrameAssignable};
+ghost use Rattle.ver_frames.specs.Chains.{Stands, types_of};
+ghost use Rattle.ver_frames.specs.Frames.{first_types};
+ghost use Rattle.ver_frames.specs.declared.vtype.VType.TheVariants.{Top};
 
-use super::{TypeFrame, VType};
+use super::chain::{TypeChain, TypeNodes};
+use super::{DeclaredFrame, TypeFrame, VType};
 use cls_set::{ClassId, ClassSet};
 
 /// Whether a value of the first type may stand where the second is asked. It takes no memory.
-#[tactic(auto, unfolding(crate::specs::Assignable::IsAssignable))]
+#[tactic(auto, unfolding(crate::specs::Assignable::IsAssignable, crate::specs::AssignableTest::is_assignable))]
 pub fn assignable(classes: &ClassSet, given: VType, asked: VType) -> bool
-    ensures { IsTrue result ↔ IsAssignable classes.now given asked }
+    ensures decides { IsTrue result ↔ IsAssignable classes.now given asked }
+    ensures test { result ≡ is_assignable classes.now given asked }
 {
     match (given, asked) {
         (_, VType::Top) => true,
@@ -27,56 +32,103 @@ pub fn assignable(classes: &ClassSet, given: VType, asked: VType) -> bool
 
 // Whether the class is an interface of the set.
 fn is_interface(classes: &ClassSet, class: ClassId) -> bool
-    ensures { IsTrue result ↔ IsSomeAnd (slice_get classes.now class.0) IsInterface }
+    ensures decides { IsTrue result ↔ IsSomeAnd (slice_get classes.now class.0) IsInterface }
+    ensures test { result ≡ is_interface classes.now class }
 {
-    usize::from(class.0) < classes.len() && classes.class(class).is_interface()
+    if usize::from(class.0) >= classes.len() {
+        return false;
+    }
+    classes.class(class).is_interface()
 }
 
 // Whether the first class is the second, or has it among its superclasses.
 fn is_subclass(classes: &ClassSet, given: ClassId, asked: ClassId) -> bool
-    ensures { IsTrue result ↔ IsSubclass classes.now given asked }
+    ensures decides { IsTrue result ↔ IsSubclass classes.now given asked }
+    ensures test { result ≡ is_below (length classes.now) classes.now given asked }
 {
-    if usize::from(given.0) < classes.len() {
-        return classes.is_subclass(given, asked);
+    if usize::from(given.0) >= classes.len() {
+        return given == asked;
     }
-    given == asked
+    classes.is_subclass(given, asked)
 }
 
-// Whether the class is java/lang/Object.
-fn is_named_object(classes: &ClassSet, class: ClassId) -> bool
+// Whether the class has the name of java/lang/Object.
+fn has_object_name(classes: &ClassSet, class: ClassId) -> bool
     ensures { IsTrue result ↔ (name_at classes.now class ≡ Some (codes "java/lang/Object")) }
 {
     usize::from(class.0) < classes.len() && classes.name(class).is(b"java/lang/Object")
 }
 
-// Whether there are as many types as asked, each assignable to the one in its place.
-fn are_assignable(classes: &ClassSet, given: &[VType], asked: &[VType]) -> bool
-    ensures { IsTrue result ↔ AllZip (IsAssignable classes.now) given.now asked.now }
+// Whether the class is java/lang/Object.
+fn is_named_object(classes: &ClassSet, class: ClassId) -> bool
+    ensures decides { IsTrue result ↔ (name_at classes.now class ≡ Some (codes "java/lang/Object")) }
+    ensures test { result ≡ is_named_object classes.now class }
 {
-    if given.len() != asked.len() {
-        return false;
+    has_object_name(classes, class)
+}
+
+// The type in a place: top after the last.
+fn type_at(types: &[VType], place: usize) -> VType
+    ensures { result ≡ slice_index_or types.now place Top }
+{
+    match types.get(place) {
+        Some(kind) => *kind,
+        None => VType::Top,
     }
-    for (given, asked) in given.iter().zip(asked) {
-        if !assignable(classes, *given, *asked) {
+}
+
+// Whether each type of a chain is one that the type in its place may stand for, which is top after
+// the last.
+fn chain_assignable(
+    classes: &ClassSet,
+    given: &[VType],
+    nodes: &TypeNodes,
+    asked: TypeChain,
+) -> bool
+    requires { Stands nodes.now asked }
+    ensures { IsTrue result ↔ AreAssignable classes.now (first_types asked.count given.now) (types_of nodes.now asked) }
+{
+    let mut last = asked.last;
+    let mut count = asked.count;
+    while count > 0 {
+        let node = nodes.node(last);
+        count -= 1;
+        if !assignable(classes, type_at(given, count), node.kind) {
             return false;
         }
+        last = node.before;
     }
     true
 }
 
-// Whether there are as many operands as asked, each assignable to the one in its place.
-#[tactic(auto, using(crate::proofs::Zips::zip_backwards))]
-fn stack_assignable(classes: &ClassSet, given: &TypeFrame, asked: &TypeFrame) -> bool
-    ensures { IsTrue result ↔ AllZip (IsAssignable classes.now) given.now.stack asked.now.stack }
+// Whether there are as many local variables as asked, each assignable to the one of its number.
+fn locals_assignable(classes: &ClassSet, given: &TypeFrame, asked: &DeclaredFrame) -> bool
+    ensures { IsTrue result ↔ AreAssignable classes.now given.now.locals asked.now.locals }
 {
-    are_assignable(classes, given.stack(), asked.stack())
+    let nodes = asked.nodes;
+    if given.local_count() != asked.local_count() {
+        return false;
+    }
+    chain_assignable(classes, given.stored_locals(), nodes, asked.locals)
 }
 
-/// Whether a frame may stand where another is asked. It takes no memory.
-pub fn frame_assignable(classes: &ClassSet, given: &TypeFrame, asked: &TypeFrame) -> bool
+// Whether there are as many operands as asked, each assignable to the one in its place.
+fn stack_assignable(classes: &ClassSet, given: &TypeFrame, asked: &DeclaredFrame) -> bool
+    ensures { IsTrue result ↔ AreAssignable classes.now given.now.stack asked.now.stack }
+{
+    let nodes = asked.nodes;
+    let stack = given.stack();
+    if stack.len() != asked.stack.count {
+        return false;
+    }
+    chain_assignable(classes, stack, nodes, asked.stack)
+}
+
+/// Whether a frame may stand where the declared one is asked. It takes no memory.
+pub fn frame_assignable(classes: &ClassSet, given: &TypeFrame, asked: &DeclaredFrame) -> bool
     ensures { IsTrue result ↔ IsFrameAssignable classes.now given.now asked.now }
 {
-    are_assignable(classes, given.locals(), asked.locals())
+    locals_assignable(classes, given, asked)
         && stack_assignable(classes, given, asked)
-        && (asked.flag_this_uninit() || !given.flag_this_uninit())
+        && (!given.flag_this_uninit() || asked.flag_this_uninit())
 }

@@ -1,18 +1,19 @@
 //! Type frames (JVMS 4.10.1.4).
 
-ghost use Rattle.std.specs.Prelude.{◌≡◌, ◌<◌, ◌≤◌, ◌∷◌, [], IfOk, OnOk, OnErr, MatchOption, length, reverse, slice_set};
-ghost use Rattle.ver_frames.specs.Frames.{filled};
-
-use super::VType;
+use super::changes::{any_made_at, change_all};
+use super::{DeclaredFrame, TypeChange, VType};
 use std::alloc::AllocError;
 use std::marker::Model;
 
 /// The types of the local variables and operands at an instruction. A contract sees it as the record
 /// of them, the operand on top first.
+///
+/// It takes memory for the local variables up to the last that is not top, whatever `max_locals` is.
 #[derive(Debug, Drop)]
 pub struct TypeFrame {
-    // By their numbers, one for each that the method has.
+    // By their numbers: those after them, up to max_locals, are top.
     locals: Vec<VType>,
+    max_locals: u16,
     // The operand on top last.
     stack: Vec<VType>,
     // Whether this is an `<init>` that has called no other `<init>` yet.
@@ -21,29 +22,60 @@ pub struct TypeFrame {
 
 impl Model for TypeFrame {
     ghost use Rattle.std.specs.Prelude.{reverse};
-    ghost use Rattle.ver_frames.specs.Frames.{Frame};
+    ghost use Rattle.ver_frames.specs.Frames.{Frame, filled};
 
     ghost Value = { Frame };
 
-    ghost view = { λ f. record { locals = f.locals.items; stack = reverse f.stack.items; flag_this_uninit = f.flag_this_uninit } };
+    ghost view = { λ f. record { locals = filled f.max_locals f.locals.items; stack = reverse f.stack.items; flag_this_uninit = f.flag_this_uninit } };
 }
 
 impl TypeFrame {
-    /// The frame of these local variables by number and these operands, the one on top last. It
-    /// takes no memory.
-    pub fn new(locals: Vec<VType>, stack: Vec<VType>, flag_this_uninit: bool) -> TypeFrame
-        ensures { result ≡ record { locals = locals.items; stack = reverse stack.items; flag_this_uninit = flag_this_uninit } }
+    ghost use Rattle.std.specs.Prelude.{◌≡◌, ◌<◌, ◌∷◌, [], OnOk, OnErr, MatchOption, false, length, reverse, slice_get, slice_set};
+    ghost use Rattle.std.specs.List.{list_any};
+    ghost use Rattle.ver_frames.specs.Changes.{changed, is_made_at, map_locals, map_types};
+    ghost use Rattle.ver_frames.specs.Frames.{filled};
+
+    /// The frame of these local variables by number, those after them up to `max_locals` being top,
+    /// and of these operands, the one on top last. It takes no memory.
+    pub fn new(
+        max_locals: u16,
+        locals: Vec<VType>,
+        stack: Vec<VType>,
+        flag_this_uninit: bool,
+    ) -> TypeFrame
+        ensures { result ≡ record { locals = filled max_locals locals.items; stack = reverse stack.items; flag_this_uninit = flag_this_uninit } }
     {
         TypeFrame {
             locals,
+            max_locals,
             stack,
             flag_this_uninit,
         }
     }
 
-    /// The types of the local variables, by number.
-    pub fn locals(&self) -> &[VType]
-        ensures { result.now ≡ self.now.locals }
+    /// How many local variables there are.
+    pub fn local_count(&self) -> usize
+        ensures { result ≡ length self.now.locals }
+    {
+        let all = usize::from(self.max_locals);
+        let stored = self.locals.len();
+        if stored < all { all } else { stored }
+    }
+
+    /// The type of a local variable: `None` if there is none of this number.
+    pub fn local(&self, number: u16) -> Option<VType>
+        ensures { result ≡ slice_get self.now.locals number }
+    {
+        match self.locals.get(usize::from(number)) {
+            Some(kind) => Some(*kind),
+            None if number < self.max_locals => Some(VType::Top),
+            None => None,
+        }
+    }
+
+    /// The types of the local variables by number, up to the last that is not top at least.
+    pub(crate) fn stored_locals(&self) -> &[VType]
+        ensures { self.now.locals ≡ filled (length self.now.locals) result.now }
     {
         &self.locals
     }
@@ -69,7 +101,7 @@ impl TypeFrame {
         self.flag_this_uninit
     }
 
-    /// Puts an operand on top. Where memory runs out, nothing changes.
+    /// Puts an operand on top. If memory runs out, nothing changes.
     pub fn push(&mut self, operand: VType) -> Result<(), AllocError>
         ensures ok { OnOk result (self.new ≡ record self.old { stack = operand ∷ self.old.stack }) }
         ensures err { OnErr result (self.new ≡ self.old) }
@@ -78,7 +110,7 @@ impl TypeFrame {
         Ok(())
     }
 
-    /// Takes the operand off the top: `None` where there is no operand.
+    /// Takes the operand off the top: `None` if there is no operand.
     pub fn pop(&mut self) -> Option<VType>
         ensures { MatchOption result
             ((self.old.stack ≡ []) × (self.new ≡ self.old))
@@ -87,40 +119,68 @@ impl TypeFrame {
         self.stack.pop()
     }
 
-    /// Gives a local variable a type.
-    pub fn set_local(&mut self, number: u16, kind: VType)
+    /// Gives a local variable a type. If memory runs out, nothing changes.
+    pub fn set_local(&mut self, number: u16, kind: VType) -> Result<(), AllocError>
         requires { number < length self.old.locals }
-        ensures { self.new ≡ record self.old { locals = slice_set self.old.locals number kind } }
-    {
-        self.locals[usize::from(number)] = kind;
-    }
-
-    /// Becomes a copy of the other frame. Where memory runs out, nothing changes.
-    pub fn copy_from(&mut self, other: &TypeFrame) -> Result<(), AllocError>
-        ensures ok { OnOk result (self.new ≡ other.now) }
+        ensures ok { OnOk result (self.new ≡ record self.old { locals = slice_set self.old.locals number kind }) }
         ensures err { OnErr result (self.new ≡ self.old) }
     {
-        let locals_missing = other.locals.len().saturating_sub(self.locals.len());
-        self.locals.reserve(locals_missing)?;
-        let stack_missing = other.stack.len().saturating_sub(self.stack.len());
-        self.stack.reserve(stack_missing)?;
-        // From here on there is room for all.
-        self.locals.clear();
-        self.locals.extend_from_slice(&other.locals)?;
-        self.stack.clear();
-        self.stack.extend_from_slice(&other.stack)?;
-        self.flag_this_uninit = other.flag_this_uninit;
+        let index = usize::from(number);
+        if index < self.locals.len() {
+            self.locals[index] = kind;
+            return Ok(());
+        }
+        self.locals.resize(index + 1, VType::Top)?;
+        self.locals[index] = kind;
         Ok(())
     }
-}
 
-// Appends top up to so many types. Where memory runs out, they stay.
-pub(crate) fn fill(types: &mut Vec<VType>, count: usize) -> Result<(), AllocError>
-    ensures ok { OnOk result (types.new.items ≡ filled count types.old.items) }
-    ensures err { OnErr result (types.new.items ≡ types.old.items) }
-{
-    if types.len() < count {
-        types.resize(count, VType::Top)?;
+    /// Changes the types of the local variables.
+    pub fn change_locals(&mut self, change: TypeChange)
+        ensures { self.new ≡ map_locals (changed change) self.old }
+    {
+        change_all(change, &mut self.locals);
     }
-    Ok(())
+
+    /// Changes the types of the local variables and operands.
+    pub fn change(&mut self, change: TypeChange)
+        ensures { self.new ≡ map_types (changed change) self.old }
+    {
+        change_all(change, &mut self.locals);
+        change_all(change, &mut self.stack);
+    }
+
+    /// Clears the flag: this `<init>` has called another one.
+    pub fn clear_flag(&mut self)
+        ensures { self.new ≡ record self.old { flag_this_uninit = false } }
+    {
+        self.flag_this_uninit = false;
+    }
+
+    /// Whether an operand is what the `new` at this offset made.
+    pub fn has_made_at(&self, offset: u16) -> bool
+        ensures { result ≡ list_any (is_made_at offset) self.now.stack }
+    {
+        any_made_at(offset, &self.stack)
+    }
+
+    /// Becomes the frame that is declared. If memory runs out, nothing changes.
+    pub fn copy_from(&mut self, declared: &DeclaredFrame) -> Result<(), AllocError>
+        ensures ok { OnOk result (self.new ≡ declared.now) }
+        ensures err { OnErr result (self.new ≡ self.old) }
+    {
+        let nodes = declared.nodes;
+        let locals_missing = declared.locals.count.saturating_sub(self.locals.len());
+        self.locals.reserve(locals_missing)?;
+        let stack_missing = declared.stack.count.saturating_sub(self.stack.len());
+        self.stack.reserve(stack_missing)?;
+        // From here on there is room for all.
+        self.locals.resize(declared.locals.count, VType::Top)?;
+        nodes.write(declared.locals, &mut self.locals);
+        self.stack.resize(declared.stack.count, VType::Top)?;
+        nodes.write(declared.stack, &mut self.stack);
+        self.max_locals = declared.max_locals;
+        self.flag_this_uninit = nodes.has_uninit_this(declared.locals);
+        Ok(())
+    }
 }

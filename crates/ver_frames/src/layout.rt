@@ -1,6 +1,6 @@
 //! How a frame of a StackMapTable lies in its bytes (JVMS 4.7.4).
 
-ghost use Rattle.std.specs.Prelude.{◌≡◌, ◌≤◌, IfSome};
+ghost use Rattle.std.specs.Prelude.{◌≡◌, ◌≤◌, IfSome, option_and_then};
 ghost use Rattle.ver_frames.specs.Gives.{Finds};
 ghost use Rattle.ver_frames.specs.StackMap.{u2, after_item, after_items, delta, kept, added, operands};
 
@@ -37,7 +37,7 @@ fn after_item(bytes: &[u8]) -> Option<&[u8]>
 
 // The bytes after so many items.
 #[tactic(auto, using(crate::proofs::Loops::after_items_left), unfolding(crate::specs::StackMap::after_items))]
-pub(crate) fn after_items(count: u16, bytes: &[u8]) -> Option<&[u8]>
+fn after_items(count: u16, bytes: &[u8]) -> Option<&[u8]>
     ensures { Finds (λ x. x.now) result (after_items count bytes.now) }
 {
     let mut rest = bytes;
@@ -97,7 +97,7 @@ pub(crate) fn added(tag: u8, rest: &[u8]) -> Option<(u16, &[u8])>
 // How many operands a frame of this tag has, and the bytes of their items, behind those of its
 // further local variables.
 #[tactic(auto, unfolding(crate::specs::StackMap::operands))]
-pub(crate) fn operands(tag: u8, rest: &[u8]) -> Option<(u16, &[u8])>
+fn operands(tag: u8, rest: &[u8]) -> Option<(u16, &[u8])>
     ensures { Finds (λ x. (x.0, x.1.now)) result (operands tag rest.now) }
 {
     if tag == FULL {
@@ -107,4 +107,13 @@ pub(crate) fn operands(tag: u8, rest: &[u8]) -> Option<(u16, &[u8])>
         return Some((1, rest));
     }
     Some((0, rest))
+}
+
+// How many operands a frame of this tag has, and the bytes of their items, which follow those of so
+// many further local variables.
+pub(crate) fn operands_after(tag: u8, adds: u16, added: &[u8]) -> Option<(u16, &[u8])>
+    ensures { Finds (λ x. (x.0, x.1.now)) result (option_and_then (operands tag) (after_items adds added.now)) }
+{
+    let rest = after_items(adds, added)?;
+    operands(tag, rest)
 }

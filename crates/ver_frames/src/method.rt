@@ -1,11 +1,13 @@
 //! A method with code, and the frame in which it begins (JVMS 4.10.1.6).
 
 ghost use Rattle.std.specs.Prelude.{◌≡◌, IfOk};
+ghost use Rattle.std.specs.List.Sorted.{IsStrictlyIncreasing};
+ghost use Rattle.cls_link.specs.Targets.{index_from};
+ghost use Rattle.ver_frames.specs.Made.{new_class};
 ghost use Rattle.ver_frames.specs.Types.{field_vtype, element_type};
 
-use super::frame::fill;
 use super::{TypeFrame, VType};
-use cls_link::LinkedCode;
+use cls_link::{LinkedCode, LinkedInsn};
 use cls_set::{Class, ClassId, ClassSet, Code, ElementType, FieldType, Flags, Method};
 use std::alloc::{AllocError, Global};
 use std::marker::Model;
@@ -39,6 +41,8 @@ impl<'a> Model for MethodView<'a> {
 
 impl MethodView<'_> {
     ghost use Rattle.std.specs.Prelude.{◌≡◌, IfOk};
+    ghost use Rattle.std.specs.List.Sorted.{IsStrictlyIncreasing};
+    ghost use Rattle.ver_frames.specs.Made.{made_at};
     ghost use Rattle.ver_frames.specs.Method.{begins_uninit, argument_types, opening, result_type};
 
     /// Whether its receiver is not initialized as it begins.
@@ -75,9 +79,26 @@ impl MethodView<'_> {
     pub fn opening(&self, alloc: Global) -> Result<TypeFrame, AllocError>
         ensures { IfOk result (λ frame. frame ≡ opening self.now) }
     {
-        let mut locals = self.argument_types(alloc)?;
-        fill(&mut locals, usize::from(self.code.max_locals))?;
-        Ok(TypeFrame::new(locals, Vec::new(alloc), self.begins_uninit()))
+        let locals = self.argument_types(alloc)?;
+        Ok(TypeFrame::new(
+            self.code.max_locals,
+            locals,
+            Vec::new(alloc),
+            self.begins_uninit(),
+        ))
+    }
+
+    /// The class that the `new` at an offset makes an object of: `None` if no `new` stands there. It
+    /// takes time by the logarithm of the number of instructions.
+    #[tactic(auto, unfolding(crate::specs::Made::made_at))]
+    pub fn made_at(&self, offset: u16) -> Option<ClassId>
+        // The offsets of the method's instructions rise.
+        requires { IsStrictlyIncreasing self.now.linked.offsets }
+        ensures { result ≡ made_at self.now.linked.insns self.now.linked.offsets offset }
+    {
+        let index = index_of(self.linked.offsets.as_slice(), offset)?;
+        let insn = self.linked.insns.as_slice().get(index)?;
+        new_class(*insn)
     }
 
     /// The type of its result, where there is one.
@@ -92,9 +113,30 @@ impl MethodView<'_> {
     }
 }
 
-// The verification type of a field type; one out of this project's profile is top.
+// The index of the instruction at an offset.
+fn index_of(offsets: &[u16], offset: u16) -> Option<usize>
+    requires { IsStrictlyIncreasing offsets.now }
+    ensures { result ≡ index_from 0 offsets.now offset }
+{
+    match offsets.binary_search(&offset) {
+        Ok(index) => Some(index),
+        Err(_) => None,
+    }
+}
+
+// The class that an instruction makes an object of.
+fn new_class(insn: LinkedInsn) -> Option<ClassId>
+    ensures { result ≡ new_class insn }
+{
+    match insn {
+        LinkedInsn::New(class) => Some(class),
+        _ => None,
+    }
+}
+
+/// The verification type of a field type (JVMS 4.10.1.2); one out of this project's profile is top.
 #[tactic(auto, unfolding(crate::specs::Types::field_vtype))]
-fn field_vtype(classes: &ClassSet, kind: &FieldType) -> VType
+pub fn field_vtype(classes: &ClassSet, kind: &FieldType) -> VType
     ensures { result ≡ field_vtype classes.now kind.now }
 {
     match (kind.dimensions, &kind.element) {

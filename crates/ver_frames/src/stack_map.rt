@@ -3,19 +3,20 @@
 ghost use Rattle.std.specs.Prelude.{◌≡◌, ◌==◌, ◌≤◌, ℕ, List, IfOk, None, Some, Ok, length, map, if◌then◌else◌};
 ghost use Rattle.std.specs.List.{AllByRecursion, list_any};
 ghost use Rattle.std.specs.List.Sorted.{IsStrictlyIncreasing};
+ghost use Rattle.ver_frames.specs.Chains.{FrameStands, Keeps, Stands, spelled_in, types_of};
 ghost use Rattle.ver_frames.specs.Frames.{Frame};
 ghost use Rattle.ver_frames.specs.Gives.{Gives};
 ghost use Rattle.ver_frames.specs.Limits.{FitsMethod};
 ghost use Rattle.ver_frames.specs.Method.{argument_types};
 ghost use Rattle.ver_frames.specs.declared.fault.StackMapFault.TheVariants.{Broken};
 ghost use Rattle.ver_frames.specs.StackMap.{declared_frames, frame, frame_behind, frames, frames_of_table, is_start};
-ghost use Rattle.ver_frames.specs.StackMapFormat.{DeclaresFrames, declared_frame, is_uninit_this};
+ghost use Rattle.ver_frames.specs.StackMapFormat.{DeclaresFrames};
 
-use super::frame::fill;
-use super::items::push_items;
-use super::layout::{added, after_items, delta, kept, operands, u2};
+use super::chain::{TypeChain, TypeNodes};
+use super::items::append_items;
+use super::layout::{added, delta, kept, operands_after, u2};
 use super::raw_frame::RawFrame;
-use super::{MethodView, StackMapFault, StackMapRule, TypeFrame, VType};
+use super::{DeclaredFrames, MethodView, StackMapFault, StackMapRule};
 use std::alloc::{AllocError, Global};
 
 // The rule is broken at this offset.
@@ -49,71 +50,73 @@ fn start_at(method: &MethodView, at: usize) -> Option<u16>
 }
 
 // The frame at an offset, of this tag, after a frame with these local variables.
-#[tactic(auto, unfolding(crate::specs::StackMap::frame_behind))]
+#[tactic(auto, using(crate::proofs::Chains::keeps_all), unfolding(crate::specs::StackMap::frame_behind))]
 fn frame_behind<'a>(
-    alloc: Global,
+    nodes: &mut TypeNodes,
     method: &MethodView,
     at: usize,
-    before: &[VType],
+    before: TypeChain,
     tag: u8,
     rest: &'a [u8],
 ) -> Result<(RawFrame, &'a [u8]), StackMapFault>
-    requires { IsStrictlyIncreasing method.now.linked.offsets }
-    ensures { Gives (λ x. (x.0, x.1.now)) result (frame_behind method.now at before.now tag rest.now) }
+    requires rising { IsStrictlyIncreasing method.now.linked.offsets }
+    requires stands { Stands nodes.old before }
+    ensures gives { Gives (λ x. (spelled_in nodes.new x.0, x.1.now)) result (frame_behind method.now at (types_of nodes.old before) tag rest.now) }
+    ensures stands { IfOk result (λ x. FrameStands nodes.new x.0) }
+    ensures kept { Keeps nodes.old nodes.new }
 {
-    let Some(keeps) = kept(tag, before.len()) else {
+    let Some(keeps) = kept(tag, nodes.count(before)) else {
         return broken(StackMapRule::Chop, at);
     };
     let Some((adds, added)) = added(tag, rest) else {
         return broken(StackMapRule::Reserved, at);
     };
-    let holds = match after_items(adds, added) {
-        Some(rest) => operands(tag, rest),
-        None => None,
+    let local_count = keeps.saturating_add(usize::from(adds));
+    let Some((pushes, pushed)) = operands_after(tag, adds, added) else {
+        if local_count > usize::from(method.code.max_locals) {
+            return broken(StackMapRule::Locals, at);
+        }
+        if start_at(method, at).is_none() {
+            return broken(StackMapRule::Offset, at);
+        }
+        return broken(StackMapRule::Kind, at);
     };
-    if keeps.saturating_add(usize::from(adds)) > usize::from(method.code.max_locals) {
-        return broken(StackMapRule::Locals, at);
-    }
-    if let Some((count, _)) = holds
-        && count > method.code.max_stack
-    {
+    if local_count > usize::from(method.code.max_locals) || pushes > method.code.max_stack {
         return broken(StackMapRule::Locals, at);
     }
     let Some(offset) = start_at(method, at) else {
         return broken(StackMapRule::Offset, at);
     };
-    let Some((pushes, pushed)) = holds else {
+    let first = nodes.shorten(before, keeps);
+    let Some((locals, _)) = append_items(nodes, first, method, adds, added)? else {
         return broken(StackMapRule::Kind, at);
     };
-    let mut locals = Vec::from_slice(alloc, &before[..keeps])?;
-    let Some(_) = push_items(&mut locals, method, adds, added)? else {
+    let none = TypeChain { last: 0, count: 0 };
+    let Some((stack, rest)) = append_items(nodes, none, method, pushes, pushed)? else {
         return broken(StackMapRule::Kind, at);
     };
-    let mut stack = Vec::new(alloc);
-    let Some(rest) = push_items(&mut stack, method, pushes, pushed)? else {
-        return broken(StackMapRule::Kind, at);
+    let raw = RawFrame {
+        offset,
+        locals,
+        stack,
     };
-    Ok((
-        RawFrame {
-            offset,
-            locals,
-            stack,
-        },
-        rest,
-    ))
+    Ok((raw, rest))
 }
 
 // The next frame, after one at this offset with these local variables, or the first.
-#[tactic(auto, unfolding(crate::specs::StackMap::frame))]
+#[tactic(auto, using(crate::proofs::Chains::keeps_all), unfolding(crate::specs::StackMap::frame))]
 fn frame<'a>(
-    alloc: Global,
+    nodes: &mut TypeNodes,
     method: &MethodView,
     last: Option<u16>,
-    before: &[VType],
+    before: TypeChain,
     bytes: &'a [u8],
 ) -> Result<(RawFrame, &'a [u8]), StackMapFault>
-    requires { IsStrictlyIncreasing method.now.linked.offsets }
-    ensures { Gives (λ x. (x.0, x.1.now)) result (frame method.now last before.now bytes.now) }
+    requires rising { IsStrictlyIncreasing method.now.linked.offsets }
+    requires stands { Stands nodes.old before }
+    ensures gives { Gives (λ x. (spelled_in nodes.new x.0, x.1.now)) result (frame method.now last (types_of nodes.old before) bytes.now) }
+    ensures stands { IfOk result (λ x. FrameStands nodes.new x.0) }
+    ensures kept { Keeps nodes.old nodes.new }
 {
     let last_offset = usize::from(last.unwrap_or(0));
     let [tag, rest @ ..] = bytes else {
@@ -126,34 +129,20 @@ fn frame<'a>(
         None => usize::from(distance),
         Some(last) => usize::from(last) + usize::from(distance) + 1,
     };
-    frame_behind(alloc, method, at, before, *tag, rest)
+    frame_behind(nodes, method, at, before, *tag, rest)
 }
 
-// Whether a type is that of the receiver before another `<init>` has run on it.
-fn has_uninit_this(types: &[VType]) -> bool
-    ensures { result ≡ list_any is_uninit_this types.now }
-{
-    for kind in types {
-        if matches!(kind, VType::UninitializedThis) {
-            return true;
-        }
-    }
-    false
-}
-
-// The frame that is declared by one with these local variables and operands.
-fn declared_frame(
+// The types of a method's arguments, which stand in the nodes then.
+fn argument_chain(
     alloc: Global,
-    max_locals: u16,
-    locals: &[VType],
-    stack: Vec<VType>,
-) -> Result<TypeFrame, AllocError>
-    ensures { IfOk result (λ declared. declared ≡ declared_frame max_locals locals.now stack.items) }
+    nodes: &mut TypeNodes,
+    method: &MethodView,
+) -> Result<TypeChain, AllocError>
+    ensures types { IfOk result (λ chain. types_of nodes.new chain ≡ argument_types method.now) }
+    ensures stands { IfOk result (Stands nodes.new) }
 {
-    let flag_this_uninit = has_uninit_this(locals);
-    let mut filled = Vec::from_slice(alloc, locals)?;
-    fill(&mut filled, usize::from(max_locals))?;
-    Ok(TypeFrame::new(filled, stack, flag_this_uninit))
+    let types = method.argument_types(alloc)?;
+    nodes.append_all(&types)
 }
 
 // So many frames, each with its offset, and no byte after them.
@@ -162,47 +151,47 @@ fn frames(
     method: &MethodView,
     count: u16,
     bytes: &[u8],
-) -> Result<Vec<(u16, TypeFrame)>, StackMapFault>
+) -> Result<DeclaredFrames, StackMapFault>
     requires { IsStrictlyIncreasing method.now.linked.offsets }
-    ensures frames { Gives (λ v. v.items) result (frames method.now count None (argument_types method.now) bytes.now) }
-    ensures few { IfOk result (λ v. length v.items ≤ 65535) }
+    ensures frames { Gives (λ v. v) result (frames method.now count None (argument_types method.now) bytes.now) }
+    ensures few { IfOk result (λ v. length v ≤ 65535) }
 {
+    let mut nodes = TypeNodes::new(alloc);
+    let mut locals = argument_chain(alloc, &mut nodes, method)?;
     // A frame takes a byte at least.
-    let mut declared = Vec::with_capacity(alloc, usize::from(count).min(bytes.len()))?;
+    let mut frames = Vec::with_capacity(alloc, usize::from(count).min(bytes.len()))?;
     let mut last = None;
-    let mut locals = method.argument_types(alloc)?;
     let mut rest = bytes;
     for _ in 0..count {
-        let (raw, after) = frame(alloc, method, last, &locals, rest)?;
-        let RawFrame {
-            offset,
-            locals: new_locals,
-            stack,
-        } = raw;
-        let types = declared_frame(alloc, method.code.max_locals, &new_locals, stack)?;
-        declared.push((offset, types))?;
-        last = Some(offset);
-        locals = new_locals;
+        let (raw, after) = frame(&mut nodes, method, last, locals, rest)?;
+        frames.push(raw)?;
+        last = Some(raw.offset);
+        locals = raw.locals;
         rest = after;
     }
     match rest {
-        [] => Ok(declared),
+        [] => Ok(DeclaredFrames {
+            nodes,
+            frames,
+            max_locals: method.code.max_locals,
+        }),
         [_, ..] => broken(StackMapRule::Reserved, usize::from(last.unwrap_or(0))),
     }
 }
 
-// The frames of the table, where there is one.
+// The frames of the table, if there is one.
 #[tactic(auto, unfolding(crate::specs::StackMap::declared_frames, crate::specs::StackMap::frames_of_table))]
-fn declared_or_none(
-    alloc: Global,
-    method: &MethodView,
-) -> Result<Vec<(u16, TypeFrame)>, StackMapFault>
+fn declared_or_none(alloc: Global, method: &MethodView) -> Result<DeclaredFrames, StackMapFault>
     requires { IsStrictlyIncreasing method.now.linked.offsets }
-    ensures declared { Gives (λ v. v.items) result (declared_frames method.now) }
-    ensures few { IfOk result (λ v. length v.items ≤ 65535) }
+    ensures declared { Gives (λ v. v) result (declared_frames method.now) }
+    ensures few { IfOk result (λ v. length v ≤ 65535) }
 {
     let Some(table) = &method.code.stack_map_table else {
-        return Ok(Vec::new(alloc));
+        return Ok(DeclaredFrames {
+            nodes: TypeNodes::new(alloc),
+            frames: Vec::new(alloc),
+            max_locals: method.code.max_locals,
+        });
     };
     let Some((count, rest)) = u2(table.as_slice()) else {
         return broken(StackMapRule::Reserved, 0);
@@ -210,22 +199,22 @@ fn declared_or_none(
     frames(alloc, method, count, rest)
 }
 
-/// The frames that a method declares, each with its offset, in the order of the offsets: none where
-/// it has no StackMapTable. The first fault counts; of several in one frame, the lowest number.
+/// The frames that a method declares, each with its offset, in the order of the offsets: none if it
+/// has no StackMapTable. The first fault counts; of several in one frame, the lowest number.
 #[tactic(auto, using(crate::proofs::FrameLimits::declared_rise, crate::proofs::FrameLimits::declared_within))]
-pub fn declared(alloc: Global, method: &MethodView) -> Result<Vec<(u16, TypeFrame)>, StackMapFault>
+pub fn declared(alloc: Global, method: &MethodView) -> Result<DeclaredFrames, StackMapFault>
     // The offsets of the method's instructions rise.
     requires { IsStrictlyIncreasing method.now.linked.offsets }
     // What is answered the method declares.
-    ensures found { IfOk result (λ v. DeclaresFrames method.now v.items) }
+    ensures found { IfOk result (DeclaresFrames method.now) }
     // What the method declares is answered, unless memory runs out.
-    ensures only { (ds : List (ℕ × Frame)) → DeclaresFrames method.now ds → Gives (λ v. v.items) result (Ok ds) }
+    ensures only { (ds : List (ℕ × Frame)) → DeclaresFrames method.now ds → Gives (λ v. v) result (Ok ds) }
     // Which fault it is: the first that is met in reading.
-    ensures declared { Gives (λ v. v.items) result (declared_frames method.now) }
-    ensures rising { IfOk result (λ v. IsStrictlyIncreasing (map (λ declared. declared.0) v.items)) }
-    ensures within { IfOk result (λ v. AllByRecursion (FitsMethod method.now) v.items) }
+    ensures declared { Gives (λ v. v) result (declared_frames method.now) }
+    ensures rising { IfOk result (λ v. IsStrictlyIncreasing (map (λ declared. declared.0) v)) }
+    ensures within { IfOk result (AllByRecursion (FitsMethod method.now)) }
     // Their number is one of two bytes.
-    ensures few { IfOk result (λ v. length v.items ≤ 65535) }
+    ensures few { IfOk result (λ v. length v ≤ 65535) }
 {
     declared_or_none(alloc, method)
 }

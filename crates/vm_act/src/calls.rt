@@ -16,6 +16,9 @@ pub struct Callee {
     pub arguments: u16,
     pub max_locals: u16,
     pub max_stack: u16,
+    /// Whether its receiver is uninitialised as it begins: an `<init>` that has to call another one,
+    /// as those of built-in classes do not.
+    pub begins_uninit: bool,
 }
 
 /// What the class of a receiver selects (JVMS 5.4.5, 6.5).
@@ -69,7 +72,9 @@ impl Machine {
             callee.max_locals,
             callee.max_stack,
         ) {
-            self.stack.begin_init();
+            if callee.begins_uninit {
+                self.stack.begin_init();
+            }
             Flow::Moves
         } else {
             Flow::throws(Thrown::StackOverflowError)
@@ -109,11 +114,12 @@ impl Machine {
         }
     }
 
-    /// areturn.
+    /// areturn. The heap stays, where a task that ends leaves what it returns.
     #[inline(always)]
     pub fn return_reference(&mut self) -> Flow
         requires fits { NotStuck (return_reference self.old) }
         ensures does { Does (return_reference self.old) result self.new }
+        ensures heap { self.new.heap ≡ self.old.heap }
         ensures method { result ≢ Flow.Goes }
     {
         let word = self.stack.pop();

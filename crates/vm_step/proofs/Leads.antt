@@ -5,7 +5,7 @@ use Rattle.std.specs.Prelude.{ℤ, nat_lt, slice_get, slice_set, option_and_then
 use Rattle.std.proofs.lemmas.Bool.{lt-ltb}
 use Rattle.std.proofs.lemmas.Option.{slice_get_within}
 use Rattle.ver_check.specs.Bodies.{Body}
-use Rattle.ver_check.specs.Effects as effects
+use Rattle.vm_step.proofs.IntEffects as effects
 use Rattle.ver_frames.specs.Frames.{Frame}
 use Rattle.ver_frames.specs.declared.vtype.VType.{VType}
 use Rattle.ver_frames.specs.declared.vtype.VType.TheVariants as vtype

@@ -10,6 +10,7 @@ use Rattle.cf_text.specs.declared.types.FieldType.{FieldType}
 use Rattle.cf_reader.specs.declared.class_file.Code.{Code}
 use Rattle.cf_reader.specs.declared.class_file.Method.{Method}
 use Rattle.cls_link.specs.Links.{Links, AreLinks, declared_methods}
+use Rattle.cls_link.specs.declared.linked.LinkedInsn.{LinkedInsn}
 use Rattle.cls_link.specs.declared.linked.MethodId.{MethodId}
 use Rattle.cls_set.specs.declared.class.Class.{Class}
 use Rattle.ver_check.proofs.Accepts.{subject_listed}
@@ -29,8 +30,9 @@ use Rattle.vm_heap.specs.Tagged.{Tagged, Unset}
 use Rattle.space_ids.specs.declared.value.Value.{Value}
 use Rattle.space_ids.specs.declared.value.Value.TheVariants as value
 use Rattle.vm_step.specs.Fits.{Fits, AllFit, FitsFrame}
+use Rattle.vm_step.specs.Machine.{is_run}
 use Rattle.vm_step.specs.Run.{Running, Over, code_of, IsNotLost, IsNeverStuck}
-use Rattle.vm_step.specs.Start.{is_startable, startable, is_int_element, is_int_type, takes_ints, is_int_value, fill_parameters, refusal, passed, opening_frame, opening_state}
+use Rattle.vm_step.specs.Start.{are_run, is_run_whole, is_startable, startable, is_int_element, is_int_type, takes_ints, is_int_value, fill_parameters, refusal, passed, opening_frame, opening_state}
 use Rattle.vm_step.specs.Subjects.{subject_at, Declared, declared_of, declared_at}
 use Rattle.vm_step.specs.Found.{shown}
 use Rattle.vm_step.specs.declared.fault.StartFault.{StartFault}
@@ -44,12 +46,7 @@ use Rattle.vm_step.specs.declared.limits.Limits.{Limits}
 use Rattle.vm_step.specs.declared.machine.Machine.{Machine}
 use Rattle.vm_step.proofs.Leads.{passes_both}
 use Rattle.vm_step.proofs.Runs.{run_over}
-use Rattle.vm_step.proofs.TypeSafe.{IsTyped, entered as flows_in, typed-IsNeverStuck}
-
-both_true : (a b : Bool) → (a && b) ≡ true → (a ≡ true) × (b ≡ true)
-both_true true true e = (refl, refl)
-both_true true false e = absurd (cc)
-both_true false b e = absurd (cc)
+use Rattle.vm_step.proofs.TypeSafe.{IsTyped, all_at, both_true, entered as flows_in, typed-IsNeverStuck}
 
 -- what is mapped to something is something
 maps_some : {A B : Type 0} (o : Option A) (f : A → B) (b : B) → option_map f o ≡ Some b → (a : A) × ((o ≡ Some a) × (f a ≡ b))
@@ -71,6 +68,20 @@ code_of-subject links id m e =
     let same : linked.0.insns ≡ m.linked.insns = insns_of _ m code.1.1 in
     rw (entry.1.0, linked.1.0) same
 
+-- where all instructions of a class set are run, those of each method are
+method_is_run : (links : Links) (id : MethodId) (m : Subject) → subject_at links id ≡ Some m → are_run links ≡ true → list_all is_run m.linked.insns ≡ true
+unfolding subject_at subject_of are_run
+method_is_run links id m e all =
+    let entry = passes_both (slice_get links.methods id.0) _ m e in
+    let linked = passes_both entry.0.code _ m entry.1.1 in
+    let class = passes_both (slice_get links.classes entry.0.class.0) _ m linked.1.1 in
+    let method = passes_both (slice_get class.0.file.methods entry.0.place) _ m class.1.1 in
+    let code = passes_both method.0.code _ m method.1.1 in
+    let same : linked.0.insns ≡ m.linked.insns = insns_of _ m code.1.1 in
+    let whole : is_run_whole entry.0 ≡ true = all_at is_run_whole links.methods all id.0 entry.0 entry.1.0 in
+    let run : list_all is_run linked.0.insns ≡ true = rw linked.1.0 at whole in
+    subst (λ (insns : List LinkedInsn). list_all is_run insns ≡ true) same run
+
 -- what checking found of a method with code
 record IsTypeSafeMethod (m : Subject) : Type 0 where
   declared : List (ℕ × Frame)
@@ -84,7 +95,7 @@ safe_subject links id m are safe e =
     let within : id.0 < length links.methods = slice_get_within links.methods id.0 entry.0 entry.1.0 in
     let at : MatchOption (Some entry.0) (Unit {0}) (IsSafeMethod links.classes) = rw entry.1.0 at (safe id.0 within) in
     let found : MatchOption (Some m) (Unit {0}) IsSafe = rw entry.1.1 at at in
-    let code : IfSome entry.0.code IsListed = method_listed (declared_methods links.classes) links.methods are.methods id.0 entry.0 entry.1.0 in
+    let code : IfSome entry.0.code IsListed = method_listed links.classes (declared_methods links.classes) links.methods are.methods id.0 entry.0 entry.1.0 in
     record {
       declared = found.declared;
       listed = (subject_listed links.classes entry.0 m entry.1.1 code).listed;
@@ -169,7 +180,7 @@ unfolding argument_types receiver_types
 argument_types-static m static = rw static refl
 
 module _ (links : Links) (id : MethodId) (m : Subject) (arguments : List Value) (limits : Limits)
-    (found : subject_at links id ≡ Some m) (safe : IsTypeSafeMethod m) (given : Accepts m.method arguments) (some : 0 < length m.linked.insns) where
+    (found : subject_at links id ≡ Some m) (run : are_run links ≡ true) (safe : IsTypeSafeMethod m) (given : Accepts m.method arguments) (some : 0 < length m.linked.insns) where
   abbrev body : Body
   body = body_of m safe.declared
 
@@ -218,7 +229,7 @@ module _ (links : Links) (id : MethodId) (m : Subject) (arguments : List Value) 
 
   begins : (b : Bool) → IsNeverStuck links (if b then Running machine limits.fuel else Over (Threw StackOverflowError) limits.fuel)
   begins false = record { always = λ k. subst IsNotLost (sym (run_over links k (Threw StackOverflowError) limits.fuel)) tt }
-  begins true = typed-IsNeverStuck body safe.safe.frames id.0 safe.safe.typing safe.listed links (code_of-subject links id m found) machine limits.fuel typed
+  begins true = typed-IsNeverStuck body safe.safe.frames id.0 safe.safe.typing safe.listed links (code_of-subject links id m found) (method_is_run links id m found run) machine limits.fuel typed
 
   opening-IsNeverStuck : IsNeverStuck links (opening_state id m.code arguments limits)
   unfolding machine
@@ -231,18 +242,18 @@ pub record Begins (links : Links) (id : MethodId) (m : Declared) (arguments : Li
   pub never_stuck : IsNeverStuck links (opening_state id m.code arguments limits)
 
 pub startable-begins : (links : Links) (id : MethodId) (m : Declared) (arguments : List Value) (limits : Limits) → AreLinks links → AreSafe links → startable links id ≡ Some m
-    → refusal m.method arguments ≡ None → Begins links id m arguments limits
+    → refusal m.method arguments ≡ None → are_run links ≡ true → Begins links id m arguments limits
 unfolding declared_at
-startable-begins links id m arguments limits are safe found taken =
+startable-begins links id m arguments limits are safe found taken run =
     let at = passes_both (declared_at links id) (λ d. if is_startable d then Some d else None) m found in
     let passed = tested at.0 (is_startable at.0) refl at.1.1 in
     let subject = maps_some (subject_at links id) declared_of at.0 at.1.0 in
     let given : Accepts subject.0.method arguments = subst (λ (d : Declared). Accepts d.method arguments) (sym (subject.1.1 ∙ passed.0)) (accepts m.method arguments taken) in
     let some : 0 < length subject.0.linked.insns = subst (λ (d : Declared). 0 < length d.insns) (sym subject.1.1) (startable-insns at.0 passed.1) in
     let begins : Begins links id (declared_of subject.0) arguments limits = record {
-      few = few links id subject.0 arguments limits subject.1.0 (safe_subject links id subject.0 are safe subject.1.0) given some;
+      few = few links id subject.0 arguments limits subject.1.0 run (safe_subject links id subject.0 are safe subject.1.0) given some;
       ints = given.ints;
-      never_stuck = opening-IsNeverStuck links id subject.0 arguments limits subject.1.0 (safe_subject links id subject.0 are safe subject.1.0) given some;
+      never_stuck = opening-IsNeverStuck links id subject.0 arguments limits subject.1.0 run (safe_subject links id subject.0 are safe subject.1.0) given some;
     } in
     subst (λ (d : Declared). Begins links id d arguments limits) (subject.1.1 ∙ passed.0) begins
   where
@@ -277,9 +288,9 @@ opening_runs id code arguments limits fresh entry s heap new enough pushed frame
 
 -- the same, of what a start found and did not refuse
 pub found_begins : (links program : Links) (id : MethodId) (r : Option Found) (found : Found) (why : Option StartFault) (given arguments : List Value) (limits : Limits)
-    → links ≡ program → AreLinks links → AreSafe program → option_map shown r ≡ startable links id → r ≡ Some found → why ≡ refusal found.method.now given → why ≡ None → given ≡ arguments
+    → links ≡ program → AreLinks links → AreSafe program → option_map shown r ≡ startable links id → r ≡ Some found → why ≡ refusal found.method.now given → why ≡ None → given ≡ arguments → are_run links ≡ true
     → Begins program id (shown found) arguments limits
-found_begins links program id r found why given arguments limits same are safe is was refuses none args =
+found_begins links program id r found why given arguments limits same are safe is was refuses none args run =
     let at : startable program id ≡ Some (shown found) = rw (← same) (sym is ∙ ap (option_map shown) was) in
     let accepted : refusal found.method.now arguments ≡ None = rw (← args) (sym refuses ∙ none) in
-    startable-begins program id (shown found) arguments limits (subst AreLinks same are) safe at accepted
+    startable-begins program id (shown found) arguments limits (subst AreLinks same are) safe at accepted (subst (λ (l : Links). are_run l ≡ true) same run)

@@ -8,6 +8,7 @@ abbrev pub start_fault_number : StartFault → ℕ
 start_fault_number start_fault.AbsentMethod = 85
 start_fault_number start_fault.BadSignature = 86
 start_fault_number start_fault.BadArgument = 87
+start_fault_number start_fault.NotYet = 69
 start_fault_number start_fault.Memory = 15
 
 -- the name of a fault
@@ -15,4 +16,5 @@ abbrev pub start_fault_name : StartFault → List ℕ
 start_fault_name start_fault.AbsentMethod = codes "AbsentMethod"
 start_fault_name start_fault.BadSignature = codes "BadSignature"
 start_fault_name start_fault.BadArgument = codes "BadArgument"
+start_fault_name start_fault.NotYet = codes "NotYet"
 start_fault_name start_fault.Memory = codes "Memory"

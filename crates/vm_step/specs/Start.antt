@@ -9,6 +9,8 @@ use Rattle.cf_text.specs.declared.types.MethodDescriptor.{MethodDescriptor}
 use Rattle.cf_reader.specs.declared.class_file.Code.{Code}
 use Rattle.cf_reader.specs.declared.class_file.Method.{Method}
 use Rattle.cls_link.specs.Links.{Links}
+use Rattle.cls_link.specs.declared.linked.LinkedCode.{LinkedCode}
+use Rattle.cls_link.specs.declared.linked.LinkedMethod.{LinkedMethod}
 use Rattle.cls_link.specs.declared.linked.MethodId.{MethodId}
 use Rattle.uuid.specs.declared.Uuid.{Uuid}
 use Rattle.ver_frames.specs.Method.{is_static}
@@ -16,6 +18,7 @@ use Rattle.vm_heap.specs.Tagged.{Tagged, Int, Unset}
 use Rattle.space_ids.specs.declared.value.Value.{Value}
 use Rattle.space_ids.specs.declared.value.Value.TheVariants as value
 use Rattle.vm_stack.specs.Frames.{Frame, empty_frame, frame_cost}
+use Rattle.vm_step.specs.Machine.{is_run}
 use Rattle.vm_step.specs.Run.{State, Running, Over}
 use Rattle.vm_step.specs.Subjects.{Declared, declared_at}
 use Rattle.vm_step.specs.Task.{Tasked}
@@ -60,6 +63,14 @@ refusal method arguments =
     if not (takes_ints method.types) then Some fault.BadSignature
     else (if is_static method && fill_parameters method.types arguments then None else Some fault.BadArgument)
 
+-- whether the machine runs each instruction of a method
+abbrev pub is_run_whole : LinkedMethod → Bool
+is_run_whole method = option_map_or (λ (code : LinkedCode). list_all is_run code.insns) method.code true
+
+-- whether it runs each instruction of a class set, also of methods that are never called
+unfoldable pub are_run : Links → Bool
+are_run links = list_all is_run_whole links.methods
+
 -- an argument as a local variable holds it
 abbrev pub passed : Value → Tagged
 passed (value.Int n) = Int n
@@ -93,7 +104,7 @@ started links own id arguments limits =
   where
     begin : Declared → Option StartFault → Result Tasked StartFault
     begin m (Some why) = Err why
-    begin m None = Ok (record { program = links; own = own; state = opening_state id m.code arguments limits })
+    begin m None = if are_run links then Ok (record { program = links; own = own; state = opening_state id m.code arguments limits }) else Err fault.NotYet
 
     start_at : Option Declared → Result Tasked StartFault
     start_at None = Err fault.AbsentMethod

@@ -9,7 +9,8 @@ use std::alloc::AllocError;
 use std::fmt;
 use thiserror::Error;
 
-/// Why a task does not start (rules of this project). Of several the lowest is told.
+/// Why a task does not start (rules of this project). Of several the first is told, in the order in
+/// which they stand here; out of memory may come in place of any.
 #[derive(Clone, Copy, Debug, PartialEq, Eq, Error)]
 pub enum StartFault {
     /// There is no such method, or one without code, or it is an `<init>`.
@@ -18,6 +19,8 @@ pub enum StartFault {
     BadSignature = 86,
     /// The values are not one for each parameter and of its type, or the receiver is missing.
     BadArgument = 87,
+    /// A method of the class set, called or not, has an instruction that the machine does not run yet.
+    NotYet = 69,
     /// Memory ran out.
     Memory = 15,
 }
@@ -30,6 +33,7 @@ impl fmt::Display for StartFault {
             StartFault::AbsentMethod => "AbsentMethod",
             StartFault::BadSignature => "BadSignature",
             StartFault::BadArgument => "BadArgument",
+            StartFault::NotYet => "NotYet",
             StartFault::Memory => "Memory",
         })
     }

@@ -247,6 +247,7 @@ impl Machine {
             LinkedInsn::Goto { target } => self.branch(true, *target),
             LinkedInsn::ReturnValue(ValueKind::Int) => self.return_int(),
             LinkedInsn::Return => Flow::Ends(Ending::ReturnedNothing),
+            _ => unreachable!(),
         }
     }
 }

@@ -4,14 +4,16 @@ ghost use Rattle.std.specs.Option.{option_map_or};
 ghost use Rattle.std.specs.List.{list_all};
 ghost use Rattle.cls_link.specs.Links.{AreLinks};
 ghost use Rattle.ver_frames.specs.Method.{is_static};
-ghost use Rattle.vm_step.specs.Start.{startable, is_int_type, takes_ints, is_int_value, fill_parameters, refusal, passed};
+ghost use Rattle.vm_step.specs.Machine.{is_run};
+ghost use Rattle.vm_step.specs.Start.{are_run, is_run_whole, startable, is_int_type, takes_ints, is_int_value, fill_parameters, refusal, passed};
 ghost use Rattle.vm_step.specs.Found.{shown};
 ghost use Rattle.vm_step.specs.Subjects.{declared_at};
 ghost use Rattle.vm_heap.specs.Tagged.{Int};
 
 use crate::fault::StartFault;
 use cls_link::{
-    Code, ElementType, FieldType, Flags, Linked, LinkedInsn, Method, MethodDescriptor, MethodId,
+    Code, ElementType, FieldType, Flags, Linked, LinkedInsn, LinkedMethod, Method,
+    MethodDescriptor, MethodId, StackOperation, ValueKind,
 };
 use vm_heap::{Value, Word};
 use vm_stack::Stack;
@@ -145,6 +147,55 @@ fn int_of(value: &Value) -> i32
     match value {
         Value::Int(n) => *n,
         _ => unreachable!(),
+    }
+}
+
+/// Whether the machine runs each instruction of a class set, also of methods that are never called.
+#[tactic(auto, unfolding(crate::specs::Start::are_run))]
+pub fn runs_all(linked: &Linked) -> bool
+    ensures { result ≡ are_run linked.now }
+{
+    for number in 0..linked.len() {
+        if !runs_whole(linked.linked_method(MethodId(number as u32))) {
+            return false;
+        }
+    }
+    true
+}
+
+fn runs_whole(method: &LinkedMethod) -> bool
+    ensures { result ≡ is_run_whole method.now }
+{
+    match &method.code {
+        Some(code) => runs_each(code.insns.as_slice()),
+        None => true,
+    }
+}
+
+fn runs_each(insns: &[LinkedInsn]) -> bool
+    ensures { result ≡ list_all is_run insns.now }
+{
+    insns.iter().all(|insn| runs(insn))
+}
+
+fn runs(insn: &LinkedInsn) -> bool
+    ensures { result ≡ is_run insn.now }
+{
+    match insn {
+        LinkedInsn::Nop
+        | LinkedInsn::Constant(_)
+        | LinkedInsn::Load(ValueKind::Int, _)
+        | LinkedInsn::Store(ValueKind::Int, _)
+        | LinkedInsn::Increment { .. }
+        | LinkedInsn::Stack(StackOperation::Pop | StackOperation::Dup | StackOperation::Swap)
+        | LinkedInsn::Unary(_)
+        | LinkedInsn::Binary(_)
+        | LinkedInsn::If { .. }
+        | LinkedInsn::IfCompare { .. }
+        | LinkedInsn::Goto { .. }
+        | LinkedInsn::ReturnValue(ValueKind::Int)
+        | LinkedInsn::Return => true,
+        _ => false,
     }
 }
 

@@ -12,7 +12,7 @@ use crate::limits::Limits;
 use crate::machine::Machine;
 use crate::outcome::{Outcome, Pause};
 use crate::phase::Phase;
-use crate::start::{find, pass, refuses};
+use crate::start::{find, pass, refuses, runs_all};
 use cls_link::{ClassSet, Code, Linked, MethodId};
 use std::alloc::{AllocError, Global};
 use std::marker::Model;
@@ -53,7 +53,8 @@ impl Model for Task {
 
 impl Task {
     /// A task of the space `own` that runs a method on these arguments. It does not start where there
-    /// is no such method, or its values do not fit: the lowest fault that fits is told.
+    /// is no such method, where its values do not fit, or where the class set has an instruction that
+    /// the machine does not run yet: the first fault that fits is told, in the order of `StartFault`.
     pub fn start(
         alloc: Global,
         program: &Accepted,
@@ -82,6 +83,9 @@ impl Task {
         match refuses(found.method, &arguments) {
             Some(fault) => return Err(fault),
             None => {}
+        }
+        if !runs_all(linked) {
+            return Err(StartFault::NotYet);
         }
         let phase = opening(alloc, method, found.code, &arguments, limits)?;
         Ok(Task {

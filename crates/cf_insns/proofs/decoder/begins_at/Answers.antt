@@ -12,9 +12,9 @@ returns-in-Ok c =
     let facts = c.binary_search_by_key.ensures in
     let by_offset = facts.position (λ entry. entry.0) (answers_always _ _ _ (λ f a r g called. search rules)) in
     c.is_ok.ensures.value
-    ∙ searched c.args.listing.now c.requires c.in-Ok.place c.binary_search_by_key.result facts.bound by_offset
-    ∙ begins_at-number (offsets c.args.listing.now) c.args.place c.in-Ok.place (rw (to_z-of_z w64 c.args.place c.ranges.place) at c.in-Ok.ensures)
+    ∙ searched c.args.listing.now c.requires c.in-Ok.target c.binary_search_by_key.result facts.bound by_offset
+    ∙ begins_at-number (offsets c.args.listing.now) c.args.target c.in-Ok.target (rw (to_z-of_z w64 c.args.target c.ranges.target) at c.in-Ok.ensures)
 
 pub returns-in-Err : goal.returns-in-Err
 returns-in-Err c =
-    begins_at-before (offsets c.args.listing.now) c.args.place c.ranges.place (rw (to_z-of_z w64 c.args.place c.ranges.place) at c.in-Err.ensures)
+    begins_at-before (offsets c.args.listing.now) c.args.target c.ranges.target (rw (to_z-of_z w64 c.args.target c.ranges.target) at c.in-Err.ensures)

@@ -1,5 +1,5 @@
 use Rattle.std.proofs.Common.{◌≡◌, ◌≤◌, ◌-◌, length, drop}
-use Rattle.cf_insns.specs.Reading.{listing_from, with_front}
+use Rattle.cf_insns.specs.ReadListing.{listing_from, with_front}
 use Rattle.cf_insns.proofs.decoder.listing_of.Given as goal
 
 -- what is listed so far and the listing of what is left are the listing of all

@@ -4,4 +4,4 @@ use Rattle.cf_layout.proofs.code.skim_frames.Given as goal
 
 -- those that are left decide
 abbrev pub invariant-loop : goal.invariant-loop
-invariant-loop l = skim_many (skim_frame l.bytes) (l.count - l.counter) l.place ≡ skim_many (skim_frame l.bytes) l.count l.at
+invariant-loop l = skim_many (skim_frame l.bytes) (l.count - l.counter) l.position ≡ skim_many (skim_frame l.bytes) l.count l.at

@@ -1,4 +1,4 @@
-use Rattle.std.proofs.Common.{◌≡◌, ℕ, List, length, subst, arith, rules}
+use Rattle.std.proofs.Common.{◌≡◌, ℕ, List, length, subst, arith}
 use Rattle.std.specs.Prelude.{IfOk}
 use Rattle.std.proofs.lemmas.Result.{err_from_is_err_and}
 use Rattle.cf_text.specs.Reading.{many}
@@ -11,21 +11,21 @@ pub returns-in_err-item : goal.returns-in_err-item
 returns-in_err-item c =
     let p = err_from_is_err_and c.from_residual.result c.from_residual.ensures.1 in
     let read = item_at c.args.bytes.now in
-    rw (p.1, p.2) (many-fails read c.loop.items.items c.args.count c.loop.counter c.loop.place (many read c.args.count c.args.at) c.loop.invariant c.in_err-item.field-0.0 c.loop-test.true c.in_err-item.ensures)
+    rw (p.1, p.2) (many-fails read c.loop.items.items c.args.count c.loop.counter c.loop.position (many read c.args.count c.args.at) c.loop.invariant c.in_err-item.field-0.0 c.loop-test.true c.in_err-item.ensures)
 
 pub loop-preserved : goal.loop-preserved
 loop-preserved c =
     let read = item_at c.args.bytes.now in
-    rw c.in_ok-push.ensures.items (many-goes_on read c.loop.items.items c.args.count c.loop.counter c.loop.place (many read c.args.count c.args.at) c.loop.invariant c.in_ok-item.item c.in_ok-item.after c.loop-test.true c.in_ok-item.ensures)
+    rw c.in_ok-push.ensures.items (many-goes_on read c.loop.items.items c.args.count c.loop.counter c.loop.position (many read c.args.count c.args.at) c.loop.invariant c.in_ok-item.item c.in_ok-item.after c.loop-test.true c.in_ok-item.ensures)
 
 pub returns : goal.returns
 returns c =
     let read = item_at c.args.bytes.now in
-    rw c.new.ensures (many-end read c.loop.items.items c.args.count c.loop.counter c.loop.place (many read c.args.count c.args.at) c.loop.invariant c.loop-test.false)
+    rw c.new.ensures (many-end read c.loop.items.items c.args.count c.loop.counter c.loop.position (many read c.args.count c.args.at) c.loop.invariant c.loop-test.false)
 
 pub new-requires : goal.new-requires
 new-requires c =
     let read = item_at c.args.bytes.now in
-    let all = many-end read c.loop.items.items c.args.count c.loop.counter c.loop.place (many read c.args.count c.args.at) c.loop.invariant c.loop-test.false in
+    let all = many-end read c.loop.items.items c.args.count c.loop.counter c.loop.position (many read c.args.count c.args.at) c.loop.invariant c.loop-test.false in
     let long : length c.loop.items.items ≡ c.args.count = subst (λ r. IfOk {T = List Item × ℕ} r (λ x. length x.0 ≡ c.args.count)) all (many-long read c.args.count c.args.at) in
     omega (arith, long)

@@ -7,4 +7,4 @@ use Rattle.cf_layout.proofs.layout.read_members.Given as goal
 -- those so far and those that follow are all of them
 abbrev pub invariant-loop : goal.invariant-loop
 invariant-loop l =
-    with_front l.members.items (many (member_at l.bytes) (l.count - l.counter) l.place) ≡ many (member_at l.bytes) l.count l.at
+    with_front l.members.items (many (member_at l.bytes) (l.count - l.counter) l.position) ≡ many (member_at l.bytes) l.count l.at

@@ -5,4 +5,4 @@ use Rattle.cf_pool.proofs.check.check_pool.Given as goal
 
 -- what is left to judge decides
 abbrev pub invariant-loop-index : goal.invariant-loop-index
-invariant-loop-index l = verdict (of_each (index_demands l.layout.pool) l.index (drop l.index l.layout.places)) ≡ verdict (pool_demands l.layout)
+invariant-loop-index l = verdict (of_each (index_demands l.layout.pool) l.index (drop l.index l.layout.positions)) ≡ verdict (pool_demands l.layout)

@@ -1,4 +1,4 @@
-use Rattle.std.proofs.Common.{◌≡◌, ℕ, List, length, subst, arith, sym, rules}
+use Rattle.std.proofs.Common.{◌≡◌, List, length, subst, arith, sym, rules}
 use Rattle.std.specs.Prelude.{IfOk}
 use Rattle.std.proofs.lemmas.Result.{err_from_is_err_and}
 use Rattle.cf_layout.specs.declared.items.Item.{Item}
@@ -14,19 +14,19 @@ nowhere = record { at = 0; value = 0 }
 pub returns-in_err-field : goal.returns-in_err-field
 returns-in_err-field c =
     let p = err_from_is_err_and c.from_residual.result c.from_residual.ensures.1 in
-    rw (p.1, p.2) (each-fails (field_from c.args.bytes.now c.args.pool.now) c.args.items.now c.loop-item.fields.items c.loop-item.item-index c.item-item.result c.item-item.result (search rules) (sym c.item-item.is) c.loop-item.invariant c.in_err-field.field-0.0 (search rules))
+    rw (p.1, p.2) (each-fails (field_from c.args.bytes.now c.args.pool.now) c.args.items.now c.loop-item.fields.items c.loop-item.item-index c.item-item.result c.item-item.result (search rules) (sym c.item-item.is) c.loop-item.invariant.0 c.in_err-field.field-0.0 (search rules))
 
 pub loop-item-preserved : goal.loop-item-preserved
 loop-item-preserved c =
-    rw c.in_ok-push.ensures.items (each-goes_on (field_from c.args.bytes.now c.args.pool.now) c.args.items.now c.loop-item.fields.items c.loop-item.item-index c.item-item.result c.item-item.result (search rules) (sym c.item-item.is) c.loop-item.invariant c.in_ok-field.field (search rules))
+    (rw c.in_ok-push.ensures.items (each-goes_on (field_from c.args.bytes.now c.args.pool.now) c.args.items.now c.loop-item.fields.items c.loop-item.item-index c.item-item.result c.item-item.result (search rules) (sym c.item-item.is) c.loop-item.invariant.0 c.in_ok-field.field (search rules)), c.field_from.ensures.known)
 
 pub returns : goal.returns
-returns c = rw c.new.ensures (each-end (field_from c.args.bytes.now c.args.pool.now) c.args.items.now c.loop-item.fields.items c.loop-item.item-index (search rules) c.loop-item.invariant)
+returns c = rw c.new.ensures (each-end (field_from c.args.bytes.now c.args.pool.now) c.args.items.now c.loop-item.fields.items c.loop-item.item-index (search rules) c.loop-item.invariant.0)
 
 pub new-requires : goal.new-requires
 new-requires c =
     let read = (field_from c.args.bytes.now c.args.pool.now) in
-    let all = each-end read c.args.items.now c.loop-item.fields.items c.loop-item.item-index (search rules) c.loop-item.invariant in
+    let all = each-end read c.args.items.now c.loop-item.fields.items c.loop-item.item-index (search rules) c.loop-item.invariant.0 in
     let long : length c.loop-item.fields.items ≡ length c.args.items.now = subst (λ r. IfOk {T = List Field} r (λ ys. length ys ≡ length c.args.items.now)) all (each-long read c.args.items.now) in
     let few = c.requires in
     omega (arith, long, few)

@@ -1,8 +1,9 @@
 use Rattle.std.proofs.Common.{◌≡◌, drop}
+use Rattle.cf_reader.specs.Descriptors.{AreFieldTypes}
 use Rattle.cf_reader.specs.Builds.{field_from, each}
 use Rattle.cf_reader.proofs.Each.{before}
 use Rattle.cf_reader.proofs.build.fields_from.Given as goal
 
--- those so far and those that follow are all of them
+-- those so far and those that follow are all of them, and the descriptors that are kept are those of the pool
 abbrev pub invariant-loop-item : goal.invariant-loop-item
-invariant-loop-item l = before l.fields.items (each (field_from l.bytes l.pool) (drop l.item-index l.items)) ≡ each (field_from l.bytes l.pool) l.items
+invariant-loop-item l = (before l.fields.items (each (field_from l.bytes l.pool) (drop l.item-index l.items)) ≡ each (field_from l.bytes l.pool) l.items) × AreFieldTypes l.pool l.known

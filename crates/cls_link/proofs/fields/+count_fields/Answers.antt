@@ -1,4 +1,4 @@
-use Rattle.std.proofs.Common.{◌≡◌, ◌+◌, ◌*◌, ◌<◌, ◌≤◌, ◌⊎◌, inl, ◌∙◌, Some, ap, suc, length, subst, sym, arith}
+use Rattle.std.proofs.Common.{◌≡◌, ◌+◌, ◌≤◌, inl, ◌∙◌, Some, ap, length, subst, sym, arith}
 use Rattle.std.specs.List.{count_by}
 use Rattle.std.specs.Prelude.{IsSomeAnd}
 use Rattle.std.proofs.lemmas.List.Sums.{count_by-le-length}
@@ -6,7 +6,7 @@ use Rattle.cls_set.specs.Subtypes.{IsDirectSupertype}
 use Rattle.cls_set.specs.declared.class.Class.{Class}
 use Rattle.cls_link.specs.Fields.{is_instance}
 use Rattle.cls_link.proofs.FieldCounts.{counts_below, counts_root}
-use Rattle.cls_link.proofs.Heights.{low_ranks, superclass_above}
+use Rattle.cls_search.proofs.Heights.{low_ranks, superclass_above}
 use Rattle.cls_link.proofs.fields.+count_fields.Goals as goal
 
 pub count_fields-requires : goal.count_fields-requires

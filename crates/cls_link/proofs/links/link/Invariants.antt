@@ -1,11 +1,13 @@
 use Rattle.std.proofs.Common.{◌≡◌, ◌*◌, ◌≤◌, length, take}
+use Rattle.std.specs.Prelude.{All}
 use Rattle.std.specs.List.{AllZip}
+use Rattle.cls_link.specs.LinkFaults.{IsSoundMethod}
 use Rattle.cls_link.specs.Links.{declared_from, IsLinked}
 use Rattle.cls_link.specs.Numbers.{starts}
 use Rattle.cls_link.proofs.links.link.Given as goal
 
--- the methods of the classes so far are linked, 65,535 of a class at most, and where each class's begin is noted
+-- the methods of the classes so far are linked, 65,535 of a class at most, and where each class's begin is noted; they break no rule
 abbrev pub invariant-loop-number : goal.invariant-loop-number
 invariant-loop-number l =
-    AllZip IsLinked (declared_from 0 (take l.number l.fn.set)) l.methods.items × (l.first.items ≡ starts 0 (take l.number l.fn.set))
-    × (l.number ≤ length l.fn.set) × (length l.methods.items ≤ 65535 * l.number)
+    AllZip (IsLinked l.fn.set) (declared_from 0 (take l.number l.fn.set)) l.methods.items × (l.first.items ≡ starts 0 (take l.number l.fn.set))
+    × (l.number ≤ length l.fn.set) × (length l.methods.items ≤ 65535 * l.number) × All (IsSoundMethod l.fn.set) (declared_from 0 (take l.number l.fn.set))

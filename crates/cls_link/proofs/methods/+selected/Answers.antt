@@ -1,10 +1,9 @@
-use Rattle.std.proofs.Common.{◌≡◌, Some, None, [], ◌∙◌, sym, subst, arith}
+use Rattle.std.proofs.Common.{◌≡◌, Some, [], sym, subst, arith}
 use Rattle.std.specs.Prelude.{slice_get}
-use Rattle.space_ids.specs.declared.ids.ClassId.{ClassId}
-use Rattle.cls_link.specs.Searches as searches
+use Rattle.cls_search.specs.Searches as searches
 use Rattle.cls_link.specs.Selections.{instance_method}
-use Rattle.cls_link.proofs.Found.{up_superclass, up_none}
-use Rattle.cls_link.proofs.Heights.{superclass_above}
+use Rattle.cls_search.proofs.Found.{up_superclass, up_none}
+use Rattle.cls_search.proofs.Heights.{superclass_above}
 use Rattle.cls_link.proofs.methods.+selected.Goals as goal
 
 pub returns-in-Some-clause-found : goal.returns-in-Some-clause-found

@@ -1,4 +1,4 @@
-use Rattle.cls_link.proofs.Heights.{height_of}
+use Rattle.cls_search.proofs.Heights.{height_of}
 use Rattle.cls_link.proofs.methods.+selected.Given as goal
 
 abbrev pub decreases-selected : goal.decreases-selected

@@ -14,18 +14,18 @@ use Rattle.cls_set.proofs.building.first_duplicate.Goals as goal
 pub returns-then-is-clause-found : goal.returns-then-is-clause-found
 returns-then-is-clause-found c =
     let members = c.args.members.now in
-    let here = c.index-members-place-in-loop-place.result in
-    let found = duplicate_at members c.loop-place.place c.index-members-place.result here (omega arith) c.loop-place-test.true c.requires c.loop-place.invariant c.index-members-place.is c.index-members-place-in-loop-place.is (ap name_of c.index-members-place-in-loop-place.is ∙ (c.is.ensures.0 c.if-is.true ∙ (c.as_bytes-before.ensures ∙ ap name_of (sym c.index-members-place.is)))) in
-    subst (λ o. IfSome o (λ m. IsFirstDuplicate (names (classes_of members)) (name_of m))) (sym (slice_get_read members (length members) c.loop-place.place here refl c.loop-place-test.true c.index-members-place-in-loop-place.is)) found
+    let here = c.index-members-index-in-loop-index.result in
+    let found = duplicate_at members c.loop-index.index c.index-members-index.result here (omega arith) c.loop-index-test.true c.requires c.loop-index.invariant c.index-members-index.is c.index-members-index-in-loop-index.is (ap name_of c.index-members-index-in-loop-index.is ∙ (c.is.ensures.0 c.if-is.true ∙ (c.as_bytes-before.ensures ∙ ap name_of (sym c.index-members-index.is)))) in
+    subst (λ o. IfSome o (λ m. IsFirstDuplicate (names (classes_of members)) (name_of m))) (sym (slice_get_read members (length members) c.loop-index.index here refl c.loop-index-test.true c.index-members-index-in-loop-index.is)) found
 
-pub loop-place-preserved : goal.loop-place-preserved
-loop-place-preserved c =
+pub loop-index-preserved : goal.loop-index-preserved
+loop-index-preserved c =
     let members = c.args.members.now in
-    all_adjacent_more members (λ a b. name_cmp (name_of a) (name_of b) ≡ Less) c.loop-place.place (omega arith) c.loop-place.invariant
-    (λ d. rises members c.loop-place.place d c.requires (omega arith) c.loop-place-test.true (λ same.
-    let here = ap name_of (same_read members c.loop-place.place c.index-members-place-in-loop-place.result d c.loop-place-test.true) in
-    let before = ap name_of (same_read members (c.loop-place.place - 1) d c.index-members-place.result (omega arith)) in
+    all_adjacent_more members (λ a b. name_cmp (name_of a) (name_of b) ≡ Less) c.loop-index.index (omega arith) c.loop-index.invariant
+    (λ d. rises members c.loop-index.index d c.requires (omega arith) c.loop-index-test.true (λ same.
+    let here = ap name_of (same_read members c.loop-index.index c.index-members-index-in-loop-index.result d c.loop-index-test.true) in
+    let before = ap name_of (same_read members (c.loop-index.index - 1) d c.index-members-index.result (omega arith)) in
     true_false (sym (c.is.ensures.1 (here ∙ (same ∙ (before ∙ sym c.as_bytes-before.ensures)))) ∙ c.if-is.false)))
 
 pub returns-clause-none : goal.returns-clause-none
-returns-clause-none c = strictly_sorted c.args.members.now c.loop-place.place (omega arith) c.loop-place.invariant
+returns-clause-none c = strictly_sorted c.args.members.now c.loop-index.index (omega arith) c.loop-index.invariant

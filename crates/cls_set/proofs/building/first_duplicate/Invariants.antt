@@ -5,5 +5,5 @@ use Rattle.cls_set.specs.Classes.{name_cmp}
 use Rattle.cls_set.proofs.building.first_duplicate.Given as goal
 
 -- each name so far is below the next
-abbrev pub invariant-loop-place : goal.invariant-loop-place
-invariant-loop-place l = AllAdjacentBelow (λ a b. name_cmp a.class.file.name b.class.file.name ≡ Less) l.members l.place
+abbrev pub invariant-loop-index : goal.invariant-loop-index
+invariant-loop-index l = AllAdjacentBelow (λ a b. name_cmp a.class.file.name b.class.file.name ≡ Less) l.members l.index

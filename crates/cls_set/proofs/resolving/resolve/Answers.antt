@@ -3,7 +3,7 @@ use Rattle.std.specs.List.Sorted.{IsStrictlySortedBy}
 use Rattle.cls_set.specs.declared.members.Member.{Member}
 use Rattle.cls_set.specs.Classes.{name_cmp, names}
 use Rattle.cls_set.specs.Members.{classes_of}
-use Rattle.cls_set.specs.Sets.{IsResolved}
+use Rattle.cls_set.specs.Building.{IsWhole}
 use Rattle.std.proofs.lemmas.Result.{err_from_is_err_and}
 use Rattle.std.specs.List.{AllWithin}
 use Rattle.cls_set.proofs.Absent.{first_absent_at}
@@ -11,29 +11,29 @@ use Rattle.cls_set.proofs.Resolved.{absent_kept, length_kept, names_kept, AllWit
 use Rattle.cls_set.proofs.resolving.resolve.Goals as goal
 
 pub resolve_at-requires-clause-ordered : goal.resolve_at-requires-clause-ordered
-resolve_at-requires-clause-ordered c = subst (IsStrictlySortedBy name_cmp) (sym (names_kept _ _ c.loop-place.invariant.0)) c.requires.ordered
+resolve_at-requires-clause-ordered c = subst (IsStrictlySortedBy name_cmp) (sym (names_kept _ _ c.loop-index.invariant.0)) c.requires.ordered
 
-pub loop-place-preserved : goal.loop-place-preserved
-loop-place-preserved c =
+pub loop-index-preserved : goal.loop-index-preserved
+loop-index-preserved c =
     let start = c.args.members.now.items in
-    let old = c.loop-place.members.items in
+    let old = c.loop-index.members.items in
     let new = c.resolve_at.new.members.items in
-    let P : Member → Type 0 = λ m. IsResolved (names (classes_of start)) m.class in
-    let same = names_kept old start c.loop-place.invariant.0 in (
-      c.resolve_at.ensures.kept ∙ c.loop-place.invariant.0,
-      AllWithin-next P old new c.loop-place.place c.loop-place.invariant.1 c.resolve_at.ensures.others
-          (λ d. subst (λ ns. IsResolved ns (get_or new c.loop-place.place d).class) same (c.in_ok-resolve_at.ensures.resolved d)),
+    let P : Member → Type 0 = λ m. IsWhole (names (classes_of start)) m.class in
+    let same = names_kept old start c.loop-index.invariant.0 in (
+      c.resolve_at.ensures.kept ∙ c.loop-index.invariant.0,
+      AllWithin-next P old new c.loop-index.index c.loop-index.invariant.1 c.resolve_at.ensures.others
+          (λ d. subst (λ ns. IsWhole ns (get_or new c.loop-index.index d).class) same (c.in_ok-resolve_at.ensures.resolved d)),
     )
 
 pub returns-in_err-resolve_at-clause-absent : goal.returns-in_err-resolve_at-clause-absent
 returns-in_err-resolve_at-clause-absent c =
     let p = err_from_is_err_and c.from_residual.result c.from_residual.ensures.1 in
     let start = c.args.members.now.items in
-    let old = c.loop-place.members.items in
-    let k = c.loop-place.place in
+    let old = c.loop-index.members.items in
+    let k = c.loop-index.index in
     let e = c.in_err-resolve_at.field-0.0 in
-    let same = names_kept old start c.loop-place.invariant.0 in
-    let long = length_kept old start c.loop-place.invariant.0 in
-    rw (p.1, p.2) (absent_kept old start e c.loop-place.invariant.0
-    (first_absent_at old k e (subst (IsStrictlySortedBy name_cmp) (sym same) c.requires.ordered) (omega (arith, c.loop-place-test.true, long))
-    (subst (λ ns. AllWithin (λ m. IsResolved ns m.class) old 0 k) (sym same) c.loop-place.invariant.1) c.in_err-resolve_at.ensures.absent))
+    let same = names_kept old start c.loop-index.invariant.0 in
+    let long = length_kept old start c.loop-index.invariant.0 in
+    rw (p.1, p.2) (absent_kept old start e c.loop-index.invariant.0
+    (first_absent_at old k e (subst (IsStrictlySortedBy name_cmp) (sym same) c.requires.ordered) (omega (arith, c.loop-index-test.true, long))
+    (subst (λ ns. AllWithin (λ m. IsWhole ns m.class) old 0 k) (sym same) c.loop-index.invariant.1) c.in_err-resolve_at.ensures.absent))

@@ -3,11 +3,11 @@ use Rattle.std.specs.List.{AllWithin}
 use Rattle.cls_set.specs.Building.{kept}
 use Rattle.cls_set.specs.Classes.{names}
 use Rattle.cls_set.specs.Members.{classes_of}
-use Rattle.cls_set.specs.Sets.{IsResolved}
+use Rattle.cls_set.specs.Building.{IsWhole}
 use Rattle.cls_set.proofs.resolving.resolve.Given as goal
 
 -- the members so far are resolved, and all are the same otherwise
-abbrev pub invariant-loop-place : goal.invariant-loop-place
-invariant-loop-place l =
+abbrev pub invariant-loop-index : goal.invariant-loop-index
+invariant-loop-index l =
     (map kept l.members.items ≡ map kept l.fn.members.items)
-    × AllWithin (λ m. IsResolved (names (classes_of l.fn.members.items)) m.class) l.members.items 0 l.place
+    × AllWithin (λ m. IsWhole (names (classes_of l.fn.members.items)) m.class) l.members.items 0 l.index

@@ -1,4 +1,4 @@
-use Rattle.std.proofs.Common.{◌<◌, ◌∙◌, List, [], ◌∷◌, length, get_or, take, sym, subst, ap}
+use Rattle.std.proofs.Common.{◌<◌, ◌∙◌, [], ◌∷◌, length, get_or, take, sym, subst, ap}
 use Rattle.std.proofs.lemmas.List.{take_more}
 use Rattle.space_ids.specs.declared.ids.ClassId.{ClassId}
 use Rattle.cls_set.specs.Walks.{Met, met_by, meet_all, meet_one}

@@ -1,4 +1,4 @@
-use Rattle.std.proofs.Common.{◌+◌, false, [], length, replicate, sym, subst, arith}
+use Rattle.std.proofs.Common.{◌+◌, [], length, sym, subst, arith}
 use Rattle.cls_set.specs.Members.{classes_of}
 use Rattle.cls_set.specs.Walks.{met_by, AreWithin}
 use Rattle.cls_set.proofs.Heights.{long_classes, next_in_set, underway, walked}

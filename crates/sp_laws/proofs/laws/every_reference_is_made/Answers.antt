@@ -2,4 +2,4 @@ use Rattle.sp_laws.proofs.MadeLemmas
 use Rattle.sp_laws.proofs.laws.every_reference_is_made.Goals as goal
 
 pub returns : goal.returns
-returns c = record { made = MadeLemmas.references_are_made; met = MadeLemmas.plain_roots_are }
+returns c = MadeLemmas.references_are_made

@@ -4,6 +4,6 @@ use Rattle.sp_registry.proofs.laws.a_change_touches_one_name.Goals as goal
 pub returns : goal.returns
 returns c = record {
   last = λ bindings name other object. lookup-rebound bindings name object other;
-  place = names-rebound;
+  index = names-rebound;
   gone = lookup-unbound;
 }

@@ -6,7 +6,7 @@ use Rattle.ver_check.proofs.all_methods.check_at.Goals as goal
 pub check_method-requires : goal.check_method-requires
 check_method-requires c =
     let links = c.args.linked.now in
-    method_listed (declared_methods links.classes) links.methods c.requires.links.methods c.args.index c.linked_method-method.result.now c.linked_method-method.ensures
+    method_listed links.classes (declared_methods links.classes) links.methods c.requires.links.methods c.args.index c.linked_method-method.result.now c.linked_method-method.ensures
 
 pub returns-clause-fault : goal.returns-clause-fault
 returns-clause-fault c =

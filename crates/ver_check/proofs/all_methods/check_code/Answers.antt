@@ -4,9 +4,9 @@ use Rattle.ver_check.proofs.all_methods.check_code.Goals as goal
 
 pub find_frames-requires-clause-starts : goal.find_frames-requires-clause-starts
 find_frames-requires-clause-starts c =
-    let stand = declared_stand c.args.method.now c.in-Ok.frames.items c.in-Ok.ensures.declared in
-    rw (c.as_slice-declared.ensures.value, c.as_slice-offsets.ensures) (rw (← c.method.view_is) at stand)
+    let stand = declared_stand c.args.method.now c.in-Ok.frames c.in-Ok.ensures.declared in
+    rw (c.as_slice-offsets.ensures) (rw (← c.method.view_is) at stand)
 
 pub check-requires-clause-within : goal.check-requires-clause-within
 check-requires-clause-within c = λ place f e.
-    within_at c.args.method.now c.as_slice-declared.result.now (rw c.as_slice-declared.ensures.value c.in-Ok.ensures.within) place f e
+    within_at c.args.method.now c.in-Ok.frames c.in-Ok.ensures.within place f e

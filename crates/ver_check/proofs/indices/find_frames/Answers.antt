@@ -9,7 +9,7 @@ loop-offset-preserved c =
     let offsets = c.args.offsets.now in
     elim c.if-is_at.branch [
       | then-is_at+in_ok-push w ↦ rw (w.indices-is, w.next-is, w.in_ok-push.ensures.items) (step_hit c.loop-offset.indices.items declared c.loop-offset.next offsets c.loop-offset.offset-index (found_from declared 0 offsets) c.loop-offset-test.true (sym c.is_at.ensures.test ∙ w.if-is_at.true) c.loop-offset.invariant)
-      | else-is_at+in_ok-push-2 w ↦ rw (w.indices-is, w.next-is, w.in_ok-push-2.ensures.items) (step_miss c.loop-offset.indices.items declared c.loop-offset.next offsets c.loop-offset.offset-index (found_from declared 0 offsets) c.loop-offset-test.true (sym c.is_at.ensures.test ∙ w.if-is_at.false) c.loop-offset.invariant)
+      | else-is_at+in_ok-push-2 w ↦ rw (w.indices-is, w.next-is, w.in_ok-push-2.ensures.items, w.len.ensures) (step_miss c.loop-offset.indices.items declared c.loop-offset.next offsets c.loop-offset.offset-index (found_from declared 0 offsets) c.loop-offset-test.true (sym c.is_at.ensures.test ∙ w.if-is_at.false) c.loop-offset.invariant)
     ]
 
 pub returns : goal.returns

@@ -1,5 +1,4 @@
-use Rattle.std.proofs.Common.{◌≡◌, ◌<◌, List, Some, length, get_or, sym, subst, ap, ◌∙◌, arith}
-use Rattle.std.specs.Prelude.{slice_get}
+use Rattle.std.proofs.Common.{◌≡◌, ◌<◌, Some, length, get_or, sym, subst, ap, ◌∙◌, arith}
 use Rattle.std.proofs.lemmas.Option.{get_or_from_slice_get, slice_get_within}
 use Rattle.cls_set.proofs.Hierarchy.{same_some}
 use Rattle.cls_set.specs.declared.class.Class.{Class}
@@ -12,7 +11,7 @@ pub class-class-requires : goal.class-class-requires
 class-class-requires c =
     let set = c.self.inside.set in
     let methods = c.self.inside.methods.items in
-    let all = zip_length (declared_methods set) methods c.self.invariant.0.methods in
+    let all = zip_length set (declared_methods set) methods c.self.invariant.0.methods in
     let whole = ap (λ (l : Links). length l.methods) c.self.view_is in
     let at = at_number set methods c.args.method.0 c.index-entry.result.now c.self.invariant.0.methods (omega (arith, all, whole, c.requires)) c.index-entry.ensures in
     slice_get_within set c.index-entry.result.now.class.0 at.class at.class_at
@@ -21,7 +20,7 @@ pub bounds-as_slice-from : goal.bounds-as_slice-from
 bounds-as_slice-from c =
     let set = c.self.inside.set in
     let methods = c.self.inside.methods.items in
-    let all = zip_length (declared_methods set) methods c.self.invariant.0.methods in
+    let all = zip_length set (declared_methods set) methods c.self.invariant.0.methods in
     let whole = ap (λ (l : Links). length l.methods) c.self.view_is in
     let at = at_number set methods c.args.method.0 c.index-entry.result.now c.self.invariant.0.methods (omega (arith, all, whole, c.requires)) c.index-entry.ensures in
     let same : at.class ≡ c.class-class.result.now = same_some (sym at.class_at ∙ c.class-class.ensures) in
@@ -33,7 +32,7 @@ pub returns-clause-declared : goal.returns-clause-declared
 returns-clause-declared c =
     let set = c.self.inside.set in
     let methods = c.self.inside.methods.items in
-    let all = zip_length (declared_methods set) methods c.self.invariant.0.methods in
+    let all = zip_length set (declared_methods set) methods c.self.invariant.0.methods in
     let whole = ap (λ (l : Links). length l.methods) c.self.view_is in
     let at = at_number set methods c.args.method.0 c.index-entry.result.now c.self.invariant.0.methods (omega (arith, all, whole, c.requires)) c.index-entry.ensures in
     let same : at.class ≡ c.class-class.result.now = same_some (sym at.class_at ∙ c.class-class.ensures) in

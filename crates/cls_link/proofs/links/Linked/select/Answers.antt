@@ -1,6 +1,6 @@
 use Rattle.std.proofs.Common.{Some, None}
 use Rattle.cls_link.specs.Selections as selections
-use Rattle.cls_link.proofs.Found.{named}
+use Rattle.cls_link.proofs.ByNumber.{named}
 use Rattle.cls_link.proofs.links.Linked.select.Goals as goal
 
 pub selected-requires-clause-set : goal.selected-requires-clause-set

@@ -1,4 +1,4 @@
-use Rattle.std.proofs.Common.{Some, refl, sym, subst}
+use Rattle.std.proofs.Common.{refl, sym, subst}
 use Rattle.std.specs.Prelude.{IsSome}
 use Rattle.cls_link.specs.Selections as selections
 use Rattle.cls_link.proofs.links.Linked.selection.Goals as goal

@@ -3,7 +3,8 @@ use Rattle.std.specs.List.{count_by}
 use Rattle.std.specs.Prelude.{slice_get}
 use Rattle.cls_link.specs.Fields.{is_instance, AreFieldCounts}
 use Rattle.cls_link.specs.Links.{Links}
-use Rattle.cls_link.proofs.FieldCounts.{class_in, count_at, few_last, held, slot_is}
+use Rattle.cls_link.proofs.FieldCounts.{count_at, few_last, held, slot_is}
+use Rattle.cls_resolve.proofs.Standing.{class_in}
 use Rattle.cls_link.proofs.links.Linked.slot_of.Goals as goal
 
 pub slot_in-requires-clause-few : goal.slot_in-requires-clause-few

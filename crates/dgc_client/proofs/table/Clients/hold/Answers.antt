@@ -1,23 +1,47 @@
-use Rattle.std.proofs.Common.{refl, sym, ap, ◌∙◌}
-use Rattle.std.specs.Prelude.{is_some}
-use Rattle.std.specs.Map.{keys_of}
+use Rattle.std.proofs.Common.{◌≡◌, ℕ, List, refl, sym, ap, ◌∙◌}
+use Rattle.std.specs.Prelude.{slice_get, is_some}
+use Rattle.std.specs.Map.{keys_of, lookup}
+use Rattle.space_ids.specs.declared.ids.ForeignId.{ForeignId}
+use Rattle.dgc_client.specs.declared.lease.ClientLease.{ClientLease}
+use Rattle.dgc_client.specs.declared.leases.Leases.{Leases}
 use Rattle.std.proofs.lemmas.Result.{err_from_is_err_and}
+use Rattle.indexmap.specs.IndexMap.{insert_entry}
 use Rattle.indexmap.proofs.SetLemmas.{keys_insert_entry}
 use Rattle.dgc_client.specs.Lease.{after_hold}
 use Rattle.dgc_client.specs.History.Event.{Held}
-use Rattle.dgc_client.specs.Table.{is_same, is_among}
-use Rattle.dgc_client.proofs.TableLemmas.{after-held, known-among}
-use Rattle.dgc_client.proofs.TouchedLemmas.{covered-insert}
+use Rattle.dgc_client.specs.Table.{is_same, is_among, leases_of}
+use Rattle.dgc_client.proofs.TableLemmas.{after-held, after-touched, known-among}
+use Rattle.dgc_client.proofs.TouchedLemmas.{insert-other}
+use Rattle.dgc_client.proofs.SoundLemmas.{sound-write, sound-same, insert-here, planned-before}
 use Rattle.dgc_client.proofs.table.Clients.hold.Goals as goal
+
+pub returns-in_err-index-clause-err : goal.returns-in_err-index-clause-err
+returns-in_err-index-clause-err c =
+    let p = err_from_is_err_and c.from_residual.result c.from_residual.ensures.1 in
+    rw p.1 (λ h was. after-touched h c.args.self.now _ c.insert.ensures.moment refl c.in_err-index.ensures.err
+    (sound-same c.args.self.now c.insert.new.self c.in_err-index.ensures.err c.insert.ensures.moment was.sound) was)
+
+pub returns-in_err-index-clause-unknown : goal.returns-in_err-index-clause-unknown
+returns-in_err-index-clause-unknown c =
+    let p = err_from_is_err_and c.from_residual.result c.from_residual.ensures.1 in
+    rw p.1 (λ h was. sym (ap (is_among c.args.reference.now) was.held) ∙ sym (known-among c.args.reference.now (leases_of c.args.self.now.leases)) ∙ ap is_some c.in_err-index.ensures.absent)
 
 pub returns-clause-ok : goal.returns-clause-ok
 returns-clause-ok c = λ h was.
-    after-held h c.args.self.now _ c.args.reference.now Held c.hold.new.self refl refl refl
-    (ap keys_of c.in_ok-at.ensures.entries ∙ keys_insert_entry is_same c.args.self.now.references.entries c.args.reference.now c.hold.new.self) c.in_ok-at.ensures.updates.0
-    (c.hold.ensures ∙ ap after_hold (c.lease-lease.ensures h was ∙ sym (was.each c.args.reference.now)))
-    (λ covered. covered-insert c.args.self.now.touched c.add.new.self c.add.ensures.kept c.args.reference.now c.hold.new.self c.args.self.now.references.entries _ _ c.in_ok-at.ensures.entries c.in_ok-at.ensures.index c.add.ensures.here covered) was
-
-pub returns-in_err-at-clause-unknown : goal.returns-in_err-at-clause-unknown
-returns-in_err-at-clause-unknown c =
-    let p = err_from_is_err_and c.from_residual.result c.from_residual.ensures.1 in
-    rw p.1 (λ h was. sym (ap (is_among c.args.reference.now) was.held) ∙ sym (known-among c.args.reference.now c.args.self.now.references.entries) ∙ ap is_some c.in_err-at.ensures.absent)
+    let before = leases_of c.args.self.now.leases in
+    let at = c.in_ok-index.index in
+    let lease : ClientLease = c.hold.new.self in
+    let reference = c.args.reference.now in
+    let leases : leases_of c.note.new.self.leases ≡ insert_entry is_same before reference lease = ap leases_of c.note.ensures.leases ∙ c.in_ok-index.ensures.leases in
+    let moment : c.note.new.self.leases.moment ≡ c.args.self.now.leases.moment = ap (λ (l : Leases). l.moment) c.note.ensures.leases ∙ c.insert.ensures.moment in
+    let place = c.in_ok-index.ensures.index in
+    after-held h c.args.self.now c.note.new.self reference Held lease refl moment c.note.ensures.numbers
+    (ap (λ (es : List (ForeignId × ClientLease)). keys_of es) leases ∙ keys_insert_entry is_same before reference lease)
+    (λ q. ap (λ (l : Leases). lookup (is_same q) (leases_of l)) c.note.ensures.leases ∙ c.in_ok-index.ensures.each q)
+    (c.hold.ensures ∙ ap after_hold c.get-before.ensures.lease)
+    (λ s. sound-write c.args.self.now c.note.new.self at lease
+    (λ k apart. ap (λ (es : List (ForeignId × ClientLease)). slice_get es k) leases ∙ insert-other reference lease before k (λ same. apart (same ∙ sym place)))
+    (λ r x there. insert-here reference lease before r x (ap (λ (n : ℕ). slice_get (insert_entry is_same before reference lease) n) (sym place) ∙ ap (λ (es : List (ForeignId × ClientLease)). slice_get es at) (sym leases) ∙ there))
+    moment c.note.ensures.moved c.note.ensures.touched c.note.ensures.touched_kept c.note.ensures.later c.note.ensures.later_kept
+    (λ term is. c.note.ensures.planned term is (λ had. planned-before c.args.self.now s reference c.get-before.result c.get-before.ensures.lease at place term had))
+    c.note.ensures.planned_kept c.note.ensures.halves_kept s) was

@@ -1,12 +1,16 @@
-use Rattle.std.proofs.Common.{Some, refl, ap, ◌∙◌}
-use Rattle.dgc_list.specs.Clients.{leased}
-use Rattle.dgc_list.proofs.ClientsLemmas.{leased-put, sets-from}
+use Rattle.std.proofs.Common.{Some, refl}
+use Rattle.std.specs.Str.{bytes_eq}
+use Rattle.std.proofs.lemmas.Map.{keys-set_value}
+use Rattle.dgc_list.proofs.ClientsLemmas.{leased-put, lookup-written, sets-from}
 use Rattle.dgc_list.proofs.clients.Clients.put.Goals as goal
+
+pub invariant_of-self : goal.invariant_of-self
+invariant_of-self c = (rw (keys-set_value (bytes_eq c.args.client.now) c.self.inside.remembered.entries c.args.remembered) c.self.invariant.0, c.self.invariant.1)
 
 pub returns : goal.returns
 returns c =
     let known = rw (← c.self.view_is) at c.requires.known in
     let kept = rw (← c.self.view_is) at c.requires.kept in
-    rw (← c.self.view_is) (sets-from c.args.client.now c.args.remembered (Some c.args.remembered) c.self.inside.remembered.entries c.insert.new.self.entries
-    c.in-Ok.ensures.updates.0 refl
-    (ap leased c.in-Ok.ensures.entries ∙ leased-put c.args.client.now c.args.remembered c.self.inside.remembered.entries c.self.invariant known kept))
+    rw (← c.self.view_is) (sets-from c.args.client.now c.args.remembered (Some c.args.remembered) c.self.inside.remembered.entries _
+    (λ q. lookup-written c.args.client.now q c.args.remembered c.self.inside.remembered.entries known) refl
+    (leased-put c.args.client.now c.args.remembered c.self.inside.remembered.entries c.self.invariant.0 known kept))

@@ -1,21 +1,27 @@
-use Rattle.std.proofs.Common.{◌≡◌, ◌+◌, ◌-◌, List, ℕ, Some, length, refl, ap, sym, ◌∙◌, arith}
-use Rattle.indexmap.specs.IndexMap.{insert_entry, move_index}
+use Rattle.std.proofs.Common.{◌≡◌, ◌++◌, ◌∷◌, [], List, ℕ, Some, refl, ap, ◌∙◌}
+use Rattle.std.specs.Map.{remove_entry}
 use Rattle.std.specs.Str.{bytes_eq}
+use Rattle.lru.specs.LruCache.{LruCache, demoted}
 use Rattle.dgc_list.specs.declared.remembered.Remembered.{Remembered}
-use Rattle.dgc_list.specs.Clients.{leased}
-use Rattle.dgc_list.proofs.ClientsLemmas.{leased-put_last, insert_entry-some, sets-from}
+use Rattle.dgc_list.proofs.ClientsLemmas.{demoted-put, leased-put_last, lookup-put_last, distinct-put_last, sets-from}
 use Rattle.dgc_list.proofs.clients.Clients.put_last.Goals as goal
+
+pub invariant_of-self : goal.invariant_of-self
+invariant_of-self c =
+    let known = rw (← c.self.view_is) at c.requires.known in
+    let after : c.demote.new.self.entries ≡ remove_entry (bytes_eq c.args.client.now) c.self.inside.remembered.entries ++ (c.args.client.now, c.args.remembered) ∷ [] =
+    ap (λ (l : LruCache (List ℕ) Remembered). l.entries) (c.demote.ensures.entries) ∙ ap (λ (l : LruCache (List ℕ) Remembered). demoted (bytes_eq c.args.client.now) l.entries) (c.in-Ok.ensures.entries)
+    ∙ demoted-put c.args.client.now c.args.remembered c.self.inside.remembered known in
+    let cap = ap (λ (l : LruCache (List ℕ) Remembered). l.cap) (c.demote.ensures.entries) ∙ ap (λ (l : LruCache (List ℕ) Remembered). l.cap) (c.in-Ok.ensures.entries) in
+    (rw after (distinct-put_last c.args.client.now c.args.remembered c.self.inside.remembered.entries c.self.invariant.0), cap ∙ c.self.invariant.1)
 
 pub returns : goal.returns
 returns c =
+    let known = rw (← c.self.view_is) at c.requires.known in
     let none = rw (← c.self.view_is) at c.requires.none in
-    let written : c.insert.new.self.entries ≡ insert_entry bytes_eq c.self.inside.remembered.entries c.args.client.now c.args.remembered = c.in-Ok.ensures.entries in
-    let count : (c.len.result - 1) + 1 ≡ length (insert_entry bytes_eq c.self.inside.remembered.entries c.args.client.now c.args.remembered) =
-    let some = insert_entry-some c.args.client.now c.args.remembered c.self.inside.remembered.entries in
-    let len : c.len.result ≡ length (insert_entry bytes_eq c.self.inside.remembered.entries c.args.client.now c.args.remembered) = c.len.ensures.len ∙ ap length written in
-    omega (arith, some, len) in
-    let moved = ap leased (c.move_index.ensures.entries ∙ ap (λ (es : List (List ℕ × Remembered)). move_index es c.in-Some.at (c.len.result - 1)) written) in
-    rw (← c.self.view_is) (sets-from c.args.client.now c.args.remembered (Some c.args.remembered) c.self.inside.remembered.entries c.move_index.new.self.entries
-    (λ q. c.move_index.ensures.reordered.2 q ∙ c.in-Ok.ensures.updates.0 q) refl
-    (moved ∙ leased-put_last c.args.client.now c.args.remembered c.self.inside.remembered.entries c.in-Some.at (c.len.result - 1)
-    c.self.invariant (sym c.in-Some.ensures.index) count none c.requires.set))
+    let after : c.demote.new.self.entries ≡ remove_entry (bytes_eq c.args.client.now) c.self.inside.remembered.entries ++ (c.args.client.now, c.args.remembered) ∷ [] =
+    ap (λ (l : LruCache (List ℕ) Remembered). l.entries) (c.demote.ensures.entries) ∙ ap (λ (l : LruCache (List ℕ) Remembered). demoted (bytes_eq c.args.client.now) l.entries) (c.in-Ok.ensures.entries)
+    ∙ demoted-put c.args.client.now c.args.remembered c.self.inside.remembered known in
+    rw (after, ← c.self.view_is) (sets-from c.args.client.now c.args.remembered (Some c.args.remembered) c.self.inside.remembered.entries _
+    (λ q. lookup-put_last c.args.client.now q c.args.remembered c.self.inside.remembered.entries c.self.invariant.0) refl
+    (leased-put_last c.args.client.now c.args.remembered c.self.inside.remembered.entries c.self.invariant.0 none c.requires.set))

@@ -1,6 +1,6 @@
-use Rattle.std.proofs.Common.{◌≡◌, None, sym, ◌∙◌, subst, arith}
+use Rattle.std.proofs.Common.{◌≡◌, None, sym, ap, ◌∙◌, subst, arith}
 use Rattle.std.proofs.lemmas.Grind.{common_steps}
-use Rattle.sp_registry.specs.Bindings.{lookup, rebound, HasNamesOnce}
+use Rattle.sp_registry.specs.Bindings.{Names, lookup, HasNamesOnce}
 use Rattle.sp_registry.proofs.BindingsLemmas.{once-rebound, rebound-new}
 use Rattle.sp_registry.proofs.registry.Registry.rebind.Goals as goal
 
@@ -11,5 +11,6 @@ invariant_of-self c =
 
 pub returns-in-None-clause-ok : goal.returns-in-None-clause-ok
 returns-in-None-clause-ok c =
-    let absent : lookup c.args.self.now c.args.name.now ≡ None = rw (← c.self.view_is, ← c.deref.ensures.value) c.in-None.ensures in
-    grind (arith, common_steps, rebound-new c.args.self.now c.args.name.now c.in_ok-object.object absent)
+    let absent : lookup c.args.self.now.bindings c.args.name.now ≡ None =
+    ap (λ (n : Names). lookup n.bindings c.args.name.now) (sym c.self.view_is) ∙ (rw c.deref.ensures.value at c.in-None.ensures) in
+    grind (arith, common_steps, rebound-new c.args.self.now.bindings c.args.name.now c.in_ok-object.object absent)

@@ -1,6 +1,4 @@
-use Rattle.std.proofs.Common.{◌≡◌, List, sym, ◌∙◌, subst}
-use Rattle.std.specs.List.{remove}
-use Rattle.sp_registry.specs.declared.registry.Binding.{Binding}
+use Rattle.std.proofs.Common.{◌≡◌, sym, ◌∙◌, subst}
 use Rattle.sp_registry.specs.Bindings.{unbound, HasNamesOnce}
 use Rattle.sp_registry.proofs.BindingsLemmas.{once-unbound}
 use Rattle.sp_registry.proofs.registry.Registry.unbind.Goals as goal

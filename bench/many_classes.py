@@ -1,0 +1,65 @@
+"""Writes a folder of small classes, a file each.
+
+Words: the folder, the shape, and how many classes.
+
+- small: classes below java/lang/Object, each with a static method of two instructions.
+- chain: each class extends the one before it.
+- ladder: interfaces, two a rung; each extends both of the rung below.
+"""
+
+import os
+import sys
+
+from long_method import attribute, u2, u4, utf8
+
+PUBLIC, STATIC, SUPER, INTERFACE, ABSTRACT = 0x0001, 0x0008, 0x0020, 0x0200, 0x0400
+
+
+def class_file(name, superclass, interfaces, flags):
+    pool = []
+
+    def text(value):
+        pool.append(utf8(value))
+        return len(pool)
+
+    def class_entry(value):
+        index = text(value)
+        pool.append(b"\x07" + u2(index))
+        return len(pool)
+
+    this, above = class_entry(name), class_entry(superclass)
+    below = [class_entry(interface) for interface in interfaces]
+    methods = []
+    if not flags & INTERFACE:
+        code = u2(1) + u2(1) + u4(2) + b"\x1a\xac" + u2(0) + u2(0)
+        method = text("f" + name), text("(I)I"), text("Code")
+        methods = [u2(PUBLIC | STATIC) + u2(method[0]) + u2(method[1]) + u2(1) + attribute(method[2], code)]
+    return (
+        u4(0xCAFEBABE) + u2(0) + u2(52) + u2(len(pool) + 1) + b"".join(pool)
+        + u2(flags) + u2(this) + u2(above) + u2(len(below)) + b"".join(map(u2, below)) + u2(0)
+        + u2(len(methods)) + b"".join(methods) + u2(0)
+    )
+
+
+def shaped(shape, n):
+    name = f"C{n:05}"
+    if shape == "small":
+        return name, class_file(name, "java/lang/Object", [], PUBLIC | SUPER)
+    if shape == "chain":
+        above = f"C{n - 1:05}" if n else "java/lang/Object"
+        return name, class_file(name, above, [], PUBLIC | SUPER)
+    rung = n // 2
+    below = [f"C{rung * 2 - 2 + side:05}" for side in (0, 1)] if rung else []
+    return name, class_file(name, "java/lang/Object", below, PUBLIC | INTERFACE | ABSTRACT)
+
+
+def main(folder, shape, count):
+    os.makedirs(folder, exist_ok=True)
+    for n in range(count):
+        name, content = shaped(shape, n)
+        with open(os.path.join(folder, name + ".class"), "wb") as file:
+            file.write(content)
+
+
+if __name__ == "__main__":
+    main(sys.argv[1], sys.argv[2], int(sys.argv[3]))

@@ -1,0 +1,18 @@
+-- Why reading one instruction stops.
+use Rattle.std.specs.Prelude.{◌≡◌, ℕ, Result, Err}
+use Rattle.cf_insns.specs.declared.fault.CodeFault.{CodeFault}
+use Rattle.cf_insns.specs.declared.fault.CodeFault.TheVariants as fault
+use Rattle.cf_insns.specs.declared.fault.CodeRule.{CodeRule}
+use Rattle.cf_insns.specs.declared.reading.Spelled.{Spelled}
+use Rattle.cf_insns.specs.declared.reading.Stop.{Stop}
+use Rattle.cf_insns.specs.declared.reading.Stop.TheVariants.{Broken, Memory}
+
+-- a rule is the one that what is read names, unless memory ran out
+abbrev pub Stops : Stop → Result Spelled CodeRule → Type 0
+Stops Memory read = Unit {0}
+Stops (Broken rule) read = read ≡ Err rule
+
+-- the fault of code of which reading stops at an offset
+abbrev pub fault_at : ℕ → Stop → CodeFault
+fault_at offset (Broken rule) = fault.Broken rule offset
+fault_at offset Memory = fault.Memory

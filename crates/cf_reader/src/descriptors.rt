@@ -1,0 +1,95 @@
+//! Descriptors of a constant pool, each read once however many members share it.
+
+ghost use Rattle.std.specs.Prelude.{◌≡◌, Some, List};
+ghost use Rattle.cf_text.specs.Reading.{Gives};
+ghost use Rattle.cf_text.specs.Types.{field_descriptor_of, method_descriptor_of};
+ghost use Rattle.cf_pool.specs.declared.pool.Entry.{Entry};
+ghost use Rattle.cf_pool.specs.Pools.{utf8_at};
+ghost use Rattle.cf_reader.specs.Descriptors.{AreFieldTypes, AreMethodTypes};
+
+use cf_layout::Item;
+use cf_pool::{
+    FieldType, MethodDescriptor, Pool, ReadFault, Text, read_field_descriptor,
+    read_method_descriptor,
+};
+use cf_text::Shared;
+use std::alloc::Global;
+use std::collections::BTreeMap;
+
+/// The types that fields of a class name, by the indices of their descriptors.
+#[derive(Drop)]
+pub(crate) struct FieldTypes {
+    by_index: BTreeMap<u16, Shared<FieldType>>,
+}
+
+impl FieldTypes {
+    /// No descriptor is read yet.
+    pub(crate) fn new(alloc: Global) -> FieldTypes
+        ensures { (pool : List Entry) → AreFieldTypes pool result }
+    {
+        FieldTypes {
+            by_index: BTreeMap::new(alloc),
+        }
+    }
+
+    /// What the descriptor that an item names says: it is read if it was not read before.
+    pub(crate) fn read(
+        &mut self,
+        alloc: Global,
+        pool: &Pool,
+        item: Item,
+        text: &Text,
+    ) -> Result<Shared<FieldType>, ReadFault>
+        requires named { utf8_at pool.now item.value ≡ Some text.now }
+        requires known { AreFieldTypes pool.now self.old }
+        ensures value { Gives (field_descriptor_of item.at text.now) result }
+        ensures known { AreFieldTypes pool.now self.new }
+    {
+        if let Some(known) = self.by_index.get(&item.value) {
+            return Ok(known.share()?);
+        }
+        let kind = read_field_descriptor(alloc, text.as_bytes(), item.at)?;
+        let kind = Shared::new(alloc, kind)?;
+        self.by_index.insert(item.value, kind.share()?)?;
+        Ok(kind)
+    }
+}
+
+/// The types that methods of a class name, by the indices of their descriptors.
+#[derive(Drop)]
+pub(crate) struct MethodTypes {
+    by_index: BTreeMap<u16, Shared<MethodDescriptor>>,
+}
+
+impl MethodTypes {
+    /// No descriptor is read yet.
+    pub(crate) fn new(alloc: Global) -> MethodTypes
+        ensures { (pool : List Entry) → AreMethodTypes pool result }
+    {
+        MethodTypes {
+            by_index: BTreeMap::new(alloc),
+        }
+    }
+
+    /// What the descriptor that an item names says: it is read if it was not read before.
+    pub(crate) fn read(
+        &mut self,
+        alloc: Global,
+        pool: &Pool,
+        item: Item,
+        text: &Text,
+    ) -> Result<Shared<MethodDescriptor>, ReadFault>
+        requires named { utf8_at pool.now item.value ≡ Some text.now }
+        requires known { AreMethodTypes pool.now self.old }
+        ensures value { Gives (method_descriptor_of item.at text.now) result }
+        ensures known { AreMethodTypes pool.now self.new }
+    {
+        if let Some(known) = self.by_index.get(&item.value) {
+            return Ok(known.share()?);
+        }
+        let types = read_method_descriptor(alloc, text.as_bytes(), item.at)?;
+        let types = Shared::new(alloc, types)?;
+        self.by_index.insert(item.value, types.share()?)?;
+        Ok(types)
+    }
+}

@@ -1,7 +1,0 @@
-use Rattle.std.proofs.Common.{◌≡◌, drop}
-use Rattle.cls_link.specs.Numbers.{place_from}
-use Rattle.cls_link.proofs.links.find.Given as goal
-
--- what is found is found in what is left
-abbrev pub invariant-loop-place : goal.invariant-loop-place
-invariant-loop-place l = place_from l.place (drop l.place l.methods) l.name l.descriptor ≡ place_from 0 l.methods l.name l.descriptor

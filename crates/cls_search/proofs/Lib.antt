@@ -1,0 +1,5 @@
+pub mod Found
+pub mod Heights
+pub mod Interfaces
+pub mod Marked
+pub mod Passed

@@ -1,0 +1,3 @@
+pub mod FieldSearches
+pub mod MethodSearches
+pub mod Searches

@@ -1,0 +1,105 @@
+//! Searches for fields.
+
+ghost use Rattle.std.specs.Prelude.{◌≡◌, ◌<◌, ◌&&◌, IfSome, IsSome, bytes_eq, length};
+ghost use Rattle.cls_search.specs.FieldSearches as spec;
+ghost use Rattle.cls_search.specs.FieldSearches.{place_from, field_at, ResolvesField};
+ghost use Rattle.cls_search.specs.Searches.{FindNothing, supertypes_of};
+ghost use Rattle.cls_set.specs.Sets.{IsClassSet};
+
+use super::marks::{clear, is_marked, mark};
+use cls_set::{ClassId, ClassSet, Field};
+
+/// A field: the class that declares it, and its place among the fields of that class.
+#[derive(Clone, Copy, Debug, PartialEq, Eq)]
+pub struct FieldPlace {
+    pub class: ClassId,
+    pub place: usize,
+}
+
+fn is_named(field: &Field, name: &[u8], descriptor: &[u8]) -> bool
+    ensures { result ≡ (bytes_eq field.now.name name.now && bytes_eq field.now.descriptor descriptor.now) }
+{
+    field.name.as_bytes() == name && field.descriptor.as_bytes() == descriptor
+}
+
+// The place of the first field with this name and descriptor.
+fn find(fields: &[Field], name: &[u8], descriptor: &[u8]) -> Option<usize>
+    ensures found { result ≡ place_from 0 fields.now name.now descriptor.now }
+    ensures within { IfSome result (λ place. place < length fields.now) }
+{
+    for (place, field) in fields.iter().enumerate() {
+        if is_named(field, name, descriptor) {
+            return Some(place);
+        }
+    }
+    None
+}
+
+// The field that a class declares with this name and descriptor.
+fn own_field(set: &ClassSet, class: ClassId, name: &[u8], descriptor: &[u8]) -> Option<FieldPlace>
+    requires in_set { class.0 < length set.now }
+    ensures found { result ≡ spec.own_field set.now name.now descriptor.now class }
+    ensures within { IfSome result (λ f. IsSome (field_at set.now f)) }
+{
+    let fields = set.class(class).file.fields.as_slice();
+    match find(fields, name, descriptor) {
+        Some(place) => Some(FieldPlace { class, place }),
+        None => None,
+    }
+}
+
+// The field that a name and a descriptor mean in a class, where none is meant in the marked ones.
+fn field_from(
+    set: &ClassSet,
+    class: ClassId,
+    name: &[u8],
+    descriptor: &[u8],
+    marks: &mut [bool],
+) -> Option<FieldPlace>
+    requires set { IsClassSet set.now }
+    requires in_set { class.0 < length set.now }
+    requires marked { FindNothing (supertypes_of set.now) (spec.own_field set.now name.now descriptor.now) marks.old }
+    ensures found { ResolvesField set.now class name.now descriptor.now result }
+    ensures within { IfSome result (λ f. IsSome (field_at set.now f)) }
+    ensures marked { FindNothing (supertypes_of set.now) (spec.own_field set.now name.now descriptor.now) marks.new }
+{
+    if is_marked(marks, class) {
+        return None;
+    }
+    if let Some(field) = own_field(set, class, name, descriptor) {
+        return Some(field);
+    }
+    let entry = set.class(class);
+    'superinterfaces: for superinterface in entry.interfaces.as_slice() {
+        if let Some(field) = field_from(set, *superinterface, name, descriptor, marks) {
+            return Some(field);
+        }
+        mark(marks, *superinterface);
+    }
+    match entry.superclass {
+        Some(superclass) => field_from(set, superclass, name, descriptor, marks),
+        None => None,
+    }
+}
+
+/// The field that a name and a descriptor mean in a class (JVMS 5.4.3.2): that of the class, else that of
+/// the first of its superinterfaces, depth first, and then of its superclass. `None` where none of these
+/// declares one. Access is not looked at.
+///
+/// With a flag for each class in `marks`, whatever they say, it comes to each interface once; with none as
+/// often as ways lead to it.
+pub fn find_field(
+    set: &ClassSet,
+    class: ClassId,
+    name: &[u8],
+    descriptor: &[u8],
+    marks: &mut [bool],
+) -> Option<FieldPlace>
+    requires set { IsClassSet set.now }
+    requires in_set { class.0 < length set.now }
+    ensures found { ResolvesField set.now class name.now descriptor.now result }
+    ensures within { IfSome result (λ f. IsSome (field_at set.now f)) }
+{
+    clear(marks);
+    field_from(set, class, name, descriptor, marks)
+}

@@ -1,0 +1,36 @@
+-- The methods of a class in the order of their names, and those of one name in that of their descriptors.
+use Rattle.std.specs.Prelude.{◌≡◌, ◌<◌, ℕ, Option, Some, None, List, [], All, Contains, length, slice_get, slice_index_or}
+use Rattle.std.specs.List.Sorted.{IsSortedBy}
+use Rattle.std.specs.Ordering.{is_lt, on, then_cmp}
+use Rattle.std.specs.declared.cmp.Ordering.{Ordering}
+use Rattle.cf_reader.specs.declared.class_file.Method.{Method}
+use Rattle.cls_set.specs.declared.class.Class.{Class}
+use Rattle.cls_set.specs.Classes.{name_cmp}
+
+-- a name and a descriptor
+abbrev pub Key : Type 0
+Key = List ℕ × List ℕ
+
+abbrev pub key_cmp : Key → Key → Ordering
+key_cmp = then_cmp (on (λ (key : Key). key.0) name_cmp) (on (λ (key : Key). key.1) name_cmp)
+
+abbrev pub key_of : Method → Key
+key_of method = (method.name, method.descriptor)
+
+abbrev pub key_in : Option Method → Key
+key_in None = ([], [])
+key_in (Some method) = key_of method
+
+abbrev pub key_at : List Method → ℕ → Key
+key_at methods index = key_in (slice_get methods index)
+
+-- the indices of the methods, each of them, in that order
+pub record IsOrder (methods : List Method) (order : List ℕ) : Type 0 where
+  pub only : All (λ k. k < length methods) order
+  pub each : (k : ℕ) → k < length methods → Contains order k
+  pub sorted : IsSortedBy (λ i j. is_lt (key_cmp (key_at methods i) (key_at methods j))) order
+
+-- there is such an order for the methods of each class
+pub record HaveOrders (classes : List Class) (orders : List (List ℕ)) : Type 0 where
+  pub one_each : length orders ≡ length classes
+  pub order : (k : ℕ) (c : Class) → slice_get classes k ≡ Some c → IsOrder c.file.methods (slice_index_or orders k [])

@@ -1,0 +1,121 @@
+//! Which methods of a class may not stand below those of its superclasses.
+
+ghost use Rattle.std.specs.Prelude.{◌≡◌, ◌<◌, ◌↔◌, Some, IsTrue, length, slice_get};
+ghost use Rattle.std.specs.List.{Any};
+ghost use Rattle.cf_reader.specs.declared.class_file.Method.{Method};
+ghost use Rattle.cls_set.specs.declared.class.Class.{Class};
+ghost use Rattle.cls_set.specs.Building.{origins_of};
+ghost use Rattle.cls_set.specs.ClassRules.{ClashesIn};
+ghost use Rattle.cls_set.specs.Members.{classes_of, AreArranged};
+ghost use Rattle.cls_set.specs.Orders.{HaveOrders, IsOrder};
+ghost use Rattle.cls_set.specs.Rules.{package_name, Clashes, HasPackageAccess, IsSamePackage, MayNotStand, OverridesBadly};
+
+use super::members::Member;
+use super::ordering::is_before;
+use cf_reader::{ClassFile, Flags, Method, Row};
+
+// What stands before the last / of a class's name.
+fn package_name(name: &[u8]) -> &[u8]
+    ensures { result.now ≡ package_name name.now }
+{
+    let mut end = 0;
+    for (index, byte) in name.iter().enumerate() {
+        if *byte == b'/' {
+            end = index;
+        }
+    }
+    &name[..end]
+}
+
+fn is_same_package(a: &ClassFile, b: &ClassFile) -> bool
+    ensures { IsTrue result ↔ IsSamePackage a.now b.now }
+{
+    package_name(a.name.as_bytes()) == package_name(b.name.as_bytes())
+}
+
+fn has_package_access(method: &Method) -> bool
+    ensures { IsTrue result ↔ HasPackageAccess method.now }
+{
+    !method.flags.has(Flags::PUBLIC)
+        && !method.flags.has(Flags::PROTECTED)
+        && !method.flags.has(Flags::PRIVATE)
+}
+
+fn may_not_stand(lower: &ClassFile, upper: &ClassFile, low: &Method, high: &Method) -> bool
+    ensures { IsTrue result ↔ MayNotStand lower.now upper.now low.now high.now }
+{
+    if low.flags.has(Flags::STATIC) {
+        return !high.flags.has(Flags::STATIC);
+    }
+    if high.flags.has(Flags::FINAL) || high.flags.has(Flags::STATIC) {
+        return true;
+    }
+    low.flags.has(Flags::PRIVATE) || (has_package_access(high) && !is_same_package(lower, upper))
+}
+
+fn is_same_member(low: &Method, high: &Method) -> bool
+    ensures { IsTrue result ↔ ((low.now.name ≡ high.now.name) × (low.now.descriptor ≡ high.now.descriptor)) }
+{
+    low.name.is(high.name.as_bytes()) && low.descriptor.is(high.descriptor.as_bytes())
+}
+
+// Whether a method of a class may not stand below one of a superclass.
+fn clashes(lower: &ClassFile, upper: &ClassFile, low: &Method, high: &Method) -> bool
+    ensures { IsTrue result ↔ Clashes lower.now upper.now low.now high.now }
+{
+    if !is_same_member(low, high) || low.name.is(b"<init>") || high.flags.has(Flags::PRIVATE) {
+        return false;
+    }
+    may_not_stand(lower, upper, low, high)
+}
+
+// Whether it may not stand below one of the superclass's methods, which are searched in their order.
+fn clashes_with_one(lower: &ClassFile, upper: &ClassFile, order: &[usize], low: &Method) -> bool
+    requires { IsOrder upper.now.methods order.now }
+    ensures { IsTrue result ↔ Any (Clashes lower.now upper.now low.now) upper.now.methods }
+{
+    let methods = upper.methods.as_slice();
+    let mut next = order.partition_point(|index| is_before(methods, *index, low));
+    'same: while next < order.len() {
+        let high = &methods[order[next]];
+        if !is_same_member(low, high) {
+            return false;
+        }
+        if clashes(lower, upper, low, high) {
+            return true;
+        }
+        next += 1;
+    }
+    false
+}
+
+// Whether a method of a class may not stand below a method of a superclass.
+fn clashes_in(lower: &ClassFile, upper: &ClassFile, order: &[usize]) -> bool
+    requires { IsOrder upper.now.methods order.now }
+    ensures { IsTrue result ↔ ClashesIn lower.now upper.now }
+{
+    let methods = lower.methods.as_slice();
+    methods
+        .iter()
+        .any(|low| clashes_with_one(lower, upper, order, low))
+}
+
+// Whether a class has a method that may not stand below one of a superclass.
+pub(crate) fn overrides_badly(members: &[Member], orders: &[Row<usize>], index: usize) -> bool
+    requires arranged { AreArranged members.now }
+    requires orders { HaveOrders (classes_of members.now) orders.now }
+    requires in_set { index < length members.now }
+    ensures { (c : Class) → slice_get (classes_of members.now) index ≡ Some c → IsTrue result ↔ OverridesBadly (origins_of members.now) c.file }
+{
+    let lower = &members[index].class.file;
+    let mut up = members[index].class.superclass;
+    'up: while let Some(superclass) = up {
+        let superclass = usize::from(superclass.0);
+        let upper = &members[superclass].class;
+        if clashes_in(lower, &upper.file, orders[superclass].as_slice()) {
+            return true;
+        }
+        up = upper.superclass;
+    }
+    false
+}

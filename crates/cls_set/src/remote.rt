@@ -1,0 +1,183 @@
+//! Remote classes and interfaces, and the members that they may have (Java RMI specification, 2.4).
+
+ghost use Rattle.std.specs.Prelude.{◌≡◌, ◌<◌, ◌↔◌, Some, IfOk, IsTrue, length, slice_get};
+ghost use Rattle.std.specs.List.{Any};
+ghost use Rattle.cls_set.specs.declared.class.Class.{Class};
+ghost use Rattle.cls_set.specs.Building.{origins_of};
+ghost use Rattle.cls_set.specs.ClassRules.{AreKnown, AreUnfit, CannotCross, IsFieldNotKept, IsMethodNotCrossing, IsReached, IsUnfit};
+ghost use Rattle.cls_set.specs.Members.{classes_of, AreArranged, HaveTables};
+ghost use Rattle.cls_set.specs.Rules.{CanBeKept, CanCross, IsBelowRemote, NamesRemoteInterface};
+
+use super::members::{Member, find, is_in};
+use cf_reader::{ElementType, Field, FieldType, Flags, Method, Row, Text};
+use std::alloc::{AllocError, Global};
+
+// Whether a class is java/rmi/Remote or below it.
+pub(crate) fn is_below_remote(members: &[Member], tables: &[Row<bool>], index: usize) -> bool
+    requires arranged { AreArranged members.now }
+    requires tables { HaveTables (classes_of members.now) tables.now }
+    requires in_set { index < length members.now }
+    ensures { (c : Class) → slice_get (classes_of members.now) index ≡ Some c → IsTrue result ↔ IsBelowRemote (origins_of members.now) c.file.name }
+{
+    match find(members, b"java/rmi/Remote") {
+        Some(remote) => {
+            let remote = usize::from(remote.0);
+            index == remote || tables[index].as_slice()[remote]
+        }
+        None => false,
+    }
+}
+
+fn names_remote_interface(members: &[Member], tables: &[Row<bool>], name: &Text) -> bool
+    requires { AreKnown members.now tables.now }
+    ensures { IsTrue result ↔ NamesRemoteInterface (origins_of members.now) name.now }
+{
+    match find(members, name.as_bytes()) {
+        Some(id) => {
+            let index = usize::from(id.0);
+            members[index].class.is_interface() && is_below_remote(members, tables, index)
+        }
+        None => false,
+    }
+}
+
+// Whether a remote class may have an instance field of this type.
+fn can_be_kept(members: &[Member], tables: &[Row<bool>], kind: &FieldType) -> bool
+    requires { AreKnown members.now tables.now }
+    ensures { IsTrue result ↔ CanBeKept (origins_of members.now) kind.now }
+{
+    if kind.dimensions != 0 {
+        return false;
+    }
+    match &kind.element {
+        ElementType::Int => true,
+        ElementType::Boolean => true,
+        ElementType::Class(name) => names_remote_interface(members, tables, name),
+        _ => false,
+    }
+}
+
+// Whether a remote interface's methods may take and give this type.
+fn can_cross(members: &[Member], tables: &[Row<bool>], kind: &FieldType) -> bool
+    requires { AreKnown members.now tables.now }
+    ensures { IsTrue result ↔ CanCross (origins_of members.now) kind.now }
+{
+    match &kind.element {
+        ElementType::Int if kind.dimensions == 1 => true,
+        _ => can_be_kept(members, tables, kind),
+    }
+}
+
+fn cannot_cross(members: &[Member], tables: &[Row<bool>], kind: &FieldType) -> bool
+    requires { AreKnown members.now tables.now }
+    ensures { IsTrue result ↔ CannotCross (origins_of members.now) kind.now }
+{
+    !can_cross(members, tables, kind)
+}
+
+fn is_field_not_kept(members: &[Member], tables: &[Row<bool>], field: &Field) -> bool
+    requires { AreKnown members.now tables.now }
+    ensures { IsTrue result ↔ IsFieldNotKept (origins_of members.now) field.now }
+{
+    !field.flags.has(Flags::STATIC) && !can_be_kept(members, tables, &field.kind)
+}
+
+fn is_one_not_crossing(members: &[Member], tables: &[Row<bool>], kinds: &[FieldType]) -> bool
+    requires { AreKnown members.now tables.now }
+    ensures { IsTrue result ↔ Any (CannotCross (origins_of members.now)) kinds.now }
+{
+    kinds.iter().any(|kind| cannot_cross(members, tables, kind))
+}
+
+fn is_method_not_crossing(members: &[Member], tables: &[Row<bool>], method: &Method) -> bool
+    requires { AreKnown members.now tables.now }
+    ensures { IsTrue result ↔ IsMethodNotCrossing (origins_of members.now) method.now }
+{
+    match &method.types.result {
+        Some(kind) if cannot_cross(members, tables, kind) => true,
+        _ => is_one_not_crossing(members, tables, method.types.parameters.as_slice()),
+    }
+}
+
+fn is_one_field_not_kept(members: &[Member], tables: &[Row<bool>], fields: &[Field]) -> bool
+    requires { AreKnown members.now tables.now }
+    ensures { IsTrue result ↔ Any (IsFieldNotKept (origins_of members.now)) fields.now }
+{
+    fields
+        .iter()
+        .any(|field| is_field_not_kept(members, tables, field))
+}
+
+fn is_one_method_not_crossing(members: &[Member], tables: &[Row<bool>], methods: &[Method]) -> bool
+    requires { AreKnown members.now tables.now }
+    ensures { IsTrue result ↔ Any (IsMethodNotCrossing (origins_of members.now)) methods.now }
+{
+    methods
+        .iter()
+        .any(|method| is_method_not_crossing(members, tables, method))
+}
+
+// Which members: the fields of classes, or the methods of interfaces.
+#[derive(Clone, Copy, Debug, PartialEq, Eq)]
+pub(crate) enum MemberKind {
+    Fields,
+    Methods,
+}
+
+// Whether a class has a member that no remote class or interface may have or inherit.
+fn is_unfit(members: &[Member], tables: &[Row<bool>], index: usize, kind: MemberKind) -> bool
+    requires arranged { AreArranged members.now }
+    requires tables { HaveTables (classes_of members.now) tables.now }
+    requires in_set { index < length members.now }
+    ensures { (c : Class) → slice_get (classes_of members.now) index ≡ Some c → IsTrue result ↔ IsUnfit kind (origins_of members.now) c.file }
+{
+    let class = &members[index].class;
+    match kind {
+        MemberKind::Fields => is_one_field_not_kept(members, tables, class.file.fields.as_slice()),
+        MemberKind::Methods => {
+            class.is_interface()
+                && is_one_method_not_crossing(members, tables, class.file.methods.as_slice())
+        }
+    }
+}
+
+// The indices of the classes that have such a member.
+pub(crate) fn find_unfit(
+    alloc: Global,
+    members: &[Member],
+    tables: &[Row<bool>],
+    kind: MemberKind,
+) -> Result<Vec<usize>, AllocError>
+    requires { AreKnown members.now tables.now }
+    ensures { IfOk result (λ indices. AreUnfit kind members.now indices.items) }
+{
+    let mut indices = Vec::new(alloc);
+    for index in 0..members.len() {
+        if is_unfit(members, tables, index, kind) {
+            indices.push(index)?;
+        }
+    }
+    Ok(indices)
+}
+
+// The indices of the classes with fields that no remote class may have or inherit, and of the interfaces with methods
+// that no remote interface may.
+#[derive(Debug, Drop)]
+pub(crate) struct Unfit {
+    pub(crate) fields: Vec<usize>,
+    pub(crate) methods: Vec<usize>,
+}
+
+// Whether a class is another or below it, by its table.
+fn is_reached(table: &[bool], index: usize, upper: usize) -> bool
+    ensures { IsTrue result ↔ IsReached table.now index upper }
+{
+    upper == index || is_in(table, upper)
+}
+
+// Whether a class is one of others or below one, by its table.
+pub(crate) fn reaches_one(table: &[bool], index: usize, others: &[usize]) -> bool
+    ensures { IsTrue result ↔ Any (IsReached table.now index) others.now }
+{
+    others.iter().any(|other| is_reached(table, index, *other))
+}

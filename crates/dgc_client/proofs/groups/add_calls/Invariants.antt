@@ -1,7 +1,0 @@
-use Rattle.std.proofs.Common.{◌≡◌, ◌++◌, take, filter}
-use Rattle.dgc_client.specs.Groups.{is_of}
-use Rattle.dgc_client.proofs.groups.add_calls.Given as goal
-
--- the calls so far that are of the peer and kind are added
-abbrev pub invariant-loop-call : goal.invariant-loop-call
-invariant-loop-call l = l.ordered.items ≡ l.initial.ordered.items ++ filter (is_of l.peer l.kind) (take l.call-index l.calls)

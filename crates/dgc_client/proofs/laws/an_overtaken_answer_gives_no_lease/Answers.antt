@@ -1,5 +1,0 @@
-use Rattle.dgc_client.proofs.LeaseLemmas.{overtaken}
-use Rattle.dgc_client.proofs.laws.an_overtaken_answer_gives_no_lease.Goals as goal
-
-pub returns : goal.returns
-returns c = overtaken

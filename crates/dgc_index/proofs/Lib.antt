@@ -1,0 +1,2 @@
+pub mod DeadlinesLemmas
+pub mod TouchedLemmas

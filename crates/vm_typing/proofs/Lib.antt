@@ -1,0 +1,12 @@
+pub mod Kept
+pub mod Leads
+pub mod Words
+pub mod Objects
+pub mod Turns
+pub mod Calls
+pub mod Returns
+pub mod Referents
+pub mod Runs
+pub mod Example
+pub mod Uses
+pub mod Sets

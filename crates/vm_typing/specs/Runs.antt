@@ -1,0 +1,60 @@
+-- Runs of machines: "execution proceeds from one instruction to the next" (JVMS 2.11), from the frame of a method that is started.
+use Rattle.std.specs.Prelude.{◌≡◌, ℕ, zero, suc, ◌-◌, false, Option, List, [], ◌∷◌, ◌++◌, replicate}
+use Rattle.ver_frames.specs.declared.vtype.VType.{VType}
+use Rattle.vm_heap.specs.Tagged.{Tagged, Unset}
+use Rattle.vm_heap.specs.Heap.{Cell, Store}
+use Rattle.vm_stack.specs.Frames as frames
+use Rattle.vm_act.specs.Next.{Next, On, Ends, Stuck}
+use Rattle.vm_act.specs.declared.machine.Machine.{Machine}
+use Rattle.vm_act.specs.declared.calls.Callee.{Callee}
+use Rattle.vm_typing.specs.World.{World, parameters}
+use Rattle.vm_typing.specs.Fits.{AllFit, HeapFits, no_marks}
+use Rattle.vm_typing.specs.Typed.{IsTyped}
+use Rattle.vm_typing.specs.Owed.{IsCallee}
+use Rattle.vm_typing.specs.Leads.{LeadsTo, IsGiven}
+
+-- the frame with which a method begins on values
+abbrev pub first_frame : Callee → List Tagged → frames.Frame
+first_frame callee values = record {
+  method = callee.method;
+  index = 0;
+  locals = values ++ replicate (callee.max_locals - callee.arguments) Unset;
+  operands = [];
+  room = callee.max_stack;
+}
+
+-- the machine with which a method is started on values, over one frame
+abbrev pub started : Callee → List Tagged → frames.Frame → ℕ → Store → Machine
+started callee values lowest free heap =
+    record { stack = record { frame = first_frame callee values; callers = lowest ∷ []; free = free }; heap = heap }
+
+abbrev pub stepped : (Machine → Next) → Next → Next
+stepped step (On m) = step m
+stepped step (Ends ending) = Ends ending
+stepped step Stuck = Stuck
+
+-- what some steps make of a machine
+unfoldable pub steps : (Machine → Next) → ℕ → Next → Next
+steps step zero next = next
+steps step (suc n) next = steps step n (stepped step next)
+
+-- each step of a typed machine leads to a typed one, or ends its task with what it may give
+abbrev pub KeepsTyped : World → Option VType → (Machine → Next) → Type 0
+KeepsTyped w asked step = (m : Machine) → IsTyped w asked m → LeadsTo w asked m.heap.cells (IsTyped w asked) (step m)
+
+-- never stuck: the machine is typed, or its task has ended with what it may give, over a heap
+abbrev pub IsSound : World → Option VType → Next → Type 0
+IsSound w asked (On m) = IsTyped w asked m
+IsSound w asked (Ends ending) = (heap : List Cell) × IsGiven w asked heap ending
+IsSound w asked Stuck = ⊥
+
+-- a method that is started on values of its parameters' types, with a heap that fits, is typed
+abbrev pub StartsTyped : World → Type 0
+StartsTyped w = (callee : Callee) (values : List Tagged) (lowest : frames.Frame) (free : ℕ) (heap : Store) → IsCallee w callee
+    → AllFit w heap.cells no_marks (parameters (w.method callee.method)) values → HeapFits w heap.cells
+    → (w.method callee.method).is_init ≡ false → IsTyped w (w.method callee.method).result (started callee values lowest free heap)
+
+-- however many steps a typed machine makes, it is never stuck
+abbrev pub RunsSound : World → Type 0
+RunsSound w = (asked : Option VType) (step : Machine → Next) → KeepsTyped w asked step → (m : Machine) → IsTyped w asked m → (n : ℕ)
+    → IsSound w asked (steps step n (On m))

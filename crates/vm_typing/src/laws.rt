@@ -1,0 +1,65 @@
+//! The laws of typed machines: what each instruction leads to is typed, and never stuck.
+
+ghost use Rattle.std.specs.Prelude.{◌≡◌, ℕ, Option, Some, List, codes};
+ghost use Rattle.cls_set.specs.Classes.{name_at};
+ghost use Rattle.cls_set.specs.Sets.{IsClassSet};
+ghost use Rattle.ver_frames.specs.declared.vtype.VType.{VType};
+ghost use Rattle.vm_heap.specs.Heap.{Cell};
+ghost use Rattle.vm_typing.specs.World.{World};
+ghost use Rattle.vm_typing.specs.Owed.{Owed, SetsGive};
+ghost use Rattle.vm_typing.specs.Laws.{WordsLead, ObjectsLead, CallsLead, ReferentsLead, ReturnsLead, StepsAreMade};
+ghost use Rattle.vm_typing.specs.Runs.{StartsTyped, RunsSound};
+ghost use Rattle.vm_typing.specs.Example.{world, ExampleIsSound};
+
+/// Loads, stores, constants, pops and copies of operands, operators on ints, branches and switches.
+pub fn words_lead()
+    ensures { (w : World) → Owed w → (asked : Option VType) (heap : List Cell) (fresh : ℕ → ℕ) (receiver : ℕ) → WordsLead w asked heap fresh receiver }
+{}
+
+/// New objects, their fields, and int arrays.
+pub fn objects_lead()
+    ensures { (w : World) → Owed w → (asked : Option VType) (heap : List Cell) (fresh : ℕ → ℕ) (receiver : ℕ) → ObjectsLead w asked heap fresh receiver }
+{}
+
+/// Calls of methods that are named: static ones, and an `<init>` on a new object or on the receiver of
+/// a running `<init>`.
+pub fn calls_lead()
+    ensures { (w : World) → Owed w → (asked : Option VType) (heap : List Cell) (fresh : ℕ → ℕ) (receiver : ℕ) → CallsLead w asked heap fresh receiver }
+{}
+
+/// Calls of the method that a receiver's class selects, casts, instanceof and athrow.
+pub fn referents_lead()
+    ensures { (w : World) → Owed w → (asked : Option VType) (heap : List Cell) (fresh : ℕ → ℕ) (receiver : ℕ) → ReferentsLead w asked heap fresh receiver }
+{}
+
+/// Returns to a caller that waits, and the end of a task.
+pub fn returns_lead()
+    ensures { (w : World) → Owed w → (asked : Option VType) (fresh : ℕ → ℕ) (receiver : ℕ) → ReturnsLead w asked fresh receiver }
+{}
+
+/// Where a step leads to typed machines, the function of vm_act that makes it may be called, a machine
+/// with which the task goes on is typed, and what ends the task may be given.
+pub fn steps_are_made()
+    ensures { (w : World) (asked : Option VType) (heap : List Cell) → StepsAreMade w asked heap }
+{}
+
+/// A method that is started on values of its parameters' types is typed. However many steps a typed
+/// machine makes, if each leads a typed machine as the laws here say, it is never stuck, and its task
+/// ends as thrown, or with a result of the type that its method declares.
+pub fn typed_machines_are_never_stuck()
+    ensures start { (w : World) → Owed w → StartsTyped w }
+    ensures run { (w : World) → RunsSound w }
+{}
+
+/// Every class set gives what is owed of subclasses: java/lang/Object is above all others, and so what
+/// may stand for a class may stand for what that may stand for.
+pub fn class_sets_give_what_is_owed()
+    ensures { (w : World) → IsClassSet w.classes → name_at w.classes w.object ≡ Some (codes "java/lang/Object") → SetsGive w }
+{}
+
+/// A program of two classes meets all that is owed, so the laws speak of something: an object is made,
+/// its `<init>` writes a field and calls that of java/lang/Object, and the field is read and returned.
+pub fn what_is_owed_can_be_met()
+    ensures owed { Owed world }
+    ensures sound { ExampleIsSound }
+{}
