@@ -36,7 +36,7 @@ enum Scenario {
     Touched,
     /// References are held and leased, and moments come before a lease is half over.
     Moments,
-    /// As many clients of one object come and go, and those of another come again after strong clean calls.
+    /// As many clients of one object come and go.
     Clients,
     /// One client renews its lease of one object with two periods in turn.
     Renewals,
@@ -191,22 +191,7 @@ fn clients(alloc: Global, size: u64) -> Result<u64, AllocError> {
     for number in 0..size {
         list.clean(&client(number), &[ObjId(1)], 2, false)?;
     }
-    come_again(&mut list, size)?;
     Ok(size)
-}
-
-// Clients of another object come, go by strong clean calls, and come again.
-fn come_again(list: &mut RefList, size: u64) -> Result<(), AllocError> {
-    for number in 0..size {
-        list.dirty(&client(number), &[ObjId(2)], 1, 600_000)?;
-    }
-    for number in 0..size {
-        list.clean(&client(number), &[ObjId(2)], 2, true)?;
-    }
-    for number in 0..size {
-        list.dirty(&client(number), &[ObjId(2)], 3, 600_000)?;
-    }
-    Ok(())
 }
 
 fn renewals(alloc: Global, size: u64) -> Result<u64, AllocError> {
