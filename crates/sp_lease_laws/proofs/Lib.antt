@@ -1,0 +1,6 @@
+mod PointerLemmas
+mod NamingLemmas
+mod WayLemmas
+mod GroupMoves
+mod OnTheWayRules
+mod OnTheWayEvents
