@@ -16,3 +16,5 @@ mod OnceRules
 mod SpaceLemmas
 mod EndedLemmas
 mod PastLemmas
+mod IdleLemmas
+mod AwaitedLemmas

@@ -7,3 +7,5 @@ pub mod Owing
 pub mod AllSpaces
 pub mod Answered
 pub mod Others
+pub mod Idle
+pub mod Awaited

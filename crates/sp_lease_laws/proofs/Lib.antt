@@ -4,3 +4,4 @@ mod WayLemmas
 mod GroupMoves
 mod OnTheWayRules
 mod OnTheWayEvents
+mod MomentLemmas

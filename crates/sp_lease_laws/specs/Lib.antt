@@ -1,2 +1,3 @@
 pub mod OnTheWay
 pub mod Numbered
+pub mod Moments

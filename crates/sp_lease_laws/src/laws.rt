@@ -1,5 +1,6 @@
 //! The laws of dirty and clean calls on their way.
 
+ghost use Rattle.sp_lease_laws.specs.Moments.{LeasesCountFromThePast};
 ghost use Rattle.sp_lease_laws.specs.OnTheWay.{CallsOnTheirWayAreRequests};
 ghost use Rattle.sp_lease_laws.specs.Numbered.{SequenceNumbersAreFresh};
 
@@ -16,4 +17,10 @@ pub fn calls_on_their_way_are_requests()
 /// is out and not answered, and one that was not given yet at none.
 pub fn sequence_numbers_are_fresh()
     ensures { SequenceNumbersAreFresh }
+{}
+
+/// After every history of a space the dirty call of a reference that is on its way, its last dirty call
+/// and the moment from which its lease counts are of no moment to come.
+pub fn leases_count_from_the_past()
+    ensures { LeasesCountFromThePast }
 {}

@@ -161,6 +161,20 @@ OrderOfFrames = heard space (dialled (Received 0 (hello peer) ∷ Received 0 (me
     ∷ Answers (Send 0 (message.Clean 2 false (object 1 ∷ [])) ∷ Send 0 (message.Dirty 3 600000 (object 2 ∷ [])) ∷ [])
     ∷ Answers (Ended 4 (Returned (Some (counter_of peer 2))) ∷ Send 0 (message.Ack 2) ∷ []) ∷ []
 
+-- ---- a dirty call that was overtaken fails
+
+-- A renewal is on its way as the reference is let go, so that a clean call overtakes it, and a new dirty call comes behind. The peer answers the last one alone. As the connection ends, the failure of the renewal does nothing: the lease stands, the clean call is due as soon as the reference is let go, and is an ordinary one.
+abbrev pub FailureOfAnOvertakenDirty : Type 0
+FailureOfAnOvertakenDirty = heard space (dialled (Received 0 (hello peer) ∷ Received 0 (message.Returned 1 0 (Some (counter_of peer 1))) ∷ Received 0 (message.Lease 1 600000)
+    ∷ Lookup peer name ∷ Moment 300000 ∷ RootAck 1 ∷ Received 0 (message.Returned 2 0 (Some (counter_of peer 1))) ∷ Received 0 (message.Lease 4 600000)
+    ∷ Closed 0 ∷ RootAck 2 ∷ Opened 1 (Some peer) ∷ Received 1 (hello peer) ∷ [])) ≡
+    asked_lookup ∷ said_hello ∷ Answers (Send 0 (message.Lookup 1 name) ∷ []) ∷ Answers (Send 0 (message.Dirty 1 600000 (object 1 ∷ [])) ∷ [])
+    ∷ Answers (Ended 1 (Returned (Some (counter_of peer 1))) ∷ Send 0 (message.Ack 1) ∷ [])
+    ∷ Answers (Started 2 ∷ Send 0 (message.Lookup 2 name) ∷ []) ∷ Answers (Send 0 (message.Dirty 2 600000 (object 1 ∷ [])) ∷ [])
+    ∷ Answers (Send 0 (message.Clean 3 false (object 1 ∷ [])) ∷ []) ∷ Answers (Send 0 (message.Dirty 4 600000 (object 1 ∷ [])) ∷ [])
+    ∷ Answers (Ended 2 (Returned (Some (counter_of peer 1))) ∷ Send 0 (message.Ack 2) ∷ [])
+    ∷ Answers [] ∷ Answers (Dial peer ∷ []) ∷ Answers (Send 1 (hello own) ∷ []) ∷ Answers (Send 1 (message.Clean 5 false (object 1 ∷ [])) ∷ []) ∷ []
+
 -- ---- refusals
 
 -- of events that fit no state of a space that begins, and of names that are not allowed
