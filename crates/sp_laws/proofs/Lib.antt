@@ -18,3 +18,4 @@ mod EndedLemmas
 mod PastLemmas
 mod IdleLemmas
 mod AwaitedLemmas
+mod AskingLemmas

@@ -9,3 +9,4 @@ pub mod Answered
 pub mod Others
 pub mod Idle
 pub mod Awaited
+pub mod Asking

@@ -2,6 +2,7 @@
 
 ghost use Rattle.sp_laws.specs.AllSpaces.{SpacesAreInOrder};
 ghost use Rattle.sp_laws.specs.Answered.{AnswersAreParked};
+ghost use Rattle.sp_laws.specs.Asking.{EntriesHaveNumbers, TasksAskOfWhatTheyHold};
 ghost use Rattle.sp_laws.specs.Awaited.{ParkedFramesWaitForLeases};
 ghost use Rattle.sp_laws.specs.CallsHeld.{CallsAreHeld};
 ghost use Rattle.sp_laws.specs.Counted.{HoldersAreCounted};
@@ -108,4 +109,16 @@ pub fn unasked_connections_are_idle()
 /// once, and there is one.
 pub fn parked_frames_wait_for_leases()
     ensures { ParkedFramesWaitForLeases }
+{}
+
+/// An event that a space does not refuse asks of what a task holds alone: the object and the reference of
+/// an operation that is done, the target and the arguments of a call that is parked, and the result with
+/// which a task ends.
+pub fn tasks_ask_of_what_they_hold()
+    ensures { TasksAskOfWhatTheyHold }
+{}
+
+/// After every history of a space each entry of a client for an object has a number that is remembered.
+pub fn entries_have_numbers()
+    ensures { EntriesHaveNumbers }
 {}

@@ -105,6 +105,12 @@ NoHello = heard space (dialled (Received 0 (message.Cleaned 1) ∷ [])) ≡
 abbrev pub RefusedDial : Type 0
 RefusedDial = heard space (Lookup peer name ∷ Refused peer ∷ []) ≡ asked_lookup ∷ Answers (ended_by 1 connect_exception ∷ []) ∷ []
 
+-- Dial is given once, whatever is asked of the peer while it is dialled; both lookups go out after its Hello, in their order.
+abbrev pub DialGivenOnce : Type 0
+DialGivenOnce = heard space (Lookup peer name ∷ Lookup peer name ∷ Opened 0 (Some peer) ∷ Lookup peer name ∷ Received 0 (hello peer) ∷ []) ≡
+    asked_lookup ∷ Answers (Started 2 ∷ []) ∷ said_hello ∷ Answers (Started 3 ∷ [])
+    ∷ Answers (Send 0 (message.Lookup 1 name) ∷ Send 0 (message.Lookup 2 name) ∷ Send 0 (message.Lookup 3 name) ∷ []) ∷ []
+
 -- ---- frames that close a connection
 
 -- A dialled end that sends what answers; an Ack of nothing; a Lookup's or a Call's number that is not above the last.

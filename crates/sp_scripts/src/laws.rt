@@ -6,7 +6,7 @@ ghost use Rattle.sp_scripts.specs.FailuresScripts.{AckLost, CallLost, CallReadFa
 ghost use Rattle.sp_scripts.specs.LeasesScripts.{WithdrawnObject, CleanNotRepeatedWithHolder, CleanRepeatedUntilNotYet, LastHolderOfTwo, LateDirtyAfterStrongClean, LookupNeedsAckOfLease, MomentBelow, RenewalFailedAgain, WeakCleanForgets, OvertakenLease, LeaseOfAnOvertakenDirty, ParkedCallIsAReason, KeptFar, ChurnCleans, CycleStays, CellMadeAfar};
 ghost use Rattle.sp_scripts.specs.ThirdSpacesScripts.{ThirdSpace, ThirdSpaceSwept, FetchThroughThird, FreshRoundTrip, EntryBeforeStart};
 ghost use Rattle.sp_scripts.specs.BadLinesScripts.{BadLookupSelf, BadRootKind, BadRootNoHolder, LapsedLeaseIsNoRootArgument, BadSpace};
-ghost use Rattle.sp_scripts.specs.Answers.{RightHello, WrongDigest, WrongId, NoHello, RefusedDial, ClosedByThoseThatAsk, ClosedByThoseThatAnswer, UnfitReplies, OrderOfFrames, FailureOfAnOvertakenDirty, Refusals, RefusalsOfLentTasks, HeldByATask, HeldByAField, HeldAfterTheEnd, TooManyReferences};
+ghost use Rattle.sp_scripts.specs.Answers.{RightHello, WrongDigest, WrongId, NoHello, RefusedDial, DialGivenOnce, ClosedByThoseThatAsk, ClosedByThoseThatAnswer, UnfitReplies, OrderOfFrames, FailureOfAnOvertakenDirty, Refusals, RefusalsOfLentTasks, HeldByATask, HeldByAField, HeldAfterTheEnd, TooManyReferences};
 
 /// Values that cross, and how calls end.
 pub fn scripts_of_values()
@@ -99,6 +99,7 @@ pub fn answers_of_one_space()
     ensures wrong_id { WrongId }
     ensures no_hello { NoHello }
     ensures refused_dial { RefusedDial }
+    ensures dial_given_once { DialGivenOnce }
     ensures closed_by_those_that_ask { ClosedByThoseThatAsk }
     ensures closed_by_those_that_answer { ClosedByThoseThatAnswer }
     ensures unfit_replies { UnfitReplies }
