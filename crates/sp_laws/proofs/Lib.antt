@@ -19,3 +19,4 @@ mod PastLemmas
 mod IdleLemmas
 mod AwaitedLemmas
 mod AskingLemmas
+mod GivenRules

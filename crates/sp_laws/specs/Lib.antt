@@ -10,3 +10,4 @@ pub mod Others
 pub mod Idle
 pub mod Awaited
 pub mod Asking
+pub mod Given

@@ -6,6 +6,7 @@ ghost use Rattle.sp_laws.specs.Asking.{EntriesHaveNumbers, TasksAskOfWhatTheyHol
 ghost use Rattle.sp_laws.specs.Awaited.{ParkedFramesWaitForLeases};
 ghost use Rattle.sp_laws.specs.CallsHeld.{CallsAreHeld};
 ghost use Rattle.sp_laws.specs.Counted.{HoldersAreCounted};
+ghost use Rattle.sp_laws.specs.Given.{IdsAreGiven};
 ghost use Rattle.sp_laws.specs.Idle.{UnaskedConnectionsAreIdle};
 ghost use Rattle.sp_laws.specs.Inbound.{CallsThatComeAreOnce, CallsThatWentStayGone};
 ghost use Rattle.sp_laws.specs.Made.{ReferencesAreMade};
@@ -121,4 +122,10 @@ pub fn tasks_ask_of_what_they_hold()
 /// After every history of a space each entry of a client for an object has a number that is remembered.
 pub fn entries_have_numbers()
     ensures { EntriesHaveNumbers }
+{}
+
+/// After every history of a space the ids of living tasks, of lookups among the requests, and of the
+/// roots and lookups for whose acknowledgement results wait, were given.
+pub fn ids_are_given()
+    ensures { IdsAreGiven }
 {}
