@@ -16,3 +16,7 @@ mod OnceRules
 mod SpaceLemmas
 mod EndedLemmas
 mod PastLemmas
+mod IdleLemmas
+mod AwaitedLemmas
+mod AskingLemmas
+mod GivenRules

@@ -16,7 +16,7 @@ use Rattle.uuid.specs.declared.Uuid.{Uuid}
 use Rattle.space_ids.specs.declared.ids.ObjId.{ObjId}
 use Rattle.space_ids.specs.declared.value.Value.TheVariants as values
 use Rattle.space_ids.specs.declared.value.Value.{Value}
-use Rattle.sp_rules.proofs.AllLemmas.{some-none, all-weaken, all-map, all-more, all-both-filter, none-found, found-is}
+use Rattle.sp_rules.proofs.AllLemmas.{some-none, or-right, all-weaken, all-map, all-first, all-more, all-both-filter, none-found, found-is}
 use Rattle.sp_rules.proofs.FuelSums.{total-snoc}
 use Rattle.sp_rules.proofs.LineLemmas.{one-peer, same-peer, none-of, or-none, row-numbers}
 use Rattle.sp_rules.proofs.OwnLemmas.{unrefused}
@@ -27,6 +27,7 @@ use Rattle.sp_rules.specs.Events.{Started, Ended, Dial, Ready, Event, Moment, Sw
 use Rattle.sp_rules.specs.Frames
 use Rattle.sp_rules.specs.Frames.{is_call_frame}
 use Rattle.sp_rules.specs.Holders
+use Rattle.sp_rules.specs.Laws.{AllOf}
 use Rattle.sp_rules.specs.Lists.{with_some, at_first, total}
 use Rattle.sp_rules.specs.Origins.{IsTaken}
 use Rattle.sp_rules.specs.OwnEvents
@@ -39,17 +40,17 @@ use Rattle.sp_rules.specs.Requests
 use Rattle.sp_rules.specs.Space
 use Rattle.sp_rules.specs.State as state
 use Rattle.sp_rules.specs.State.{State, Object, OfRoot, Request, Asked, Calls, LooksUp, Tells, Stage, Waits, Out, Answered, Connection, KeptResult, ReturnedFrame, ParkedFrame, object_at, connection_at, is_open, set_connection, is_to, opening}
-use Rattle.sp_laws.specs.Answered.{IsDialledTo, IsGreeted, StandsOn, GoesTo, CameOn, is_answered_on, answers_of, results_of, AreInPlace, AnswersAreParked}
+use Rattle.sp_laws.specs.Answered.{HasTakenNone, IsDialledTo, IsGreeted, StandsOn, GoesTo, CameOn, is_answered_on, answers_of, results_of, AreInPlace, AnswersAreParked}
 use Rattle.sp_laws.specs.Waiting.{count, calls_numbered}
 use Rattle.sp_laws.proofs.InboundLemmas.{counted-row}
-use Rattle.sp_laws.proofs.PlaceLemmas.{both-left, both-right, numbered-all, IsKeptRow, StillThere, still-stands, still-greeted, still-row, still-more, none, total-found, is_answer, is_result, is_at, out-and-answers, answers-made, answers-others}
+use Rattle.sp_laws.proofs.PlaceLemmas.{both-left, both-right, all-first-found, numbered-all, IsKeptRow, StillThere, still-stands, still-greeted, still-row, still-more, none, total-found, is_answer, is_result, is_at, out-and-answers, answers-made, answers-others}
 use Rattle.sp_laws.proofs.WaitHistories.{waiting_tasks_have_one_call}
 use Rattle.sp_laws.proofs.PlaceRules.{Place, quiet, if_place, some_place, each_place, send_place, hold_place, drop_place, each_with, fewer_place, waiting-open, Going, go_out_going, fresh_place, settle_place, add_task_place, keep_place, reply_to_place, commit_place, park_place, give_back_place, finish_place, call_gone, go_all_place, park_call_place, end_requests_place, end_connection_place, close_place}
 
 -- ---- rows of connections
 
-row_place : {g : Setting} {ps : List ParkedFrame} {s : State} (conn : ℕ) (f : Connection → Connection) → IsKeptRow f → Place g ps s → Place g ps (set_connection f conn s)
-row_place {g} {ps} {s} conn f k h = record {
+row_place : {g : Setting} {ps : List ParkedFrame} {s : State} (conn : ℕ) (f : Connection → Connection) → IsKeptRow f → AllOf HasTakenNone (at_first (λ (d : Connection). d.number == conn) f s.connections) → Place g ps s → Place g ps (set_connection f conn s)
+row_place {g} {ps} {s} conn f k u h = record {
   parts = record {
     numbers = row-numbers (λ (d : Connection). d.number == conn) f (record { number = k.number; dialled = k.dialled }) s.connections h.parts.numbers;
     requests = all-weaken (λ (q : Request). StandsOn s.connections q.peer q.stage × GoesTo q.peer q.asked) _ s.requests (λ q x. (still-stands s.connections _ there q.peer q.stage x.0, x.1)) h.parts.requests;
@@ -57,6 +58,7 @@ row_place {g} {ps} {s} conn f k h = record {
     parked = all-weaken (CameOn s.connections) _ s.parked (λ q x. still-greeted s.connections _ none there q.conn (not (is_call_frame q.frame)) refl x) h.parts.parked;
     answered = h.parts.answered;
     also = all-weaken (CameOn s.connections) _ ps (λ q x. still-greeted s.connections _ none there q.conn (not (is_call_frame q.frame)) refl x) h.parts.also;
+    unasked = u;
   };
 }
   where
@@ -72,6 +74,7 @@ more_place {g} {ps} {s} conn dialled shut h = record {
     parked = all-weaken (CameOn s.connections) _ s.parked (λ q x. still-greeted s.connections _ none there q.conn (not (is_call_frame q.frame)) refl x) h.parts.parked;
     answered = h.parts.answered;
     also = all-weaken (CameOn s.connections) _ ps (λ q x. still-greeted s.connections _ none there q.conn (not (is_call_frame q.frame)) refl x) h.parts.also;
+    unasked = all-more HasTakenNone s.connections (record { number = conn; dialled = dialled; peer = None; last = 0; sent = [] }) h.parts.unasked (λ e. refl);
   };
 }
   where
@@ -84,7 +87,7 @@ greets : (space : Uuid) → IsKeptRow (λ (c : Connection). record c { peer = So
 greets space = record { number = λ c. refl; dialled = λ c. refl; greeted = λ c e. refl }
 
 greeted_place : {g : Setting} {s : State} (space : Uuid) (conn : ℕ) → Place g [] s → Place g [] (Frames.greeted space conn s)
-greeted_place space conn h = row_place conn _ (greets space) h
+greeted_place {s = s} space conn h = row_place conn _ (greets space) (all-first HasTakenNone (λ (d : Connection). d.number == conn) (λ (d : Connection). record d { peer = Some space }) s.connections (λ d x e. x (or-right (is_none d.peer) _ e)) h.parts.unasked) h
 
 flush_place : {g : Setting} {s : State} (space peer : Uuid) (c : Connection) → connection_at s c.number ≡ Some c → c.dialled ≡ Some peer → Place g [] s → Place g [] (Requests.flush_waiting peer c.number (Frames.greeted space c.number s))
 unfolding Requests.flush_waiting
@@ -116,8 +119,14 @@ first_place {g} {s} c (message.Hello version space digest) is h = pick c.dialled
     pick (Some peer) e = if_place (bytes_eq digest g.digest && bytes_eq space peer) (flush_place space peer c is e h) (close_place _ c.number h)
 first_place c _ is h = close_place _ c.number h
 
-counted_place : {g : Setting} {s : State} (conn number : ℕ) → Place g [] s → Place g [] (Frames.counted conn number s)
-counted_place conn number h = row_place conn _ (record { number = λ c. refl; dialled = λ c. refl; greeted = λ c e. e }) h
+-- a call is taken where somebody asks
+counted_place : {g : Setting} {s : State} (conn number : ℕ) → IsGreeted s.connections conn false → Place g [] s → Place g [] (Frames.counted conn number s)
+counted_place {s = s} conn number came h = row_place conn _ (record { number = λ c. refl; dialled = λ c. refl; greeted = λ c e. e })
+    (all-first-found HasTakenNone (λ (d : Connection). d.number == conn) (λ (d : Connection). record d { last = number }) s.connections came.row came.found (λ e. absurd (asked came.row.peer came.row.dialled came.greeted came.end e)) h.parts.unasked) h
+  where
+    asked : (p d : Option Uuid) → is_some p ≡ true → is_some d ≡ false → is_none p || is_some d ≡ true → ⊥
+    asked None d e f t = true≢false (sym e)
+    asked (Some x) d e f t = true≢false (sym t ∙ f)
 
 -- the connection on which a frame of the right direction came
 still-came : (s : State) (conn number : ℕ) (dialled : Bool) → IsGreeted s.connections conn dialled → IsGreeted (Frames.counted conn number s).connections conn dialled
@@ -133,16 +142,16 @@ unfolding Frames.got_call
 got_call_place {g} {s} c number target method fuel arguments came h = if_place (nat_le number c.last) (close_place _ c.number h) (on (object_at s target))
   where
     on : (o : Option Object) → Place g [] (Frames.call_on g c.number number o method fuel arguments (Frames.counted c.number number s))
-    on None = send_place Rattle.sp_rules.specs.Events.Replies c.number (message.Threw number g.classes.no_such_object) (counted_place c.number number h)
-    on (Some o) = call_of_place c.number number o method fuel arguments (still-came s c.number number false came) (counted_place c.number number h)
+    on None = send_place Rattle.sp_rules.specs.Events.Replies c.number (message.Threw number g.classes.no_such_object) (counted_place c.number number came h)
+    on (Some o) = call_of_place c.number number o method fuel arguments (still-came s c.number number false came) (counted_place c.number number came h)
 
 found_place : {g : Setting} {s : State} (conn number : ℕ) (o : Option Object) → Place g [] s → Place g [] (Frames.found g conn number o s)
 found_place conn number None h = send_place _ conn _ h
 found_place {g} conn number (Some o) h = send_place _ conn _ (keep_place (state.Acked conn number) (Some (values.Ref (record { space = g.id; id = o.id; class = o.class }))) h)
 
-got_lookup_place : {g : Setting} {s : State} (c : Connection) (number : ℕ) (name : List ℕ) → Place g [] s → Place g [] (Frames.got_lookup g c number name s)
+got_lookup_place : {g : Setting} {s : State} (c : Connection) (number : ℕ) (name : List ℕ) → IsGreeted s.connections c.number false → Place g [] s → Place g [] (Frames.got_lookup g c number name s)
 unfolding Frames.got_lookup
-got_lookup_place {g} {s} c number name h = if_place (nat_le number c.last) (close_place _ c.number h) (found_place c.number number (Frames.object_of s (registry.lookup s.owner.names name)) (counted_place c.number number h))
+got_lookup_place {g} {s} c number name came h = if_place (nat_le number c.last) (close_place _ c.number h) (found_place c.number number (Frames.object_of s (registry.lookup s.owner.names name)) (counted_place c.number number came h))
 
 release_place : {g : Setting} {s : State} (is : KeptResult → Bool) → Place g [] s → Place g [] (Frames.release g is s)
 unfolding Frames.release
@@ -207,6 +216,7 @@ returned_place {g} {s} c number fuel value q once is came h = if_place _ (reply_
             let a : results_of conn k (s.parked ++ frame ∷ []) ≡ results_of conn k s.parked + count (is_at conn k c.number number) = total-snoc (λ (p : ParkedFrame). count (is_result conn k p)) s.parked frame in
             let b : answers_of conn k (map (Frames.answered_on c.number number) s.requests) ≡ results_of conn k s.parked + count (is_at conn k c.number number) = matched conn k (is_at conn k c.number number) refl in omega arith;
         also = tt;
+        unasked = h.parts.unasked;
       };
     }
 
@@ -250,7 +260,7 @@ got_place c (message.Dirty sequence period objects) once is spoke way h = send_p
 got_place c (message.Lease sequence period) once is spoke way h = told_by_place c true sequence _ h
 got_place c (message.Clean sequence strong objects) once is spoke way h = send_place _ c.number _ (quiet _ refl h)
 got_place c (message.Cleaned sequence) once is spoke way h = told_by_place c false sequence _ h
-got_place c (message.Lookup number name) once is spoke way h = got_lookup_place c number name h
+got_place c (message.Lookup number name) once is spoke way h = got_lookup_place c number name (record { row = c; found = is; end = way; greeted = spoke }) h
 
 received_place : {g : Setting} {s : State} (conn : ℕ) (c : Option Connection) (m : Message) → Once s → connection_at s conn ≡ c → Place g [] s → Place g [] (OwnEvents.received_on g c m s)
 unfolding Frames.receive
@@ -338,7 +348,7 @@ sent_place (Started task) h = h
 sent_place (Ended task outcome) h = h
 sent_place (Withdrawn ids) h = h
 sent_place (Denied why) h = h
-sent_place (Send conn m) h = row_place conn _ (record { number = λ c. refl; dialled = λ c. refl; greeted = λ c e. e }) h
+sent_place {s = s} (Send conn m) h = row_place conn _ (record { number = λ c. refl; dialled = λ c. refl; greeted = λ c e. e }) (all-first HasTakenNone (λ (d : Connection). d.number == conn) (λ (d : Connection). record d { sent = m ∷ d.sent }) s.connections (λ d x e. x e) h.parts.unasked) h
 sent_place (Dial peer) h = h
 sent_place (Close conn) h = h
 sent_place (Ready task) h = h
@@ -381,7 +391,7 @@ once-of g h = (waiting_tasks_have_one_call g h).once
 
 places-of : (g : Setting) (h : List Event) → IsTaken g h → Place g [] (Space.state_of g h)
 unfolding Space.state_of opening
-places-of g [] t = record { parts = record { numbers = tt; requests = tt; fresh = tt; parked = tt; answered = λ conn k. refl; also = tt } }
+places-of g [] t = record { parts = record { numbers = tt; requests = tt; fresh = tt; parked = tt; answered = λ conn k. refl; also = tt; unasked = tt } }
 places-of g (e ∷ h) t = on_place g t.0.0 (Space.state_of g h) e t.0.1 (once-of g h) (places-of g h t.1)
 
 pub answers_are_parked : AnswersAreParked
@@ -391,6 +401,7 @@ answers_are_parked g h t = by (Space.state_of g h) (once-of g h) (places-of g h 
     by s once p = record {
       requests = p.parts.requests;
       parked = p.parts.parked;
+      unasked = p.parts.unasked;
       answered = p.parts.answered;
       once = λ conn k.
           let a : answers_of conn k s.requests ≡ results_of conn k s.parked = p.parts.answered conn k in

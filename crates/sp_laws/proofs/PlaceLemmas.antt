@@ -37,6 +37,15 @@ pub both-right : (a b : Bool) → a && b ≡ true → b ≡ true
 both-right true b e = e
 both-right false b e = absurd (true≢false (sym e))
 
+-- a row that is found is changed, and keeps what is said of it
+pub all-first-found : {A : Type 0} (P : A → Type 0) (is : A → Bool) (f : A → A) (xs : List A) (x : A) → find is xs ≡ Some x → P (f x) → AllOf P xs → AllOf P (at_first is f xs)
+all-first-found P is f [] x e p a = tt
+all-first-found {A} P is f (y ∷ xs) x e p a = pick (is y) e (λ k. all-first-found P is f xs x k p a.1)
+  where
+    pick : (b : Bool) → cond b (Some y) (find is xs) ≡ Some x → (find is xs ≡ Some x → AllOf P (at_first is f xs)) → AllOf P (if b then f y ∷ xs else y ∷ at_first is f xs)
+    pick true k rest = (subst (λ z. P (f z)) (sym (some-same k)) p, a.1)
+    pick false k rest = (a.0, rest k)
+
 -- ---- connections
 
 -- what is found is found by its number

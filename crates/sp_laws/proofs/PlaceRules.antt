@@ -39,7 +39,7 @@ use Rattle.sp_rules.specs.Requests
 use Rattle.sp_rules.specs.State as state
 use Rattle.sp_rules.specs.State.{State, Living, Origin, OfRoot, OfCall, Until, Request, Asked, Calls, LooksUp, Tells, Stage, Waits, Out, Answered, Connection, Frame, CallFrame, ReturnedFrame, ParkedFrame, task_at, ready_at, object_at, connection_at, connection_to, is_open, send, is_to}
 use Rattle.sp_rules.specs.Tasks.{Stand, Runs, AsksFor, HasEnded, stand, steps}
-use Rattle.sp_laws.specs.Answered.{numbered, IsDialledTo, IsGreeted, StandsOn, GoesTo, CameOn, is_answered_on, answers_of, results_of}
+use Rattle.sp_laws.specs.Answered.{numbered, HasTakenNone, IsDialledTo, IsGreeted, StandsOn, GoesTo, CameOn, is_answered_on, answers_of, results_of}
 use Rattle.sp_laws.specs.Waiting.{count}
 use Rattle.sp_laws.proofs.InboundLemmas.{closed-row}
 use Rattle.sp_laws.proofs.PlaceLemmas.{both-left, both-right, not-same, other-order, by-number, StillThere, still-dialled, still-greeted, still-less, no-both, total-none, total-kept, total-absent, total-less, is_answer, is_result, answer-out, is_at, count-false, answers-elsewhere, answers-gone, results-elsewhere, results-gone}
@@ -63,6 +63,7 @@ pub record InPlace (ps : List ParkedFrame) (x : PlaceParts) : Type 0 where
   pub parked : AllOf (CameOn x.connections) x.parked
   pub answered : (conn k : ℕ) → answers_of conn k x.requests ≡ results_of conn k x.parked
   pub also : AllOf (CameOn x.connections) ps
+  pub unasked : AllOf HasTakenNone x.connections
 
 pub record Place (g : Setting) (ps : List ParkedFrame) (s : State) : Type 0 where
   pub parts : InPlace ps (place_parts s)
@@ -141,6 +142,7 @@ add_place {g} {ps} {s} r ok unanswered h = record {
         let z : count (is_answer conn k r) ≡ 0 = ap (λ b. count (b && has_number k r.asked)) (unanswered conn) in
         let b : answers_of conn k s.requests ≡ results_of conn k s.parked = h.parts.answered conn k in omega arith;
     also = h.parts.also;
+    unasked = h.parts.unasked;
   };
 }
 
@@ -154,6 +156,7 @@ fewer_place {g} {ps} {s} is unanswered h = record {
     parked = h.parts.parked;
     answered = λ conn k. total-kept (λ (q : Request). count (is_answer conn k q)) is s.requests (λ q i. ap count (unanswered q i conn k)) ∙ h.parts.answered conn k;
     also = h.parts.also;
+    unasked = h.parts.unasked;
   };
 }
 
@@ -234,7 +237,7 @@ make_group_place {s = s} b h = ask_place _ refl refl (quiet (record s { groups_m
 -- the call or lookup of the event waits to be asked
 pub fresh_place : {g : Setting} {ps : List ParkedFrame} {s : State} (t : State) (rs : List Request) → place_parts t ≡ record { requests = s.requests; fresh = rs; connections = s.connections; parked = s.parked } → AllOf (λ (q : Request). (Requests.is_waiting q.stage ≡ true) × GoesTo q.peer q.asked) rs → Place g ps s → Place g ps t
 fresh_place {g} {ps} {s} t rs e ok h = record {
-  parts = subst (InPlace ps) (sym e) (record { numbers = h.parts.numbers; requests = h.parts.requests; fresh = ok; parked = h.parts.parked; answered = h.parts.answered; also = h.parts.also });
+  parts = subst (InPlace ps) (sym e) (record { numbers = h.parts.numbers; requests = h.parts.requests; fresh = ok; parked = h.parts.parked; answered = h.parts.answered; also = h.parts.also; unasked = h.parts.unasked });
 }
 
 pub settle_place : {g : Setting} {ps : List ParkedFrame} {s : State} → Place g ps s → Place g ps (Requests.settle s)
@@ -345,6 +348,7 @@ call_gone {g} {ps} {s} at n zero h = record {
     parked = h.parts.parked;
     answered = λ conn k. pick conn k (is_at conn k at n) refl;
     also = h.parts.also;
+    unasked = h.parts.unasked;
   };
 }
   where
@@ -362,6 +366,7 @@ take_none {g} {ps} {s} p zero h = record {
     parked = all-filter (CameOn s.connections) (λ q. not (is_parked_at p.conn p.number q)) s.parked h.parts.parked;
     answered = λ conn k. pick conn k (is_at conn k p.conn p.number) refl;
     also = h.parts.also;
+    unasked = h.parts.unasked;
   };
 }
   where
@@ -381,6 +386,7 @@ take_both {g} {ps} {s} p at n same-conn same-number h = record {
   parked = all-filter (CameOn s.connections) (λ q. not (is_parked_at p.conn p.number q)) s.parked h.parts.parked;
   answered = λ conn k. pick conn k (is_at conn k at n) refl (is_at conn k p.conn p.number) refl;
   also = h.parts.also;
+  unasked = h.parts.unasked;
 }
   where
     alike : (conn k : ℕ) → is_at conn k at n ≡ is_at conn k p.conn p.number
@@ -461,12 +467,13 @@ park_call_place {g} {ps} {s} conn number target method fuel arguments references
         let a : results_of c k (s.parked ++ record { conn = conn; number = number; frame = CallFrame target method fuel arguments; references = references } ∷ []) ≡ results_of c k s.parked + 0 = total-snoc (λ (p : ParkedFrame). count (is_result c k p)) s.parked (record { conn = conn; number = number; frame = CallFrame target method fuel arguments; references = references }) in
         let b : answers_of c k s.requests ≡ results_of c k s.parked = h.parts.answered c k in omega arith;
     also = h.parts.also;
+    unasked = h.parts.unasked;
   };
 }))
 
 -- the frames that are still to come
 rest_place : {g : Setting} {s : State} (p : ParkedFrame) (ps : List ParkedFrame) → Place g (p ∷ ps) s → Place g ps s
-rest_place p ps h = record { parts = record { numbers = h.parts.numbers; requests = h.parts.requests; fresh = h.parts.fresh; parked = h.parts.parked; answered = h.parts.answered; also = h.parts.also.1 } }
+rest_place p ps h = record { parts = record { numbers = h.parts.numbers; requests = h.parts.requests; fresh = h.parts.fresh; parked = h.parts.parked; answered = h.parts.answered; also = h.parts.also.1; unasked = h.parts.unasked } }
 
 fail_parked_place : {g : Setting} {ps : List ParkedFrame} {s : State} (p : ParkedFrame) → CameOn s.connections p → Place g ps s → Place g ps (ParkedFrames.fail_parked g s p)
 unfolding ParkedFrames.fail_parked
@@ -494,6 +501,7 @@ fail_dirty_place {g} {s} call id h = if_place (lease.is_made (Holders.lease_now 
         parked = h.parts.parked;
         answered = h.parts.answered;
         also = all-filter (CameOn s.connections) (ParkedFrames.names id) s.parked h.parts.parked;
+        unasked = h.parts.unasked;
       };
     })) (quiet _ refl h)
 
@@ -674,6 +682,7 @@ shut_place {g} s t conn c is h u = record { parts = subst (InPlace []) (sym (ap 
       parked = parked;
       answered = λ n k. matched n k (conn == n) refl;
       also = tt;
+      unasked = all-filter HasTakenNone (λ (d : Connection). not (d.number == conn)) s.connections h.parts.unasked;
     }
 
 pub end_connection_place : {g : Setting} {s : State} (why : Asked → ClassId) (conn : ℕ) → Place g [] s → Place g [] (Endings.end_connection g why conn s)

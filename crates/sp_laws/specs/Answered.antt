@@ -1,5 +1,5 @@
 -- Requests and frames stand with their connections: what is out went to the peer that was dialled and said Hello, what is parked came on a connection whose Hello came, and a call or lookup is answered exactly while its result is parked (this project's own protocol; a remote call returns once by the Java RMI specification, 3.2).
-use Rattle.std.specs.Prelude.{◌≡◌, ℕ, ◌≤◌, ◌==◌, ◌&&◌, not, Bool, true, false, is_some, List, Option, Some, find}
+use Rattle.std.specs.Prelude.{◌≡◌, ℕ, ◌≤◌, ◌==◌, ◌&&◌, ◌||◌, not, Bool, true, false, is_some, is_none, List, Option, Some, find}
 use Rattle.uuid.specs.declared.Uuid.{Uuid}
 use Rattle.sp_rules.specs.Classes.{Setting}
 use Rattle.sp_rules.specs.Events.{Event}
@@ -31,6 +31,14 @@ pub record IsGreeted (connections : List Connection) (conn : ℕ) (dialled : Boo
   pub found : numbered connections conn ≡ Some row
   pub end : is_some row.dialled ≡ dialled
   pub greeted : is_some row.peer ≡ true
+
+-- Nobody asks on the connection: its Hello has not come, or this space dialled it.
+abbrev pub is_unasked : Connection → Bool
+is_unasked c = is_none c.peer || is_some c.dialled
+
+-- Then no number of a call or lookup came on it.
+abbrev pub HasTakenNone : Connection → Type 0
+HasTakenNone c = is_unasked c ≡ true → c.last ≡ 0
 
 -- ---- requests and parked frames
 
@@ -65,10 +73,11 @@ results_of conn number parked = total (λ (p : ParkedFrame). count (not (is_call
 
 -- ---- the law
 
--- Each request and each parked frame stands with its connection. Of each number as many calls and lookups are answered on a connection as results are parked: one, or none.
+-- Each request and each parked frame stands with its connection, and on one where nobody asks no call was taken. Of each number as many calls and lookups are answered on a connection as results are parked: one, or none.
 pub record AreInPlace (s : State) : Type 0 where
   pub requests : AllOf (λ (q : Request). StandsOn s.connections q.peer q.stage × GoesTo q.peer q.asked) s.requests
   pub parked : AllOf (CameOn s.connections) s.parked
+  pub unasked : AllOf HasTakenNone s.connections
   pub answered : (conn number : ℕ) → answers_of conn number s.requests ≡ results_of conn number s.parked
   pub once : (conn number : ℕ) → results_of conn number s.parked ≤ 1
 

@@ -7,3 +7,7 @@ pub mod Owing
 pub mod AllSpaces
 pub mod Answered
 pub mod Others
+pub mod Idle
+pub mod Awaited
+pub mod Asking
+pub mod Given

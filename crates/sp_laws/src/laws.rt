@@ -2,8 +2,12 @@
 
 ghost use Rattle.sp_laws.specs.AllSpaces.{SpacesAreInOrder};
 ghost use Rattle.sp_laws.specs.Answered.{AnswersAreParked};
+ghost use Rattle.sp_laws.specs.Asking.{EntriesHaveNumbers, TasksAskOfWhatTheyHold};
+ghost use Rattle.sp_laws.specs.Awaited.{ParkedFramesWaitForLeases};
 ghost use Rattle.sp_laws.specs.CallsHeld.{CallsAreHeld};
 ghost use Rattle.sp_laws.specs.Counted.{HoldersAreCounted};
+ghost use Rattle.sp_laws.specs.Given.{IdsAreGiven};
+ghost use Rattle.sp_laws.specs.Idle.{UnaskedConnectionsAreIdle};
 ghost use Rattle.sp_laws.specs.Inbound.{CallsThatComeAreOnce, CallsThatWentStayGone};
 ghost use Rattle.sp_laws.specs.Made.{ReferencesAreMade};
 ghost use Rattle.sp_laws.specs.Others.{ConnectionsAreOpenedOnce, OthersAreDialled};
@@ -75,7 +79,8 @@ pub fn calls_that_went_stay_gone()
 /// After every history that a space took each request that is out, or answered, went to its peer on a
 /// connection that this space dialled there and whose Hello came; each parked call came on a connection
 /// that a peer dialled, each parked result on one that this space dialled. A call or lookup is answered
-/// exactly while its result is parked, once.
+/// exactly while its result is parked, once. On a connection whose Hello has not come, or that this space
+/// dialled, no number of a call came.
 pub fn answers_are_parked()
     ensures { AnswersAreParked }
 {}
@@ -91,4 +96,36 @@ pub fn others_are_dialled()
 /// at most in its space: as a parked frame, as a living task, or as a result that is held until its Ack.
 pub fn connections_are_opened_once()
     ensures { ConnectionsAreOpenedOnce }
+{}
+
+/// After every history that a space took, in which no number of a connection comes again: on a
+/// connection whose Hello has not come, or that this space dialled, no call is parked, lives or has a
+/// result that waits for its Ack; and on one whose Hello has not come, or that a peer dialled, no request
+/// is out or answered.
+pub fn unasked_connections_are_idle()
+    ensures { UnaskedConnectionsAreIdle }
+{}
+
+/// After every history that a space took each parked frame waits for the foreign references in it, each
+/// once, and there is one.
+pub fn parked_frames_wait_for_leases()
+    ensures { ParkedFramesWaitForLeases }
+{}
+
+/// An event that a space does not refuse asks of what a task holds alone: the object and the reference of
+/// an operation that is done, the target and the arguments of a call that is parked, and the result with
+/// which a task ends.
+pub fn tasks_ask_of_what_they_hold()
+    ensures { TasksAskOfWhatTheyHold }
+{}
+
+/// After every history of a space each entry of a client for an object has a number that is remembered.
+pub fn entries_have_numbers()
+    ensures { EntriesHaveNumbers }
+{}
+
+/// After every history of a space the ids of living tasks, of lookups among the requests, and of the
+/// roots and lookups for whose acknowledgement results wait, were given.
+pub fn ids_are_given()
+    ensures { IdsAreGiven }
 {}

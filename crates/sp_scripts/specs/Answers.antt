@@ -105,6 +105,12 @@ NoHello = heard space (dialled (Received 0 (message.Cleaned 1) ∷ [])) ≡
 abbrev pub RefusedDial : Type 0
 RefusedDial = heard space (Lookup peer name ∷ Refused peer ∷ []) ≡ asked_lookup ∷ Answers (ended_by 1 connect_exception ∷ []) ∷ []
 
+-- Dial is given once, whatever is asked of the peer while it is dialled; both lookups go out after its Hello, in their order.
+abbrev pub DialGivenOnce : Type 0
+DialGivenOnce = heard space (Lookup peer name ∷ Lookup peer name ∷ Opened 0 (Some peer) ∷ Lookup peer name ∷ Received 0 (hello peer) ∷ []) ≡
+    asked_lookup ∷ Answers (Started 2 ∷ []) ∷ said_hello ∷ Answers (Started 3 ∷ [])
+    ∷ Answers (Send 0 (message.Lookup 1 name) ∷ Send 0 (message.Lookup 2 name) ∷ Send 0 (message.Lookup 3 name) ∷ []) ∷ []
+
 -- ---- frames that close a connection
 
 -- A dialled end that sends what answers; an Ack of nothing; a Lookup's or a Call's number that is not above the last.
@@ -160,6 +166,20 @@ OrderOfFrames = heard space (dialled (Received 0 (hello peer) ∷ Received 0 (me
     ∷ Answers [] ∷ Answers (Started 4 ∷ Send 0 (message.Lookup 2 name) ∷ []) ∷ Answers (Started 5 ∷ Ready 5 ∷ []) ∷ Answers []
     ∷ Answers (Send 0 (message.Clean 2 false (object 1 ∷ [])) ∷ Send 0 (message.Dirty 3 600000 (object 2 ∷ [])) ∷ [])
     ∷ Answers (Ended 4 (Returned (Some (counter_of peer 2))) ∷ Send 0 (message.Ack 2) ∷ []) ∷ []
+
+-- ---- a dirty call that was overtaken fails
+
+-- A renewal is on its way as the reference is let go, so that a clean call overtakes it, and a new dirty call comes behind. The peer answers the last one alone. As the connection ends, the failure of the renewal does nothing: the lease stands, the clean call is due as soon as the reference is let go, and is an ordinary one.
+abbrev pub FailureOfAnOvertakenDirty : Type 0
+FailureOfAnOvertakenDirty = heard space (dialled (Received 0 (hello peer) ∷ Received 0 (message.Returned 1 0 (Some (counter_of peer 1))) ∷ Received 0 (message.Lease 1 600000)
+    ∷ Lookup peer name ∷ Moment 300000 ∷ RootAck 1 ∷ Received 0 (message.Returned 2 0 (Some (counter_of peer 1))) ∷ Received 0 (message.Lease 4 600000)
+    ∷ Closed 0 ∷ RootAck 2 ∷ Opened 1 (Some peer) ∷ Received 1 (hello peer) ∷ [])) ≡
+    asked_lookup ∷ said_hello ∷ Answers (Send 0 (message.Lookup 1 name) ∷ []) ∷ Answers (Send 0 (message.Dirty 1 600000 (object 1 ∷ [])) ∷ [])
+    ∷ Answers (Ended 1 (Returned (Some (counter_of peer 1))) ∷ Send 0 (message.Ack 1) ∷ [])
+    ∷ Answers (Started 2 ∷ Send 0 (message.Lookup 2 name) ∷ []) ∷ Answers (Send 0 (message.Dirty 2 600000 (object 1 ∷ [])) ∷ [])
+    ∷ Answers (Send 0 (message.Clean 3 false (object 1 ∷ [])) ∷ []) ∷ Answers (Send 0 (message.Dirty 4 600000 (object 1 ∷ [])) ∷ [])
+    ∷ Answers (Ended 2 (Returned (Some (counter_of peer 1))) ∷ Send 0 (message.Ack 2) ∷ [])
+    ∷ Answers [] ∷ Answers (Dial peer ∷ []) ∷ Answers (Send 1 (hello own) ∷ []) ∷ Answers (Send 1 (message.Clean 5 false (object 1 ∷ [])) ∷ []) ∷ []
 
 -- ---- refusals
 

@@ -6,7 +6,7 @@ ghost use Rattle.sp_scripts.specs.FailuresScripts.{AckLost, CallLost, CallReadFa
 ghost use Rattle.sp_scripts.specs.LeasesScripts.{WithdrawnObject, CleanNotRepeatedWithHolder, CleanRepeatedUntilNotYet, LastHolderOfTwo, LateDirtyAfterStrongClean, LookupNeedsAckOfLease, MomentBelow, RenewalFailedAgain, WeakCleanForgets, OvertakenLease, LeaseOfAnOvertakenDirty, ParkedCallIsAReason, KeptFar, ChurnCleans, CycleStays, CellMadeAfar};
 ghost use Rattle.sp_scripts.specs.ThirdSpacesScripts.{ThirdSpace, ThirdSpaceSwept, FetchThroughThird, FreshRoundTrip, EntryBeforeStart};
 ghost use Rattle.sp_scripts.specs.BadLinesScripts.{BadLookupSelf, BadRootKind, BadRootNoHolder, LapsedLeaseIsNoRootArgument, BadSpace};
-ghost use Rattle.sp_scripts.specs.Answers.{RightHello, WrongDigest, WrongId, NoHello, RefusedDial, ClosedByThoseThatAsk, ClosedByThoseThatAnswer, UnfitReplies, OrderOfFrames, Refusals, RefusalsOfLentTasks, HeldByATask, HeldByAField, HeldAfterTheEnd, TooManyReferences};
+ghost use Rattle.sp_scripts.specs.Answers.{RightHello, WrongDigest, WrongId, NoHello, RefusedDial, DialGivenOnce, ClosedByThoseThatAsk, ClosedByThoseThatAnswer, UnfitReplies, OrderOfFrames, FailureOfAnOvertakenDirty, Refusals, RefusalsOfLentTasks, HeldByATask, HeldByAField, HeldAfterTheEnd, TooManyReferences};
 
 /// Values that cross, and how calls end.
 pub fn scripts_of_values()
@@ -91,17 +91,20 @@ pub fn scripts_of_bad_lines()
 {}
 
 /// What one space refuses and answers before peers that send anything: Hellos, frames that close a
-/// connection, replies that do not fit, the order of outputs, refusals, and what a task may hold.
+/// connection, replies that do not fit, the order of outputs, a dirty call that fails after it was
+/// overtaken, refusals, and what a task may hold.
 pub fn answers_of_one_space()
     ensures right_hello { RightHello }
     ensures wrong_digest { WrongDigest }
     ensures wrong_id { WrongId }
     ensures no_hello { NoHello }
     ensures refused_dial { RefusedDial }
+    ensures dial_given_once { DialGivenOnce }
     ensures closed_by_those_that_ask { ClosedByThoseThatAsk }
     ensures closed_by_those_that_answer { ClosedByThoseThatAnswer }
     ensures unfit_replies { UnfitReplies }
     ensures order_of_frames { OrderOfFrames }
+    ensures failure_of_an_overtaken_dirty { FailureOfAnOvertakenDirty }
     ensures refusals { Refusals }
     ensures refusals_of_lent_tasks { RefusalsOfLentTasks }
     ensures held_by_a_task { HeldByATask }

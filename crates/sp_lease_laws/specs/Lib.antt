@@ -1,0 +1,3 @@
+pub mod OnTheWay
+pub mod Numbered
+pub mod Moments
