@@ -21,6 +21,29 @@ struct Case<'a> {
     frames: &'a [u8],
 }
 
+impl<'b> Case<'b> {
+    // The method, whose code has these attributes.
+    fn method<'a>(self, attributes: &'a [AttributeParts<'a>]) -> MethodParts<'a>
+    where
+        'b: 'a,
+    {
+        let code = CodeParts {
+            max_stack: self.max_stack,
+            max_locals: self.max_locals,
+            bytes: b"",
+            lines: self.lines,
+            attributes,
+        };
+        MethodParts {
+            flags: self.flags,
+            name: self.name,
+            descriptor: self.descriptor,
+            code: Some(code),
+            attributes: &[],
+        }
+    }
+}
+
 const STATIC: u16 = 0x0009;
 
 const NO_FRAMES: [u8; 2] = [0, 0];
@@ -47,25 +70,8 @@ fn make_init<'a>(lines: &'a [Line<'a>]) -> Case<'a> {
     }
 }
 
-fn file(alloc: Global, case: Case) -> Result<Vec<u8>, Fail> {
-    let frames = AttributeParts {
-        name: "StackMapTable",
-        bytes: case.frames,
-    };
-    let code = CodeParts {
-        max_stack: case.max_stack,
-        max_locals: case.max_locals,
-        bytes: b"",
-        lines: case.lines,
-        attributes: &[frames],
-    };
-    let method = MethodParts {
-        flags: case.flags,
-        name: case.name,
-        descriptor: case.descriptor,
-        code: Some(code),
-        attributes: &[],
-    };
+// The bytes of the class T with these methods, and with a field `int x`.
+fn class_with(alloc: Global, methods: &[MethodParts]) -> Result<Vec<u8>, Fail> {
     let field = FieldParts {
         flags: 0x0001,
         name: "x",
@@ -79,15 +85,28 @@ fn file(alloc: Global, case: Case) -> Result<Vec<u8>, Fail> {
         superclass: "java/lang/Object",
         interfaces: &[],
         fields: &[field],
-        methods: &[method],
+        methods,
         attributes: &[],
     };
     Ok(class_bytes(alloc, &class)?)
 }
 
+// The bytes of the class T with the method, whose code has these attributes.
+fn file<'a>(
+    alloc: Global,
+    case: Case<'a>,
+    attributes: &'a [AttributeParts<'a>],
+) -> Result<Vec<u8>, Fail> {
+    class_with(alloc, &[case.method(attributes)])
+}
+
 // The number and the offset of what is wrong with the method: 0 at 0 where nothing is.
 fn checked(alloc: Global, case: Case) -> Result<(u8, usize), Fail> {
-    let bytes = file(alloc, case)?;
+    let frames = AttributeParts {
+        name: "StackMapTable",
+        bytes: case.frames,
+    };
+    let bytes = file(alloc, case, &[frames])?;
     let mut files = Vec::new(alloc);
     files.push(read_class(alloc, &bytes)?)?;
     let linked = link(alloc, ClassSet::build(alloc, files)?)?;
