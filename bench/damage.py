@@ -50,7 +50,8 @@ def turn_count(choose, world, pool, code):
 
 
 def drop(choose, world, pool, code):
-    code.items.remove(choose.choice(insns_of(code)))
+    if len(insns_of(code)) > 1:
+        code.items.remove(choose.choice(insns_of(code)))
 
 
 def repeat(choose, world, pool, code):
@@ -65,7 +66,7 @@ def swap(choose, world, pool, code):
 
 def retarget(choose, world, pool, code):
     found = [it for it in insns_of(code) if it.targets]
-    if found:
+    if found and framed(code):
         insn = choose.choice(found)
         insn.targets[choose.randrange(len(insn.targets))] = choose.choice(framed(code))
 

@@ -1,14 +1,14 @@
 """Random methods that type check, over the whole profile: each instruction is chosen by the frame before it."""
 
 from class_writer import ARRAY, INT, NULL, THIS, TOP, Code, Insn, Label, descriptor_of
-from random_methods import BINARY, UNARY, u1, u2
+from random_methods import u1, u2
 
 OBJECT, THROWABLE = "java/lang/Object", "java/lang/Throwable"
 ACONST_NULL, ILOAD, ALOAD, IALOAD, ISTORE, ASTORE, IASTORE = 1, 21, 25, 46, 54, 58, 79
 POP, POP2, DUP, DUP_X1, DUP_X2, DUP2, DUP2_X1, DUP2_X2, SWAP = range(87, 96)
 IINC, GOTO, TABLESWITCH, LOOKUPSWITCH, IRETURN, ARETURN, RETURN = 132, 167, 170, 171, 172, 176, 177
 GETSTATIC, GETFIELD, PUTFIELD, INVOKEVIRTUAL, INVOKESPECIAL, INVOKESTATIC, INVOKEINTERFACE = 178, 180, 181, 182, 183, 184, 185
-NEW, NEWARRAY, ARRAYLENGTH, ATHROW, CHECKCAST, INSTANCEOF, WIDE, IFNULL, IFNONNULL, GOTO_W = 187, 188, 190, 191, 192, 193, 196, 198, 199, 200
+NEW, NEWARRAY, ARRAYLENGTH, ATHROW, CHECKCAST, INSTANCEOF, WIDE, GOTO_W = 187, 188, 190, 191, 192, 193, 196, 200
 # What a branch takes from the stack: so many words, which all are ints or all references.
 BRANCHES = [(range(153, 159), 1, True), (range(159, 165), 2, True), (range(165, 167), 2, False), (range(198, 200), 1, False)]
 # How each instruction rearranges the words on top, the topmost last: how many it takes, and which of them it puts.
@@ -37,6 +37,8 @@ class Body:
         # Whether the receiver of an `<init>` is not initialized, and whether an instruction comes here from the one before.
         self.flag, self.reached = method.is_init, True
         self.items, self.placed, self.pending = [], [], []
+        # The class of what each `new` made.
+        self.made = {}
 
     # ---- instructions
 
@@ -100,7 +102,7 @@ class Body:
 
     def new(self, name):
         insn = Insn(NEW, u2(self.pool.class_entry(name)))
-        self.made = {**getattr(self, "made", {}), insn: name}
+        self.made[insn] = name
         self.act(insn, 0, [insn])
 
     def make_all(self, kinds, depth=0):

@@ -135,9 +135,9 @@ class World:
 
 
 def spell(choose, world, shape, is_damaged):
-    """The bytes of a class; damaged in one of its methods."""
+    """The bytes of a class; damaged in one of its methods, and now and then by another superclass than its methods know."""
     pool = Pool()
-    fields = [(field_flags(it, shape), it.name, descriptor_of(it.kind), constant(pool, it)) for it in shape.fields]
+    fields = [(field_flags(it), it.name, descriptor_of(it.kind), constant(pool, it)) for it in shape.fields]
     bodies = {}
     for method in shape.methods:
         if not method.flags & ABSTRACT:
@@ -145,10 +145,11 @@ def spell(choose, world, shape, is_damaged):
     if is_damaged and bodies:
         damage(choose, world, pool, choose.choice(list(bodies.values())))
     methods = [(it.flags, it.name, it.descriptor(), bodies[it].spell(choose, pool) if it in bodies else b"") for it in shape.methods]
-    return class_bytes(pool, shape.flags, shape.name, shape.superclass, shape.interfaces, fields, methods)
+    superclass = OBJECT if is_damaged and choose.random() < 0.1 else shape.superclass
+    return class_bytes(pool, shape.flags, shape.name, superclass, shape.interfaces, fields, methods)
 
 
-def field_flags(field, shape):
+def field_flags(field):
     return PUBLIC | (STATIC | FINAL if field.is_static else 0)
 
 
