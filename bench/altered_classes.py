@@ -23,12 +23,15 @@ class Layout:
         self.entries = self.number(2)
         self.texts = {}
         self.code, self.frames, self.limits = [], [], []
+        # The code of each method, by its name and descriptor.
+        self.code_of, self.member = {}, b""
         self.pass_pool()
         self.at += 6
         self.skip(2 * self.number(2))
         for _ in range(2):
             for _ in range(self.number(2)):
-                self.at += 6
+                self.skip(2)
+                self.member = self.texts.get(self.number(2), b"") + self.texts.get(self.number(2), b"")
                 self.pass_attributes()
 
     def number(self, length):
@@ -59,6 +62,7 @@ class Layout:
                 self.at += 4
                 size = self.number(4)
                 self.code.append((self.at, size))
+                self.code_of[self.member] = self.code[-1]
                 self.at += size
                 self.skip(8 * self.number(2))
                 self.pass_attributes()

@@ -21,8 +21,8 @@ public class Agreement {
         } catch (LinkageError fault) {
             return "refused";
         }
-        // What does not end in rmispace within its fuel is not called.
-        if (words[1].equals("spent")) return "spent";
+        // What does not end in rmispace within its fuel, or does not start there, is not called.
+        if (words[1].equals("spent") || words[1].equals("outside")) return words[1];
         Object[] values = new Object[words.length - 3];
         for (int place = 0; place < values.length; place++) values[place] = Integer.parseInt(words[place + 3]);
         Method method = found.getDeclaredMethods()[0];

@@ -5,23 +5,30 @@ import java.io.InputStreamReader;
 import java.net.URL;
 import java.net.URLClassLoader;
 
-/** Links the class that each line of the input names, in the folder that it names first, and prints whether the JVM takes it. */
+/** Links the classes that each line of the input names after their folder, and prints those that the JVM refuses. */
 public final class Verification {
     public static void main(String[] words) throws IOException {
+        boolean says = words.length > 0 && words[0].equals("--why");
         BufferedReader lines = new BufferedReader(new InputStreamReader(System.in));
         for (String line = lines.readLine(); line != null; line = lines.readLine()) {
             String[] asked = line.split(" ");
-            System.out.println(linked(new File(asked[0]), asked[1]));
+            System.out.println(refused(asked, says).trim());
         }
     }
 
     /** A class is verified as it is initialized (JVMS 5.4.1); the class loader has no parent but the boot loader. */
-    private static String linked(File folder, String name) throws IOException {
-        try (URLClassLoader loader = new URLClassLoader(new URL[] {folder.toURI().toURL()}, null)) {
-            Class.forName(name, true, loader);
-            return "taken";
-        } catch (ClassNotFoundException | LinkageError refused) {
-            return "refused";
+    private static String refused(String[] asked, boolean says) throws IOException {
+        StringBuilder refused = new StringBuilder();
+        URL[] folder = {new File(asked[0]).toURI().toURL()};
+        try (URLClassLoader loader = new URLClassLoader(folder, null)) {
+            for (int place = 1; place < asked.length; place++) {
+                try {
+                    Class.forName(asked[place], true, loader);
+                } catch (ClassNotFoundException | LinkageError fault) {
+                    refused.append(says ? fault.toString() : asked[place]).append(' ');
+                }
+            }
         }
+        return refused.toString();
     }
 }

@@ -1,0 +1,88 @@
+"""Compares class sets in rmispace and in the JDK's verifier, and prints each difference and a count.
+
+Of what rmispace accepts the JDK refuses no class, and a class that rmispace refuses by a rule of type checking (50 to
+68) the JDK refuses. What rmispace refuses by another rule is not compared: its profile is smaller than the JVM's, and
+the JVM resolves no name before code runs. Where the JDK takes what the standard or the profile refuses in one of the
+ways of KNOWN, that is counted apart: docs/DECISIONS.md says why. The status is 1 if there is any other difference.
+
+Words: the built program, the folder of the driver's classes, and a file with a line for each set: its folder, and the
+names of the classes that the JDK links.
+"""
+
+import collections
+import os
+import re
+import subprocess
+import sys
+
+from altered_classes import Layout
+
+REFUSED = re.compile(r"refused ([^.]+)\.(\S+) at (\d+): (5[0-4]|6[0-8]) ")
+NEW, RETURN = 0xBB, 0xB1
+KNOWN = {
+    "kind": "a frame names a type out of the profile or the set",
+    "new": "a new with its older object on the stack",
+    "return": "a return with an uninitialized receiver, in no <init>",
+}
+
+
+def answer_of(program, folder):
+    """What rmispace says of a class set."""
+    ended = subprocess.run([program, "check", folder], stdin=subprocess.DEVNULL, capture_output=True, text=True)
+    return (ended.stdout + ended.stderr).strip().replace(folder + "/", "")
+
+
+def opcode_at(folder, name, method, offset):
+    with open(os.path.join(folder, name + ".class"), "rb") as file:
+        content = file.read()
+    return content[Layout(content).code_of[method.encode()][0] + offset]
+
+
+def known(folder, name, method, offset, number):
+    """The way in which the JDK is known to take what rmispace refuses, or none."""
+    if number == 54:
+        return "kind"
+    if number != 63:
+        return None
+    opcode = opcode_at(folder, name, method, offset)
+    return "new" if opcode == NEW else "return" if opcode == RETURN and not method.startswith("<init>") else None
+
+
+def verdict(folder, ours, refused):
+    """How the two stand to each other: 'accepted', 'typed', 'others', a word of KNOWN, or 'differ'."""
+    if ours.startswith("accepted"):
+        return "differ" if refused else "accepted"
+    found = REFUSED.match(ours)
+    if not found:
+        return "others"
+    name, method = found[1], found[2]
+    if name.replace("/", ".") in refused:
+        return "typed"
+    return known(folder, name, method, int(found[3]), int(found[4])) or "differ"
+
+
+def main(program, driver, asked):
+    with open(asked) as file:
+        lines = file.read().splitlines()
+    with open(asked) as file:
+        theirs = subprocess.run(["java", "-cp", driver, "Verification"], stdin=file, capture_output=True, text=True, check=True)
+    counts = collections.Counter()
+    for line, refused in zip(lines, theirs.stdout.split("\n")):
+        folder = line.split(" ")[0]
+        ours = answer_of(program, folder)
+        told = verdict(folder, ours, refused.split())
+        counts[told] += 1
+        if told == "differ":
+            print(f"{ours}, refused by the JDK: {refused or 'none'}, {line}")
+    for word, says in KNOWN.items():
+        if counts[word]:
+            print(f"{counts[word]} taken by the JDK: {says}")
+    print(
+        f"{len(lines)} class sets, {counts['accepted']} accepted, {counts['typed']} refused by type checking, "
+        f"{counts['others']} by other rules, {counts['differ']} differences"
+    )
+    return 1 if counts["differ"] else 0
+
+
+if __name__ == "__main__":
+    sys.exit(main(*sys.argv[1:4]))
