@@ -1,8 +1,7 @@
 -- What the linker's search finds is what the definitions select.
-use Rattle.std.proofs.Common.{◌≡◌, ◌⊎◌, inl, inr, ℕ, zero, suc, ◌<◌, ◌≤◌, ◌++◌, Bool, true, false, Option, Some, None, List, [], ◌∷◌, length, refl, sym, subst, ap, ◌∙◌, arith, append-nil}
+use Rattle.std.proofs.Common.{◌≡◌, inl, ℕ, zero, suc, ◌<◌, ◌++◌, Option, Some, None, List, [], ◌∷◌, length, refl, subst, ap, ◌∙◌, arith, append-nil}
 use Rattle.std.specs.Prelude.{IsSomeAnd, IfSome, option_to_list, slice_get, option_and_then, option_map}
 use Rattle.std.specs.Option.{option_map_or}
-use Rattle.cf_reader.specs.declared.class_file.Code.{Code}
 use Rattle.cf_reader.specs.declared.class_file.Method.{Method}
 use Rattle.std.proofs.lemmas.Option.{slice_get_within}
 use Rattle.cls_search.proofs.Heights.{low_ranks}

@@ -1,22 +1,19 @@
 -- The slot of a field is its index among the fields of an object.
-use Rattle.std.proofs.Common.{◌≡◌, ◌≢◌, ◌⊎◌, inl, inr, ℕ, zero, suc, ◌+◌, ◌<◌, ◌≤◌, ◌++◌, Bool, true, false, Option, Some, None, List, [], ◌∷◌, length, refl, sym, subst, ap, ◌∙◌, arith}
-use Rattle.std.specs.Prelude.{◌&&◌, nat_eq, if◌then◌else◌, IsSomeAnd, IsTrue, slice_get, option_map, option_and_then}
-use Rattle.std.specs.Option.{option_map_or}
+use Rattle.std.proofs.Common.{◌≡◌, ◌≢◌, inl, ℕ, zero, suc, ◌+◌, ◌<◌, ◌≤◌, ◌++◌, Bool, true, false, Option, Some, List, [], ◌∷◌, length, refl, sym, subst, ap, ◌∙◌, arith}
+use Rattle.std.specs.Prelude.{◌&&◌, nat_eq, if◌then◌else◌, IsTrue, slice_get, option_map}
 use Rattle.std.proofs.lemmas.Bool.{eq-eqb, eqb-true}
 use Rattle.cf_reader.specs.declared.class_file.Field.{Field}
 use Rattle.cls_search.proofs.Heights.{low_ranks}
-use Rattle.cls_search.specs.FieldSearches.{field_at}
 use Rattle.cls_search.specs.Searches.{IsRanking}
 use Rattle.cls_search.specs.declared.fields.FieldPlace.{FieldPlace}
 use Rattle.cls_set.proofs.Hierarchy.{some_and, true_false, same_some, none_some}
 use Rattle.cls_set.specs.Sets.{IsClassSet}
-use Rattle.cls_set.specs.Subtypes.{Extends}
 use Rattle.cls_set.specs.declared.class.Class.{Class}
 use Rattle.space_ids.specs.declared.ids.ClassId.{ClassId}
 use Rattle.cls_link.specs.Fields as fields
 use Rattle.cls_link.specs.Fields.{is_instance, instance_fields, HasFields, IsFieldSlot}
 use Rattle.cls_link.specs.declared.linked.FieldSlot.{FieldSlot}
-use Rattle.vm_code.specs.Fields.{fields_up, fields_of, is_place, index_of, slot_of}
+use Rattle.vm_code.specs.Fields.{fields_up, is_place, index_of, slot_of}
 
 -- no field among some is this one
 abbrev IsAmongNone : FieldPlace → List FieldPlace → Type 0

@@ -1,16 +1,16 @@
 -- The test of a subtype passes for subtypes alone, and for each of them.
 use Rattle.std.proofs.Common.{◌≡◌, ◌↔◌, ◌⊎◌, inl, inr, ℕ, zero, suc, ◌<◌, ◌≤◌, ◌++◌, Bool, true, false, Option, Some, None, List, [], ◌∷◌, IsTrue, length, refl, sym, subst, ap, ◌∙◌, arith}
-use Rattle.std.specs.Prelude.{◌||◌, ◌&&◌, nat_eq, nat_lt, IsSomeAnd, Contains, option_to_list, slice_get, option_and_then}
+use Rattle.std.specs.Prelude.{◌||◌, nat_eq, nat_lt, IsSomeAnd, Contains, option_to_list, slice_get}
 use Rattle.std.specs.List.{list_any}
 use Rattle.std.specs.Option.{option_map_or}
 use Rattle.std.proofs.lemmas.Bool.{eq-eqb}
 use Rattle.std.proofs.lemmas.List.Elements.{Contains-append_cases, Contains-append_left, Contains-append_right}
 use Rattle.cls_search.proofs.Heights.{low_ranks}
 use Rattle.cls_search.specs.Searches.{IsRanking, supertypes_of}
-use Rattle.cls_set.proofs.Hierarchy.{equal, true_false, subtype_first, same_subtype, some_and, at_some, some_of}
+use Rattle.cls_set.proofs.Hierarchy.{true_false, subtype_first, same_subtype}
 use Rattle.cls_set.specs.Sets.{IsClassSet}
-use Rattle.cls_set.specs.Subtypes.{Extends, Declares, IsDirectSupertype, IsSubtype}
-use Rattle.cls_set.specs.Subtypes.IsSubtype.{itself, superclass, superinterface, through}
+use Rattle.cls_set.specs.Subtypes.{IsDirectSupertype, IsSubtype}
+use Rattle.cls_set.specs.Subtypes.IsSubtype.{superclass, superinterface, through}
 use Rattle.cls_set.specs.declared.class.Class.{Class}
 use Rattle.space_ids.specs.declared.ids.ClassId.{ClassId}
 use Rattle.vm_code.specs.Classes.{is_under, is_subtype}

@@ -1,4 +1,4 @@
-use Rattle.std.proofs.Common.{◌<◌, length, arith}
+use Rattle.std.proofs.Common.{arith}
 use Rattle.vm_code.proofs.Subtypes.{subtype_test}
 use Rattle.vm_code.proofs.casts.is_subtype.Goals as goal
 

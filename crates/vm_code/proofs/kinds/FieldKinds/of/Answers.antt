@@ -1,8 +1,7 @@
 use Rattle.std.proofs.Common.{◌≡◌, ◌<◌, ◌+◌, ◌++◌, [], ◌∷◌, length, sym, ap, subst, ◌∙◌, arith}
-use Rattle.std.specs.Prelude.{slice_get, List}
+use Rattle.std.specs.Prelude.{slice_get}
 use Rattle.std.proofs.lemmas.List.{length-append}
 use Rattle.space_ids.specs.declared.ids.ClassId.{ClassId}
-use Rattle.vm_heap.specs.declared.heap.WordKind.{WordKind}
 use Rattle.vm_code.specs.Fields.{kinds_of}
 use Rattle.vm_code.proofs.HeldKinds.{kinds_in, kinds_pushed, kinds_all}
 use Rattle.vm_code.proofs.kinds.FieldKinds.of.Goals as goal
