@@ -1,0 +1,4 @@
+pub mod Subjects
+pub mod Objects
+pub mod Methods
+pub mod Owing
