@@ -2,3 +2,4 @@ pub mod Subjects
 pub mod Objects
 pub mod Methods
 pub mod Owing
+pub mod LookUps

@@ -1,12 +1,21 @@
 //! The laws of the worlds of class sets.
 
-ghost use Rattle.std.specs.Prelude.{ℕ};
+ghost use Rattle.std.specs.Prelude.{◌≡◌, ℕ, Some, List, slice_get};
+ghost use Rattle.std.specs.List.{AllZip};
+ghost use Rattle.cf_reader.specs.declared.class_file.Field.{Field};
 ghost use Rattle.cls_link.specs.Links.{Links, AreLinks};
+ghost use Rattle.cls_search.specs.FieldSearches.{field_at};
+ghost use Rattle.cls_search.specs.declared.fields.FieldPlace.{FieldPlace};
+ghost use Rattle.cls_set.specs.declared.class.Class.{Class};
+ghost use Rattle.space_ids.specs.declared.ids.ClassId.{ClassId};
 ghost use Rattle.ver_check.specs.Acceptance.{AreSafe};
 ghost use Rattle.ver_frames.specs.Frames.{Frame};
-ghost use Rattle.vm_typing.specs.Owed.{Owed};
+ghost use Rattle.ver_frames.specs.Types.{field_vtype};
+ghost use Rattle.vm_code.specs.Fields.{kinds_of, slot_of};
+ghost use Rattle.vm_heap.specs.declared.heap.WordKind.{WordKind};
+ghost use Rattle.vm_typing.specs.Owed.{HasKind, Owed};
 ghost use Rattle.vm_world.specs.Worlds.{world_of, AreTyped};
-ghost use Rattle.vm_world.specs.Files.{AreAsRead};
+ghost use Rattle.vm_world.specs.Files.{AreAsRead, types_of};
 
 /// A set that is linked and checked, of classes that are as files of the profile are, meets what is owed
 /// of its world: whatever frames its methods are typed by.
@@ -17,4 +26,11 @@ pub fn checked_sets_meet_what_is_owed()
 /// The methods of a checked set are typed by frames.
 pub fn checked_sets_are_typed()
     ensures { (links : Links) → AreLinks links → AreSafe links → (frames : ℕ → ℕ → Frame) × AreTyped links frames }
+{}
+
+/// What code finds of fields is of the types of the world: what a new object holds in its fields is of
+/// their types, and a field is kept in the slot that has its type.
+pub fn fields_are_of_their_types()
+    ensures held { (classes : List Class) → AreAsRead classes → (class : ClassId) (kinds : List WordKind) → kinds_of classes class ≡ Some kinds → AllZip HasKind (types_of classes class) kinds }
+    ensures kept { (classes : List Class) (field : FieldPlace) (f : Field) (slot : ℕ) → field_at classes field ≡ Some f → slot_of classes field ≡ Some slot → slice_get (types_of classes field.class) slot ≡ Some (field_vtype classes f.kind) }
 {}
