@@ -3,3 +3,4 @@ pub mod Objects
 pub mod Methods
 pub mod Owing
 pub mod LookUps
+pub mod Callees

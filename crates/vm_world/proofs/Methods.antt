@@ -73,7 +73,7 @@ init_arguments m static = rw static (on (begins_uninit m))
     on false = refl
 
 -- the words that a method is passed are the first local variables of its first frame
-parameters_are : (m : Subject) (frames : ℕ → Frame) → (is_init m ≡ true → is_static m.method ≡ false) → parameters (method_type m frames) ≡ argument_types m
+pub parameters_are : (m : Subject) (frames : ℕ → Frame) → (is_init m ≡ true → is_static m.method ≡ false) → parameters (method_type m frames) ≡ argument_types m
 parameters_are m frames inits = on (is_init m) refl
   where
     on : (b : Bool) → is_init m ≡ b

@@ -12,7 +12,7 @@ use Rattle.ver_frames.specs.Frames.{Frame}
 use Rattle.ver_frames.specs.Method.{Subject}
 use Rattle.vm_world.specs.Worlds.{subject_at, IsTypedBy, AreTyped}
 
-passes_both : {A B : Type 0} (o : Option A) (f : A → Option B) (b : B) → option_and_then f o ≡ Some b → (a : A) × ((o ≡ Some a) × (f a ≡ Some b))
+pub passes_both : {A B : Type 0} (o : Option A) (f : A → Option B) (b : B) → option_and_then f o ≡ Some b → (a : A) × ((o ≡ Some a) × (f a ≡ Some b))
 passes_both None f b e = absurd (cc)
 passes_both (Some a) f b e = (a, (refl, e))
 

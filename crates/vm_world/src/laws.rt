@@ -1,9 +1,10 @@
 //! The laws of the worlds of class sets.
 
-ghost use Rattle.std.specs.Prelude.{◌≡◌, ℕ, Some, List, slice_get};
+ghost use Rattle.std.specs.Prelude.{◌≡◌, ℕ, Bool, Some, List, slice_get};
 ghost use Rattle.std.specs.List.{AllZip};
 ghost use Rattle.cf_reader.specs.declared.class_file.Field.{Field};
 ghost use Rattle.cls_link.specs.Links.{Links, AreLinks};
+ghost use Rattle.cls_link.specs.declared.linked.MethodId.{MethodId};
 ghost use Rattle.cls_search.specs.FieldSearches.{field_at};
 ghost use Rattle.cls_search.specs.declared.fields.FieldPlace.{FieldPlace};
 ghost use Rattle.cls_set.specs.declared.class.Class.{Class};
@@ -11,9 +12,11 @@ ghost use Rattle.space_ids.specs.declared.ids.ClassId.{ClassId};
 ghost use Rattle.ver_check.specs.Acceptance.{AreSafe};
 ghost use Rattle.ver_frames.specs.Frames.{Frame};
 ghost use Rattle.ver_frames.specs.Types.{field_vtype};
+ghost use Rattle.vm_act.specs.declared.calls.Callee.{Callee};
 ghost use Rattle.vm_code.specs.Fields.{kinds_of, slot_of};
+ghost use Rattle.vm_code.specs.Methods.{callee_of};
 ghost use Rattle.vm_heap.specs.declared.heap.WordKind.{WordKind};
-ghost use Rattle.vm_typing.specs.Owed.{HasKind, Owed};
+ghost use Rattle.vm_typing.specs.Owed.{HasKind, IsCallee, Owed};
 ghost use Rattle.vm_world.specs.Worlds.{world_of, AreTyped};
 ghost use Rattle.vm_world.specs.Files.{AreAsRead, types_of};
 
@@ -33,4 +36,10 @@ pub fn checked_sets_are_typed()
 pub fn fields_are_of_their_types()
     ensures held { (classes : List Class) → AreAsRead classes → (class : ClassId) (kinds : List WordKind) → kinds_of classes class ≡ Some kinds → AllZip HasKind (types_of classes class) kinds }
     ensures kept { (classes : List Class) (field : FieldPlace) (f : Field) (slot : ℕ) → field_at classes field ≡ Some f → slot_of classes field ≡ Some slot → slice_get (types_of classes field.class) slot ≡ Some (field_vtype classes f.kind) }
+{}
+
+/// What a call is told of a method agrees with the types of the method, if what it is told of the
+/// receiver does.
+pub fn callees_are_of_their_types()
+    ensures { (links : Links) (frames : ℕ → ℕ → Frame) → AreLinks links → AreAsRead links.classes → (id : MethodId) (begins_uninit : Bool) (callee : Callee) → callee_of links.classes begins_uninit id ≡ Some callee → begins_uninit ≡ ((world_of links frames).method id.0).begins_uninit → IsCallee (world_of links frames) callee }
 {}
