@@ -1,6 +1,6 @@
 -- What a call is told of a method agrees with the method's types.
 use Rattle.std.proofs.Common.{◌≡◌, ℕ, suc, ◌++◌, Bool, true, false, Option, Some, None, [], ◌∷◌, length, refl, sym, subst, ap, ◌∙◌}
-use Rattle.std.specs.Prelude.{if◌then◌else◌, map, nat_le, MatchOption, IsSomeAnd, option_map, slice_get}
+use Rattle.std.specs.Prelude.{if◌then◌else◌, bytes_eq, codes, map, nat_le, MatchOption, IsSomeAnd, option_map, slice_get}
 use Rattle.std.specs.Option.{option_map_or}
 use Rattle.std.proofs.lemmas.List.{length-map}
 use Rattle.std.proofs.lemmas.Option.{get_or_from_slice_get, slice_get_within}
@@ -26,7 +26,7 @@ use Rattle.vm_typing.specs.World.{MethodType, parameters}
 use Rattle.vm_code.specs.Methods.{words_passed, callee_with, callee_of}
 use Rattle.vm_world.specs.Files.{AreAsRead}
 use Rattle.vm_world.specs.Worlds.{is_init, subject_at, method_type, world_of}
-use Rattle.vm_world.proofs.Methods.{parameters_are}
+use Rattle.vm_world.proofs.Methods.{begins_not, parameters_are}
 use Rattle.vm_world.proofs.Subjects.{passes_both, stands}
 
 maps_some : {A B : Type 0} (o : Option A) (f : A → B) (b : B) → option_map f o ≡ Some b → (a : A) × ((o ≡ Some a) × (f a ≡ b))
@@ -120,3 +120,22 @@ module _ (links : Links) (frames : ℕ → ℕ → Frame) (are : AreLinks links)
       let method = passes_both (method_at links.classes id) _ callee e in
       let code = passes_both method.0.code _ callee method.1.1 in
       subst (IsCallee (world_of links frames)) (made id begins method.0 code.0 callee code.1.1) (agrees id begins method.0 code.0 (found links are id method.0 code.0 method.1.0 code.1.0) same)
+
+  -- a method that is no `<init>` begins with an initialised receiver
+  begins_initialised : (id : MethodId) (method : Method) (code : Code) → Found links id method code → bytes_eq method.name (codes "<init>") ≡ false
+      → false ≡ ((world_of links frames).method id.0).begins_uninit
+  begins_initialised id method code f other =
+      let type : type_in id.0 (subject_at links id.0) ≡ method_type f.m (frames id.0) = ap (type_in id.0) f.at in
+      let named : is_init f.m ≡ false = ap (λ (n : Method). bytes_eq n.name (codes "<init>")) f.declared ∙ other in
+      sym (ap (λ (t : MethodType). t.begins_uninit) type ∙ begins_not f.m named)
+
+  pub plain_callee_agrees : (id : MethodId) (method : Method) (callee : Callee) → method_at links.classes id ≡ Some method → bytes_eq method.name (codes "<init>") ≡ false
+      → callee_of links.classes false id ≡ Some callee → IsCallee (world_of links frames) callee
+  unfolding callee_of
+  plain_callee_agrees id method callee is other e =
+      let one = passes_both (method_at links.classes id) _ callee e in
+      let same : one.0 ≡ method = same_some (sym one.1.0 ∙ is) in
+      let code = passes_both one.0.code _ callee one.1.1 in
+      let f = found links are id one.0 code.0 one.1.0 code.1.0 in
+      subst (IsCallee (world_of links frames)) (made id false one.0 code.0 callee code.1.1)
+      (agrees id false one.0 code.0 f (begins_initialised id one.0 code.0 f (ap (λ (n : Method). bytes_eq n.name (codes "<init>")) same ∙ other)))

@@ -53,7 +53,7 @@ flows_in body frames typing place given (Some declared) is enters =
     subst (λ (f : Frame). IsFrameAssignable body.classes given f) (sym (typing.declared place declared is)) enters
 
 -- the receiver of an `<init>`, and that of another method
-begins_not : (m : Subject) → is_init m ≡ false → begins_uninit m ≡ false
+pub begins_not : (m : Subject) → is_init m ≡ false → begins_uninit m ≡ false
 unfolding begins_uninit
 begins_not m e = rw e (on (not (is_static m.method)) (not m.class.is_built_in))
   where

@@ -1,9 +1,10 @@
 //! The laws of the worlds of class sets.
 
-ghost use Rattle.std.specs.Prelude.{◌≡◌, ℕ, Bool, Some, List, slice_get};
+ghost use Rattle.std.specs.Prelude.{◌≡◌, ℕ, Bool, false, Some, List, bytes_eq, codes, slice_get};
 ghost use Rattle.std.specs.List.{AllZip};
 ghost use Rattle.cf_reader.specs.declared.class_file.Field.{Field};
-ghost use Rattle.cls_link.specs.Links.{Links, AreLinks};
+ghost use Rattle.cf_reader.specs.declared.class_file.Method.{Method};
+ghost use Rattle.cls_link.specs.Links.{Links, AreLinks, method_at};
 ghost use Rattle.cls_link.specs.declared.linked.MethodId.{MethodId};
 ghost use Rattle.cls_search.specs.FieldSearches.{field_at};
 ghost use Rattle.cls_search.specs.declared.fields.FieldPlace.{FieldPlace};
@@ -39,7 +40,8 @@ pub fn fields_are_of_their_types()
 {}
 
 /// What a call is told of a method agrees with the types of the method, if what it is told of the
-/// receiver does.
+/// receiver does. That of a method which is no `<init>` begins initialised.
 pub fn callees_are_of_their_types()
-    ensures { (links : Links) (frames : ℕ → ℕ → Frame) → AreLinks links → AreAsRead links.classes → (id : MethodId) (begins_uninit : Bool) (callee : Callee) → callee_of links.classes begins_uninit id ≡ Some callee → begins_uninit ≡ ((world_of links frames).method id.0).begins_uninit → IsCallee (world_of links frames) callee }
+    ensures any { (links : Links) (frames : ℕ → ℕ → Frame) → AreLinks links → AreAsRead links.classes → (id : MethodId) (begins_uninit : Bool) (callee : Callee) → callee_of links.classes begins_uninit id ≡ Some callee → begins_uninit ≡ ((world_of links frames).method id.0).begins_uninit → IsCallee (world_of links frames) callee }
+    ensures plain { (links : Links) (frames : ℕ → ℕ → Frame) → AreLinks links → AreAsRead links.classes → (id : MethodId) (method : Method) (callee : Callee) → method_at links.classes id ≡ Some method → bytes_eq method.name (codes "<init>") ≡ false → callee_of links.classes false id ≡ Some callee → IsCallee (world_of links frames) callee }
 {}
