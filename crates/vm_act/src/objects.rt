@@ -38,7 +38,7 @@ impl Machine {
 
     /// getfield.
     #[inline(always)]
-    pub fn get_field(&mut self, slot: u16) -> Flow
+    pub fn get_field(&mut self, slot: u32) -> Flow
         requires index { self.old.stack.frame.index + 1 < 2 ^ 64 }
         requires fits { NotStuck (get_field slot self.old) }
         ensures does { Does (get_field slot self.old) result self.new }
@@ -56,7 +56,7 @@ impl Machine {
 
     /// putfield.
     #[inline(always)]
-    pub fn put_field(&mut self, slot: u16) -> Flow
+    pub fn put_field(&mut self, slot: u32) -> Flow
         requires index { self.old.stack.frame.index + 1 < 2 ^ 64 }
         requires fits { NotStuck (put_field slot self.old) }
         ensures does { Does (put_field slot self.old) result self.new }
@@ -68,7 +68,7 @@ impl Machine {
     }
 
     #[inline(always)]
-    fn put_in(&mut self, object: Word, slot: u16, word: Word) -> Flow
+    fn put_in(&mut self, object: Word, slot: u32, word: Word) -> Flow
         requires index { self.old.stack.frame.index + 1 < 2 ^ 64 }
         requires fits { NotStuck (on_own_object (put_at slot word self.old) object) }
         ensures does { Does (on_own_object (put_at slot word self.old) object) result self.new }
@@ -81,7 +81,7 @@ impl Machine {
     }
 
     #[inline(always)]
-    fn put_at(&mut self, address: usize, slot: u16, word: Word) -> Flow
+    fn put_at(&mut self, address: usize, slot: u32, word: Word) -> Flow
         requires index { self.old.stack.frame.index + 1 < 2 ^ 64 }
         requires fits { NotStuck (put_at slot word self.old address) }
         ensures does { Does (put_at slot word self.old address) result self.new }

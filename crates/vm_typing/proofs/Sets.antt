@@ -82,7 +82,7 @@ module _ (classes : List Class) (set : IsClassSet classes) (object : ClassId) (n
   object_above c inside = all_below (suc (set.rank c)) c (omega arith) inside
 
   -- the superclass of an interface is java/lang/Object
-  above_interface : (b m : ClassId) (k : Class) → slice_get classes b.0 ≡ Some k → IsInterface k → Extends classes b m → object ≡ m
+  pub above_interface : (b m : ClassId) (k : Class) → slice_get classes b.0 ≡ Some k → IsInterface k → Extends classes b m → object ≡ m
   above_interface b m k is interface up =
       let within : b.0 < length classes = slice_get_within classes b.0 k is in
       let same : get_or classes b.0 k ≡ k = same_some (sym (slice_get-get_or classes b.0 k within) ∙ is) in

@@ -1,0 +1,4 @@
+pub mod Subtypes
+pub mod Selections
+pub mod Slots
+pub mod HeldKinds

@@ -1,0 +1,62 @@
+//! The instructions of linked code (JVMS 6.5), each by the function of its group.
+ghost use Rattle.std.specs.Prelude.{◌≡◌, ◌+◌, ◌<◌, ◌^◌};
+ghost use Rattle.vm_act.specs.Next.{NotStuck, Does};
+ghost use Rattle.vm_code.specs.Act.{act};
+ghost use Rattle.vm_code.specs.Fields.{AreKinds};
+
+use crate::calls::{call, call_interface};
+use crate::casts::{check_cast, instance_of, throw_top};
+use crate::fields::{get_field, new_object, put_field};
+use crate::ints::{binary, if_compare, if_zero, unary};
+use crate::kinds::FieldKinds;
+use crate::operands::{
+    act_on_array, compare, is_equal, rearrange, return_value, switch, word_kind,
+};
+use cls_link::{Linked, LinkedInsn};
+use vm_act::{Flow, Machine};
+
+/// Makes the step of an instruction of the running method.
+#[inline(always)]
+pub fn act(machine: &mut Machine, linked: &Linked, kinds: &FieldKinds, insn: LinkedInsn) -> Flow
+    requires index { machine.old.stack.frame.index + 1 < 2 ^ 64 }
+    requires kinds { AreKinds linked.now.classes kinds.now }
+    requires fits { NotStuck (act linked.now insn machine.old) }
+    ensures does { Does (act linked.now insn machine.old) result machine.new }
+    ensures method { result ≡ Flow.Goes → machine.new.stack.frame.method ≡ machine.old.stack.frame.method }
+{
+    let set = linked.set();
+    match insn {
+        LinkedInsn::Nop => machine.go_on(),
+        LinkedInsn::Null => machine.null(),
+        LinkedInsn::Constant(n) => machine.constant(n),
+        LinkedInsn::Load(kind, local) => machine.load(word_kind(kind), local),
+        LinkedInsn::Store(kind, local) => machine.store(word_kind(kind), local),
+        LinkedInsn::Increment { local, by } => machine.increment(local, by),
+        LinkedInsn::Stack(operation) => rearrange(machine, operation),
+        LinkedInsn::Unary(operator) => unary(machine, operator),
+        LinkedInsn::Binary(operator) => binary(machine, operator),
+        LinkedInsn::Array(operation) => act_on_array(machine, operation),
+        LinkedInsn::If { condition, target } => if_zero(machine, condition, target),
+        LinkedInsn::IfCompare { condition, target } => if_compare(machine, condition, target),
+        LinkedInsn::IfSame { equality, target } => compare(machine, equality, target),
+        LinkedInsn::IfNull { equality, target } => machine.if_null(is_equal(equality), target),
+        LinkedInsn::Goto { target } => machine.branch(true, target),
+        LinkedInsn::Switch(index) => switch(machine, linked, index),
+        LinkedInsn::ReturnValue(kind) => return_value(machine, kind),
+        LinkedInsn::Return => machine.return_nothing(),
+        LinkedInsn::Throw => throw_top(machine),
+        LinkedInsn::GetField { field, .. } => get_field(machine, linked, field),
+        LinkedInsn::PutField { field, .. } => put_field(machine, linked, field),
+        LinkedInsn::Invoke {
+            kind,
+            class,
+            method,
+        } => call(machine, linked, kind, class, method),
+        LinkedInsn::InvokeInterface { class, method, .. } => {
+            call_interface(machine, linked, class, method)
+        }
+        LinkedInsn::New(class) => new_object(machine, linked, kinds, class),
+        LinkedInsn::CheckCast(asked) => check_cast(machine, set, asked),
+        LinkedInsn::InstanceOf(asked) => instance_of(machine, set, asked),
+    }
+}
