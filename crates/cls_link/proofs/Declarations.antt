@@ -12,7 +12,7 @@ use Rattle.cls_link.specs.LinkFaults.{IsFaultOf, IsMethodFault, IsSoundMethod}
 use Rattle.cls_link.specs.Links.{Declared, declared_in, declared_from, IsLinked}
 
 abbrev pub declare : ClassId → List ℕ → ℕ → Method → Declared
-declare class name place method = record { class = class; class_name = name; place = place; method = method }
+declare class name index method = record { class = class; class_name = name; index = index; method = method }
 
 suc_moves : (p i : ℕ) → suc p + i ≡ p + suc i
 suc_moves p i = omega arith

@@ -1,4 +1,4 @@
--- Fields: their places, their slots, and how many there are.
+-- Fields: their indices, their slots, and how many there are.
 use Rattle.std.proofs.Common.{◌≡◌, ℕ, zero, suc, ◌+◌, ◌-◌, ◌<◌, ◌≤◌, ◌⊎◌, inl, inr, Option, Some, None, List, [], ◌∷◌, ◌++◌, length, get_or, take, drop, refl, sym, subst, ap, ◌∙◌, arith, Bool, true, false}
 use Rattle.std.specs.Prelude.{if◌then◌else◌, IfNone, IfSome, IsSome, IsTrue, cond, option_and_then, slice_get}
 use Rattle.std.specs.List.{count_by}
@@ -13,7 +13,7 @@ use Rattle.space_ids.specs.declared.ids.ClassId.{ClassId}
 use Rattle.cls_link.specs.Fields as fields
 use Rattle.cls_link.specs.Fields.{is_instance, instance_fields, AreFieldCounts, HasFields, CountsFields, IsFieldSlot}
 use Rattle.cls_search.specs.FieldSearches.{field_at}
-use Rattle.cls_search.specs.declared.fields.FieldPlace.{FieldPlace}
+use Rattle.cls_search.specs.declared.fields.FieldIndex.{FieldIndex}
 use Rattle.cls_link.specs.declared.linked.FieldSlot.{FieldSlot}
 
 cases : (b : Bool) → (b ≡ true) ⊎ (b ≡ false)
@@ -46,10 +46,10 @@ counted : (f : Field) (fs : List Field) → count_by is_instance (f ∷ fs) ≡ 
 counted f fs = sum_by-cons (λ (x : Field). cond (is_instance x) 1 0) f fs
 
 module _ (class : ClassId) (k : ℕ) (f : Field) (fs : List Field) where
-  abbrev listed_place : FieldPlace
-  listed_place = record { class = class; place = k }
+  abbrev listed_place : FieldIndex
+  listed_place = record { class = class; index = k }
 
-  abbrev rest : List FieldPlace
+  abbrev rest : List FieldIndex
   rest = instance_fields class (suc k) fs
 
   listed : is_instance f ≡ true → instance_fields class k (f ∷ fs) ≡ listed_place ∷ rest
@@ -86,12 +86,12 @@ module _ (classes : List Class) (class : ClassId) (c : Class) (at : slice_get cl
 no_field : (i : ℕ) → i < length {A = Field} [] → ⊥
 no_field i h = absurd (omega (arith, h))
 
--- the place of an instance field among those of its class
-own_slot : (class : ClassId) (k : ℕ) (fs : List Field) (i : ℕ) (d : Field) (e : FieldPlace) → i < length fs → is_instance (get_or fs i d) ≡ true → get_or (instance_fields class k fs) (count_by is_instance (take i fs)) e ≡ record { class = class; place = k + i }
+-- the index of an instance field among those of its class
+own_slot : (class : ClassId) (k : ℕ) (fs : List Field) (i : ℕ) (d : Field) (e : FieldIndex) → i < length fs → is_instance (get_or fs i d) ≡ true → get_or (instance_fields class k fs) (count_by is_instance (take i fs)) e ≡ record { class = class; index = k + i }
 own_slot class k [] i d e h is = absurd (no_field i h)
-own_slot class k (f ∷ fs) zero d e h is = ap (λ xs. get_or xs 0 e) (listed class k f fs is) ∙ ap (λ n. record { class = class; place = n }) (sym (plus_zero k))
+own_slot class k (f ∷ fs) zero d e h is = ap (λ xs. get_or xs 0 e) (listed class k f fs is) ∙ ap (λ n. record { class = class; index = n }) (sym (plus_zero k))
 own_slot class k (f ∷ fs) (suc i) d e h is =
-    let more = own_slot class (suc k) fs i d e (omega (arith, h)) is ∙ ap (λ n. record { class = class; place = n }) (suc_moves k i) in
+    let more = own_slot class (suc k) fs i d e (omega (arith, h)) is ∙ ap (λ n. record { class = class; index = n }) (suc_moves k i) in
     let n = count_by is_instance (take i fs) in
     let all = counted f (take i fs) in
     elim (cases (is_instance f)) [
@@ -122,16 +122,16 @@ first_counts (f ∷ fs) zero d h is =
 first_counts (f ∷ fs) (suc i) d h is = first_counts fs i d (omega (arith, h)) is
 
 -- how the fields of an object of a class end
-pub record Ends (class : ClassId) (c : Class) (all : List FieldPlace) : Type 0 where
-  pub inherited : List FieldPlace
+pub record Ends (class : ClassId) (c : Class) (all : List FieldIndex) : Type 0 where
+  pub inherited : List FieldIndex
   pub whole : all ≡ inherited ++ instance_fields class 0 c.file.fields
 
-ends : (classes : List Class) {class : ClassId} {all : List FieldPlace} → HasFields classes class all → (c : Class) → slice_get classes class.0 ≡ Some c → Ends class c all
+ends : (classes : List Class) {class : ClassId} {all : List FieldIndex} → HasFields classes class all → (c : Class) → slice_get classes class.0 ≡ Some c → Ends class c all
 ends classes (fields.HasFields.of_root class d at is) c here = record { inherited = []; whole = ap (λ (k : Class). instance_fields class 0 k.file.fields) (same_some (sym at ∙ here)) }
 ends classes (fields.HasFields.of_subclass class s d inherited at is h) c here =
     record { inherited = inherited; whole = ap (λ (k : Class). inherited ++ instance_fields class 0 k.file.fields) (same_some (sym at ∙ here)) }
 
--- those from a place on are no more than all
+-- those from an index on are no more than all
 pub few_last : (classes : List Class) (class : ClassId) (c : Class) (i count : ℕ) → slice_get classes class.0 ≡ Some c → CountsFields classes class count → count_by is_instance (drop i c.file.fields) ≤ count
 few_last classes class c i count at h =
     let own = instance_fields class 0 c.file.fields in
@@ -144,11 +144,11 @@ few_last classes class c i count at h =
     omega (arith, both, whole, more, parts, all)
 
 -- the slot of an instance field, counted from the end
-pub slot_from_end : (classes : List Class) (class : ClassId) (c : Class) (i count : ℕ) (f : Field) (at : slice_get classes class.0 ≡ Some c) (h : CountsFields classes class count) → slice_get c.file.fields i ≡ Some f → is_instance f ≡ true → slice_get h.fields (count - count_by is_instance (drop i c.file.fields)) ≡ Some (record { class = class; place = i })
+pub slot_from_end : (classes : List Class) (class : ClassId) (c : Class) (i count : ℕ) (f : Field) (at : slice_get classes class.0 ≡ Some c) (h : CountsFields classes class count) → slice_get c.file.fields i ≡ Some f → is_instance f ≡ true → slice_get h.fields (count - count_by is_instance (drop i c.file.fields)) ≡ Some (record { class = class; index = i })
 slot_from_end classes class c i count f at h there is =
     let fs = c.file.fields in
     let own = instance_fields class 0 fs in
-    let e : FieldPlace = record { class = class; place = i } in
+    let e : FieldIndex = record { class = class; index = i } in
     let within = slice_get_within fs i f there in
     let instance : is_instance (get_or fs i f) ≡ true = subst (λ x. is_instance x ≡ true) (sym (get_or_from_slice_get fs i f f there)) is in
     let end = ends classes h.has c at in
@@ -166,7 +166,7 @@ slot_from_end classes class c i count f at h there is =
     (ap (λ xs. get_or xs slot e) end.whole
     ∙ (ap (λ n. get_or (end.inherited ++ own) n e) here
     ∙ (get_or-append-add end.inherited own (count_by is_instance (take i fs)) e
-    ∙ (own_slot class 0 fs i f e within instance ∙ ap (λ n. record { class = class; place = n }) (zero_plus i)))))
+    ∙ (own_slot class 0 fs i f e within instance ∙ ap (λ n. record { class = class; index = n }) (zero_plus i)))))
 
 false_true : false ≡ true → ⊥
 false_true e = cc
@@ -176,17 +176,17 @@ some_is None h = absurd (false_true h)
 some_is (Some x) h = (x, refl)
 
 -- a field that stands in the set, read from its class
-pub record IsHeld (classes : List Class) (field : FieldPlace) (c : Class) : Type 0 where
+pub record IsHeld (classes : List Class) (field : FieldIndex) (c : Class) : Type 0 where
   pub f : Field
-  pub there : slice_get c.file.fields field.place ≡ Some f
-  pub within : field.place < length c.file.fields
+  pub there : slice_get c.file.fields field.index ≡ Some f
+  pub within : field.index < length c.file.fields
   pub is : field_at classes field ≡ Some f
 
-pub held : (classes : List Class) (field : FieldPlace) (c : Class) → slice_get classes field.class.0 ≡ Some c → IsSome (field_at classes field) → IsHeld classes field c
+pub held : (classes : List Class) (field : FieldIndex) (c : Class) → slice_get classes field.class.0 ≡ Some c → IsSome (field_at classes field) → IsHeld classes field c
 held classes field c at h =
-    let e : field_at classes field ≡ slice_get c.file.fields field.place = ap (option_and_then (λ (k : Class). slice_get k.file.fields field.place)) at in
+    let e : field_at classes field ≡ slice_get c.file.fields field.index = ap (option_and_then (λ (k : Class). slice_get k.file.fields field.index)) at in
     let s = some_is (field_at classes field) h in
-    record { f = s.0; there = sym e ∙ s.1; within = slice_get_within c.file.fields field.place s.0 (sym e ∙ s.1); is = s.1 }
+    record { f = s.0; there = sym e ∙ s.1; within = slice_get_within c.file.fields field.index s.0 (sym e ∙ s.1); is = s.1 }
 
 -- the count of a class, read from the table
 pub count_at : (classes : List Class) (counts : List ℕ) (class : ClassId) (i x : ℕ) → AreFieldCounts classes counts → class.0 < length classes → i ≡ class.0 → x ≡ get_or counts i x → CountsFields classes class x
@@ -196,12 +196,12 @@ count_at classes counts class i x h within at is =
     subst (CountsFields classes class) (sym e) (h.counted class within)
 
 -- a slot that is counted from the end is the field's
-pub slot_is : (classes : List Class) (field : FieldPlace) (c : Class) (count : ℕ) → slice_get classes field.class.0 ≡ Some c → CountsFields classes field.class count → IsHeld classes field c → (fs : List Field) → fs ≡ c.file.fields → (slot : Option FieldSlot) → IfNone slot ((f : Field) → slice_get fs field.place ≡ Some f → ¬ IsTrue (is_instance f)) → IfSome slot (λ _. (f : Field) → slice_get fs field.place ≡ Some f → IsTrue (is_instance f)) → IfSome slot (λ s. s.0 ≡ count - count_by is_instance (drop field.place fs)) → IsFieldSlot classes field slot
+pub slot_is : (classes : List Class) (field : FieldIndex) (c : Class) (count : ℕ) → slice_get classes field.class.0 ≡ Some c → CountsFields classes field.class count → IsHeld classes field c → (fs : List Field) → fs ≡ c.file.fields → (slot : Option FieldSlot) → IfNone slot ((f : Field) → slice_get fs field.index ≡ Some f → ¬ IsTrue (is_instance f)) → IfSome slot (λ _. (f : Field) → slice_get fs field.index ≡ Some f → IsTrue (is_instance f)) → IfSome slot (λ s. s.0 ≡ count - count_by is_instance (drop field.index fs)) → IsFieldSlot classes field slot
 slot_is classes field c count at h here fs same None static instance is =
-    fields.IsFieldSlot.of_static here.f here.is (static here.f (ap (λ xs. slice_get xs field.place) same ∙ here.there))
+    fields.IsFieldSlot.of_static here.f here.is (static here.f (ap (λ xs. slice_get xs field.index) same ∙ here.there))
 slot_is classes field c count at h here fs same (Some s) static instance is =
-    let own = instance here.f (ap (λ xs. slice_get xs field.place) same ∙ here.there) in
-    let n = count - count_by is_instance (drop field.place c.file.fields) in
-    let e : s.0 ≡ n = is ∙ ap (λ xs. count - count_by is_instance (drop field.place xs)) same in
+    let own = instance here.f (ap (λ xs. slice_get xs field.index) same ∙ here.there) in
+    let n = count - count_by is_instance (drop field.index c.file.fields) in
+    let e : s.0 ≡ n = is ∙ ap (λ xs. count - count_by is_instance (drop field.index xs)) same in
     subst (λ m. IsFieldSlot classes field (Some (record { 0 = m }))) (sym e)
-    (fields.IsFieldSlot.of_instance here.f h.fields n here.is own h.has (slot_from_end classes field.class c field.place count here.f at h here.there own))
+    (fields.IsFieldSlot.of_instance here.f h.fields n here.is own h.has (slot_from_end classes field.class c field.index count here.f at h here.there own))

@@ -40,7 +40,7 @@ Between low high d = (low ≤ d.class.0) × (d.class.0 < high)
 in_class : (class : ClassId) (name : List ℕ) (p : ℕ) (ms : List Method) (high : ℕ) → class.0 < high → All (Between class.0 high) (declared_in class name p ms)
 in_class class name p [] high h = All-nil (Between class.0 high)
 in_class class name p (m ∷ ms) high h =
-    All-cons (Between class.0 high) (record { class = class; class_name = name; place = p; method = m }) (declared_in class name (suc p) ms) (omega arith, h) (in_class class name (suc p) ms high h)
+    All-cons (Between class.0 high) (record { class = class; class_name = name; index = p; method = m }) (declared_in class name (suc p) ms) (omega arith, h) (in_class class name (suc p) ms high h)
 
 classes_between : (k : ℕ) (cs : List Class) → All (Between k (k + length cs)) (declared_from k cs)
 classes_between k [] = All-nil (Between k (k + length {A = Class} []))
@@ -62,7 +62,7 @@ number_passed k (d ∷ pre) rest class n t none =
 number_none : (k : ℕ) (ds : List Declared) (class : ClassId) (n t : List ℕ) → All (λ d. d.class.0 ≢ class.0) ds → number_from k ds class n t ≡ None
 number_none k ds class n t none = subst (λ xs. number_from k xs class n t ≡ None) (append-nil ds) (number_passed k ds [] class n t none)
 
--- the number of a method by its place in its class
+-- the number of a method by its index in its class
 number_among : (s k p : ℕ) (class : ClassId) (name : List ℕ) (ms : List Method) (post : List Declared) (n t : List ℕ) → All (λ d. d.class.0 ≢ class.0) post → number_from (s + k) (declared_in class name p ms ++ post) class n t ≡ option_map (λ i. record { 0 = s + i }) (place_from k ms n t)
 number_among s k p class name [] post n t none = number_none (s + k) post class n t none
 number_among s k p class name (m ∷ ms) post n t none =
@@ -81,7 +81,7 @@ declared_around k (c ∷ cs) (suc n) d h =
     let last = λ (i : ℕ). declared_in (record { 0 = i }) (get_or cs n d).file.name 0 (get_or cs n d).file.methods ++ declared_from (suc i) (drop (suc n) cs) in
     ap (λ ds. first ++ ds) (declared_around (suc k) cs n d (omega arith) ∙ ap (λ i. declared_from (suc k) (take n cs) ++ last i) (suc_moves k n)) ∙ sym (append_assoc first (declared_from (suc k) (take n cs)) (last (k + suc n)))
 
--- the number of a method of a class is the number of the class's first and its place
+-- the number of a method of a class is the number of the class's first and its index
 pub number_by_place : (cs : List Class) (class : ClassId) (c : Class) (n t : List ℕ) → class.0 < length cs → c ≡ get_or cs class.0 c → number_of cs class n t ≡ option_map (λ i. record { 0 = length (declared_from 0 (take class.0 cs)) + i }) (place_from 0 c.file.methods n t)
 number_by_place cs class c n t h is =
     let pre = declared_from 0 (take class.0 cs) in
@@ -131,8 +131,8 @@ pub starts_more : (cs : List Class) (n : ℕ) → n < length cs → starts 0 (ta
 starts_more cs n h = rw add-one (starts_next 0 0 cs n h ∙ ap (λ i. starts 0 (take n cs) ++ i ∷ []) (zero-add (length (declared_from 0 (take n cs)))))
 
 -- a method's number is below the number of methods
-pub number_below : (cs : List Class) (n : ℕ) (c : Class) (place : ℕ) → n < length cs → c ≡ get_or cs n c → place < length c.file.methods → length (declared_from 0 (take n cs)) + place < length (declared_from 0 cs)
-number_below cs n c place h is within =
+pub number_below : (cs : List Class) (n : ℕ) (c : Class) (index : ℕ) → n < length cs → c ≡ get_or cs n c → index < length c.file.methods → length (declared_from 0 (take n cs)) + index < length (declared_from 0 cs)
+number_below cs n c index h is within =
     let own = λ (k : Class). declared_in (record { 0 = 0 + n }) k.file.name 0 k.file.methods in
     let pre = declared_from 0 (take n cs) in
     let post = declared_from (suc (0 + n)) (drop (suc n) cs) in

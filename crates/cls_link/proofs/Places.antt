@@ -11,10 +11,10 @@ use Rattle.space_ids.specs.declared.ids.ClassId.{ClassId}
 use Rattle.cls_link.specs.declared.linked.LinkedMethod.{LinkedMethod}
 use Rattle.cls_link.specs.Links.{Declared, IsLinked, declared_in, declared_from, declared_methods}
 
--- its class is one of these, the first of which has the number k, and it stands at its place there
+-- its class is one of these, the first of which has the number k, and it stands at its index there
 pub record IsPlaced (k : ℕ) (cs : List Class) (d : Declared) : Type 0 where
   pub behind : k ≤ d.class.0
-  pub at : IsSomeAnd (slice_get cs (d.class.0 - k)) (λ c. slice_get c.file.methods d.place ≡ Some d.method)
+  pub at : IsSomeAnd (slice_get cs (d.class.0 - k)) (λ c. slice_get c.file.methods d.index ≡ Some d.method)
 
 zero_from : (k : ℕ) → k - k ≡ 0
 zero_from k = omega arith
@@ -40,7 +40,7 @@ read_at (x ∷ ms) (suc p) i m rest e = read_at ms p i m rest e
 placed_in : (k : ℕ) (c : Class) (cs : List Class) (p : ℕ) (ms : List Method) → drop p c.file.methods ≡ ms → All (IsPlaced k (c ∷ cs)) (declared_in (record { 0 = k }) c.file.name p ms)
 placed_in k c cs p [] e = All-nil (IsPlaced k (c ∷ cs))
 placed_in k c cs p (m ∷ ms) e =
-    All-cons (IsPlaced k (c ∷ cs)) (record { class = record { 0 = k }; class_name = c.file.name; place = p; method = m }) (declared_in (record { 0 = k }) c.file.name (suc p) ms)
+    All-cons (IsPlaced k (c ∷ cs)) (record { class = record { 0 = k }; class_name = c.file.name; index = p; method = m }) (declared_in (record { 0 = k }) c.file.name (suc p) ms)
     (record {
       behind = omega arith;
       at = subst (λ n. IsSomeAnd (slice_get (c ∷ cs) n) (λ (c : Class). slice_get c.file.methods p ≡ Some m)) (sym (zero_from k)) (read_at c.file.methods p 0 m ms e);
@@ -51,7 +51,7 @@ deeper : (k : ℕ) (c : Class) (cs : List Class) (d : Declared) → IsPlaced (su
 deeper k c cs d h =
     record {
       behind = omega (arith, h.behind);
-      at = subst (λ n. IsSomeAnd (slice_get (c ∷ cs) n) (λ (c : Class). slice_get c.file.methods d.place ≡ Some d.method)) (sym (one_less d.class.0 k h.behind)) h.at;
+      at = subst (λ n. IsSomeAnd (slice_get (c ∷ cs) n) (λ (c : Class). slice_get c.file.methods d.index ≡ Some d.method)) (sym (one_less d.class.0 k h.behind)) h.at;
     }
 
 placed : (k : ℕ) (cs : List Class) → All (IsPlaced k cs) (declared_from k cs)
@@ -70,12 +70,12 @@ linked_at (x ∷ ds) [] i d m all h = absurd all
 linked_at (x ∷ ds) (y ∷ ms) zero d m all h = all.0
 linked_at (x ∷ ds) (y ∷ ms) (suc i) d m all h = linked_at ds ms i d m all.1 (omega (arith, h))
 
--- the class and the place of a linked method
+-- the class and the index of a linked method
 pub record IsAt (classes : List Class) (methods : List LinkedMethod) (i : ℕ) (entry : LinkedMethod) : Type 0 where
   pub class : Class
   pub method : Method
   pub class_at : slice_get classes entry.class.0 ≡ Some class
-  pub method_there : slice_get class.file.methods entry.place ≡ Some method
+  pub method_there : slice_get class.file.methods entry.index ≡ Some method
   pub declared : option_map (λ (d : Declared). d.method) (slice_get (declared_methods classes) i) ≡ Some method
 
 pub at_number : (classes : List Class) (methods : List LinkedMethod) (i : ℕ) (entry : LinkedMethod) → AllZip (IsLinked classes) (declared_methods classes) methods → i < length (declared_methods classes) → entry ≡ get_or methods i entry → IsAt classes methods i entry
@@ -86,12 +86,12 @@ at_number classes methods i entry all h is =
           let d = r.0 in
           let linked : IsLinked classes d entry = subst (IsLinked classes d) (sym is) (subst (λ x. IsLinked classes x (get_or methods i entry)) r.3 (linked_at ds methods i d entry all h)) in
           let here : IsPlaced 0 classes d = subst (IsPlaced 0 classes) r.3 (All-get_or (IsPlaced 0 classes) ds i d h (placed 0 classes)) in
-          let found = some_of (slice_get classes (d.class.0 - 0)) (λ (c : Class). slice_get c.file.methods d.place ≡ Some d.method) here.at in
+          let found = some_of (slice_get classes (d.class.0 - 0)) (λ (c : Class). slice_get c.file.methods d.index ≡ Some d.method) here.at in
           record {
             class = found.0;
             method = d.method;
             class_at = ap (λ n. slice_get classes n) (ap (λ (c : ClassId). c.0) linked.class ∙ sym (same_zero d.class.0)) ∙ found.1;
-            method_there = ap (λ n. slice_get found.0.file.methods n) linked.place ∙ found.2;
+            method_there = ap (λ n. slice_get found.0.file.methods n) linked.index ∙ found.2;
             declared = ap (option_map (λ (d : Declared). d.method)) r.2;
           }
       | inr r ↦ absurd (omega (arith, h, r.0))

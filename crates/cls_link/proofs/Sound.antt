@@ -117,7 +117,7 @@ module _ (classes : List Class) (class : ClassId) (method : Method) where
 
   pub insn_stop : (listing : Listing) (i at : ℕ) (insn : Insn) (d : ℕ × Insn) (why : Stop) → i < length listing → (at, insn) ≡ get_or listing i d → All (IsSoundAt classes class method) (take i listing) → IsInsnStop classes class method at insn why → IsListingStop classes class method listing why
   insn_stop listing i at insn d stops.Memory h is sound wrong = tt
-  insn_stop listing i at insn d (stops.Broken rule place) h is sound wrong =
+  insn_stop listing i at insn d (stops.Broken rule index) h is sound wrong =
       subst (IsFirstUnsound classes class method listing rule) (sym wrong.0) (unsound_at listing i at insn rule d h is sound wrong.1)
 
   listing_stop : (bytes : List ℕ) (listing : Listing) (why : Stop) → IsListing bytes listing → IsListingStop classes class method listing why → IsCodeStop classes class method bytes why

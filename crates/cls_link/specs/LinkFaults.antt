@@ -91,7 +91,7 @@ IsLinkFault classes fault = IsFaultOf classes (declared_methods classes) fault
 -- why an instruction of a method of a class at an offset is not linked, unless memory ran out
 abbrev pub IsInsnStop : List Class → ClassId → Method → ℕ → Insn → Stop → Type 0
 IsInsnStop classes class method at insn stop.Memory = Unit {0}
-IsInsnStop classes class method at insn (stop.Broken rule place) = (place ≡ at) × ComesTo classes class method insn (Some rule)
+IsInsnStop classes class method at insn (stop.Broken rule index) = (index ≡ at) × ComesTo classes class method insn (Some rule)
 
 -- why a listing of a method of a class is not linked, unless memory ran out
 abbrev pub IsListingStop : List Class → ClassId → Method → Listing → Stop → Type 0

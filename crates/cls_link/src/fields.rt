@@ -30,19 +30,19 @@ fn count_instance_fields(fields: &[Field]) -> usize
     count
 }
 
-// The slot of the field at a place among those that a class declares, which are the last of so many that
+// The slot of the field at an index among those that a class declares, which are the last of so many that
 // its objects have: none for a static one.
-pub(crate) fn slot_in(fields: &[Field], place: usize, count: u32) -> Option<FieldSlot>
-    requires within { place < length fields.now }
-    requires few { count_by is_instance (drop place fields.now) ≤ count }
-    ensures of_static { IfNone result ((f : Field) → slice_get fields.now place ≡ Some f → ¬ IsTrue (is_instance f)) }
-    ensures of_instance { IfSome result (λ _. (f : Field) → slice_get fields.now place ≡ Some f → IsTrue (is_instance f)) }
-    ensures slot { IfSome result (λ slot. slot.0 ≡ count - count_by is_instance (drop place fields.now)) }
+pub(crate) fn slot_in(fields: &[Field], index: usize, count: u32) -> Option<FieldSlot>
+    requires within { index < length fields.now }
+    requires few { count_by is_instance (drop index fields.now) ≤ count }
+    ensures of_static { IfNone result ((f : Field) → slice_get fields.now index ≡ Some f → ¬ IsTrue (is_instance f)) }
+    ensures of_instance { IfSome result (λ _. (f : Field) → slice_get fields.now index ≡ Some f → IsTrue (is_instance f)) }
+    ensures slot { IfSome result (λ slot. slot.0 ≡ count - count_by is_instance (drop index fields.now)) }
 {
-    if !is_of_instances(&fields[place]) {
+    if !is_of_instances(&fields[index]) {
         return None;
     }
-    let (_, last) = fields.split_at(place);
+    let (_, last) = fields.split_at(index);
     Some(FieldSlot(count - count_instance_fields(last) as u32))
 }
 

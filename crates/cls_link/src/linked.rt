@@ -23,7 +23,7 @@ pub enum Selection {
     Absent,
 }
 
-/// Where an object keeps an instance field: its place, from 0, among the fields of an object of the class
+/// Where an object keeps an instance field: its index, from 0, among the fields of an object of the class
 /// that declares it, those of its superclasses first. So the fields of an object have different slots,
 /// and an inherited field has the same one in each subclass.
 #[derive(Clone, Copy, Debug, PartialEq, Eq)]
@@ -153,8 +153,8 @@ pub struct LinkedCode {
 pub struct LinkedMethod {
     /// The class that declares it.
     pub class: ClassId,
-    /// Its place among the methods of that class, as declared.
-    pub place: u16,
+    /// Its index among the methods of that class, as declared.
+    pub index: u16,
     /// `None` for a method without code.
     pub code: Option<LinkedCode>,
 }

@@ -8,7 +8,7 @@ use super::fields::{count_all, slot_in};
 use super::linking::link_class;
 use super::methods::selected;
 use super::{FieldSlot, LinkFault, LinkedMethod, MemberIndex, MethodId, Selection};
-use cls_search::{FieldPlace, MethodIndex, find_field, find_method, own_method};
+use cls_search::{FieldIndex, MethodIndex, find_field, find_method, own_method};
 use cls_set::{ClassId, ClassSet, Method};
 use std::alloc::Global;
 use std::marker::Model;
@@ -138,9 +138,9 @@ impl Linked {
         requires { IsSome (field_at self.now.classes (field_of member)) }
         ensures { IsFieldSlot self.now.classes (field_of member) result }
     {
-        self.slot_of(FieldPlace {
+        self.slot_of(FieldIndex {
             class: member.class,
-            place: usize::from(member.index),
+            index: usize::from(member.index),
         })
     }
 
@@ -153,13 +153,13 @@ impl Linked {
     }
 
     // Where an object keeps a field: nowhere, where it is static.
-    fn slot_of(&self, field: FieldPlace) -> Option<FieldSlot>
+    fn slot_of(&self, field: FieldIndex) -> Option<FieldSlot>
         requires { IsSome (field_at self.now.classes field) }
         ensures { IsFieldSlot self.now.classes field result }
     {
         let fields = self.set().class(field.class).file.fields.as_slice();
         let count = self.field_counts[usize::from(field.class.0)];
-        slot_in(fields, field.place, count)
+        slot_in(fields, field.index, count)
     }
 
     /// The method that a call of a resolved method runs (JVMS 5.4.5, 6.5): the first instance method of its
@@ -197,7 +197,7 @@ impl Linked {
     {
         let entry = &self.methods[method.0 as usize];
         let class = self.set.class(entry.class);
-        &class.file.methods.as_slice()[usize::from(entry.place)]
+        &class.file.methods.as_slice()[usize::from(entry.index)]
     }
 
     /// The method with this number, linked.

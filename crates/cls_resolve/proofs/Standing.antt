@@ -5,7 +5,7 @@ use Rattle.std.proofs.lemmas.Option.{slice_get_within}
 use Rattle.cf_reader.specs.declared.class_file.Field.{Field}
 use Rattle.cf_reader.specs.declared.class_file.Method.{Method}
 use Rattle.cls_set.specs.declared.class.Class.{Class}
-use Rattle.cls_search.specs.declared.fields.FieldPlace.{FieldPlace}
+use Rattle.cls_search.specs.declared.fields.FieldIndex.{FieldIndex}
 use Rattle.cls_search.specs.declared.methods.MethodIndex.{MethodIndex}
 use Rattle.cls_search.specs.FieldSearches.{field_at}
 use Rattle.cls_search.specs.MethodSearches.{method_in}
@@ -21,9 +21,9 @@ outer : {A : Type 0} (f : Class → Option A) (o : Option Class) → IsSome (opt
 outer f None h = h
 outer f (Some c) h = refl
 
-pub class_in : (classes : List Class) (field : FieldPlace) → IsSome (field_at classes field) → field.class.0 < length classes
+pub class_in : (classes : List Class) (field : FieldIndex) → IsSome (field_at classes field) → field.class.0 < length classes
 class_in classes field h =
-    let s = some_is (slice_get classes field.class.0) (outer (λ (c : Class). slice_get c.file.fields field.place) (slice_get classes field.class.0) h) in
+    let s = some_is (slice_get classes field.class.0) (outer (λ (c : Class). slice_get c.file.fields field.index) (slice_get classes field.class.0) h) in
     slice_get_within classes field.class.0 s.0 s.1
 
 pub class_of_method : (classes : List Class) (method : MethodIndex) → IsSome (method_in classes method) → method.class.0 < length classes

@@ -6,7 +6,7 @@ use Rattle.cf_reader.specs.declared.class_file.Field.{Field}
 use Rattle.cf_reader.specs.declared.class_file.Method.{Method}
 use Rattle.cls_set.specs.declared.class.Class.{Class}
 use Rattle.space_ids.specs.declared.ids.ClassId.{ClassId}
-use Rattle.cls_search.specs.declared.fields.FieldPlace.{FieldPlace}
+use Rattle.cls_search.specs.declared.fields.FieldIndex.{FieldIndex}
 use Rattle.cls_search.specs.declared.methods.MethodIndex.{MethodIndex}
 use Rattle.cls_search.specs.FieldSearches.{field_at, own_field, ResolvesField}
 use Rattle.cls_resolve.specs.LinkRules as rules
@@ -71,7 +71,7 @@ pub record IsSameMember (owner other : ClassId) (flags bits : ℕ) : Type 0 wher
   pub flags_of : flags ≡ bits
 
 module _ (classes : List Class) (named : NamedMember) (class : ClassId) where
-  same_place : {p q : FieldPlace} → Some p ≡ Some q → p ≡ q
+  same_place : {p q : FieldIndex} → Some p ≡ Some q → p ≡ q
   same_place e = cc
 
   same_index : {p q : MethodIndex} → Some p ≡ Some q → p ≡ q
@@ -87,7 +87,7 @@ module _ (classes : List Class) (named : NamedMember) (class : ClassId) where
   one_meant (rules.Means.field p f k r at is fl) (rules.Means.field q g l s too also gl) =
       let same = same_place (one_found (supertypes_of classes) (own_field classes named.name named.descriptor) r s) in
       record {
-        owners = sym is ∙ (ap (λ (x : FieldPlace). x.class) same ∙ also);
+        owners = sym is ∙ (ap (λ (x : FieldIndex). x.class) same ∙ also);
         flags_of = sym fl ∙ (ap (λ (x : Field). x.flags.bits) (same_field (sym at ∙ (ap (field_at classes) same ∙ too))) ∙ gl);
       }
   one_meant (rules.Means.field p f k r at is fl) (rules.Means.method q g l s too also gl) = absurd (l k)

@@ -12,7 +12,7 @@ use Rattle.cf_reader.specs.declared.class_file.Field.{Field}
 use Rattle.cf_reader.specs.declared.class_file.Method.{Method}
 use Rattle.cls_set.specs.declared.class.Class.{Class}
 use Rattle.space_ids.specs.declared.ids.ClassId.{ClassId}
-use Rattle.cls_search.specs.declared.fields.FieldPlace.{FieldPlace}
+use Rattle.cls_search.specs.declared.fields.FieldIndex.{FieldIndex}
 use Rattle.cls_search.specs.declared.methods.MethodIndex.{MethodIndex}
 use Rattle.cls_search.specs.FieldSearches.{field_at, ResolvesField}
 use Rattle.cls_search.specs.MethodSearches.{method_in, own_method, Resolves}
@@ -52,26 +52,26 @@ module _ (classes : List Class) (user class : ClassId) (k : MemberKind) (name de
   abbrev entry_of : List ℕ → NamedMember
   entry_of text = record { kind = k; class = text; name = name; descriptor = descriptor }
 
-  pub field_member : (place : FieldPlace) (f : Field) (m : Member) → k ≡ kind.Field → ResolvesField classes class name descriptor (Some place) → field_at classes place ≡ Some f → place.class.0 < length classes → m.index ≡ record { class = place.class; index = place.place } → m.flags ≡ f.flags → IsTrue m.is_accessible ↔ IsMemberAccessible classes user place.class f.flags.bits → (text : List ℕ) → IsMember classes user (entry_of text) class m
-  field_member place f m of_field found declared in_set at flags may text =
-      let e : field_of m.index ≡ place = ap field_of at in
+  pub field_member : (id : FieldIndex) (f : Field) (m : Member) → k ≡ kind.Field → ResolvesField classes class name descriptor (Some id) → field_at classes id ≡ Some f → id.class.0 < length classes → m.index ≡ record { class = id.class; index = id.index } → m.flags ≡ f.flags → IsTrue m.is_accessible ↔ IsMemberAccessible classes user id.class f.flags.bits → (text : List ℕ) → IsMember classes user (entry_of text) class m
+  field_member id f m of_field found declared in_set at flags may text =
+      let e : field_of m.index ≡ id = ap field_of at in
       record {
         meant = entries.IsMeant.field f of_field (subst (λ p. ResolvesField classes class name descriptor (Some p)) (sym e) found) (ap (field_at classes) e ∙ declared) (ap (λ x. x.bits) (sym flags));
         in_set = subst (λ (i : MemberIndex). i.class.0 < length classes) (sym at) in_set;
         accessible =
             subst (λ (i : MemberIndex). IsTrue m.is_accessible ↔ IsMemberAccessible classes user i.class m.flags.bits) (sym at)
-            (subst (λ x. IsTrue m.is_accessible ↔ IsMemberAccessible classes user place.class x.bits) (sym flags) may);
+            (subst (λ x. IsTrue m.is_accessible ↔ IsMemberAccessible classes user id.class x.bits) (sym flags) may);
       }
 
-  pub method_member : (place : MethodIndex) (d : Method) (m : Member) → k ≢ kind.Field → Resolves classes class name (own_method classes name descriptor) (Some place) → method_in classes place ≡ Some d → place.class.0 < length classes → m.index ≡ record { class = place.class; index = place.index } → m.flags ≡ d.flags → IsTrue m.is_accessible ↔ IsMemberAccessible classes user place.class d.flags.bits → (text : List ℕ) → IsMember classes user (entry_of text) class m
-  method_member place d m no_field found declared in_set at flags may text =
-      let e : method_of m.index ≡ place = ap method_of at in
+  pub method_member : (id : MethodIndex) (d : Method) (m : Member) → k ≢ kind.Field → Resolves classes class name (own_method classes name descriptor) (Some id) → method_in classes id ≡ Some d → id.class.0 < length classes → m.index ≡ record { class = id.class; index = id.index } → m.flags ≡ d.flags → IsTrue m.is_accessible ↔ IsMemberAccessible classes user id.class d.flags.bits → (text : List ℕ) → IsMember classes user (entry_of text) class m
+  method_member id d m no_field found declared in_set at flags may text =
+      let e : method_of m.index ≡ id = ap method_of at in
       record {
         meant = entries.IsMeant.method d no_field (subst (λ p. Resolves classes class name (own_method classes name descriptor) (Some p)) (sym e) found) (ap (method_in classes) e ∙ declared) (ap (λ x. x.bits) (sym flags));
         in_set = subst (λ (i : MemberIndex). i.class.0 < length classes) (sym at) in_set;
         accessible =
             subst (λ (i : MemberIndex). IsTrue m.is_accessible ↔ IsMemberAccessible classes user i.class m.flags.bits) (sym at)
-            (subst (λ x. IsTrue m.is_accessible ↔ IsMemberAccessible classes user place.class x.bits) (sym flags) may);
+            (subst (λ x. IsTrue m.is_accessible ↔ IsMemberAccessible classes user id.class x.bits) (sym flags) may);
       }
 
   found_or_not : (o : Option Member) → IfSome o (λ m. (text : List ℕ) → IsMember classes user (entry_of text) class m) → IfNone o ((text : List ℕ) → MeansNothing classes (entry_of text) class) → (text : List ℕ) → MatchOption o (MeansNothing classes (entry_of text) class) (IsMember classes user (entry_of text) class)

@@ -17,7 +17,7 @@ use Rattle.cls_set.specs.Rules.{Has}
 use Rattle.space_ids.specs.declared.ids.ClassId.{ClassId}
 use Rattle.cls_resolve.specs.declared.rule.LinkRule.{LinkRule}
 use Rattle.cls_resolve.specs.declared.rule.LinkRule.TheVariants as rule
-use Rattle.cls_search.specs.declared.fields.FieldPlace.{FieldPlace}
+use Rattle.cls_search.specs.declared.fields.FieldIndex.{FieldIndex}
 use Rattle.cls_search.specs.declared.methods.MethodIndex.{MethodIndex}
 use Rattle.cls_resolve.specs.declared.references.Asked.{Asked}
 use Rattle.cls_resolve.specs.declared.references.Asked.TheVariants as asked
@@ -69,11 +69,11 @@ pub record NamesMemberOf (classes : List Class) (site : Site) (operation : Membe
 
 -- the entry means a field, or a method, that this class declares with these flags
 pub data Means (classes : List Class) (named : NamedMember) (class owner : ClassId) (flags : ℕ) : Type 0 where
-  field : (place : FieldPlace) (f : Field) → named.kind ≡ kind.Field → ResolvesField classes class named.name named.descriptor (Some place)
-      → field_at classes place ≡ Some f → place.class ≡ owner → f.flags.bits ≡ flags → Means classes named class owner flags
-  method : (place : MethodIndex) (m : Method) → named.kind ≢ kind.Field
-      → Resolves classes class named.name (own_method classes named.name named.descriptor) (Some place)
-      → method_in classes place ≡ Some m → place.class ≡ owner → m.flags.bits ≡ flags → Means classes named class owner flags
+  field : (index : FieldIndex) (f : Field) → named.kind ≡ kind.Field → ResolvesField classes class named.name named.descriptor (Some index)
+      → field_at classes index ≡ Some f → index.class ≡ owner → f.flags.bits ≡ flags → Means classes named class owner flags
+  method : (index : MethodIndex) (m : Method) → named.kind ≢ kind.Field
+      → Resolves classes class named.name (own_method classes named.name named.descriptor) (Some index)
+      → method_in classes index ≡ Some m → index.class ≡ owner → m.flags.bits ≡ flags → Means classes named class owner flags
 
 -- what it names means a member, which this class declares with these flags
 pub record MeansMember (classes : List Class) (site : Site) (operation : MemberOperation) (owner : ClassId) (flags : ℕ) : Type 0 where

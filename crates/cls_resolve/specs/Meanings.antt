@@ -9,7 +9,7 @@ use Rattle.cf_reader.specs.declared.class_file.Method.{Method}
 use Rattle.cls_set.specs.declared.class.Class.{Class}
 use Rattle.cls_set.specs.Classes.{number_of}
 use Rattle.space_ids.specs.declared.ids.ClassId.{ClassId}
-use Rattle.cls_search.specs.declared.fields.FieldPlace.{FieldPlace}
+use Rattle.cls_search.specs.declared.fields.FieldIndex.{FieldIndex}
 use Rattle.cls_search.specs.declared.methods.MethodIndex.{MethodIndex}
 use Rattle.cls_search.specs.FieldSearches.{field_at, ResolvesField}
 use Rattle.cls_search.specs.MethodSearches.{method_in, own_method, Resolves}
@@ -19,8 +19,8 @@ use Rattle.cls_resolve.specs.declared.named.MemberIndex.{MemberIndex}
 use Rattle.cls_resolve.specs.LinkRules.{pool_of}
 
 -- the field, and the method, of an index
-abbrev pub field_of : MemberIndex → FieldPlace
-field_of member = record { class = member.class; place = member.index }
+abbrev pub field_of : MemberIndex → FieldIndex
+field_of member = record { class = member.class; index = member.index }
 
 abbrev pub method_of : MemberIndex → MethodIndex
 method_of member = record { class = member.class; index = member.index }

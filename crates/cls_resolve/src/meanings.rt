@@ -12,7 +12,7 @@ use super::access::{is_accessible, is_member_accessible};
 use super::uses::pool_of;
 use cf_pool::MemberKind;
 use cf_text::begins_with;
-use cls_search::{FieldPlace, MethodIndex, find_field, find_method, is_initializer};
+use cls_search::{FieldIndex, MethodIndex, find_field, find_method, is_initializer};
 use cls_set::{ClassId, ClassSet, Field, Flags, Method};
 
 // What an index means to an instruction that names a class or an array type.
@@ -97,12 +97,12 @@ pub(crate) fn class_meaning(set: &ClassSet, user: ClassId, index: u16) -> ClassM
     }
 }
 
-pub(crate) fn field(set: &ClassSet, field: FieldPlace) -> &Field
+pub(crate) fn field(set: &ClassSet, field: FieldIndex) -> &Field
     requires { IsSome (field_at set.now field) }
     ensures field { field_at set.now field ≡ Some result.now }
-    ensures few { field.place < 65536 }
+    ensures few { field.index < 65536 }
 {
-    &set.class(field.class).file.fields.as_slice()[field.place]
+    &set.class(field.class).file.fields.as_slice()[field.index]
 }
 
 fn method(set: &ClassSet, method: MethodIndex) -> &Method
@@ -152,11 +152,11 @@ fn find_member(
     ensures absent { IfNone result ((text : List ℕ) → MeansNothing set.now (record { kind = kind; class = text; name = name.now; descriptor = descriptor.now }) class) }
 {
     if is_field(kind) {
-        let place = find_field(set, class, name, descriptor, marks)?;
-        let flags = field(set, place).flags;
+        let id = find_field(set, class, name, descriptor, marks)?;
+        let flags = field(set, id).flags;
         let index = MemberIndex {
-            class: place.class,
-            index: place.place as u16,
+            class: id.class,
+            index: id.index as u16,
         };
         return Some(member_for(set, user, index, flags));
     }

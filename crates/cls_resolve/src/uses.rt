@@ -17,7 +17,7 @@ use super::meanings::{ClassMeaning, class_meaning, field};
 use super::references::Asked;
 use super::{CastType, LinkRule, MemberIndex};
 use cf_insns::ClassOperation;
-use cls_search::FieldPlace;
+use cls_search::FieldIndex;
 use cls_set::{ClassId, ClassSet, Flags, Method, Pool};
 
 // The constant pool of a class.
@@ -99,9 +99,9 @@ pub fn value_of(set: &ClassSet, member: MemberIndex) -> i32
     requires { IsSome (field_at set.now (field_of member)) }
     ensures { (f : Field) → field_at set.now (field_of member) ≡ Some f → result ≡ static_value f }
 {
-    let place = FieldPlace {
+    let id = FieldIndex {
         class: member.class,
-        place: usize::from(member.index),
+        index: usize::from(member.index),
     };
-    field(set, place).constant.unwrap_or(0)
+    field(set, id).constant.unwrap_or(0)
 }

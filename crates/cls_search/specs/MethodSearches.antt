@@ -8,7 +8,7 @@ use Rattle.space_ids.specs.declared.ids.ClassId.{ClassId}
 use Rattle.cls_search.specs.declared.methods.MethodIndex.{MethodIndex}
 use Rattle.cls_search.specs.Searches.{Finds, superclass_of, supertypes_of}
 
--- the place of the first method with this name and descriptor, where the first has the place k
+-- the index of the first method with this name and descriptor, where the first has the index k
 abbrev pub place_from : ℕ → List Method → List ℕ → List ℕ → Option ℕ
 place_from k [] name descriptor = None
 place_from k (m ∷ ms) name descriptor =

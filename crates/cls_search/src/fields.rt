@@ -9,11 +9,11 @@ ghost use Rattle.cls_set.specs.Sets.{IsClassSet};
 use super::marks::{clear, is_marked, mark};
 use cls_set::{ClassId, ClassSet, Field};
 
-/// A field: the class that declares it, and its place among the fields of that class.
+/// A field: the class that declares it, and its index among the fields of that class.
 #[derive(Clone, Copy, Debug, PartialEq, Eq)]
-pub struct FieldPlace {
+pub struct FieldIndex {
     pub class: ClassId,
-    pub place: usize,
+    pub index: usize,
 }
 
 fn is_named(field: &Field, name: &[u8], descriptor: &[u8]) -> bool
@@ -22,28 +22,28 @@ fn is_named(field: &Field, name: &[u8], descriptor: &[u8]) -> bool
     field.name.as_bytes() == name && field.descriptor.as_bytes() == descriptor
 }
 
-// The place of the first field with this name and descriptor.
+// The index of the first field with this name and descriptor.
 fn find(fields: &[Field], name: &[u8], descriptor: &[u8]) -> Option<usize>
     ensures found { result ≡ place_from 0 fields.now name.now descriptor.now }
-    ensures within { IfSome result (λ place. place < length fields.now) }
+    ensures within { IfSome result (λ index. index < length fields.now) }
 {
-    for (place, field) in fields.iter().enumerate() {
+    for (index, field) in fields.iter().enumerate() {
         if is_named(field, name, descriptor) {
-            return Some(place);
+            return Some(index);
         }
     }
     None
 }
 
 // The field that a class declares with this name and descriptor.
-fn own_field(set: &ClassSet, class: ClassId, name: &[u8], descriptor: &[u8]) -> Option<FieldPlace>
+fn own_field(set: &ClassSet, class: ClassId, name: &[u8], descriptor: &[u8]) -> Option<FieldIndex>
     requires in_set { class.0 < length set.now }
     ensures found { result ≡ spec.own_field set.now name.now descriptor.now class }
     ensures within { IfSome result (λ f. IsSome (field_at set.now f)) }
 {
     let fields = set.class(class).file.fields.as_slice();
     match find(fields, name, descriptor) {
-        Some(place) => Some(FieldPlace { class, place }),
+        Some(index) => Some(FieldIndex { class, index }),
         None => None,
     }
 }
@@ -55,7 +55,7 @@ fn field_from(
     name: &[u8],
     descriptor: &[u8],
     marks: &mut [bool],
-) -> Option<FieldPlace>
+) -> Option<FieldIndex>
     requires set { IsClassSet set.now }
     requires in_set { class.0 < length set.now }
     requires marked { FindNothing (supertypes_of set.now) (spec.own_field set.now name.now descriptor.now) marks.old }
@@ -94,7 +94,7 @@ pub fn find_field(
     name: &[u8],
     descriptor: &[u8],
     marks: &mut [bool],
-) -> Option<FieldPlace>
+) -> Option<FieldIndex>
     requires set { IsClassSet set.now }
     requires in_set { class.0 < length set.now }
     ensures found { ResolvesField set.now class name.now descriptor.now result }

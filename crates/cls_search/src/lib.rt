@@ -3,7 +3,7 @@
 #![tactic(auto)]
 
 pub use cls_set::{ClassId, ClassSet, Field, Method};
-pub use fields::{FieldPlace, find_field};
+pub use fields::{FieldIndex, find_field};
 pub use methods::{MethodIndex, find_method, is_initializer, own_method};
 
 mod fields;

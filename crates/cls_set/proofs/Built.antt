@@ -10,11 +10,11 @@ use Rattle.cls_set.specs.declared.class.Class.{Class}
 use Rattle.cls_set.specs.declared.fault.SetFault.{SetFault}
 use Rattle.cls_set.specs.declared.fault.SetFault.TheVariants.{Broken, Memory}
 use Rattle.cls_set.specs.declared.fault.SetRule.TheVariants.{Duplicate, AbsentClass, Cycle, TooMany}
-use Rattle.cls_set.specs.declared.members.Member.{Member}
+use Rattle.cls_set.specs.declared.entries.ClassEntry.{ClassEntry}
 use Rattle.cls_set.specs.BuiltIn.{built_ins, built_in_files, file_of}
 use Rattle.cls_set.specs.Building.{ranked_from, kept, origins_of, IsAbsentFault, IsCycleFault, IsDuplicateFault, IsFaultOf, IsWhole}
 use Rattle.cls_set.specs.Classes.{name_cmp, names, number_from, number_of}
-use Rattle.cls_set.specs.Members.{classes_of, AreArranged, IsRanked}
+use Rattle.cls_set.specs.Entries.{classes_of, AreArranged, IsRanked}
 use Rattle.cls_set.specs.Sets.{Origin, origin, origins, origin_names, HasClasses, HasAbsent, IsResolved, IsFirstCycle, IsFirstDuplicate, IsWithoutAbsent, IsWithoutCycles, IsWithoutDuplicates}
 use Rattle.cls_set.specs.Faults.{IsSetFault}
 use Rattle.cls_set.specs.Subtypes.{IsDirectSupertype}
@@ -29,27 +29,27 @@ use Rattle.cls_set.proofs.Sorting.{matches, count_strict}
 use Rattle.cls_set.proofs.Hierarchy.{class_of_read, rank_of, same_some, true_false}
 use Rattle.cls_set.proofs.Supertypes.{ranks}
 
-abbrev pub origin_of : Member → Origin
+abbrev pub origin_of : ClassEntry → Origin
 origin_of m = origin m.class
 
 origins_ranked : (k : ℕ) (os : List Origin) → map origin_of (ranked_from k os) ≡ os
 origins_ranked k [] = refl
 origins_ranked k (o ∷ os) = ap (λ xs. o ∷ xs) (origins_ranked (suc k) os)
 
-names_from_origins : (members : List Member) → names (classes_of members) ≡ map (λ (o : Origin). o.0.name) (map origin_of members)
+names_from_origins : (entries : List ClassEntry) → names (classes_of entries) ≡ map (λ (o : Origin). o.0.name) (map origin_of entries)
 names_from_origins [] = refl
 names_from_origins (m ∷ ms) = ap (λ ns. m.class.file.name ∷ ns) (names_from_origins ms)
 
-pub origins_of_classes : (members : List Member) → map origin (classes_of members) ≡ map origin_of members
+pub origins_of_classes : (entries : List ClassEntry) → map origin (classes_of entries) ≡ map origin_of entries
 origins_of_classes [] = refl
 origins_of_classes (m ∷ ms) = ap (λ os. origin m.class ∷ os) (origins_of_classes ms)
 
-origins_from_kept : (members : List Member) → map origin_of members ≡ map (λ (k : Origin × ℕ). k.0) (map kept members)
+origins_from_kept : (entries : List ClassEntry) → map origin_of entries ≡ map (λ (k : Origin × ℕ). k.0) (map kept entries)
 origins_from_kept [] = refl
 origins_from_kept (m ∷ ms) = ap (λ os. origin m.class ∷ os) (origins_from_kept ms)
 
 -- the first class on a cycle, named
-pub cycle_named : (old new : List Member) (k : ℕ) (m : Member) (e : SetFault) → classes_of new ≡ classes_of old → IsStrictlySortedBy name_cmp (names (classes_of old)) → All (IsResolved (names (classes_of old))) (classes_of old) → IsFirstOwn (classes_of old) k → m ≡ get_or new k m → IsFaultOf Cycle m.class.file.name e → IsCycleFault (origins_of old) e
+pub cycle_named : (old new : List ClassEntry) (k : ℕ) (m : ClassEntry) (e : SetFault) → classes_of new ≡ classes_of old → IsStrictlySortedBy name_cmp (names (classes_of old)) → All (IsResolved (names (classes_of old))) (classes_of old) → IsFirstOwn (classes_of old) k → m ≡ get_or new k m → IsFaultOf Cycle m.class.file.name e → IsCycleFault (origins_of old) e
 cycle_named old new k m e same ordered resolved own is fault =
     let name = m.class.file.name in
     let within : k < length new = subst (λ n. k < n) (length-map new (λ m. m.class)) (subst (λ (cs : List Class). k < length cs) (sym same) own.within) in
@@ -89,39 +89,39 @@ built_in_stands files classes has k d h =
     let found = Contains-permutation (origins files) (map origin classes) o has among in
     named 0 classes o found.0 (rw length-map at found.1) found.2
 
--- members that hold the classes of the files and the built-in ones
-module _ (files : List ClassFile) (members : List Member) (all : IsPermutation (ranked_from 0 (origins files)) members) where
-  pub origins_held : IsPermutation (origins files) (map origin_of members)
-  origins_held = subst (λ os. IsPermutation os (map origin_of members)) (origins_ranked 0 (origins files)) (IsPermutation-map origin_of (ranked_from 0 (origins files)) members all)
+-- entries that hold the classes of the files and the built-in ones
+module _ (files : List ClassFile) (entries : List ClassEntry) (all : IsPermutation (ranked_from 0 (origins files)) entries) where
+  pub origins_held : IsPermutation (origins files) (map origin_of entries)
+  origins_held = subst (λ os. IsPermutation os (map origin_of entries)) (origins_ranked 0 (origins files)) (IsPermutation-map origin_of (ranked_from 0 (origins files)) entries all)
 
-  names_held : IsPermutation (origin_names files) (names (classes_of members))
-  names_held = subst (IsPermutation (origin_names files)) (sym (names_from_origins members)) (IsPermutation-map (λ (o : Origin). o.0.name) (origins files) (map origin_of members) origins_held)
+  names_held : IsPermutation (origin_names files) (names (classes_of entries))
+  names_held = subst (IsPermutation (origin_names files)) (sym (names_from_origins entries)) (IsPermutation-map (λ (o : Origin). o.0.name) (origins files) (map origin_of entries) origins_held)
 
-  same_count : (name : List ℕ) → count_by (matches name) (names (classes_of members)) ≡ count_by (matches name) (origin_names files)
-  same_count name = sum_by-IsPermutation (λ n. cond (matches name n) 1 0) (origin_names files) (names (classes_of members)) names_held
+  same_count : (name : List ℕ) → count_by (matches name) (names (classes_of entries)) ≡ count_by (matches name) (origin_names files)
+  same_count name = sum_by-IsPermutation (λ n. cond (matches name n) 1 0) (origin_names files) (names (classes_of entries)) names_held
 
-  pub duplicate_held : (name : List ℕ) → IsFirstDuplicate (names (classes_of members)) name → IsFirstDuplicate (origin_names files) name
+  pub duplicate_held : (name : List ℕ) → IsFirstDuplicate (names (classes_of entries)) name → IsFirstDuplicate (origin_names files) name
   duplicate_held name d =
       record {
         twice = subst (λ n. 1 < n) (same_count name) d.twice;
         first = λ other less twice. d.first other less (subst (λ n. 1 < n) (sym (same_count other)) twice);
       }
 
-  pub duplicate_fault : (fault : SetFault) → IsDuplicateFault (names (classes_of members)) fault → IsSetFault files fault
+  pub duplicate_fault : (fault : SetFault) → IsDuplicateFault (names (classes_of entries)) fault → IsSetFault files fault
   duplicate_fault (Broken Duplicate name) h = (duplicate_held name h, λ other l. absurd (omega (arith, l)))
   duplicate_fault Memory h = tt
   duplicate_fault (Broken _ name) h = absurd h
 
-  pub distinct : IsStrictlySortedBy name_cmp (names (classes_of members)) → IsWithoutDuplicates (origin_names files)
+  pub distinct : IsStrictlySortedBy name_cmp (names (classes_of entries)) → IsWithoutDuplicates (origin_names files)
   distinct ordered name twice =
-      let once = count_strict name (names (classes_of members)) ordered in
+      let once = count_strict name (names (classes_of entries)) ordered in
       let same = same_count name in
       absurd (omega (arith, once, same, twice))
 
-  all_long : length members ≡ length (origins files)
-  all_long = length_permutation (ranked_from 0 (origins files)) members all ∙ length_ranked 0 (origins files)
+  all_long : length entries ≡ length (origins files)
+  all_long = length_permutation (ranked_from 0 (origins files)) entries all ∙ length_ranked 0 (origins files)
 
-  pub few_held : (last : Option (List ℕ)) → last ≡ option_map (λ (file : ClassFile). file.name) (slice_get files (length files - 1)) → (IsSome last → length members ≤ 4096) → length members ≤ 4096
+  pub few_held : (last : Option (List ℕ)) → last ≡ option_map (λ (file : ClassFile). file.name) (slice_get files (length files - 1)) → (IsSome last → length entries ≤ 4096) → length entries ≤ 4096
   few_held last is few =
       elim (slice_get_cases files (length files - 1)).1 [
         | inl r ↦ few (subst IsSome (sym (is ∙ ap (option_map (λ (file : ClassFile). file.name)) r.2)) refl)
@@ -132,41 +132,41 @@ module _ (files : List ClassFile) (members : List Member) (all : IsPermutation (
             omega (arith, whole, both, past)
       ]
 
-  few_origins : length members ≤ 4096 → length (origins files) ≤ 4096
+  few_origins : length entries ≤ 4096 → length (origins files) ≤ 4096
   few_origins few = let whole = all_long in omega (arith, whole, few)
 
   -- the rules so far are kept
-  pub kept_distinct : IsStrictlySortedBy name_cmp (names (classes_of members)) → AreKeptBelow files 1
+  pub kept_distinct : IsStrictlySortedBy name_cmp (names (classes_of entries)) → AreKeptBelow files 1
   kept_distinct ordered = kept_next files Duplicate 0 refl (λ other l. absurd (omega (arith, l))) (distinct ordered)
 
-  pub kept_few : IsStrictlySortedBy name_cmp (names (classes_of members)) → length members ≤ 4096 → AreKeptBelow files 2
+  pub kept_few : IsStrictlySortedBy name_cmp (names (classes_of entries)) → length entries ≤ 4096 → AreKeptBelow files 2
   kept_few ordered few = kept_next files TooMany 1 refl (kept_distinct ordered) (few_origins few)
 
-  pub many_fault : IsStrictlySortedBy name_cmp (names (classes_of members)) → (last : Option (List ℕ)) → last ≡ option_map (λ (file : ClassFile). file.name) (slice_get files (length files - 1)) → (fault : SetFault) → 4096 < length members → IfSome last (λ name. IsFaultOf TooMany name fault) → IsSome last → IsSetFault files fault
+  pub many_fault : IsStrictlySortedBy name_cmp (names (classes_of entries)) → (last : Option (List ℕ)) → last ≡ option_map (λ (file : ClassFile). file.name) (slice_get files (length files - 1)) → (fault : SetFault) → 4096 < length entries → IfSome last (λ name. IsFaultOf TooMany name fault) → IsSome last → IsSetFault files fault
   many_fault ordered (Some name) is (Broken rule n) over h some =
       let whole = all_long in
       subst (λ r. IsSetFault files (Broken r n)) (sym h.0) (record { many = omega (arith, whole, over); last = sym is ∙ ap (λ x. Some x) (sym h.1) }, kept_distinct ordered)
   many_fault ordered (Some name) is Memory over h some = tt
   many_fault ordered None is fault over h some = absurd (true_false (sym some))
 
-  forth : (o : Origin) → Contains (origins files) o → Contains (origins_of members) o
-  forth o among = Contains-permutation (origins files) (origins_of members) o origins_held among
+  forth : (o : Origin) → Contains (origins files) o → Contains (origins_of entries) o
+  forth o among = Contains-permutation (origins files) (origins_of entries) o origins_held among
 
-  back : (o : Origin) → Contains (origins_of members) o → Contains (origins files) o
-  back o among = Contains-permutation (origins_of members) (origins files) o (IsPermutation-sym (origins files) (origins_of members) origins_held) among
+  back : (o : Origin) → Contains (origins_of entries) o → Contains (origins files) o
+  back o among = Contains-permutation (origins_of entries) (origins files) o (IsPermutation-sym (origins files) (origins_of entries) origins_held) among
 
-  absent_out : (file : ClassFile) → HasAbsent (names (classes_of members)) file → HasAbsent (origin_names files) file
-  absent_out file h = record { name = h.name; mentioned = h.mentioned; absent = λ among. h.absent (Contains-permutation (origin_names files) (names (classes_of members)) h.name names_held among) }
+  absent_out : (file : ClassFile) → HasAbsent (names (classes_of entries)) file → HasAbsent (origin_names files) file
+  absent_out file h = record { name = h.name; mentioned = h.mentioned; absent = λ among. h.absent (Contains-permutation (origin_names files) (names (classes_of entries)) h.name names_held among) }
 
-  absent_in : (file : ClassFile) → HasAbsent (origin_names files) file → HasAbsent (names (classes_of members)) file
+  absent_in : (file : ClassFile) → HasAbsent (origin_names files) file → HasAbsent (names (classes_of entries)) file
   absent_in file h =
       record {
         name = h.name;
         mentioned = h.mentioned;
-        absent = λ among. h.absent (Contains-permutation (names (classes_of members)) (origin_names files) h.name (IsPermutation-sym (origin_names files) (names (classes_of members)) names_held) among);
+        absent = λ among. h.absent (Contains-permutation (names (classes_of entries)) (origin_names files) h.name (IsPermutation-sym (origin_names files) (names (classes_of entries)) names_held) among);
       }
 
-  pub absent_fault : IsStrictlySortedBy name_cmp (names (classes_of members)) → length members ≤ 4096 → (fault : SetFault) → IsAbsentFault (names (classes_of members)) (origins_of members) fault → IsSetFault files fault
+  pub absent_fault : IsStrictlySortedBy name_cmp (names (classes_of entries)) → length entries ≤ 4096 → (fault : SetFault) → IsAbsentFault (names (classes_of entries)) (origins_of entries) fault → IsSetFault files fault
   absent_fault ordered few (Broken AbsentClass name) h = (
     record {
       class = h.class;
@@ -180,40 +180,40 @@ module _ (files : List ClassFile) (members : List Member) (all : IsPermutation (
   absent_fault ordered few Memory h = tt
   absent_fault ordered few (Broken _ name) h = absurd h
 
-  -- the members once they are resolved
-  module _ (resolved : List Member) (same : map kept resolved ≡ map kept members) (ordered : IsStrictlySortedBy name_cmp (names (classes_of members))) (found : All (λ m. IsWhole (names (classes_of members)) m.class) resolved) where
+  -- the entries once they are resolved
+  module _ (resolved : List ClassEntry) (same : map kept resolved ≡ map kept entries) (ordered : IsStrictlySortedBy name_cmp (names (classes_of entries))) (found : All (λ m. IsWhole (names (classes_of entries)) m.class) resolved) where
     pub has_classes : HasClasses files (classes_of resolved)
     has_classes =
-        subst (IsPermutation (origins files)) (sym (origins_of_classes resolved ∙ (origins_from_kept resolved ∙ (ap (map (λ (k : Origin × ℕ). k.0)) same ∙ sym (origins_from_kept members))))) origins_held
+        subst (IsPermutation (origins files)) (sym (origins_of_classes resolved ∙ (origins_from_kept resolved ∙ (ap (map (λ (k : Origin × ℕ). k.0)) same ∙ sym (origins_from_kept entries))))) origins_held
 
     pub ordered_kept : IsStrictlySortedBy name_cmp (names (classes_of resolved))
-    ordered_kept = subst (IsStrictlySortedBy name_cmp) (sym (names_kept resolved members same)) ordered
+    ordered_kept = subst (IsStrictlySortedBy name_cmp) (sym (names_kept resolved entries same)) ordered
 
     pub found_kept : All (IsResolved (names (classes_of resolved))) (classes_of resolved)
     found_kept =
-        All-map (IsResolved (names (classes_of resolved))) (λ (m : Member). m.class) resolved (subst (λ n. All (λ m. IsResolved n m.class) resolved) (sym (names_kept resolved members same)) (λ k d h. (found k d h).resolved))
+        All-map (IsResolved (names (classes_of resolved))) (λ (m : ClassEntry). m.class) resolved (subst (λ n. All (λ m. IsResolved n m.class) resolved) (sym (names_kept resolved entries same)) (λ k d h. (found k d h).resolved))
 
     inside : (o : Origin) → Contains (origins files) o → Contains (map origin (classes_of resolved)) o
-    inside o among = subst (λ os. Contains os o) (sym (origins_of_classes resolved ∙ origins_kept resolved members same)) (forth o among)
+    inside o among = subst (λ os. Contains os o) (sym (origins_of_classes resolved ∙ origins_kept resolved entries same)) (forth o among)
 
-    whole_at : (i : ℕ) (c : Class) → slice_get (classes_of resolved) i ≡ Some c → IsWhole (names (classes_of members)) c
+    whole_at : (i : ℕ) (c : Class) → slice_get (classes_of resolved) i ≡ Some c → IsWhole (names (classes_of entries)) c
     whole_at i c e =
         let h = slice_get_within (classes_of resolved) i c e in
-        subst (IsWhole (names (classes_of members))) (same_some (sym (slice_get-get_or (classes_of resolved) i c h) ∙ e))
-        (All-get_or (IsWhole (names (classes_of members))) (classes_of resolved) i c h (All-map (IsWhole (names (classes_of members))) (λ (m : Member). m.class) resolved found))
+        subst (IsWhole (names (classes_of entries))) (same_some (sym (slice_get-get_or (classes_of resolved) i c h) ∙ e))
+        (All-get_or (IsWhole (names (classes_of entries))) (classes_of resolved) i c h (All-map (IsWhole (names (classes_of entries))) (λ (m : ClassEntry). m.class) resolved found))
 
     pub complete : IsWithoutAbsent (origin_names files) (origins files)
     complete o among a =
         let at = standing (classes_of resolved) ordered_kept found_kept o (inside o among) in
-        (whole_at at.0 at.1 at.2).present (subst (λ (o : Origin). HasAbsent (names (classes_of members)) o.0) (sym at.3) (absent_in o.0 a))
+        (whole_at at.0 at.1 at.2).present (subst (λ (o : Origin). HasAbsent (names (classes_of entries)) o.0) (sym at.3) (absent_in o.0 a))
 
     outside : (o : Origin) → Contains (origins_of resolved) o → Contains (origins files) o
-    outside o among = back o (subst (λ os. Contains os o) (origins_kept resolved members same) among)
+    outside o among = back o (subst (λ os. Contains os o) (origins_kept resolved entries same) among)
 
-    pub kept_complete : length members ≤ 4096 → AreKeptBelow files 3
+    pub kept_complete : length entries ≤ 4096 → AreKeptBelow files 3
     kept_complete few = kept_next files AbsentClass 2 refl (kept_few ordered few) complete
 
-    pub cycle_held : length members ≤ 4096 → (fault : SetFault) → IsCycleFault (origins_of resolved) fault → IsSetFault files fault
+    pub cycle_held : length entries ≤ 4096 → (fault : SetFault) → IsCycleFault (origins_of resolved) fault → IsSetFault files fault
     cycle_held few (Broken Cycle name) h = (
       record {
         cycle = more_named (origins_of resolved) (origins files) outside name name h.cycle;
@@ -225,7 +225,7 @@ module _ (files : List ClassFile) (members : List Member) (all : IsPermutation (
     cycle_held few (Broken _ name) h = absurd h
 
     -- once they are ranked too
-    module _ (final : List Member) (is_final : classes_of final ≡ classes_of resolved) (ranked : All (IsRanked final) final) where
+    module _ (final : List ClassEntry) (is_final : classes_of final ≡ classes_of resolved) (ranked : All (IsRanked final) final) where
       pub acyclic : IsWithoutCycles (origins files)
       acyclic x s =
           none_own (classes_of resolved) ordered_kept found_kept (rank_of final) (λ sub sup d. ranks final ranked sub sup (subst (λ cs. IsDirectSupertype cs sub sup) (sym is_final) d)) x
@@ -234,14 +234,14 @@ module _ (files : List ClassFile) (members : List Member) (all : IsPermutation (
       pub has_classes_ranked : HasClasses files (classes_of final)
       has_classes_ranked = subst (HasClasses files) (sym is_final) has_classes
 
-      pub kept_acyclic : length members ≤ 4096 → AreKeptBelow files 4
+      pub kept_acyclic : length entries ≤ 4096 → AreKeptBelow files 4
       kept_acyclic few = kept_next files Cycle 3 refl (kept_complete few) acyclic
 
-      pub arranged : length members ≤ 4096 → AreArranged final
+      pub arranged : length entries ≤ 4096 → AreArranged final
       arranged few =
           record {
             ordered = subst (λ cs. IsStrictlySortedBy name_cmp (names cs)) (sym is_final) ordered_kept;
-            few = subst (λ n. n ≤ 4096) (sym (sym (length-map final (λ m. m.class)) ∙ (ap length is_final ∙ (length-map resolved (λ m. m.class) ∙ length_kept resolved members same)))) few;
+            few = subst (λ n. n ≤ 4096) (sym (sym (length-map final (λ m. m.class)) ∙ (ap length is_final ∙ (length-map resolved (λ m. m.class) ∙ length_kept resolved entries same)))) few;
             resolved = subst (λ cs. All (IsResolved (names cs)) cs) (sym is_final) found_kept;
             ranked = ranked;
           }

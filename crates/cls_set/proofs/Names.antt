@@ -18,16 +18,16 @@ use Rattle.std.proofs.lemmas.Map.Views.{All-after_first}
 use Rattle.cls_set.specs.declared.class.Class.{Class}
 use Rattle.cls_set.proofs.Hierarchy.{same_some, none_some}
 use Rattle.space_ids.specs.declared.ids.ClassId.{ClassId}
-use Rattle.cls_set.specs.declared.members.Member.{Member}
+use Rattle.cls_set.specs.declared.entries.ClassEntry.{ClassEntry}
 use Rattle.cls_set.specs.Classes.{name_cmp, names, number_from, number_of}
-use Rattle.cls_set.specs.Members.{classes_of}
+use Rattle.cls_set.specs.Entries.{classes_of}
 
--- the name of a member
-abbrev pub name_of : Member → List ℕ
+-- the name of an entry
+abbrev pub name_of : ClassEntry → List ℕ
 name_of m = m.class.file.name
 
--- the order of a member's name to another
-abbrev pub order_to : List ℕ → Member → Ordering
+-- the order of an entry's name to another
+abbrev pub order_to : List ℕ → ClassEntry → Ordering
 order_to name m = name_cmp (name_of m) name
 
 -- in a strictly sorted list each is below every later one
@@ -38,29 +38,29 @@ sorted_far c (k ∷ ks) (suc i) zero d s l h = absurd (omega arith)
 sorted_far c (k ∷ ks) zero (suc j) d s l h = All-get_or (λ q. c k q ≡ Less) ks j d (omega arith) (All-after_first c k ks s)
 sorted_far c (k ∷ ks) (suc i) (suc j) d s l h = sorted_far c ks i j d (sorted_tail c k ks s) (omega arith) (omega arith)
 
-pub length_names : (members : List Member) → length (names (classes_of members)) ≡ length members
-length_names members = length-map (classes_of members) (λ c. c.file.name) ∙ length-map members (λ m. m.class)
+pub length_names : (entries : List ClassEntry) → length (names (classes_of entries)) ≡ length entries
+length_names entries = length-map (classes_of entries) (λ c. c.file.name) ∙ length-map entries (λ m. m.class)
 
-pub name_read : (members : List Member) (k : ℕ) (d : Member) (e : List ℕ) → k < length members → get_or (names (classes_of members)) k e ≡ name_of (get_or members k d)
-name_read members k d e h =
-    get_or-map (λ (c : Class). c.file.name) (classes_of members) k d.class e (subst (λ n. k < n) (sym (length-map members (λ m. m.class))) h)
-    ∙ ap (λ (c : Class). c.file.name) (get_or-map (λ (m : Member). m.class) members k d d.class h)
+pub name_read : (entries : List ClassEntry) (k : ℕ) (d : ClassEntry) (e : List ℕ) → k < length entries → get_or (names (classes_of entries)) k e ≡ name_of (get_or entries k d)
+name_read entries k d e h =
+    get_or-map (λ (c : Class). c.file.name) (classes_of entries) k d.class e (subst (λ n. k < n) (sym (length-map entries (λ m. m.class))) h)
+    ∙ ap (λ (c : Class). c.file.name) (get_or-map (λ (m : ClassEntry). m.class) entries k d d.class h)
 
--- the order of the names of two members, by index
-far_names : (members : List Member) (i j : ℕ) (d : Member) → IsStrictlySortedBy name_cmp (names (classes_of members)) → i < j → j < length members → name_cmp (name_of (get_or members i d)) (name_of (get_or members j d)) ≡ Less
-far_names members i j d s l h =
-    let far = sorted_far name_cmp (names (classes_of members)) i j [] s l (subst (λ n. j < n) (sym (length_names members)) h) in
-    let first : i < length members = omega arith in
-    subst (λ x. name_cmp x (name_of (get_or members j d)) ≡ Less) (name_read members i d [] first) (subst (λ y. name_cmp (get_or (names (classes_of members)) i []) y ≡ Less) (name_read members j d [] h) far)
+-- the order of the names of two entries, by index
+far_names : (entries : List ClassEntry) (i j : ℕ) (d : ClassEntry) → IsStrictlySortedBy name_cmp (names (classes_of entries)) → i < j → j < length entries → name_cmp (name_of (get_or entries i d)) (name_of (get_or entries j d)) ≡ Less
+far_names entries i j d s l h =
+    let far = sorted_far name_cmp (names (classes_of entries)) i j [] s l (subst (λ n. j < n) (sym (length_names entries)) h) in
+    let first : i < length entries = omega arith in
+    subst (λ x. name_cmp x (name_of (get_or entries j d)) ≡ Less) (name_read entries i d [] first) (subst (λ y. name_cmp (get_or (names (classes_of entries)) i []) y ≡ Less) (name_read entries j d [] h) far)
 
 not_less_back : (x y : List ℕ) → name_cmp x y ≡ Less → is_lt (name_cmp y x) ≡ false
 not_less_back x y e = ap is_lt (nat_list_cmp_total.antisymm y x ∙ ap ordering_reverse e)
 
 -- so a search by name finds its way
-pub searchable : (members : List Member) (name : List ℕ) → IsStrictlySortedBy name_cmp (names (classes_of members)) → IsNonDecreasingBy (λ m. ordering_index (order_to name m)) members
-searchable members name s =
-    searchable_from_sorted nat_list_cmp_total name_of members name
-    (λ k d low high. not_less_back (name_of (get_or members k d)) (name_of (get_or members (k + 1) d)) (far_names members k (k + 1) d s (omega arith) high))
+pub searchable : (entries : List ClassEntry) (name : List ℕ) → IsStrictlySortedBy name_cmp (names (classes_of entries)) → IsNonDecreasingBy (λ m. ordering_index (order_to name m)) entries
+searchable entries name s =
+    searchable_from_sorted nat_list_cmp_total name_of entries name
+    (λ k d low high. not_less_back (name_of (get_or entries k d)) (name_of (get_or entries (k + 1) d)) (far_names entries k (k + 1) d s (omega arith) high))
 
 pub same_test : (x y : List ℕ) (r : Ordering) → name_cmp x y ≡ r → bytes_eq x y ≡ is_eq r
 same_test x y r e = sym (is_eq-slice_cmp x y) ∙ ap is_eq e
@@ -87,29 +87,29 @@ number_absent k (c ∷ cs) name none =
     let first = All-head (λ n. bytes_eq n name ≡ false) c.file.name (names cs) none in
     rw first (number_absent (suc k) cs name (All-tail (λ n. bytes_eq n name ≡ false) c.file.name (names cs) none))
 
-other_at : (members : List Member) (name : List ℕ) (i : ℕ) → IsPartitionPoint (λ m. order_to name m ≡ Less) (λ m. order_to name m ≡ Greater) members i → All (λ m. bytes_eq (name_of m) name ≡ false) members
-other_at members name i parts k d h =
+other_at : (entries : List ClassEntry) (name : List ℕ) (i : ℕ) → IsPartitionPoint (λ m. order_to name m ≡ Less) (λ m. order_to name m ≡ Greater) entries i → All (λ m. bytes_eq (name_of m) name ≡ false) entries
+other_at entries name i parts k d h =
     elim (before k i) [
-      | inl low ↦ same_test (name_of (get_or members k d)) name Less (parts.0 k d (omega arith) low)
-      | inr high ↦ same_test (name_of (get_or members k d)) name Greater (parts.1 k d high h)
+      | inl low ↦ same_test (name_of (get_or entries k d)) name Less (parts.0 k d (omega arith) low)
+      | inr high ↦ same_test (name_of (get_or entries k d)) name Greater (parts.1 k d high h)
     ]
 
 -- what a binary search by name found
-pub find_found : (members : List Member) (name : List ℕ) (i : ℕ) → IsStrictlySortedBy name_cmp (names (classes_of members)) → i < length members → HoldsAt (λ m. order_to name m ≡ Equal) members i → number_of (classes_of members) name ≡ Some (record { 0 = i })
-find_found members name i s h at =
-    elim (slice_get_cases members i).1 [
+pub find_found : (entries : List ClassEntry) (name : List ℕ) (i : ℕ) → IsStrictlySortedBy name_cmp (names (classes_of entries)) → i < length entries → HoldsAt (λ m. order_to name m ≡ Equal) entries i → number_of (classes_of entries) name ≡ Some (record { 0 = i })
+find_found entries name i s h at =
+    elim (slice_get_cases entries i).1 [
       | inl r ↦
-          let is = same_test (name_of (get_or members i r.0)) name Equal (at r.0) in
-          number_found 0 (classes_of members) name i s (subst (λ n. i < n) (sym (length-map members (λ m. m.class))) h) (subst (λ n. bytes_eq n name ≡ true) (sym (name_read members i r.0 [] h)) is)
+          let is = same_test (name_of (get_or entries i r.0)) name Equal (at r.0) in
+          number_found 0 (classes_of entries) name i s (subst (λ n. i < n) (sym (length-map entries (λ m. m.class))) h) (subst (λ n. bytes_eq n name ≡ true) (sym (name_read entries i r.0 [] h)) is)
           ∙ ap (λ n. Some (record { 0 = n })) (zero-add i)
       | inr r ↦ absurd (omega arith)
     ]
 
-pub find_absent : (members : List Member) (name : List ℕ) (i : ℕ) → IsPartitionPoint (λ m. order_to name m ≡ Less) (λ m. order_to name m ≡ Greater) members i → number_of (classes_of members) name ≡ None
-find_absent members name i parts =
-    number_absent 0 (classes_of members) name
-    (All-map (λ n. bytes_eq n name ≡ false) (λ (c : Class). c.file.name) (classes_of members)
-    (All-map (λ (c : Class). bytes_eq c.file.name name ≡ false) (λ (m : Member). m.class) members (other_at members name i parts)))
+pub find_absent : (entries : List ClassEntry) (name : List ℕ) (i : ℕ) → IsPartitionPoint (λ m. order_to name m ≡ Less) (λ m. order_to name m ≡ Greater) entries i → number_of (classes_of entries) name ≡ None
+find_absent entries name i parts =
+    number_absent 0 (classes_of entries) name
+    (All-map (λ n. bytes_eq n name ≡ false) (λ (c : Class). c.file.name) (classes_of entries)
+    (All-map (λ (c : Class). bytes_eq c.file.name name ≡ false) (λ (m : ClassEntry). m.class) entries (other_at entries name i parts)))
 
 some_id : (k : ℕ) (id : ClassId) → Some (record { 0 = k }) ≡ Some id → id.0 ≡ k
 some_id k id e = ap (λ (i : ClassId). i.0) (sym (same_some e))

@@ -9,10 +9,10 @@ use Rattle.cf_reader.specs.declared.class_file.Method.{Method}
 use Rattle.cf_reader.specs.declared.flags.TheConstants.Flags.{PRIVATE, STATIC, FINAL}
 use Rattle.cls_set.specs.declared.class.Class.{Class}
 use Rattle.space_ids.specs.declared.ids.ClassId.{ClassId}
-use Rattle.cls_set.specs.declared.members.Member.{Member}
+use Rattle.cls_set.specs.declared.entries.ClassEntry.{ClassEntry}
 use Rattle.cls_set.specs.Building.{origins_of}
 use Rattle.cls_set.specs.ClassRules.{ClashesAbove, ClashesIn}
-use Rattle.cls_set.specs.Members.{classes_of, AreArranged}
+use Rattle.cls_set.specs.Entries.{classes_of, AreArranged}
 use Rattle.cls_set.specs.Rules as rules
 use Rattle.cls_set.specs.Rules.{package_name, Clashes, Has, HasPackageAccess, HasSuperclass, IsSamePackage, IsSuperclass, MayNotStand, OverridesBadly}
 use Rattle.cls_set.specs.Sets.{Origin}
@@ -68,24 +68,24 @@ below_instance lower upper low high n (rules.MayNotStand.overrides_as_private _ 
 below_instance lower upper low high n (rules.MayNotStand.hides_instance h _) = absurd (n h)
 
 -- the superclasses of a class that is arranged: its direct one, and those of that
-module _ (members : List Member) (a : AreArranged members) (c : Class) (among : Contains (classes_of members) c) where
-  direct_in : (s : ClassId) (k : Class) → c.superclass ≡ Some s → slice_get (classes_of members) s.0 ≡ Some k → HasSuperclass (origins_of members) c.file k.file
+module _ (entries : List ClassEntry) (a : AreArranged entries) (c : Class) (among : Contains (classes_of entries) c) where
+  direct_in : (s : ClassId) (k : Class) → c.superclass ≡ Some s → slice_get (classes_of entries) s.0 ≡ Some k → HasSuperclass (origins_of entries) c.file k.file
   direct_in s k is e =
-      subst (λ os. HasSuperclass os c.file k.file) (origins_of_classes members) (superclass_in (classes_of members) a.ordered a.resolved c (resolved_member members a c among) s k is e)
+      subst (λ os. HasSuperclass os c.file k.file) (origins_of_classes entries) (superclass_in (classes_of entries) a.ordered a.resolved c (resolved_member entries a c among) s k is e)
 
-  direct_out : (s : ClassId) (k : Class) (f : ClassFile) → c.superclass ≡ Some s → slice_get (classes_of members) s.0 ≡ Some k → HasSuperclass (origins_of members) c.file f → f ≡ k.file
+  direct_out : (s : ClassId) (k : Class) (f : ClassFile) → c.superclass ≡ Some s → slice_get (classes_of entries) s.0 ≡ Some k → HasSuperclass (origins_of entries) c.file f → f ≡ k.file
   direct_out s k f is e h =
-      superclass_out (classes_of members) a.ordered a.resolved c (resolved_member members a c among) s k f is e
-      (subst (λ os. HasSuperclass os c.file f) (sym (origins_of_classes members)) h)
+      superclass_out (classes_of entries) a.ordered a.resolved c (resolved_member entries a c among) s k f is e
+      (subst (λ os. HasSuperclass os c.file f) (sym (origins_of_classes entries)) h)
 
-  none_above : (f : ClassFile) → c.superclass ≡ None → HasSuperclass (origins_of members) c.file f → ⊥
-  none_above f is h = superclass_none (classes_of members) a.ordered a.resolved c (resolved_member members a c among) f is (subst (λ os. HasSuperclass os c.file f) (sym (origins_of_classes members)) h)
+  none_above : (f : ClassFile) → c.superclass ≡ None → HasSuperclass (origins_of entries) c.file f → ⊥
+  none_above f is h = superclass_none (classes_of entries) a.ordered a.resolved c (resolved_member entries a c among) f is (subst (λ os. HasSuperclass os c.file f) (sym (origins_of_classes entries)) h)
 
--- a class of the members, where it is read
-class_at : (members : List Member) (i : ℕ) (k : Class) → slice_get (classes_of members) i ≡ Some k → Contains (classes_of members) k
-class_at members i k e =
-    let h = slice_get_within (classes_of members) i k e in
-    (i, h, same_some (sym (slice_get-get_or (classes_of members) i k h) ∙ e))
+-- a class of the entries, where it is read
+class_at : (entries : List ClassEntry) (i : ℕ) (k : Class) → slice_get (classes_of entries) i ≡ Some k → Contains (classes_of entries) k
+class_at entries i k e =
+    let h = slice_get_within (classes_of entries) i k e in
+    (i, h, same_some (sym (slice_get-get_or (classes_of entries) i k h) ∙ e))
 
 -- a superclass is the direct one, or one of that
 first_up : (os : List Origin) (sub sup : ClassFile) → IsSuperclass os sub sup → (mid : ClassFile) × HasSuperclass os sub mid × ((sup ≡ mid) ⊎ IsSuperclass os mid sup)
@@ -94,72 +94,72 @@ first_up os sub sup (rules.IsSuperclass.further a m b h up) = (m, h, inr up)
 
 -- a walk up the superclasses of a class: what stands above the class that it has come to stands above the first, and if that clashes
 -- with a superclass, one that is still to come is such
-pub record IsClimbing (members : List Member) (lower : ClassFile) (up : Option ClassId) : Type 0 where
+pub record IsClimbing (entries : List ClassEntry) (lower : ClassFile) (up : Option ClassId) : Type 0 where
   pub below : Class
-  pub among : Contains (classes_of members) below
+  pub among : Contains (classes_of entries) below
   pub next : below.superclass ≡ up
-  pub above : (upper : ClassFile) → IsSuperclass (origins_of members) below.file upper → IsSuperclass (origins_of members) lower upper
-  pub passed : ClashesAbove (origins_of members) lower lower → ClashesAbove (origins_of members) lower below.file
+  pub above : (upper : ClassFile) → IsSuperclass (origins_of entries) below.file upper → IsSuperclass (origins_of entries) lower upper
+  pub passed : ClashesAbove (origins_of entries) lower lower → ClashesAbove (origins_of entries) lower below.file
 
 -- how far it can go yet
-abbrev pub still : List Member → Option ClassId → ℕ
-still members None = 0
-still members (Some s) = suc (rank_of members s)
+abbrev pub still : List ClassEntry → Option ClassId → ℕ
+still entries None = 0
+still entries (Some s) = suc (rank_of entries s)
 
-module _ (members : List Member) (a : AreArranged members) (lower : ClassFile) where
-  pub climb_starts : (c : Class) → Contains (classes_of members) c → lower ≡ c.file → (up : Option ClassId) → up ≡ c.superclass → IsClimbing members lower up
+module _ (entries : List ClassEntry) (a : AreArranged entries) (lower : ClassFile) where
+  pub climb_starts : (c : Class) → Contains (classes_of entries) c → lower ≡ c.file → (up : Option ClassId) → up ≡ c.superclass → IsClimbing entries lower up
   climb_starts c among is up e =
       record {
         below = c;
         among = among;
         next = sym e;
-        above = λ upper h. subst (λ f. IsSuperclass (origins_of members) f upper) (sym is) h;
-        passed = λ h. subst (ClashesAbove (origins_of members) lower) is h;
+        above = λ upper h. subst (λ f. IsSuperclass (origins_of entries) f upper) (sym is) h;
+        passed = λ h. subst (ClashesAbove (origins_of entries) lower) is h;
       }
 
-  pub climb_within : (s : ClassId) (up : Option ClassId) → IsClimbing members lower up → up ≡ Some s → s.0 < length members
-  climb_within s up w is = superclass_in_set members a w.below w.among s (w.next ∙ is)
+  pub climb_within : (s : ClassId) (up : Option ClassId) → IsClimbing entries lower up → up ≡ Some s → s.0 < length entries
+  climb_within s up w is = superclass_in_set entries a w.below w.among s (w.next ∙ is)
 
-  module _ (s : ClassId) (k : Class) (up : Option ClassId) (w : IsClimbing members lower up) (is : up ≡ Some s) (e : slice_get (classes_of members) s.0 ≡ Some k) where
-    here : HasSuperclass (origins_of members) w.below.file k.file
-    here = direct_in members a w.below w.among s k (w.next ∙ is) e
+  module _ (s : ClassId) (k : Class) (up : Option ClassId) (w : IsClimbing entries lower up) (is : up ≡ Some s) (e : slice_get (classes_of entries) s.0 ≡ Some k) where
+    here : HasSuperclass (origins_of entries) w.below.file k.file
+    here = direct_in entries a w.below w.among s k (w.next ∙ is) e
 
-    pub climb_found : ClashesIn lower k.file → ClashesAbove (origins_of members) lower lower
+    pub climb_found : ClashesIn lower k.file → ClashesAbove (origins_of entries) lower lower
     climb_found h = (k.file, w.above k.file (rules.IsSuperclass.direct w.below.file k.file here), h)
 
     -- a clash that is not with this one is with one above it
-    not_here : (ClashesIn lower k.file → ⊥) → (upper : ClassFile) → IsSuperclass (origins_of members) w.below.file upper → ClashesIn lower upper → IsSuperclass (origins_of members) k.file upper
+    not_here : (ClashesIn lower k.file → ⊥) → (upper : ClassFile) → IsSuperclass (origins_of entries) w.below.file upper → ClashesIn lower upper → IsSuperclass (origins_of entries) k.file upper
     not_here none upper h clash =
-        let first = first_up (origins_of members) w.below.file upper h in
-        let same : first.0 ≡ k.file = direct_out members a w.below w.among s k first.0 (w.next ∙ is) e first.1 in
+        let first = first_up (origins_of entries) w.below.file upper h in
+        let same : first.0 ≡ k.file = direct_out entries a w.below w.among s k first.0 (w.next ∙ is) e first.1 in
         elim first.2 [
           | inl one ↦ absurd (none (subst (ClashesIn lower) (one ∙ same) clash))
-          | inr more ↦ subst (λ f. IsSuperclass (origins_of members) f upper) same more
+          | inr more ↦ subst (λ f. IsSuperclass (origins_of entries) f upper) same more
         ]
 
-    pub climb_on : (ClashesIn lower k.file → ⊥) → IsClimbing members lower k.superclass
+    pub climb_on : (ClashesIn lower k.file → ⊥) → IsClimbing entries lower k.superclass
     climb_on none =
         record {
           below = k;
-          among = class_at members s.0 k e;
+          among = class_at entries s.0 k e;
           next = refl;
           above = λ upper h. w.above upper (rules.IsSuperclass.further w.below.file k.file upper here h);
           passed = λ h. let old = w.passed h in (old.0, not_here none old.0 old.1 old.2, old.2);
         }
 
-    pub climb_falls : still members k.superclass < still members up
+    pub climb_falls : still entries k.superclass < still entries up
     climb_falls =
-        subst (λ o. still members k.superclass < still members o) (sym is)
-        (elim k.superclass as (λ o. k.superclass ≡ o → still members o < suc (rank_of members s)) [
+        subst (λ o. still entries k.superclass < still entries o) (sym is)
+        (elim k.superclass as (λ o. k.superclass ≡ o → still entries o < suc (rank_of entries s)) [
           | None ↦ λ _. omega arith
-          | Some t ↦ λ f. let low = (superclass_lower members s k t a.ranked e f).lower in omega (arith, low)
+          | Some t ↦ λ f. let low = (superclass_lower entries s k t a.ranked e f).lower in omega (arith, low)
         ] refl)
 
-  pub climb_ends : (up : Option ClassId) → IsClimbing members lower up → up ≡ None → ClashesAbove (origins_of members) lower lower → ⊥
+  pub climb_ends : (up : Option ClassId) → IsClimbing entries lower up → up ≡ None → ClashesAbove (origins_of entries) lower lower → ⊥
   climb_ends up w is h =
       let old = w.passed h in
-      let first = first_up (origins_of members) w.below.file old.0 old.1 in
-      none_above members a w.below w.among first.0 (w.next ∙ is) first.1
+      let first = first_up (origins_of entries) w.below.file old.0 old.1 in
+      none_above entries a w.below w.among first.0 (w.next ∙ is) first.1
 
 -- a clash with a superclass, in the words of the rule
 pub bad_from_clash : (os : List Origin) (lower : ClassFile) → ClashesAbove os lower lower → OverridesBadly os lower

@@ -4,10 +4,10 @@ use Rattle.std.specs.Prelude.{Contains, codes, slice_get}
 use Rattle.std.proofs.lemmas.Option.{slice_get_within, slice_get-get_or}
 use Rattle.cls_set.specs.declared.class.Class.{Class}
 use Rattle.space_ids.specs.declared.ids.ClassId.{ClassId}
-use Rattle.cls_set.specs.declared.members.Member.{Member}
+use Rattle.cls_set.specs.declared.entries.ClassEntry.{ClassEntry}
 use Rattle.cls_set.specs.Building.{origins_of}
 use Rattle.cls_set.specs.Classes.{names, number_of}
-use Rattle.cls_set.specs.Members.{classes_of, AreArranged}
+use Rattle.cls_set.specs.Entries.{classes_of, AreArranged}
 use Rattle.cls_set.specs.Rules.{IsBelowRemote}
 use Rattle.cls_set.specs.Sets.{origin, IsSupertypeByName}
 use Rattle.cls_set.specs.Subtypes as types
@@ -26,33 +26,33 @@ named_among ns i name e =
     let h = slice_get_within ns i name e in
     (i, h, same_some (sym (slice_get-get_or ns i name h) ∙ e))
 
-module _ (members : List Member) (a : AreArranged members) (k : ℕ) (c : Class) (is : slice_get (classes_of members) k ≡ Some c) where
-  here : slice_get (names (classes_of members)) k ≡ Some c.file.name
-  here = class_named (classes_of members) a.ordered a.resolved k c is
+module _ (entries : List ClassEntry) (a : AreArranged entries) (k : ℕ) (c : Class) (is : slice_get (classes_of entries) k ≡ Some c) where
+  here : slice_get (names (classes_of entries)) k ≡ Some c.file.name
+  here = class_named (classes_of entries) a.ordered a.resolved k c is
 
-  pub remote_same : (r : ClassId) → slice_get (names (classes_of members)) r.0 ≡ Some remote_name → k ≡ r.0 → IsBelowRemote (origins_of members) c.file.name
-  remote_same r named e = inl (same_some (sym here ∙ (ap (slice_get (names (classes_of members))) e ∙ named)))
+  pub remote_same : (r : ClassId) → slice_get (names (classes_of entries)) r.0 ≡ Some remote_name → k ≡ r.0 → IsBelowRemote (origins_of entries) c.file.name
+  remote_same r named e = inl (same_some (sym here ∙ (ap (slice_get (names (classes_of entries))) e ∙ named)))
 
-  pub remote_in : (r : ClassId) → slice_get (names (classes_of members)) r.0 ≡ Some remote_name → IsProperSubtype (classes_of members) (record { 0 = k }) r → IsBelowRemote (origins_of members) c.file.name
+  pub remote_in : (r : ClassId) → slice_get (names (classes_of entries)) r.0 ≡ Some remote_name → IsProperSubtype (classes_of entries) (record { 0 = k }) r → IsBelowRemote (origins_of entries) c.file.name
   remote_in r named p =
-      let y = by_name (classes_of members) a.ordered a.resolved (record { 0 = k }) r c.file.name here p in
+      let y = by_name (classes_of entries) a.ordered a.resolved (record { 0 = k }) r c.file.name here p in
       let same : y.0 ≡ remote_name = same_some (sym y.1 ∙ named) in
-      subst (λ os. IsBelowRemote os c.file.name) (origins_of_classes members) (inr (subst (λ name. IsSupertypeByName (map origin (classes_of members)) c.file.name name) same y.2))
+      subst (λ os. IsBelowRemote os c.file.name) (origins_of_classes entries) (inr (subst (λ name. IsSupertypeByName (map origin (classes_of entries)) c.file.name name) same y.2))
 
-  pub remote_out : (r : ClassId) → slice_get (names (classes_of members)) r.0 ≡ Some remote_name → IsBelowRemote (origins_of members) c.file.name → (k ≡ r.0) ⊎ IsProperSubtype (classes_of members) (record { 0 = k }) r
-  remote_out r named (inl e) = inl (one_index (names (classes_of members)) k r.0 remote_name a.ordered (here ∙ ap (λ n. Some n) e) named)
+  pub remote_out : (r : ClassId) → slice_get (names (classes_of entries)) r.0 ≡ Some remote_name → IsBelowRemote (origins_of entries) c.file.name → (k ≡ r.0) ⊎ IsProperSubtype (classes_of entries) (record { 0 = k }) r
+  remote_out r named (inl e) = inl (one_index (names (classes_of entries)) k r.0 remote_name a.ordered (here ∙ ap (λ n. Some n) e) named)
   remote_out r named (inr s) =
-      let up = subst (λ os. IsSupertypeByName os c.file.name remote_name) (sym (origins_of_classes members)) s in
-      let b = by_number (classes_of members) a.ordered a.resolved c.file.name remote_name (record { 0 = k }) here up in
-      let same : b.0 ≡ r = same_class b.0 r (one_index (names (classes_of members)) b.0.0 r.0 remote_name a.ordered b.1 named) in
-      inr (subst (IsProperSubtype (classes_of members) (record { 0 = k })) same b.2)
+      let up = subst (λ os. IsSupertypeByName os c.file.name remote_name) (sym (origins_of_classes entries)) s in
+      let b = by_number (classes_of entries) a.ordered a.resolved c.file.name remote_name (record { 0 = k }) here up in
+      let same : b.0 ≡ r = same_class b.0 r (one_index (names (classes_of entries)) b.0.0 r.0 remote_name a.ordered b.1 named) in
+      inr (subst (IsProperSubtype (classes_of entries) (record { 0 = k })) same b.2)
 
-  pub remote_none : number_of (classes_of members) remote_name ≡ None → IsBelowRemote (origins_of members) c.file.name → ⊥
-  remote_none none (inl e) = name_absent (classes_of members) remote_name none (named_among (names (classes_of members)) k remote_name (here ∙ ap (λ n. Some n) e))
+  pub remote_none : number_of (classes_of entries) remote_name ≡ None → IsBelowRemote (origins_of entries) c.file.name → ⊥
+  remote_none none (inl e) = name_absent (classes_of entries) remote_name none (named_among (names (classes_of entries)) k remote_name (here ∙ ap (λ n. Some n) e))
   remote_none none (inr s) =
-      let up = subst (λ os. IsSupertypeByName os c.file.name remote_name) (sym (origins_of_classes members)) s in
-      let b = by_number (classes_of members) a.ordered a.resolved c.file.name remote_name (record { 0 = k }) here up in
-      name_absent (classes_of members) remote_name none (named_among (names (classes_of members)) b.0.0 remote_name b.1)
+      let up = subst (λ os. IsSupertypeByName os c.file.name remote_name) (sym (origins_of_classes entries)) s in
+      let b = by_number (classes_of entries) a.ordered a.resolved c.file.name remote_name (record { 0 = k }) here up in
+      name_absent (classes_of entries) remote_name none (named_among (names (classes_of entries)) b.0.0 remote_name b.1)
 
 -- a subtype is the class itself or a proper one
 pub subtype_of_proper : (classes : List Class) (a b : ClassId) → IsProperSubtype classes a b → IsSubtype classes a b

@@ -13,10 +13,10 @@ use Rattle.std.proofs.lemmas.List.Sums.{sum_by-append}
 use Rattle.std.proofs.lemmas.Map.Keys.{sorted_tail}
 use Rattle.std.proofs.lemmas.Map.Views.{All-after_first}
 use Rattle.std.proofs.lemmas.Slice.Eq.{bytes_eq-Decides}
-use Rattle.cls_set.specs.declared.members.Member.{Member}
+use Rattle.cls_set.specs.declared.entries.ClassEntry.{ClassEntry}
 use Rattle.cls_set.specs.Building.{AscendByName}
 use Rattle.cls_set.specs.Classes.{name_cmp, names}
-use Rattle.cls_set.specs.Members.{classes_of}
+use Rattle.cls_set.specs.Entries.{classes_of}
 use Rattle.cls_set.specs.Sets.{IsFirstDuplicate}
 use Rattle.cls_set.proofs.Hierarchy.{true_false, by_contradiction_false}
 use Rattle.cls_set.proofs.Names.{name_of, name_read, length_names, same_test}
@@ -104,49 +104,49 @@ first_duplicate ks i name h front before here rest =
           absurd (omega (arith, one, none, all, twice));
     }
 
-next_below : (members : List Member) (n : ℕ) → n ≤ length members → AllAdjacentBelow (λ a b. name_cmp (name_of a) (name_of b) ≡ Less) members n → (i : ℕ) → suc i < n → name_cmp (get_or (names (classes_of members)) i []) (get_or (names (classes_of members)) (suc i) []) ≡ Less
+next_below : (entries : List ClassEntry) (n : ℕ) → n ≤ length entries → AllAdjacentBelow (λ a b. name_cmp (name_of a) (name_of b) ≡ Less) entries n → (i : ℕ) → suc i < n → name_cmp (get_or (names (classes_of entries)) i []) (get_or (names (classes_of entries)) (suc i) []) ≡ Less
 next_below [] n few below i h = absurd (omega arith)
 next_below (m ∷ ms) n few below i h =
-    let members = m ∷ ms in
+    let entries = m ∷ ms in
     let less = below i m (omega arith) in
-    subst (λ x. name_cmp x (get_or (names (classes_of members)) (suc i) []) ≡ Less) (sym (name_read members i m [] (omega arith)))
-    (subst (λ y. name_cmp (name_of (get_or members i m)) y ≡ Less) (sym (name_read members (suc i) m [] (omega arith))) (rw add-one at less))
+    subst (λ x. name_cmp x (get_or (names (classes_of entries)) (suc i) []) ≡ Less) (sym (name_read entries i m [] (omega arith)))
+    (subst (λ y. name_cmp (name_of (get_or entries i m)) y ≡ Less) (sym (name_read entries (suc i) m [] (omega arith))) (rw add-one at less))
 
--- the names of members, each below the next
-pub strictly_sorted : (members : List Member) (n : ℕ) → length members ≤ n → AllAdjacentBelow (λ a b. name_cmp (name_of a) (name_of b) ≡ Less) members n → IsStrictlySortedBy name_cmp (names (classes_of members))
-strictly_sorted members n all below =
-    strictly (names (classes_of members)) (λ i h. next_below members (length members) (omega arith) (λ k d l. below k d (omega arith)) i (rw length_names at h))
+-- the names of entries, each below the next
+pub strictly_sorted : (entries : List ClassEntry) (n : ℕ) → length entries ≤ n → AllAdjacentBelow (λ a b. name_cmp (name_of a) (name_of b) ≡ Less) entries n → IsStrictlySortedBy name_cmp (names (classes_of entries))
+strictly_sorted entries n all below =
+    strictly (names (classes_of entries)) (λ i h. next_below entries (length entries) (omega arith) (λ k d l. below k d (omega arith)) i (rw length_names at h))
 
-front_below : (members : List Member) (n : ℕ) → n ≤ length members → AllAdjacentBelow (λ a b. name_cmp (name_of a) (name_of b) ≡ Less) members n → (j : ℕ) → suc j < length (take n (names (classes_of members))) → name_cmp (get_or (take n (names (classes_of members))) j []) (get_or (take n (names (classes_of members))) (suc j) []) ≡ Less
-front_below members n some below j l =
-    let within : suc j < min n (length (names (classes_of members))) = rw length-take at l in
+front_below : (entries : List ClassEntry) (n : ℕ) → n ≤ length entries → AllAdjacentBelow (λ a b. name_cmp (name_of a) (name_of b) ≡ Less) entries n → (j : ℕ) → suc j < length (take n (names (classes_of entries))) → name_cmp (get_or (take n (names (classes_of entries))) j []) (get_or (take n (names (classes_of entries))) (suc j) []) ≡ Less
+front_below entries n some below j l =
+    let within : suc j < min n (length (names (classes_of entries))) = rw length-take at l in
     let second : suc j < n = omega (arith, within) in
     let first : j < n = omega arith in
-    rw (get_or-take, get_or-take) (next_below members n some below j second)
+    rw (get_or-take, get_or-take) (next_below entries n some below j second)
 
 less_one : (i : ℕ) → suc i - 1 ≡ i
 less_one i = omega arith
 
-rest_above : (members : List Member) (p k : ℕ) (here : Member) (d : List ℕ) → here ≡ get_or members p here → AscendByName members → k < length members - p → is_lt (name_cmp (get_or (drop p (names (classes_of members))) k d) (name_of here)) ≡ false
-rest_above members p k here d e up l =
-    let far = sorted_far (λ a b. is_lt (name_cmp (name_of a) (name_of b))) (ranks_by nat_list_cmp_total name_of) members up p (p + k) here (omega arith) (omega arith) in
+rest_above : (entries : List ClassEntry) (p k : ℕ) (here : ClassEntry) (d : List ℕ) → here ≡ get_or entries p here → AscendByName entries → k < length entries - p → is_lt (name_cmp (get_or (drop p (names (classes_of entries))) k d) (name_of here)) ≡ false
+rest_above entries p k here d e up l =
+    let far = sorted_far (λ a b. is_lt (name_cmp (name_of a) (name_of b))) (ranks_by nat_list_cmp_total name_of) entries up p (p + k) here (omega arith) (omega arith) in
     rw get_or-drop
-    (subst (λ x. is_lt (name_cmp x (name_of here)) ≡ false) (sym (name_read members (p + k) here d (omega arith)))
-    (subst (λ m. is_lt (name_cmp (name_of (get_or members (p + k) here)) (name_of m)) ≡ false) (sym e) far))
+    (subst (λ x. is_lt (name_cmp x (name_of here)) ≡ false) (sym (name_read entries (p + k) here d (omega arith)))
+    (subst (λ m. is_lt (name_cmp (name_of (get_or entries (p + k) here)) (name_of m)) ≡ false) (sym e) far))
 
--- the first member whose name is that of the one before it
-pub duplicate_at : (members : List Member) (p : ℕ) (before here : Member) → 1 ≤ p → p < length members → AscendByName members → AllAdjacentBelow (λ a b. name_cmp (name_of a) (name_of b) ≡ Less) members p → before ≡ get_or members (p - 1) before → here ≡ get_or members p here → name_of here ≡ name_of before → IsFirstDuplicate (names (classes_of members)) (name_of here)
-duplicate_at members zero before here some h up below b e same = absurd (omega arith)
-duplicate_at members (suc i) before here some h up below b e same =
-    let ks = names (classes_of members) in
+-- the first entry whose name is that of the one before it
+pub duplicate_at : (entries : List ClassEntry) (p : ℕ) (before here : ClassEntry) → 1 ≤ p → p < length entries → AscendByName entries → AllAdjacentBelow (λ a b. name_cmp (name_of a) (name_of b) ≡ Less) entries p → before ≡ get_or entries (p - 1) before → here ≡ get_or entries p here → name_of here ≡ name_of before → IsFirstDuplicate (names (classes_of entries)) (name_of here)
+duplicate_at entries zero before here some h up below b e same = absurd (omega arith)
+duplicate_at entries (suc i) before here some h up below b e same =
+    let ks = names (classes_of entries) in
     first_duplicate ks i (name_of here) (rw length_names h)
-    (strictly (take (suc i) ks) (front_below members (suc i) (omega arith) below))
-    (name_read members i before [] (omega arith) ∙ (ap name_of (sym (subst (λ k. before ≡ get_or members k before) (less_one i) b)) ∙ sym same))
-    (name_read members (suc i) here [] h ∙ ap name_of (sym e))
-    (λ k d l. rest_above members (suc i) k here d e up (rw (length-drop, length_names) at l))
+    (strictly (take (suc i) ks) (front_below entries (suc i) (omega arith) below))
+    (name_read entries i before [] (omega arith) ∙ (ap name_of (sym (subst (λ k. before ≡ get_or entries k before) (less_one i) b)) ∙ sym same))
+    (name_read entries (suc i) here [] h ∙ ap name_of (sym e))
+    (λ k d l. rest_above entries (suc i) k here d e up (rw (length-drop, length_names) at l))
 
 -- names that ascend and differ ascend strictly
-pub rises : (members : List Member) (p : ℕ) (d : Member) → AscendByName members → 1 ≤ p → p < length members → (name_of (get_or members p d) ≡ name_of (get_or members (p - 1) d) → ⊥) → name_cmp (name_of (get_or members (p - 1) d)) (name_of (get_or members p d)) ≡ Less
-rises members p d up some h differ =
-    let at = sorted_far (λ a b. is_lt (name_cmp (name_of a) (name_of b))) (ranks_by nat_list_cmp_total name_of) members up (p - 1) p d (omega arith) h in
-    less_if (name_of (get_or members (p - 1) d)) (name_of (get_or members p d)) at (λ e. differ (sym e))
+pub rises : (entries : List ClassEntry) (p : ℕ) (d : ClassEntry) → AscendByName entries → 1 ≤ p → p < length entries → (name_of (get_or entries p d) ≡ name_of (get_or entries (p - 1) d) → ⊥) → name_cmp (name_of (get_or entries (p - 1) d)) (name_of (get_or entries p d)) ≡ Less
+rises entries p d up some h differ =
+    let at = sorted_far (λ a b. is_lt (name_cmp (name_of a) (name_of b))) (ranks_by nat_list_cmp_total name_of) entries up (p - 1) p d (omega arith) h in
+    less_if (name_of (get_or entries (p - 1) d)) (name_of (get_or entries p d)) at (λ e. differ (sym e))

@@ -8,10 +8,10 @@ use Rattle.std.proofs.lemmas.Option.{slice_get_cases, slice_get_within, slice_ge
 use Rattle.cf_reader.specs.declared.class_file.ClassFile.{ClassFile}
 use Rattle.cls_set.specs.declared.class.Class.{Class}
 use Rattle.space_ids.specs.declared.ids.ClassId.{ClassId}
-use Rattle.cls_set.specs.declared.members.Member.{Member}
+use Rattle.cls_set.specs.declared.entries.ClassEntry.{ClassEntry}
 use Rattle.cls_set.specs.Building.{origins_of}
 use Rattle.cls_set.specs.Classes.{name_cmp, names}
-use Rattle.cls_set.specs.Members.{classes_of, AreArranged}
+use Rattle.cls_set.specs.Entries.{classes_of, AreArranged}
 use Rattle.cf_reader.specs.declared.flags.TheConstants.Flags.{INTERFACE}
 use Rattle.cls_set.specs.ClassRules.{ExtendsOneWith, ImplementsClass}
 use Rattle.cls_set.specs.Rules.{Has, HasSuperclass, HasSuperinterface, IsNamed}
@@ -85,43 +85,43 @@ module _ (classes : List Class) (ordered : IsStrictlySortedBy name_cmp (names cl
         let k = class_there b.0.0 h.0 b.2 in
         (b.0, k.0, b.1, k.1, one_named b.0.0 k.0 h.0 f k.1 b.2 h.2)
 
--- so for members
-module _ (members : List Member) (a : AreArranged members) where
-  pub resolved_member : (c : Class) → Contains (classes_of members) c → IsResolved (names (classes_of members)) c
-  resolved_member c among = All-contains (IsResolved (names (classes_of members))) (classes_of members) c a.resolved among
+-- so for entries
+module _ (entries : List ClassEntry) (a : AreArranged entries) where
+  pub resolved_member : (c : Class) → Contains (classes_of entries) c → IsResolved (names (classes_of entries)) c
+  resolved_member c among = All-contains (IsResolved (names (classes_of entries))) (classes_of entries) c a.resolved among
 
-  pub extends_in : (c : Class) → Contains (classes_of members) c → (s : ClassId) (k : Class) (mask : ℕ) → c.superclass ≡ Some s → slice_get (classes_of members) s.0 ≡ Some k → Has k.file.flags.bits mask → ExtendsOneWith (origins_of members) c.file mask
+  pub extends_in : (c : Class) → Contains (classes_of entries) c → (s : ClassId) (k : Class) (mask : ℕ) → c.superclass ≡ Some s → slice_get (classes_of entries) s.0 ≡ Some k → Has k.file.flags.bits mask → ExtendsOneWith (origins_of entries) c.file mask
   extends_in c among s k mask is e has =
-      subst (λ os. ExtendsOneWith os c.file mask) (origins_of_classes members)
-      (k.file, superclass_in (classes_of members) a.ordered a.resolved c (resolved_member c among) s k is e, has)
+      subst (λ os. ExtendsOneWith os c.file mask) (origins_of_classes entries)
+      (k.file, superclass_in (classes_of entries) a.ordered a.resolved c (resolved_member c among) s k is e, has)
 
-  pub extends_out : (c : Class) → Contains (classes_of members) c → (s : ClassId) (k : Class) (mask : ℕ) → c.superclass ≡ Some s → slice_get (classes_of members) s.0 ≡ Some k → ExtendsOneWith (origins_of members) c.file mask → Has k.file.flags.bits mask
+  pub extends_out : (c : Class) → Contains (classes_of entries) c → (s : ClassId) (k : Class) (mask : ℕ) → c.superclass ≡ Some s → slice_get (classes_of entries) s.0 ≡ Some k → ExtendsOneWith (origins_of entries) c.file mask → Has k.file.flags.bits mask
   extends_out c among s k mask is e x =
-      let up = subst (λ os. ExtendsOneWith os c.file mask) (sym (origins_of_classes members)) x in
-      subst (λ (f : ClassFile). Has f.flags.bits mask) (superclass_out (classes_of members) a.ordered a.resolved c (resolved_member c among) s k up.0 is e up.1) up.2
+      let up = subst (λ os. ExtendsOneWith os c.file mask) (sym (origins_of_classes entries)) x in
+      subst (λ (f : ClassFile). Has f.flags.bits mask) (superclass_out (classes_of entries) a.ordered a.resolved c (resolved_member c among) s k up.0 is e up.1) up.2
 
-  pub extends_none : (c : Class) → Contains (classes_of members) c → (mask : ℕ) → c.superclass ≡ None → ExtendsOneWith (origins_of members) c.file mask → ⊥
+  pub extends_none : (c : Class) → Contains (classes_of entries) c → (mask : ℕ) → c.superclass ≡ None → ExtendsOneWith (origins_of entries) c.file mask → ⊥
   extends_none c among mask is x =
-      let up = subst (λ os. ExtendsOneWith os c.file mask) (sym (origins_of_classes members)) x in
-      superclass_none (classes_of members) a.ordered a.resolved c (resolved_member c among) up.0 is up.1
+      let up = subst (λ os. ExtendsOneWith os c.file mask) (sym (origins_of_classes entries)) x in
+      superclass_none (classes_of entries) a.ordered a.resolved c (resolved_member c among) up.0 is up.1
 
-  pub implements_in : (c : Class) → Contains (classes_of members) c → (s : ClassId) (k : Class) → Contains c.interfaces s → slice_get (classes_of members) s.0 ≡ Some k → (¬ Has k.file.flags.bits INTERFACE) → ImplementsClass (origins_of members) c.file
+  pub implements_in : (c : Class) → Contains (classes_of entries) c → (s : ClassId) (k : Class) → Contains c.interfaces s → slice_get (classes_of entries) s.0 ≡ Some k → (¬ Has k.file.flags.bits INTERFACE) → ImplementsClass (origins_of entries) c.file
   implements_in c among s k stands e none =
-      subst (λ os. ImplementsClass os c.file) (origins_of_classes members)
-      (k.file, superinterface_in (classes_of members) a.ordered a.resolved c (resolved_member c among) s k stands e, none)
+      subst (λ os. ImplementsClass os c.file) (origins_of_classes entries)
+      (k.file, superinterface_in (classes_of entries) a.ordered a.resolved c (resolved_member c among) s k stands e, none)
 
-  pub implements_out : (c : Class) → Contains (classes_of members) c → ImplementsClass (origins_of members) c.file → (s : ClassId) × (k : Class) × Contains c.interfaces s × (slice_get (classes_of members) s.0 ≡ Some k) × (¬ Has k.file.flags.bits INTERFACE)
+  pub implements_out : (c : Class) → Contains (classes_of entries) c → ImplementsClass (origins_of entries) c.file → (s : ClassId) × (k : Class) × Contains c.interfaces s × (slice_get (classes_of entries) s.0 ≡ Some k) × (¬ Has k.file.flags.bits INTERFACE)
   implements_out c among x =
-      let up = subst (λ os. ImplementsClass os c.file) (sym (origins_of_classes members)) x in
-      let at = superinterface_out (classes_of members) a.ordered a.resolved c (resolved_member c among) up.0 up.1 in
+      let up = subst (λ os. ImplementsClass os c.file) (sym (origins_of_classes entries)) x in
+      let at = superinterface_out (classes_of entries) a.ordered a.resolved c (resolved_member c among) up.0 up.1 in
       (at.0, at.1, at.2, at.3, subst (λ (f : ClassFile). ¬ Has f.flags.bits INTERFACE) at.4 up.2)
 
-  pub superclass_in_set : (c : Class) → Contains (classes_of members) c → (s : ClassId) → c.superclass ≡ Some s → s.0 < length members
+  pub superclass_in_set : (c : Class) → Contains (classes_of entries) c → (s : ClassId) → c.superclass ≡ Some s → s.0 < length entries
   superclass_in_set c among s is =
-      let n = resolved_name (names (classes_of members)) c.superclass c.file.superclass (resolved_member c among).superclass s is in
-      subst (λ n. s.0 < n) (length_names members) (slice_get_within (names (classes_of members)) s.0 n.0 n.2)
+      let n = resolved_name (names (classes_of entries)) c.superclass c.file.superclass (resolved_member c among).superclass s is in
+      subst (λ n. s.0 < n) (length_names entries) (slice_get_within (names (classes_of entries)) s.0 n.0 n.2)
 
-  pub interface_in_set : (c : Class) → Contains (classes_of members) c → (s : ClassId) → Contains c.interfaces s → s.0 < length members
+  pub interface_in_set : (c : Class) → Contains (classes_of entries) c → (s : ClassId) → Contains c.interfaces s → s.0 < length entries
   interface_in_set c among s stands =
-      let n = to_name (names (classes_of members)) c.interfaces c.file.interfaces (resolved_member c among).interfaces s stands in
-      subst (λ n. s.0 < n) (length_names members) (slice_get_within (names (classes_of members)) s.0 n.0 n.2)
+      let n = to_name (names (classes_of entries)) c.interfaces c.file.interfaces (resolved_member c among).interfaces s stands in
+      subst (λ n. s.0 < n) (length_names entries) (slice_get_within (names (classes_of entries)) s.0 n.0 n.2)

@@ -6,9 +6,9 @@ use Rattle.std.proofs.lemmas.Option.{slice_get_cases, slice_get-get_or, slice_ge
 use Rattle.std.proofs.lemmas.List.Elements.{All-get_or, Contains-get_or}
 use Rattle.cls_set.specs.declared.class.Class.{Class}
 use Rattle.space_ids.specs.declared.ids.ClassId.{ClassId}
-use Rattle.cls_set.specs.declared.members.Member.{Member}
+use Rattle.cls_set.specs.declared.entries.ClassEntry.{ClassEntry}
 use Rattle.cls_set.specs.Classes.{names, direct_supertypes}
-use Rattle.cls_set.specs.Members.{classes_of, IsRanked}
+use Rattle.cls_set.specs.Entries.{classes_of, IsRanked}
 use Rattle.cls_set.specs.Sets.{IsClassSet, IsResolved, super_names}
 use Rattle.cls_set.specs.Subtypes.{IsDirectSupertype, IsProperSubtype}
 use Rattle.cls_set.specs.Walks.{ups, ups_of, AreWithin}
@@ -17,14 +17,14 @@ use Rattle.cls_set.proofs.Heights.{long_classes}
 use Rattle.cls_set.proofs.Hierarchy.{rank_of, some_of, superclass_lower, superinterface_lower}
 use Rattle.cls_set.proofs.Walks.{of_class, up_among}
 
--- the ranks that members keep
-pub ranks : (members : List Member) → All (IsRanked members) members → (sub sup : ClassId) → IsDirectSupertype (classes_of members) sub sup → rank_of members sup < rank_of members sub
-ranks members all sub sup (inl e) =
-    let c = some_of (slice_get (classes_of members) sub.0) (λ c. c.superclass ≡ Some sup) e in
-    (superclass_lower members sub c.0 sup all c.1 c.2).lower
-ranks members all sub sup (inr d) =
-    let c = some_of (slice_get (classes_of members) sub.0) (λ c. Contains c.interfaces sup) d in
-    (superinterface_lower members sub c.0 sup all c.1 c.2).lower
+-- the ranks that entries keep
+pub ranks : (entries : List ClassEntry) → All (IsRanked entries) entries → (sub sup : ClassId) → IsDirectSupertype (classes_of entries) sub sup → rank_of entries sup < rank_of entries sub
+ranks entries all sub sup (inl e) =
+    let c = some_of (slice_get (classes_of entries) sub.0) (λ c. c.superclass ≡ Some sup) e in
+    (superclass_lower entries sub c.0 sup all c.1 c.2).lower
+ranks entries all sub sup (inr d) =
+    let c = some_of (slice_get (classes_of entries) sub.0) (λ c. Contains c.interfaces sup) d in
+    (superinterface_lower entries sub c.0 sup all c.1 c.2).lower
 
 -- no class is its own supertype
 pub acyclic : (classes : List Class) → IsClassSet classes → (class : ClassId) → IsProperSubtype classes class class → ⊥
@@ -46,11 +46,11 @@ direct_within classes resolved sub sup d =
 pub direct_in_set : (classes : List Class) → IsClassSet classes → (sub sup : ClassId) → IsDirectSupertype classes sub sup → sup.0 < length classes
 direct_in_set classes set = direct_within classes set.resolved
 
--- and so for members
-pub are_within : (members : List Member) → All (IsResolved (names (classes_of members))) (classes_of members) → AreWithin (length members) (classes_of members)
-are_within members resolved k d h i e l =
-    let classes = classes_of members in
+-- and so for entries
+pub are_within : (entries : List ClassEntry) → All (IsResolved (names (classes_of entries))) (classes_of entries) → AreWithin (length entries) (classes_of entries)
+are_within entries resolved k d h i e l =
+    let classes = classes_of entries in
     let c = get_or classes k d in
     let s = get_or (ups c) i e in
     let up = of_class classes (record { 0 = k }) s c (slice_get-get_or classes k d h) (Contains-get_or (ups c) i e l) in
-    subst (λ n. s.0 < n) (long_classes members) (direct_within classes resolved (record { 0 = k }) s up)
+    subst (λ n. s.0 < n) (long_classes entries) (direct_within classes resolved (record { 0 = k }) s up)

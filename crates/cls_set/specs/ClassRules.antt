@@ -15,13 +15,13 @@ use Rattle.cls_set.specs.declared.rules.ClassRule.TheVariants.{BadSuper, FinalSu
 use Rattle.cls_set.specs.Faults.{turn, IsFirstToBreak, IsKept, Keeps}
 use Rattle.cls_set.specs.Rules.{CanBeKept, CanCross, Clashes, Has, HasFieldNotKept, HasMethodNotCrossing, HasSuperclass, HasSuperinterface, IsSuperclass}
 use Rattle.cls_set.specs.declared.class.Class.{Class}
-use Rattle.cls_set.specs.declared.members.Member.{Member}
+use Rattle.cls_set.specs.declared.entries.ClassEntry.{ClassEntry}
 use Rattle.cls_set.specs.declared.remote.MemberKind.{MemberKind}
 use Rattle.cls_set.specs.declared.remote.MemberKind.TheVariants.{Fields, Methods}
 use Rattle.cls_set.specs.declared.remote.Unfit.{Unfit}
 use Rattle.cls_set.specs.Sets.{Origin, origins}
 use Rattle.cls_set.specs.Building.{origins_of}
-use Rattle.cls_set.specs.Members.{classes_of, AreArranged, HaveTables}
+use Rattle.cls_set.specs.Entries.{classes_of, AreArranged, HaveTables}
 use Rattle.cls_set.specs.declared.arranging.Arranged.{Arranged}
 
 -- the rule itself
@@ -54,10 +54,10 @@ ClashesIn lower upper = Any (λ (low : Method). Any (Clashes lower upper low) up
 abbrev pub ClashesAbove : List Origin → ClassFile → ClassFile → Type 0
 ClashesAbove classes lower below = (upper : ClassFile) × IsSuperclass classes below upper × ClashesIn lower upper
 
--- members whose supertypes are known and told by tables
-pub record AreKnown (members : List Member) (told : List (List Bool)) : Type 0 where
-  pub arranged : AreArranged members
-  pub tables : HaveTables (classes_of members) told
+-- entries whose supertypes are known and told by tables
+pub record AreKnown (entries : List ClassEntry) (told : List (List Bool)) : Type 0 where
+  pub arranged : AreArranged entries
+  pub tables : HaveTables (classes_of entries) told
 
 -- an instance field of another type than a remote class may have
 pub record IsFieldNotKept (classes : List Origin) (field : Field) : Type 0 where
@@ -80,18 +80,18 @@ IsUnfit Fields classes file = HasFieldNotKept classes file
 IsUnfit Methods classes file = HasMethodNotCrossing classes file
 
 -- the indices of just the classes that do
-pub record AreUnfit (kind : MemberKind) (members : List Member) (indices : List ℕ) : Type 0 where
-  pub only : (k : ℕ) → Contains indices k → (c : Class) × (slice_get (classes_of members) k ≡ Some c) × IsUnfit kind (origins_of members) c.file
-  pub each : (k : ℕ) (c : Class) → slice_get (classes_of members) k ≡ Some c → IsUnfit kind (origins_of members) c.file → Contains indices k
+pub record AreUnfit (kind : MemberKind) (entries : List ClassEntry) (indices : List ℕ) : Type 0 where
+  pub only : (k : ℕ) → Contains indices k → (c : Class) × (slice_get (classes_of entries) k ≡ Some c) × IsUnfit kind (origins_of entries) c.file
+  pub each : (k : ℕ) (c : Class) → slice_get (classes_of entries) k ≡ Some c → IsUnfit kind (origins_of entries) c.file → Contains indices k
 
 -- by a class's table, the other is the class itself or a supertype
 abbrev pub IsReached : List Bool → ℕ → ℕ → Type 0
 IsReached table index upper = (upper ≡ index) ⊎ IsTrue (slice_index_or table upper false)
 
 -- both lists of such classes
-pub record AreFound (members : List Member) (unfit : Unfit) : Type 0 where
-  pub fields : AreUnfit Fields members unfit.fields.items
-  pub methods : AreUnfit Methods members unfit.methods.items
+pub record AreFound (entries : List ClassEntry) (unfit : Unfit) : Type 0 where
+  pub fields : AreUnfit Fields entries unfit.fields.items
+  pub methods : AreUnfit Methods entries unfit.methods.items
 
 -- the first class that breaks the rule, unless memory ran out
 abbrev pub IsRuleFault : List Origin → SetRule → SetFault → Type 0
@@ -109,9 +109,9 @@ IsFirstRuleFault classes (Broken r name) =
     (rule : ClassRule) × (r ≡ set_rule rule) × IsFirstToBreak classes (set_rule rule) name
     × ((other : ClassRule) → turn (set_rule other) < turn (set_rule rule) → Keeps classes (set_rule other))
 
--- members of the classes of these files, whose supertypes are known and told by tables; the rules that are looked for before are kept
+-- entries of the classes of these files, whose supertypes are known and told by tables; the rules that are looked for before are kept
 pub record AreOf (files : List ClassFile) (arranged : Arranged) : Type 0 where
-  pub known : AreArranged arranged.members.items
-  pub tables : HaveTables (classes_of arranged.members.items) arranged.tables.items
-  pub held : IsPermutation (origins files) (origins_of arranged.members.items)
+  pub known : AreArranged arranged.entries.items
+  pub tables : HaveTables (classes_of arranged.entries.items) arranged.tables.items
+  pub held : IsPermutation (origins files) (origins_of arranged.entries.items)
   pub kept : (other : SetRule) → turn other < turn rules.BadSuper → IsKept files other

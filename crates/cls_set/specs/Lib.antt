@@ -3,7 +3,7 @@ pub mod Building
 pub mod ClassRules
 pub mod Classes
 pub mod Faults
-pub mod Members
+pub mod Entries
 pub mod Orders
 pub mod Rules
 pub mod Sets

@@ -6,7 +6,7 @@ ghost use Rattle.cls_set.specs.Faults.{IsSetFault};
 
 use super::SetFault;
 use super::building::{gather, last_name, refuse_cycles, refuse_duplicates, refuse_many};
-use super::members::Member;
+use super::entries::ClassEntry;
 use super::resolving::resolve;
 use cf_reader::{ClassFile, Row};
 use std::alloc::Global;
@@ -14,7 +14,7 @@ use std::alloc::Global;
 // Classes by name, and for each a table that tells by number which classes are its supertypes.
 #[derive(Debug, Drop)]
 pub(crate) struct Arranged {
-    pub(crate) members: Vec<Member>,
+    pub(crate) entries: Vec<ClassEntry>,
     pub(crate) tables: Vec<Row<bool>>,
 }
 
@@ -24,10 +24,10 @@ pub(crate) fn arrange(alloc: Global, files: Vec<ClassFile>) -> Result<Arranged, 
     ensures fault { IfErr result (IsSetFault files.items) }
 {
     let last = last_name(files.as_slice())?;
-    let mut members = gather(alloc, files)?;
-    refuse_duplicates(members.as_slice())?;
-    refuse_many(members.len(), last)?;
-    resolve(alloc, &mut members)?;
-    let tables = refuse_cycles(alloc, &mut members)?;
-    Ok(Arranged { members, tables })
+    let mut entries = gather(alloc, files)?;
+    refuse_duplicates(entries.as_slice())?;
+    refuse_many(entries.len(), last)?;
+    resolve(alloc, &mut entries)?;
+    let tables = refuse_cycles(alloc, &mut entries)?;
+    Ok(Arranged { entries, tables })
 }

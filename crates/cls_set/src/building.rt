@@ -5,12 +5,12 @@ ghost use Rattle.std.specs.Prelude.{◌≡◌, ◌<◌, ◌++◌, ◌-◌, ◌�
 ghost use Rattle.std.specs.List.Sorted.{IsStrictlySortedBy};
 ghost use Rattle.cls_set.specs.Building.{ranked_from, origins_of, AscendByName, IsCycleFault, IsDuplicateFault, IsFaultOf};
 ghost use Rattle.cls_set.specs.Classes.{name_cmp, names};
-ghost use Rattle.cls_set.specs.Members.{classes_of, HaveTables, IsRanked};
+ghost use Rattle.cls_set.specs.Entries.{classes_of, HaveTables, IsRanked};
 ghost use Rattle.cls_set.specs.declared.fault.SetRule.TheVariants.{TooMany};
 ghost use Rattle.cls_set.specs.Sets.{origins, IsFirstDuplicate, IsResolved};
 
 use super::built_in::built_in_classes;
-use super::members::Member;
+use super::entries::ClassEntry;
 use super::resolving::broken;
 use super::walking::{Ranks, rank};
 use super::{Class, SetFault, SetRule};
@@ -25,9 +25,9 @@ fn add_classes(
     alloc: Global,
     files: Vec<ClassFile>,
     is_built_in: bool,
-    members: &mut Vec<Member>,
+    entries: &mut Vec<ClassEntry>,
 ) -> Result<(), AllocError>
-    ensures { OnOk result (members.new.items ≡ members.old.items ++ ranked_from (length members.old.items) (map (λ file. (file, is_built_in)) files.items)) }
+    ensures { OnOk result (entries.new.items ≡ entries.old.items ++ ranked_from (length entries.old.items) (map (λ file. (file, is_built_in)) files.items)) }
 {
     for file in files {
         let class = Class {
@@ -36,33 +36,33 @@ fn add_classes(
             interfaces: Row::new(Vec::new(alloc)),
             is_built_in,
         };
-        let rank = members.len();
-        members.push(Member { class, rank })?;
+        let rank = entries.len();
+        entries.push(ClassEntry { class, rank })?;
     }
     Ok(())
 }
 
 // Sorts by name.
-fn sort(members: &mut Vec<Member>) -> Result<(), AllocError>
-    ensures permutation { IsPermutation members.old.items members.new.items }
-    ensures sorted { OnOk result (AscendByName members.new.items) }
+fn sort(entries: &mut Vec<ClassEntry>) -> Result<(), AllocError>
+    ensures permutation { IsPermutation entries.old.items entries.new.items }
+    ensures sorted { OnOk result (AscendByName entries.new.items) }
 {
-    members.sort_by(|a, b| {
+    entries.sort_by(|a, b| {
         let name = b.class.file.name.as_bytes();
         a.class.file.name.as_bytes().cmp(name)
     })
 }
 
 // The index of the first class whose name stands before it too.
-fn first_duplicate(members: &[Member]) -> Option<usize>
-    requires { AscendByName members.now }
-    ensures within { IfSome result (λ k. k < length members.now) }
-    ensures found { IfSome result (λ k. IfSome (slice_get members.now k) (λ m. IsFirstDuplicate (names (classes_of members.now)) m.class.file.name)) }
-    ensures none { IfNone result (IsStrictlySortedBy name_cmp (names (classes_of members.now))) }
+fn first_duplicate(entries: &[ClassEntry]) -> Option<usize>
+    requires { AscendByName entries.now }
+    ensures within { IfSome result (λ k. k < length entries.now) }
+    ensures found { IfSome result (λ k. IfSome (slice_get entries.now k) (λ m. IsFirstDuplicate (names (classes_of entries.now)) m.class.file.name)) }
+    ensures none { IfNone result (IsStrictlySortedBy name_cmp (names (classes_of entries.now))) }
 {
-    for index in 1..members.len() {
-        let before = members[index - 1].class.file.name.as_bytes();
-        if members[index].class.file.name.is(before) {
+    for index in 1..entries.len() {
+        let before = entries[index - 1].class.file.name.as_bytes();
+        if entries[index].class.file.name.is(before) {
             return Some(index);
         }
     }
@@ -70,15 +70,15 @@ fn first_duplicate(members: &[Member]) -> Option<usize>
 }
 
 // The classes of the files and the built-in ones, by name.
-pub(crate) fn gather(alloc: Global, files: Vec<ClassFile>) -> Result<Vec<Member>, AllocError>
-    ensures all { IfOk result (λ members. IsPermutation (ranked_from 0 (origins files.items)) members.items) }
-    ensures sorted { IfOk result (λ members. AscendByName members.items) }
+pub(crate) fn gather(alloc: Global, files: Vec<ClassFile>) -> Result<Vec<ClassEntry>, AllocError>
+    ensures all { IfOk result (λ entries. IsPermutation (ranked_from 0 (origins files.items)) entries.items) }
+    ensures sorted { IfOk result (λ entries. AscendByName entries.items) }
 {
-    let mut members = Vec::new(alloc);
-    add_classes(alloc, built_in_classes(alloc)?, true, &mut members)?;
-    add_classes(alloc, files, false, &mut members)?;
-    sort(&mut members)?;
-    Ok(members)
+    let mut entries = Vec::new(alloc);
+    add_classes(alloc, built_in_classes(alloc)?, true, &mut entries)?;
+    add_classes(alloc, files, false, &mut entries)?;
+    sort(&mut entries)?;
+    Ok(entries)
 }
 
 // The name of the last file.
@@ -103,13 +103,13 @@ pub(crate) fn refuse_many(count: usize, last: Option<Text>) -> Result<(), SetFau
 }
 
 // Refuses a name that stands twice.
-pub(crate) fn refuse_duplicates(members: &[Member]) -> Result<(), SetFault>
-    requires { AscendByName members.now }
-    ensures ok { OnOk result (IsStrictlySortedBy name_cmp (names (classes_of members.now))) }
-    ensures fault { IfErr result (IsDuplicateFault (names (classes_of members.now))) }
+pub(crate) fn refuse_duplicates(entries: &[ClassEntry]) -> Result<(), SetFault>
+    requires { AscendByName entries.now }
+    ensures ok { OnOk result (IsStrictlySortedBy name_cmp (names (classes_of entries.now))) }
+    ensures fault { IfErr result (IsDuplicateFault (names (classes_of entries.now))) }
 {
-    match first_duplicate(members) {
-        Some(index) => Err(broken(SetRule::Duplicate, &members[index].class.file.name)),
+    match first_duplicate(entries) {
+        Some(index) => Err(broken(SetRule::Duplicate, &entries[index].class.file.name)),
         None => Ok(()),
     }
 }
@@ -117,18 +117,18 @@ pub(crate) fn refuse_duplicates(members: &[Member]) -> Result<(), SetFault>
 // Ranks the classes, tells their supertypes in tables, and refuses a class that is its own supertype.
 pub(crate) fn refuse_cycles(
     alloc: Global,
-    members: &mut Vec<Member>,
+    entries: &mut Vec<ClassEntry>,
 ) -> Result<Vec<Row<bool>>, SetFault>
-    requires ordered { IsStrictlySortedBy name_cmp (names (classes_of members.old.items)) }
-    requires few { length members.old.items ≤ 4096 }
-    requires resolved { All (IsResolved (names (classes_of members.old.items))) (classes_of members.old.items) }
-    ensures classes { classes_of members.new.items ≡ classes_of members.old.items }
-    ensures ranked { OnOk result (All (IsRanked members.new.items) members.new.items) }
-    ensures tables { IfOk result (λ tables. HaveTables (classes_of members.old.items) tables.items) }
-    ensures fault { IfErr result (IsCycleFault (origins_of members.old.items)) }
+    requires ordered { IsStrictlySortedBy name_cmp (names (classes_of entries.old.items)) }
+    requires few { length entries.old.items ≤ 4096 }
+    requires resolved { All (IsResolved (names (classes_of entries.old.items))) (classes_of entries.old.items) }
+    ensures classes { classes_of entries.new.items ≡ classes_of entries.old.items }
+    ensures ranked { OnOk result (All (IsRanked entries.new.items) entries.new.items) }
+    ensures tables { IfOk result (λ tables. HaveTables (classes_of entries.old.items) tables.items) }
+    ensures fault { IfErr result (IsCycleFault (origins_of entries.old.items)) }
 {
-    match rank(alloc, members)? {
-        Ranks::Cyclic(index) => Err(broken(SetRule::Cycle, &members[index].class.file.name)),
+    match rank(alloc, entries)? {
+        Ranks::Cyclic(index) => Err(broken(SetRule::Cycle, &entries[index].class.file.name)),
         Ranks::Tables(tables) => Ok(tables),
     }
 }

@@ -1,7 +1,7 @@
 //! Class sets: their look-ups.
 
 use super::arranging::arrange;
-use super::members::{Member, find, is_below, is_in};
+use super::entries::{ClassEntry, find, is_below, is_in};
 use super::rules::refuse_broken;
 use super::{Class, ClassId, SetFault};
 use cf_reader::{ClassFile, Row, Text};
@@ -12,7 +12,7 @@ use std::marker::Model;
 /// classes: the class with number k is item k.
 #[derive(Debug, Drop)]
 pub struct ClassSet {
-    members: Vec<Member>,
+    entries: Vec<ClassEntry>,
     // For each class a table that tells by number which classes are its supertypes.
     tables: Vec<Row<bool>>,
 }
@@ -23,11 +23,11 @@ impl Model for ClassSet {
 
     ghost Value = { List Class };
 
-    ghost use Rattle.cls_set.specs.Members.{classes_of, AreMembers};
+    ghost use Rattle.cls_set.specs.Entries.{classes_of, AreEntries};
 
-    ghost view = { λ set. classes_of set.members.items };
+    ghost view = { λ set. classes_of set.entries.items };
 
-    ghost invariant = { λ set. AreMembers set.members.items set.tables.items };
+    ghost invariant = { λ set. AreEntries set.entries.items set.tables.items };
 }
 
 impl ClassSet {
@@ -56,11 +56,11 @@ impl ClassSet {
         let arranged = arrange(alloc, files)?;
         refuse_broken(
             alloc,
-            arranged.members.as_slice(),
+            arranged.entries.as_slice(),
             arranged.tables.as_slice(),
         )?;
         Ok(ClassSet {
-            members: arranged.members,
+            entries: arranged.entries,
             tables: arranged.tables,
         })
     }
@@ -71,7 +71,7 @@ impl ClassSet {
         ensures set { IsClassSet self.now }
         ensures acyclic { (class : ClassId) → ¬ IsProperSubtype self.now class class }
     {
-        self.members.len()
+        self.entries.len()
     }
 
     /// The class with this number.
@@ -79,7 +79,7 @@ impl ClassSet {
         requires { class.0 < length self.now }
         ensures { slice_get self.now class.0 ≡ Some result.now }
     {
-        &self.members[usize::from(class.0)].class
+        &self.entries[usize::from(class.0)].class
     }
 
     /// Its name.
@@ -96,7 +96,7 @@ impl ClassSet {
         ensures in_set { IfSome result (λ id. id.0 < length self.now) }
         ensures named { IfSome result (λ id. name_at self.now id ≡ Some name.now) }
     {
-        find(&self.members, name)
+        find(&self.entries, name)
     }
 
     /// Whether a class is another or a subclass of it.
@@ -104,7 +104,7 @@ impl ClassSet {
         requires { sub.0 < length self.now }
         ensures { IsTrue result ↔ IsSubclass self.now sub sup }
     {
-        is_below(&self.members, sub, sup)
+        is_below(&self.entries, sub, sup)
     }
 
     /// Whether a class or interface is a subtype of an interface.

@@ -6,60 +6,60 @@ ghost use Rattle.cf_reader.specs.declared.class_file.Field.{Field};
 ghost use Rattle.cf_reader.specs.declared.class_file.Method.{Method};
 ghost use Rattle.cls_set.specs.Building.{DescriptorNamesAbsent, MembersNameAbsent, NamesAbsent};
 ghost use Rattle.cls_set.specs.Classes.{names};
-ghost use Rattle.cls_set.specs.Members.{classes_of, AreOrdered};
+ghost use Rattle.cls_set.specs.Entries.{classes_of, AreOrdered};
 
-use super::members::{Member, find};
+use super::entries::{ClassEntry, find};
 use cf_reader::{ClassFile, ElementType, Field, FieldType, Method, MethodDescriptor};
 
 // Whether a type names a class that is not in the set.
-fn is_absent(members: &[Member], kind: &FieldType) -> bool
-    requires { AreOrdered members.now }
-    ensures { IsTrue result ↔ NamesAbsent (names (classes_of members.now)) kind.now }
+fn is_absent(entries: &[ClassEntry], kind: &FieldType) -> bool
+    requires { AreOrdered entries.now }
+    ensures { IsTrue result ↔ NamesAbsent (names (classes_of entries.now)) kind.now }
 {
     match &kind.element {
-        ElementType::Class(name) => find(members, name.as_bytes()).is_none(),
+        ElementType::Class(name) => find(entries, name.as_bytes()).is_none(),
         _ => false,
     }
 }
 
-fn is_one_absent(members: &[Member], kinds: &[FieldType]) -> bool
-    requires { AreOrdered members.now }
-    ensures { IsTrue result ↔ Any (NamesAbsent (names (classes_of members.now))) kinds.now }
+fn is_one_absent(entries: &[ClassEntry], kinds: &[FieldType]) -> bool
+    requires { AreOrdered entries.now }
+    ensures { IsTrue result ↔ Any (NamesAbsent (names (classes_of entries.now))) kinds.now }
 {
-    kinds.iter().any(|kind| is_absent(members, kind))
+    kinds.iter().any(|kind| is_absent(entries, kind))
 }
 
-fn descriptor_names_absent(members: &[Member], types: &MethodDescriptor) -> bool
-    requires { AreOrdered members.now }
-    ensures { IsTrue result ↔ DescriptorNamesAbsent (names (classes_of members.now)) types.now }
+fn descriptor_names_absent(entries: &[ClassEntry], types: &MethodDescriptor) -> bool
+    requires { AreOrdered entries.now }
+    ensures { IsTrue result ↔ DescriptorNamesAbsent (names (classes_of entries.now)) types.now }
 {
     match &types.result {
-        Some(kind) if is_absent(members, kind) => true,
-        _ => is_one_absent(members, types.parameters.as_slice()),
+        Some(kind) if is_absent(entries, kind) => true,
+        _ => is_one_absent(entries, types.parameters.as_slice()),
     }
 }
 
-fn fields_name_absent(members: &[Member], fields: &[Field]) -> bool
-    requires { AreOrdered members.now }
-    ensures { IsTrue result ↔ Any (λ (field : Field). NamesAbsent (names (classes_of members.now)) field.kind) fields.now }
+fn fields_name_absent(entries: &[ClassEntry], fields: &[Field]) -> bool
+    requires { AreOrdered entries.now }
+    ensures { IsTrue result ↔ Any (λ (field : Field). NamesAbsent (names (classes_of entries.now)) field.kind) fields.now }
 {
-    fields.iter().any(|field| is_absent(members, &field.kind))
+    fields.iter().any(|field| is_absent(entries, &field.kind))
 }
 
-fn methods_name_absent(members: &[Member], methods: &[Method]) -> bool
-    requires { AreOrdered members.now }
-    ensures { IsTrue result ↔ Any (λ (method : Method). DescriptorNamesAbsent (names (classes_of members.now)) method.types) methods.now }
+fn methods_name_absent(entries: &[ClassEntry], methods: &[Method]) -> bool
+    requires { AreOrdered entries.now }
+    ensures { IsTrue result ↔ Any (λ (method : Method). DescriptorNamesAbsent (names (classes_of entries.now)) method.types) methods.now }
 {
     methods
         .iter()
-        .any(|method| descriptor_names_absent(members, &method.types))
+        .any(|method| descriptor_names_absent(entries, &method.types))
 }
 
 // Whether the descriptor of a member names a class that is not in the set.
-pub(crate) fn members_name_absent(members: &[Member], file: &ClassFile) -> bool
-    requires { AreOrdered members.now }
-    ensures { IsTrue result ↔ MembersNameAbsent (names (classes_of members.now)) file.now }
+pub(crate) fn members_name_absent(entries: &[ClassEntry], file: &ClassFile) -> bool
+    requires { AreOrdered entries.now }
+    ensures { IsTrue result ↔ MembersNameAbsent (names (classes_of entries.now)) file.now }
 {
-    fields_name_absent(members, file.fields.as_slice())
-        || methods_name_absent(members, file.methods.as_slice())
+    fields_name_absent(entries, file.fields.as_slice())
+        || methods_name_absent(entries, file.methods.as_slice())
 }

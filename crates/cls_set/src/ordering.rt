@@ -3,9 +3,9 @@
 ghost use Rattle.std.specs.Prelude.{◌≡◌, ◌<◌, IfOk, length};
 ghost use Rattle.std.specs.Ordering.{is_lt};
 ghost use Rattle.cls_set.specs.Orders.{key_at, key_cmp, key_of, HaveOrders, IsOrder};
-ghost use Rattle.cls_set.specs.Members.{classes_of};
+ghost use Rattle.cls_set.specs.Entries.{classes_of};
 
-use super::members::Member;
+use super::entries::ClassEntry;
 use cf_reader::{Method, Row};
 use std::alloc::{AllocError, Global};
 use std::cmp::Ordering;
@@ -52,12 +52,12 @@ pub(crate) fn order(alloc: Global, methods: &[Method]) -> Result<Vec<usize>, All
 }
 
 // The same for each class.
-pub(crate) fn orders(alloc: Global, members: &[Member]) -> Result<Vec<Row<usize>>, AllocError>
-    ensures { IfOk result (λ orders. HaveOrders (classes_of members.now) orders.items) }
+pub(crate) fn orders(alloc: Global, entries: &[ClassEntry]) -> Result<Vec<Row<usize>>, AllocError>
+    ensures { IfOk result (λ orders. HaveOrders (classes_of entries.now) orders.items) }
 {
     let mut orders = Vec::new(alloc);
-    for member in members {
-        let order = order(alloc, member.class.file.methods.as_slice())?;
+    for entry in entries {
+        let order = order(alloc, entry.class.file.methods.as_slice())?;
         orders.push(Row::new(order))?;
     }
     Ok(orders)

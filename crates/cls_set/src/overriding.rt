@@ -6,11 +6,11 @@ ghost use Rattle.cf_reader.specs.declared.class_file.Method.{Method};
 ghost use Rattle.cls_set.specs.declared.class.Class.{Class};
 ghost use Rattle.cls_set.specs.Building.{origins_of};
 ghost use Rattle.cls_set.specs.ClassRules.{ClashesIn};
-ghost use Rattle.cls_set.specs.Members.{classes_of, AreArranged};
+ghost use Rattle.cls_set.specs.Entries.{classes_of, AreArranged};
 ghost use Rattle.cls_set.specs.Orders.{HaveOrders, IsOrder};
 ghost use Rattle.cls_set.specs.Rules.{package_name, Clashes, HasPackageAccess, IsSamePackage, MayNotStand, OverridesBadly};
 
-use super::members::Member;
+use super::entries::ClassEntry;
 use super::ordering::is_before;
 use cf_reader::{ClassFile, Flags, Method, Row};
 
@@ -101,17 +101,17 @@ fn clashes_in(lower: &ClassFile, upper: &ClassFile, order: &[usize]) -> bool
 }
 
 // Whether a class has a method that may not stand below one of a superclass.
-pub(crate) fn overrides_badly(members: &[Member], orders: &[Row<usize>], index: usize) -> bool
-    requires arranged { AreArranged members.now }
-    requires orders { HaveOrders (classes_of members.now) orders.now }
-    requires in_set { index < length members.now }
-    ensures { (c : Class) → slice_get (classes_of members.now) index ≡ Some c → IsTrue result ↔ OverridesBadly (origins_of members.now) c.file }
+pub(crate) fn overrides_badly(entries: &[ClassEntry], orders: &[Row<usize>], index: usize) -> bool
+    requires arranged { AreArranged entries.now }
+    requires orders { HaveOrders (classes_of entries.now) orders.now }
+    requires in_set { index < length entries.now }
+    ensures { (c : Class) → slice_get (classes_of entries.now) index ≡ Some c → IsTrue result ↔ OverridesBadly (origins_of entries.now) c.file }
 {
-    let lower = &members[index].class.file;
-    let mut up = members[index].class.superclass;
+    let lower = &entries[index].class.file;
+    let mut up = entries[index].class.superclass;
     'up: while let Some(superclass) = up {
         let superclass = usize::from(superclass.0);
-        let upper = &members[superclass].class;
+        let upper = &entries[superclass].class;
         if clashes_in(lower, &upper.file, orders[superclass].as_slice()) {
             return true;
         }

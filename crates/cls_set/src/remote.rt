@@ -5,21 +5,21 @@ ghost use Rattle.std.specs.List.{Any};
 ghost use Rattle.cls_set.specs.declared.class.Class.{Class};
 ghost use Rattle.cls_set.specs.Building.{origins_of};
 ghost use Rattle.cls_set.specs.ClassRules.{AreKnown, AreUnfit, CannotCross, IsFieldNotKept, IsMethodNotCrossing, IsReached, IsUnfit};
-ghost use Rattle.cls_set.specs.Members.{classes_of, AreArranged, HaveTables};
+ghost use Rattle.cls_set.specs.Entries.{classes_of, AreArranged, HaveTables};
 ghost use Rattle.cls_set.specs.Rules.{CanBeKept, CanCross, IsBelowRemote, NamesRemoteInterface};
 
-use super::members::{Member, find, is_in};
+use super::entries::{ClassEntry, find, is_in};
 use cf_reader::{ElementType, Field, FieldType, Flags, Method, Row, Text};
 use std::alloc::{AllocError, Global};
 
 // Whether a class is java/rmi/Remote or below it.
-pub(crate) fn is_below_remote(members: &[Member], tables: &[Row<bool>], index: usize) -> bool
-    requires arranged { AreArranged members.now }
-    requires tables { HaveTables (classes_of members.now) tables.now }
-    requires in_set { index < length members.now }
-    ensures { (c : Class) → slice_get (classes_of members.now) index ≡ Some c → IsTrue result ↔ IsBelowRemote (origins_of members.now) c.file.name }
+pub(crate) fn is_below_remote(entries: &[ClassEntry], tables: &[Row<bool>], index: usize) -> bool
+    requires arranged { AreArranged entries.now }
+    requires tables { HaveTables (classes_of entries.now) tables.now }
+    requires in_set { index < length entries.now }
+    ensures { (c : Class) → slice_get (classes_of entries.now) index ≡ Some c → IsTrue result ↔ IsBelowRemote (origins_of entries.now) c.file.name }
 {
-    match find(members, b"java/rmi/Remote") {
+    match find(entries, b"java/rmi/Remote") {
         Some(remote) => {
             let remote = usize::from(remote.0);
             index == remote || tables[index].as_slice()[remote]
@@ -28,23 +28,23 @@ pub(crate) fn is_below_remote(members: &[Member], tables: &[Row<bool>], index: u
     }
 }
 
-fn names_remote_interface(members: &[Member], tables: &[Row<bool>], name: &Text) -> bool
-    requires { AreKnown members.now tables.now }
-    ensures { IsTrue result ↔ NamesRemoteInterface (origins_of members.now) name.now }
+fn names_remote_interface(entries: &[ClassEntry], tables: &[Row<bool>], name: &Text) -> bool
+    requires { AreKnown entries.now tables.now }
+    ensures { IsTrue result ↔ NamesRemoteInterface (origins_of entries.now) name.now }
 {
-    match find(members, name.as_bytes()) {
+    match find(entries, name.as_bytes()) {
         Some(id) => {
             let index = usize::from(id.0);
-            members[index].class.is_interface() && is_below_remote(members, tables, index)
+            entries[index].class.is_interface() && is_below_remote(entries, tables, index)
         }
         None => false,
     }
 }
 
 // Whether a remote class may have an instance field of this type.
-fn can_be_kept(members: &[Member], tables: &[Row<bool>], kind: &FieldType) -> bool
-    requires { AreKnown members.now tables.now }
-    ensures { IsTrue result ↔ CanBeKept (origins_of members.now) kind.now }
+fn can_be_kept(entries: &[ClassEntry], tables: &[Row<bool>], kind: &FieldType) -> bool
+    requires { AreKnown entries.now tables.now }
+    ensures { IsTrue result ↔ CanBeKept (origins_of entries.now) kind.now }
 {
     if kind.dimensions != 0 {
         return false;
@@ -52,69 +52,73 @@ fn can_be_kept(members: &[Member], tables: &[Row<bool>], kind: &FieldType) -> bo
     match &kind.element {
         ElementType::Int => true,
         ElementType::Boolean => true,
-        ElementType::Class(name) => names_remote_interface(members, tables, name),
+        ElementType::Class(name) => names_remote_interface(entries, tables, name),
         _ => false,
     }
 }
 
 // Whether a remote interface's methods may take and give this type.
-fn can_cross(members: &[Member], tables: &[Row<bool>], kind: &FieldType) -> bool
-    requires { AreKnown members.now tables.now }
-    ensures { IsTrue result ↔ CanCross (origins_of members.now) kind.now }
+fn can_cross(entries: &[ClassEntry], tables: &[Row<bool>], kind: &FieldType) -> bool
+    requires { AreKnown entries.now tables.now }
+    ensures { IsTrue result ↔ CanCross (origins_of entries.now) kind.now }
 {
     match &kind.element {
         ElementType::Int if kind.dimensions == 1 => true,
-        _ => can_be_kept(members, tables, kind),
+        _ => can_be_kept(entries, tables, kind),
     }
 }
 
-fn cannot_cross(members: &[Member], tables: &[Row<bool>], kind: &FieldType) -> bool
-    requires { AreKnown members.now tables.now }
-    ensures { IsTrue result ↔ CannotCross (origins_of members.now) kind.now }
+fn cannot_cross(entries: &[ClassEntry], tables: &[Row<bool>], kind: &FieldType) -> bool
+    requires { AreKnown entries.now tables.now }
+    ensures { IsTrue result ↔ CannotCross (origins_of entries.now) kind.now }
 {
-    !can_cross(members, tables, kind)
+    !can_cross(entries, tables, kind)
 }
 
-fn is_field_not_kept(members: &[Member], tables: &[Row<bool>], field: &Field) -> bool
-    requires { AreKnown members.now tables.now }
-    ensures { IsTrue result ↔ IsFieldNotKept (origins_of members.now) field.now }
+fn is_field_not_kept(entries: &[ClassEntry], tables: &[Row<bool>], field: &Field) -> bool
+    requires { AreKnown entries.now tables.now }
+    ensures { IsTrue result ↔ IsFieldNotKept (origins_of entries.now) field.now }
 {
-    !field.flags.has(Flags::STATIC) && !can_be_kept(members, tables, &field.kind)
+    !field.flags.has(Flags::STATIC) && !can_be_kept(entries, tables, &field.kind)
 }
 
-fn is_one_not_crossing(members: &[Member], tables: &[Row<bool>], kinds: &[FieldType]) -> bool
-    requires { AreKnown members.now tables.now }
-    ensures { IsTrue result ↔ Any (CannotCross (origins_of members.now)) kinds.now }
+fn is_one_not_crossing(entries: &[ClassEntry], tables: &[Row<bool>], kinds: &[FieldType]) -> bool
+    requires { AreKnown entries.now tables.now }
+    ensures { IsTrue result ↔ Any (CannotCross (origins_of entries.now)) kinds.now }
 {
-    kinds.iter().any(|kind| cannot_cross(members, tables, kind))
+    kinds.iter().any(|kind| cannot_cross(entries, tables, kind))
 }
 
-fn is_method_not_crossing(members: &[Member], tables: &[Row<bool>], method: &Method) -> bool
-    requires { AreKnown members.now tables.now }
-    ensures { IsTrue result ↔ IsMethodNotCrossing (origins_of members.now) method.now }
+fn is_method_not_crossing(entries: &[ClassEntry], tables: &[Row<bool>], method: &Method) -> bool
+    requires { AreKnown entries.now tables.now }
+    ensures { IsTrue result ↔ IsMethodNotCrossing (origins_of entries.now) method.now }
 {
     match &method.types.result {
-        Some(kind) if cannot_cross(members, tables, kind) => true,
-        _ => is_one_not_crossing(members, tables, method.types.parameters.as_slice()),
+        Some(kind) if cannot_cross(entries, tables, kind) => true,
+        _ => is_one_not_crossing(entries, tables, method.types.parameters.as_slice()),
     }
 }
 
-fn is_one_field_not_kept(members: &[Member], tables: &[Row<bool>], fields: &[Field]) -> bool
-    requires { AreKnown members.now tables.now }
-    ensures { IsTrue result ↔ Any (IsFieldNotKept (origins_of members.now)) fields.now }
+fn is_one_field_not_kept(entries: &[ClassEntry], tables: &[Row<bool>], fields: &[Field]) -> bool
+    requires { AreKnown entries.now tables.now }
+    ensures { IsTrue result ↔ Any (IsFieldNotKept (origins_of entries.now)) fields.now }
 {
     fields
         .iter()
-        .any(|field| is_field_not_kept(members, tables, field))
+        .any(|field| is_field_not_kept(entries, tables, field))
 }
 
-fn is_one_method_not_crossing(members: &[Member], tables: &[Row<bool>], methods: &[Method]) -> bool
-    requires { AreKnown members.now tables.now }
-    ensures { IsTrue result ↔ Any (IsMethodNotCrossing (origins_of members.now)) methods.now }
+fn is_one_method_not_crossing(
+    entries: &[ClassEntry],
+    tables: &[Row<bool>],
+    methods: &[Method],
+) -> bool
+    requires { AreKnown entries.now tables.now }
+    ensures { IsTrue result ↔ Any (IsMethodNotCrossing (origins_of entries.now)) methods.now }
 {
     methods
         .iter()
-        .any(|method| is_method_not_crossing(members, tables, method))
+        .any(|method| is_method_not_crossing(entries, tables, method))
 }
 
 // Which members: the fields of classes, or the methods of interfaces.
@@ -125,18 +129,18 @@ pub(crate) enum MemberKind {
 }
 
 // Whether a class has a member that no remote class or interface may have or inherit.
-fn is_unfit(members: &[Member], tables: &[Row<bool>], index: usize, kind: MemberKind) -> bool
-    requires arranged { AreArranged members.now }
-    requires tables { HaveTables (classes_of members.now) tables.now }
-    requires in_set { index < length members.now }
-    ensures { (c : Class) → slice_get (classes_of members.now) index ≡ Some c → IsTrue result ↔ IsUnfit kind (origins_of members.now) c.file }
+fn is_unfit(entries: &[ClassEntry], tables: &[Row<bool>], index: usize, kind: MemberKind) -> bool
+    requires arranged { AreArranged entries.now }
+    requires tables { HaveTables (classes_of entries.now) tables.now }
+    requires in_set { index < length entries.now }
+    ensures { (c : Class) → slice_get (classes_of entries.now) index ≡ Some c → IsTrue result ↔ IsUnfit kind (origins_of entries.now) c.file }
 {
-    let class = &members[index].class;
+    let class = &entries[index].class;
     match kind {
-        MemberKind::Fields => is_one_field_not_kept(members, tables, class.file.fields.as_slice()),
+        MemberKind::Fields => is_one_field_not_kept(entries, tables, class.file.fields.as_slice()),
         MemberKind::Methods => {
             class.is_interface()
-                && is_one_method_not_crossing(members, tables, class.file.methods.as_slice())
+                && is_one_method_not_crossing(entries, tables, class.file.methods.as_slice())
         }
     }
 }
@@ -144,16 +148,16 @@ fn is_unfit(members: &[Member], tables: &[Row<bool>], index: usize, kind: Member
 // The indices of the classes that have such a member.
 pub(crate) fn find_unfit(
     alloc: Global,
-    members: &[Member],
+    entries: &[ClassEntry],
     tables: &[Row<bool>],
     kind: MemberKind,
 ) -> Result<Vec<usize>, AllocError>
-    requires { AreKnown members.now tables.now }
-    ensures { IfOk result (λ indices. AreUnfit kind members.now indices.items) }
+    requires { AreKnown entries.now tables.now }
+    ensures { IfOk result (λ indices. AreUnfit kind entries.now indices.items) }
 {
     let mut indices = Vec::new(alloc);
-    for index in 0..members.len() {
-        if is_unfit(members, tables, index, kind) {
+    for index in 0..entries.len() {
+        if is_unfit(entries, tables, index, kind) {
             indices.push(index)?;
         }
     }

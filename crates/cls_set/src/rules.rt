@@ -6,12 +6,12 @@ ghost use Rattle.cls_set.specs.declared.class.Class.{Class};
 ghost use Rattle.cls_set.specs.Building.{origins_of};
 ghost use Rattle.cls_set.specs.ClassRules.{set_rule, AreFound, ExtendsOneWith, ImplementsClass, IsBadlyRooted, IsFirstRuleFault, IsReached, IsRuleFault, KeepAll};
 ghost use Rattle.cls_set.specs.Faults.{Keeps};
-ghost use Rattle.cls_set.specs.Members.{classes_of, AreArranged, HaveTables};
+ghost use Rattle.cls_set.specs.Entries.{classes_of, AreArranged, HaveTables};
 ghost use Rattle.cls_set.specs.Orders.{HaveOrders};
 ghost use Rattle.cls_set.specs.Rules.{Breaks, IsBelowRemote};
 ghost use Rattle.cls_set.specs.declared.fault.SetRule.TheVariants.{BadSuper};
 
-use super::members::Member;
+use super::entries::ClassEntry;
 use super::ordering::orders;
 use super::overriding::overrides_badly;
 use super::remote::{MemberKind, Unfit, find_unfit, is_below_remote, reaches_one};
@@ -47,14 +47,14 @@ impl ClassRule {
 }
 
 // Whether the direct superclass of a class has one of the mask's flags.
-fn extends_one_with(members: &[Member], class: &Class, mask: u16) -> bool
-    requires arranged { AreArranged members.now }
-    requires among { Contains (classes_of members.now) class.now }
-    ensures { IsTrue result ↔ ExtendsOneWith (origins_of members.now) class.now.file mask }
+fn extends_one_with(entries: &[ClassEntry], class: &Class, mask: u16) -> bool
+    requires arranged { AreArranged entries.now }
+    requires among { Contains (classes_of entries.now) class.now }
+    ensures { IsTrue result ↔ ExtendsOneWith (origins_of entries.now) class.now.file mask }
 {
     match class.superclass {
         Some(superclass) => {
-            let flags = members[usize::from(superclass.0)].class.file.flags;
+            let flags = entries[usize::from(superclass.0)].class.file.flags;
             flags.has(mask)
         }
         None => false,
@@ -62,13 +62,13 @@ fn extends_one_with(members: &[Member], class: &Class, mask: u16) -> bool
 }
 
 // Whether one of the direct superinterfaces of a class is no interface.
-fn implements_class(members: &[Member], class: &Class) -> bool
-    requires arranged { AreArranged members.now }
-    requires among { Contains (classes_of members.now) class.now }
-    ensures { IsTrue result ↔ ImplementsClass (origins_of members.now) class.now.file }
+fn implements_class(entries: &[ClassEntry], class: &Class) -> bool
+    requires arranged { AreArranged entries.now }
+    requires among { Contains (classes_of entries.now) class.now }
+    ensures { IsTrue result ↔ ImplementsClass (origins_of entries.now) class.now.file }
 {
     for interface in class.interfaces.as_slice() {
-        if !members[usize::from(interface.0)].class.is_interface() {
+        if !entries[usize::from(interface.0)].class.is_interface() {
             return true;
         }
     }
@@ -85,85 +85,85 @@ fn is_badly_rooted(class: &Class) -> bool
     }
 }
 
-fn has_bad_super(members: &[Member], class: &Class) -> bool
-    requires arranged { AreArranged members.now }
-    requires among { Contains (classes_of members.now) class.now }
-    ensures { IsTrue result ↔ Breaks (origins_of members.now) class.now.file BadSuper }
+fn has_bad_super(entries: &[ClassEntry], class: &Class) -> bool
+    requires arranged { AreArranged entries.now }
+    requires among { Contains (classes_of entries.now) class.now }
+    ensures { IsTrue result ↔ Breaks (origins_of entries.now) class.now.file BadSuper }
 {
     if is_badly_rooted(class) {
         return true;
     }
-    if extends_one_with(members, class, Flags::INTERFACE) {
+    if extends_one_with(entries, class, Flags::INTERFACE) {
         return true;
     }
-    implements_class(members, class)
+    implements_class(entries, class)
 }
 
 // Whether a class has or inherits what no remote class or interface may, by its table and the unfit classes.
 fn is_remotely_unfit(
-    members: &[Member],
+    entries: &[ClassEntry],
     tables: &[Row<bool>],
     unfit: &[usize],
     index: usize,
 ) -> bool
-    requires arranged { AreArranged members.now }
-    requires tables { HaveTables (classes_of members.now) tables.now }
-    requires in_set { index < length members.now }
-    ensures { (c : Class) → slice_get (classes_of members.now) index ≡ Some c → IsTrue result ↔ (IsBelowRemote (origins_of members.now) c.file.name × Any (IsReached (slice_index_or tables.now index []) index) unfit.now) }
+    requires arranged { AreArranged entries.now }
+    requires tables { HaveTables (classes_of entries.now) tables.now }
+    requires in_set { index < length entries.now }
+    ensures { (c : Class) → slice_get (classes_of entries.now) index ≡ Some c → IsTrue result ↔ (IsBelowRemote (origins_of entries.now) c.file.name × Any (IsReached (slice_index_or tables.now index []) index) unfit.now) }
 {
-    is_below_remote(members, tables, index) && reaches_one(tables[index].as_slice(), index, unfit)
+    is_below_remote(entries, tables, index) && reaches_one(tables[index].as_slice(), index, unfit)
 }
 
 fn breaks(
-    members: &[Member],
+    entries: &[ClassEntry],
     tables: &[Row<bool>],
     unfit: &Unfit,
     orders: &[Row<usize>],
     index: usize,
     rule: ClassRule,
 ) -> bool
-    requires arranged { AreArranged members.now }
-    requires tables { HaveTables (classes_of members.now) tables.now }
-    requires unfit { AreFound members.now unfit.now }
-    requires orders { HaveOrders (classes_of members.now) orders.now }
-    requires in_set { index < length members.now }
-    ensures { (c : Class) → slice_get (classes_of members.now) index ≡ Some c → IsTrue result ↔ Breaks (origins_of members.now) c.file (set_rule rule) }
+    requires arranged { AreArranged entries.now }
+    requires tables { HaveTables (classes_of entries.now) tables.now }
+    requires unfit { AreFound entries.now unfit.now }
+    requires orders { HaveOrders (classes_of entries.now) orders.now }
+    requires in_set { index < length entries.now }
+    ensures { (c : Class) → slice_get (classes_of entries.now) index ≡ Some c → IsTrue result ↔ Breaks (origins_of entries.now) c.file (set_rule rule) }
 {
-    let class = &members[index].class;
+    let class = &entries[index].class;
     match rule {
-        ClassRule::BadSuper => has_bad_super(members, class),
-        ClassRule::FinalSuper => extends_one_with(members, class, Flags::FINAL),
+        ClassRule::BadSuper => has_bad_super(entries, class),
+        ClassRule::FinalSuper => extends_one_with(entries, class, Flags::FINAL),
         ClassRule::RemoteField => {
             !class.is_interface()
-                && is_remotely_unfit(members, tables, unfit.fields.as_slice(), index)
+                && is_remotely_unfit(entries, tables, unfit.fields.as_slice(), index)
         }
         ClassRule::RemoteMethod => {
             class.is_interface()
-                && is_remotely_unfit(members, tables, unfit.methods.as_slice(), index)
+                && is_remotely_unfit(entries, tables, unfit.methods.as_slice(), index)
         }
-        ClassRule::Override => overrides_badly(members, orders, index),
-        ClassRule::NotYet => !class.is_interface() && is_below_remote(members, tables, index),
+        ClassRule::Override => overrides_badly(entries, orders, index),
+        ClassRule::NotYet => !class.is_interface() && is_below_remote(entries, tables, index),
     }
 }
 
 // Refuses the first class that breaks the rule.
 pub(crate) fn refuse(
-    members: &[Member],
+    entries: &[ClassEntry],
     tables: &[Row<bool>],
     unfit: &Unfit,
     orders: &[Row<usize>],
     rule: ClassRule,
 ) -> Result<(), SetFault>
-    requires arranged { AreArranged members.now }
-    requires tables { HaveTables (classes_of members.now) tables.now }
-    requires unfit { AreFound members.now unfit.now }
-    requires orders { HaveOrders (classes_of members.now) orders.now }
-    ensures ok { OnOk result (Keeps (origins_of members.now) (set_rule rule)) }
-    ensures fault { IfErr result (IsRuleFault (origins_of members.now) (set_rule rule)) }
+    requires arranged { AreArranged entries.now }
+    requires tables { HaveTables (classes_of entries.now) tables.now }
+    requires unfit { AreFound entries.now unfit.now }
+    requires orders { HaveOrders (classes_of entries.now) orders.now }
+    ensures ok { OnOk result (Keeps (origins_of entries.now) (set_rule rule)) }
+    ensures fault { IfErr result (IsRuleFault (origins_of entries.now) (set_rule rule)) }
 {
-    for index in 0..members.len() {
-        if breaks(members, tables, unfit, orders, index, rule) {
-            return Err(broken(rule.rule(), &members[index].class.file.name));
+    for index in 0..entries.len() {
+        if breaks(entries, tables, unfit, orders, index, rule) {
+            return Err(broken(rule.rule(), &entries[index].class.file.name));
         }
     }
     Ok(())
@@ -172,23 +172,23 @@ pub(crate) fn refuse(
 // Refuses the first class that breaks the first of the rules on each class.
 pub(crate) fn refuse_broken(
     alloc: Global,
-    members: &[Member],
+    entries: &[ClassEntry],
     tables: &[Row<bool>],
 ) -> Result<(), SetFault>
-    requires arranged { AreArranged members.now }
-    requires tables { HaveTables (classes_of members.now) tables.now }
-    ensures ok { OnOk result (KeepAll (origins_of members.now)) }
-    ensures fault { IfErr result (IsFirstRuleFault (origins_of members.now)) }
+    requires arranged { AreArranged entries.now }
+    requires tables { HaveTables (classes_of entries.now) tables.now }
+    ensures ok { OnOk result (KeepAll (origins_of entries.now)) }
+    ensures fault { IfErr result (IsFirstRuleFault (origins_of entries.now)) }
 {
-    let fields = find_unfit(alloc, members, tables, MemberKind::Fields)?;
-    let methods = find_unfit(alloc, members, tables, MemberKind::Methods)?;
+    let fields = find_unfit(alloc, entries, tables, MemberKind::Fields)?;
+    let methods = find_unfit(alloc, entries, tables, MemberKind::Methods)?;
     let unfit = Unfit { fields, methods };
-    let all = orders(alloc, members)?;
+    let all = orders(alloc, entries)?;
     let orders = all.as_slice();
-    refuse(members, tables, &unfit, orders, ClassRule::BadSuper)?;
-    refuse(members, tables, &unfit, orders, ClassRule::FinalSuper)?;
-    refuse(members, tables, &unfit, orders, ClassRule::RemoteField)?;
-    refuse(members, tables, &unfit, orders, ClassRule::RemoteMethod)?;
-    refuse(members, tables, &unfit, orders, ClassRule::Override)?;
-    refuse(members, tables, &unfit, orders, ClassRule::NotYet)
+    refuse(entries, tables, &unfit, orders, ClassRule::BadSuper)?;
+    refuse(entries, tables, &unfit, orders, ClassRule::FinalSuper)?;
+    refuse(entries, tables, &unfit, orders, ClassRule::RemoteField)?;
+    refuse(entries, tables, &unfit, orders, ClassRule::RemoteMethod)?;
+    refuse(entries, tables, &unfit, orders, ClassRule::Override)?;
+    refuse(entries, tables, &unfit, orders, ClassRule::NotYet)
 }

@@ -2,11 +2,11 @@
 //! be among its own.
 
 ghost use Rattle.std.specs.Prelude.{◌≡◌, ◌<◌, ◌≤◌, All, IfOk, OnOk, length};
-ghost use Rattle.cls_set.specs.Members.{classes_of, AreRanks};
+ghost use Rattle.cls_set.specs.Entries.{classes_of, AreRanks};
 ghost use Rattle.cls_set.specs.Walks.{met_by, meet_one, meet_all, ups_at, AreWithin, IsWalked};
 
 use super::ClassId;
-use super::members::Member;
+use super::entries::ClassEntry;
 use cf_reader::Row;
 use std::alloc::{AllocError, Global};
 
@@ -41,12 +41,16 @@ fn meet_each(classes: &[ClassId], walk: &mut Walk) -> Result<(), AllocError>
 }
 
 // Meets the direct supertypes of a class.
-fn meet_supertypes(members: &[Member], class: ClassId, walk: &mut Walk) -> Result<(), AllocError>
-    requires in_set { class.0 < length members.now }
-    requires within { AreWithin (length walk.old.met.items) (classes_of members.now) }
-    ensures { OnOk result (met_by walk.new ≡ meet_all (met_by walk.old) (ups_at (classes_of members.now) class)) }
+fn meet_supertypes(
+    entries: &[ClassEntry],
+    class: ClassId,
+    walk: &mut Walk,
+) -> Result<(), AllocError>
+    requires in_set { class.0 < length entries.now }
+    requires within { AreWithin (length walk.old.met.items) (classes_of entries.now) }
+    ensures { OnOk result (met_by walk.new ≡ meet_all (met_by walk.old) (ups_at (classes_of entries.now) class)) }
 {
-    let class = &members[usize::from(class.0)].class;
+    let class = &entries[usize::from(class.0)].class;
     meet_each(class.interfaces.as_slice(), walk)?;
     match class.superclass {
         Some(superclass) => meet(superclass, walk),
@@ -55,20 +59,20 @@ fn meet_supertypes(members: &[Member], class: ClassId, walk: &mut Walk) -> Resul
 }
 
 // Meets each supertype of a class once.
-fn walk_up(alloc: Global, members: &[Member], from: ClassId) -> Result<Walk, AllocError>
-    requires in_set { from.0 < length members.now }
-    requires within { AreWithin (length members.now) (classes_of members.now) }
-    ensures { IfOk result (IsWalked (classes_of members.now) from) }
+fn walk_up(alloc: Global, entries: &[ClassEntry], from: ClassId) -> Result<Walk, AllocError>
+    requires in_set { from.0 < length entries.now }
+    requires within { AreWithin (length entries.now) (classes_of entries.now) }
+    ensures { IfOk result (IsWalked (classes_of entries.now) from) }
 {
     let mut walk = Walk {
-        met: vec![in alloc; false; members.len()]?,
+        met: vec![in alloc; false; entries.len()]?,
         order: Vec::new(alloc),
     };
-    meet_supertypes(members, from, &mut walk)?;
+    meet_supertypes(entries, from, &mut walk)?;
     let mut next = 0;
     'up: while next < walk.order.len() {
         let class = walk.order[next];
-        meet_supertypes(members, class, &mut walk)?;
+        meet_supertypes(entries, class, &mut walk)?;
         next += 1;
     }
     Ok(walk)
@@ -83,21 +87,21 @@ pub(crate) enum Ranks {
 }
 
 // Ranks the classes. It takes a step for each class and each supertype of it.
-pub(crate) fn rank(alloc: Global, members: &mut Vec<Member>) -> Result<Ranks, AllocError>
-    requires few { length members.old.items ≤ 4096 }
-    requires within { AreWithin (length members.old.items) (classes_of members.old.items) }
-    ensures classes { classes_of members.new.items ≡ classes_of members.old.items }
-    ensures ranks { IfOk result (AreRanks (classes_of members.old.items) members.new.items) }
+pub(crate) fn rank(alloc: Global, entries: &mut Vec<ClassEntry>) -> Result<Ranks, AllocError>
+    requires few { length entries.old.items ≤ 4096 }
+    requires within { AreWithin (length entries.old.items) (classes_of entries.old.items) }
+    ensures classes { classes_of entries.new.items ≡ classes_of entries.old.items }
+    ensures ranks { IfOk result (AreRanks (classes_of entries.old.items) entries.new.items) }
 {
-    let mut tables = Vec::with_capacity(alloc, members.len())?;
-    for index in 0..members.len() {
-        let walk = walk_up(alloc, members.as_slice(), ClassId(index as u16))?;
+    let mut tables = Vec::with_capacity(alloc, entries.len())?;
+    for index in 0..entries.len() {
+        let walk = walk_up(alloc, entries.as_slice(), ClassId(index as u16))?;
         if walk.met[index] {
             return Ok(Ranks::Cyclic(index));
         }
         let height = walk.order.len();
         tables.push(Row::new(walk.met))?;
-        members[index].rank = height;
+        entries[index].rank = height;
     }
     Ok(Ranks::Tables(tables))
 }

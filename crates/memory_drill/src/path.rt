@@ -152,7 +152,7 @@ pub fn play(alloc: Global, tally: &mut Tally) -> Result<(), AllocError> {
     tally.answer(matches!(
         answer,
         Err(Refusal::File {
-            place: 0,
+            index: 0,
             fault: LoadFault::Read(ReadFault::Broken { at: 142, .. })
         })
     ));

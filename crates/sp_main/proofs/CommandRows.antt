@@ -7,9 +7,9 @@ use Rattle.clap.specs.Walk.{Row, all_of, first_of}
 use Rattle.clap.specs.declared.error.kind.ErrorKind.TheVariants.{ArgumentConflict, DisplayHelp, DisplayVersion, MissingRequiredArgument, UnknownArgument}
 use Rattle.sp_main.specs.CommandLine.{program}
 
--- what stands in a place, if it is a run
-abbrev place : List ℕ → Option (List ℕ × List Row) → Option (Option (List ℕ))
-place id = option_map (λ found. first_of id found.1)
+-- what stands in an index, if it is a run
+abbrev index : List ℕ → Option (List ℕ × List Row) → Option (Option (List ℕ))
+index id = option_map (λ found. first_of id found.1)
 
 abbrev arguments : Option (List ℕ × List Row) → Option (Option (List (List ℕ)))
 arguments = option_map (λ found. all_of (codes "arguments") found.1)
@@ -22,15 +22,15 @@ pub sum_is_taken : fault_of program sum ≡ []
 unfolding clap_on_literals
 sum_is_taken = refl
 
-pub sum_has_a_folder : place (codes "folder") (subcommand_of program sum) ≡ Some (Some (codes "box"))
+pub sum_has_a_folder : index (codes "folder") (subcommand_of program sum) ≡ Some (Some (codes "box"))
 unfolding clap_on_literals
 sum_has_a_folder = refl
 
-pub sum_has_a_class : place (codes "class") (subcommand_of program sum) ≡ Some (Some (codes "T"))
+pub sum_has_a_class : index (codes "class") (subcommand_of program sum) ≡ Some (Some (codes "T"))
 unfolding clap_on_literals
 sum_has_a_class = refl
 
-pub sum_has_a_method : place (codes "method") (subcommand_of program sum) ≡ Some (Some (codes "f(I)I"))
+pub sum_has_a_method : index (codes "method") (subcommand_of program sum) ≡ Some (Some (codes "f(I)I"))
 unfolding clap_on_literals
 sum_has_a_method = refl
 
@@ -38,7 +38,7 @@ pub sum_has_an_argument : arguments (subcommand_of program sum) ≡ Some (Some (
 unfolding clap_on_literals
 sum_has_an_argument = refl
 
-pub sum_has_fuel : place (codes "fuel") (subcommand_of program sum) ≡ Some (Some (codes "38"))
+pub sum_has_fuel : index (codes "fuel") (subcommand_of program sum) ≡ Some (Some (codes "38"))
 unfolding clap_on_literals
 sum_has_fuel = refl
 
@@ -62,7 +62,7 @@ pub bare_is_taken : fault_of program bare ≡ []
 unfolding clap_on_literals
 bare_is_taken = refl
 
-pub bare_has_no_fuel : place (codes "fuel") (subcommand_of program bare) ≡ Some None
+pub bare_has_no_fuel : index (codes "fuel") (subcommand_of program bare) ≡ Some None
 unfolding clap_on_literals
 bare_has_no_fuel = refl
 

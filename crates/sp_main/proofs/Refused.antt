@@ -25,7 +25,7 @@ run_refused files class text arguments limits program method is named (Err r) wh
 
 -- a file that is at fault stands in the list
 unread_file : (files : List ClassBytes) (r : Refusal) → IsUnread files r → IsRefusalOf files r
-unread_file files r (at_fault place file fault before at spelled why) = slice_get_within files place file at
+unread_file files r (at_fault index file fault before at spelled why) = slice_get_within files index file at
 unread_file files r no_memory_to_read = tt
 
 pub no_program_file : (files : List ClassBytes) (r : Refusal) → IsNoProgram files r → IsRefusalOf files r

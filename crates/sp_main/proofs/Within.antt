@@ -64,25 +64,25 @@ module _ (code : Code) where
           let fits : length m.stack.frame.operands < m.stack.frame.room = ltb-true (length m.stack.frame.operands) m.stack.frame.room is in
           go (record m { stack = pushed value m.stack }) record { locals = kept.locals; room = kept.room; operands = omega (arith, fits, kept.room) }
 
-  load_int-keeps : (place : ℕ) (next : ℤ → Next) (m : Machine) → ((n : ℤ) → Leads code (next n)) → Leads code (load_int place next m)
-  load_int-keeps place next m go = on (slice_get m.stack.frame.locals place)
+  load_int-keeps : (index : ℕ) (next : ℤ → Next) (m : Machine) → ((n : ℤ) → Leads code (next n)) → Leads code (load_int index next m)
+  load_int-keeps index next m go = on (slice_get m.stack.frame.locals index)
     where
       on : (o : Option Tagged) → Leads code (on_local (on_int next) o)
       on None = tt
       on (Some value) = on_int-keeps next value go
 
-  length-slice_set : (values : List Tagged) (place : ℕ) (value : Tagged) → length (slice_set values place value) ≡ length values
-  length-slice_set [] place value = refl
+  length-slice_set : (values : List Tagged) (index : ℕ) (value : Tagged) → length (slice_set values index value) ≡ length values
+  length-slice_set [] index value = refl
   length-slice_set (v ∷ values) zero value = refl
-  length-slice_set (v ∷ values) (suc place) value = ap suc (length-slice_set values place value)
+  length-slice_set (v ∷ values) (suc index) value = ap suc (length-slice_set values index value)
 
-  store-keeps : (place : ℕ) (value : Tagged) (next : Machine → Next) (m : Machine) → Keeps code m → ((after : Machine) → Keeps code after → Leads code (next after)) → Leads code (store place value next m)
-  store-keeps place value next m kept go = on (nat_lt place (length m.stack.frame.locals))
+  store-keeps : (index : ℕ) (value : Tagged) (next : Machine → Next) (m : Machine) → Keeps code m → ((after : Machine) → Keeps code after → Leads code (next after)) → Leads code (store index value next m)
+  store-keeps index value next m kept go = on (nat_lt index (length m.stack.frame.locals))
     where
-      on : (b : Bool) → Leads code (if b then next (record m { stack = with_local place value m.stack }) else Stuck)
+      on : (b : Bool) → Leads code (if b then next (record m { stack = with_local index value m.stack }) else Stuck)
       on false = tt
-      on true = go (record m { stack = with_local place value m.stack }) record {
-        locals = length-slice_set m.stack.frame.locals place value ∙ kept.locals;
+      on true = go (record m { stack = with_local index value m.stack }) record {
+        locals = length-slice_set m.stack.frame.locals index value ∙ kept.locals;
         room = kept.room;
         operands = kept.operands;
       }
@@ -104,12 +104,12 @@ module _ (code : Code) where
   act-keeps : (i : LinkedInsn) (m : Machine) → Keeps code m → Leads code (act i m)
   act-keeps insn.Nop m kept = go_on-keeps m kept
   act-keeps (insn.Constant n) m kept = push-keeps (Int n) go_on m kept go_on-keeps
-  act-keeps (insn.Load kind.Int place) m kept = load_int-keeps place (λ n. push (Int n) go_on m) m (λ n. push-keeps (Int n) go_on m kept go_on-keeps)
-  act-keeps (insn.Store kind.Int place) m kept =
-      pop_int-keeps (λ n. store place (Int n) go_on) m kept (λ n after still. store-keeps place (Int n) go_on after still go_on-keeps)
-  act-keeps (insn.Increment place by) m kept =
-      load_int-keeps place (λ n. store place (Int (int_wrapping_add w32 n by)) go_on m) m
-      (λ n. store-keeps place (Int (int_wrapping_add w32 n by)) go_on m kept go_on-keeps)
+  act-keeps (insn.Load kind.Int index) m kept = load_int-keeps index (λ n. push (Int n) go_on m) m (λ n. push-keeps (Int n) go_on m kept go_on-keeps)
+  act-keeps (insn.Store kind.Int index) m kept =
+      pop_int-keeps (λ n. store index (Int n) go_on) m kept (λ n after still. store-keeps index (Int n) go_on after still go_on-keeps)
+  act-keeps (insn.Increment index by) m kept =
+      load_int-keeps index (λ n. store index (Int (int_wrapping_add w32 n by)) go_on m) m
+      (λ n. store-keeps index (Int (int_wrapping_add w32 n by)) go_on m kept go_on-keeps)
   act-keeps (insn.Stack Pop) m kept = pop-keeps (λ value. go_on) m kept (λ value. go_on-keeps)
   act-keeps (insn.Stack Dup) m kept =
       pop-keeps (λ value. push value (push value go_on)) m kept

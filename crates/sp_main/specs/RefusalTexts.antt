@@ -67,14 +67,14 @@ TellsCheck check.Memory text = ⊥
 abbrev pub TellsStart : StartFault → (text : List ℕ) → Type 0
 TellsStart fault text = (fault ≢ start.Memory) × (text ≡ line_of (rule_text (codes "refused start") (start_fault_number fault) (start_fault_name fault)))
 
--- a refusal is one of these files: the place of a file that is refused is a place of the list
+-- a refusal is one of these files: the index of a file that is refused is an index of the list
 abbrev pub IsRefusalOf : List ClassBytes → Refusal → Type 0
-IsRefusalOf files (refusal.File place fault) = place < length files
+IsRefusalOf files (refusal.File index fault) = index < length files
 IsRefusalOf files _ = Unit {0}
 
 -- a refusal of these files; the one that is at fault goes by its path
 abbrev pub TellsRefusal : List ClassBytes → Refusal → (text : List ℕ) → Type 0
-TellsRefusal files (refusal.File place fault) text = IsSomeAnd (slice_get files place) (λ file. TellsFile (string_bytes file.path) fault text)
+TellsRefusal files (refusal.File index fault) text = IsSomeAnd (slice_get files index) (λ file. TellsFile (string_bytes file.path) fault text)
 TellsRefusal files (refusal.Set fault) text = TellsSet fault text
 TellsRefusal files (refusal.Link fault) text = TellsLink fault text
 TellsRefusal files (refusal.Check fault) text = TellsCheck fault text

@@ -83,7 +83,7 @@ is_parenthesis byte = byte == 40
 abbrev pub method_named : Links → List ℕ → List ℕ → Option MethodId
 method_named program class text =
     option_and_then (λ holder.
-    option_and_then (λ place. links.number_of program.classes holder (take place text) (drop place text))
+    option_and_then (λ index. links.number_of program.classes holder (take index text) (drop index text))
     (position is_parenthesis text)) (sets.number_of program.classes class)
 
 -- how many instructions so many steps make: one a step, while the task runs and has fuel
@@ -142,8 +142,8 @@ pub record IsRun (files : List ClassBytes) (class text : List ℕ) (arguments : 
 
 -- why files are not read: the first at fault, and those before it spell class files
 pub data IsUnread (files : List ClassBytes) : Refusal → Type 0 where
-  at_fault : (place : ℕ) (file : ClassBytes) (fault : LoadFault) (before : List ClassFile) → slice_get files place ≡ Some file → AreSpelled (take place files) before
-      → IsFileFault file.content fault → IsUnread files (refusal.File place fault)
+  at_fault : (index : ℕ) (file : ClassBytes) (fault : LoadFault) (before : List ClassFile) → slice_get files index ≡ Some file → AreSpelled (take index files) before
+      → IsFileFault file.content fault → IsUnread files (refusal.File index fault)
   no_memory_to_read : IsUnread files refusal.Memory
 
 -- why files make no program: the first of reading, set, links and checks that refuses them

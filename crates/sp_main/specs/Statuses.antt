@@ -28,7 +28,7 @@ file_status (Read fault) = Refused
 
 -- the status of a refusal: a method that does not start is a failure
 abbrev pub refusal_status : Refusal → Status
-refusal_status (refusal.File place fault) = file_status fault
+refusal_status (refusal.File index fault) = file_status fault
 refusal_status (refusal.Set fault) = Refused
 refusal_status (refusal.Link fault) = Refused
 refusal_status (refusal.Check fault) = Refused

@@ -13,8 +13,8 @@ use vm_step::StartFault;
 /// Why a class set is not run. Nothing of it has run then.
 #[derive(Debug, Drop)]
 pub enum Refusal {
-    /// The file at this place of the list is refused, or its device failed.
-    File { place: usize, fault: LoadFault },
+    /// The file at this index of the list is refused, or its device failed.
+    File { index: usize, fault: LoadFault },
     /// The files make no class set.
     Set(SetFault),
     /// A method's code does not link.

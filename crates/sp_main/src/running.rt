@@ -98,10 +98,10 @@ fn read_files(alloc: Global, files: &[ClassBytes]) -> Result<Vec<ClassFile>, Ref
     ensures refused { IfErr result (IsUnread files.now) }
 {
     let mut classes = Vec::new(alloc);
-    for (place, file) in files.iter().enumerate() {
+    for (index, file) in files.iter().enumerate() {
         match read_file(alloc, file) {
             Ok(class) => classes.push(class)?,
-            Err(fault) => return Err(Refusal::File { place, fault }),
+            Err(fault) => return Err(Refusal::File { index, fault }),
         }
     }
     Ok(classes)
@@ -129,8 +129,8 @@ fn find_method(accepted: &Accepted, class: &[u8], method: &[u8]) -> Option<Metho
 
 // Where the descriptor begins.
 fn descriptor_place(method: &[u8]) -> Option<usize>
-    ensures place { result ≡ position is_parenthesis method.now }
-    ensures within { IfSome result (λ place. place ≤ length method.now) }
+    ensures index { result ≡ position is_parenthesis method.now }
+    ensures within { IfSome result (λ index. index ≤ length method.now) }
 {
     method.iter().position(|byte| *byte == b'(')
 }

@@ -61,8 +61,8 @@ fn with_ints(line: Line, ints: &[i32]) -> Result<Line, AllocError>
     ensures { IfOk result (λ longer. longer ≡ line ++ ints_text ints.now) }
 {
     let mut line = line.text("[")?;
-    for (place, int) in ints.iter().enumerate() {
-        if place > 0 {
+    for (index, int) in ints.iter().enumerate() {
+        if index > 0 {
             line = line.text(",")?;
         }
         line = line.display(int)?;
@@ -83,7 +83,7 @@ pub fn refusal_report(
     ensures line { IfOk result (λ report. IsLine report.text.items) }
 {
     match refusal {
-        Refusal::File { place, fault } => file_report(alloc, &files[*place].path, *fault),
+        Refusal::File { index, fault } => file_report(alloc, &files[*index].path, *fault),
         Refusal::Set(fault) => set_report(alloc, fault),
         Refusal::Link(fault) => link_report(alloc, fault),
         Refusal::Check(fault) => check_report(alloc, fault),

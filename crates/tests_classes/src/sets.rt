@@ -196,8 +196,8 @@ fn classes_on_cycles_are_refused(rt: HostRuntime) -> Result<(), Fail> {
 fn classes_that_cannot_be_numbered_are_too_many(rt: HostRuntime) -> Result<(), Fail> {
     let alloc = rt.alloc();
     let mut files = Vec::new(alloc);
-    for place in 0..4068 {
-        let name = format!(in alloc; "T{place}")?;
+    for index in 0..4068 {
+        let name = format!(in alloc; "T{index}")?;
         files.push(under(alloc, name.as_bytes(), b"No", &[])?)?;
     }
     refused(&rt, ClassSet::build(alloc, files), 38, b"T4067");

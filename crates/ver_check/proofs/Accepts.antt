@@ -59,7 +59,7 @@ unfolding subject_of
 subject_listed classes m s e listed =
     option_and_then_some _ m.code s e (λ linked is in_class.
     option_and_then_some _ (slice_get classes m.class.0) s in_class (λ class class_is in_methods.
-    option_and_then_some _ (slice_get class.file.methods m.place) s in_methods (λ method method_is in_code.
+    option_and_then_some _ (slice_get class.file.methods m.index) s in_methods (λ method method_is in_code.
     option_and_then_some _ method.code s in_code (λ code code_is found.
     subst (λ (x : LinkedCode). IsListed x)
     (linked_of (record { classes = classes; class_id = m.class; class = class; method = method; code = code; linked = linked }) s found)

@@ -39,19 +39,19 @@ target_stops classes None given R S T U wrong lands = absurd lands
 target_stops classes (Some d) given R S T U (inl none) lands = absurd (let e = none.0 in cc)
 target_stops classes (Some d) given R S T U (inr wrong) lands = wrong.0 lands
 
-among_stops : (body : Body) (place : ℕ) (after : Frame) (ts : List ℕ) (rule : CheckRule) (told : ℕ) → IsWrongAmong body place after ts rule told → AllByRecursion (Lands body after) ts → ⊥
-among_stops body place after [] rule told wrong lands = absurd wrong
-among_stops body place after (t ∷ ts) rule told (inl wrong) lands =
-    target_stops body.classes (declared_at body t) after (rule ≡ NoFrame) (told ≡ t) (rule ≡ NotAssignable) (told ≡ place) wrong lands.0
-among_stops body place after (t ∷ ts) rule told (inr others) lands = among_stops body place after ts rule told others.1 lands.1
+among_stops : (body : Body) (index : ℕ) (after : Frame) (ts : List ℕ) (rule : CheckRule) (told : ℕ) → IsWrongAmong body index after ts rule told → AllByRecursion (Lands body after) ts → ⊥
+among_stops body index after [] rule told wrong lands = absurd wrong
+among_stops body index after (t ∷ ts) rule told (inl wrong) lands =
+    target_stops body.classes (declared_at body t) after (rule ≡ NoFrame) (told ≡ t) (rule ≡ NotAssignable) (told ≡ index) wrong lands.0
+among_stops body index after (t ∷ ts) rule told (inr others) lands = among_stops body index after ts rule told others.1 lands.1
 
-next_stops : (body : Body) (place : ℕ) (falls : Bool) (after next : Frame) (rule : CheckRule) (told : ℕ) (R S : Type 0)
-    → MatchBool falls (((length body.insns ≤ suc place) × R × S) ⊎ ((suc place < length body.insns) × IsWrongEntry body (suc place) after place rule told)) ((suc place < length body.insns) × IsMissing body (suc place) rule told)
-    → MatchBool falls ((suc place < length body.insns) × ComesIn body (suc place) after next) (suc place < length body.insns → declared_at body (suc place) ≡ Some next)
+next_stops : (body : Body) (index : ℕ) (falls : Bool) (after next : Frame) (rule : CheckRule) (told : ℕ) (R S : Type 0)
+    → MatchBool falls (((length body.insns ≤ suc index) × R × S) ⊎ ((suc index < length body.insns) × IsWrongEntry body (suc index) after index rule told)) ((suc index < length body.insns) × IsMissing body (suc index) rule told)
+    → MatchBool falls ((suc index < length body.insns) × ComesIn body (suc index) after next) (suc index < length body.insns → declared_at body (suc index) ≡ Some next)
     → ⊥
-next_stops body place true after next rule told R S (inl ends) goes = let past = ends.0 in let inside = goes.0 in absurd (omega (arith, past, inside))
-next_stops body place true after next rule told R S (inr wrong) goes = entry_stops body.classes (declared_at body (suc place)) after next (rule ≡ NotAssignable) (told ≡ place) wrong.1 goes.1
-next_stops body place false after next rule told R S wrong goes = let some = goes wrong.0 in let none = wrong.1.0 in absurd (cc)
+next_stops body index true after next rule told R S (inl ends) goes = let past = ends.0 in let inside = goes.0 in absurd (omega (arith, past, inside))
+next_stops body index true after next rule told R S (inr wrong) goes = entry_stops body.classes (declared_at body (suc index)) after next (rule ≡ NotAssignable) (told ≡ index) wrong.1 goes.1
+next_stops body index false after next rule told R S wrong goes = let some = goes wrong.0 in let none = wrong.1.0 in absurd (cc)
 
 same_ok : (f g : Frame) → ◌≡◌ {A = Result Frame CheckRule} (Ok f) (Ok g) → f ≡ g
 same_ok f g e = cc
@@ -60,12 +60,12 @@ none_acts : (rule : CheckRule) (r : Result Frame CheckRule) (after : Frame) → 
 none_acts rule r after e acts = absurd (cc)
 
 -- the pass does not come through an instruction that is at fault
-pub wrong_stops : (body : Body) (place : ℕ) (i : LinkedInsn) (here next : Frame) (rule : CheckRule) (told : ℕ) → IsWrongAt body place i here rule told → Passes body place i here next → ⊥
-wrong_stops body place i here next rule told (faults.IsWrongAt.acts e at) passes = none_acts rule (effect body (offset_at body place) i here) passes.after e passes.acts
-wrong_stops body place i here next rule told (faults.IsWrongAt.lands after acts wrong) passes =
-    among_stops body place after (targets body i) rule told wrong (subst (λ (f : Frame). AllByRecursion (Lands body f) (targets body i)) (same_ok passes.after after (sym passes.acts ∙ acts)) passes.lands)
-wrong_stops body place i here next rule told (faults.IsWrongAt.goes_on after acts lands wrong) passes =
-    next_stops body place (falls_through i) after next rule told _ _ wrong (subst (λ (f : Frame). GoesTo body place i f next) (same_ok passes.after after (sym passes.acts ∙ acts)) passes.goes_to)
+pub wrong_stops : (body : Body) (index : ℕ) (i : LinkedInsn) (here next : Frame) (rule : CheckRule) (told : ℕ) → IsWrongAt body index i here rule told → Passes body index i here next → ⊥
+wrong_stops body index i here next rule told (faults.IsWrongAt.acts e at) passes = none_acts rule (effect body (offset_at body index) i here) passes.after e passes.acts
+wrong_stops body index i here next rule told (faults.IsWrongAt.lands after acts wrong) passes =
+    among_stops body index after (targets body i) rule told wrong (subst (λ (f : Frame). AllByRecursion (Lands body f) (targets body i)) (same_ok passes.after after (sym passes.acts ∙ acts)) passes.lands)
+wrong_stops body index i here next rule told (faults.IsWrongAt.goes_on after acts lands wrong) passes =
+    next_stops body index (falls_through i) after next rule told _ _ wrong (subst (λ (f : Frame). GoesTo body index i f next) (same_ok passes.after after (sym passes.acts ∙ acts)) passes.goes_to)
 
 -- a body that is at fault is not type safe
 pub body_unsafe : (body : Body) (rule : CheckRule) (told : ℕ) → IsWrongBody body rule told → ¬ IsTypeSafe body
@@ -73,8 +73,8 @@ body_unsafe body rule told (faults.IsWrongBody.arguments many e at) safe = let f
 body_unsafe body rule told (faults.IsWrongBody.empty few none e at) safe = let some = safe.typing.begins in absurd (omega (arith, none, some))
 body_unsafe body rule told (faults.IsWrongBody.opening few wrong) safe =
     refuted_opening body (λ here came. entry_stops body.classes (declared_at body 0) body.opening here (rule ≡ NotAssignable) (told ≡ 0) wrong came) safe
-body_unsafe body rule told (faults.IsWrongBody.instruction few place i here reaches at wrong) safe =
-    refuted body place i here reaches at (λ next passes. wrong_stops body place i here next rule told wrong passes) safe
+body_unsafe body rule told (faults.IsWrongBody.instruction few index i here reaches at wrong) safe =
+    refuted body index i here reaches at (λ next passes. wrong_stops body index i here next rule told wrong passes) safe
 
 fault_with : (m : Subject) (r : Result (List (ℕ × Frame)) StackMapFault) (rule : CheckRule) (at : ℕ) (declared : List (ℕ × Frame)) → IsFaultWith m r rule at → r ≡ Ok declared → IsTypeSafe (body_of m declared) → ⊥
 fault_with m (Ok found) rule at declared wrong e safe =

@@ -19,28 +19,28 @@ same_heads : {A : Type 0} (x y : A) (xs ys : List A) → x ∷ xs ≡ y ∷ ys �
 same_heads x y xs ys e = (cc, cc)
 
 -- the frame of the index of an instruction is the one that is declared at its offset
-pub index_finds : (declared : List (ℕ × Frame)) (offsets : List ℕ) (indices : List ℕ) (place : ℕ) → AreIndices declared offsets indices
-    → option_and_then (frame_of declared) (slice_get indices place) ≡ option_and_then (frame_at_offset declared) (slice_get offsets place)
-index_finds declared [] [] place e = refl
-index_finds declared [] (i ∷ is) place e = absurd (cc)
-index_finds declared (o ∷ os) [] place e = absurd (cc)
+pub index_finds : (declared : List (ℕ × Frame)) (offsets : List ℕ) (indices : List ℕ) (index : ℕ) → AreIndices declared offsets indices
+    → option_and_then (frame_of declared) (slice_get indices index) ≡ option_and_then (frame_at_offset declared) (slice_get offsets index)
+index_finds declared [] [] index e = refl
+index_finds declared [] (i ∷ is) index e = absurd (cc)
+index_finds declared (o ∷ os) [] index e = absurd (cc)
 index_finds declared (o ∷ os) (i ∷ is) zero e = (same_heads (frame_of declared i) (frame_at_offset declared o) (map (frame_of declared) is) (map (frame_at_offset declared) os) e).0
-index_finds declared (o ∷ os) (i ∷ is) (suc place) e =
-    index_finds declared os is place (same_heads (frame_of declared i) (frame_at_offset declared o) (map (frame_of declared) is) (map (frame_at_offset declared) os) e).1
+index_finds declared (o ∷ os) (i ∷ is) (suc index) e =
+    index_finds declared os is index (same_heads (frame_of declared i) (frame_at_offset declared o) (map (frame_of declared) is) (map (frame_at_offset declared) os) e).1
 
--- the same of the index that was read at a place
-pub read_index : (declared : List (ℕ × Frame)) (offsets : List ℕ) (indices : List ℕ) (place : ℕ) (index : ℕ) → AreIndices declared offsets indices → place < length indices → index ≡ get_or indices place index
-    → frame_of declared index ≡ option_and_then (frame_at_offset declared) (slice_get offsets place)
-read_index declared offsets indices place index are within e =
-    let at : slice_get indices place ≡ Some index = slice_get_read indices (length indices) place index refl within e in
-    rw at at (index_finds declared offsets indices place are)
+-- the same of the index that was read at a i
+pub read_index : (declared : List (ℕ × Frame)) (offsets : List ℕ) (indices : List ℕ) (i : ℕ) (index : ℕ) → AreIndices declared offsets indices → i < length indices → index ≡ get_or indices i index
+    → frame_of declared index ≡ option_and_then (frame_at_offset declared) (slice_get offsets i)
+read_index declared offsets indices i index are within e =
+    let at : slice_get indices i ≡ Some index = slice_get_read indices (length indices) i index refl within e in
+    rw at at (index_finds declared offsets indices i are)
 
 -- past the indices no frame is declared
-pub past_indices : (declared : List (ℕ × Frame)) (offsets : List ℕ) (indices : List ℕ) (place : ℕ) → AreIndices declared offsets indices → length indices ≤ place
-    → None ≡ option_and_then (frame_at_offset declared) (slice_get offsets place)
-past_indices declared offsets indices place are past =
-    let at : slice_get indices place ≡ None = slice_get_past indices place past in
-    rw at at (index_finds declared offsets indices place are)
+pub past_indices : (declared : List (ℕ × Frame)) (offsets : List ℕ) (indices : List ℕ) (index : ℕ) → AreIndices declared offsets indices → length indices ≤ index
+    → None ≡ option_and_then (frame_at_offset declared) (slice_get offsets index)
+past_indices declared offsets indices index are past =
+    let at : slice_get indices index ≡ None = slice_get_past indices index past in
+    rw at at (index_finds declared offsets indices index are)
 
 -- past the last frame there is none
 pub past_last : (declared : List (ℕ × Frame)) → frame_of declared (length declared) ≡ None

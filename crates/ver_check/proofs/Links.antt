@@ -1,4 +1,4 @@
--- What a linked class set says of the code of its methods, and what the declared frames say at each place.
+-- What a linked class set says of the code of its methods, and what the declared frames say at each index.
 use Rattle.std.proofs.Common.{◌≡◌, ℕ, zero, suc, ◌+◌, ◌≤◌, Bool, true, false, Option, Some, None, Result, Ok, Err, List, [], ◌∷◌, length, refl, ap, sym, subst, ◌∙◌, arith}
 use Rattle.std.specs.Prelude.{◌==◌, if◌then◌else◌, map, slice_get, option_and_then, MatchOption, IsSomeAnd, IfSome}
 use Rattle.std.specs.List.{AllByRecursion, AllZip}
@@ -80,7 +80,7 @@ module _ (classes : List Class) where
       subst (λ (x : LinkedMethod). IfSome x.code IsListed) same (of_method d.class d.method d.method.code n.code linked.0.code)
   method_listed (d ∷ ds) (n ∷ ns) linked (suc k) m at = method_listed ds ns linked.1 k m at
 
--- ---- the frame at each place fits
+-- ---- the frame at each index fits
 
 abbrev FitsIn : Subject → Frame → Type 0
 FitsIn m f = (length f.locals ≤ m.code.max_locals) × (length f.stack ≤ m.code.max_stack)
@@ -97,10 +97,10 @@ unfolding frame_at_offset
 fits_at m [] fit offset f e = absurd (cc)
 fits_at m (d ∷ ds) fit offset f e = this_or_later m d (frame_at_offset ds offset) f (d.0 == offset) fit.0 (fits_at m ds fit.1 offset f) e
 
--- a frame that is declared at a place is within the limits of the method
-pub within_at : (m : Subject) (ds : List (ℕ × Frame)) → AllByRecursion (FitsMethod m) ds → (place : ℕ) (f : Frame) → declared_at (body_of m ds) place ≡ Some f → IsWithin (body_of m ds) f
+-- a frame that is declared at an index is within the limits of the method
+pub within_at : (m : Subject) (ds : List (ℕ × Frame)) → AllByRecursion (FitsMethod m) ds → (index : ℕ) (f : Frame) → declared_at (body_of m ds) index ≡ Some f → IsWithin (body_of m ds) f
 unfolding declared_at
-within_at m ds fit place f e = of_offset (slice_get m.linked.offsets place) e
+within_at m ds fit index f e = of_offset (slice_get m.linked.offsets index) e
   where
     of_offset : (o : Option ℕ) → option_and_then (frame_at_offset ds) o ≡ Some f → IsWithin (body_of m ds) f
     of_offset None found = absurd (cc)

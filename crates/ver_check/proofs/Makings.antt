@@ -23,7 +23,7 @@ use Rattle.ver_frames.specs.declared.vtype.VType.{VType}
 pub step_stops : (s : Stop) (r total : Result Frame CheckRule) (k : Frame → Result Frame CheckRule) (g h : Frame) → Makes {X = Unit {0}} (λ _. g) (Err s) r → (r >>= k) ≡ total
     → Makes {X = Unit {0}} (λ _. h) (Err s) total
 step_stops (Broken rule) r total k g h is so_far = sym so_far ∙ ap (λ (x : Result Frame CheckRule). x >>= k) is
-step_stops (Missing place) r total k g h is so_far = is
+step_stops (Missing index) r total k g h is so_far = is
 step_stops Memory r total k g h is so_far = tt
 
 -- where it does not, the rest is left
@@ -92,7 +92,7 @@ module _ (body : Body) (from : ℕ) (after : Frame) where
       → Settles {X = Unit {0}} from (Err s) (Lands body after (get_or ts k d)) (IsWrongTarget body from after (get_or ts k d))
       → Settles {X = Unit {0}} from (Err s) (AllByRecursion (Lands body after) ts) (IsWrongAmong body from after ts)
   stops_at (Broken rule) ts k d lt all wrong = wrong_at rule from ts k d lt all wrong
-  stops_at (Missing place) ts k d lt all wrong = wrong_at _ place ts k d lt all wrong
+  stops_at (Missing index) ts k d lt all wrong = wrong_at _ index ts k d lt all wrong
   stops_at Memory ts k d lt all wrong = tt
 
   -- the default target, and then the others
@@ -100,11 +100,11 @@ module _ (body : Body) (from : ℕ) (after : Frame) where
       → Settles from r (AllByRecursion (Lands body after) (t ∷ ts)) (IsWrongAmong body from after (t ∷ ts))
   lands_first t ts (Ok x) here others = (here, others)
   lands_first t ts (Err (Broken rule)) here others = inr (here, others)
-  lands_first t ts (Err (Missing place)) here others = inr (here, others)
+  lands_first t ts (Err (Missing index)) here others = inr (here, others)
   lands_first t ts (Err Memory) here others = tt
 
   pub stops_first : (s : Stop) (t : ℕ) (ts : List ℕ) → Settles {X = Unit {0}} from (Err s) (Lands body after t) (IsWrongTarget body from after t)
       → Settles {X = Unit {0}} from (Err s) (AllByRecursion (Lands body after) (t ∷ ts)) (IsWrongAmong body from after (t ∷ ts))
   stops_first (Broken rule) t ts wrong = inl wrong
-  stops_first (Missing place) t ts wrong = inl wrong
+  stops_first (Missing index) t ts wrong = inl wrong
   stops_first Memory t ts wrong = tt

@@ -19,7 +19,7 @@ subject_of classes m =
     option_and_then (λ (method : Method).
     option_and_then (λ (code : Code).
     Some (record { classes = classes; class_id = m.class; class = class; method = method; code = code; linked = linked }))
-    method.code) (slice_get class.file.methods m.place)) (slice_get classes m.class.0)) m.code
+    method.code) (slice_get class.file.methods m.index)) (slice_get classes m.class.0)) m.code
 
 -- a method with code is type safe (JVMS 4.10.1.6): it declares frames by its StackMapTable, and the body
 -- with them is type safe

@@ -39,13 +39,13 @@ body_of m declared = record {
   declared = declared;
 }
 
--- the instruction at this place, counted from 0
+-- the instruction at this index, counted from 0
 abbrev pub insn_at : Body → ℕ → Option LinkedInsn
-insn_at body place = slice_get body.insns place
+insn_at body index = slice_get body.insns index
 
--- the offset of the instruction at this place
+-- the offset of the instruction at this index
 abbrev pub offset_at : Body → ℕ → ℕ
-offset_at body place = slice_index body.offsets place
+offset_at body index = slice_index body.offsets index
 
 -- the frame that is declared at an offset
 unfoldable pub frame_at_offset : List (ℕ × Frame) → ℕ → Option Frame
@@ -53,6 +53,6 @@ frame_at_offset [] offset = None
 frame_at_offset (first ∷ others) offset =
     if first.0 == offset then Some first.1 else frame_at_offset others offset
 
--- the frame that is declared at the instruction at this place
+-- the frame that is declared at the instruction at this index
 unfoldable pub declared_at : Body → ℕ → Option Frame
-declared_at body place = option_and_then (frame_at_offset body.declared) (slice_get body.offsets place)
+declared_at body index = option_and_then (frame_at_offset body.declared) (slice_get body.offsets index)

@@ -18,9 +18,9 @@ use Rattle.ver_frames.specs.StackMap.{declared_frames}
 use Rattle.ver_frames.specs.declared.fault.StackMapFault.{StackMapFault}
 use Rattle.ver_frames.specs.declared.fault.StackMapFault.TheVariants as frames
 
--- Each of these takes the rule that is broken, and the place of the instruction at which that is told.
+-- Each of these takes the rule that is broken, and the index of the instruction at which that is told.
 
--- what comes from a place is not assignable to the frame that is declared here: that is told at the place that it
+-- what comes from an index is not assignable to the frame that is declared here: that is told at the index that it
 -- comes from
 abbrev pub IsWrongEntry : Body → ℕ → Frame → ℕ → CheckRule → ℕ → Type 0
 IsWrongEntry body here given from rule told =
@@ -32,27 +32,27 @@ IsMissing body here rule told = (declared_at body here ≡ None) × (rule ≡ No
 
 -- a frame does not land on one that is declared at the target of a branch
 abbrev pub IsWrongTarget : Body → ℕ → Frame → ℕ → CheckRule → ℕ → Type 0
-IsWrongTarget body place after target rule told = IsMissing body target rule told ⊎ IsWrongEntry body target after place rule told
+IsWrongTarget body index after target rule told = IsMissing body target rule told ⊎ IsWrongEntry body target after index rule told
 
 -- at the first of these targets at which it does not land
 abbrev pub IsWrongAmong : Body → ℕ → Frame → List ℕ → CheckRule → ℕ → Type 0
-IsWrongAmong body place after [] rule told = ⊥
-IsWrongAmong body place after (target ∷ others) rule told =
-    IsWrongTarget body place after target rule told ⊎ (Lands body after target × IsWrongAmong body place after others rule told)
+IsWrongAmong body index after [] rule told = ⊥
+IsWrongAmong body index after (target ∷ others) rule told =
+    IsWrongTarget body index after target rule told ⊎ (Lands body after target × IsWrongAmong body index after others rule told)
 
 -- the pass does not go on behind an instruction, whose effect gave this frame
 abbrev pub IsWrongNext : Body → ℕ → LinkedInsn → Frame → CheckRule → ℕ → Type 0
-IsWrongNext body place insn after rule told =
+IsWrongNext body index insn after rule told =
     MatchBool (falls_through insn)
-    (((length body.insns ≤ suc place) × (rule ≡ FallsOff) × (told ≡ place)) ⊎ ((suc place < length body.insns) × IsWrongEntry body (suc place) after place rule told))
-    ((suc place < length body.insns) × IsMissing body (suc place) rule told)
+    (((length body.insns ≤ suc index) × (rule ≡ FallsOff) × (told ≡ index)) ⊎ ((suc index < length body.insns) × IsWrongEntry body (suc index) after index rule told))
+    ((suc index < length body.insns) × IsMissing body (suc index) rule told)
 
 -- the pass does not come through an instruction: it breaks a rule in this frame; or it does not, and then its
 -- targets are looked at, in order; or they are in order, and then what is behind it
-pub data IsWrongAt (body : Body) (place : ℕ) (insn : LinkedInsn) (here : Frame) (rule : CheckRule) (told : ℕ) : Type 0 where
-  acts : effect body (offset_at body place) insn here ≡ Err rule → told ≡ place → IsWrongAt body place insn here rule told
-  lands : (after : Frame) → effect body (offset_at body place) insn here ≡ Ok after → IsWrongAmong body place after (targets body insn) rule told → IsWrongAt body place insn here rule told
-  goes_on : (after : Frame) → effect body (offset_at body place) insn here ≡ Ok after → LandsOnAll body insn after → IsWrongNext body place insn after rule told → IsWrongAt body place insn here rule told
+pub data IsWrongAt (body : Body) (index : ℕ) (insn : LinkedInsn) (here : Frame) (rule : CheckRule) (told : ℕ) : Type 0 where
+  acts : effect body (offset_at body index) insn here ≡ Err rule → told ≡ index → IsWrongAt body index insn here rule told
+  lands : (after : Frame) → effect body (offset_at body index) insn here ≡ Ok after → IsWrongAmong body index after (targets body insn) rule told → IsWrongAt body index insn here rule told
+  goes_on : (after : Frame) → effect body (offset_at body index) insn here ≡ Ok after → LandsOnAll body insn after → IsWrongNext body index insn after rule told → IsWrongAt body index insn here rule told
 
 -- the pass over a body stops: there are more arguments than local variables; or they fit, and there is no instruction, or
 -- the opening frame is not assignable to the one that is declared at the first; or the pass reaches an instruction and
@@ -61,7 +61,7 @@ pub data IsWrongBody (body : Body) (rule : CheckRule) (told : ℕ) : Type 0 wher
   arguments : body.max_locals < length body.opening.locals → rule ≡ Local → told ≡ 0 → IsWrongBody body rule told
   empty : length body.opening.locals ≤ body.max_locals → length body.insns ≡ 0 → rule ≡ FallsOff → told ≡ 0 → IsWrongBody body rule told
   opening : length body.opening.locals ≤ body.max_locals → IsWrongEntry body 0 body.opening 0 rule told → IsWrongBody body rule told
-  instruction : length body.opening.locals ≤ body.max_locals → (place : ℕ) (insn : LinkedInsn) (here : Frame) → Reaches body place here → insn_at body place ≡ Some insn → IsWrongAt body place insn here rule told → IsWrongBody body rule told
+  instruction : length body.opening.locals ≤ body.max_locals → (index : ℕ) (insn : LinkedInsn) (here : Frame) → Reaches body index here → insn_at body index ≡ Some insn → IsWrongAt body index insn here rule told → IsWrongBody body rule told
 
 -- the rule that is broken, and the offset of the instruction at which that is told
 pub record IsBodyFault (body : Body) (rule : CheckRule) (at : ℕ) : Type 0 where
@@ -72,7 +72,7 @@ pub record IsBodyFault (body : Body) (rule : CheckRule) (at : ℕ) : Type 0 wher
 -- the fault of a table of frames
 abbrev pub IsFrameFault : StackMapFault → CheckRule → ℕ → Type 0
 IsFrameFault frames.Memory rule at = ⊥
-IsFrameFault (frames.Broken broken place) rule at = (rule ≡ StackMap broken) × (at ≡ place)
+IsFrameFault (frames.Broken broken index) rule at = (rule ≡ StackMap broken) × (at ≡ index)
 
 -- the same of a method, by what its table of frames gives
 abbrev pub IsFaultWith : Subject → Result (List (ℕ × Frame)) StackMapFault → CheckRule → ℕ → Type 0

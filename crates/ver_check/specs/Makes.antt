@@ -7,5 +7,5 @@ use Rattle.ver_check.specs.declared.stop.Stop.TheVariants.{Broken, Missing, Memo
 abbrev pub Makes : {X Y : Type 0} → (X → Y) → Result X Stop → Result Y CheckRule → Type 0
 Makes view (Ok x) outcome = outcome ≡ Ok (view x)
 Makes view (Err (Broken rule)) outcome = outcome ≡ Err rule
-Makes view (Err (Missing place)) outcome = ⊥
+Makes view (Err (Missing index)) outcome = ⊥
 Makes view (Err Memory) outcome = Unit {0}

@@ -9,46 +9,46 @@ use Rattle.ver_frames.specs.Frames.{Frame}
 -- Type safety (JVMS 4.10.1.6): there is a frame for each instruction that agrees with the declared
 -- frames and with what flows in.
 
--- a frame comes in at a place: it is assignable to the frame declared there, or it is the frame there
+-- a frame comes in at an index: it is assignable to the frame declared there, or it is the frame there
 abbrev pub Enters : Body → (ℕ → Frame) → ℕ → Frame → Type 0
-Enters body frames place given =
-    MatchOption (declared_at body place) (frames place ≡ given) (λ declared. IsFrameAssignable body.classes given declared)
+Enters body frames index given =
+    MatchOption (declared_at body index) (frames index ≡ given) (λ declared. IsFrameAssignable body.classes given declared)
 
 -- a frame comes in at the target of a branch, where one has to be declared
 abbrev pub Lands : Body → Frame → ℕ → Type 0
-Lands body given place =
-    IsSomeAnd (declared_at body place) (λ declared. IsFrameAssignable body.classes given declared)
+Lands body given index =
+    IsSomeAnd (declared_at body index) (λ declared. IsFrameAssignable body.classes given declared)
 
 -- the frame after an instruction comes in at the next one, which there has to be; where the
 -- instruction does not fall through, a frame has to be declared at the next one, if there is one
 abbrev pub GoesOn : Body → (ℕ → Frame) → ℕ → LinkedInsn → Frame → Type 0
-GoesOn body frames place insn after =
+GoesOn body frames index insn after =
     MatchBool (falls_through insn)
-    ((suc place < length body.insns) × Enters body frames (suc place) after)
-    (suc place < length body.insns → IsSome (declared_at body (suc place)))
+    ((suc index < length body.insns) × Enters body frames (suc index) after)
+    (suc index < length body.insns → IsSome (declared_at body (suc index)))
 
--- the instruction at a place agrees with the frames
-pub record IsFineAt (body : Body) (frames : ℕ → Frame) (place : ℕ) (insn : LinkedInsn) : Type 0 where
+-- the instruction at an index agrees with the frames
+pub record IsFineAt (body : Body) (frames : ℕ → Frame) (index : ℕ) (insn : LinkedInsn) : Type 0 where
   pub after : Frame
-  pub acts : effect body (offset_at body place) insn (frames place) ≡ Ok after
+  pub acts : effect body (offset_at body index) insn (frames index) ≡ Ok after
   pub lands : AllByRecursion (Lands body after) (targets body insn)
-  pub goes_on : GoesOn body frames place insn after
+  pub goes_on : GoesOn body frames index insn after
 
 -- a frame has no more local variables and operands than the method
 pub record IsWithin (body : Body) (f : Frame) : Type 0 where
   pub locals : length f.locals ≤ body.max_locals
   pub stack : length f.stack ≤ body.max_stack
 
--- these are the frames of the instructions, by place
+-- these are the frames of the instructions, by index
 pub record IsTyping (body : Body) (frames : ℕ → Frame) : Type 0 where
   -- the arguments fit the local variables
   pub arguments : length body.opening.locals ≤ body.max_locals
   -- the code is not empty (JVMS 4.7.3)
   pub begins : 0 < length body.insns
   pub opening : Enters body frames 0 body.opening
-  pub declared : (place : ℕ) (f : Frame) → declared_at body place ≡ Some f → frames place ≡ f
-  pub within : (place : ℕ) → place < length body.insns → IsWithin body (frames place)
-  pub fine : (place : ℕ) (insn : LinkedInsn) → insn_at body place ≡ Some insn → IsFineAt body frames place insn
+  pub declared : (index : ℕ) (f : Frame) → declared_at body index ≡ Some f → frames index ≡ f
+  pub within : (index : ℕ) → index < length body.insns → IsWithin body (frames index)
+  pub fine : (index : ℕ) (insn : LinkedInsn) → insn_at body index ≡ Some insn → IsFineAt body frames index insn
 
 -- a body is type safe
 pub record IsTypeSafe (body : Body) : Type 0 where

@@ -34,7 +34,7 @@ fn view_of<'a>(classes: &'a ClassSet, method: &'a LinkedMethod) -> Option<Method
         .file
         .methods
         .as_slice()
-        .get(usize::from(method.place))?;
+        .get(usize::from(method.index))?;
     let Some(code) = &declaration.code else {
         return None;
     };

@@ -32,29 +32,29 @@ impl BodyView<'_> {
     ghost use Rattle.ver_check.specs.Typing.{IsTypeSafe, IsWithin};
     ghost use Rattle.ver_frames.specs.Frames.{Frame};
 
-    // The offset of the instruction at a place.
-    fn offset(&self, place: usize) -> usize
-        ensures { result ≡ slice_index self.now.offsets place }
+    // The offset of the instruction at an index.
+    fn offset(&self, index: usize) -> usize
+        ensures { result ≡ slice_index self.now.offsets index }
     {
         let method = self.method;
-        match method.linked.offsets.as_slice().get(place) {
+        match method.linked.offsets.as_slice().get(index) {
             Some(offset) => usize::from(*offset),
             None => 0,
         }
     }
 
     // The fault that the check stops with at an instruction.
-    fn fault(&self, stop: Stop, place: usize) -> BodyFault
-        ensures { result ≡ fault_of self.now.offsets place stop }
+    fn fault(&self, stop: Stop, index: usize) -> BodyFault
+        ensures { result ≡ fault_of self.now.offsets index stop }
     {
         match stop {
             Stop::Broken(rule) => BodyFault::Broken {
                 rule,
-                at: self.offset(place),
+                at: self.offset(index),
             },
-            Stop::Missing(place) => BodyFault::Broken {
+            Stop::Missing(index) => BodyFault::Broken {
                 rule: CheckRule::NoFrame,
-                at: self.offset(place),
+                at: self.offset(index),
             },
             Stop::Memory => BodyFault::Memory,
         }
@@ -78,14 +78,14 @@ impl BodyView<'_> {
         usize::from(method.code.max_locals)
     }
 
-    // The instruction at a place.
-    fn insn(&self, place: usize) -> LinkedInsn
-        requires { place < length self.now.insns }
-        ensures { insn_at self.now place ≡ Some result }
+    // The instruction at an index.
+    fn insn(&self, index: usize) -> LinkedInsn
+        requires { index < length self.now.insns }
+        ensures { insn_at self.now index ≡ Some result }
     {
         let method = self.method;
         let insns = method.linked.insns.as_slice();
-        insns[place]
+        insns[index]
     }
 
     // The frame with which the pass begins.
@@ -107,28 +107,28 @@ impl BodyView<'_> {
         }
     }
 
-    // The pass comes through the instruction at a place, which it has reached with this frame.
-    fn advance(&self, frame: &mut TypeFrame, place: usize) -> Result<(), BodyFault>
+    // The pass comes through the instruction at an index, which it has reached with this frame.
+    fn advance(&self, frame: &mut TypeFrame, index: usize) -> Result<(), BodyFault>
         requires arguments { length self.now.opening.locals ≤ self.now.max_locals }
-        requires inside { place < length self.now.insns }
-        requires reached { Reaches self.now place frame.old }
-        ensures { SettlesBody result (λ _. Reaches self.now (place + 1) frame.new) (IsBodyFault self.now) }
+        requires inside { index < length self.now.insns }
+        requires reached { Reaches self.now index frame.old }
+        ensures { SettlesBody result (λ _. Reaches self.now (index + 1) frame.new) (IsBodyFault self.now) }
     {
-        match self.pass(frame, place, self.insn(place)) {
+        match self.pass(frame, index, self.insn(index)) {
             Ok(()) => Ok(()),
-            Err(stop) => Err(self.fault(stop, place)),
+            Err(stop) => Err(self.fault(stop, index)),
         }
     }
 
     // Whether the body is type safe.
     pub(crate) fn check(&self, alloc: Global) -> Result<(), BodyFault>
         requires listed { length self.now.offsets ≡ length self.now.insns }
-        requires within { (place : ℕ) (declared : Frame) → declared_at self.now place ≡ Some declared → IsWithin self.now declared }
+        requires within { (index : ℕ) (declared : Frame) → declared_at self.now index ≡ Some declared → IsWithin self.now declared }
         ensures { SettlesBody result (λ _. IsTypeSafe self.now) (IsBodyFault self.now) }
     {
         let mut frame = self.begin(alloc)?;
-        for place in 0..self.insn_count() {
-            self.advance(&mut frame, place)?;
+        for index in 0..self.insn_count() {
+            self.advance(&mut frame, index)?;
         }
         Ok(())
     }

@@ -43,13 +43,13 @@ impl BodyView<'_> {
         method.linked.insns.as_slice().len()
     }
 
-    // The index of the frame that is declared at the instruction at a place, past the last where none is.
+    // The index of the frame that is declared at the instruction at an index, past the last where none is.
     #[tactic(auto, unfolding(crate::specs::Bodies::declared_at))]
-    fn index_at(&self, place: usize) -> usize
-        ensures { frame_of self.now.declared result ≡ declared_at self.now place }
+    fn index_at(&self, index: usize) -> usize
+        ensures { frame_of self.now.declared result ≡ declared_at self.now index }
     {
-        match self.indices.get(place) {
-            Some(index) => usize::from(*index),
+        match self.indices.get(index) {
+            Some(frame) => usize::from(*frame),
             None => {
                 let declared = self.declared;
                 declared.len()
@@ -57,19 +57,19 @@ impl BodyView<'_> {
         }
     }
 
-    // The frame that is declared at the instruction at a place.
-    fn declared_at(&self, place: usize) -> Option<DeclaredFrame<'_>>
-        ensures { result ≡ declared_at self.now place }
+    // The frame that is declared at the instruction at an index.
+    fn declared_at(&self, index: usize) -> Option<DeclaredFrame<'_>>
+        ensures { result ≡ declared_at self.now index }
     {
         let declared = self.declared;
-        declared.get(self.index_at(place))
+        declared.get(self.index_at(index))
     }
 
-    // A frame comes in at a place, and becomes the one that is declared there, where one is.
-    pub(crate) fn enter(&self, frame: &mut TypeFrame, place: usize) -> Result<(), Stop>
-        ensures { (from : ℕ) → Settles from result (ComesIn self.now place frame.old frame.new) (IsWrongEntry self.now place frame.old from) }
+    // A frame comes in at an index, and becomes the one that is declared there, where one is.
+    pub(crate) fn enter(&self, frame: &mut TypeFrame, index: usize) -> Result<(), Stop>
+        ensures { (from : ℕ) → Settles from result (ComesIn self.now index frame.old frame.new) (IsWrongEntry self.now index frame.old from) }
     {
-        let Some(declared) = self.declared_at(place) else {
+        let Some(declared) = self.declared_at(index) else {
             return Ok(());
         };
         let method = self.method;
@@ -84,9 +84,9 @@ impl BodyView<'_> {
     fn land(&self, frame: &TypeFrame, target: u16) -> Result<(), Stop>
         ensures { (from : ℕ) → Settles from result (Lands self.now frame.now target) (IsWrongTarget self.now from frame.now target) }
     {
-        let place = usize::from(target);
-        let Some(declared) = self.declared_at(place) else {
-            return Err(Stop::Missing(place));
+        let index = usize::from(target);
+        let Some(declared) = self.declared_at(index) else {
+            return Err(Stop::Missing(index));
         };
         let method = self.method;
         if !frame_assignable(method.classes, frame, &declared) {
@@ -153,12 +153,12 @@ impl BodyView<'_> {
     }
 
     // The pass goes on behind an instruction, whose effect gave this frame.
-    fn go_on(&self, frame: &mut TypeFrame, place: usize, insn: LinkedInsn) -> Result<(), Stop>
-        requires { place < length self.now.insns }
-        ensures { Settles place result (GoesTo self.now place insn frame.old frame.new) (IsWrongNext self.now place insn frame.old) }
+    fn go_on(&self, frame: &mut TypeFrame, index: usize, insn: LinkedInsn) -> Result<(), Stop>
+        requires { index < length self.now.insns }
+        ensures { Settles index result (GoesTo self.now index insn frame.old frame.new) (IsWrongNext self.now index insn frame.old) }
     {
         let count = self.insn_count();
-        let next = place + 1;
+        let next = index + 1;
         let is_inside = next < count;
         if falls_through(insn) {
             if !is_inside {
@@ -175,12 +175,12 @@ impl BodyView<'_> {
         Ok(())
     }
 
-    // The offset of the instruction at a place.
-    fn offset_at(&self, place: usize) -> u16
-        ensures { result ≡ offset_at self.now place }
+    // The offset of the instruction at an index.
+    fn offset_at(&self, index: usize) -> u16
+        ensures { result ≡ offset_at self.now index }
     {
         let method = self.method;
-        match method.linked.offsets.as_slice().get(place) {
+        match method.linked.offsets.as_slice().get(index) {
             Some(offset) => *offset,
             None => 0,
         }
@@ -190,14 +190,14 @@ impl BodyView<'_> {
     pub(crate) fn pass(
         &self,
         frame: &mut TypeFrame,
-        place: usize,
+        index: usize,
         insn: LinkedInsn,
     ) -> Result<(), Stop>
-        requires { place < length self.now.insns }
-        ensures { Settles place result (Passes self.now place insn frame.old frame.new) (IsWrongAt self.now place insn frame.old) }
+        requires { index < length self.now.insns }
+        ensures { Settles index result (Passes self.now index insn frame.old frame.new) (IsWrongAt self.now index insn frame.old) }
     {
-        self.apply(frame, self.offset_at(place), insn)?;
+        self.apply(frame, self.offset_at(index), insn)?;
         self.land_on_all(frame, insn)?;
-        self.go_on(frame, place, insn)
+        self.go_on(frame, index, insn)
     }
 }

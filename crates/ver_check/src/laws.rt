@@ -9,5 +9,5 @@ ghost use Rattle.ver_frames.specs.Frames.{Frame};
 /// operand has there is settled by the body alone (JVMS 4.10.1.6).
 pub fn one_typing()
     ensures { (body : Body) (frames others : ℕ → Frame) → IsTyping body frames → IsTyping body others
-        → (place : ℕ) → place < length body.insns → frames place ≡ others place }
+        → (index : ℕ) → index < length body.insns → frames index ≡ others index }
 {}

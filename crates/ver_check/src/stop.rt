@@ -11,7 +11,7 @@ use std::alloc::{AllocError, AllocFailed};
 pub(crate) enum Stop {
     // At the instruction that is checked.
     Broken(CheckRule),
-    // No frame is declared at this place.
+    // No frame is declared at this index.
     Missing(usize),
     Memory,
 }

@@ -102,7 +102,7 @@ zip_at classes given nodes count next last node e stands at inside =
     subst (λ (n : ℕ). AreFirst classes given nodes n last ↔ (AreFirst classes given nodes next node.before × IsAssignable classes (get_or given next Top) node.kind)) (sym e)
     (last_and_others classes given nodes next last node (subst (λ (n : ℕ). StandTo nodes n last) e stands) at inside)
 
--- the type in a place, of types that are filled up
+-- the type at an index, of types that are filled up
 pub test_filled : (classes : List Class) (n k : ℕ) (types : List VType) (given asked : VType) (test : Bool) → given ≡ get_or types k Top → (IsTrue test ↔ IsAssignable classes given asked)
     → IsTrue test ↔ IsAssignable classes (get_or (filled n types) k Top) asked
 test_filled classes n k types given asked test is tested =
@@ -114,7 +114,7 @@ unfolding types_to
 none_left classes given nodes zero last whole e so_far = (λ yes. so_far.0 tt, λ w. refl)
 none_left classes given nodes (suc n) last whole e so_far = absurd (omega (arith, e))
 
--- the place is one of the filled types
+-- the index is one of the filled types
 pub within_filled : (n k : ℕ) (types : List VType) → k < n → k < length (filled n types)
 within_filled n k types lt = let all = filled_count n types in omega (arith, all, lt)
 

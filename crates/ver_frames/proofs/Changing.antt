@@ -11,7 +11,7 @@ use Rattle.ver_frames.specs.declared.changes.TypeChange.TheVariants.{MadeAgain, 
 use Rattle.ver_frames.specs.declared.vtype.VType.{VType}
 use Rattle.ver_frames.specs.declared.vtype.VType.TheVariants.{Top}
 
--- those before a place are changed, the others are not
+-- those before an index are changed, the others are not
 abbrev pub changed_to : (VType → VType) → ℕ → List VType → List VType
 changed_to f i types = take i types ++ map f (drop i types)
 

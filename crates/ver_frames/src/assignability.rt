@@ -67,11 +67,11 @@ fn is_named_object(classes: &ClassSet, class: ClassId) -> bool
     has_object_name(classes, class)
 }
 
-// The type in a place: top after the last.
-fn type_at(types: &[VType], place: usize) -> VType
-    ensures { result ≡ slice_index_or types.now place Top }
+// The type at an index: top after the last.
+fn type_at(types: &[VType], index: usize) -> VType
+    ensures { result ≡ slice_index_or types.now index Top }
 {
-    match types.get(place) {
+    match types.get(index) {
         Some(kind) => *kind,
         None => VType::Top,
     }

@@ -5,7 +5,7 @@ use Rattle.std.proofs.lemmas.Bool.{eq-eqb, eqb-true}
 use Rattle.cf_reader.specs.declared.class_file.Field.{Field}
 use Rattle.cls_search.proofs.Heights.{low_ranks}
 use Rattle.cls_search.specs.Searches.{IsRanking}
-use Rattle.cls_search.specs.declared.fields.FieldPlace.{FieldPlace}
+use Rattle.cls_search.specs.declared.fields.FieldIndex.{FieldIndex}
 use Rattle.cls_set.proofs.Hierarchy.{some_and, true_false, same_some, none_some}
 use Rattle.cls_set.specs.Sets.{IsClassSet}
 use Rattle.cls_set.specs.declared.class.Class.{Class}
@@ -16,21 +16,21 @@ use Rattle.cls_link.specs.declared.linked.FieldSlot.{FieldSlot}
 use Rattle.vm_code.specs.Fields.{fields_up, is_place, index_of, slot_of}
 
 -- no field among some is this one
-abbrev IsAmongNone : FieldPlace → List FieldPlace → Type 0
+abbrev IsAmongNone : FieldIndex → List FieldIndex → Type 0
 IsAmongNone field [] = Unit {0}
 IsAmongNone field (f ∷ fs) = (is_place field f ≡ false) × IsAmongNone field fs
 
 -- behind others that are not it, its index is counted on
-index_behind : (field : FieldPlace) (k : ℕ) (fs gs : List FieldPlace) → IsAmongNone field fs → index_of field k (fs ++ gs) ≡ index_of field (k + length fs) gs
+index_behind : (field : FieldIndex) (k : ℕ) (fs gs : List FieldIndex) → IsAmongNone field fs → index_of field k (fs ++ gs) ≡ index_of field (k + length fs) gs
 index_behind field k [] gs none = ap (λ n. index_of field n gs) (omega arith)
 index_behind field k (f ∷ fs) gs none =
     rw (none.0) (index_behind field (suc k) fs gs none.1 ∙ ap (λ n. index_of field n gs) (omega arith))
 
-same_place : (f g : FieldPlace) → f ≡ g → is_place f g ≡ true
-same_place f g e = rw (eq-eqb f.class.0 g.class.0 (ap (λ (p : FieldPlace). p.class.0) e), eq-eqb f.place g.place (ap (λ (p : FieldPlace). p.place) e)) refl
+same_place : (f g : FieldIndex) → f ≡ g → is_place f g ≡ true
+same_place f g e = rw (eq-eqb f.class.0 g.class.0 (ap (λ (p : FieldIndex). p.class.0) e), eq-eqb f.index g.index (ap (λ (p : FieldIndex). p.index) e)) refl
 
 -- it stands behind others that are not it
-found_behind : (field : FieldPlace) (xs ys : List FieldPlace) (s : ℕ) → IsAmongNone field xs → slice_get (xs ++ ys) s ≡ Some field
+found_behind : (field : FieldIndex) (xs ys : List FieldIndex) (s : ℕ) → IsAmongNone field xs → slice_get (xs ++ ys) s ≡ Some field
     → (i : ℕ) × (s ≡ length xs + i) × (slice_get ys i ≡ Some field)
 found_behind field [] ys s none e = (s, omega arith, e)
 found_behind field (x ∷ xs) ys zero none e = absurd (true_false (sym (same_place field x (sym (same_some e))) ∙ none.0))
@@ -39,7 +39,7 @@ found_behind field (x ∷ xs) ys (suc s) none e =
     let later = r.1 in
     (r.0, omega (arith, later), r.2)
 
-none_append : (field : FieldPlace) (xs ys : List FieldPlace) → IsAmongNone field xs → IsAmongNone field ys → IsAmongNone field (xs ++ ys)
+none_append : (field : FieldIndex) (xs ys : List FieldIndex) → IsAmongNone field xs → IsAmongNone field ys → IsAmongNone field (xs ++ ys)
 none_append field [] ys p q = q
 none_append field (x ∷ xs) ys p q = (p.0, none_append field xs ys p.1 q)
 
@@ -58,29 +58,29 @@ differs m n ne = on (nat_eq m n) refl
     on true e = absurd (ne (eqb-true m n e))
     on false e = refl
 
-module _ (field : FieldPlace) (class : ClassId) where
-  abbrev chosen : ℕ → List FieldPlace → Bool → List FieldPlace
-  chosen k rest b = if b then record { class = class; place = k } ∷ rest else rest
+module _ (field : FieldIndex) (class : ClassId) where
+  abbrev chosen : ℕ → List FieldIndex → Bool → List FieldIndex
+  chosen k rest b = if b then record { class = class; index = k } ∷ rest else rest
 
-  -- the places of the fields of a class rise
-  place_at : (k : ℕ) (rest : List FieldPlace) → ((i : ℕ) → slice_get rest i ≡ Some field → suc k ≤ field.place) → (b : Bool) (i : ℕ)
-      → slice_get (chosen k rest b) i ≡ Some field → k ≤ field.place
-  place_at k rest go true zero e = let same = ap (λ (p : FieldPlace). p.place) (same_some e) in omega (arith, same)
+  -- the indices of the fields of a class rise
+  place_at : (k : ℕ) (rest : List FieldIndex) → ((i : ℕ) → slice_get rest i ≡ Some field → suc k ≤ field.index) → (b : Bool) (i : ℕ)
+      → slice_get (chosen k rest b) i ≡ Some field → k ≤ field.index
+  place_at k rest go true zero e = let same = ap (λ (p : FieldIndex). p.index) (same_some e) in omega (arith, same)
   place_at k rest go true (suc i) e = let later = go i e in omega (arith, later)
   place_at k rest go false i e = let later = go i e in omega (arith, later)
 
-  place_from : (k : ℕ) (fs : List Field) (i : ℕ) → slice_get (instance_fields class k fs) i ≡ Some field → k ≤ field.place
+  place_from : (k : ℕ) (fs : List Field) (i : ℕ) → slice_get (instance_fields class k fs) i ≡ Some field → k ≤ field.index
   place_from k [] i e = absurd (none_some e)
   place_from k (f ∷ fs) i e = place_at k (instance_fields class (suc k) fs) (place_from (suc k) fs) (is_instance f) i e
 
-  index_at : (k j : ℕ) (rest : List FieldPlace) → ((i : ℕ) → slice_get rest i ≡ Some field → suc k ≤ field.place)
+  index_at : (k j : ℕ) (rest : List FieldIndex) → ((i : ℕ) → slice_get rest i ≡ Some field → suc k ≤ field.index)
       → ((j i : ℕ) → slice_get rest i ≡ Some field → index_of field j rest ≡ Some (j + i)) → (b : Bool) (i : ℕ) → slice_get (chosen k rest b) i ≡ Some field
       → index_of field j (chosen k rest b) ≡ Some (j + i)
   index_at k j rest far go true zero e =
-      rw (same_place field (record { class = class; place = k }) (sym (same_some e))) (ap (λ n. Some n) (omega arith))
+      rw (same_place field (record { class = class; index = k }) (sym (same_some e))) (ap (λ n. Some n) (omega arith))
   index_at k j rest far go true (suc i) e =
       let later = far i e in
-      rw (and_false (nat_eq field.class.0 class.0) (nat_eq field.place k) (differs field.place k (λ same. omega (arith, later, same))))
+      rw (and_false (nat_eq field.class.0 class.0) (nat_eq field.index k) (differs field.index k (λ same. omega (arith, later, same))))
       (go (suc j) i e ∙ ap (λ n. Some n) (omega arith))
   index_at k j rest far go false i e = go j i e
 
@@ -90,8 +90,8 @@ module _ (field : FieldPlace) (class : ClassId) where
   own_index k j (f ∷ fs) i e =
       index_at k j (instance_fields class (suc k) fs) (place_from (suc k) fs) (λ j i. own_index (suc k) j fs i) (is_instance f) i e
 
-  none_at : (k : ℕ) (rest : List FieldPlace) → nat_eq field.class.0 class.0 ≡ false → IsAmongNone field rest → (b : Bool) → IsAmongNone field (chosen k rest b)
-  none_at k rest e none true = (false_and (nat_eq field.class.0 class.0) (nat_eq field.place k) e, none)
+  none_at : (k : ℕ) (rest : List FieldIndex) → nat_eq field.class.0 class.0 ≡ false → IsAmongNone field rest → (b : Bool) → IsAmongNone field (chosen k rest b)
+  none_at k rest e none true = (false_and (nat_eq field.class.0 class.0) (nat_eq field.index k) e, none)
   none_at k rest e none false = none
 
   own_none : (k : ℕ) (fs : List Field) → nat_eq field.class.0 class.0 ≡ false → IsAmongNone field (instance_fields class k fs)
@@ -103,7 +103,7 @@ module _ (classes : List Class) (rank : ClassId → ℕ) (ranking : IsRanking cl
   lower class s c at up = ranking class s (inl (some_and (slice_get classes class.0) (λ c. c.superclass ≡ Some s) c at up))
 
   -- the fields by cases are those that the definition counts out
-  fields_are : (n : ℕ) {class : ClassId} {fs : List FieldPlace} → rank class < n → HasFields classes class fs → fields_up n classes class ≡ fs
+  fields_are : (n : ℕ) {class : ClassId} {fs : List FieldIndex} → rank class < n → HasFields classes class fs → fields_up n classes class ≡ fs
   unfolding fields_up
   fields_are zero low has = absurd (omega (arith, low))
   fields_are (suc n) low (fields.HasFields.of_root class c at root) = rw (at, root) refl
@@ -113,18 +113,18 @@ module _ (classes : List Class) (rank : ClassId → ℕ) (ranking : IsRanking cl
       rw (at, up) (ap (λ fs. fs ++ instance_fields class 0 c.file.fields) above)
 
   -- a class above declares none of the fields of this one
-  apart : (field : FieldPlace) (class : ClassId) → rank class < rank field.class → nat_eq field.class.0 class.0 ≡ false
+  apart : (field : FieldIndex) (class : ClassId) → rank class < rank field.class → nat_eq field.class.0 class.0 ≡ false
   apart field class low =
       differs field.class.0 class.0 (λ same. let e = ap (λ (n : ℕ). rank (record { 0 = n })) same in omega (arith, e, low))
 
-  inherited_none : (field : FieldPlace) {class : ClassId} {fs : List FieldPlace} → rank class < rank field.class → HasFields classes class fs → IsAmongNone field fs
+  inherited_none : (field : FieldIndex) {class : ClassId} {fs : List FieldIndex} → rank class < rank field.class → HasFields classes class fs → IsAmongNone field fs
   inherited_none field low (fields.HasFields.of_root class c at root) = own_none field class 0 c.file.fields (apart field class low)
   inherited_none field low (fields.HasFields.of_subclass class s c inherited at up has) =
       let less = lower class s c at up in
       none_append field inherited (instance_fields class 0 c.file.fields) (inherited_none field (omega (arith, less, low)) has)
       (own_none field class 0 c.file.fields (apart field class low))
 
-  index_is : (field : FieldPlace) {class : ClassId} {fs : List FieldPlace} (slot : ℕ) → class ≡ field.class → HasFields classes class fs
+  index_is : (field : FieldIndex) {class : ClassId} {fs : List FieldIndex} (slot : ℕ) → class ≡ field.class → HasFields classes class fs
       → slice_get fs slot ≡ Some field → index_of field 0 fs ≡ Some slot
   index_is field slot same (fields.HasFields.of_root class c at root) there =
       own_index field class 0 0 c.file.fields slot there ∙ ap (λ n. Some n) (omega arith)
@@ -140,7 +140,7 @@ is_false : (b : Bool) → ¬ IsTrue b → b ≡ false
 is_false true never = absurd (never refl)
 is_false false never = refl
 
-pub slot_is : (classes : List Class) → IsClassSet classes → (field : FieldPlace) {slot : Option FieldSlot} → IsFieldSlot classes field slot
+pub slot_is : (classes : List Class) → IsClassSet classes → (field : FieldIndex) {slot : Option FieldSlot} → IsFieldSlot classes field slot
     → slot_of classes field ≡ option_map (λ (s : FieldSlot). s.0) slot
 unfolding slot_of
 slot_is classes set field (fields.IsFieldSlot.of_instance f fs n at is has there) =

@@ -63,7 +63,7 @@ code_of-subject links id m e =
     let entry = passes_both (slice_get links.methods id.0) _ m e in
     let linked = passes_both entry.0.code _ m entry.1.1 in
     let class = passes_both (slice_get links.classes entry.0.class.0) _ m linked.1.1 in
-    let method = passes_both (slice_get class.0.file.methods entry.0.place) _ m class.1.1 in
+    let method = passes_both (slice_get class.0.file.methods entry.0.index) _ m class.1.1 in
     let code = passes_both method.0.code _ m method.1.1 in
     let same : linked.0.insns ≡ m.linked.insns = insns_of _ m code.1.1 in
     rw (entry.1.0, linked.1.0) same
@@ -75,7 +75,7 @@ method_is_run links id m e all =
     let entry = passes_both (slice_get links.methods id.0) _ m e in
     let linked = passes_both entry.0.code _ m entry.1.1 in
     let class = passes_both (slice_get links.classes entry.0.class.0) _ m linked.1.1 in
-    let method = passes_both (slice_get class.0.file.methods entry.0.place) _ m class.1.1 in
+    let method = passes_both (slice_get class.0.file.methods entry.0.index) _ m class.1.1 in
     let code = passes_both method.0.code _ m method.1.1 in
     let same : linked.0.insns ≡ m.linked.insns = insns_of _ m code.1.1 in
     let whole : is_run_whole entry.0 ≡ true = all_at is_run_whole links.methods all id.0 entry.0 entry.1.0 in

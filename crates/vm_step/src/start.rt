@@ -57,7 +57,7 @@ fn look_up(linked: &Linked, id: MethodId) -> Option<Found<'_>>
         return None;
     }
     let class = linked.set().class(entry.class);
-    let method = class.file.methods.as_slice().get(entry.place as usize)?;
+    let method = class.file.methods.as_slice().get(entry.index as usize)?;
     let code = method.code.as_ref()?;
     let insns = entry.code.as_ref()?.insns.as_slice();
     Some(Found {
@@ -213,8 +213,8 @@ pub fn pass(stack: &mut Stack, arguments: &[Value])
     ensures callers { stack.new.callers ≡ stack.old.callers }
     ensures free { stack.new.free ≡ stack.old.free }
 {
-    for place in 0..arguments.len() {
-        let n = int_of(&arguments[place]);
-        stack.set_local(place, Word::int(n));
+    for index in 0..arguments.len() {
+        let n = int_of(&arguments[index]);
+        stack.set_local(index, Word::int(n));
     }
 }

@@ -42,7 +42,7 @@ record Found (links : Links) (id : MethodId) (method : Method) (code : Code) : T
   same_code : m.code ≡ code
 
 subject_there : (links : Links) (number : ℕ) (entry : LinkedMethod) (linked : LinkedCode) (class : Class) (method : Method) (code : Code) → slice_get links.methods number ≡ Some entry
-    → entry.code ≡ Some linked → slice_get links.classes entry.class.0 ≡ Some class → slice_get class.file.methods entry.place ≡ Some method → method.code ≡ Some code
+    → entry.code ≡ Some linked → slice_get links.classes entry.class.0 ≡ Some class → slice_get class.file.methods entry.index ≡ Some method → method.code ≡ Some code
     → subject_at links number ≡ Some (record { classes = links.classes; class_id = entry.class; class = class; method = method; code = code; linked = linked })
 unfolding subject_at subject_of
 subject_there links number entry linked class method code at has class_at there is = rw (at, has, class_at, there, is) refl
@@ -58,15 +58,15 @@ module _ (links : Links) (are : AreLinks links) where
   found id method code e has =
       let d = maps_some (slice_get (declared_methods links.classes) id.0) (λ (d : Declared). d.method) method e in
       let r = AllZip-get (IsLinked links.classes) (declared_methods links.classes) links.methods id.0 d.0 are.methods d.1.0 in
-      let place = at_number links.classes links.methods id.0 r.0 are.methods (slice_get_within (declared_methods links.classes) id.0 d.0 d.1.0)
+      let index = at_number links.classes links.methods id.0 r.0 are.methods (slice_get_within (declared_methods links.classes) id.0 d.0 d.1.0)
       (sym (get_or_from_slice_get links.methods id.0 r.0 r.0 r.1.0)) in
-      let same : place.method ≡ method = same_some (sym place.declared ∙ e) in
-      let there : slice_get place.class.file.methods r.0.place ≡ Some method = place.method_there ∙ ap (λ (m : Method). Some m) same in
+      let same : index.method ≡ method = same_some (sym index.declared ∙ e) in
+      let there : slice_get index.class.file.methods r.0.index ≡ Some method = index.method_there ∙ ap (λ (m : Method). Some m) same in
       let linked = with_code r.0 d.0 method code r.1.1 d.1.1 has in
       let lc = some_of r.0.code (IsLinkedCode links.classes d.0.class d.0.method code.bytes) linked in
       record {
-        m = record { classes = links.classes; class_id = r.0.class; class = place.class; method = method; code = code; linked = lc.0 };
-        at = subject_there links id.0 r.0 lc.0 place.class method code r.1.0 lc.1 place.class_at there has;
+        m = record { classes = links.classes; class_id = r.0.class; class = index.class; method = method; code = code; linked = lc.0 };
+        at = subject_there links id.0 r.0 lc.0 index.class method code r.1.0 lc.1 index.class_at there has;
         classes = refl;
         declared = refl;
         same_code = refl;
@@ -97,7 +97,7 @@ module _ (links : Links) (frames : ℕ → ℕ → Frame) (are : AreLinks links)
   passed : (id : MethodId) (m : Subject) → subject_at links id.0 ≡ Some m → words_passed m.method ≡ length (parameters (method_type m (frames id.0)))
   passed id m e =
       let there = stands links id.0 m e in
-      let inits : is_init m ≡ true → is_static m.method ≡ false = λ init. (read.inits m.method (record { class = m.class_id; c = m.class; place = there.place; at = there.class; is = there.method }) init).0 in
+      let inits : is_init m ≡ true → is_static m.method ≡ false = λ init. (read.inits m.method (record { class = m.class_id; c = m.class; index = there.index; at = there.class; is = there.method }) init).0 in
       arguments_count m ∙ ap length (sym (parameters_are m (frames id.0) inits))
 
   agrees : (id : MethodId) (begins : Bool) (method : Method) (code : Code) → Found links id method code

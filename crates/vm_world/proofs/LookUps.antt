@@ -11,7 +11,7 @@ use Rattle.cf_text.specs.declared.types.FieldType.{FieldType}
 use Rattle.cf_reader.specs.declared.class_file.Field.{Field}
 use Rattle.cls_link.specs.Fields.{is_instance, instance_fields}
 use Rattle.cls_search.specs.FieldSearches.{field_at}
-use Rattle.cls_search.specs.declared.fields.FieldPlace.{FieldPlace}
+use Rattle.cls_search.specs.declared.fields.FieldIndex.{FieldIndex}
 use Rattle.cls_set.proofs.Hierarchy.{same_some, true_false, none_some, equal}
 use Rattle.cls_set.specs.Classes.{number_of}
 use Rattle.cls_set.specs.declared.class.Class.{Class}
@@ -96,15 +96,15 @@ module _ (classes : List Class) where
 
   -- ---- where fields are kept
 
-  abbrev type_at : FieldPlace → VType
-  type_at place = option_map_or (λ (f : Field). field_vtype classes f.kind) (field_at classes place) vtype.Top
+  abbrev type_at : FieldIndex → VType
+  type_at index = option_map_or (λ (f : Field). field_vtype classes f.kind) (field_at classes index) vtype.Top
 
   front : (xs ys : List Field) (y : Field) → slice_get (xs ++ y ∷ ys) (length xs) ≡ Some y
   front [] ys y = refl
   front (x ∷ xs) ys y = front xs ys y
 
   type_here : (class : ClassId) (c : Class) → slice_get classes class.0 ≡ Some c → (pre fs : List Field) (f : Field) → c.file.fields ≡ pre ++ f ∷ fs
-      → type_at (record { class = class; place = length pre }) ≡ field_vtype classes f.kind
+      → type_at (record { class = class; index = length pre }) ≡ field_vtype classes f.kind
   type_here class c at pre fs f e =
       ap (λ (o : Option Field). option_map_or (λ (f : Field). field_vtype classes f.kind) o vtype.Top)
       (ap (option_and_then (λ (c : Class). slice_get c.file.fields (length pre))) at
@@ -121,16 +121,16 @@ module _ (classes : List Class) where
   own_map class c at (f ∷ fs) pre k long e =
       on (is_instance f) (own_map class c at fs (pre ++ f ∷ []) (suc k) (ap suc long ∙ longer pre f) (e ∙ sym (append_assoc pre (f ∷ []) fs)))
     where
-      here : type_at (record { class = class; place = k }) ≡ field_vtype classes f.kind
-      here = ap (λ (n : ℕ). type_at (record { class = class; place = n })) long ∙ type_here class c at pre fs f e
+      here : type_at (record { class = class; index = k }) ≡ field_vtype classes f.kind
+      here = ap (λ (n : ℕ). type_at (record { class = class; index = n })) long ∙ type_here class c at pre fs f e
 
       on : (b : Bool) → map type_at (instance_fields class (suc k) fs) ≡ own_types classes fs
-          → map type_at (if b then record { class = class; place = k } ∷ instance_fields class (suc k) fs else instance_fields class (suc k) fs)
+          → map type_at (if b then record { class = class; index = k } ∷ instance_fields class (suc k) fs else instance_fields class (suc k) fs)
           ≡ (if b then field_vtype classes f.kind ∷ own_types classes fs else own_types classes fs)
       on true rest = ap (λ (t : VType). t ∷ map type_at (instance_fields class (suc k) fs)) here ∙ ap (λ ts. field_vtype classes f.kind ∷ ts) rest
       on false rest = rest
 
-  map_both : (xs ys : List FieldPlace) → map type_at (xs ++ ys) ≡ map type_at xs ++ map type_at ys
+  map_both : (xs ys : List FieldIndex) → map type_at (xs ++ ys) ≡ map type_at xs ++ map type_at ys
   map_both [] ys = refl
   map_both (x ∷ xs) ys = ap (λ ts. type_at x ∷ ts) (map_both xs ys)
 
@@ -157,23 +157,23 @@ module _ (classes : List Class) where
   both_true true b e = (refl, e)
   both_true false b e = absurd (true_false (sym e))
 
-  same_place : (f g : FieldPlace) → is_place f g ≡ true → f ≡ g
+  same_place : (f g : FieldIndex) → is_place f g ≡ true → f ≡ g
   same_place f g e =
-      let both = both_true (nat_eq f.class.0 g.class.0) (nat_eq f.place g.place) e in
+      let both = both_true (nat_eq f.class.0 g.class.0) (nat_eq f.index g.index) e in
       let class = equal f.class g.class both.0 in
-      let place = eqb-true f.place g.place both.1 in
-      ap (λ (c : ClassId). record { class = c; place = f.place }) class ∙ ap (λ (n : ℕ). record { class = g.class; place = n }) place
+      let index = eqb-true f.index g.index both.1 in
+      ap (λ (c : ClassId). record { class = c; index = f.index }) class ∙ ap (λ (n : ℕ). record { class = g.class; index = n }) index
 
-  found_at : (field : FieldPlace) (fs : List FieldPlace) (k slot : ℕ) → index_of field k fs ≡ Some slot → (i : ℕ) × (slot ≡ k + i) × (slice_get fs i ≡ Some field)
+  found_at : (field : FieldIndex) (fs : List FieldIndex) (k slot : ℕ) → index_of field k fs ≡ Some slot → (i : ℕ) × (slot ≡ k + i) × (slice_get fs i ≡ Some field)
   found_at field [] k slot e = absurd (none_some e)
   found_at field (f ∷ fs) k slot e = on (is_place field f) refl (found_at field fs (suc k) slot) e
     where
       on : (b : Bool) → is_place field f ≡ b → (index_of field (suc k) fs ≡ Some slot → (i : ℕ) × (slot ≡ suc k + i) × (slice_get fs i ≡ Some field))
           → (if b then Some k else index_of field (suc k) fs) ≡ Some slot → (i : ℕ) × (slot ≡ k + i) × (slice_get (f ∷ fs) i ≡ Some field)
-      on true is go e = let here = same_some e in (0, omega (arith, here), ap (λ (p : FieldPlace). Some p) (sym (same_place field f is)))
+      on true is go e = let here = same_some e in (0, omega (arith, here), ap (λ (p : FieldIndex). Some p) (sym (same_place field f is)))
       on false is go e = let r = go e in let later = r.1 in (suc r.0, omega (arith, later), r.2)
 
-  pub kept_at : (field : FieldPlace) (f : Field) (slot : ℕ) → field_at classes field ≡ Some f → slot_of classes field ≡ Some slot
+  pub kept_at : (field : FieldIndex) (f : Field) (slot : ℕ) → field_at classes field ≡ Some f → slot_of classes field ≡ Some slot
       → slice_get (types_of classes field.class) slot ≡ Some (field_vtype classes f.kind)
   unfolding slot_of
   kept_at field f slot at e = on (is_instance f) (sym (ap (option_and_then (λ (f : Field). if is_instance f then index_of field 0 (fields_of classes field.class) else None)) at) ∙ e)
@@ -182,8 +182,8 @@ module _ (classes : List Class) where
       on true e =
           let r = found_at field (fields_of classes field.class) 0 slot e in
           let same = r.1 in
-          let place : slot ≡ r.0 = omega (arith, same) in
-          ap (slice_get (types_of classes field.class)) place
+          let index : slot ≡ r.0 = omega (arith, same) in
+          ap (slice_get (types_of classes field.class)) index
           ∙ (ap (λ (ts : List VType). slice_get ts r.0) (sym (types_map (suc (length classes)) field.class))
           ∙ (slice_get-map type_at (fields_of classes field.class) r.0
           ∙ (ap (option_map type_at) r.2

@@ -46,11 +46,11 @@ frame_itself : (classes : List Class) (f : Frame) → IsFrameAssignable classes 
 frame_itself classes f = record { locals = are_assignable classes f.locals; stack = are_assignable classes f.stack; flag = λ e. e }
 
 -- what flows in at an instruction comes in at the frame there
-flows_in : (body : Body) (frames : ℕ → Frame) → IsTyping body frames → (place : ℕ) (given : Frame) (d : Option Frame) → declared_at body place ≡ d
-    → MatchOption d (frames place ≡ given) (λ declared. IsFrameAssignable body.classes given declared) → IsFrameAssignable body.classes given (frames place)
-flows_in body frames typing place given None is enters = subst (λ (f : Frame). IsFrameAssignable body.classes given f) (sym enters) (frame_itself body.classes given)
-flows_in body frames typing place given (Some declared) is enters =
-    subst (λ (f : Frame). IsFrameAssignable body.classes given f) (sym (typing.declared place declared is)) enters
+flows_in : (body : Body) (frames : ℕ → Frame) → IsTyping body frames → (index : ℕ) (given : Frame) (d : Option Frame) → declared_at body index ≡ d
+    → MatchOption d (frames index ≡ given) (λ declared. IsFrameAssignable body.classes given declared) → IsFrameAssignable body.classes given (frames index)
+flows_in body frames typing index given None is enters = subst (λ (f : Frame). IsFrameAssignable body.classes given f) (sym enters) (frame_itself body.classes given)
+flows_in body frames typing index given (Some declared) is enters =
+    subst (λ (f : Frame). IsFrameAssignable body.classes given f) (sym (typing.declared index declared is)) enters
 
 -- the receiver of an `<init>`, and that of another method
 pub begins_not : (m : Subject) → is_init m ≡ false → begins_uninit m ≡ false

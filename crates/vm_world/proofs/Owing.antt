@@ -39,7 +39,7 @@ module _ (links : Links) (frames : ℕ → ℕ → Frame) (are : AreLinks links)
       let there = stands links number m e in
       subst (λ (classes : List Class). Meets classes (method_type m (frames number))) there.classes
       (meets m (frames number) (listed links are number m e) (typed number m e) (subst AreAsRead (sym there.classes) read)
-      (record { class = m.class_id; c = m.class; place = there.place; at = subst (λ (classes : List Class). slice_get classes m.class_id.0 ≡ Some m.class) (sym there.classes) there.class; is = there.method }))
+      (record { class = m.class_id; c = m.class; index = there.index; at = subst (λ (classes : List Class). slice_get classes m.class_id.0 ≡ Some m.class) (sym there.classes) there.class; is = there.method }))
 
   abbrev type_in : ℕ → Option Subject → MethodType
   type_in number o = option_map_or (λ (m : Subject). method_type m (frames number)) o no_method

@@ -20,8 +20,8 @@ passes_both (Some a) f b e = (a, (refl, e))
 pub record Stands (links : Links) (m : Subject) : Type 0 where
   pub classes : m.classes ≡ links.classes
   pub class : slice_get links.classes m.class_id.0 ≡ Some m.class
-  pub place : ℕ
-  pub method : slice_get m.class.file.methods place ≡ Some m.method
+  pub index : ℕ
+  pub method : slice_get m.class.file.methods index ≡ Some m.method
 
 pub stands : (links : Links) (number : ℕ) (m : Subject) → subject_at links number ≡ Some m → Stands links m
 unfolding subject_at subject_of
@@ -29,9 +29,9 @@ stands links number m e =
     let entry = passes_both (slice_get links.methods number) _ m e in
     let linked = passes_both entry.0.code _ m entry.1.1 in
     let class = passes_both (slice_get links.classes entry.0.class.0) _ m linked.1.1 in
-    let method = passes_both (slice_get class.0.file.methods entry.0.place) _ m class.1.1 in
+    let method = passes_both (slice_get class.0.file.methods entry.0.index) _ m class.1.1 in
     let code = passes_both method.0.code _ m method.1.1 in
-    subst (λ (s : Subject). Stands links s) (same_some code.1.1) (record { classes = refl; class = class.1.0; place = entry.0.place; method = method.1.0 })
+    subst (λ (s : Subject). Stands links s) (same_some code.1.1) (record { classes = refl; class = class.1.0; index = entry.0.index; method = method.1.0 })
 
 module _ (links : Links) (are : AreLinks links) where
   pub listed : (number : ℕ) (m : Subject) → subject_at links number ≡ Some m → IsListed m.linked

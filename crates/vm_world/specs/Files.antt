@@ -32,9 +32,9 @@ types_of classes class = types_up (suc (length classes)) classes class
 pub record Declares (classes : List Class) (m : Method) : Type 0 where
   pub class : ClassId
   pub c : Class
-  pub place : ℕ
+  pub index : ℕ
   pub at : slice_get classes class.0 ≡ Some c
-  pub is : slice_get c.file.methods place ≡ Some m
+  pub is : slice_get c.file.methods index ≡ Some m
 
 -- Each class is as its file says it. All of this is demanded of a file where it is read, or of the set where it is built, and what a
 -- linked set carries does not say it yet.

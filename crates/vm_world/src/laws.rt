@@ -7,7 +7,7 @@ ghost use Rattle.cf_reader.specs.declared.class_file.Method.{Method};
 ghost use Rattle.cls_link.specs.Links.{Links, AreLinks, method_at};
 ghost use Rattle.cls_link.specs.declared.linked.MethodId.{MethodId};
 ghost use Rattle.cls_search.specs.FieldSearches.{field_at};
-ghost use Rattle.cls_search.specs.declared.fields.FieldPlace.{FieldPlace};
+ghost use Rattle.cls_search.specs.declared.fields.FieldIndex.{FieldIndex};
 ghost use Rattle.cls_set.specs.declared.class.Class.{Class};
 ghost use Rattle.space_ids.specs.declared.ids.ClassId.{ClassId};
 ghost use Rattle.ver_check.specs.Acceptance.{AreSafe};
@@ -36,7 +36,7 @@ pub fn checked_sets_are_typed()
 /// their types, and a field is kept in the slot that has its type.
 pub fn fields_are_of_their_types()
     ensures held { (classes : List Class) → AreAsRead classes → (class : ClassId) (kinds : List WordKind) → kinds_of classes class ≡ Some kinds → AllZip HasKind (types_of classes class) kinds }
-    ensures kept { (classes : List Class) (field : FieldPlace) (f : Field) (slot : ℕ) → field_at classes field ≡ Some f → slot_of classes field ≡ Some slot → slice_get (types_of classes field.class) slot ≡ Some (field_vtype classes f.kind) }
+    ensures kept { (classes : List Class) (field : FieldIndex) (f : Field) (slot : ℕ) → field_at classes field ≡ Some f → slot_of classes field ≡ Some slot → slice_get (types_of classes field.class) slot ≡ Some (field_vtype classes f.kind) }
 {}
 
 /// What a call is told of a method agrees with the types of the method, if what it is told of the

@@ -5,8 +5,8 @@ use Rattle.cls_resolve.proofs.meanings.find_member.Goals as goal
 
 pub returns-then-is_field-clause-found : goal.returns-then-is_field-clause-found
 returns-then-is_field-clause-found c =
-    field_member c.args.set.now c.args.user c.args.class c.args.kind c.args.name.now c.args.descriptor.now c.in_ok-place.place c.field.result.now c.member_for.result
-    (c.is_field.ensures.0 c.if-is_field.true) c.in_ok-place.ensures.found c.field.ensures.field (class_in c.args.set.now c.in_ok-place.place c.in_ok-place.ensures.within)
+    field_member c.args.set.now c.args.user c.args.class c.args.kind c.args.name.now c.args.descriptor.now c.in_ok-id.id c.field.result.now c.member_for.result
+    (c.is_field.ensures.0 c.if-is_field.true) c.in_ok-id.ensures.found c.field.ensures.field (class_in c.args.set.now c.in_ok-id.id c.in_ok-id.ensures.within)
     c.member_for.ensures.index c.member_for.ensures.flags c.member_for.ensures.accessible
 
 pub member_for-requires-2-clause-owner : goal.member_for-requires-2-clause-owner

@@ -3,5 +3,5 @@ use Rattle.cls_search.specs.FieldSearches.{place_from}
 use Rattle.cls_search.proofs.fields.find.Given as goal
 
 -- what is found is found in what is left
-abbrev pub invariant-loop-place : goal.invariant-loop-place
-invariant-loop-place l = place_from l.place (drop l.place l.fields) l.name l.descriptor ≡ place_from 0 l.fields l.name l.descriptor
+abbrev pub invariant-loop-index : goal.invariant-loop-index
+invariant-loop-index l = place_from l.index (drop l.index l.fields) l.name l.descriptor ≡ place_from 0 l.fields l.name l.descriptor

@@ -3,8 +3,8 @@ use Rattle.std.specs.Vec.Iter.{into_iter_items}
 use Rattle.cls_set.specs.Building.{ranked_from}
 use Rattle.cls_set.proofs.building.add_classes.Given as goal
 
--- the members so far, with what is left, are all
+-- the entries so far, with what is left, are all
 abbrev pub invariant-loop-file : goal.invariant-loop-file
 invariant-loop-file l =
-    l.members.items ++ ranked_from (length l.members.items) (map (λ file. (file, l.is_built_in)) (into_iter_items l.file-iterator))
-    ≡ l.fn.members.items ++ ranked_from (length l.fn.members.items) (map (λ file. (file, l.is_built_in)) l.fn.files.items)
+    l.entries.items ++ ranked_from (length l.entries.items) (map (λ file. (file, l.is_built_in)) (into_iter_items l.file-iterator))
+    ≡ l.fn.entries.items ++ ranked_from (length l.fn.entries.items) (map (λ file. (file, l.is_built_in)) l.fn.files.items)

@@ -4,7 +4,7 @@ use Rattle.std.specs.declared.cmp.Ordering.TheVariants.{Less}
 use Rattle.std.proofs.lemmas.Option.{slice_get_read}
 use Rattle.std.proofs.lemmas.List.Sorted.{all_adjacent_more}
 use Rattle.cls_set.specs.Classes.{name_cmp, names}
-use Rattle.cls_set.specs.Members.{classes_of}
+use Rattle.cls_set.specs.Entries.{classes_of}
 use Rattle.cls_set.specs.Sets.{IsFirstDuplicate}
 use Rattle.cls_set.proofs.Hierarchy.{same_read, true_false}
 use Rattle.cls_set.proofs.Names.{name_of}
@@ -13,19 +13,19 @@ use Rattle.cls_set.proofs.building.first_duplicate.Goals as goal
 
 pub returns-then-is-clause-found : goal.returns-then-is-clause-found
 returns-then-is-clause-found c =
-    let members = c.args.members.now in
-    let here = c.index-members-index-in-loop-index.result in
-    let found = duplicate_at members c.loop-index.index c.index-members-index.result here (omega arith) c.loop-index-test.true c.requires c.loop-index.invariant c.index-members-index.is c.index-members-index-in-loop-index.is (ap name_of c.index-members-index-in-loop-index.is ∙ (c.is.ensures.0 c.if-is.true ∙ (c.as_bytes-before.ensures ∙ ap name_of (sym c.index-members-index.is)))) in
-    subst (λ o. IfSome o (λ m. IsFirstDuplicate (names (classes_of members)) (name_of m))) (sym (slice_get_read members (length members) c.loop-index.index here refl c.loop-index-test.true c.index-members-index-in-loop-index.is)) found
+    let entries = c.args.entries.now in
+    let here = c.index-entries-index-in-loop-index.result in
+    let found = duplicate_at entries c.loop-index.index c.index-entries-index.result here (omega arith) c.loop-index-test.true c.requires c.loop-index.invariant c.index-entries-index.is c.index-entries-index-in-loop-index.is (ap name_of c.index-entries-index-in-loop-index.is ∙ (c.is.ensures.0 c.if-is.true ∙ (c.as_bytes-before.ensures ∙ ap name_of (sym c.index-entries-index.is)))) in
+    subst (λ o. IfSome o (λ m. IsFirstDuplicate (names (classes_of entries)) (name_of m))) (sym (slice_get_read entries (length entries) c.loop-index.index here refl c.loop-index-test.true c.index-entries-index-in-loop-index.is)) found
 
 pub loop-index-preserved : goal.loop-index-preserved
 loop-index-preserved c =
-    let members = c.args.members.now in
-    all_adjacent_more members (λ a b. name_cmp (name_of a) (name_of b) ≡ Less) c.loop-index.index (omega arith) c.loop-index.invariant
-    (λ d. rises members c.loop-index.index d c.requires (omega arith) c.loop-index-test.true (λ same.
-    let here = ap name_of (same_read members c.loop-index.index c.index-members-index-in-loop-index.result d c.loop-index-test.true) in
-    let before = ap name_of (same_read members (c.loop-index.index - 1) d c.index-members-index.result (omega arith)) in
+    let entries = c.args.entries.now in
+    all_adjacent_more entries (λ a b. name_cmp (name_of a) (name_of b) ≡ Less) c.loop-index.index (omega arith) c.loop-index.invariant
+    (λ d. rises entries c.loop-index.index d c.requires (omega arith) c.loop-index-test.true (λ same.
+    let here = ap name_of (same_read entries c.loop-index.index c.index-entries-index-in-loop-index.result d c.loop-index-test.true) in
+    let before = ap name_of (same_read entries (c.loop-index.index - 1) d c.index-entries-index.result (omega arith)) in
     true_false (sym (c.is.ensures.1 (here ∙ (same ∙ (before ∙ sym c.as_bytes-before.ensures)))) ∙ c.if-is.false)))
 
 pub returns-clause-none : goal.returns-clause-none
-returns-clause-none c = strictly_sorted c.args.members.now c.loop-index.index (omega arith) c.loop-index.invariant
+returns-clause-none c = strictly_sorted c.args.entries.now c.loop-index.index (omega arith) c.loop-index.invariant

@@ -6,4 +6,4 @@ use Rattle.cls_set.proofs.building.first_duplicate.Given as goal
 
 -- each name so far is below the next
 abbrev pub invariant-loop-index : goal.invariant-loop-index
-invariant-loop-index l = AllAdjacentBelow (λ a b. name_cmp a.class.file.name b.class.file.name ≡ Less) l.members l.index
+invariant-loop-index l = AllAdjacentBelow (λ a b. name_cmp a.class.file.name b.class.file.name ≡ Less) l.entries l.index

@@ -2,7 +2,7 @@ use Rattle.std.proofs.Common.{inl, inr, refl, sym, subst, ◌∙◌}
 use Rattle.std.specs.List.{Any}
 use Rattle.cls_set.specs.Building.{NamesAbsent}
 use Rattle.cls_set.specs.Classes.{names}
-use Rattle.cls_set.specs.Members.{classes_of}
+use Rattle.cls_set.specs.Entries.{classes_of}
 use Rattle.cls_set.proofs.Absent.{by_either, by_parameter, by_result}
 use Rattle.cls_set.proofs.Hierarchy.{none_some, same_some, true_false}
 use Rattle.cls_set.proofs.mentions.descriptor_names_absent.Goals as goal
@@ -10,13 +10,13 @@ use Rattle.cls_set.proofs.mentions.descriptor_names_absent.Goals.{in_default-via
 
 pub returns-in-Some : goal.returns-in-Some
 returns-in-Some c = (
-  λ _. by_result (names (classes_of c.args.members.now)) c.args.types.now c.in-Some.kind c.in-Some.is (c.is_absent.ensures.0 c.if-is_absent.true),
+  λ _. by_result (names (classes_of c.args.entries.now)) c.args.types.now c.in-Some.kind c.in-Some.is (c.is_absent.ensures.0 c.if-is_absent.true),
   λ _. refl,
 )
 
 pub returns-in_default : goal.returns-in_default
 returns-in_default c =
-    let ns = names (classes_of c.args.members.now) in
+    let ns = names (classes_of c.args.entries.now) in
     let types = c.args.types.now in (
       λ e. by_parameter ns types (subst (Any (NamesAbsent ns)) c.as_slice.ensures (c.is_one_absent.ensures.0 e)),
       λ a.

@@ -8,7 +8,7 @@ use Rattle.cls_set.proofs.remote.can_be_kept.Goals as goal
 
 pub returns-in-Class : goal.returns-in-Class
 returns-in-Class c =
-    let os = origins_of c.args.members.now in
+    let os = origins_of c.args.entries.now in
     let kind = c.args.kind.now in
     let is = c.in-Class.is in (
       λ e. rules.CanBeKept.remote c.in-Class.name c.if-kind-ne0.false is (c.names_remote_interface.ensures.0 e),

@@ -9,7 +9,7 @@ pub returns-in_default : goal.returns-in_default
 returns-in_default c = (
   λ e. rules.CanCross.plain (c.can_be_kept.ensures.0 e),
   λ x.
-      elim (crossing_kind (origins_of c.args.members.now) c.args.kind.now x) [
+      elim (crossing_kind (origins_of c.args.entries.now) c.args.kind.now x) [
         | inl k ↦ c.can_be_kept.ensures.1 k
         | inr r ↦
             elim c.in_default.branch [

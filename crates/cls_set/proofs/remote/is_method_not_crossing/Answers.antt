@@ -16,7 +16,7 @@ returns-in-Some c = (
 
 pub returns-in_default : goal.returns-in_default
 returns-in_default c =
-    let os = origins_of c.args.members.now in
+    let os = origins_of c.args.entries.now in
     let slice = c.as_slice.ensures ∙ ap (λ (types : MethodDescriptor). types.parameters) c.deref-in_default.ensures in (
       λ e.
           let a = subst (Any (CannotCross os)) slice (c.is_one_not_crossing.ensures.0 e) in

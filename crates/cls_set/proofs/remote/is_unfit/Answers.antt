@@ -11,9 +11,9 @@ use Rattle.cls_set.proofs.remote.is_unfit.Goals as goal
 
 pub returns-in-Fields : goal.returns-in-Fields
 returns-in-Fields c = λ k is.
-    let os = origins_of c.args.members.now in
-    let f = (get_or c.args.members.now c.args.index c.index-members-index.result).class.file in
-    let same = same_some (sym (class_read c.args.members.now c.index-members-index.result c.args.index c.args.index refl c.requires.in_set) ∙ is) in
+    let os = origins_of c.args.entries.now in
+    let f = (get_or c.args.entries.now c.args.index c.index-entries-index.result).class.file in
+    let same = same_some (sym (class_read c.args.entries.now c.index-entries-index.result c.args.index c.args.index refl c.requires.in_set) ∙ is) in
     subst (λ m. IsTrue c.is_one_field_not_kept.result ↔ IsUnfit m os k.file) (sym c.in-Fields.is)
     (subst (λ (x : Class). IsTrue c.is_one_field_not_kept.result ↔ HasFieldNotKept os x.file) same (
       λ e. unfit_fields os f (subst (Any (IsFieldNotKept os)) c.as_slice.ensures.items (c.is_one_field_not_kept.ensures.0 e)),
@@ -22,9 +22,9 @@ returns-in-Fields c = λ k is.
 
 pub returns-then-is_interface : goal.returns-then-is_interface
 returns-then-is_interface c = λ k is.
-    let os = origins_of c.args.members.now in
-    let f = (get_or c.args.members.now c.args.index c.index-members-index.result).class.file in
-    let same = same_some (sym (class_read c.args.members.now c.index-members-index.result c.args.index c.args.index refl c.requires.in_set) ∙ is) in
+    let os = origins_of c.args.entries.now in
+    let f = (get_or c.args.entries.now c.args.index c.index-entries-index.result).class.file in
+    let same = same_some (sym (class_read c.args.entries.now c.index-entries-index.result c.args.index c.args.index refl c.requires.in_set) ∙ is) in
     subst (λ m. IsTrue c.is_one_method_not_crossing.result ↔ IsUnfit m os k.file) (sym c.in-Methods.is)
     (subst (λ (x : Class). IsTrue c.is_one_method_not_crossing.result ↔ HasMethodNotCrossing os x.file) same (
       λ e.
@@ -34,9 +34,9 @@ returns-then-is_interface c = λ k is.
 
 pub returns-else-is_interface : goal.returns-else-is_interface
 returns-else-is_interface c = λ k is.
-    let os = origins_of c.args.members.now in
-    let f = (get_or c.args.members.now c.args.index c.index-members-index.result).class.file in
-    let same = same_some (sym (class_read c.args.members.now c.index-members-index.result c.args.index c.args.index refl c.requires.in_set) ∙ is) in
+    let os = origins_of c.args.entries.now in
+    let f = (get_or c.args.entries.now c.args.index c.index-entries-index.result).class.file in
+    let same = same_some (sym (class_read c.args.entries.now c.index-entries-index.result c.args.index c.args.index refl c.requires.in_set) ∙ is) in
     subst (λ m. IsTrue c.is_interface.result ↔ IsUnfit m os k.file) (sym c.in-Methods.is)
     (subst (λ (x : Class). IsTrue c.is_interface.result ↔ HasMethodNotCrossing os x.file) same
     (off c.is_interface.result (HasMethodNotCrossing os f) c.if-is_interface.false (λ x. true_false (sym (c.is_interface.ensures.1 x.of_interface) ∙ c.if-is_interface.false))))

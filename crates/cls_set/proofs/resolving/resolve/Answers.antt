@@ -1,8 +1,8 @@
 use Rattle.std.proofs.Common.{◌∙◌, get_or, sym, subst, arith}
 use Rattle.std.specs.List.Sorted.{IsStrictlySortedBy}
-use Rattle.cls_set.specs.declared.members.Member.{Member}
+use Rattle.cls_set.specs.declared.entries.ClassEntry.{ClassEntry}
 use Rattle.cls_set.specs.Classes.{name_cmp, names}
-use Rattle.cls_set.specs.Members.{classes_of}
+use Rattle.cls_set.specs.Entries.{classes_of}
 use Rattle.cls_set.specs.Building.{IsWhole}
 use Rattle.std.proofs.lemmas.Result.{err_from_is_err_and}
 use Rattle.std.specs.List.{AllWithin}
@@ -15,10 +15,10 @@ resolve_at-requires-clause-ordered c = subst (IsStrictlySortedBy name_cmp) (sym 
 
 pub loop-index-preserved : goal.loop-index-preserved
 loop-index-preserved c =
-    let start = c.args.members.now.items in
-    let old = c.loop-index.members.items in
-    let new = c.resolve_at.new.members.items in
-    let P : Member → Type 0 = λ m. IsWhole (names (classes_of start)) m.class in
+    let start = c.args.entries.now.items in
+    let old = c.loop-index.entries.items in
+    let new = c.resolve_at.new.entries.items in
+    let P : ClassEntry → Type 0 = λ m. IsWhole (names (classes_of start)) m.class in
     let same = names_kept old start c.loop-index.invariant.0 in (
       c.resolve_at.ensures.kept ∙ c.loop-index.invariant.0,
       AllWithin-next P old new c.loop-index.index c.loop-index.invariant.1 c.resolve_at.ensures.others
@@ -28,8 +28,8 @@ loop-index-preserved c =
 pub returns-in_err-resolve_at-clause-absent : goal.returns-in_err-resolve_at-clause-absent
 returns-in_err-resolve_at-clause-absent c =
     let p = err_from_is_err_and c.from_residual.result c.from_residual.ensures.1 in
-    let start = c.args.members.now.items in
-    let old = c.loop-index.members.items in
+    let start = c.args.entries.now.items in
+    let old = c.loop-index.entries.items in
     let k = c.loop-index.index in
     let e = c.in_err-resolve_at.field-0.0 in
     let same = names_kept old start c.loop-index.invariant.0 in

@@ -2,7 +2,7 @@ use Rattle.std.proofs.Common.{◌++◌, refl, subst, sym, arith}
 use Rattle.std.specs.Prelude.{Contains, option_to_list}
 use Rattle.std.proofs.lemmas.Result.{err_from_is_err_and}
 use Rattle.cls_set.specs.Classes.{names}
-use Rattle.cls_set.specs.Members.{classes_of}
+use Rattle.cls_set.specs.Entries.{classes_of}
 use Rattle.cls_set.proofs.Absent.{class_missing}
 use Rattle.cls_set.proofs.resolving.superclass.Goals as goal
 
@@ -11,4 +11,4 @@ returns-in_err-supertype-in-Some-clause-absent c =
     let p = err_from_is_err_and c.from_residual.result c.from_residual.ensures.1 in
     let file = c.args.class.now.file in
     let among = subst (λ o. Contains (option_to_list o ++ file.interfaces) c.in-Some.name) (sym c.in-Some.is) (0, omega arith, refl) in
-    rw (p.1, p.2) (class_missing (names (classes_of c.args.members.now)) file c.in-Some.name c.in_err-supertype-in-Some.field-0.0 among c.in_err-supertype-in-Some.ensures.absent)
+    rw (p.1, p.2) (class_missing (names (classes_of c.args.entries.now)) file c.in-Some.name c.in_err-supertype-in-Some.field-0.0 among c.in_err-supertype-in-Some.ensures.absent)

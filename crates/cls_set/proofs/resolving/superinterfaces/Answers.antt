@@ -3,7 +3,7 @@ use Rattle.std.specs.Prelude.{Contains, option_to_list}
 use Rattle.std.proofs.lemmas.List.Elements.{Contains-append_right}
 use Rattle.std.proofs.lemmas.Result.{err_from_is_err_and}
 use Rattle.cls_set.specs.Classes.{names}
-use Rattle.cls_set.specs.Members.{classes_of}
+use Rattle.cls_set.specs.Entries.{classes_of}
 use Rattle.cls_set.proofs.Absent.{class_missing}
 use Rattle.cls_set.proofs.resolving.superinterfaces.Goals as goal
 
@@ -13,4 +13,4 @@ returns-in_err-supertype-clause-absent c =
     let file = c.args.class.now.file in
     let name = c.name-item.result in
     let among = Contains-append_right (option_to_list file.superclass) file.interfaces name (subst (λ (xs : List (List ℕ)). Contains xs name) c.as_slice-name-items.ensures.items (c.loop-name.name-index, c.loop-name-test.true, sym c.name-item.is)) in
-    rw (p.1, p.2) (class_missing (names (classes_of c.args.members.now)) file name c.in_err-supertype.field-0.0 among c.in_err-supertype.ensures.absent)
+    rw (p.1, p.2) (class_missing (names (classes_of c.args.entries.now)) file name c.in_err-supertype.field-0.0 among c.in_err-supertype.ensures.absent)

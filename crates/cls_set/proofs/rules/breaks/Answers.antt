@@ -3,7 +3,7 @@ use Rattle.std.specs.Prelude.{◌↔◌, IsTrue}
 use Rattle.cls_set.specs.declared.class.Class.{Class}
 use Rattle.cls_set.specs.Building.{origins_of}
 use Rattle.cls_set.specs.ClassRules.{set_rule, AreUnfit}
-use Rattle.cls_set.specs.Members.{classes_of}
+use Rattle.cls_set.specs.Entries.{classes_of}
 use Rattle.cls_set.specs.declared.remote.MemberKind.TheVariants.{Fields, Methods}
 use Rattle.cls_set.specs.declared.fault.SetRule.TheVariants.{BadSuper, FinalSuper, RemoteField, RemoteMethod}
 use Rattle.cls_set.specs.Rules.{Breaks}
@@ -15,88 +15,88 @@ use Rattle.cls_set.proofs.Hierarchy.{class_read, same_some, true_false}
 use Rattle.cls_set.proofs.rules.breaks.Goals as goal
 
 pub has_bad_super-requires-clause-among : goal.has_bad_super-requires-clause-among
-has_bad_super-requires-clause-among c = class_among c.args.members.now c.args.index c.index-members-index.result c.requires.in_set
+has_bad_super-requires-clause-among c = class_among c.args.entries.now c.args.index c.index-entries-index.result c.requires.in_set
 
 pub extends_one_with-requires-clause-among : goal.extends_one_with-requires-clause-among
-extends_one_with-requires-clause-among c = class_among c.args.members.now c.args.index c.index-members-index.result c.requires.in_set
+extends_one_with-requires-clause-among c = class_among c.args.entries.now c.args.index c.index-entries-index.result c.requires.in_set
 
 pub returns-in-BadSuper : goal.returns-in-BadSuper
 returns-in-BadSuper c = λ k is.
-    let os = origins_of c.args.members.now in
-    let same = same_some (sym (class_read c.args.members.now c.index-members-index.result c.args.index c.args.index refl c.requires.in_set) ∙ is) in
+    let os = origins_of c.args.entries.now in
+    let same = same_some (sym (class_read c.args.entries.now c.index-entries-index.result c.args.index c.args.index refl c.requires.in_set) ∙ is) in
     subst (λ r. IsTrue c.has_bad_super.result ↔ Breaks os k.file (set_rule r)) (sym c.in-BadSuper.is)
     (subst (λ (x : Class). IsTrue c.has_bad_super.result ↔ Breaks os x.file BadSuper) same c.has_bad_super.ensures)
 
 pub returns-in-FinalSuper : goal.returns-in-FinalSuper
 returns-in-FinalSuper c = λ k is.
-    let os = origins_of c.args.members.now in
-    let same = same_some (sym (class_read c.args.members.now c.index-members-index.result c.args.index c.args.index refl c.requires.in_set) ∙ is) in
+    let os = origins_of c.args.entries.now in
+    let same = same_some (sym (class_read c.args.entries.now c.index-entries-index.result c.args.index c.args.index refl c.requires.in_set) ∙ is) in
     subst (λ r. IsTrue c.extends_one_with.result ↔ Breaks os k.file (set_rule r)) (sym c.in-FinalSuper.is)
     (subst (λ (x : Class). IsTrue c.extends_one_with.result ↔ Breaks os x.file FinalSuper) same
-    (final_way os (get_or c.args.members.now c.args.index c.index-members-index.result).class.file c.extends_one_with.result c.extends_one_with.ensures))
+    (final_way os (get_or c.args.entries.now c.args.index c.index-entries-index.result).class.file c.extends_one_with.result c.extends_one_with.ensures))
 
 pub returns-then-not-is_interface-2 : goal.returns-then-not-is_interface-2
 returns-then-not-is_interface-2 c = λ k is.
-    let os = origins_of c.args.members.now in
-    let same = same_some (sym (class_read c.args.members.now c.index-members-index.result c.args.index c.args.index refl c.requires.in_set) ∙ is) in
+    let os = origins_of c.args.entries.now in
+    let same = same_some (sym (class_read c.args.entries.now c.index-entries-index.result c.args.index c.args.index refl c.requires.in_set) ∙ is) in
     let none = subst (λ (x : Class). ¬ IsInterface x) same (λ h. true_false (sym (c.is_interface-in-NotYet.ensures.1 h) ∙ c.if-not-is_interface-2.true)) in
     subst (λ r. IsTrue c.is_below_remote.result ↔ Breaks os k.file (set_rule r)) (sym c.in-NotYet.is)
     (remote_way os k.file c.is_below_remote.result none (c.is_below_remote.ensures k is))
 
 pub returns-else-not-is_interface-2 : goal.returns-else-not-is_interface-2
 returns-else-not-is_interface-2 c = λ k is.
-    let os = origins_of c.args.members.now in
-    let same = same_some (sym (class_read c.args.members.now c.index-members-index.result c.args.index c.args.index refl c.requires.in_set) ∙ is) in
+    let os = origins_of c.args.entries.now in
+    let same = same_some (sym (class_read c.args.entries.now c.index-entries-index.result c.args.index c.args.index refl c.requires.in_set) ∙ is) in
     let interface = subst IsInterface same (c.is_interface-in-NotYet.ensures.0 c.if-not-is_interface-2.false) in
     subst (λ r. IsTrue (not c.is_interface-in-NotYet.result) ↔ Breaks os k.file (set_rule r)) (sym c.in-NotYet.is)
     (not_remote os k.file (not c.is_interface-in-NotYet.result) (ap not c.if-not-is_interface-2.false) interface)
 
 pub returns-in-Override : goal.returns-in-Override
 returns-in-Override c = λ k is.
-    let os = origins_of c.args.members.now in
+    let os = origins_of c.args.entries.now in
     subst (λ r. IsTrue c.overrides_badly.result ↔ Breaks os k.file (set_rule r)) (sym c.in-Override.is)
     (override_way os k.file c.overrides_badly.result (c.overrides_badly.ensures k is))
 
 pub returns-then-not-is_interface : goal.returns-then-not-is_interface
 returns-then-not-is_interface c = λ k is.
-    let members = c.args.members.now in
-    let os = origins_of members in
+    let entries = c.args.entries.now in
+    let os = origins_of entries in
     let n = c.args.index in
-    let same = same_some (sym (class_read members c.index-members-index.result n n refl c.requires.in_set) ∙ is) in
+    let same = same_some (sym (class_read entries c.index-entries-index.result n n refl c.requires.in_set) ∙ is) in
     let none = subst (λ (x : Class). ¬ IsInterface x) same (λ h. true_false (sym (c.is_interface.ensures.1 h) ∙ c.if-not-is_interface.true)) in
-    let long = long_classes members in
-    let inside : n < length (classes_of members) = let h = c.requires.in_set in omega (arith, h, long) in
-    let unfit = subst (AreUnfit Fields members) (sym c.as_slice.ensures.value) c.requires.unfit.fields in
+    let long = long_classes entries in
+    let inside : n < length (classes_of entries) = let h = c.requires.in_set in omega (arith, h, long) in
+    let unfit = subst (AreUnfit Fields entries) (sym c.as_slice.ensures.value) c.requires.unfit.fields in
     subst (λ r. IsTrue c.is_remotely_unfit.result ↔ Breaks os k.file (set_rule r)) (sym c.in-RemoteField.is)
-    (field_way members c.requires.arranged n k is (get_or c.args.tables.now n []) (c.requires.tables.table n inside) c.as_slice.result.now c.is_remotely_unfit.result unfit none (c.is_remotely_unfit.ensures k is))
+    (field_way entries c.requires.arranged n k is (get_or c.args.tables.now n []) (c.requires.tables.table n inside) c.as_slice.result.now c.is_remotely_unfit.result unfit none (c.is_remotely_unfit.ensures k is))
 
 pub returns-else-not-is_interface : goal.returns-else-not-is_interface
 returns-else-not-is_interface c = λ k is.
-    let os = origins_of c.args.members.now in
-    let same = same_some (sym (class_read c.args.members.now c.index-members-index.result c.args.index c.args.index refl c.requires.in_set) ∙ is) in
+    let os = origins_of c.args.entries.now in
+    let same = same_some (sym (class_read c.args.entries.now c.index-entries-index.result c.args.index c.args.index refl c.requires.in_set) ∙ is) in
     let interface = subst IsInterface same (c.is_interface.ensures.0 c.if-not-is_interface.false) in
     subst (λ r. IsTrue (not c.is_interface.result) ↔ Breaks os k.file (set_rule r)) (sym c.in-RemoteField.is)
     (off (not c.is_interface.result) (Breaks os k.file RemoteField) (ap not c.if-not-is_interface.false) (λ b. (way os k.file RemoteField b).1.0 interface))
 
 pub returns-then-is_interface : goal.returns-then-is_interface
 returns-then-is_interface c = λ k is.
-    let members = c.args.members.now in
-    let os = origins_of members in
+    let entries = c.args.entries.now in
+    let os = origins_of entries in
     let n = c.args.index in
-    let same = same_some (sym (class_read members c.index-members-index.result n n refl c.requires.in_set) ∙ is) in
+    let same = same_some (sym (class_read entries c.index-entries-index.result n n refl c.requires.in_set) ∙ is) in
     let interface = subst IsInterface same (c.is_interface-in-RemoteMethod.ensures.0 c.if-is_interface.true) in
-    let long = long_classes members in
-    let inside : n < length (classes_of members) = let h = c.requires.in_set in omega (arith, h, long) in
+    let long = long_classes entries in
+    let inside : n < length (classes_of entries) = let h = c.requires.in_set in omega (arith, h, long) in
     let list = c.as_slice-then-is_interface.result.now in
-    let unfit = subst (AreUnfit Methods members) (sym c.as_slice-then-is_interface.ensures.value) c.requires.unfit.methods in
+    let unfit = subst (AreUnfit Methods entries) (sym c.as_slice-then-is_interface.ensures.value) c.requires.unfit.methods in
     let result = c.is_remotely_unfit-then-is_interface.result in
     subst (λ r. IsTrue result ↔ Breaks os k.file (set_rule r)) (sym c.in-RemoteMethod.is)
-    (method_way members c.requires.arranged n k is (get_or c.args.tables.now n []) (c.requires.tables.table n inside) list result unfit interface (c.is_remotely_unfit-then-is_interface.ensures k is))
+    (method_way entries c.requires.arranged n k is (get_or c.args.tables.now n []) (c.requires.tables.table n inside) list result unfit interface (c.is_remotely_unfit-then-is_interface.ensures k is))
 
 pub returns-else-is_interface : goal.returns-else-is_interface
 returns-else-is_interface c = λ k is.
-    let os = origins_of c.args.members.now in
-    let same = same_some (sym (class_read c.args.members.now c.index-members-index.result c.args.index c.args.index refl c.requires.in_set) ∙ is) in
+    let os = origins_of c.args.entries.now in
+    let same = same_some (sym (class_read c.args.entries.now c.index-entries-index.result c.args.index c.args.index refl c.requires.in_set) ∙ is) in
     let none = subst (λ (x : Class). ¬ IsInterface x) same (λ h. true_false (sym (c.is_interface-in-RemoteMethod.ensures.1 h) ∙ c.if-is_interface.false)) in
     let result = c.is_interface-in-RemoteMethod.result in
     subst (λ r. IsTrue result ↔ Breaks os k.file (set_rule r)) (sym c.in-RemoteMethod.is)

@@ -8,7 +8,7 @@ use Rattle.cls_set.proofs.rules.has_bad_super.Goals as goal
 
 pub returns-then-is_badly_rooted : goal.returns-then-is_badly_rooted
 returns-then-is_badly_rooted c = (
-  λ _. rooted_badly (origins_of c.args.members.now) c.args.class.now.file (c.is_badly_rooted.ensures.0 c.if-is_badly_rooted.true),
+  λ _. rooted_badly (origins_of c.args.entries.now) c.args.class.now.file (c.is_badly_rooted.ensures.0 c.if-is_badly_rooted.true),
   λ _. refl,
 )
 
@@ -22,7 +22,7 @@ pub returns : goal.returns
 returns c = (
   λ e. let x = c.implements_class.ensures.0 e in rules.Breaks.class_implemented x.0 x.1 x.2,
   λ h.
-      elim (way (origins_of c.args.members.now) c.args.class.now.file BadSuper h) [
+      elim (way (origins_of c.args.entries.now) c.args.class.now.file BadSuper h) [
         | inl r ↦ absurd (true_false (sym (c.is_badly_rooted.ensures.1 r) ∙ c.if-is_badly_rooted.false))
         | inr o ↦
             elim o [

@@ -4,51 +4,51 @@ use Rattle.std.proofs.lemmas.List.Elements.{All-contains, Contains-get_or}
 use Rattle.cls_set.specs.declared.class.Class.{Class}
 use Rattle.space_ids.specs.declared.ids.ClassId.{ClassId}
 use Rattle.cls_set.specs.Classes.{IsInterface}
-use Rattle.cls_set.specs.Members.{classes_of}
+use Rattle.cls_set.specs.Entries.{classes_of}
 use Rattle.cls_set.proofs.Hierarchy.{All-whole, class_read, same_some, true_false}
 use Rattle.cls_set.proofs.Supers.{implements_in, implements_out, interface_in_set}
 use Rattle.cls_set.proofs.Broken.{All-take_more}
 use Rattle.cls_set.proofs.rules.implements_class.Goals as goal
 
-pub bounds-members-from : goal.bounds-members-from
-bounds-members-from c =
+pub bounds-entries-from : goal.bounds-entries-from
+bounds-entries-from c =
     let s : ClassId = get_or c.as_slice-interface-items.result.now c.loop-interface.interface-index (record { 0 = 0 }) in
     let among = subst (λ (xs : List ClassId). Contains xs s) c.as_slice-interface-items.ensures (Contains-get_or c.as_slice-interface-items.result.now c.loop-interface.interface-index (record { 0 = 0 }) c.loop-interface-test.true) in
-    subst (λ n. n < length c.args.members.now) (sym c.from.ensures) (interface_in_set c.args.members.now c.requires.arranged c.args.class.now c.requires.among s among)
+    subst (λ n. n < length c.args.entries.now) (sym c.from.ensures) (interface_in_set c.args.entries.now c.requires.arranged c.args.class.now c.requires.among s among)
 
 pub returns-then-not-is_interface : goal.returns-then-not-is_interface
 returns-then-not-is_interface c =
-    let members = c.args.members.now in
+    let entries = c.args.entries.now in
     let a = c.requires.arranged in
     let class = c.args.class.now in
     let s : ClassId = get_or c.as_slice-interface-items.result.now c.loop-interface.interface-index (record { 0 = 0 }) in
     let among = subst (λ (xs : List ClassId). Contains xs s) c.as_slice-interface-items.ensures (Contains-get_or c.as_slice-interface-items.result.now c.loop-interface.interface-index (record { 0 = 0 }) c.loop-interface-test.true) in
-    let inside = interface_in_set members a class c.requires.among s among in
-    let k = class_read members c.index-members-from.result c.from.result s.0 c.from.ensures inside in (
-      λ _. implements_in members a class c.requires.among s (get_or members c.from.result c.index-members-from.result).class among k (λ h. true_false (sym (c.is_interface.ensures.1 h) ∙ c.if-not-is_interface.true)),
+    let inside = interface_in_set entries a class c.requires.among s among in
+    let k = class_read entries c.index-entries-from.result c.from.result s.0 c.from.ensures inside in (
+      λ _. implements_in entries a class c.requires.among s (get_or entries c.from.result c.index-entries-from.result).class among k (λ h. true_false (sym (c.is_interface.ensures.1 h) ∙ c.if-not-is_interface.true)),
       λ _. refl,
     )
 
 pub loop-interface-preserved : goal.loop-interface-preserved
 loop-interface-preserved c =
-    let members = c.args.members.now in
+    let entries = c.args.entries.now in
     let xs = c.as_slice-interface-items.result.now in
     let i = c.loop-interface.interface-index in
-    let P : ClassId → Type 0 = λ s. (k : Class) → slice_get (classes_of members) s.0 ≡ Some k → IsInterface k in
+    let P : ClassId → Type 0 = λ s. (k : Class) → slice_get (classes_of entries) s.0 ≡ Some k → IsInterface k in
     let s : ClassId = get_or xs i (record { 0 = 0 }) in
     let among = subst (λ (xs : List ClassId). Contains xs s) c.as_slice-interface-items.ensures (Contains-get_or xs i (record { 0 = 0 }) c.loop-interface-test.true) in
-    let inside = interface_in_set members c.requires.arranged c.args.class.now c.requires.among s among in
-    let read = class_read members c.index-members-from.result c.from.result s.0 c.from.ensures inside in
+    let inside = interface_in_set entries c.requires.arranged c.args.class.now c.requires.among s among in
+    let read = class_read entries c.index-entries-from.result c.from.result s.0 c.from.ensures inside in
     All-take_more P xs i (record { 0 = 0 }) c.loop-interface-test.true c.loop-interface.invariant
     (λ k e. subst IsInterface (same_some (sym read ∙ e)) (c.is_interface.ensures.0 c.if-not-is_interface.false))
 
 pub returns : goal.returns
 returns c =
-    let members = c.args.members.now in
-    let P : ClassId → Type 0 = λ s. (k : Class) → slice_get (classes_of members) s.0 ≡ Some k → IsInterface k in
+    let entries = c.args.entries.now in
+    let P : ClassId → Type 0 = λ s. (k : Class) → slice_get (classes_of entries) s.0 ≡ Some k → IsInterface k in
     let all = All-whole P c.as_slice-interface-items.result.now c.loop-interface.interface-index c.args.class.now.interfaces c.loop-interface-test.false c.as_slice-interface-items.ensures c.loop-interface.invariant in (
       λ e. absurd (true_false (sym e)),
       λ x.
-          let out = implements_out members c.requires.arranged c.args.class.now c.requires.among x in
+          let out = implements_out entries c.requires.arranged c.args.class.now c.requires.among x in
           absurd (out.4 (All-contains P c.args.class.now.interfaces out.0 all out.2 out.1 out.3)),
     )

@@ -7,24 +7,24 @@ use Rattle.cls_set.proofs.rules.refuse_broken.Goals as goal
 pub returns-clause-ok : goal.returns-clause-ok
 returns-clause-ok c =
     on_ok_weaker c.refuse-6.result
-    (λ k. keep_all (origins_of c.args.members.now) c.in_ok-refuse.ensures.ok c.in_ok-refuse-2.ensures.ok c.in_ok-refuse-3.ensures.ok c.in_ok-refuse-4.ensures.ok c.in_ok-refuse-5.ensures.ok k) c.refuse-6.ensures.ok
+    (λ k. keep_all (origins_of c.args.entries.now) c.in_ok-refuse.ensures.ok c.in_ok-refuse-2.ensures.ok c.in_ok-refuse-3.ensures.ok c.in_ok-refuse-4.ensures.ok c.in_ok-refuse-5.ensures.ok k) c.refuse-6.ensures.ok
 
 pub returns-in_err-refuse-4-clause-fault : goal.returns-in_err-refuse-4-clause-fault
 returns-in_err-refuse-4-clause-fault c =
-    let os = origins_of c.args.members.now in
+    let os = origins_of c.args.entries.now in
     let p = err_from_is_err_and c.from_residual-in_err-refuse-4.result c.from_residual-in_err-refuse-4.ensures.1 in
     rw (p.1, p.2) (first_fault os class_rules.RemoteMethod c.in_err-refuse-4.field-0.0 c.in_err-refuse-4.ensures.fault
     (before_remote_method os c.in_ok-refuse.ensures.ok c.in_ok-refuse-2.ensures.ok c.in_ok-refuse-3.ensures.ok))
 
 pub returns-in_err-refuse-5-clause-fault : goal.returns-in_err-refuse-5-clause-fault
 returns-in_err-refuse-5-clause-fault c =
-    let os = origins_of c.args.members.now in
+    let os = origins_of c.args.entries.now in
     let p = err_from_is_err_and c.from_residual-in_err-refuse-5.result c.from_residual-in_err-refuse-5.ensures.1 in
     rw (p.1, p.2) (first_fault os class_rules.Override c.in_err-refuse-5.field-0.0 c.in_err-refuse-5.ensures.fault
     (before_override os c.in_ok-refuse.ensures.ok c.in_ok-refuse-2.ensures.ok c.in_ok-refuse-3.ensures.ok c.in_ok-refuse-4.ensures.ok))
 
 pub returns-clause-fault : goal.returns-clause-fault
 returns-clause-fault c =
-    let os = origins_of c.args.members.now in
+    let os = origins_of c.args.entries.now in
     MatchResult-weaker c.refuse-6.result c.refuse-6.ensures.fault (λ x h. h) (λ e h. first_fault os class_rules.NotYet e h
     (before_not_yet os c.in_ok-refuse.ensures.ok c.in_ok-refuse-2.ensures.ok c.in_ok-refuse-3.ensures.ok c.in_ok-refuse-4.ensures.ok c.in_ok-refuse-5.ensures.ok))

@@ -1,7 +1,7 @@
 use Rattle.std.proofs.Common.{◌≡◌, ◌∙◌, ◌+◌, ◌<◌, false, [], ◌∷◌, length, length-append, get_or, sym, subst, ap, arith}
 use Rattle.std.proofs.Math.Seq.{map-set_same}
-use Rattle.cls_set.specs.declared.members.Member.{Member}
-use Rattle.cls_set.specs.Members.{classes_of, IsTable}
+use Rattle.cls_set.specs.declared.entries.ClassEntry.{ClassEntry}
+use Rattle.cls_set.specs.Entries.{classes_of, IsTable}
 use Rattle.cls_set.specs.Walks.{AreWithin, IsWalked}
 use Rattle.cls_set.proofs.Heights.{IsHeight, any_member, height_of, long_classes, one_more, ranked_by_heights, table_more, table_of}
 use Rattle.cls_set.proofs.Hierarchy.{same_read}
@@ -9,17 +9,17 @@ use Rattle.cls_set.proofs.walking.rank.Goals as goal
 
 pub returns-then-index-clause-ranks : goal.returns-then-index-clause-ranks
 returns-then-index-clause-ranks c =
-    let start = c.args.members.now.items in
-    let members = c.loop-index.members.items in
+    let start = c.args.entries.now.items in
+    let entries = c.loop-index.entries.items in
     let k = c.loop-index.index in
     let walk = c.in_ok-walk.walk in
     let same = ap classes_of c.as_slice.ensures.value ∙ c.loop-index.invariant.0 in
     let w = subst (λ cs. IsWalked cs (record { 0 = k }) walk) same c.in_ok-walk.ensures in
-    let long = sym (long_classes members) ∙ (ap length c.loop-index.invariant.0 ∙ long_classes start) in
+    let long = sym (long_classes entries) ∙ (ap length c.loop-index.invariant.0 ∙ long_classes start) in
     let within : k < length (classes_of start) = subst (λ n. k < n) (sym (long_classes start)) (omega arith) in
     let table = w.long in
     let read : get_or walk.met.items k false ≡ c.index.result.now = same_read walk.met.items k false c.index.result.now (omega (arith, table, within)) ∙ sym c.index.ensures in
-    let any = any_member members k (omega (arith, long)) in
+    let any = any_member entries k (omega (arith, long)) in
     record {
       within = within;
       own = (w.met (record { 0 = k })).0 (read ∙ c.if-index.true);
@@ -28,31 +28,31 @@ returns-then-index-clause-ranks c =
 
 pub loop-index-preserved : goal.loop-index-preserved
 loop-index-preserved c =
-    let start = c.args.members.now.items in
-    let members = c.loop-index.members.items in
+    let start = c.args.entries.now.items in
+    let entries = c.loop-index.entries.items in
     let k = c.loop-index.index in
     let walk = c.in_ok-walk.walk in
     let same = ap classes_of c.as_slice.ensures.value ∙ c.loop-index.invariant.0 in
     let w = subst (λ cs. IsWalked cs (record { 0 = k }) walk) same c.in_ok-walk.ensures in
-    let long = sym (long_classes members) ∙ (ap length c.loop-index.invariant.0 ∙ long_classes start) in
+    let long = sym (long_classes entries) ∙ (ap length c.loop-index.invariant.0 ∙ long_classes start) in
     let within : k < length (classes_of start) = subst (λ n. k < n) (sym (long_classes start)) (omega arith) in
     let table = w.long in
     let read : get_or walk.met.items k false ≡ c.index.result.now = same_read walk.met.items k false c.index.result.now (omega (arith, table, within)) ∙ sym c.index.ensures in
     let high : length walk.order.items ≡ c.len-height.result = omega arith in
-    let y : Member = record { class = c.index_mut.result.now.class; rank = c.len-height.result } in (
-      map-set_same (λ (m : Member). m.class) members k y c.index_mut.result.now (ap (λ (m : Member). m.class) c.index_mut.ensures.value) ∙ c.loop-index.invariant.0,
-      one_more (classes_of start) members k y (omega (arith, long)) c.loop-index.invariant.1 (subst (λ n. IsHeight (classes_of start) k n) high (height_of (classes_of start) k walk w (read ∙ c.if-index.false))),
+    let y : ClassEntry = record { class = c.index_mut.result.now.class; rank = c.len-height.result } in (
+      map-set_same (λ (m : ClassEntry). m.class) entries k y c.index_mut.result.now (ap (λ (m : ClassEntry). m.class) c.index_mut.ensures.value) ∙ c.loop-index.invariant.0,
+      one_more (classes_of start) entries k y (omega (arith, long)) c.loop-index.invariant.1 (subst (λ n. IsHeight (classes_of start) k n) high (height_of (classes_of start) k walk w (read ∙ c.if-index.false))),
       ap length c.in_ok-push.ensures.items ∙ (length-append c.loop-index.tables.items (c.new.result ∷ []) ∙ ap (λ n. n + 1) c.loop-index.invariant.2),
       table_more (classes_of start) c.loop-index.tables.items k c.new.result _ c.loop-index.invariant.2 c.in_ok-push.ensures.items c.loop-index.invariant.3 (subst (IsTable (classes_of start) k) (sym c.new.ensures) (table_of (classes_of start) k walk w)),
     )
 
 pub returns-clause-ranks : goal.returns-clause-ranks
 returns-clause-ranks c =
-    let start = c.args.members.now.items in
-    let members = c.loop-index.members.items in
-    let long = sym (long_classes members) ∙ (ap length c.loop-index.invariant.0 ∙ long_classes start) in
+    let start = c.args.entries.now.items in
+    let entries = c.loop-index.entries.items in
+    let long = sym (long_classes entries) ∙ (ap length c.loop-index.invariant.0 ∙ long_classes start) in
     let same = long_classes start in (
-      ranked_by_heights members (classes_of start) c.loop-index.index c.loop-index.invariant.0 (omega (arith, long))
+      ranked_by_heights entries (classes_of start) c.loop-index.index c.loop-index.invariant.0 (omega (arith, long))
           (subst (λ n. AreWithin n (classes_of start)) (sym long) c.requires.within) c.loop-index.invariant.1,
       record {
         one_each = omega (arith, c.loop-index.invariant.2, same, long);

@@ -1,13 +1,13 @@
 use Rattle.std.proofs.Common.{◌≡◌, ◌<◌, ℕ, [], get_or, length}
-use Rattle.cls_set.specs.declared.members.Member.{Member}
-use Rattle.cls_set.specs.Members.{classes_of, IsTable}
+use Rattle.cls_set.specs.declared.entries.ClassEntry.{ClassEntry}
+use Rattle.cls_set.specs.Entries.{classes_of, IsTable}
 use Rattle.cls_set.proofs.Heights.{IsHeight}
 use Rattle.cls_set.proofs.walking.rank.Given as goal
 
 -- the classes are the same; those so far are ranked by the number of their supertypes, and have their tables
 abbrev pub invariant-loop-index : goal.invariant-loop-index
 invariant-loop-index l =
-    (classes_of l.members.items ≡ classes_of l.fn.members.items)
-    × ((j : ℕ) (d : Member) → j < l.index → IsHeight (classes_of l.fn.members.items) j (get_or l.members.items j d).rank)
+    (classes_of l.entries.items ≡ classes_of l.fn.entries.items)
+    × ((j : ℕ) (d : ClassEntry) → j < l.index → IsHeight (classes_of l.fn.entries.items) j (get_or l.entries.items j d).rank)
     × (length l.tables.items ≡ l.index)
-    × ((j : ℕ) → j < l.index → IsTable (classes_of l.fn.members.items) j (get_or l.tables.items j []))
+    × ((j : ℕ) → j < l.index → IsTable (classes_of l.fn.entries.items) j (get_or l.tables.items j []))

@@ -9,11 +9,11 @@ returns-in_err-push-in-Ok-clause-refused c = known_error c.from_residual.result 
 
 pub returns-in-Err-clause-refused : goal.returns-in-Err-clause-refused
 returns-in-Err-clause-refused c =
-    at_fault c.loop-place.place c.index-files-place.result c.in-Err.fault c.loop-place.classes.items
-    (found c.args.files.now c.loop-place.place c.index-files-place.result (omega (arith, c.loop-place-test.true, c.loop-place.auto.place-end)) c.index-files-place.is) c.loop-place.invariant (c.in-Err.ensures).fault
+    at_fault c.loop-index.index c.index-files-index.result c.in-Err.fault c.loop-index.classes.items
+    (found c.args.files.now c.loop-index.index c.index-files-index.result (omega (arith, c.loop-index-test.true, c.loop-index.auto.index-end)) c.index-files-index.is) c.loop-index.invariant (c.in-Err.ensures).fault
 
-pub loop-place-preserved : goal.loop-place-preserved
-loop-place-preserved c =
-    rw (add-one c.loop-place.place, (c.in_ok-push-in-Ok.ensures).items)
-    (AreSpelled-next c.args.files.now c.loop-place.place c.index-files-place.result c.loop-place.classes.items c.in-Ok.class
-    (found c.args.files.now c.loop-place.place c.index-files-place.result (omega (arith, c.loop-place-test.true, c.loop-place.auto.place-end)) c.index-files-place.is) c.loop-place.invariant (c.in-Ok.ensures).read)
+pub loop-index-preserved : goal.loop-index-preserved
+loop-index-preserved c =
+    rw (add-one c.loop-index.index, (c.in_ok-push-in-Ok.ensures).items)
+    (AreSpelled-next c.args.files.now c.loop-index.index c.index-files-index.result c.loop-index.classes.items c.in-Ok.class
+    (found c.args.files.now c.loop-index.index c.index-files-index.result (omega (arith, c.loop-index-test.true, c.loop-index.auto.index-end)) c.index-files-index.is) c.loop-index.invariant (c.in-Ok.ensures).read)

@@ -8,5 +8,5 @@ find_frames-requires-clause-starts c =
     rw (c.as_slice-offsets.ensures) (rw (← c.method.view_is) at stand)
 
 pub check-requires-clause-within : goal.check-requires-clause-within
-check-requires-clause-within c = λ place f e.
-    within_at c.args.method.now c.in-Ok.frames c.in-Ok.ensures.within place f e
+check-requires-clause-within c = λ index f e.
+    within_at c.args.method.now c.in-Ok.frames c.in-Ok.ensures.within index f e

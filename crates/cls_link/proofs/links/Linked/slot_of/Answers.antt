@@ -13,8 +13,8 @@ slot_in-requires-clause-few c =
     let at = subst (λ cs. slice_get cs c.args.field.class.0 ≡ Some c.class.result.now) c.set.ensures c.class.ensures in
     let table = subst (λ cs. AreFieldCounts cs c.self.inside.field_counts.items) (ap (λ (l : Links). l.classes) c.self.view_is) c.self.invariant.2 in
     let counted = count_at classes c.self.inside.field_counts.items c.args.field.class c.from.result c.index-count.result.now table (class_in classes c.args.field c.requires) c.from.ensures c.index-count.ensures in
-    subst (λ fs. count_by is_instance (drop c.args.field.place fs) ≤ c.index-count.result.now) (sym c.as_slice-fields.ensures.items)
-    (few_last classes c.args.field.class c.class.result.now c.args.field.place c.index-count.result.now at counted)
+    subst (λ fs. count_by is_instance (drop c.args.field.index fs) ≤ c.index-count.result.now) (sym c.as_slice-fields.ensures.items)
+    (few_last classes c.args.field.class c.class.result.now c.args.field.index c.index-count.result.now at counted)
 
 pub returns : goal.returns
 returns c =

@@ -2,7 +2,7 @@ use Rattle.std.proofs.Common.{sym, subst}
 use Rattle.std.proofs.lemmas.Result.{err_from_is_err_and}
 use Rattle.cls_set.specs.Building.{origins_of}
 use Rattle.cls_set.specs.ClassRules.{IsFirstRuleFault, KeepAll}
-use Rattle.cls_set.specs.Members.{classes_of, AreArranged, HaveTables}
+use Rattle.cls_set.specs.Entries.{classes_of, AreArranged, HaveTables}
 use Rattle.cls_set.proofs.Arranged.{are_members, has_classes, make_a_set, rule_fault}
 use Rattle.cls_set.proofs.Turns.{only_memory}
 use Rattle.cls_set.proofs.class_set.ClassSet.build.Goals as goal

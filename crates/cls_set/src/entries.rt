@@ -4,42 +4,42 @@
 ghost use Rattle.std.specs.Prelude.{◌≡◌, ◌<◌, ◌≤◌, ◌↔◌, All, IfSome, IsTrue, Some, false, length, slice_index_or};
 ghost use Rattle.std.specs.List.Sorted.{IsStrictlySortedBy};
 ghost use Rattle.cls_set.specs.Classes.{name_at, name_cmp, names, number_of};
-ghost use Rattle.cls_set.specs.Members.{classes_of, IsRanked};
+ghost use Rattle.cls_set.specs.Entries.{classes_of, IsRanked};
 ghost use Rattle.cls_set.specs.Subtypes.{IsSubclass};
 
 use super::{Class, ClassId};
 
 // A class, and a number that is above those of its direct supertypes.
 #[derive(Debug, Drop)]
-pub(crate) struct Member {
+pub(crate) struct ClassEntry {
     pub(crate) class: Class,
     pub(crate) rank: usize,
 }
 
 // The number of the class of this name.
-pub(crate) fn find(members: &[Member], name: &[u8]) -> Option<ClassId>
-    requires ordered { IsStrictlySortedBy name_cmp (names (classes_of members.now)) }
-    requires few { length members.now ≤ 4096 }
-    ensures number { result ≡ number_of (classes_of members.now) name.now }
-    ensures in_set { IfSome result (λ id. id.0 < length (classes_of members.now)) }
-    ensures named { IfSome result (λ id. name_at (classes_of members.now) id ≡ Some name.now) }
+pub(crate) fn find(entries: &[ClassEntry], name: &[u8]) -> Option<ClassId>
+    requires ordered { IsStrictlySortedBy name_cmp (names (classes_of entries.now)) }
+    requires few { length entries.now ≤ 4096 }
+    ensures number { result ≡ number_of (classes_of entries.now) name.now }
+    ensures in_set { IfSome result (λ id. id.0 < length (classes_of entries.now)) }
+    ensures named { IfSome result (λ id. name_at (classes_of entries.now) id ≡ Some name.now) }
 {
-    match members.binary_search_by(|member| member.class.file.name.as_bytes().cmp(name)) {
+    match entries.binary_search_by(|entry| entry.class.file.name.as_bytes().cmp(name)) {
         Ok(index) => Some(ClassId(index as u16)),
         Err(_) => None,
     }
 }
 
 // Whether a class is another or a subclass of it.
-pub(crate) fn is_below(members: &[Member], sub: ClassId, sup: ClassId) -> bool
-    requires ranked { All (IsRanked members.now) members.now }
-    requires in_set { sub.0 < length members.now }
-    ensures { IsTrue result ↔ IsSubclass (classes_of members.now) sub sup }
+pub(crate) fn is_below(entries: &[ClassEntry], sub: ClassId, sup: ClassId) -> bool
+    requires ranked { All (IsRanked entries.now) entries.now }
+    requires in_set { sub.0 < length entries.now }
+    ensures { IsTrue result ↔ IsSubclass (classes_of entries.now) sub sup }
 {
     let mut class = sub;
     'up: while class != sup {
-        let member = &members[usize::from(class.0)];
-        match member.class.superclass {
+        let entry = &entries[usize::from(class.0)];
+        match entry.class.superclass {
             None => return false,
             Some(superclass) => class = superclass,
         }
