@@ -12,7 +12,7 @@ use Rattle.cls_link.specs.declared.linked.LinkedMethod.{LinkedMethod}
 use Rattle.cls_link.specs.Links.{Declared, IsLinked, declared_in, declared_from, is_declared_as, number_from, number_of}
 use Rattle.cls_search.specs.declared.methods.MethodIndex.{MethodIndex}
 use Rattle.cls_link.specs.Numbers.{number_in, starts}
-use Rattle.cls_search.specs.MethodSearches.{place_from, method_in, own_method}
+use Rattle.cls_search.specs.MethodSearches.{first_from, method_in, own_method}
 
 suc_moves : (p i : ℕ) → suc p + i ≡ p + suc i
 suc_moves p i = omega arith
@@ -63,12 +63,12 @@ number_none : (k : ℕ) (ds : List Declared) (class : ClassId) (n t : List ℕ) 
 number_none k ds class n t none = subst (λ xs. number_from k xs class n t ≡ None) (append-nil ds) (number_passed k ds [] class n t none)
 
 -- the number of a method by its index in its class
-number_among : (s k p : ℕ) (class : ClassId) (name : List ℕ) (ms : List Method) (post : List Declared) (n t : List ℕ) → All (λ d. d.class.0 ≢ class.0) post → number_from (s + k) (declared_in class name p ms ++ post) class n t ≡ option_map (λ i. record { 0 = s + i }) (place_from k ms n t)
+number_among : (s k p : ℕ) (class : ClassId) (name : List ℕ) (ms : List Method) (post : List Declared) (n t : List ℕ) → All (λ d. d.class.0 ≢ class.0) post → number_from (s + k) (declared_in class name p ms ++ post) class n t ≡ option_map (λ i. record { 0 = s + i }) (first_from k ms n t)
 number_among s k p class name [] post n t none = number_none (s + k) post class n t none
 number_among s k p class name (m ∷ ms) post n t none =
     let own = same_number class.0 in
     rw own
-    (elim (bytes_eq m.name n && bytes_eq m.descriptor t) as (λ b. cond b (Some (record { 0 = s + k })) (number_from (suc (s + k)) (declared_in class name (suc p) ms ++ post) class n t) ≡ option_map (λ i. record { 0 = s + i }) (cond b (Some k) (place_from (suc k) ms n t))) [
+    (elim (bytes_eq m.name n && bytes_eq m.descriptor t) as (λ b. cond b (Some (record { 0 = s + k })) (number_from (suc (s + k)) (declared_in class name (suc p) ms ++ post) class n t) ≡ option_map (λ i. record { 0 = s + i }) (cond b (Some k) (first_from (suc k) ms n t))) [
       | true ↦ refl
       | false ↦ ap (λ i. number_from i (declared_in class name (suc p) ms ++ post) class n t) (next s k) ∙ number_among s (suc k) (suc p) class name ms post n t none
     ])
@@ -82,7 +82,7 @@ declared_around k (c ∷ cs) (suc n) d h =
     ap (λ ds. first ++ ds) (declared_around (suc k) cs n d (omega arith) ∙ ap (λ i. declared_from (suc k) (take n cs) ++ last i) (suc_moves k n)) ∙ sym (append_assoc first (declared_from (suc k) (take n cs)) (last (k + suc n)))
 
 -- the number of a method of a class is the number of the class's first and its index
-pub number_by_place : (cs : List Class) (class : ClassId) (c : Class) (n t : List ℕ) → class.0 < length cs → c ≡ get_or cs class.0 c → number_of cs class n t ≡ option_map (λ i. record { 0 = length (declared_from 0 (take class.0 cs)) + i }) (place_from 0 c.file.methods n t)
+pub number_by_place : (cs : List Class) (class : ClassId) (c : Class) (n t : List ℕ) → class.0 < length cs → c ≡ get_or cs class.0 c → number_of cs class n t ≡ option_map (λ i. record { 0 = length (declared_from 0 (take class.0 cs)) + i }) (first_from 0 c.file.methods n t)
 number_by_place cs class c n t h is =
     let pre = declared_from 0 (take class.0 cs) in
     let post = declared_from (suc (0 + class.0)) (drop (suc class.0) cs) in
@@ -160,7 +160,7 @@ numbers cs class None = refl
 numbers cs class (Some i) = refl
 
 abbrev own_of : ClassId → List ℕ → List ℕ → Class → Option MethodIndex
-own_of class n t c = option_map (λ i. record { class = class; index = i }) (place_from 0 c.file.methods n t)
+own_of class n t c = option_map (λ i. record { class = class; index = i }) (first_from 0 c.file.methods n t)
 
 -- the number of a class's method is that of what it declares
 pub number_found : (cs : List Class) (class : ClassId) (n t : List ℕ) → number_of cs class n t ≡ option_map (number_in cs) (own_method cs n t class)
@@ -168,7 +168,7 @@ number_found cs class n t =
     elim (slice_get_cases cs class.0).1 [
       | inl r ↦
           number_by_place cs class r.0 n t r.1 (sym r.3)
-          ∙ (numbers cs class (place_from 0 r.0.file.methods n t) ∙ ap (λ o. option_map (number_in cs) (option_and_then (own_of class n t) o)) (sym r.2))
+          ∙ (numbers cs class (first_from 0 r.0.file.methods n t) ∙ ap (λ o. option_map (number_in cs) (option_and_then (own_of class n t) o)) (sym r.2))
       | inr r ↦ number_absent cs class n t r.0 ∙ ap (λ o. option_map (number_in cs) (option_and_then (own_of class n t) o)) (sym r.1)
     ]
 

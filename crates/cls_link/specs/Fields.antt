@@ -1,4 +1,5 @@
--- Where an object keeps its fields.
+-- Where an object keeps its fields: the JVM "does not mandate any particular internal structure for objects" (JVMS 2.7); here the
+-- instance fields of a class follow those of its superclass.
 use Rattle.std.specs.Prelude.{◌≡◌, ◌<◌, ◌++◌, ◌==◌, ℕ, suc, Bool, Option, Some, None, List, [], ◌∷◌, IsTrue, bit_and, get_or, if◌then◌else◌, length, slice_get}
 use Rattle.cf_reader.specs.declared.class_file.Field.{Field}
 use Rattle.cf_reader.specs.declared.flags.TheConstants.Flags.{STATIC}

@@ -1,4 +1,5 @@
--- What is demanded of the methods of a class set, and which fault is named if one breaks a rule.
+-- What is demanded of the methods of a class set (JVMS 4.9.1, 5.4.3), and which fault is named if one breaks a rule: the order of
+-- faults is this project's own.
 use Rattle.std.specs.Prelude.{◌≡◌, ℕ, Option, Some, None, List, ◌∷◌, ◌++◌, IsSomeAnd, IfSome, All, MatchOption}
 use Rattle.cf_insns.specs.declared.fault.CodeFault.{CodeFault}
 use Rattle.cf_insns.specs.declared.fault.CodeFault.TheVariants as code

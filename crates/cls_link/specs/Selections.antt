@@ -1,4 +1,5 @@
--- The methods that a name and a descriptor mean, by their numbers, and the method that a call runs.
+-- The methods that a name and a descriptor mean, by their numbers (JVMS 5.4.3.3, 5.4.3.4), and the method that a call runs: the
+-- selected one, which may override the resolved one (JVMS 5.4.5, 6.5).
 use Rattle.std.specs.Prelude.{◌≡◌, ◌==◌, ℕ, Bool, true, not, Option, Some, None, List, [], ◌∷◌, bit_and, if◌then◌else◌, option_and_then, IsSome}
 use Rattle.std.specs.Option.{option_map_or}
 use Rattle.cf_reader.specs.declared.class_file.Method.{Method}

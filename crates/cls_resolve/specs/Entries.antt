@@ -1,4 +1,5 @@
--- What is kept of an entry of the constant pool of a class, for all the instructions that name it.
+-- What is kept of an entry of the constant pool of a class, for all the instructions that name it: an entry is resolved once
+-- (JVMS 5.4.3).
 use Rattle.std.specs.Prelude.{◌≡◌, ◌≢◌, ◌↔◌, ◌<◌, ℕ, Some, None, List, Bool, IsTrue, MatchOption, codes, length}
 use Rattle.cf_pool.specs.declared.pool.MemberKind.TheVariants as kind
 use Rattle.cf_pool.specs.Pools.{NamedMember, class_at, member_at}

@@ -1,4 +1,4 @@
--- The method that a name and a descriptor mean.
+-- The method that a name and a descriptor mean in a class or interface, by the search of method resolution (JVMS 5.4.3.3, 5.4.3.4).
 use Rattle.std.specs.Prelude.{◌==◌, ◌&&◌, ℕ, suc, Bool, false, not, Option, Some, None, List, [], ◌∷◌, IsTrue, bit_and, bytes_eq, codes, if◌then◌else◌, option_and_then, option_map, slice_get}
 use Rattle.std.specs.Option.{option_map_or}
 use Rattle.cf_reader.specs.declared.class_file.Method.{Method}
@@ -9,10 +9,10 @@ use Rattle.cls_search.specs.declared.methods.MethodIndex.{MethodIndex}
 use Rattle.cls_search.specs.Searches.{Finds, superclass_of, supertypes_of}
 
 -- the index of the first method with this name and descriptor, where the first has the index k
-abbrev pub place_from : ℕ → List Method → List ℕ → List ℕ → Option ℕ
-place_from k [] name descriptor = None
-place_from k (m ∷ ms) name descriptor =
-    if bytes_eq m.name name && bytes_eq m.descriptor descriptor then Some k else place_from (suc k) ms name descriptor
+abbrev pub first_from : ℕ → List Method → List ℕ → List ℕ → Option ℕ
+first_from k [] name descriptor = None
+first_from k (m ∷ ms) name descriptor =
+    if bytes_eq m.name name && bytes_eq m.descriptor descriptor then Some k else first_from (suc k) ms name descriptor
 
 -- whether a class is an interface (JVMS 4.1)
 abbrev pub is_interface : List Class → ClassId → Bool
@@ -44,7 +44,7 @@ pub data Resolves {A : Type 0} (classes : List Class) (class : ClassId) (name : 
 -- the method that a class declares with this name and descriptor: its class, and its index among the methods of that class
 abbrev pub own_method : List Class → List ℕ → List ℕ → ClassId → Option MethodIndex
 own_method classes name descriptor class =
-    option_and_then (λ (c : Class). option_map (λ index. record { class = class; index = index }) (place_from 0 c.file.methods name descriptor)) (slice_get classes class.0)
+    option_and_then (λ (c : Class). option_map (λ index. record { class = class; index = index }) (first_from 0 c.file.methods name descriptor)) (slice_get classes class.0)
 
 -- the method itself
 abbrev pub method_in : List Class → MethodIndex → Option Method

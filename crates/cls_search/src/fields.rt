@@ -2,7 +2,7 @@
 
 ghost use Rattle.std.specs.Prelude.{◌≡◌, ◌<◌, ◌&&◌, IfSome, IsSome, bytes_eq, length};
 ghost use Rattle.cls_search.specs.FieldSearches as spec;
-ghost use Rattle.cls_search.specs.FieldSearches.{place_from, field_at, ResolvesField};
+ghost use Rattle.cls_search.specs.FieldSearches.{first_from, field_at, ResolvesField};
 ghost use Rattle.cls_search.specs.Searches.{FindNothing, supertypes_of};
 ghost use Rattle.cls_set.specs.Sets.{IsClassSet};
 
@@ -24,7 +24,7 @@ fn is_named(field: &Field, name: &[u8], descriptor: &[u8]) -> bool
 
 // The index of the first field with this name and descriptor.
 fn find(fields: &[Field], name: &[u8], descriptor: &[u8]) -> Option<usize>
-    ensures found { result ≡ place_from 0 fields.now name.now descriptor.now }
+    ensures found { result ≡ first_from 0 fields.now name.now descriptor.now }
     ensures within { IfSome result (λ index. index < length fields.now) }
 {
     for (index, field) in fields.iter().enumerate() {

@@ -2,7 +2,7 @@
 
 ghost use Rattle.std.specs.Prelude.{◌≡◌, ◌<◌, ◌∷◌, ◌&&◌, [], IfSome, IsSome, bytes_eq, length};
 ghost use Rattle.cls_search.specs.MethodSearches as spec;
-ghost use Rattle.cls_search.specs.MethodSearches.{method_in, own_of_interface, place_from, Resolves};
+ghost use Rattle.cls_search.specs.MethodSearches.{method_in, own_of_interface, first_from, Resolves};
 ghost use Rattle.cls_search.specs.Searches.{Finds, FindNothing, superclass_of, supertypes_of};
 ghost use Rattle.cls_set.specs.Sets.{IsClassSet};
 
@@ -31,7 +31,7 @@ fn is_named(method: &Method, name: &[u8], descriptor: &[u8]) -> bool
 
 // The index of the first method with this name and descriptor.
 fn find(methods: &[Method], name: &[u8], descriptor: &[u8]) -> Option<usize>
-    ensures found { result ≡ place_from 0 methods.now name.now descriptor.now }
+    ensures found { result ≡ first_from 0 methods.now name.now descriptor.now }
     ensures within { IfSome result (λ index. index < length methods.now) }
 {
     for (index, method) in methods.iter().enumerate() {

@@ -11,6 +11,8 @@ use Rattle.ver_frames.specs.Frames.{Frame}
 use Rattle.ver_frames.specs.Method.{Subject}
 use Rattle.ver_frames.specs.StackMapFormat.{DeclaresFrames}
 
+-- A class is type safe if each of its methods is (JVMS 4.10.1).
+
 -- a method as declared and as linked: none where it has no code
 unfoldable pub subject_of : List Class → LinkedMethod → Option Subject
 subject_of classes m =

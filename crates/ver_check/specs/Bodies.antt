@@ -7,6 +7,8 @@ use Rattle.ver_frames.specs.Frames.{Frame}
 use Rattle.ver_frames.specs.Method.{Subject, opening, result_type}
 use Rattle.ver_frames.specs.declared.vtype.VType.{VType}
 
+-- A method with code as type checking sees it (JVMS 4.10.1.1, 4.10.1.6).
+
 -- what is checked of a method with code: the set that it is linked in, the number of its class, whether it is an `<init>`, the frame in
 -- which it begins, the type of its result, its limits, its instructions with the offset of each, what its switches go to, and the frames
 -- that are declared, each with its offset

@@ -11,7 +11,8 @@ use Rattle.ver_check.specs.declared.stop.Stop.TheVariants.{Broken, Missing, Memo
 use Rattle.ver_frames.specs.Assignable.{IsFrameAssignable}
 use Rattle.ver_frames.specs.Frames.{Frame}
 
--- The one pass over a body, with one current frame.
+-- The one pass over a body, with one current frame: the declared frames and the instructions are merged by offset, and each
+-- instruction is checked from the frame that comes in (JVMS 4.10.1.6).
 
 -- a frame comes in at an index, and the pass goes on there with this one: the frame that is declared
 -- there, or the one that came in

@@ -2,6 +2,8 @@ use Rattle.std.specs.Prelude.{◌≡◌, length}
 use Rattle.std.specs.List.Sorted.{IsStrictlyIncreasing}
 use Rattle.cls_link.specs.declared.linked.LinkedCode.{LinkedCode}
 
+-- The instructions of a method, each after the one before it (JVMS 4.9.1).
+
 -- the instructions stand at rising offsets
 pub record IsListed (code : LinkedCode) : Type 0 where
   pub rising : IsStrictlyIncreasing code.offsets

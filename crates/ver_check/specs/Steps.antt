@@ -1,4 +1,5 @@
--- What the effects of instructions are made of: each gives what comes, or the first rule that is broken.
+-- What the effects of instructions are made of: operands are popped and pushed, local variables read and changed (JVMS 4.10.1.4).
+-- Each gives what comes, or the first rule that is broken.
 use Rattle.std.specs.Prelude.{ℕ, Bool, nat_lt, if◌then◌else◌, Option, Some, None, Result, Ok, Err, List, [], ◌∷◌, length, slice_get, slice_set}
 use Rattle.cf_insns.specs.declared.insn.StackOperation.{StackOperation}
 use Rattle.cf_insns.specs.declared.insn.StackOperation.TheVariants.{Pop, Pop2, Dup, DupX1, DupX2, Dup2, Dup2X1, Dup2X2, Swap}

@@ -8,6 +8,8 @@ use Rattle.cls_set.specs.Subtypes.{IsSubclass}
 use Rattle.ver_frames.specs.declared.vtype.VType.{VType}
 use Rattle.ver_frames.specs.declared.vtype.VType.TheVariants.{Top, Int, Null, Object, IntArray, Uninitialized, UninitializedThis}
 
+-- Which types and frames may stand for which (JVMS 4.10.1.2, 4.10.1.4).
+
 -- an object of the first class may stand where one of the second is asked: the second is an
 -- interface, which is treated like java/lang/Object, or a superclass of the first or the first itself
 abbrev pub IsObjectAssignable : List Class → ClassId → ClassId → Type 0

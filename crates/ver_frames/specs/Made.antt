@@ -1,4 +1,5 @@
--- The class that a `new` of a method makes an object of, by the offset of the instruction.
+-- The class that a `new` of a method makes an object of, by the offset of the instruction, as the type uninitialized(offset) names
+-- it (JVMS 4.7.4, 4.10.1.2).
 use Rattle.std.specs.Prelude.{ℕ, Option, Some, None, option_and_then, List, slice_get}
 use Rattle.cls_link.specs.Targets.{index_from}
 use Rattle.cls_link.specs.declared.linked.LinkedInsn.{LinkedInsn}

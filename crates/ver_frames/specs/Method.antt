@@ -9,6 +9,8 @@ use Rattle.ver_frames.specs.Types.{field_vtype}
 use Rattle.ver_frames.specs.declared.vtype.VType.{VType}
 use Rattle.ver_frames.specs.declared.vtype.VType.TheVariants.{Object, UninitializedThis}
 
+-- A method whose frames are declared (JVMS 4.6, 4.7.3).
+
 -- a method with code: the set that it is linked in, its class and that class's number, its
 -- declaration, and its code as read and as linked
 pub record Subject : Type 0 where

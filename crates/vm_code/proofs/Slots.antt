@@ -69,9 +69,9 @@ module _ (field : FieldIndex) (class : ClassId) where
   place_at k rest go true (suc i) e = let later = go i e in omega (arith, later)
   place_at k rest go false i e = let later = go i e in omega (arith, later)
 
-  place_from : (k : ℕ) (fs : List Field) (i : ℕ) → slice_get (instance_fields class k fs) i ≡ Some field → k ≤ field.index
-  place_from k [] i e = absurd (none_some e)
-  place_from k (f ∷ fs) i e = place_at k (instance_fields class (suc k) fs) (place_from (suc k) fs) (is_instance f) i e
+  first_from : (k : ℕ) (fs : List Field) (i : ℕ) → slice_get (instance_fields class k fs) i ≡ Some field → k ≤ field.index
+  first_from k [] i e = absurd (none_some e)
+  first_from k (f ∷ fs) i e = place_at k (instance_fields class (suc k) fs) (first_from (suc k) fs) (is_instance f) i e
 
   index_at : (k j : ℕ) (rest : List FieldIndex) → ((i : ℕ) → slice_get rest i ≡ Some field → suc k ≤ field.index)
       → ((j i : ℕ) → slice_get rest i ≡ Some field → index_of field j rest ≡ Some (j + i)) → (b : Bool) (i : ℕ) → slice_get (chosen k rest b) i ≡ Some field
@@ -88,7 +88,7 @@ module _ (field : FieldIndex) (class : ClassId) where
       → index_of field j (instance_fields class k fs) ≡ Some (j + i)
   own_index k j [] i e = absurd (none_some e)
   own_index k j (f ∷ fs) i e =
-      index_at k j (instance_fields class (suc k) fs) (place_from (suc k) fs) (λ j i. own_index (suc k) j fs i) (is_instance f) i e
+      index_at k j (instance_fields class (suc k) fs) (first_from (suc k) fs) (λ j i. own_index (suc k) j fs i) (is_instance f) i e
 
   none_at : (k : ℕ) (rest : List FieldIndex) → nat_eq field.class.0 class.0 ≡ false → IsAmongNone field rest → (b : Bool) → IsAmongNone field (chosen k rest b)
   none_at k rest e none true = (false_and (nat_eq field.class.0 class.0) (nat_eq field.index k) e, none)
