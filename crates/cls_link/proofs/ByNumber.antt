@@ -5,7 +5,7 @@ use Rattle.cls_set.specs.declared.class.Class.{Class}
 use Rattle.space_ids.specs.declared.ids.ClassId.{ClassId}
 use Rattle.cls_search.specs.Searches as searches
 use Rattle.cls_search.specs.Searches.{Finds, superclass_of, supertypes_of}
-use Rattle.cls_link.specs.declared.linked.MethodId.{MethodId}
+use Rattle.cls_link.specs.declared.linked_code.MethodId.{MethodId}
 use Rattle.cls_link.specs.Selections.{instance_method}
 use Rattle.cls_search.specs.MethodSearches as selections
 use Rattle.cls_search.specs.MethodSearches.{is_interface, own_of_interface, Resolves}

@@ -7,7 +7,7 @@ use Rattle.cls_set.specs.declared.class.Class.{Class}
 use Rattle.space_ids.specs.declared.ids.ClassId.{ClassId}
 use Rattle.cls_link.specs.declared.fault.LinkFault.{LinkFault}
 use Rattle.cls_link.specs.declared.fault.LinkFault.TheVariants.{Broken, Memory}
-use Rattle.cls_link.specs.declared.linked.LinkedMethod.{LinkedMethod}
+use Rattle.cls_link.specs.declared.linked_code.LinkedMethod.{LinkedMethod}
 use Rattle.cls_link.specs.LinkFaults.{IsFaultOf, IsMethodFault, IsSoundMethod}
 use Rattle.cls_link.specs.Links.{Declared, declared_in, declared_from, IsLinked}
 

@@ -14,7 +14,7 @@ use Rattle.cls_link.specs.Fields as fields
 use Rattle.cls_link.specs.Fields.{is_instance, instance_fields, AreFieldCounts, HasFields, CountsFields, IsFieldSlot}
 use Rattle.cls_search.specs.FieldSearches.{field_at}
 use Rattle.cls_search.specs.declared.fields.FieldIndex.{FieldIndex}
-use Rattle.cls_link.specs.declared.linked.FieldSlot.{FieldSlot}
+use Rattle.cls_link.specs.declared.linked_code.FieldSlot.{FieldSlot}
 
 cases : (b : Bool) → (b ≡ true) ⊎ (b ≡ false)
 cases true = inl refl

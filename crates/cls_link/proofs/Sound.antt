@@ -15,7 +15,7 @@ use Rattle.space_ids.specs.declared.ids.ClassId.{ClassId}
 use Rattle.cls_link.specs.declared.fault.LinkFault.{LinkFault}
 use Rattle.cls_link.specs.declared.fault.LinkFault.TheVariants.{Broken, Memory}
 use Rattle.cls_resolve.specs.declared.rule.LinkRule.{LinkRule}
-use Rattle.cls_link.specs.declared.linked.LinkedCode.{LinkedCode}
+use Rattle.cls_link.specs.declared.linked_code.LinkedCode.{LinkedCode}
 use Rattle.cls_resolve.specs.declared.references.Asked.{Asked}
 use Rattle.cls_link.specs.declared.stop.Stop.{Stop}
 use Rattle.cls_link.specs.declared.stop.Stop.TheVariants as stops

@@ -5,7 +5,7 @@ use Rattle.cf_reader.specs.declared.class_file.Field.{Field}
 use Rattle.cf_reader.specs.declared.flags.TheConstants.Flags.{STATIC}
 use Rattle.cls_set.specs.declared.class.Class.{Class}
 use Rattle.space_ids.specs.declared.ids.ClassId.{ClassId}
-use Rattle.cls_link.specs.declared.linked.FieldSlot.{FieldSlot}
+use Rattle.cls_link.specs.declared.linked_code.FieldSlot.{FieldSlot}
 use Rattle.cls_search.specs.declared.fields.FieldIndex.{FieldIndex}
 use Rattle.cls_search.specs.FieldSearches.{field_at, ResolvesField}
 

@@ -1,7 +1,7 @@
 -- How the number of a method is found.
 use Rattle.std.specs.Prelude.{ℕ, ◌+◌, List, [], ◌∷◌, length, take}
 use Rattle.cls_set.specs.declared.class.Class.{Class}
-use Rattle.cls_link.specs.declared.linked.MethodId.{MethodId}
+use Rattle.cls_link.specs.declared.linked_code.MethodId.{MethodId}
 use Rattle.cls_search.specs.declared.methods.MethodIndex.{MethodIndex}
 use Rattle.cls_link.specs.Links.{declared_from}
 

@@ -6,9 +6,9 @@ use Rattle.cf_reader.specs.declared.class_file.Method.{Method}
 use Rattle.cf_reader.specs.declared.flags.TheConstants.Flags.{STATIC}
 use Rattle.cls_set.specs.declared.class.Class.{Class}
 use Rattle.space_ids.specs.declared.ids.ClassId.{ClassId}
-use Rattle.cls_link.specs.declared.linked.MethodId.{MethodId}
-use Rattle.cls_link.specs.declared.linked.Selection.{Selection}
-use Rattle.cls_link.specs.declared.linked.Selection.TheVariants.{Runs, Abstract, Absent}
+use Rattle.cls_link.specs.declared.linked_code.MethodId.{MethodId}
+use Rattle.cls_link.specs.declared.linked_code.Selection.{Selection}
+use Rattle.cls_link.specs.declared.linked_code.Selection.TheVariants.{Runs, Abstract, Absent}
 use Rattle.cls_link.specs.Links.{method_at, number_of}
 use Rattle.cls_search.specs.MethodSearches.{Resolves}
 use Rattle.cls_search.specs.Searches.{Finds, superclass_of}

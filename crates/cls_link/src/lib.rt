@@ -12,16 +12,16 @@ pub use cls_set::{
     MethodDescriptor, Numbered, Pool, Row, SetFault, SetRule, Shared, Table, Text,
 };
 pub use fault::LinkFault;
-pub use linked::{
+pub use linked::{Linked, link};
+pub use linked_code::{
     FieldSlot, LinkedCode, LinkedInsn, LinkedMethod, LinkedSwitch, MethodId, Selection,
 };
-pub use links::{Linked, link};
 
 mod fault;
 mod fields;
 mod linked;
+mod linked_code;
 mod linking;
-mod links;
 mod methods;
 mod naming;
 mod stop;

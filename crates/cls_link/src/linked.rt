@@ -1,160 +1,244 @@
-//! Methods whose instructions are resolved.
+//! Linked class sets: their look-ups.
 
-use cf_insns::{
-    ArrayOperation, BinaryOperator, Condition, Equality, InvokeKind, StackOperation, UnaryOperator,
-    ValueKind,
-};
-use cls_resolve::{CastType, MemberIndex};
-use cls_set::{ClassId, Row};
+ghost use Rattle.std.specs.Prelude.{◌≡◌, IfOk, IfErr, OnOk};
+ghost use Rattle.cls_link.specs.LinkFaults.{AreSound, IsLinkFault};
+ghost use Rattle.cls_link.specs.Links.{AreLinks};
 
-/// A method's number: methods are numbered from 0 by class, and in a class as declared.
-#[derive(Clone, Copy, Debug, PartialEq, Eq)]
-pub struct MethodId(pub u32);
+use super::fields::{count_all, slot_in};
+use super::linking::link_class;
+use super::methods::selected;
+use super::{FieldSlot, LinkFault, LinkedMethod, MemberIndex, MethodId, Selection};
+use cls_search::{FieldIndex, MethodIndex, find_field, find_method, own_method};
+use cls_set::{ClassId, ClassSet, Method};
+use std::alloc::Global;
+use std::marker::Model;
 
-/// The method that a call runs (JVMS 5.4.5, 6.5).
-#[derive(Clone, Copy, Debug, PartialEq, Eq)]
-pub enum Selection {
-    /// One with code.
-    Runs(MethodId),
-    /// An abstract one: AbstractMethodError is thrown, or before it the error of a method that is
-    /// not public.
-    Abstract(MethodId),
-    /// There is none: AbstractMethodError is thrown.
-    Absent,
-}
-
-/// Where an object keeps an instance field: its index, from 0, among the fields of an object of the class
-/// that declares it, those of its superclasses first. So the fields of an object have different slots,
-/// and an inherited field has the same one in each subclass.
-#[derive(Clone, Copy, Debug, PartialEq, Eq)]
-pub struct FieldSlot(pub u32);
-
-/// An instruction whose branch targets are indices into the method's list of instructions, and whose
-/// names are resolved. It takes 8 bytes: the targets of a switch lie in a row of the method's.
-#[derive(Clone, Copy, Debug, PartialEq, Eq)]
-pub enum LinkedInsn {
-    /// nop.
-    Nop,
-    /// aconst_null: pushes null.
-    Null,
-    /// iconst_m1 to iconst_5, bipush, sipush, ldc, ldc_w and getstatic: pushes an int. A static field
-    /// holds the constant of its ConstantValue attribute for good.
-    Constant(i32),
-    /// iload, aload: pushes a local variable.
-    Load(ValueKind, u16),
-    /// istore, astore: pops into a local variable.
-    Store(ValueKind, u16),
-    /// iinc: adds to a local variable.
-    Increment {
-        local: u16,
-        by: i16,
-    },
-    /// pop to swap.
-    Stack(StackOperation),
-    /// ineg, i2b, i2c, i2s.
-    Unary(UnaryOperator),
-    /// iadd to ixor.
-    Binary(BinaryOperator),
-    /// newarray of ints, iaload, iastore, arraylength.
-    Array(ArrayOperation),
-    /// ifeq to ifle: compares an int with 0.
-    If {
-        condition: Condition,
-        target: u16,
-    },
-    /// if_icmpeq to if_icmple: compares two ints.
-    IfCompare {
-        condition: Condition,
-        target: u16,
-    },
-    /// if_acmpeq, if_acmpne: compares two references.
-    IfSame {
-        equality: Equality,
-        target: u16,
-    },
-    /// ifnull, ifnonnull: compares a reference with null.
-    IfNull {
-        equality: Equality,
-        target: u16,
-    },
-    /// goto, goto_w.
-    Goto {
-        target: u16,
-    },
-    /// tableswitch, lookupswitch: the index of what it goes to among the switches of the method.
-    Switch(u16),
-    /// ireturn, areturn: returns a value.
-    ReturnValue(ValueKind),
-    /// return: returns nothing.
-    Return,
-    /// athrow.
-    Throw,
-    /// getfield: the class that it names, and the field.
-    GetField {
-        class: ClassId,
-        field: MemberIndex,
-    },
-    /// putfield: the class that it names, and the field.
-    PutField {
-        class: ClassId,
-        field: MemberIndex,
-    },
-    /// invokevirtual, invokespecial, invokestatic: the class that it names, and the method that its
-    /// name and descriptor mean there.
-    Invoke {
-        kind: InvokeKind,
-        class: ClassId,
-        method: MemberIndex,
-    },
-    /// invokeinterface: the number of words that it tells, the interface that it names, and the method.
-    InvokeInterface {
-        count: u8,
-        class: ClassId,
-        method: MemberIndex,
-    },
-    /// new: the class.
-    New(ClassId),
-    /// checkcast.
-    CheckCast(CastType),
-    /// instanceof.
-    InstanceOf(CastType),
-}
-
-/// A switch, linked: the indices of the instructions that its branches go to.
+/// A class set whose methods are linked. A contract sees it as its classes and the list of its
+/// methods: the method with number k is item k.
 #[derive(Debug, Drop)]
-pub enum LinkedSwitch {
-    /// tableswitch: a target for each int from the lowest on, at least one.
-    Table {
-        default: u16,
-        low: i32,
-        targets: Row<u16>,
-    },
-    /// lookupswitch: keys that rise, and the target of each.
-    Lookup {
-        default: u16,
-        keys: Row<i32>,
-        targets: Row<u16>,
-    },
+pub struct Linked {
+    set: ClassSet,
+    methods: Vec<LinkedMethod>,
+    // The number of the first method of each class, by class number.
+    first: Vec<usize>,
+    // How many fields an object of each class has, by class number.
+    field_counts: Vec<u32>,
 }
 
-/// The code of a method, linked.
-#[derive(Debug, Drop)]
-pub struct LinkedCode {
-    /// The instructions in the order of their offsets.
-    pub insns: Row<LinkedInsn>,
-    /// The offset of each instruction in the method's bytes.
-    pub offsets: Row<u16>,
-    /// What its switches go to, in the order of their instructions.
-    pub switches: Row<LinkedSwitch>,
+impl Model for Linked {
+    ghost use Rattle.std.specs.Prelude.{◌≡◌};
+    ghost use Rattle.cls_link.specs.Fields.{AreFieldCounts};
+    ghost use Rattle.cls_link.specs.Links.{Links, AreLinks};
+    ghost use Rattle.cls_link.specs.Numbers.{starts};
+
+    ghost Value = { Links };
+
+    ghost view = { λ linked. record { classes = linked.set; methods = linked.methods.items } };
+
+    ghost invariant = { λ linked. AreLinks (record { classes = linked.set; methods = linked.methods.items }) × (linked.first.items ≡ starts 0 linked.set) × AreFieldCounts linked.set linked.field_counts.items };
 }
 
-/// A method of a linked class set.
-#[derive(Debug, Drop)]
-pub struct LinkedMethod {
-    /// The class that declares it.
-    pub class: ClassId,
-    /// Its index among the methods of that class, as declared.
-    pub index: u16,
-    /// `None` for a method without code.
-    pub code: Option<LinkedCode>,
+impl Linked {
+    ghost use Rattle.std.specs.Prelude.{◌≡◌, ◌<◌, Some, IfSome, IsSome, length, slice_get};
+    ghost use Rattle.cls_link.specs.Fields.{CountsFields, IsFieldSlot, IsSlot};
+    ghost use Rattle.cls_search.specs.FieldSearches.{field_at};
+    ghost use Rattle.cls_link.specs.Links.{AreLinks, method_at, number_of};
+    ghost use Rattle.cls_resolve.specs.Meanings.{field_of, method_of};
+    ghost use Rattle.cls_link.specs.Numbers.{number_in};
+    ghost use Rattle.cls_link.specs.Selections.{IsSelection, ResolvesMethod, Selects};
+    ghost use Rattle.cls_search.specs.MethodSearches.{method_in};
+
+    /// How many methods it has.
+    pub fn len(&self) -> usize
+        ensures count { result ≡ length self.now.methods }
+        ensures links { AreLinks self.now }
+    {
+        self.methods.len()
+    }
+
+    /// Its classes.
+    pub fn set(&self) -> &ClassSet
+        ensures { result.now ≡ self.now.classes }
+    {
+        &self.set
+    }
+
+    /// The number of the method that a class itself declares with this name and descriptor: `None`
+    /// where it declares none.
+    pub fn declared_method(
+        &self,
+        class: ClassId,
+        name: &[u8],
+        descriptor: &[u8],
+    ) -> Option<MethodId>
+        requires { class.0 < length self.now.classes }
+        ensures number { result ≡ number_of self.now.classes class name.now descriptor.now }
+        ensures within { IfSome result (λ id. id.0 < length self.now.methods) }
+    {
+        match own_method(&self.set, class, name, descriptor) {
+            Some(method) => Some(self.number(method)),
+            None => None,
+        }
+    }
+
+    // The number of a method.
+    fn number(&self, method: MethodIndex) -> MethodId
+        requires { IsSome (method_in self.now.classes method) }
+        ensures number { result ≡ number_in self.now.classes method }
+        ensures within { result.0 < length self.now.methods }
+    {
+        let first = self.first[usize::from(method.class.0)];
+        MethodId((first + method.index) as u32)
+    }
+
+    /// The number of a method that is told by its index, as linked instructions tell it.
+    pub fn method_id(&self, member: MemberIndex) -> MethodId
+        requires { IsSome (method_in self.now.classes (method_of member)) }
+        ensures declared { method_at self.now.classes result ≡ method_in self.now.classes (method_of member) }
+        ensures number { result ≡ number_in self.now.classes (method_of member) }
+        ensures within { result.0 < length self.now.methods }
+    {
+        self.number(MethodIndex {
+            class: member.class,
+            index: usize::from(member.index),
+        })
+    }
+
+    /// The number of the method that a name and a descriptor mean in a class or an interface (JVMS
+    /// 5.4.3.3, 5.4.3.4): that of the class or its first superclass that declares one, else that of the
+    /// first of its superinterfaces, depth first; an `<init>` is that of the class alone. `None` where
+    /// none of these declares one. Access is not looked at.
+    pub fn method(&self, class: ClassId, name: &[u8], descriptor: &[u8]) -> Option<MethodId>
+        requires { class.0 < length self.now.classes }
+        ensures resolved { ResolvesMethod self.now.classes class name.now descriptor.now result }
+        ensures within { IfSome result (λ id. id.0 < length self.now.methods) }
+    {
+        match find_method(&self.set, class, name, descriptor, &mut []) {
+            Some(method) => Some(self.number(method)),
+            None => None,
+        }
+    }
+
+    /// Where an object keeps the instance field that a name and a descriptor mean in a class (JVMS
+    /// 5.4.3.2): that of the class, else that of the first of its superinterfaces, depth first, and then
+    /// of its superclass. `None` where what is found is static, or nothing is. Access is not looked at.
+    pub fn field_slot(&self, class: ClassId, name: &[u8], descriptor: &[u8]) -> Option<FieldSlot>
+        requires { class.0 < length self.now.classes }
+        ensures { IsSlot self.now.classes class name.now descriptor.now result }
+    {
+        match find_field(&self.set, class, name, descriptor, &mut []) {
+            Some(field) => self.slot_of(field),
+            None => None,
+        }
+    }
+
+    /// Where an object keeps a field that is told by its index, as linked instructions tell it: `None` for
+    /// a static one.
+    pub fn field_slot_of(&self, member: MemberIndex) -> Option<FieldSlot>
+        requires { IsSome (field_at self.now.classes (field_of member)) }
+        ensures { IsFieldSlot self.now.classes (field_of member) result }
+    {
+        self.slot_of(FieldIndex {
+            class: member.class,
+            index: usize::from(member.index),
+        })
+    }
+
+    /// How many fields an object of a class has, those of its superclasses too.
+    pub fn field_count(&self, class: ClassId) -> u32
+        requires { class.0 < length self.now.classes }
+        ensures { CountsFields self.now.classes class result }
+    {
+        self.field_counts[usize::from(class.0)]
+    }
+
+    // Where an object keeps a field: nowhere, where it is static.
+    fn slot_of(&self, field: FieldIndex) -> Option<FieldSlot>
+        requires { IsSome (field_at self.now.classes field) }
+        ensures { IsFieldSlot self.now.classes field result }
+    {
+        let fields = self.set().class(field.class).file.fields.as_slice();
+        let count = self.field_counts[usize::from(field.class.0)];
+        slot_in(fields, field.index, count)
+    }
+
+    /// The method that a call of a resolved method runs (JVMS 5.4.5, 6.5): the first instance method of its
+    /// name and descriptor from this class up its superclasses, a private one too. The class is that of
+    /// the receiver, or for invokespecial that with which its rule begins (JVMS 6.5).
+    pub fn select(&self, class: ClassId, method: MethodId) -> Selection
+        requires class { class.0 < length self.now.classes }
+        requires method { method.0 < length self.now.methods }
+        ensures { Selects self.now.classes class method result }
+    {
+        let resolved = self.declaration(method);
+        let name = resolved.name.as_bytes();
+        match selected(self, class, name, resolved.descriptor.as_bytes()) {
+            Some(method) => self.selection(method),
+            None => Selection::Absent,
+        }
+    }
+
+    // What a call that comes to this method runs.
+    fn selection(&self, method: MethodId) -> Selection
+        requires { method.0 < length self.now.methods }
+        ensures { IsSelection self.now.classes (Some method) result }
+    {
+        match &self.declaration(method).code {
+            Some(_) => Selection::Runs(method),
+            None => Selection::Abstract(method),
+        }
+    }
+
+    /// The method with this number, as declared.
+    pub fn declaration(&self, method: MethodId) -> &Method
+        requires { method.0 < length self.now.methods }
+        ensures declared { method_at self.now.classes method ≡ Some result.now }
+        ensures links { AreLinks self.now }
+    {
+        let entry = &self.methods[method.0 as usize];
+        let class = self.set.class(entry.class);
+        &class.file.methods.as_slice()[usize::from(entry.index)]
+    }
+
+    /// The method with this number, linked.
+    pub fn linked_method(&self, method: MethodId) -> &LinkedMethod
+        requires { method.0 < length self.now.methods }
+        ensures { slice_get self.now.methods method.0 ≡ Some result.now }
+    {
+        &self.methods[method.0 as usize]
+    }
+}
+
+/// Links the methods of a class set: each code is read once, with each branch as the index of the
+/// instruction that it goes to. Every class, field and method that code names is looked for here, also
+/// where the code is never reached (JVMS 5.4.3).
+///
+/// The first method at fault counts, by class number and then as declared. In it a `Code` fault counts
+/// first, else the first instruction that breaks a rule on what it names. At one instruction the rules
+/// are looked for in this order: `AbsentClass`, `WrongRefKind`, `Access` of the class, `Abstract`,
+/// `AbsentField` or `AbsentMethod`, `Access` of the member, `StaticMismatch`, `FinalField`,
+/// `PrivateVirtual`.
+pub fn link(alloc: Global, set: ClassSet) -> Result<Linked, LinkFault>
+    ensures classes { IfOk result (λ linked. linked.classes ≡ set) }
+    ensures links { IfOk result AreLinks }
+    ensures found { OnOk result (AreSound set) }
+    ensures only { AreSound set → IfErr result (λ fault. fault ≡ LinkFault.Memory) }
+    ensures fault { IfErr result (IsLinkFault set) }
+{
+    let field_counts = count_all(alloc, &set)?;
+    let mut methods = Vec::new(alloc);
+    let mut first = Vec::with_capacity(alloc, set.len())?;
+    let mut marks = vec![in alloc; false; set.len()]?;
+    for number in 0..set.len() {
+        first.push(methods.len())?;
+        let class = ClassId(number as u16);
+        let file = &set.class(class).file;
+        link_class(alloc, &set, class, file, &mut marks, &mut methods)?;
+    }
+    Ok(Linked {
+        set,
+        methods,
+        first,
+        field_counts,
+    })
 }

@@ -3,7 +3,7 @@ use Rattle.std.proofs.Common.{◌≡◌, ℕ, List, Some}
 use Rattle.std.specs.Prelude.{Result, Ok, Err, IfErr}
 use Rattle.std.proofs.lemmas.Option.{slice_get_within}
 use Rattle.cls_link.specs.Links.{Links}
-use Rattle.cls_link.specs.declared.linked.MethodId.{MethodId}
+use Rattle.cls_link.specs.declared.linked_code.MethodId.{MethodId}
 use Rattle.sp_main.specs.RefusalTexts.{IsRefusalOf}
 use Rattle.sp_main.specs.Runs.{IsNoProgram, IsNotRun, IsProgram, IsRefused, IsUnread, absent, at_fault, method_named, no_memory, no_memory_to_read, no_program, no_set, not_linked, not_safe, not_started, unread}
 use Rattle.sp_main.specs.declared.refusal.Refusal.{Refusal}

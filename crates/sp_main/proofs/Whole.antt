@@ -4,7 +4,7 @@ use Rattle.std.specs.Prelude.{Ok, Err, map, replicate, nat_le, if◌then◌else�
 use Rattle.std.proofs.lemmas.List.{length-append, length-map, length-replicate}
 use Rattle.cf_reader.specs.declared.class_file.Code.{Code}
 use Rattle.cls_link.specs.Links.{Links, AreLinks}
-use Rattle.cls_link.specs.declared.linked.MethodId.{MethodId}
+use Rattle.cls_link.specs.declared.linked_code.MethodId.{MethodId}
 use Rattle.cls_set.specs.declared.class.Class.{Class}
 use Rattle.sp_main.specs.Runs.{IsNamed, IsTold, KeepsWithin, Runs}
 use Rattle.sp_main.specs.declared.running.RunOutcome.{RunOutcome}

@@ -11,7 +11,7 @@ use Rattle.cls_link.specs.LinkFaults.{IsLinkFault}
 use Rattle.cls_link.specs.Links.{Links, AreLinks}
 use Rattle.cls_link.specs.declared.fault.LinkFault.{LinkFault}
 use Rattle.cls_link.specs.Links as links
-use Rattle.cls_link.specs.declared.linked.MethodId.{MethodId}
+use Rattle.cls_link.specs.declared.linked_code.MethodId.{MethodId}
 use Rattle.cls_set.specs.Classes as sets
 use Rattle.cls_set.specs.Faults.{IsSetFault}
 use Rattle.cls_set.specs.Sets.{HasClasses, IsClassSet}

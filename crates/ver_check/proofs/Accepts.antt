@@ -3,8 +3,8 @@ use Rattle.std.proofs.Common.{◌≡◌, ℕ, ◌<◌, Option, Some, None, Resul
 use Rattle.std.specs.Prelude.{slice_get, option_and_then, IfErr, IfSome, IsSomeAnd}
 use Rattle.std.proofs.lemmas.Option.{option_and_then_some}
 use Rattle.cls_link.specs.Links.{Links}
-use Rattle.cls_link.specs.declared.linked.LinkedCode.{LinkedCode}
-use Rattle.cls_link.specs.declared.linked.LinkedMethod.{LinkedMethod}
+use Rattle.cls_link.specs.declared.linked_code.LinkedCode.{LinkedCode}
+use Rattle.cls_link.specs.declared.linked_code.LinkedMethod.{LinkedMethod}
 use Rattle.cls_set.specs.declared.class.Class.{Class}
 use Rattle.ver_check.specs.Acceptance.{IsSafeAt, subject_of}
 use Rattle.ver_check.specs.Faults.{IsCheckFault, IsMethodFault, IsNamed}

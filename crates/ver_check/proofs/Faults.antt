@@ -3,8 +3,8 @@ use Rattle.std.proofs.Common.{◌≡◌, ℕ, zero, suc, cond, refl, ◌<◌, �
 use Rattle.std.specs.Prelude.{IsSomeAnd, MatchBool, MatchOption, option_and_then, slice_get, slice_index}
 use Rattle.std.specs.List.{AllByRecursion}
 use Rattle.cls_link.specs.Links.{Links}
-use Rattle.cls_link.specs.declared.linked.LinkedInsn.{LinkedInsn}
-use Rattle.cls_link.specs.declared.linked.LinkedMethod.{LinkedMethod}
+use Rattle.cls_link.specs.declared.linked_code.LinkedInsn.{LinkedInsn}
+use Rattle.cls_link.specs.declared.linked_code.LinkedMethod.{LinkedMethod}
 use Rattle.cls_set.specs.declared.class.Class.{Class}
 use Rattle.ver_check.proofs.Typings.{refuted, refuted_opening}
 use Rattle.ver_check.specs.Acceptance.{AreSafe, IsSafe, IsSafeMethod, subject_of}

@@ -2,7 +2,7 @@
 use Rattle.std.proofs.Common.{◌≡◌, ℕ, suc, ◌<◌, ◌≤◌, ◌⊎◌, Bool, true, false, inl, inr, Some, Result, Ok, Err, List, [], ◌∷◌, length, sym, subst, ap, ◌∙◌}
 use Rattle.std.specs.Prelude.{MatchBool}
 use Rattle.std.specs.List.{AllByRecursion}
-use Rattle.cls_link.specs.declared.linked.LinkedInsn.{LinkedInsn}
+use Rattle.cls_link.specs.declared.linked_code.LinkedInsn.{LinkedInsn}
 use Rattle.ver_check.specs.Bodies.{Body, declared_at, offset_at}
 use Rattle.ver_check.specs.Effects.{effect, falls_through, targets}
 use Rattle.ver_check.specs.Faults as faults

@@ -17,8 +17,8 @@ use Rattle.cls_set.specs.declared.class.Class.{Class}
 use Rattle.space_ids.specs.declared.ids.ClassId.{ClassId}
 use Rattle.cls_link.specs.Links.{Declared, IsLinked, IsLinkedCode}
 use Rattle.cls_link.specs.LinkedForms.{IsLinkedEntry}
-use Rattle.cls_link.specs.declared.linked.LinkedCode.{LinkedCode}
-use Rattle.cls_link.specs.declared.linked.LinkedMethod.{LinkedMethod}
+use Rattle.cls_link.specs.declared.linked_code.LinkedCode.{LinkedCode}
+use Rattle.cls_link.specs.declared.linked_code.LinkedMethod.{LinkedMethod}
 use Rattle.ver_check.specs.Bodies.{body_of, declared_at, frame_at_offset}
 use Rattle.ver_check.specs.Listed.{IsListed}
 use Rattle.ver_check.specs.Typing.{IsWithin}

@@ -5,7 +5,7 @@ use Rattle.std.specs.Prelude.{◌==◌, if◌then◌else◌, MatchOption, MatchB
 use Rattle.std.proofs.lemmas.Bool.{eq-eqb, ne_eqb}
 use Rattle.std.proofs.lemmas.Option.{slice_get_cases, slice_get_within}
 use borrow.Author.Count.{below_more}
-use Rattle.cls_link.specs.declared.linked.LinkedInsn.{LinkedInsn}
+use Rattle.cls_link.specs.declared.linked_code.LinkedInsn.{LinkedInsn}
 use Rattle.cls_set.specs.declared.class.Class.{Class}
 use Rattle.ver_check.proofs.Within.{effect_within}
 use Rattle.ver_check.specs.Bodies.{Body, insn_at, declared_at, frame_at_offset, offset_at}

@@ -17,8 +17,8 @@ use Rattle.cf_insns.specs.declared.insn.ValueKind.TheVariants as kind
 use Rattle.cf_reader.specs.declared.class_file.Field.{Field}
 use Rattle.cf_reader.specs.declared.class_file.Method.{Method}
 use Rattle.cf_text.specs.declared.types.FieldType.{FieldType}
-use Rattle.cls_link.specs.declared.linked.LinkedInsn.{LinkedInsn}
-use Rattle.cls_link.specs.declared.linked.LinkedInsn.TheVariants as insn
+use Rattle.cls_link.specs.declared.linked_code.LinkedInsn.{LinkedInsn}
+use Rattle.cls_link.specs.declared.linked_code.LinkedInsn.TheVariants as insn
 use Rattle.cls_resolve.specs.declared.named.MemberIndex.{MemberIndex}
 use Rattle.space_ids.specs.declared.ids.ClassId.{ClassId}
 use Rattle.ver_check.specs.Bodies.{Body}

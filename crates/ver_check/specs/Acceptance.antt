@@ -2,8 +2,8 @@ use Rattle.std.specs.Prelude.{◌<◌, ℕ, length, Option, Some, List, slice_ge
 use Rattle.cf_reader.specs.declared.class_file.Code.{Code}
 use Rattle.cf_reader.specs.declared.class_file.Method.{Method}
 use Rattle.cls_link.specs.Links.{Links}
-use Rattle.cls_link.specs.declared.linked.LinkedCode.{LinkedCode}
-use Rattle.cls_link.specs.declared.linked.LinkedMethod.{LinkedMethod}
+use Rattle.cls_link.specs.declared.linked_code.LinkedCode.{LinkedCode}
+use Rattle.cls_link.specs.declared.linked_code.LinkedMethod.{LinkedMethod}
 use Rattle.cls_set.specs.declared.class.Class.{Class}
 use Rattle.ver_check.specs.Bodies.{body_of}
 use Rattle.ver_check.specs.Typing.{IsTypeSafe}

@@ -5,10 +5,10 @@ use Rattle.cf_insns.specs.declared.insn.ArrayOperation.TheVariants as array
 use Rattle.cf_insns.specs.declared.insn.ValueKind.TheVariants as kind
 use Rattle.cls_resolve.specs.declared.named.CastType.{CastType}
 use Rattle.cls_resolve.specs.declared.named.CastType.TheVariants as cast
-use Rattle.cls_link.specs.declared.linked.LinkedInsn.{LinkedInsn}
-use Rattle.cls_link.specs.declared.linked.LinkedInsn.TheVariants as insn
-use Rattle.cls_link.specs.declared.linked.LinkedSwitch.{LinkedSwitch}
-use Rattle.cls_link.specs.declared.linked.LinkedSwitch.TheVariants as switch
+use Rattle.cls_link.specs.declared.linked_code.LinkedInsn.{LinkedInsn}
+use Rattle.cls_link.specs.declared.linked_code.LinkedInsn.TheVariants as insn
+use Rattle.cls_link.specs.declared.linked_code.LinkedSwitch.{LinkedSwitch}
+use Rattle.cls_link.specs.declared.linked_code.LinkedSwitch.TheVariants as switch
 use Rattle.cls_set.specs.declared.class.Class.{Class}
 use Rattle.cls_set.specs.Classes.{number_of}
 use Rattle.space_ids.specs.declared.ids.ClassId.{ClassId}

@@ -1,7 +1,7 @@
 -- Why a class set is not accepted: what the check meets first on its way through a method (JVMS 4.10.1.6).
 use Rattle.std.specs.Prelude.{◌≡◌, ◌⊎◌, ℕ, suc, ◌<◌, ◌≤◌, Option, Some, None, Result, Ok, Err, List, [], ◌∷◌, length, slice_get, slice_index, option_and_then, MatchBool, IsSomeAnd}
 use Rattle.cls_link.specs.Links.{Links}
-use Rattle.cls_link.specs.declared.linked.LinkedInsn.{LinkedInsn}
+use Rattle.cls_link.specs.declared.linked_code.LinkedInsn.{LinkedInsn}
 use Rattle.ver_check.specs.Acceptance.{IsSafeAt, subject_of}
 use Rattle.ver_check.specs.Bodies.{Body, body_of, insn_at, declared_at, offset_at}
 use Rattle.ver_check.specs.Effects.{effect, falls_through, targets}

@@ -1,6 +1,6 @@
 use Rattle.std.specs.Prelude.{◌≡◌, ℕ, suc, ◌<◌, Some, Result, Ok, Err, length, MatchOption, MatchBool}
 use Rattle.std.specs.List.{AllByRecursion}
-use Rattle.cls_link.specs.declared.linked.LinkedInsn.{LinkedInsn}
+use Rattle.cls_link.specs.declared.linked_code.LinkedInsn.{LinkedInsn}
 use Rattle.ver_check.specs.Bodies.{Body, insn_at, declared_at, offset_at}
 use Rattle.ver_check.specs.Effects.{effect, falls_through, targets}
 use Rattle.ver_check.specs.Typing.{Lands}

@@ -1,6 +1,6 @@
 use Rattle.std.specs.Prelude.{◌≡◌, length}
 use Rattle.std.specs.List.Sorted.{IsStrictlyIncreasing}
-use Rattle.cls_link.specs.declared.linked.LinkedCode.{LinkedCode}
+use Rattle.cls_link.specs.declared.linked_code.LinkedCode.{LinkedCode}
 
 -- The instructions of a method, each after the one before it (JVMS 4.9.1).
 

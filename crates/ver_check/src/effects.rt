@@ -1,7 +1,7 @@
 //! The effect of each instruction on a frame (JVMS 4.10.1.9).
 
 ghost use Rattle.std.specs.Prelude.{◌≡◌};
-ghost use Rattle.cls_link.specs.declared.linked.LinkedInsn.TheVariants.{GetField, Increment, Invoke, InvokeInterface, PutField};
+ghost use Rattle.cls_link.specs.declared.linked_code.LinkedInsn.TheVariants.{GetField, Increment, Invoke, InvokeInterface, PutField};
 ghost use Rattle.ver_check.specs.Effects.{array_effect, cast_vtype, effect, reference_result, return_int, return_nothing, return_reference, throwable};
 ghost use Rattle.ver_check.specs.Makes.{Makes};
 

@@ -1,7 +1,7 @@
 //! The pass over the instructions of a body, with the frame at the current one.
 
 ghost use Rattle.std.specs.Prelude.{◌≡◌};
-ghost use Rattle.cls_link.specs.declared.linked.LinkedInsn.TheVariants.{Switch};
+ghost use Rattle.cls_link.specs.declared.linked_code.LinkedInsn.TheVariants.{Switch};
 ghost use Rattle.std.specs.Prelude.{◌∷◌};
 ghost use Rattle.ver_check.specs.Effects.{falls_through};
 

@@ -2,8 +2,8 @@
 -- it (JVMS 4.7.4, 4.10.1.2).
 use Rattle.std.specs.Prelude.{ℕ, Option, Some, None, option_and_then, List, slice_get}
 use Rattle.cls_link.specs.Targets.{index_from}
-use Rattle.cls_link.specs.declared.linked.LinkedInsn.{LinkedInsn}
-use Rattle.cls_link.specs.declared.linked.LinkedInsn.TheVariants.{New}
+use Rattle.cls_link.specs.declared.linked_code.LinkedInsn.{LinkedInsn}
+use Rattle.cls_link.specs.declared.linked_code.LinkedInsn.TheVariants.{New}
 use Rattle.space_ids.specs.declared.ids.ClassId.{ClassId}
 
 -- the class that an instruction makes an object of

@@ -1,7 +1,7 @@
 use Rattle.std.specs.Prelude.{Bool, not, ◌==◌, ◌&&◌, if◌then◌else◌, Option, List, [], ◌∷◌, ◌++◌, map, bit_and, bytes_eq, codes, option_map}
 use Rattle.cf_reader.specs.declared.class_file.Method.{Method}
 use Rattle.cf_reader.specs.declared.class_file.Code.{Code}
-use Rattle.cls_link.specs.declared.linked.LinkedCode.{LinkedCode}
+use Rattle.cls_link.specs.declared.linked_code.LinkedCode.{LinkedCode}
 use Rattle.cls_set.specs.declared.class.Class.{Class}
 use Rattle.space_ids.specs.declared.ids.ClassId.{ClassId}
 use Rattle.ver_frames.specs.Frames.{Frame, filled}

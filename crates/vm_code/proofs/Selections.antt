@@ -15,9 +15,9 @@ use Rattle.cls_link.proofs.MethodNumbers.{zip_length}
 use Rattle.cls_link.specs.Links.{Links, AreLinks, Declared, declared_methods, method_at}
 use Rattle.cls_link.specs.Selections as selections
 use Rattle.cls_link.specs.Selections.{instance_method, IsSelection, Selects}
-use Rattle.cls_link.specs.declared.linked.MethodId.{MethodId}
-use Rattle.cls_link.specs.declared.linked.Selection.{Selection}
-use Rattle.cls_link.specs.declared.linked.Selection.TheVariants as selection
+use Rattle.cls_link.specs.declared.linked_code.MethodId.{MethodId}
+use Rattle.cls_link.specs.declared.linked_code.Selection.{Selection}
+use Rattle.cls_link.specs.declared.linked_code.Selection.TheVariants as selection
 use Rattle.vm_code.specs.Methods.{superclass_at, or_else, first_up, selection_of}
 
 -- what is found, by what running it comes to

@@ -12,7 +12,7 @@ use Rattle.cls_set.specs.declared.class.Class.{Class}
 use Rattle.space_ids.specs.declared.ids.ClassId.{ClassId}
 use Rattle.cls_link.specs.Fields as fields
 use Rattle.cls_link.specs.Fields.{is_instance, instance_fields, HasFields, IsFieldSlot}
-use Rattle.cls_link.specs.declared.linked.FieldSlot.{FieldSlot}
+use Rattle.cls_link.specs.declared.linked_code.FieldSlot.{FieldSlot}
 use Rattle.vm_code.specs.Fields.{fields_up, is_place, index_of, slot_of}
 
 -- no field among some is this one

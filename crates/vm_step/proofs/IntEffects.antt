@@ -5,8 +5,8 @@ use Rattle.std.specs.Option.{option_map_or}
 use Rattle.cf_insns.specs.declared.insn.StackOperation.{StackOperation}
 use Rattle.cf_insns.specs.declared.insn.StackOperation.TheVariants.{Pop, Dup, Swap}
 use Rattle.cf_insns.specs.declared.insn.ValueKind.TheVariants as kind
-use Rattle.cls_link.specs.declared.linked.LinkedInsn.{LinkedInsn}
-use Rattle.cls_link.specs.declared.linked.LinkedInsn.TheVariants as insn
+use Rattle.cls_link.specs.declared.linked_code.LinkedInsn.{LinkedInsn}
+use Rattle.cls_link.specs.declared.linked_code.LinkedInsn.TheVariants as insn
 use Rattle.ver_check.specs.Bodies.{Body}
 use Rattle.ver_check.specs.Effects as check
 use Rattle.ver_check.specs.Steps as steps

@@ -10,8 +10,8 @@ use Rattle.cf_text.specs.declared.types.FieldType.{FieldType}
 use Rattle.cf_reader.specs.declared.class_file.Code.{Code}
 use Rattle.cf_reader.specs.declared.class_file.Method.{Method}
 use Rattle.cls_link.specs.Links.{Links, AreLinks, declared_methods}
-use Rattle.cls_link.specs.declared.linked.LinkedInsn.{LinkedInsn}
-use Rattle.cls_link.specs.declared.linked.MethodId.{MethodId}
+use Rattle.cls_link.specs.declared.linked_code.LinkedInsn.{LinkedInsn}
+use Rattle.cls_link.specs.declared.linked_code.MethodId.{MethodId}
 use Rattle.cls_set.specs.declared.class.Class.{Class}
 use Rattle.ver_check.proofs.Accepts.{subject_listed}
 use Rattle.ver_check.proofs.Links.{method_listed}

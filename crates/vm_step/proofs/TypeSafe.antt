@@ -10,8 +10,8 @@ use Rattle.cf_insns.specs.declared.insn.StackOperation.{StackOperation}
 use Rattle.cf_insns.specs.declared.insn.StackOperation.TheVariants.{Pop, Dup, Swap}
 use Rattle.cf_insns.specs.declared.insn.ValueKind.TheVariants as kind
 use Rattle.cls_link.specs.Links.{Links}
-use Rattle.cls_link.specs.declared.linked.LinkedInsn.{LinkedInsn}
-use Rattle.cls_link.specs.declared.linked.LinkedInsn.TheVariants as insn
+use Rattle.cls_link.specs.declared.linked_code.LinkedInsn.{LinkedInsn}
+use Rattle.cls_link.specs.declared.linked_code.LinkedInsn.TheVariants as insn
 use Rattle.cls_set.specs.declared.class.Class.{Class}
 use Rattle.ver_check.specs.Bodies.{Body, declared_at, frame_at_offset, offset_at}
 use Rattle.ver_check.specs.Effects.{targets}

@@ -9,9 +9,9 @@ use Rattle.cf_text.specs.declared.types.MethodDescriptor.{MethodDescriptor}
 use Rattle.cf_reader.specs.declared.class_file.Code.{Code}
 use Rattle.cf_reader.specs.declared.class_file.Method.{Method}
 use Rattle.cls_link.specs.Links.{Links}
-use Rattle.cls_link.specs.declared.linked.LinkedCode.{LinkedCode}
-use Rattle.cls_link.specs.declared.linked.LinkedMethod.{LinkedMethod}
-use Rattle.cls_link.specs.declared.linked.MethodId.{MethodId}
+use Rattle.cls_link.specs.declared.linked_code.LinkedCode.{LinkedCode}
+use Rattle.cls_link.specs.declared.linked_code.LinkedMethod.{LinkedMethod}
+use Rattle.cls_link.specs.declared.linked_code.MethodId.{MethodId}
 use Rattle.uuid.specs.declared.Uuid.{Uuid}
 use Rattle.ver_frames.specs.Method.{is_static}
 use Rattle.vm_heap.specs.Tagged.{Tagged, Int, Unset}

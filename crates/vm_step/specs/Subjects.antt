@@ -3,8 +3,8 @@ use Rattle.std.specs.Prelude.{Option, List, slice_get, option_and_then, option_m
 use Rattle.cf_reader.specs.declared.class_file.Code.{Code}
 use Rattle.cf_reader.specs.declared.class_file.Method.{Method}
 use Rattle.cls_link.specs.Links.{Links}
-use Rattle.cls_link.specs.declared.linked.LinkedInsn.{LinkedInsn}
-use Rattle.cls_link.specs.declared.linked.MethodId.{MethodId}
+use Rattle.cls_link.specs.declared.linked_code.LinkedInsn.{LinkedInsn}
+use Rattle.cls_link.specs.declared.linked_code.MethodId.{MethodId}
 use Rattle.ver_check.specs.Acceptance.{subject_of}
 use Rattle.ver_frames.specs.Method.{Subject}
 

@@ -8,9 +8,9 @@ use Rattle.cf_reader.specs.declared.class_file.Code.{Code}
 use Rattle.cf_reader.specs.declared.class_file.Method.{Method}
 use Rattle.cls_link.proofs.Places.{at_number}
 use Rattle.cls_link.specs.Links.{Links, AreLinks, Declared, IsLinked, IsLinkedCode, declared_methods, method_at}
-use Rattle.cls_link.specs.declared.linked.LinkedCode.{LinkedCode}
-use Rattle.cls_link.specs.declared.linked.LinkedMethod.{LinkedMethod}
-use Rattle.cls_link.specs.declared.linked.MethodId.{MethodId}
+use Rattle.cls_link.specs.declared.linked_code.LinkedCode.{LinkedCode}
+use Rattle.cls_link.specs.declared.linked_code.LinkedMethod.{LinkedMethod}
+use Rattle.cls_link.specs.declared.linked_code.MethodId.{MethodId}
 use Rattle.cls_set.proofs.Hierarchy.{same_some, none_some, some_of}
 use Rattle.cls_set.specs.declared.class.Class.{Class}
 use Rattle.ver_check.specs.Acceptance.{subject_of}

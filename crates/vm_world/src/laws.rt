@@ -5,7 +5,7 @@ ghost use Rattle.std.specs.List.{AllZip};
 ghost use Rattle.cf_reader.specs.declared.class_file.Field.{Field};
 ghost use Rattle.cf_reader.specs.declared.class_file.Method.{Method};
 ghost use Rattle.cls_link.specs.Links.{Links, AreLinks, method_at};
-ghost use Rattle.cls_link.specs.declared.linked.MethodId.{MethodId};
+ghost use Rattle.cls_link.specs.declared.linked_code.MethodId.{MethodId};
 ghost use Rattle.cls_search.specs.FieldSearches.{field_at};
 ghost use Rattle.cls_search.specs.declared.fields.FieldIndex.{FieldIndex};
 ghost use Rattle.cls_set.specs.declared.class.Class.{Class};

@@ -11,7 +11,7 @@ use Rattle.cls_link.specs.Links.{declared_from, declared_in, IsLinked}
 use Rattle.cls_link.proofs.Declarations.{class_fault, declared_class}
 use Rattle.cls_link.proofs.MethodNumbers.{length_in, starts_pushed, zip_length}
 use Rattle.cls_link.proofs.Sound.{only_memory}
-use Rattle.cls_link.proofs.links.link.Goals as goal
+use Rattle.cls_link.proofs.linked.link.Goals as goal
 
 pub returns-in_err-link_class-clause-fault : goal.returns-in_err-link_class-clause-fault
 returns-in_err-link_class-clause-fault c =

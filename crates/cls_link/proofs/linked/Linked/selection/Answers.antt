@@ -1,7 +1,7 @@
 use Rattle.std.proofs.Common.{refl, sym, subst}
 use Rattle.std.specs.Prelude.{IsSome}
 use Rattle.cls_link.specs.Selections as selections
-use Rattle.cls_link.proofs.links.Linked.selection.Goals as goal
+use Rattle.cls_link.proofs.linked.Linked.selection.Goals as goal
 
 pub returns-in-Some : goal.returns-in-Some
 returns-in-Some c = selections.IsSelection.runs c.args.method c.declaration.result.now c.declaration.ensures.declared (subst IsSome (sym c.in-Some.is) refl)

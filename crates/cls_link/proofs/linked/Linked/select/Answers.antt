@@ -1,7 +1,7 @@
 use Rattle.std.proofs.Common.{Some, None}
 use Rattle.cls_link.specs.Selections as selections
 use Rattle.cls_link.proofs.ByNumber.{named}
-use Rattle.cls_link.proofs.links.Linked.select.Goals as goal
+use Rattle.cls_link.proofs.linked.Linked.select.Goals as goal
 
 pub selected-requires-clause-set : goal.selected-requires-clause-set
 selected-requires-clause-set c = c.declaration-resolved.ensures.links.set

@@ -4,7 +4,7 @@ use Rattle.std.specs.List.{AllZip}
 use Rattle.cls_link.specs.LinkFaults.{IsSoundMethod}
 use Rattle.cls_link.specs.Links.{declared_from, IsLinked}
 use Rattle.cls_link.specs.Numbers.{starts}
-use Rattle.cls_link.proofs.links.link.Given as goal
+use Rattle.cls_link.proofs.linked.link.Given as goal
 
 -- the methods of the classes so far are linked, 65,535 of a class at most, and where each class's begin is noted; they break no rule
 abbrev pub invariant-loop-number : goal.invariant-loop-number

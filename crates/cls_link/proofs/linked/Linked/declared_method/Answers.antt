@@ -5,7 +5,7 @@ use Rattle.cls_link.specs.Links.{Links}
 use Rattle.cls_link.specs.Numbers.{number_in}
 use Rattle.cls_search.specs.MethodSearches.{own_method}
 use Rattle.cls_link.proofs.MethodNumbers.{number_found}
-use Rattle.cls_link.proofs.links.Linked.declared_method.Goals as goal
+use Rattle.cls_link.proofs.linked.Linked.declared_method.Goals as goal
 
 pub own_method-requires : goal.own_method-requires
 own_method-requires c =

@@ -7,7 +7,7 @@ use Rattle.cls_link.specs.Selections.{ResolvesMethod}
 use Rattle.cls_search.specs.MethodSearches.{own_method, Resolves}
 use Rattle.cls_link.proofs.ByNumber.{resolved}
 use Rattle.cls_link.proofs.MethodNumbers.{number_found}
-use Rattle.cls_link.proofs.links.Linked.method.Goals as goal
+use Rattle.cls_link.proofs.linked.Linked.method.Goals as goal
 
 pub returns-in-Some-clause-resolved : goal.returns-in-Some-clause-resolved
 returns-in-Some-clause-resolved c =

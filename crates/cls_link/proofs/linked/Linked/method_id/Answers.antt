@@ -4,7 +4,7 @@ use Rattle.cls_link.specs.Links.{method_at}
 use Rattle.cls_resolve.specs.Meanings.{method_of}
 use Rattle.cls_link.specs.Numbers.{number_in}
 use Rattle.cls_link.proofs.ByIndex.{method_numbered}
-use Rattle.cls_link.proofs.links.Linked.method_id.Goals as goal
+use Rattle.cls_link.proofs.linked.Linked.method_id.Goals as goal
 
 pub returns-clause-declared : goal.returns-clause-declared
 returns-clause-declared c =

@@ -5,7 +5,7 @@ use Rattle.cls_link.specs.Links.{Links, declared_from}
 use Rattle.cls_link.specs.Numbers.{number_in}
 use Rattle.cls_search.specs.MethodSearches.{method_in}
 use Rattle.cls_link.proofs.MethodNumbers.{length_starts, number_small, stands, start_read, zip_length}
-use Rattle.cls_link.proofs.links.Linked.number.Goals as goal
+use Rattle.cls_link.proofs.linked.Linked.number.Goals as goal
 
 pub index-first-requires : goal.index-first-requires
 index-first-requires c =

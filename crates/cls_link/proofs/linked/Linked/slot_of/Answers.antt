@@ -5,7 +5,7 @@ use Rattle.cls_link.specs.Fields.{is_instance, AreFieldCounts}
 use Rattle.cls_link.specs.Links.{Links}
 use Rattle.cls_link.proofs.FieldCounts.{count_at, few_last, held, slot_is}
 use Rattle.cls_resolve.proofs.Standing.{class_in}
-use Rattle.cls_link.proofs.links.Linked.slot_of.Goals as goal
+use Rattle.cls_link.proofs.linked.Linked.slot_of.Goals as goal
 
 pub slot_in-requires-clause-few : goal.slot_in-requires-clause-few
 slot_in-requires-clause-few c =

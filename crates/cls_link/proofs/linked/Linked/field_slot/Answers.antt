@@ -2,7 +2,7 @@ use Rattle.std.proofs.Common.{Some, None, ap, subst}
 use Rattle.cls_link.specs.Fields as fields
 use Rattle.cls_search.specs.FieldSearches.{ResolvesField}
 use Rattle.cls_link.specs.Links.{Links}
-use Rattle.cls_link.proofs.links.Linked.field_slot.Goals as goal
+use Rattle.cls_link.proofs.linked.Linked.field_slot.Goals as goal
 
 pub returns-in-Some : goal.returns-in-Some
 returns-in-Some c =
