@@ -8,7 +8,7 @@ use Rattle.cls_set.specs.declared.class.Class.{Class}
 use Rattle.cls_set.specs.declared.fault.SetFault.{SetFault}
 use Rattle.cls_set.specs.declared.fault.SetFault.TheVariants.{Broken, Memory}
 use Rattle.cls_set.specs.declared.fault.SetRule.TheVariants.{AbsentClass, Cycle}
-use Rattle.cls_set.specs.declared.entries.ClassEntry.{ClassEntry}
+use Rattle.cls_set.specs.declared.entries.Entry.{Entry}
 use Rattle.std.specs.List.{AllWithin, HoldsAt}
 use Rattle.std.specs.List.Sorted.{IsStrictlySortedBy}
 use Rattle.std.proofs.lemmas.Option.{slice_get_cases, slice_get-get_or, slice_get_within}
@@ -99,19 +99,19 @@ absent_type classes type name bytes (Some id) false is same from at test =
     let stands : Contains (names classes) bytes = (id.0, h, same_some (sym (slice_get-get_or (names classes) id.0 bytes h) ∙ at)) in
     (λ e. absurd (true_false (sym e)), λ a. absurd (a.2 (subst (Contains (names classes)) (same ∙ same_class_name name a.0 (sym is ∙ a.1)) stands)))
 
-pub stands_among : (entries : List ClassEntry) (i : ℕ) (m : ClassEntry) → i < length entries → m ≡ get_or entries i m → Contains (origins_of entries) (origin m.class)
+pub stands_among : (entries : List Entry) (i : ℕ) (m : Entry) → i < length entries → m ≡ get_or entries i m → Contains (origins_of entries) (origin m.class)
 stands_among entries i m h is =
-    (i, subst (λ n. i < n) (sym (length-map entries (λ (x : ClassEntry). origin x.class))) h, get_or-map (λ (x : ClassEntry). origin x.class) entries i m (origin m.class) h ∙ ap (λ (x : ClassEntry). origin x.class) (sym is))
+    (i, subst (λ n. i < n) (sym (length-map entries (λ (x : Entry). origin x.class))) h, get_or-map (λ (x : Entry). origin x.class) entries i m (origin m.class) h ∙ ap (λ (x : Entry). origin x.class) (sym is))
 
 -- the name of the entry at an index
-name_slice : (xs : List ClassEntry) (i : ℕ) (d : ClassEntry) → i < length xs → slice_get (names (classes_of xs)) i ≡ Some (name_of (get_or xs i d))
+name_slice : (xs : List Entry) (i : ℕ) (d : Entry) → i < length xs → slice_get (names (classes_of xs)) i ≡ Some (name_of (get_or xs i d))
 name_slice xs i d h = slice_get-get_or (names (classes_of xs)) i [] (subst (λ n. i < n) (sym (length_names xs)) h) ∙ ap (λ n. Some n) (name_read xs i d [] h)
 
 -- the first class by name with an absent supertype, where those before it are resolved
-pub first_absent : (xs : List ClassEntry) (p : ℕ) (m : ClassEntry) (e : SetFault) → IsStrictlySortedBy name_cmp (names (classes_of xs)) → p < length xs → get_or xs p m ≡ m → AllWithin (λ m. IsWhole (names (classes_of xs)) m.class) xs 0 p → IsClassFault (names (classes_of xs)) m.class.file e → IsAbsentFault (names (classes_of xs)) (origins_of xs) e
+pub first_absent : (xs : List Entry) (p : ℕ) (m : Entry) (e : SetFault) → IsStrictlySortedBy name_cmp (names (classes_of xs)) → p < length xs → get_or xs p m ≡ m → AllWithin (λ m. IsWhole (names (classes_of xs)) m.class) xs 0 p → IsClassFault (names (classes_of xs)) m.class.file e → IsAbsentFault (names (classes_of xs)) (origins_of xs) e
 first_absent xs p m (Broken AbsentClass n) ordered h is resolved fault =
     let ns = names (classes_of xs) in
-    let origin_of : ClassEntry → Origin = λ m. origin m.class in
+    let origin_of : Entry → Origin = λ m. origin m.class in
     record {
       class = origin m.class;
       stands = stands_among xs p m h (sym is);
@@ -122,17 +122,17 @@ first_absent xs p m (Broken AbsentClass n) ordered h is resolved fault =
           let l : i < length xs = subst (λ n. i < n) (length-map xs origin_of) among.1 in
           let same : origin (get_or xs i m).class ≡ other = sym (get_or-map origin_of xs i m other l) ∙ among.2 in
           let here : slice_get ns i ≡ Some other.0.name = name_slice xs i m l ∙ ap (λ (o : Origin). Some o.0.name) same in
-          let there : slice_get ns p ≡ Some n = name_slice xs p m h ∙ (ap (λ (x : ClassEntry). Some x.class.file.name) is ∙ ap (λ x. Some x) (sym fault.0)) in
+          let there : slice_get ns p ≡ Some n = name_slice xs p m h ∙ (ap (λ (x : Entry). Some x.class.file.name) is ∙ ap (λ x. Some x) (sym fault.0)) in
           let low : i < p = later ns i p other.0.name n ordered here there less in
           (resolved i m (omega arith) low).present (subst (λ (o : Origin). HasAbsent ns o.0) (sym same) a);
     }
 first_absent xs p m Memory ordered h is resolved fault = tt
 first_absent xs p m (Broken _ n) ordered h is resolved fault = absurd fault
 
-pub first_absent_at : (xs : List ClassEntry) (p : ℕ) (e : SetFault) → IsStrictlySortedBy name_cmp (names (classes_of xs)) → p < length xs → AllWithin (λ m. IsWhole (names (classes_of xs)) m.class) xs 0 p → HoldsAt (λ m. IsClassFault (names (classes_of xs)) m.class.file e) xs p → IsAbsentFault (names (classes_of xs)) (origins_of xs) e
+pub first_absent_at : (xs : List Entry) (p : ℕ) (e : SetFault) → IsStrictlySortedBy name_cmp (names (classes_of xs)) → p < length xs → AllWithin (λ m. IsWhole (names (classes_of xs)) m.class) xs 0 p → HoldsAt (λ m. IsClassFault (names (classes_of xs)) m.class.file e) xs p → IsAbsentFault (names (classes_of xs)) (origins_of xs) e
 first_absent_at xs p e ordered h resolved fault =
     elim (slice_get_cases xs p).1 [
-      | inl r ↦ first_absent xs p r.0 e ordered h r.3 resolved (subst (λ (m : ClassEntry). IsClassFault (names (classes_of xs)) m.class.file e) r.3 (fault r.0))
+      | inl r ↦ first_absent xs p r.0 e ordered h r.3 resolved (subst (λ (m : Entry). IsClassFault (names (classes_of xs)) m.class.file e) r.3 (fault r.0))
       | inr r ↦ absurd (omega (arith, h, r.0))
     ]
 

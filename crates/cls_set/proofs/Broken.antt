@@ -9,7 +9,7 @@ use Rattle.std.proofs.lemmas.Slice.Eq.{bytes_eq-Decides}
 use Rattle.cf_reader.specs.declared.class_file.ClassFile.{ClassFile}
 use Rattle.cls_set.specs.declared.class.Class.{Class}
 use Rattle.space_ids.specs.declared.ids.ClassId.{ClassId}
-use Rattle.cls_set.specs.declared.entries.ClassEntry.{ClassEntry}
+use Rattle.cls_set.specs.declared.entries.Entry.{Entry}
 use Rattle.cls_set.specs.declared.fault.SetFault.{SetFault}
 use Rattle.cls_set.specs.declared.fault.SetFault.TheVariants.{Broken, Memory}
 use Rattle.cls_set.specs.declared.fault.SetRule.{SetRule}
@@ -36,20 +36,20 @@ use Rattle.cls_set.proofs.Supertypes.{direct_within}
 use Rattle.cls_set.proofs.Walks.{before}
 
 -- of the classes up to an index none breaks the rule
-abbrev pub AreWhole : List ClassEntry → SetRule → ℕ → Type 0
+abbrev pub AreWhole : List Entry → SetRule → ℕ → Type 0
 AreWhole xs rule n = (k : ℕ) (c : Class) → k < n → slice_get (classes_of xs) k ≡ Some c → Breaks (origins_of xs) c.file rule → ⊥
 
 -- the index of a class
-placed : (xs : List ClassEntry) (d : ClassEntry) (o : Origin) → Contains (origins_of xs) o → (i : ℕ) × (i < length xs) × (origin (get_or xs i d).class ≡ o)
+placed : (xs : List Entry) (d : Entry) (o : Origin) → Contains (origins_of xs) o → (i : ℕ) × (i < length xs) × (origin (get_or xs i d).class ≡ o)
 placed xs d o among =
-    let of : ClassEntry → Origin = λ m. origin m.class in
+    let of : Entry → Origin = λ m. origin m.class in
     let l : among.0 < length xs = subst (λ n. among.0 < n) (length-map xs of) among.1 in
     (among.0, l, sym (get_or-map of xs among.0 d o l) ∙ among.2)
 
-name_slice : (xs : List ClassEntry) (i : ℕ) (d : ClassEntry) → i < length xs → slice_get (names (classes_of xs)) i ≡ Some (name_of (get_or xs i d))
+name_slice : (xs : List Entry) (i : ℕ) (d : Entry) → i < length xs → slice_get (names (classes_of xs)) i ≡ Some (name_of (get_or xs i d))
 name_slice xs i d h = slice_get-get_or (names (classes_of xs)) i [] (subst (λ n. i < n) (sym (length_names xs)) h) ∙ ap (λ n. Some n) (name_read xs i d [] h)
 
-pub first_to_break : (xs : List ClassEntry) (p : ℕ) (m : ClassEntry) (rule : SetRule) → IsStrictlySortedBy name_cmp (names (classes_of xs)) → p < length xs → m ≡ get_or xs p m → AreWhole xs rule p → Breaks (origins_of xs) m.class.file rule → IsFirstToBreak (origins_of xs) rule (name_of m)
+pub first_to_break : (xs : List Entry) (p : ℕ) (m : Entry) (rule : SetRule) → IsStrictlySortedBy name_cmp (names (classes_of xs)) → p < length xs → m ≡ get_or xs p m → AreWhole xs rule p → Breaks (origins_of xs) m.class.file rule → IsFirstToBreak (origins_of xs) rule (name_of m)
 first_to_break xs p m rule ordered h is whole broken =
     record {
       class = origin m.class;
@@ -59,7 +59,7 @@ first_to_break xs p m rule ordered h is whole broken =
       first = λ other among less b.
           let at = placed xs m other among in
           let here : slice_get (names (classes_of xs)) at.0 ≡ Some other.0.name = name_slice xs at.0 m at.1 ∙ ap (λ (o : Origin). Some o.0.name) at.2 in
-          let there : slice_get (names (classes_of xs)) p ≡ Some (name_of m) = name_slice xs p m h ∙ ap (λ (x : ClassEntry). Some x.class.file.name) (sym is) in
+          let there : slice_get (names (classes_of xs)) p ≡ Some (name_of m) = name_slice xs p m h ∙ ap (λ (x : Entry). Some x.class.file.name) (sym is) in
           let low : at.0 < p = later (names (classes_of xs)) at.0 p other.0.name (name_of m) ordered here there less in
           whole at.0 (get_or xs at.0 m).class low (class_read xs m at.0 at.0 refl at.1) (subst (λ (o : Origin). Breaks (origins_of xs) o.0 rule) (sym at.2) b);
     }
@@ -68,22 +68,22 @@ pub rule_fault : (classes : List Origin) (rule : SetRule) (name : List ℕ) (e :
 rule_fault classes rule name (Broken r n) first h = (h.0, subst (IsFirstToBreak classes rule) (sym h.1) first)
 rule_fault classes rule name Memory first h = tt
 
-pub any_member : (xs : List ClassEntry) (k : ℕ) → k < length xs → ClassEntry
+pub any_member : (xs : List Entry) (k : ℕ) → k < length xs → Entry
 any_member xs k h =
     elim (slice_get_cases xs k).1 [
       | inl r ↦ r.0
       | inr r ↦ absurd (omega (arith, h, r.0))
     ]
 
-pub whole_keeps : (xs : List ClassEntry) (rule : SetRule) (n : ℕ) → length xs ≤ n → AreWhole xs rule n → Keeps (origins_of xs) rule
+pub whole_keeps : (xs : List Entry) (rule : SetRule) (n : ℕ) → length xs ≤ n → AreWhole xs rule n → Keeps (origins_of xs) rule
 whole_keeps xs rule n all whole o among b =
-    let l : among.0 < length xs = subst (λ n. among.0 < n) (length-map xs (λ (m : ClassEntry). origin m.class)) among.1 in
+    let l : among.0 < length xs = subst (λ n. among.0 < n) (length-map xs (λ (m : Entry). origin m.class)) among.1 in
     let d = any_member xs among.0 l in
     let at = placed xs d o among in
     let low : at.0 < n = let inside = at.1 in omega (arith, inside, all) in
     whole at.0 (get_or xs at.0 d).class low (class_read xs d at.0 at.0 refl at.1) (subst (λ (o : Origin). Breaks (origins_of xs) o.0 rule) (sym at.2) b)
 
-pub one_more : (xs : List ClassEntry) (rule : SetRule) (n : ℕ) → AreWhole xs rule n → ((c : Class) → slice_get (classes_of xs) n ≡ Some c → Breaks (origins_of xs) c.file rule → ⊥) → AreWhole xs rule (n + 1)
+pub one_more : (xs : List Entry) (rule : SetRule) (n : ℕ) → AreWhole xs rule n → ((c : Class) → slice_get (classes_of xs) n ≡ Some c → Breaks (origins_of xs) c.file rule → ⊥) → AreWhole xs rule (n + 1)
 one_more xs rule n old new k c l e =
     elim (before k n) [
       | inl low ↦ old k c low e
@@ -227,9 +227,9 @@ rooted_badly classes file (inl h) = rules.Breaks.second_root h.0 h.1
 rooted_badly classes file (inr h) = rules.Breaks.interface_below_other h.0 h.1
 
 -- the class at an index is one of the classes
-pub class_among : (xs : List ClassEntry) (p : ℕ) (m : ClassEntry) → p < length xs → Contains (classes_of xs) (get_or xs p m).class
+pub class_among : (xs : List Entry) (p : ℕ) (m : Entry) → p < length xs → Contains (classes_of xs) (get_or xs p m).class
 class_among xs p m h =
-    (p, subst (λ n. p < n) (sym (length-map xs (λ (x : ClassEntry). x.class))) h, get_or-map (λ (x : ClassEntry). x.class) xs p m (get_or xs p m).class h)
+    (p, subst (λ n. p < n) (sym (length-map xs (λ (x : Entry). x.class))) h, get_or-map (λ (x : Entry). x.class) xs p m (get_or xs p m).class h)
 
 pub keep_all : (classes : List Origin) → Keeps classes BadSuper → Keeps classes FinalSuper → Keeps classes RemoteField → Keeps classes RemoteMethod → Keeps classes Override → Keeps classes NotYet → KeepAll classes
 keep_all classes a b c d e f class_rules.BadSuper = a

@@ -10,7 +10,7 @@ use Rattle.cls_set.specs.declared.class.Class.{Class}
 use Rattle.cls_set.specs.declared.fault.SetFault.{SetFault}
 use Rattle.cls_set.specs.declared.fault.SetFault.TheVariants.{Broken, Memory}
 use Rattle.cls_set.specs.declared.fault.SetRule.TheVariants.{Duplicate, AbsentClass, Cycle, TooMany}
-use Rattle.cls_set.specs.declared.entries.ClassEntry.{ClassEntry}
+use Rattle.cls_set.specs.declared.entries.Entry.{Entry}
 use Rattle.cls_set.specs.BuiltIn.{built_ins, built_in_files, file_of}
 use Rattle.cls_set.specs.Building.{ranked_from, kept, origins_of, IsAbsentFault, IsCycleFault, IsDuplicateFault, IsFaultOf, IsWhole}
 use Rattle.cls_set.specs.Classes.{name_cmp, names, number_from, number_of}
@@ -29,27 +29,27 @@ use Rattle.cls_set.proofs.Sorting.{matches, count_strict}
 use Rattle.cls_set.proofs.Hierarchy.{class_of_read, rank_of, same_some, true_false}
 use Rattle.cls_set.proofs.Supertypes.{ranks}
 
-abbrev pub origin_of : ClassEntry → Origin
+abbrev pub origin_of : Entry → Origin
 origin_of m = origin m.class
 
 origins_ranked : (k : ℕ) (os : List Origin) → map origin_of (ranked_from k os) ≡ os
 origins_ranked k [] = refl
 origins_ranked k (o ∷ os) = ap (λ xs. o ∷ xs) (origins_ranked (suc k) os)
 
-names_from_origins : (entries : List ClassEntry) → names (classes_of entries) ≡ map (λ (o : Origin). o.0.name) (map origin_of entries)
+names_from_origins : (entries : List Entry) → names (classes_of entries) ≡ map (λ (o : Origin). o.0.name) (map origin_of entries)
 names_from_origins [] = refl
 names_from_origins (m ∷ ms) = ap (λ ns. m.class.file.name ∷ ns) (names_from_origins ms)
 
-pub origins_of_classes : (entries : List ClassEntry) → map origin (classes_of entries) ≡ map origin_of entries
+pub origins_of_classes : (entries : List Entry) → map origin (classes_of entries) ≡ map origin_of entries
 origins_of_classes [] = refl
 origins_of_classes (m ∷ ms) = ap (λ os. origin m.class ∷ os) (origins_of_classes ms)
 
-origins_from_kept : (entries : List ClassEntry) → map origin_of entries ≡ map (λ (k : Origin × ℕ). k.0) (map kept entries)
+origins_from_kept : (entries : List Entry) → map origin_of entries ≡ map (λ (k : Origin × ℕ). k.0) (map kept entries)
 origins_from_kept [] = refl
 origins_from_kept (m ∷ ms) = ap (λ os. origin m.class ∷ os) (origins_from_kept ms)
 
 -- the first class on a cycle, named
-pub cycle_named : (old new : List ClassEntry) (k : ℕ) (m : ClassEntry) (e : SetFault) → classes_of new ≡ classes_of old → IsStrictlySortedBy name_cmp (names (classes_of old)) → All (IsResolved (names (classes_of old))) (classes_of old) → IsFirstOwn (classes_of old) k → m ≡ get_or new k m → IsFaultOf Cycle m.class.file.name e → IsCycleFault (origins_of old) e
+pub cycle_named : (old new : List Entry) (k : ℕ) (m : Entry) (e : SetFault) → classes_of new ≡ classes_of old → IsStrictlySortedBy name_cmp (names (classes_of old)) → All (IsResolved (names (classes_of old))) (classes_of old) → IsFirstOwn (classes_of old) k → m ≡ get_or new k m → IsFaultOf Cycle m.class.file.name e → IsCycleFault (origins_of old) e
 cycle_named old new k m e same ordered resolved own is fault =
     let name = m.class.file.name in
     let within : k < length new = subst (λ n. k < n) (length-map new (λ m. m.class)) (subst (λ (cs : List Class). k < length cs) (sym same) own.within) in
@@ -90,7 +90,7 @@ built_in_stands files classes has k d h =
     named 0 classes o found.0 (rw length-map at found.1) found.2
 
 -- entries that hold the classes of the files and the built-in ones
-module _ (files : List ClassFile) (entries : List ClassEntry) (all : IsPermutation (ranked_from 0 (origins files)) entries) where
+module _ (files : List ClassFile) (entries : List Entry) (all : IsPermutation (ranked_from 0 (origins files)) entries) where
   pub origins_held : IsPermutation (origins files) (map origin_of entries)
   origins_held = subst (λ os. IsPermutation os (map origin_of entries)) (origins_ranked 0 (origins files)) (IsPermutation-map origin_of (ranked_from 0 (origins files)) entries all)
 
@@ -181,7 +181,7 @@ module _ (files : List ClassFile) (entries : List ClassEntry) (all : IsPermutati
   absent_fault ordered few (Broken _ name) h = absurd h
 
   -- the entries once they are resolved
-  module _ (resolved : List ClassEntry) (same : map kept resolved ≡ map kept entries) (ordered : IsStrictlySortedBy name_cmp (names (classes_of entries))) (found : All (λ m. IsWhole (names (classes_of entries)) m.class) resolved) where
+  module _ (resolved : List Entry) (same : map kept resolved ≡ map kept entries) (ordered : IsStrictlySortedBy name_cmp (names (classes_of entries))) (found : All (λ m. IsWhole (names (classes_of entries)) m.class) resolved) where
     pub has_classes : HasClasses files (classes_of resolved)
     has_classes =
         subst (IsPermutation (origins files)) (sym (origins_of_classes resolved ∙ (origins_from_kept resolved ∙ (ap (map (λ (k : Origin × ℕ). k.0)) same ∙ sym (origins_from_kept entries))))) origins_held
@@ -191,7 +191,7 @@ module _ (files : List ClassFile) (entries : List ClassEntry) (all : IsPermutati
 
     pub found_kept : All (IsResolved (names (classes_of resolved))) (classes_of resolved)
     found_kept =
-        All-map (IsResolved (names (classes_of resolved))) (λ (m : ClassEntry). m.class) resolved (subst (λ n. All (λ m. IsResolved n m.class) resolved) (sym (names_kept resolved entries same)) (λ k d h. (found k d h).resolved))
+        All-map (IsResolved (names (classes_of resolved))) (λ (m : Entry). m.class) resolved (subst (λ n. All (λ m. IsResolved n m.class) resolved) (sym (names_kept resolved entries same)) (λ k d h. (found k d h).resolved))
 
     inside : (o : Origin) → Contains (origins files) o → Contains (map origin (classes_of resolved)) o
     inside o among = subst (λ os. Contains os o) (sym (origins_of_classes resolved ∙ origins_kept resolved entries same)) (forth o among)
@@ -200,7 +200,7 @@ module _ (files : List ClassFile) (entries : List ClassEntry) (all : IsPermutati
     whole_at i c e =
         let h = slice_get_within (classes_of resolved) i c e in
         subst (IsWhole (names (classes_of entries))) (same_some (sym (slice_get-get_or (classes_of resolved) i c h) ∙ e))
-        (All-get_or (IsWhole (names (classes_of entries))) (classes_of resolved) i c h (All-map (IsWhole (names (classes_of entries))) (λ (m : ClassEntry). m.class) resolved found))
+        (All-get_or (IsWhole (names (classes_of entries))) (classes_of resolved) i c h (All-map (IsWhole (names (classes_of entries))) (λ (m : Entry). m.class) resolved found))
 
     pub complete : IsWithoutAbsent (origin_names files) (origins files)
     complete o among a =
@@ -225,7 +225,7 @@ module _ (files : List ClassFile) (entries : List ClassEntry) (all : IsPermutati
     cycle_held few (Broken _ name) h = absurd h
 
     -- once they are ranked too
-    module _ (final : List ClassEntry) (is_final : classes_of final ≡ classes_of resolved) (ranked : All (IsRanked final) final) where
+    module _ (final : List Entry) (is_final : classes_of final ≡ classes_of resolved) (ranked : All (IsRanked final) final) where
       pub acyclic : IsWithoutCycles (origins files)
       acyclic x s =
           none_own (classes_of resolved) ordered_kept found_kept (rank_of final) (λ sub sup d. ranks final ranked sub sup (subst (λ cs. IsDirectSupertype cs sub sup) (sym is_final) d)) x

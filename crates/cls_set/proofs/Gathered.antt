@@ -1,6 +1,6 @@
 use Rattle.std.proofs.Common.{◌≡◌, ℕ, suc, ◌+◌, true, false, List, [], ◌∷◌, ◌++◌, length, map, refl, sym, ap, ◌∙◌, arith, add-zero, zero-add}
 use Rattle.cf_reader.specs.declared.class_file.ClassFile.{ClassFile}
-use Rattle.cls_set.specs.declared.entries.ClassEntry.{ClassEntry}
+use Rattle.cls_set.specs.declared.entries.Entry.{Entry}
 use Rattle.cls_set.specs.BuiltIn.{built_in_files}
 use Rattle.cls_set.specs.Building.{ranked_from, unresolved}
 use Rattle.cls_set.specs.Sets.{Origin, origins}
@@ -17,12 +17,12 @@ ranked_append k [] ys = ap (λ n. ranked_from n ys) (sym (add-zero k))
 ranked_append k (x ∷ xs) ys =
     ap (λ ms. record { class = unresolved x; rank = k } ∷ ms) (ranked_append (suc k) xs ys ∙ ap (λ n. ranked_from (suc k) xs ++ ranked_from n ys) (suc_moves k (length xs)))
 
-pub started : (start first : List ClassEntry) (built : List ClassFile) → start ≡ [] → built ≡ built_in_files → first ≡ start ++ ranked_from (length start) (map (λ file. (file, true)) built) → first ≡ ranked_from 0 (map (λ file. (file, true)) built_in_files)
+pub started : (start first : List Entry) (built : List ClassFile) → start ≡ [] → built ≡ built_in_files → first ≡ start ++ ranked_from (length start) (map (λ file. (file, true)) built) → first ≡ ranked_from 0 (map (λ file. (file, true)) built_in_files)
 started start first built none is e =
     e ∙ (ap (λ ms. ms ++ ranked_from (length ms) (map (λ (file : ClassFile). (file, true)) built)) none ∙ ap (λ fs. ranked_from 0 (map (λ (file : ClassFile). (file, true)) fs)) is)
 
 -- what adding the built-in classes and then the files' leaves
-pub gathered : (first second : List ClassEntry) (files : List ClassFile) → first ≡ ranked_from 0 (map (λ file. (file, true)) built_in_files) → second ≡ first ++ ranked_from (length first) (map (λ file. (file, false)) files) → second ≡ ranked_from 0 (origins files)
+pub gathered : (first second : List Entry) (files : List ClassFile) → first ≡ ranked_from 0 (map (λ file. (file, true)) built_in_files) → second ≡ first ++ ranked_from (length first) (map (λ file. (file, false)) files) → second ≡ ranked_from 0 (origins files)
 gathered first second files e f =
     let built = map (λ (file : ClassFile). (file, true)) built_in_files in
     let given = map (λ (file : ClassFile). (file, false)) files in

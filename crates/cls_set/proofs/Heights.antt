@@ -6,7 +6,7 @@ use Rattle.std.proofs.lemmas.List.Elements.{All-contains, All-get_or, Contains-a
 use Rattle.std.proofs.lemmas.Option.{slice_get_cases, slice_get-get_or}
 use Rattle.cls_set.specs.declared.class.Class.{Class}
 use Rattle.space_ids.specs.declared.ids.ClassId.{ClassId}
-use Rattle.cls_set.specs.declared.entries.ClassEntry.{ClassEntry}
+use Rattle.cls_set.specs.declared.entries.Entry.{Entry}
 use Rattle.cls_set.specs.declared.walking.Walk.{Walk}
 use Rattle.cls_set.specs.Classes.{direct_supertypes}
 use Rattle.cls_set.specs.Entries.{classes_of, IsRanked, IsTable}
@@ -112,22 +112,22 @@ to_ups c s among =
       | inr i ↦ Contains-append_left c.interfaces (option_to_list c.superclass) s i
     ]
 
-pub long_classes : (entries : List ClassEntry) → length (classes_of entries) ≡ length entries
+pub long_classes : (entries : List Entry) → length (classes_of entries) ≡ length entries
 long_classes entries = length-map entries (λ m. m.class)
 
 -- entries whose ranks are their heights are ranked
-pub ranked_by_heights : (entries : List ClassEntry) (classes : List Class) (n : ℕ) → classes_of entries ≡ classes → length entries ≤ n → AreWithin (length entries) classes → ((j : ℕ) (d : ClassEntry) → j < n → IsHeight classes j (get_or entries j d).rank) → All (IsRanked entries) entries
+pub ranked_by_heights : (entries : List Entry) (classes : List Class) (n : ℕ) → classes_of entries ≡ classes → length entries ≤ n → AreWithin (length entries) classes → ((j : ℕ) (d : Entry) → j < n → IsHeight classes j (get_or entries j d).rank) → All (IsRanked entries) entries
 ranked_by_heights entries classes n same all within heights k d l i e h =
     let m = get_or entries k d in
     let s = get_or (direct_supertypes m.class) i e in
     let among = to_ups m.class s (Contains-get_or (direct_supertypes m.class) i e h) in
-    let read : get_or classes k m.class ≡ m.class = ap (λ (cs : List Class). get_or cs k m.class) (sym same) ∙ (get_or-map (λ (m : ClassEntry). m.class) entries k d m.class l) in
+    let read : get_or classes k m.class ≡ m.class = ap (λ (cs : List Class). get_or cs k m.class) (sym same) ∙ (get_or-map (λ (m : Entry). m.class) entries k d m.class l) in
     let here : k < length classes = subst (λ (cs : List Class). k < length cs) same (subst (λ n. k < n) (sym (long_classes entries)) l) in
     let inside = subst (λ (c : Class). All (λ (s : ClassId). s.0 < length entries) (ups c)) read (All-get_or (λ (c : Class). All (λ (s : ClassId). s.0 < length entries) (ups c)) classes k m.class here within) in
     let in_set : s.0 < length entries = All-contains (λ (s : ClassId). s.0 < length entries) (ups m.class) s inside among in
     let is : slice_get classes k ≡ Some m.class = slice_get-get_or classes k m.class here ∙ ap (λ c. Some c) read in
     let up = types.IsProperSubtype.direct (record { 0 = k }) s (of_class classes (record { 0 = k }) s m.class is among) in
-    some_and (slice_get entries s.0) (λ (t : ClassEntry). t.rank < m.rank) (get_or entries s.0 d) (slice_get-get_or entries s.0 d in_set)
+    some_and (slice_get entries s.0) (λ (t : Entry). t.rank < m.rank) (get_or entries s.0 d) (slice_get-get_or entries s.0 d in_set)
     (lower_height classes k s (get_or entries s.0 d).rank m.rank (heights s.0 d (omega (arith, in_set, all))) (heights k d (omega (arith, l, all))) up)
 
 true_within : (xs : List Bool) (k : ℕ) → get_or xs k false ≡ true → k < length xs
@@ -136,14 +136,14 @@ true_within (x ∷ xs) zero e = omega arith
 true_within (x ∷ xs) (suc k) e = let rest = true_within xs k e in omega (arith, rest)
 
 -- the class that a walk comes to next stands in the set
-pub next_in_set : (entries : List ClassEntry) (from : ClassId) (next : ℕ) (met : Met) (c : ClassId) → IsWalking (classes_of entries) from next met → next < length met.1 → c ≡ get_or met.1 next c → c.0 < length entries
+pub next_in_set : (entries : List Entry) (from : ClassId) (next : ℕ) (met : Met) (c : ClassId) → IsWalking (classes_of entries) from next met → next < length met.1 → c ≡ get_or met.1 next c → c.0 < length entries
 next_in_set entries from next met c w h is =
     let was = true_within met.0 c.0 (w.under.only c (next, h, sym is)) in
     let long = w.under.long in
     let same = long_classes entries in
     omega (arith, was, long, same)
 
-pub any_member : (xs : List ClassEntry) (k : ℕ) → k < length xs → ClassEntry
+pub any_member : (xs : List Entry) (k : ℕ) → k < length xs → Entry
 any_member xs k h =
     elim (slice_get_cases xs k).1 [
       | inl r ↦ r.0
@@ -151,15 +151,15 @@ any_member xs k h =
     ]
 
 -- one more is ranked
-pub one_more : (classes : List Class) (entries : List ClassEntry) (index : ℕ) (y : ClassEntry) → index < length entries → ((j : ℕ) (d : ClassEntry) → j < index → IsHeight classes j (get_or entries j d).rank) → IsHeight classes index y.rank → (j : ℕ) (d : ClassEntry) → j < index + 1 → IsHeight classes j (get_or (set entries index y) j d).rank
+pub one_more : (classes : List Class) (entries : List Entry) (index : ℕ) (y : Entry) → index < length entries → ((j : ℕ) (d : Entry) → j < index → IsHeight classes j (get_or entries j d).rank) → IsHeight classes index y.rank → (j : ℕ) (d : Entry) → j < index + 1 → IsHeight classes j (get_or (set entries index y) j d).rank
 one_more classes entries index y within old new j d l =
     elim (before j index) [
       | inl past ↦
           let other : j ≢ index = omega (arith, past) in
-          subst (λ (m : ClassEntry). IsHeight classes j m.rank) (sym (get_or-set_other entries index j y d other)) (old j d past)
+          subst (λ (m : Entry). IsHeight classes j m.rank) (sym (get_or-set_other entries index j y d other)) (old j d past)
       | inr high ↦
           let here : index ≡ j = omega (arith, high, l) in
-          subst (λ i. IsHeight classes i (get_or (set entries index y) i d).rank) here (subst (λ (m : ClassEntry). IsHeight classes index m.rank) (sym (get_or-set_same entries index y d within)) new)
+          subst (λ i. IsHeight classes i (get_or (set entries index y) i d).rank) here (subst (λ (m : Entry). IsHeight classes index m.rank) (sym (get_or-set_same entries index y d within)) new)
     ]
 
 -- the table of a class is what a walk from it has met

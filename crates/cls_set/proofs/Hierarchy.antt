@@ -6,7 +6,7 @@ use Rattle.std.proofs.lemmas.Option.{slice_get-map, slice_get-get_or, slice_get_
 use Rattle.std.proofs.lemmas.List.Elements.{All-contains, All-get_or, Contains-append_right}
 use Rattle.cls_set.specs.declared.class.Class.{Class}
 use Rattle.space_ids.specs.declared.ids.ClassId.{ClassId}
-use Rattle.cls_set.specs.declared.entries.ClassEntry.{ClassEntry}
+use Rattle.cls_set.specs.declared.entries.Entry.{Entry}
 use Rattle.cls_set.specs.Classes.{direct_supertypes}
 use Rattle.cls_set.specs.Entries.{classes_of, IsRanked}
 use Rattle.cls_set.specs.Subtypes as types
@@ -48,12 +48,12 @@ pub same_read : {X : Type 0} (xs : List X) (i : ℕ) (d e : X) → i < length xs
 same_read xs i d e h = same_some (sym (slice_get-get_or xs i d h) ∙ slice_get-get_or xs i e h)
 
 -- the class of the entry that was read
-pub class_read : (entries : List ClassEntry) (m : ClassEntry) (k j : ℕ) → k ≡ j → j < length entries → slice_get (classes_of entries) j ≡ Some (get_or entries k m).class
+pub class_read : (entries : List Entry) (m : Entry) (k j : ℕ) → k ≡ j → j < length entries → slice_get (classes_of entries) j ≡ Some (get_or entries k m).class
 class_read entries m k j e h =
-    slice_get-map (λ m. m.class) entries j ∙ (ap (option_map (λ (m : ClassEntry). m.class)) (slice_get-get_or entries j m h) ∙ ap (λ i. Some (get_or entries i m).class) (sym e))
+    slice_get-map (λ m. m.class) entries j ∙ (ap (option_map (λ (m : Entry). m.class)) (slice_get-get_or entries j m h) ∙ ap (λ i. Some (get_or entries i m).class) (sym e))
 
-pub class_of_read : (entries : List ClassEntry) (m : ClassEntry) (k j : ℕ) → k ≡ j → j < length entries → m ≡ get_or entries k m → slice_get (classes_of entries) j ≡ Some m.class
-class_of_read entries m k j e h is = class_read entries m k j e h ∙ ap (λ (m : ClassEntry). Some m.class) (sym is)
+pub class_of_read : (entries : List Entry) (m : Entry) (k j : ℕ) → k ≡ j → j < length entries → m ≡ get_or entries k m → slice_get (classes_of entries) j ≡ Some m.class
+class_of_read entries m k j e h is = class_read entries m k j e h ∙ ap (λ (m : Entry). Some m.class) (sym is)
 
 pub differ_by : (a b : ClassId) → nat_eq a.0 b.0 ≡ false → a ≢ b
 differ_by a b e same = not_same a.0 (subst (λ (x : ClassId). nat_eq a.0 x.0 ≡ false) (sym same) e)
@@ -73,7 +73,7 @@ All-whole P xs i ys h e all = subst (All P) (take_all i xs h ∙ e) all
 pub equal : (a b : ClassId) → nat_eq a.0 b.0 ≡ true → a ≡ b
 equal a b e = ap (λ n. record { 0 = n }) (nat_is a.0 b.0 e)
 
-abbrev pub rank_in : Option ClassEntry → ℕ
+abbrev pub rank_in : Option Entry → ℕ
 rank_in None = 0
 rank_in (Some m) = m.rank
 
@@ -82,20 +82,20 @@ pub differ : (a b : ClassId) → not (nat_eq a.0 b.0) ≡ true → a ≢ b
 differ a b e same = not_itself a.0 (subst (λ (x : ClassId). not (nat_eq a.0 x.0) ≡ true) (sym same) e)
 
 -- the rank of a class
-abbrev pub rank_of : List ClassEntry → ClassId → ℕ
+abbrev pub rank_of : List Entry → ClassId → ℕ
 rank_of entries c = rank_in (slice_get entries c.0)
 
 -- a direct supertype stands in the set, with a lower rank
-pub record IsLower (entries : List ClassEntry) (c : ClassId) (s : ClassId) : Type 0 where
+pub record IsLower (entries : List Entry) (c : ClassId) (s : ClassId) : Type 0 where
   pub in_set : s.0 < length entries
   pub lower : rank_of entries s < rank_of entries c
 
-lower : (entries : List ClassEntry) (c : ClassId) (k : Class) (s : ClassId) → All (IsRanked entries) entries → slice_get (classes_of entries) c.0 ≡ Some k → Contains (direct_supertypes k) s → IsLower entries c s
+lower : (entries : List Entry) (c : ClassId) (k : Class) (s : ClassId) → All (IsRanked entries) entries → slice_get (classes_of entries) c.0 ≡ Some k → Contains (direct_supertypes k) s → IsLower entries c s
 lower entries c k s ranked e among =
     elim (slice_get_cases entries c.0).1 [
       | inl r ↦
           let m = r.0 in
-          let same : m.class ≡ k = same_some (sym (slice_get-map (λ m. m.class) entries c.0 ∙ ap (option_map (λ (m : ClassEntry). m.class)) r.2) ∙ e) in
+          let same : m.class ≡ k = same_some (sym (slice_get-map (λ m. m.class) entries c.0 ∙ ap (option_map (λ (m : Entry). m.class)) r.2) ∙ e) in
           let above : IsRanked entries m = subst (IsRanked entries) r.3 (All-get_or (IsRanked entries) entries c.0 m r.1 ranked) in
           let P : ClassId → Type 0 = λ t. IsSomeAnd (slice_get entries t.0) (λ n. n.rank < m.rank) in
           let found = some_of (slice_get entries s.0) (λ n. n.rank < m.rank) (All-contains P (direct_supertypes m.class) s above (subst (λ k. Contains (direct_supertypes k) s) (sym same) among)) in
@@ -103,14 +103,14 @@ lower entries c k s ranked e among =
             in_set = slice_get_within entries s.0 found.0 found.1;
             lower = subst (λ o. rank_of entries s < rank_in o) (sym r.2) (subst (λ o. rank_in o < m.rank) (sym found.1) found.2);
           }
-      | inr r ↦ absurd (none_some (sym (slice_get-map (λ m. m.class) entries c.0 ∙ ap (option_map (λ (m : ClassEntry). m.class)) r.1) ∙ e))
+      | inr r ↦ absurd (none_some (sym (slice_get-map (λ m. m.class) entries c.0 ∙ ap (option_map (λ (m : Entry). m.class)) r.1) ∙ e))
     ]
 
-pub superclass_lower : (entries : List ClassEntry) (c : ClassId) (k : Class) (s : ClassId) → All (IsRanked entries) entries → slice_get (classes_of entries) c.0 ≡ Some k → k.superclass ≡ Some s → IsLower entries c s
+pub superclass_lower : (entries : List Entry) (c : ClassId) (k : Class) (s : ClassId) → All (IsRanked entries) entries → slice_get (classes_of entries) c.0 ≡ Some k → k.superclass ≡ Some s → IsLower entries c s
 superclass_lower entries c k s ranked e is =
     lower entries c k s ranked e (subst (λ o. Contains (option_to_list o ++ k.interfaces) s) (sym is) (0, omega arith, refl))
 
-pub superinterface_lower : (entries : List ClassEntry) (c : ClassId) (k : Class) (s : ClassId) → All (IsRanked entries) entries → slice_get (classes_of entries) c.0 ≡ Some k → Contains k.interfaces s → IsLower entries c s
+pub superinterface_lower : (entries : List Entry) (c : ClassId) (k : Class) (s : ClassId) → All (IsRanked entries) entries → slice_get (classes_of entries) c.0 ≡ Some k → Contains k.interfaces s → IsLower entries c s
 superinterface_lower entries c k s ranked e among =
     lower entries c k s ranked e (Contains-append_right (option_to_list k.superclass) k.interfaces s among)
 

@@ -18,16 +18,16 @@ use Rattle.std.proofs.lemmas.Map.Views.{All-after_first}
 use Rattle.cls_set.specs.declared.class.Class.{Class}
 use Rattle.cls_set.proofs.Hierarchy.{same_some, none_some}
 use Rattle.space_ids.specs.declared.ids.ClassId.{ClassId}
-use Rattle.cls_set.specs.declared.entries.ClassEntry.{ClassEntry}
+use Rattle.cls_set.specs.declared.entries.Entry.{Entry}
 use Rattle.cls_set.specs.Classes.{name_cmp, names, number_from, number_of}
 use Rattle.cls_set.specs.Entries.{classes_of}
 
 -- the name of an entry
-abbrev pub name_of : ClassEntry → List ℕ
+abbrev pub name_of : Entry → List ℕ
 name_of m = m.class.file.name
 
 -- the order of an entry's name to another
-abbrev pub order_to : List ℕ → ClassEntry → Ordering
+abbrev pub order_to : List ℕ → Entry → Ordering
 order_to name m = name_cmp (name_of m) name
 
 -- in a strictly sorted list each is below every later one
@@ -38,16 +38,16 @@ sorted_far c (k ∷ ks) (suc i) zero d s l h = absurd (omega arith)
 sorted_far c (k ∷ ks) zero (suc j) d s l h = All-get_or (λ q. c k q ≡ Less) ks j d (omega arith) (All-after_first c k ks s)
 sorted_far c (k ∷ ks) (suc i) (suc j) d s l h = sorted_far c ks i j d (sorted_tail c k ks s) (omega arith) (omega arith)
 
-pub length_names : (entries : List ClassEntry) → length (names (classes_of entries)) ≡ length entries
+pub length_names : (entries : List Entry) → length (names (classes_of entries)) ≡ length entries
 length_names entries = length-map (classes_of entries) (λ c. c.file.name) ∙ length-map entries (λ m. m.class)
 
-pub name_read : (entries : List ClassEntry) (k : ℕ) (d : ClassEntry) (e : List ℕ) → k < length entries → get_or (names (classes_of entries)) k e ≡ name_of (get_or entries k d)
+pub name_read : (entries : List Entry) (k : ℕ) (d : Entry) (e : List ℕ) → k < length entries → get_or (names (classes_of entries)) k e ≡ name_of (get_or entries k d)
 name_read entries k d e h =
     get_or-map (λ (c : Class). c.file.name) (classes_of entries) k d.class e (subst (λ n. k < n) (sym (length-map entries (λ m. m.class))) h)
-    ∙ ap (λ (c : Class). c.file.name) (get_or-map (λ (m : ClassEntry). m.class) entries k d d.class h)
+    ∙ ap (λ (c : Class). c.file.name) (get_or-map (λ (m : Entry). m.class) entries k d d.class h)
 
 -- the order of the names of two entries, by index
-far_names : (entries : List ClassEntry) (i j : ℕ) (d : ClassEntry) → IsStrictlySortedBy name_cmp (names (classes_of entries)) → i < j → j < length entries → name_cmp (name_of (get_or entries i d)) (name_of (get_or entries j d)) ≡ Less
+far_names : (entries : List Entry) (i j : ℕ) (d : Entry) → IsStrictlySortedBy name_cmp (names (classes_of entries)) → i < j → j < length entries → name_cmp (name_of (get_or entries i d)) (name_of (get_or entries j d)) ≡ Less
 far_names entries i j d s l h =
     let far = sorted_far name_cmp (names (classes_of entries)) i j [] s l (subst (λ n. j < n) (sym (length_names entries)) h) in
     let first : i < length entries = omega arith in
@@ -57,7 +57,7 @@ not_less_back : (x y : List ℕ) → name_cmp x y ≡ Less → is_lt (name_cmp y
 not_less_back x y e = ap is_lt (nat_list_cmp_total.antisymm y x ∙ ap ordering_reverse e)
 
 -- so a search by name finds its way
-pub searchable : (entries : List ClassEntry) (name : List ℕ) → IsStrictlySortedBy name_cmp (names (classes_of entries)) → IsNonDecreasingBy (λ m. ordering_index (order_to name m)) entries
+pub searchable : (entries : List Entry) (name : List ℕ) → IsStrictlySortedBy name_cmp (names (classes_of entries)) → IsNonDecreasingBy (λ m. ordering_index (order_to name m)) entries
 searchable entries name s =
     searchable_from_sorted nat_list_cmp_total name_of entries name
     (λ k d low high. not_less_back (name_of (get_or entries k d)) (name_of (get_or entries (k + 1) d)) (far_names entries k (k + 1) d s (omega arith) high))
@@ -87,7 +87,7 @@ number_absent k (c ∷ cs) name none =
     let first = All-head (λ n. bytes_eq n name ≡ false) c.file.name (names cs) none in
     rw first (number_absent (suc k) cs name (All-tail (λ n. bytes_eq n name ≡ false) c.file.name (names cs) none))
 
-other_at : (entries : List ClassEntry) (name : List ℕ) (i : ℕ) → IsPartitionPoint (λ m. order_to name m ≡ Less) (λ m. order_to name m ≡ Greater) entries i → All (λ m. bytes_eq (name_of m) name ≡ false) entries
+other_at : (entries : List Entry) (name : List ℕ) (i : ℕ) → IsPartitionPoint (λ m. order_to name m ≡ Less) (λ m. order_to name m ≡ Greater) entries i → All (λ m. bytes_eq (name_of m) name ≡ false) entries
 other_at entries name i parts k d h =
     elim (before k i) [
       | inl low ↦ same_test (name_of (get_or entries k d)) name Less (parts.0 k d (omega arith) low)
@@ -95,7 +95,7 @@ other_at entries name i parts k d h =
     ]
 
 -- what a binary search by name found
-pub find_found : (entries : List ClassEntry) (name : List ℕ) (i : ℕ) → IsStrictlySortedBy name_cmp (names (classes_of entries)) → i < length entries → HoldsAt (λ m. order_to name m ≡ Equal) entries i → number_of (classes_of entries) name ≡ Some (record { 0 = i })
+pub find_found : (entries : List Entry) (name : List ℕ) (i : ℕ) → IsStrictlySortedBy name_cmp (names (classes_of entries)) → i < length entries → HoldsAt (λ m. order_to name m ≡ Equal) entries i → number_of (classes_of entries) name ≡ Some (record { 0 = i })
 find_found entries name i s h at =
     elim (slice_get_cases entries i).1 [
       | inl r ↦
@@ -105,11 +105,11 @@ find_found entries name i s h at =
       | inr r ↦ absurd (omega arith)
     ]
 
-pub find_absent : (entries : List ClassEntry) (name : List ℕ) (i : ℕ) → IsPartitionPoint (λ m. order_to name m ≡ Less) (λ m. order_to name m ≡ Greater) entries i → number_of (classes_of entries) name ≡ None
+pub find_absent : (entries : List Entry) (name : List ℕ) (i : ℕ) → IsPartitionPoint (λ m. order_to name m ≡ Less) (λ m. order_to name m ≡ Greater) entries i → number_of (classes_of entries) name ≡ None
 find_absent entries name i parts =
     number_absent 0 (classes_of entries) name
     (All-map (λ n. bytes_eq n name ≡ false) (λ (c : Class). c.file.name) (classes_of entries)
-    (All-map (λ (c : Class). bytes_eq c.file.name name ≡ false) (λ (m : ClassEntry). m.class) entries (other_at entries name i parts)))
+    (All-map (λ (c : Class). bytes_eq c.file.name name ≡ false) (λ (m : Entry). m.class) entries (other_at entries name i parts)))
 
 some_id : (k : ℕ) (id : ClassId) → Some (record { 0 = k }) ≡ Some id → id.0 ≡ k
 some_id k id e = ap (λ (i : ClassId). i.0) (sym (same_some e))

@@ -9,7 +9,7 @@ use Rattle.cf_reader.specs.declared.class_file.Method.{Method}
 use Rattle.cf_reader.specs.declared.flags.TheConstants.Flags.{PRIVATE, STATIC, FINAL}
 use Rattle.cls_set.specs.declared.class.Class.{Class}
 use Rattle.space_ids.specs.declared.ids.ClassId.{ClassId}
-use Rattle.cls_set.specs.declared.entries.ClassEntry.{ClassEntry}
+use Rattle.cls_set.specs.declared.entries.Entry.{Entry}
 use Rattle.cls_set.specs.Building.{origins_of}
 use Rattle.cls_set.specs.ClassRules.{ClashesAbove, ClashesIn}
 use Rattle.cls_set.specs.Entries.{classes_of, AreArranged}
@@ -68,7 +68,7 @@ below_instance lower upper low high n (rules.MayNotStand.overrides_as_private _ 
 below_instance lower upper low high n (rules.MayNotStand.hides_instance h _) = absurd (n h)
 
 -- the superclasses of a class that is arranged: its direct one, and those of that
-module _ (entries : List ClassEntry) (a : AreArranged entries) (c : Class) (among : Contains (classes_of entries) c) where
+module _ (entries : List Entry) (a : AreArranged entries) (c : Class) (among : Contains (classes_of entries) c) where
   direct_in : (s : ClassId) (k : Class) → c.superclass ≡ Some s → slice_get (classes_of entries) s.0 ≡ Some k → HasSuperclass (origins_of entries) c.file k.file
   direct_in s k is e =
       subst (λ os. HasSuperclass os c.file k.file) (origins_of_classes entries) (superclass_in (classes_of entries) a.ordered a.resolved c (resolved_member entries a c among) s k is e)
@@ -82,7 +82,7 @@ module _ (entries : List ClassEntry) (a : AreArranged entries) (c : Class) (amon
   none_above f is h = superclass_none (classes_of entries) a.ordered a.resolved c (resolved_member entries a c among) f is (subst (λ os. HasSuperclass os c.file f) (sym (origins_of_classes entries)) h)
 
 -- a class of the entries, where it is read
-class_at : (entries : List ClassEntry) (i : ℕ) (k : Class) → slice_get (classes_of entries) i ≡ Some k → Contains (classes_of entries) k
+class_at : (entries : List Entry) (i : ℕ) (k : Class) → slice_get (classes_of entries) i ≡ Some k → Contains (classes_of entries) k
 class_at entries i k e =
     let h = slice_get_within (classes_of entries) i k e in
     (i, h, same_some (sym (slice_get-get_or (classes_of entries) i k h) ∙ e))
@@ -94,7 +94,7 @@ first_up os sub sup (rules.IsSuperclass.further a m b h up) = (m, h, inr up)
 
 -- a walk up the superclasses of a class: what stands above the class that it has come to stands above the first, and if that clashes
 -- with a superclass, one that is still to come is such
-pub record IsClimbing (entries : List ClassEntry) (lower : ClassFile) (up : Option ClassId) : Type 0 where
+pub record IsClimbing (entries : List Entry) (lower : ClassFile) (up : Option ClassId) : Type 0 where
   pub below : Class
   pub among : Contains (classes_of entries) below
   pub next : below.superclass ≡ up
@@ -102,11 +102,11 @@ pub record IsClimbing (entries : List ClassEntry) (lower : ClassFile) (up : Opti
   pub passed : ClashesAbove (origins_of entries) lower lower → ClashesAbove (origins_of entries) lower below.file
 
 -- how far it can go yet
-abbrev pub still : List ClassEntry → Option ClassId → ℕ
+abbrev pub still : List Entry → Option ClassId → ℕ
 still entries None = 0
 still entries (Some s) = suc (rank_of entries s)
 
-module _ (entries : List ClassEntry) (a : AreArranged entries) (lower : ClassFile) where
+module _ (entries : List Entry) (a : AreArranged entries) (lower : ClassFile) where
   pub climb_starts : (c : Class) → Contains (classes_of entries) c → lower ≡ c.file → (up : Option ClassId) → up ≡ c.superclass → IsClimbing entries lower up
   climb_starts c among is up e =
       record {

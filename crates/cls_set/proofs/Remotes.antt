@@ -4,7 +4,7 @@ use Rattle.std.specs.Prelude.{Contains, codes, slice_get}
 use Rattle.std.proofs.lemmas.Option.{slice_get_within, slice_get-get_or}
 use Rattle.cls_set.specs.declared.class.Class.{Class}
 use Rattle.space_ids.specs.declared.ids.ClassId.{ClassId}
-use Rattle.cls_set.specs.declared.entries.ClassEntry.{ClassEntry}
+use Rattle.cls_set.specs.declared.entries.Entry.{Entry}
 use Rattle.cls_set.specs.Building.{origins_of}
 use Rattle.cls_set.specs.Classes.{names, number_of}
 use Rattle.cls_set.specs.Entries.{classes_of, AreArranged}
@@ -26,7 +26,7 @@ named_among ns i name e =
     let h = slice_get_within ns i name e in
     (i, h, same_some (sym (slice_get-get_or ns i name h) ∙ e))
 
-module _ (entries : List ClassEntry) (a : AreArranged entries) (k : ℕ) (c : Class) (is : slice_get (classes_of entries) k ≡ Some c) where
+module _ (entries : List Entry) (a : AreArranged entries) (k : ℕ) (c : Class) (is : slice_get (classes_of entries) k ≡ Some c) where
   here : slice_get (names (classes_of entries)) k ≡ Some c.file.name
   here = class_named (classes_of entries) a.ordered a.resolved k c is
 

@@ -13,7 +13,7 @@ use Rattle.std.proofs.lemmas.List.Sums.{sum_by-append}
 use Rattle.std.proofs.lemmas.Map.Keys.{sorted_tail}
 use Rattle.std.proofs.lemmas.Map.Views.{All-after_first}
 use Rattle.std.proofs.lemmas.Slice.Eq.{bytes_eq-Decides}
-use Rattle.cls_set.specs.declared.entries.ClassEntry.{ClassEntry}
+use Rattle.cls_set.specs.declared.entries.Entry.{Entry}
 use Rattle.cls_set.specs.Building.{AscendByName}
 use Rattle.cls_set.specs.Classes.{name_cmp, names}
 use Rattle.cls_set.specs.Entries.{classes_of}
@@ -104,7 +104,7 @@ first_duplicate ks i name h front before here rest =
           absurd (omega (arith, one, none, all, twice));
     }
 
-next_below : (entries : List ClassEntry) (n : ℕ) → n ≤ length entries → AllAdjacentBelow (λ a b. name_cmp (name_of a) (name_of b) ≡ Less) entries n → (i : ℕ) → suc i < n → name_cmp (get_or (names (classes_of entries)) i []) (get_or (names (classes_of entries)) (suc i) []) ≡ Less
+next_below : (entries : List Entry) (n : ℕ) → n ≤ length entries → AllAdjacentBelow (λ a b. name_cmp (name_of a) (name_of b) ≡ Less) entries n → (i : ℕ) → suc i < n → name_cmp (get_or (names (classes_of entries)) i []) (get_or (names (classes_of entries)) (suc i) []) ≡ Less
 next_below [] n few below i h = absurd (omega arith)
 next_below (m ∷ ms) n few below i h =
     let entries = m ∷ ms in
@@ -113,11 +113,11 @@ next_below (m ∷ ms) n few below i h =
     (subst (λ y. name_cmp (name_of (get_or entries i m)) y ≡ Less) (sym (name_read entries (suc i) m [] (omega arith))) (rw add-one at less))
 
 -- the names of entries, each below the next
-pub strictly_sorted : (entries : List ClassEntry) (n : ℕ) → length entries ≤ n → AllAdjacentBelow (λ a b. name_cmp (name_of a) (name_of b) ≡ Less) entries n → IsStrictlySortedBy name_cmp (names (classes_of entries))
+pub strictly_sorted : (entries : List Entry) (n : ℕ) → length entries ≤ n → AllAdjacentBelow (λ a b. name_cmp (name_of a) (name_of b) ≡ Less) entries n → IsStrictlySortedBy name_cmp (names (classes_of entries))
 strictly_sorted entries n all below =
     strictly (names (classes_of entries)) (λ i h. next_below entries (length entries) (omega arith) (λ k d l. below k d (omega arith)) i (rw length_names at h))
 
-front_below : (entries : List ClassEntry) (n : ℕ) → n ≤ length entries → AllAdjacentBelow (λ a b. name_cmp (name_of a) (name_of b) ≡ Less) entries n → (j : ℕ) → suc j < length (take n (names (classes_of entries))) → name_cmp (get_or (take n (names (classes_of entries))) j []) (get_or (take n (names (classes_of entries))) (suc j) []) ≡ Less
+front_below : (entries : List Entry) (n : ℕ) → n ≤ length entries → AllAdjacentBelow (λ a b. name_cmp (name_of a) (name_of b) ≡ Less) entries n → (j : ℕ) → suc j < length (take n (names (classes_of entries))) → name_cmp (get_or (take n (names (classes_of entries))) j []) (get_or (take n (names (classes_of entries))) (suc j) []) ≡ Less
 front_below entries n some below j l =
     let within : suc j < min n (length (names (classes_of entries))) = rw length-take at l in
     let second : suc j < n = omega (arith, within) in
@@ -127,7 +127,7 @@ front_below entries n some below j l =
 less_one : (i : ℕ) → suc i - 1 ≡ i
 less_one i = omega arith
 
-rest_above : (entries : List ClassEntry) (p k : ℕ) (here : ClassEntry) (d : List ℕ) → here ≡ get_or entries p here → AscendByName entries → k < length entries - p → is_lt (name_cmp (get_or (drop p (names (classes_of entries))) k d) (name_of here)) ≡ false
+rest_above : (entries : List Entry) (p k : ℕ) (here : Entry) (d : List ℕ) → here ≡ get_or entries p here → AscendByName entries → k < length entries - p → is_lt (name_cmp (get_or (drop p (names (classes_of entries))) k d) (name_of here)) ≡ false
 rest_above entries p k here d e up l =
     let far = sorted_far (λ a b. is_lt (name_cmp (name_of a) (name_of b))) (ranks_by nat_list_cmp_total name_of) entries up p (p + k) here (omega arith) (omega arith) in
     rw get_or-drop
@@ -135,7 +135,7 @@ rest_above entries p k here d e up l =
     (subst (λ m. is_lt (name_cmp (name_of (get_or entries (p + k) here)) (name_of m)) ≡ false) (sym e) far))
 
 -- the first entry whose name is that of the one before it
-pub duplicate_at : (entries : List ClassEntry) (p : ℕ) (before here : ClassEntry) → 1 ≤ p → p < length entries → AscendByName entries → AllAdjacentBelow (λ a b. name_cmp (name_of a) (name_of b) ≡ Less) entries p → before ≡ get_or entries (p - 1) before → here ≡ get_or entries p here → name_of here ≡ name_of before → IsFirstDuplicate (names (classes_of entries)) (name_of here)
+pub duplicate_at : (entries : List Entry) (p : ℕ) (before here : Entry) → 1 ≤ p → p < length entries → AscendByName entries → AllAdjacentBelow (λ a b. name_cmp (name_of a) (name_of b) ≡ Less) entries p → before ≡ get_or entries (p - 1) before → here ≡ get_or entries p here → name_of here ≡ name_of before → IsFirstDuplicate (names (classes_of entries)) (name_of here)
 duplicate_at entries zero before here some h up below b e same = absurd (omega arith)
 duplicate_at entries (suc i) before here some h up below b e same =
     let ks = names (classes_of entries) in
@@ -146,7 +146,7 @@ duplicate_at entries (suc i) before here some h up below b e same =
     (λ k d l. rest_above entries (suc i) k here d e up (rw (length-drop, length_names) at l))
 
 -- names that ascend and differ ascend strictly
-pub rises : (entries : List ClassEntry) (p : ℕ) (d : ClassEntry) → AscendByName entries → 1 ≤ p → p < length entries → (name_of (get_or entries p d) ≡ name_of (get_or entries (p - 1) d) → ⊥) → name_cmp (name_of (get_or entries (p - 1) d)) (name_of (get_or entries p d)) ≡ Less
+pub rises : (entries : List Entry) (p : ℕ) (d : Entry) → AscendByName entries → 1 ≤ p → p < length entries → (name_of (get_or entries p d) ≡ name_of (get_or entries (p - 1) d) → ⊥) → name_cmp (name_of (get_or entries (p - 1) d)) (name_of (get_or entries p d)) ≡ Less
 rises entries p d up some h differ =
     let at = sorted_far (λ a b. is_lt (name_cmp (name_of a) (name_of b))) (ranks_by nat_list_cmp_total name_of) entries up (p - 1) p d (omega arith) h in
     less_if (name_of (get_or entries (p - 1) d)) (name_of (get_or entries p d)) at (λ e. differ (sym e))

@@ -8,7 +8,7 @@ use Rattle.std.proofs.lemmas.Option.{slice_get_cases, slice_get_within, slice_ge
 use Rattle.cf_reader.specs.declared.class_file.ClassFile.{ClassFile}
 use Rattle.cls_set.specs.declared.class.Class.{Class}
 use Rattle.space_ids.specs.declared.ids.ClassId.{ClassId}
-use Rattle.cls_set.specs.declared.entries.ClassEntry.{ClassEntry}
+use Rattle.cls_set.specs.declared.entries.Entry.{Entry}
 use Rattle.cls_set.specs.Building.{origins_of}
 use Rattle.cls_set.specs.Classes.{name_cmp, names}
 use Rattle.cls_set.specs.Entries.{classes_of, AreArranged}
@@ -86,7 +86,7 @@ module _ (classes : List Class) (ordered : IsStrictlySortedBy name_cmp (names cl
         (b.0, k.0, b.1, k.1, one_named b.0.0 k.0 h.0 f k.1 b.2 h.2)
 
 -- so for entries
-module _ (entries : List ClassEntry) (a : AreArranged entries) where
+module _ (entries : List Entry) (a : AreArranged entries) where
   pub resolved_member : (c : Class) → Contains (classes_of entries) c → IsResolved (names (classes_of entries)) c
   resolved_member c among = All-contains (IsResolved (names (classes_of entries))) (classes_of entries) c a.resolved among
 

@@ -6,7 +6,7 @@ use Rattle.std.proofs.lemmas.Option.{slice_get_cases, slice_get-get_or, slice_ge
 use Rattle.std.proofs.lemmas.List.Elements.{All-get_or, Contains-get_or}
 use Rattle.cls_set.specs.declared.class.Class.{Class}
 use Rattle.space_ids.specs.declared.ids.ClassId.{ClassId}
-use Rattle.cls_set.specs.declared.entries.ClassEntry.{ClassEntry}
+use Rattle.cls_set.specs.declared.entries.Entry.{Entry}
 use Rattle.cls_set.specs.Classes.{names, direct_supertypes}
 use Rattle.cls_set.specs.Entries.{classes_of, IsRanked}
 use Rattle.cls_set.specs.Sets.{IsClassSet, IsResolved, super_names}
@@ -18,7 +18,7 @@ use Rattle.cls_set.proofs.Hierarchy.{rank_of, some_of, superclass_lower, superin
 use Rattle.cls_set.proofs.Walks.{of_class, up_among}
 
 -- the ranks that entries keep
-pub ranks : (entries : List ClassEntry) → All (IsRanked entries) entries → (sub sup : ClassId) → IsDirectSupertype (classes_of entries) sub sup → rank_of entries sup < rank_of entries sub
+pub ranks : (entries : List Entry) → All (IsRanked entries) entries → (sub sup : ClassId) → IsDirectSupertype (classes_of entries) sub sup → rank_of entries sup < rank_of entries sub
 ranks entries all sub sup (inl e) =
     let c = some_of (slice_get (classes_of entries) sub.0) (λ c. c.superclass ≡ Some sup) e in
     (superclass_lower entries sub c.0 sup all c.1 c.2).lower
@@ -47,7 +47,7 @@ pub direct_in_set : (classes : List Class) → IsClassSet classes → (sub sup :
 direct_in_set classes set = direct_within classes set.resolved
 
 -- and so for entries
-pub are_within : (entries : List ClassEntry) → All (IsResolved (names (classes_of entries))) (classes_of entries) → AreWithin (length entries) (classes_of entries)
+pub are_within : (entries : List Entry) → All (IsResolved (names (classes_of entries))) (classes_of entries) → AreWithin (length entries) (classes_of entries)
 are_within entries resolved k d h i e l =
     let classes = classes_of entries in
     let c = get_or classes k d in

@@ -8,7 +8,7 @@ use Rattle.cf_text.specs.declared.types.ElementType.TheVariants as elements
 use Rattle.cf_reader.specs.declared.class_file.ClassFile.{ClassFile}
 use Rattle.cf_reader.specs.declared.flags.TheConstants.Flags.{INTERFACE}
 use Rattle.cls_set.specs.declared.class.Class.{Class}
-use Rattle.cls_set.specs.declared.entries.ClassEntry.{ClassEntry}
+use Rattle.cls_set.specs.declared.entries.Entry.{Entry}
 use Rattle.cls_set.specs.declared.remote.MemberKind.{MemberKind}
 use Rattle.cls_set.specs.declared.remote.MemberKind.TheVariants.{Fields, Methods}
 use Rattle.cls_set.specs.declared.fault.SetRule.TheVariants.{RemoteField, RemoteMethod}
@@ -59,7 +59,7 @@ pub methods_unfit : (os : List Origin) (file : ClassFile) → HasMethodNotCrossi
 methods_unfit os file bad = (bad.declared.0, bad.method, bad.declared.1, bad.declared.2, record { type = bad.type; used = bad.used; not_crossing = bad.not_crossing })
 
 -- the unfit classes among those up to an index
-pub record AreUnfitBelow (kind : MemberKind) (entries : List ClassEntry) (n : ℕ) (indices : List ℕ) : Type 0 where
+pub record AreUnfitBelow (kind : MemberKind) (entries : List Entry) (n : ℕ) (indices : List ℕ) : Type 0 where
   pub only : (k : ℕ) → Contains indices k → (c : Class) × (slice_get (classes_of entries) k ≡ Some c) × IsUnfit kind (origins_of entries) c.file
   pub each : (k : ℕ) (c : Class) → k < n → slice_get (classes_of entries) k ≡ Some c → IsUnfit kind (origins_of entries) c.file → Contains indices k
 
@@ -67,7 +67,7 @@ single_index : (k n : ℕ) → Contains (n ∷ []) k → k ≡ n
 single_index k n (zero, h, is) = sym is
 single_index k n (suc i, h, is) = absurd (omega (arith, h))
 
-pub unfit_more : (kind : MemberKind) (entries : List ClassEntry) (n : ℕ) (indices : List ℕ) (c : Class) → AreUnfitBelow kind entries n indices → slice_get (classes_of entries) n ≡ Some c → IsUnfit kind (origins_of entries) c.file → AreUnfitBelow kind entries (n + 1) (indices ++ n ∷ [])
+pub unfit_more : (kind : MemberKind) (entries : List Entry) (n : ℕ) (indices : List ℕ) (c : Class) → AreUnfitBelow kind entries n indices → slice_get (classes_of entries) n ≡ Some c → IsUnfit kind (origins_of entries) c.file → AreUnfitBelow kind entries (n + 1) (indices ++ n ∷ [])
 unfit_more kind entries n indices c old here bad =
     record {
       only = λ k among.
@@ -82,7 +82,7 @@ unfit_more kind entries n indices c old here bad =
           ];
     }
 
-pub unfit_none : (kind : MemberKind) (entries : List ClassEntry) (n : ℕ) (indices : List ℕ) → AreUnfitBelow kind entries n indices → ((c : Class) → slice_get (classes_of entries) n ≡ Some c → IsUnfit kind (origins_of entries) c.file → ⊥) → AreUnfitBelow kind entries (n + 1) indices
+pub unfit_none : (kind : MemberKind) (entries : List Entry) (n : ℕ) (indices : List ℕ) → AreUnfitBelow kind entries n indices → ((c : Class) → slice_get (classes_of entries) n ≡ Some c → IsUnfit kind (origins_of entries) c.file → ⊥) → AreUnfitBelow kind entries (n + 1) indices
 unfit_none kind entries n indices old none =
     record {
       only = old.only;
@@ -93,7 +93,7 @@ unfit_none kind entries n indices old none =
           ];
     }
 
-pub unfit_all : (kind : MemberKind) (entries : List ClassEntry) (n : ℕ) (indices : List ℕ) → length entries ≤ n → AreUnfitBelow kind entries n indices → AreUnfit kind entries indices
+pub unfit_all : (kind : MemberKind) (entries : List Entry) (n : ℕ) (indices : List ℕ) → length entries ≤ n → AreUnfitBelow kind entries n indices → AreUnfit kind entries indices
 unfit_all kind entries n indices all u =
     record {
       only = u.only;
@@ -112,7 +112,7 @@ pub off : (b : Bool) (P : Type 0) → b ≡ false → (P → ⊥) → IsTrue b �
 off b P e none = (λ t. absurd (true_false (sym t ∙ e)), λ p. absurd (none p))
 
 -- classes that are arranged, by name and by number
-module _ (entries : List ClassEntry) (a : AreArranged entries) where
+module _ (entries : List Entry) (a : AreArranged entries) where
   named_in_set : (f : ClassFile) (name : List ℕ) → IsNamed (origins_of entries) name f → IsNamed (map origin (classes_of entries)) name f
   named_in_set f name n = subst (λ os. IsNamed os name f) (sym (origins_of_classes entries)) n
 

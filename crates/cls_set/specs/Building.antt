@@ -8,7 +8,7 @@ use Rattle.cls_set.specs.declared.fault.SetFault.{SetFault}
 use Rattle.cls_set.specs.declared.fault.SetFault.TheVariants.{Broken, Memory}
 use Rattle.cls_set.specs.declared.fault.SetRule.{SetRule}
 use Rattle.cls_set.specs.declared.fault.SetRule.TheVariants.{Duplicate, AbsentClass, Cycle}
-use Rattle.cls_set.specs.declared.entries.ClassEntry.{ClassEntry}
+use Rattle.cls_set.specs.declared.entries.Entry.{Entry}
 use Rattle.cls_set.specs.Classes.{name_cmp}
 use Rattle.cls_set.specs.Sets.{Origin, origin, DescriptorNames, HasAbsent, IsFirstAbsent, IsFirstCycle, IsFirstDuplicate, IsResolved, TypeNames}
 use Rattle.cf_text.specs.declared.types.FieldType.{FieldType}
@@ -22,16 +22,16 @@ abbrev pub unresolved : Origin → Class
 unresolved o = record { file = o.0; superclass = None; interfaces = []; is_built_in = o.1 }
 
 -- classes ranked in the order in which they come, from k on
-abbrev pub ranked_from : ℕ → List Origin → List ClassEntry
+abbrev pub ranked_from : ℕ → List Origin → List Entry
 ranked_from k [] = []
 ranked_from k (o ∷ os) = record { class = unresolved o; rank = k } ∷ ranked_from (suc k) os
 
 -- the names ascend, and may repeat
-abbrev pub AscendByName : List ClassEntry → Type 0
+abbrev pub AscendByName : List Entry → Type 0
 AscendByName entries = IsSortedBy (λ a b. is_lt (name_cmp a.class.file.name b.class.file.name)) entries
 
 -- what resolving leaves of an entry
-abbrev pub kept : ClassEntry → Origin × ℕ
+abbrev pub kept : Entry → Origin × ℕ
 kept m = (origin m.class, m.rank)
 
 -- a fault by this rule at this name, unless memory ran out
@@ -45,7 +45,7 @@ IsDuplicateFault names (Broken rule name) = ⊥
 IsDuplicateFault names Memory = Unit {0}
 
 -- the classes of the entries, as they come
-abbrev pub origins_of : List ClassEntry → List Origin
+abbrev pub origins_of : List Entry → List Origin
 origins_of entries = map (λ m. origin m.class) entries
 
 -- a class of this name names a supertype of which there is none, unless memory ran out

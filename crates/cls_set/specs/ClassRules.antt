@@ -15,7 +15,7 @@ use Rattle.cls_set.specs.declared.rules.ClassRule.TheVariants.{BadSuper, FinalSu
 use Rattle.cls_set.specs.Faults.{turn, IsFirstToBreak, IsKept, Keeps}
 use Rattle.cls_set.specs.Rules.{CanBeKept, CanCross, Clashes, Has, HasFieldNotKept, HasMethodNotCrossing, HasSuperclass, HasSuperinterface, IsSuperclass}
 use Rattle.cls_set.specs.declared.class.Class.{Class}
-use Rattle.cls_set.specs.declared.entries.ClassEntry.{ClassEntry}
+use Rattle.cls_set.specs.declared.entries.Entry.{Entry}
 use Rattle.cls_set.specs.declared.remote.MemberKind.{MemberKind}
 use Rattle.cls_set.specs.declared.remote.MemberKind.TheVariants.{Fields, Methods}
 use Rattle.cls_set.specs.declared.remote.Unfit.{Unfit}
@@ -55,7 +55,7 @@ abbrev pub ClashesAbove : List Origin → ClassFile → ClassFile → Type 0
 ClashesAbove classes lower below = (upper : ClassFile) × IsSuperclass classes below upper × ClashesIn lower upper
 
 -- entries whose supertypes are known and told by tables
-pub record AreKnown (entries : List ClassEntry) (told : List (List Bool)) : Type 0 where
+pub record AreKnown (entries : List Entry) (told : List (List Bool)) : Type 0 where
   pub arranged : AreArranged entries
   pub tables : HaveTables (classes_of entries) told
 
@@ -80,7 +80,7 @@ IsUnfit Fields classes file = HasFieldNotKept classes file
 IsUnfit Methods classes file = HasMethodNotCrossing classes file
 
 -- the indices of just the classes that do
-pub record AreUnfit (kind : MemberKind) (entries : List ClassEntry) (indices : List ℕ) : Type 0 where
+pub record AreUnfit (kind : MemberKind) (entries : List Entry) (indices : List ℕ) : Type 0 where
   pub only : (k : ℕ) → Contains indices k → (c : Class) × (slice_get (classes_of entries) k ≡ Some c) × IsUnfit kind (origins_of entries) c.file
   pub each : (k : ℕ) (c : Class) → slice_get (classes_of entries) k ≡ Some c → IsUnfit kind (origins_of entries) c.file → Contains indices k
 
@@ -89,7 +89,7 @@ abbrev pub IsReached : List Bool → ℕ → ℕ → Type 0
 IsReached table index upper = (upper ≡ index) ⊎ IsTrue (slice_index_or table upper false)
 
 -- both lists of such classes
-pub record AreFound (entries : List ClassEntry) (unfit : Unfit) : Type 0 where
+pub record AreFound (entries : List Entry) (unfit : Unfit) : Type 0 where
   pub fields : AreUnfit Fields entries unfit.fields.items
   pub methods : AreUnfit Methods entries unfit.methods.items
 

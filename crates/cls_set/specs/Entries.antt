@@ -2,7 +2,7 @@ use Rattle.std.specs.Prelude.{◌≡◌, ◌≤◌, ◌<◌, ◌↔◌, ℕ, Boo
 use Rattle.std.specs.List.Sorted.{IsStrictlySortedBy}
 use Rattle.cls_set.specs.declared.class.Class.{Class}
 use Rattle.space_ids.specs.declared.ids.ClassId.{ClassId}
-use Rattle.cls_set.specs.declared.entries.ClassEntry.{ClassEntry}
+use Rattle.cls_set.specs.declared.entries.Entry.{Entry}
 use Rattle.cls_set.specs.Classes.{direct_supertypes, name_cmp, names}
 use Rattle.cls_set.specs.Sets.{IsClassSet, IsResolved}
 use Rattle.cls_set.specs.Subtypes.{IsProperSubtype}
@@ -13,15 +13,15 @@ use Rattle.cls_set.specs.declared.walking.Ranks.TheVariants.{Cyclic, Tables}
 -- How a set keeps its classes.
 
 -- the classes of the entries
-abbrev pub classes_of : List ClassEntry → List Class
+abbrev pub classes_of : List Entry → List Class
 classes_of entries = map (λ m. m.class) entries
 
 -- a class stands in the set, with a rank below this one
-abbrev pub IsLower : List ClassEntry → ℕ → ClassId → Type 0
+abbrev pub IsLower : List Entry → ℕ → ClassId → Type 0
 IsLower entries rank class = IsSomeAnd (slice_get entries class.0) (λ m. m.rank < rank)
 
 -- the direct supertypes are ranked below
-abbrev pub IsRanked : List ClassEntry → ClassEntry → Type 0
+abbrev pub IsRanked : List Entry → Entry → Type 0
 IsRanked entries m = All (IsLower entries m.rank) (direct_supertypes m.class)
 
 -- a table tells by number which classes are proper supertypes of class k
@@ -35,23 +35,23 @@ pub record HaveTables (classes : List Class) (tables : List (List Bool)) : Type 
   pub table : (k : ℕ) → k < length classes → IsTable classes k (slice_index_or tables k [])
 
 -- entries that stand in the order of their names, and can be numbered
-pub record AreOrdered (entries : List ClassEntry) : Type 0 where
+pub record AreOrdered (entries : List Entry) : Type 0 where
   pub ordered : IsStrictlySortedBy name_cmp (names (classes_of entries))
   pub few : length entries ≤ 4096
 
 -- entries whose supertypes are known
-pub record AreArranged (entries : List ClassEntry) : Type 0 where
+pub record AreArranged (entries : List Entry) : Type 0 where
   pub ordered : IsStrictlySortedBy name_cmp (names (classes_of entries))
   pub few : length entries ≤ 4096
   pub resolved : All (IsResolved (names (classes_of entries))) (classes_of entries)
   pub ranked : All (IsRanked entries) entries
 
-pub record AreEntries (entries : List ClassEntry) (told : List (List Bool)) : Type 0 where
+pub record AreEntries (entries : List Entry) (told : List (List Bool)) : Type 0 where
   pub set : IsClassSet (classes_of entries)
   pub ranked : All (IsRanked entries) entries
   pub tables : HaveTables (classes_of entries) told
 
 -- what ranking classes comes to
-abbrev pub AreRanks : List Class → List ClassEntry → Ranks → Type 0
+abbrev pub AreRanks : List Class → List Entry → Ranks → Type 0
 AreRanks classes entries (Cyclic k) = IsFirstOwn classes k
 AreRanks classes entries (Tables tables) = All (IsRanked entries) entries × HaveTables classes tables.items

@@ -6,7 +6,7 @@ ghost use Rattle.cls_set.specs.Faults.{IsSetFault};
 
 use super::SetFault;
 use super::building::{gather, last_name, refuse_cycles, refuse_duplicates, refuse_many};
-use super::entries::ClassEntry;
+use super::entries::Entry;
 use super::resolving::resolve;
 use cf_reader::{ClassFile, Row};
 use std::alloc::Global;
@@ -14,7 +14,7 @@ use std::alloc::Global;
 // Classes by name, and for each a table that tells by number which classes are its supertypes.
 #[derive(Debug, Drop)]
 pub(crate) struct Arranged {
-    pub(crate) entries: Vec<ClassEntry>,
+    pub(crate) entries: Vec<Entry>,
     pub(crate) tables: Vec<Row<bool>>,
 }
 

@@ -10,7 +10,7 @@ ghost use Rattle.cls_set.specs.declared.fault.SetRule.TheVariants.{TooMany};
 ghost use Rattle.cls_set.specs.Sets.{origins, IsFirstDuplicate, IsResolved};
 
 use super::built_in::built_in_classes;
-use super::entries::ClassEntry;
+use super::entries::Entry;
 use super::resolving::broken;
 use super::walking::{Ranks, rank};
 use super::{Class, SetFault, SetRule};
@@ -25,7 +25,7 @@ fn add_classes(
     alloc: Global,
     files: Vec<ClassFile>,
     is_built_in: bool,
-    entries: &mut Vec<ClassEntry>,
+    entries: &mut Vec<Entry>,
 ) -> Result<(), AllocError>
     ensures { OnOk result (entries.new.items ≡ entries.old.items ++ ranked_from (length entries.old.items) (map (λ file. (file, is_built_in)) files.items)) }
 {
@@ -37,13 +37,13 @@ fn add_classes(
             is_built_in,
         };
         let rank = entries.len();
-        entries.push(ClassEntry { class, rank })?;
+        entries.push(Entry { class, rank })?;
     }
     Ok(())
 }
 
 // Sorts by name.
-fn sort(entries: &mut Vec<ClassEntry>) -> Result<(), AllocError>
+fn sort(entries: &mut Vec<Entry>) -> Result<(), AllocError>
     ensures permutation { IsPermutation entries.old.items entries.new.items }
     ensures sorted { OnOk result (AscendByName entries.new.items) }
 {
@@ -54,7 +54,7 @@ fn sort(entries: &mut Vec<ClassEntry>) -> Result<(), AllocError>
 }
 
 // The index of the first class whose name stands before it too.
-fn first_duplicate(entries: &[ClassEntry]) -> Option<usize>
+fn first_duplicate(entries: &[Entry]) -> Option<usize>
     requires { AscendByName entries.now }
     ensures within { IfSome result (λ k. k < length entries.now) }
     ensures found { IfSome result (λ k. IfSome (slice_get entries.now k) (λ m. IsFirstDuplicate (names (classes_of entries.now)) m.class.file.name)) }
@@ -70,7 +70,7 @@ fn first_duplicate(entries: &[ClassEntry]) -> Option<usize>
 }
 
 // The classes of the files and the built-in ones, by name.
-pub(crate) fn gather(alloc: Global, files: Vec<ClassFile>) -> Result<Vec<ClassEntry>, AllocError>
+pub(crate) fn gather(alloc: Global, files: Vec<ClassFile>) -> Result<Vec<Entry>, AllocError>
     ensures all { IfOk result (λ entries. IsPermutation (ranked_from 0 (origins files.items)) entries.items) }
     ensures sorted { IfOk result (λ entries. AscendByName entries.items) }
 {
@@ -103,7 +103,7 @@ pub(crate) fn refuse_many(count: usize, last: Option<Text>) -> Result<(), SetFau
 }
 
 // Refuses a name that stands twice.
-pub(crate) fn refuse_duplicates(entries: &[ClassEntry]) -> Result<(), SetFault>
+pub(crate) fn refuse_duplicates(entries: &[Entry]) -> Result<(), SetFault>
     requires { AscendByName entries.now }
     ensures ok { OnOk result (IsStrictlySortedBy name_cmp (names (classes_of entries.now))) }
     ensures fault { IfErr result (IsDuplicateFault (names (classes_of entries.now))) }
@@ -117,7 +117,7 @@ pub(crate) fn refuse_duplicates(entries: &[ClassEntry]) -> Result<(), SetFault>
 // Ranks the classes, tells their supertypes in tables, and refuses a class that is its own supertype.
 pub(crate) fn refuse_cycles(
     alloc: Global,
-    entries: &mut Vec<ClassEntry>,
+    entries: &mut Vec<Entry>,
 ) -> Result<Vec<Row<bool>>, SetFault>
     requires ordered { IsStrictlySortedBy name_cmp (names (classes_of entries.old.items)) }
     requires few { length entries.old.items ≤ 4096 }

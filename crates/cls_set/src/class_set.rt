@@ -1,7 +1,7 @@
 //! Class sets: their look-ups.
 
 use super::arranging::arrange;
-use super::entries::{ClassEntry, find, is_below, is_in};
+use super::entries::{Entry, find, is_below, is_in};
 use super::rules::refuse_broken;
 use super::{Class, ClassId, SetFault};
 use cf_reader::{ClassFile, Row, Text};
@@ -12,7 +12,7 @@ use std::marker::Model;
 /// classes: the class with number k is item k.
 #[derive(Debug, Drop)]
 pub struct ClassSet {
-    entries: Vec<ClassEntry>,
+    entries: Vec<Entry>,
     // For each class a table that tells by number which classes are its supertypes.
     tables: Vec<Row<bool>>,
 }

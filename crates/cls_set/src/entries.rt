@@ -11,13 +11,13 @@ use super::{Class, ClassId};
 
 // A class, and a number that is above those of its direct supertypes.
 #[derive(Debug, Drop)]
-pub(crate) struct ClassEntry {
+pub(crate) struct Entry {
     pub(crate) class: Class,
     pub(crate) rank: usize,
 }
 
 // The number of the class of this name.
-pub(crate) fn find(entries: &[ClassEntry], name: &[u8]) -> Option<ClassId>
+pub(crate) fn find(entries: &[Entry], name: &[u8]) -> Option<ClassId>
     requires ordered { IsStrictlySortedBy name_cmp (names (classes_of entries.now)) }
     requires few { length entries.now ≤ 4096 }
     ensures number { result ≡ number_of (classes_of entries.now) name.now }
@@ -31,7 +31,7 @@ pub(crate) fn find(entries: &[ClassEntry], name: &[u8]) -> Option<ClassId>
 }
 
 // Whether a class is another or a subclass of it.
-pub(crate) fn is_below(entries: &[ClassEntry], sub: ClassId, sup: ClassId) -> bool
+pub(crate) fn is_below(entries: &[Entry], sub: ClassId, sup: ClassId) -> bool
     requires ranked { All (IsRanked entries.now) entries.now }
     requires in_set { sub.0 < length entries.now }
     ensures { IsTrue result ↔ IsSubclass (classes_of entries.now) sub sup }

@@ -8,11 +8,11 @@ ghost use Rattle.cls_set.specs.Building.{DescriptorNamesAbsent, MembersNameAbsen
 ghost use Rattle.cls_set.specs.Classes.{names};
 ghost use Rattle.cls_set.specs.Entries.{classes_of, AreOrdered};
 
-use super::entries::{ClassEntry, find};
+use super::entries::{Entry, find};
 use cf_reader::{ClassFile, ElementType, Field, FieldType, Method, MethodDescriptor};
 
 // Whether a type names a class that is not in the set.
-fn is_absent(entries: &[ClassEntry], kind: &FieldType) -> bool
+fn is_absent(entries: &[Entry], kind: &FieldType) -> bool
     requires { AreOrdered entries.now }
     ensures { IsTrue result ↔ NamesAbsent (names (classes_of entries.now)) kind.now }
 {
@@ -22,14 +22,14 @@ fn is_absent(entries: &[ClassEntry], kind: &FieldType) -> bool
     }
 }
 
-fn is_one_absent(entries: &[ClassEntry], kinds: &[FieldType]) -> bool
+fn is_one_absent(entries: &[Entry], kinds: &[FieldType]) -> bool
     requires { AreOrdered entries.now }
     ensures { IsTrue result ↔ Any (NamesAbsent (names (classes_of entries.now))) kinds.now }
 {
     kinds.iter().any(|kind| is_absent(entries, kind))
 }
 
-fn descriptor_names_absent(entries: &[ClassEntry], types: &MethodDescriptor) -> bool
+fn descriptor_names_absent(entries: &[Entry], types: &MethodDescriptor) -> bool
     requires { AreOrdered entries.now }
     ensures { IsTrue result ↔ DescriptorNamesAbsent (names (classes_of entries.now)) types.now }
 {
@@ -39,14 +39,14 @@ fn descriptor_names_absent(entries: &[ClassEntry], types: &MethodDescriptor) -> 
     }
 }
 
-fn fields_name_absent(entries: &[ClassEntry], fields: &[Field]) -> bool
+fn fields_name_absent(entries: &[Entry], fields: &[Field]) -> bool
     requires { AreOrdered entries.now }
     ensures { IsTrue result ↔ Any (λ (field : Field). NamesAbsent (names (classes_of entries.now)) field.kind) fields.now }
 {
     fields.iter().any(|field| is_absent(entries, &field.kind))
 }
 
-fn methods_name_absent(entries: &[ClassEntry], methods: &[Method]) -> bool
+fn methods_name_absent(entries: &[Entry], methods: &[Method]) -> bool
     requires { AreOrdered entries.now }
     ensures { IsTrue result ↔ Any (λ (method : Method). DescriptorNamesAbsent (names (classes_of entries.now)) method.types) methods.now }
 {
@@ -56,7 +56,7 @@ fn methods_name_absent(entries: &[ClassEntry], methods: &[Method]) -> bool
 }
 
 // Whether the descriptor of a member names a class that is not in the set.
-pub(crate) fn members_name_absent(entries: &[ClassEntry], file: &ClassFile) -> bool
+pub(crate) fn members_name_absent(entries: &[Entry], file: &ClassFile) -> bool
     requires { AreOrdered entries.now }
     ensures { IsTrue result ↔ MembersNameAbsent (names (classes_of entries.now)) file.now }
 {

@@ -5,7 +5,7 @@ ghost use Rattle.std.specs.Ordering.{is_lt};
 ghost use Rattle.cls_set.specs.Orders.{key_at, key_cmp, key_of, HaveOrders, IsOrder};
 ghost use Rattle.cls_set.specs.Entries.{classes_of};
 
-use super::entries::ClassEntry;
+use super::entries::Entry;
 use cf_reader::{Method, Row};
 use std::alloc::{AllocError, Global};
 use std::cmp::Ordering;
@@ -52,7 +52,7 @@ pub(crate) fn order(alloc: Global, methods: &[Method]) -> Result<Vec<usize>, All
 }
 
 // The same for each class.
-pub(crate) fn orders(alloc: Global, entries: &[ClassEntry]) -> Result<Vec<Row<usize>>, AllocError>
+pub(crate) fn orders(alloc: Global, entries: &[Entry]) -> Result<Vec<Row<usize>>, AllocError>
     ensures { IfOk result (λ orders. HaveOrders (classes_of entries.now) orders.items) }
 {
     let mut orders = Vec::new(alloc);

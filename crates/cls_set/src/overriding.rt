@@ -10,7 +10,7 @@ ghost use Rattle.cls_set.specs.Entries.{classes_of, AreArranged};
 ghost use Rattle.cls_set.specs.Orders.{HaveOrders, IsOrder};
 ghost use Rattle.cls_set.specs.Rules.{package_name, Clashes, HasPackageAccess, IsSamePackage, MayNotStand, OverridesBadly};
 
-use super::entries::ClassEntry;
+use super::entries::Entry;
 use super::ordering::is_before;
 use cf_reader::{ClassFile, Flags, Method, Row};
 
@@ -101,7 +101,7 @@ fn clashes_in(lower: &ClassFile, upper: &ClassFile, order: &[usize]) -> bool
 }
 
 // Whether a class has a method that may not stand below one of a superclass.
-pub(crate) fn overrides_badly(entries: &[ClassEntry], orders: &[Row<usize>], index: usize) -> bool
+pub(crate) fn overrides_badly(entries: &[Entry], orders: &[Row<usize>], index: usize) -> bool
     requires arranged { AreArranged entries.now }
     requires orders { HaveOrders (classes_of entries.now) orders.now }
     requires in_set { index < length entries.now }

@@ -8,12 +8,12 @@ ghost use Rattle.cls_set.specs.ClassRules.{AreKnown, AreUnfit, CannotCross, IsFi
 ghost use Rattle.cls_set.specs.Entries.{classes_of, AreArranged, HaveTables};
 ghost use Rattle.cls_set.specs.Rules.{CanBeKept, CanCross, IsBelowRemote, NamesRemoteInterface};
 
-use super::entries::{ClassEntry, find, is_in};
+use super::entries::{Entry, find, is_in};
 use cf_reader::{ElementType, Field, FieldType, Flags, Method, Row, Text};
 use std::alloc::{AllocError, Global};
 
 // Whether a class is java/rmi/Remote or below it.
-pub(crate) fn is_below_remote(entries: &[ClassEntry], tables: &[Row<bool>], index: usize) -> bool
+pub(crate) fn is_below_remote(entries: &[Entry], tables: &[Row<bool>], index: usize) -> bool
     requires arranged { AreArranged entries.now }
     requires tables { HaveTables (classes_of entries.now) tables.now }
     requires in_set { index < length entries.now }
@@ -28,7 +28,7 @@ pub(crate) fn is_below_remote(entries: &[ClassEntry], tables: &[Row<bool>], inde
     }
 }
 
-fn names_remote_interface(entries: &[ClassEntry], tables: &[Row<bool>], name: &Text) -> bool
+fn names_remote_interface(entries: &[Entry], tables: &[Row<bool>], name: &Text) -> bool
     requires { AreKnown entries.now tables.now }
     ensures { IsTrue result ↔ NamesRemoteInterface (origins_of entries.now) name.now }
 {
@@ -42,7 +42,7 @@ fn names_remote_interface(entries: &[ClassEntry], tables: &[Row<bool>], name: &T
 }
 
 // Whether a remote class may have an instance field of this type.
-fn can_be_kept(entries: &[ClassEntry], tables: &[Row<bool>], kind: &FieldType) -> bool
+fn can_be_kept(entries: &[Entry], tables: &[Row<bool>], kind: &FieldType) -> bool
     requires { AreKnown entries.now tables.now }
     ensures { IsTrue result ↔ CanBeKept (origins_of entries.now) kind.now }
 {
@@ -58,7 +58,7 @@ fn can_be_kept(entries: &[ClassEntry], tables: &[Row<bool>], kind: &FieldType) -
 }
 
 // Whether a remote interface's methods may take and give this type.
-fn can_cross(entries: &[ClassEntry], tables: &[Row<bool>], kind: &FieldType) -> bool
+fn can_cross(entries: &[Entry], tables: &[Row<bool>], kind: &FieldType) -> bool
     requires { AreKnown entries.now tables.now }
     ensures { IsTrue result ↔ CanCross (origins_of entries.now) kind.now }
 {
@@ -68,28 +68,28 @@ fn can_cross(entries: &[ClassEntry], tables: &[Row<bool>], kind: &FieldType) -> 
     }
 }
 
-fn cannot_cross(entries: &[ClassEntry], tables: &[Row<bool>], kind: &FieldType) -> bool
+fn cannot_cross(entries: &[Entry], tables: &[Row<bool>], kind: &FieldType) -> bool
     requires { AreKnown entries.now tables.now }
     ensures { IsTrue result ↔ CannotCross (origins_of entries.now) kind.now }
 {
     !can_cross(entries, tables, kind)
 }
 
-fn is_field_not_kept(entries: &[ClassEntry], tables: &[Row<bool>], field: &Field) -> bool
+fn is_field_not_kept(entries: &[Entry], tables: &[Row<bool>], field: &Field) -> bool
     requires { AreKnown entries.now tables.now }
     ensures { IsTrue result ↔ IsFieldNotKept (origins_of entries.now) field.now }
 {
     !field.flags.has(Flags::STATIC) && !can_be_kept(entries, tables, &field.kind)
 }
 
-fn is_one_not_crossing(entries: &[ClassEntry], tables: &[Row<bool>], kinds: &[FieldType]) -> bool
+fn is_one_not_crossing(entries: &[Entry], tables: &[Row<bool>], kinds: &[FieldType]) -> bool
     requires { AreKnown entries.now tables.now }
     ensures { IsTrue result ↔ Any (CannotCross (origins_of entries.now)) kinds.now }
 {
     kinds.iter().any(|kind| cannot_cross(entries, tables, kind))
 }
 
-fn is_method_not_crossing(entries: &[ClassEntry], tables: &[Row<bool>], method: &Method) -> bool
+fn is_method_not_crossing(entries: &[Entry], tables: &[Row<bool>], method: &Method) -> bool
     requires { AreKnown entries.now tables.now }
     ensures { IsTrue result ↔ IsMethodNotCrossing (origins_of entries.now) method.now }
 {
@@ -99,7 +99,7 @@ fn is_method_not_crossing(entries: &[ClassEntry], tables: &[Row<bool>], method: 
     }
 }
 
-fn is_one_field_not_kept(entries: &[ClassEntry], tables: &[Row<bool>], fields: &[Field]) -> bool
+fn is_one_field_not_kept(entries: &[Entry], tables: &[Row<bool>], fields: &[Field]) -> bool
     requires { AreKnown entries.now tables.now }
     ensures { IsTrue result ↔ Any (IsFieldNotKept (origins_of entries.now)) fields.now }
 {
@@ -108,11 +108,7 @@ fn is_one_field_not_kept(entries: &[ClassEntry], tables: &[Row<bool>], fields: &
         .any(|field| is_field_not_kept(entries, tables, field))
 }
 
-fn is_one_method_not_crossing(
-    entries: &[ClassEntry],
-    tables: &[Row<bool>],
-    methods: &[Method],
-) -> bool
+fn is_one_method_not_crossing(entries: &[Entry], tables: &[Row<bool>], methods: &[Method]) -> bool
     requires { AreKnown entries.now tables.now }
     ensures { IsTrue result ↔ Any (IsMethodNotCrossing (origins_of entries.now)) methods.now }
 {
@@ -129,7 +125,7 @@ pub(crate) enum MemberKind {
 }
 
 // Whether a class has a member that no remote class or interface may have or inherit.
-fn is_unfit(entries: &[ClassEntry], tables: &[Row<bool>], index: usize, kind: MemberKind) -> bool
+fn is_unfit(entries: &[Entry], tables: &[Row<bool>], index: usize, kind: MemberKind) -> bool
     requires arranged { AreArranged entries.now }
     requires tables { HaveTables (classes_of entries.now) tables.now }
     requires in_set { index < length entries.now }
@@ -148,7 +144,7 @@ fn is_unfit(entries: &[ClassEntry], tables: &[Row<bool>], index: usize, kind: Me
 // The indices of the classes that have such a member.
 pub(crate) fn find_unfit(
     alloc: Global,
-    entries: &[ClassEntry],
+    entries: &[Entry],
     tables: &[Row<bool>],
     kind: MemberKind,
 ) -> Result<Vec<usize>, AllocError>

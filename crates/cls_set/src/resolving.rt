@@ -5,9 +5,9 @@ ghost use Rattle.std.specs.List.Sorted.{IsStrictlySortedBy};
 ghost use Rattle.cls_set.specs.Building.{IsAbsentFault, IsClassFault, IsFaultOf, IsMissing, IsWhole, kept, origins_of};
 ghost use Rattle.cls_set.specs.Classes.{name_cmp, names, number_of};
 ghost use Rattle.cls_set.specs.Entries.{classes_of, AreOrdered};
-ghost use Rattle.cls_set.specs.declared.entries.ClassEntry.{ClassEntry};
+ghost use Rattle.cls_set.specs.declared.entries.Entry.{Entry};
 
-use super::entries::{ClassEntry, find};
+use super::entries::{Entry, find};
 use super::mentions::members_name_absent;
 use super::{Class, ClassId, SetFault, SetRule};
 use cf_reader::{Row, Text};
@@ -24,7 +24,7 @@ pub(crate) fn broken(rule: SetRule, class: &Text) -> SetFault
 }
 
 // The number of a supertype of a class.
-fn supertype(entries: &[ClassEntry], name: &Text, class: &Class) -> Result<ClassId, SetFault>
+fn supertype(entries: &[Entry], name: &Text, class: &Class) -> Result<ClassId, SetFault>
     requires { AreOrdered entries.now }
     ensures ok { IfOk result (λ id. slice_get (names (classes_of entries.now)) id.0 ≡ Some name.now) }
     ensures absent { IfErr result (IsMissing (names (classes_of entries.now)) name.now class.now.file.name) }
@@ -35,7 +35,7 @@ fn supertype(entries: &[ClassEntry], name: &Text, class: &Class) -> Result<Class
     }
 }
 
-fn superclass(entries: &[ClassEntry], class: &Class) -> Result<Option<ClassId>, SetFault>
+fn superclass(entries: &[Entry], class: &Class) -> Result<Option<ClassId>, SetFault>
     requires { AreOrdered entries.now }
     ensures ok { IfOk result (λ id. option_map (λ id. slice_get (names (classes_of entries.now)) id.0) id ≡ option_map (λ name. Some name) class.now.file.superclass) }
     ensures absent { IfErr result (IsClassFault (names (classes_of entries.now)) class.now.file) }
@@ -48,7 +48,7 @@ fn superclass(entries: &[ClassEntry], class: &Class) -> Result<Option<ClassId>, 
 
 fn superinterfaces(
     alloc: Global,
-    entries: &[ClassEntry],
+    entries: &[Entry],
     class: &Class,
 ) -> Result<Row<ClassId>, SetFault>
     requires { AreOrdered entries.now }
@@ -63,12 +63,12 @@ fn superinterfaces(
 }
 
 // Finds the supertypes of a class, and the classes that its members mention.
-fn resolve_at(alloc: Global, entries: &mut Vec<ClassEntry>, index: usize) -> Result<(), SetFault>
+fn resolve_at(alloc: Global, entries: &mut Vec<Entry>, index: usize) -> Result<(), SetFault>
     requires ordered { IsStrictlySortedBy name_cmp (names (classes_of entries.old.items)) }
     requires few { length entries.old.items ≤ 4096 }
     requires within { index < length entries.old.items }
     ensures kept { map kept entries.new.items ≡ map kept entries.old.items }
-    ensures others { (k : ℕ) (d : ClassEntry) → k ≢ index → slice_index_or entries.new.items k d ≡ slice_index_or entries.old.items k d }
+    ensures others { (k : ℕ) (d : Entry) → k ≢ index → slice_index_or entries.new.items k d ≡ slice_index_or entries.old.items k d }
     ensures resolved { OnOk result (HoldsAt (λ m. IsWhole (names (classes_of entries.old.items)) m.class) entries.new.items index) }
     ensures absent { IfErr result (λ fault. HoldsAt (λ m. IsClassFault (names (classes_of entries.old.items)) m.class.file fault) entries.old.items index) }
 {
@@ -85,7 +85,7 @@ fn resolve_at(alloc: Global, entries: &mut Vec<ClassEntry>, index: usize) -> Res
 }
 
 // Finds the supertypes of each class, and the classes that its members mention.
-pub(crate) fn resolve(alloc: Global, entries: &mut Vec<ClassEntry>) -> Result<(), SetFault>
+pub(crate) fn resolve(alloc: Global, entries: &mut Vec<Entry>) -> Result<(), SetFault>
     requires ordered { IsStrictlySortedBy name_cmp (names (classes_of entries.old.items)) }
     requires few { length entries.old.items ≤ 4096 }
     ensures kept { map kept entries.new.items ≡ map kept entries.old.items }

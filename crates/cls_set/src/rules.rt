@@ -11,7 +11,7 @@ ghost use Rattle.cls_set.specs.Orders.{HaveOrders};
 ghost use Rattle.cls_set.specs.Rules.{Breaks, IsBelowRemote};
 ghost use Rattle.cls_set.specs.declared.fault.SetRule.TheVariants.{BadSuper};
 
-use super::entries::ClassEntry;
+use super::entries::Entry;
 use super::ordering::orders;
 use super::overriding::overrides_badly;
 use super::remote::{MemberKind, Unfit, find_unfit, is_below_remote, reaches_one};
@@ -47,7 +47,7 @@ impl ClassRule {
 }
 
 // Whether the direct superclass of a class has one of the mask's flags.
-fn extends_one_with(entries: &[ClassEntry], class: &Class, mask: u16) -> bool
+fn extends_one_with(entries: &[Entry], class: &Class, mask: u16) -> bool
     requires arranged { AreArranged entries.now }
     requires among { Contains (classes_of entries.now) class.now }
     ensures { IsTrue result ↔ ExtendsOneWith (origins_of entries.now) class.now.file mask }
@@ -62,7 +62,7 @@ fn extends_one_with(entries: &[ClassEntry], class: &Class, mask: u16) -> bool
 }
 
 // Whether one of the direct superinterfaces of a class is no interface.
-fn implements_class(entries: &[ClassEntry], class: &Class) -> bool
+fn implements_class(entries: &[Entry], class: &Class) -> bool
     requires arranged { AreArranged entries.now }
     requires among { Contains (classes_of entries.now) class.now }
     ensures { IsTrue result ↔ ImplementsClass (origins_of entries.now) class.now.file }
@@ -85,7 +85,7 @@ fn is_badly_rooted(class: &Class) -> bool
     }
 }
 
-fn has_bad_super(entries: &[ClassEntry], class: &Class) -> bool
+fn has_bad_super(entries: &[Entry], class: &Class) -> bool
     requires arranged { AreArranged entries.now }
     requires among { Contains (classes_of entries.now) class.now }
     ensures { IsTrue result ↔ Breaks (origins_of entries.now) class.now.file BadSuper }
@@ -100,12 +100,7 @@ fn has_bad_super(entries: &[ClassEntry], class: &Class) -> bool
 }
 
 // Whether a class has or inherits what no remote class or interface may, by its table and the unfit classes.
-fn is_remotely_unfit(
-    entries: &[ClassEntry],
-    tables: &[Row<bool>],
-    unfit: &[usize],
-    index: usize,
-) -> bool
+fn is_remotely_unfit(entries: &[Entry], tables: &[Row<bool>], unfit: &[usize], index: usize) -> bool
     requires arranged { AreArranged entries.now }
     requires tables { HaveTables (classes_of entries.now) tables.now }
     requires in_set { index < length entries.now }
@@ -115,7 +110,7 @@ fn is_remotely_unfit(
 }
 
 fn breaks(
-    entries: &[ClassEntry],
+    entries: &[Entry],
     tables: &[Row<bool>],
     unfit: &Unfit,
     orders: &[Row<usize>],
@@ -148,7 +143,7 @@ fn breaks(
 
 // Refuses the first class that breaks the rule.
 pub(crate) fn refuse(
-    entries: &[ClassEntry],
+    entries: &[Entry],
     tables: &[Row<bool>],
     unfit: &Unfit,
     orders: &[Row<usize>],
@@ -172,7 +167,7 @@ pub(crate) fn refuse(
 // Refuses the first class that breaks the first of the rules on each class.
 pub(crate) fn refuse_broken(
     alloc: Global,
-    entries: &[ClassEntry],
+    entries: &[Entry],
     tables: &[Row<bool>],
 ) -> Result<(), SetFault>
     requires arranged { AreArranged entries.now }

@@ -6,7 +6,7 @@ ghost use Rattle.cls_set.specs.Entries.{classes_of, AreRanks};
 ghost use Rattle.cls_set.specs.Walks.{met_by, meet_one, meet_all, ups_at, AreWithin, IsWalked};
 
 use super::ClassId;
-use super::entries::ClassEntry;
+use super::entries::Entry;
 use cf_reader::Row;
 use std::alloc::{AllocError, Global};
 
@@ -41,11 +41,7 @@ fn meet_each(classes: &[ClassId], walk: &mut Walk) -> Result<(), AllocError>
 }
 
 // Meets the direct supertypes of a class.
-fn meet_supertypes(
-    entries: &[ClassEntry],
-    class: ClassId,
-    walk: &mut Walk,
-) -> Result<(), AllocError>
+fn meet_supertypes(entries: &[Entry], class: ClassId, walk: &mut Walk) -> Result<(), AllocError>
     requires in_set { class.0 < length entries.now }
     requires within { AreWithin (length walk.old.met.items) (classes_of entries.now) }
     ensures { OnOk result (met_by walk.new ≡ meet_all (met_by walk.old) (ups_at (classes_of entries.now) class)) }
@@ -59,7 +55,7 @@ fn meet_supertypes(
 }
 
 // Meets each supertype of a class once.
-fn walk_up(alloc: Global, entries: &[ClassEntry], from: ClassId) -> Result<Walk, AllocError>
+fn walk_up(alloc: Global, entries: &[Entry], from: ClassId) -> Result<Walk, AllocError>
     requires in_set { from.0 < length entries.now }
     requires within { AreWithin (length entries.now) (classes_of entries.now) }
     ensures { IfOk result (IsWalked (classes_of entries.now) from) }
@@ -87,7 +83,7 @@ pub(crate) enum Ranks {
 }
 
 // Ranks the classes. It takes a step for each class and each supertype of it.
-pub(crate) fn rank(alloc: Global, entries: &mut Vec<ClassEntry>) -> Result<Ranks, AllocError>
+pub(crate) fn rank(alloc: Global, entries: &mut Vec<Entry>) -> Result<Ranks, AllocError>
     requires few { length entries.old.items ≤ 4096 }
     requires within { AreWithin (length entries.old.items) (classes_of entries.old.items) }
     ensures classes { classes_of entries.new.items ≡ classes_of entries.old.items }

@@ -1,7 +1,7 @@
 use Rattle.std.proofs.Common.{◌≡◌, ◌<◌, rules, subst, sym}
 use Rattle.std.proofs.lemmas.Fn.{always_returns_same}
 use Rattle.std.proofs.lemmas.List.{length-map}
-use Rattle.cls_set.specs.declared.entries.ClassEntry.{ClassEntry}
+use Rattle.cls_set.specs.declared.entries.Entry.{Entry}
 use Rattle.cls_set.specs.Entries.{classes_of}
 use Rattle.cls_set.proofs.Names.{order_to, searchable, find_found, find_absent, name_at_number}
 use Rattle.cls_set.proofs.entries.find.Goals as goal
@@ -14,7 +14,7 @@ returns-in-Ok-clause-number c =
 
 pub returns-in-Ok-clause-in_set : goal.returns-in-Ok-clause-in_set
 returns-in-Ok-clause-in_set c =
-    subst (λ n. c.in-Ok.index < n) (sym (length-map c.args.entries.now (λ (m : ClassEntry). m.class))) c.in-Ok.ensures.bound
+    subst (λ n. c.in-Ok.index < n) (sym (length-map c.args.entries.now (λ (m : Entry). m.class))) c.in-Ok.ensures.bound
 
 pub returns-in-Ok-clause-named : goal.returns-in-Ok-clause-named
 returns-in-Ok-clause-named c =

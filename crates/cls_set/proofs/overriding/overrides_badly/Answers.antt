@@ -2,7 +2,7 @@ use Rattle.cls_set.specs.Orders.{IsOrder}
 use Rattle.cls_set.proofs.Heights.{long_classes}
 use Rattle.std.proofs.Common.{[], ◌≡◌, arith, ◌<◌, length, get_or, refl, sym, subst, ap, ◌∙◌}
 use Rattle.cls_set.specs.declared.class.Class.{Class}
-use Rattle.cls_set.specs.declared.entries.ClassEntry.{ClassEntry}
+use Rattle.cls_set.specs.declared.entries.Entry.{Entry}
 use Rattle.cls_set.specs.Building.{origins_of}
 use Rattle.cls_set.specs.Rules.{OverridesBadly}
 use Rattle.cls_set.proofs.Broken.{class_among}
@@ -17,7 +17,7 @@ up-init c =
     let m = c.index-entries-index.result in
     let n = c.index-entries-index-2.result in
     climb_starts entries c.requires.arranged (get_or entries k m).class.file (get_or entries k m).class (class_among entries k m c.requires.in_set) refl (get_or entries k n).class.superclass
-    (ap (λ (x : ClassEntry). x.class.superclass) (same_read entries k n m c.requires.in_set))
+    (ap (λ (x : Entry). x.class.superclass) (same_read entries k n m c.requires.in_set))
 
 pub bounds-entries-superclass : goal.bounds-entries-superclass
 bounds-entries-superclass c =

@@ -1,6 +1,6 @@
 use Rattle.std.proofs.Common.{◌∙◌, get_or, sym, subst, arith}
 use Rattle.std.specs.List.Sorted.{IsStrictlySortedBy}
-use Rattle.cls_set.specs.declared.entries.ClassEntry.{ClassEntry}
+use Rattle.cls_set.specs.declared.entries.Entry.{Entry}
 use Rattle.cls_set.specs.Classes.{name_cmp, names}
 use Rattle.cls_set.specs.Entries.{classes_of}
 use Rattle.cls_set.specs.Building.{IsWhole}
@@ -18,7 +18,7 @@ loop-index-preserved c =
     let start = c.args.entries.now.items in
     let old = c.loop-index.entries.items in
     let new = c.resolve_at.new.entries.items in
-    let P : ClassEntry → Type 0 = λ m. IsWhole (names (classes_of start)) m.class in
+    let P : Entry → Type 0 = λ m. IsWhole (names (classes_of start)) m.class in
     let same = names_kept old start c.loop-index.invariant.0 in (
       c.resolve_at.ensures.kept ∙ c.loop-index.invariant.0,
       AllWithin-next P old new c.loop-index.index c.loop-index.invariant.1 c.resolve_at.ensures.others

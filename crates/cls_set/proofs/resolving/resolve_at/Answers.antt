@@ -7,7 +7,7 @@ use Rattle.std.proofs.Math.Seq.{map-set_same}
 use Rattle.cls_set.specs.Building.{kept}
 use Rattle.std.proofs.lemmas.Result.{err_from_is_err_and}
 use Rattle.cls_set.specs.Building.{IsClassFault, IsWhole, MembersNameAbsent}
-use Rattle.cls_set.specs.declared.entries.ClassEntry.{ClassEntry}
+use Rattle.cls_set.specs.declared.entries.Entry.{Entry}
 use Rattle.cls_set.specs.Classes.{names}
 use Rattle.cls_set.specs.Entries.{classes_of}
 use Rattle.cls_set.proofs.Absent.{members_missing, whole}
@@ -23,7 +23,7 @@ returns-in_err-superclass-clause-absent c =
     let ms = c.args.entries.now.items in
     let m = c.index.result.now in
     let e = c.in_err-superclass.field-0.0 in
-    rw (p.1, p.2) (λ d. subst (λ (x : ClassEntry). IsClassFault (names (classes_of ms)) x.class.file e) (c.index.ensures ∙ same_read ms c.args.index m d c.requires.within)
+    rw (p.1, p.2) (λ d. subst (λ (x : Entry). IsClassFault (names (classes_of ms)) x.class.file e) (c.index.ensures ∙ same_read ms c.args.index m d c.requires.within)
     (subst (λ xs. IsClassFault (names (classes_of xs)) m.class.file e) c.as_slice.ensures.value c.in_err-superclass.ensures.absent))
 
 pub returns-in_err-interfaces-clause-absent : goal.returns-in_err-interfaces-clause-absent
@@ -32,7 +32,7 @@ returns-in_err-interfaces-clause-absent c =
     let ms = c.args.entries.now.items in
     let m = c.index.result.now in
     let e = c.in_err-interfaces.field-0.0 in
-    rw (p.1, p.2) (λ d. subst (λ (x : ClassEntry). IsClassFault (names (classes_of ms)) x.class.file e) (c.index.ensures ∙ same_read ms c.args.index m d c.requires.within)
+    rw (p.1, p.2) (λ d. subst (λ (x : Entry). IsClassFault (names (classes_of ms)) x.class.file e) (c.index.ensures ∙ same_read ms c.args.index m d c.requires.within)
     (subst (λ xs. IsClassFault (names (classes_of xs)) m.class.file e) c.as_slice-2.ensures.value c.in_err-interfaces.ensures.absent))
 
 pub returns-then-members_name_absent-clause-absent :
@@ -42,7 +42,7 @@ returns-then-members_name_absent-clause-absent c =
     let m = c.index.result.now in
     let e = c.broken.result in
     let absent = subst (λ xs. MembersNameAbsent (names (classes_of xs)) m.class.file) c.as_slice-3.ensures.value (c.members_name_absent.ensures.0 c.if-members_name_absent.true) in
-    λ d. subst (λ (x : ClassEntry). IsClassFault (names (classes_of ms)) x.class.file e) (c.index.ensures ∙ same_read ms c.args.index m d c.requires.within)
+    λ d. subst (λ (x : Entry). IsClassFault (names (classes_of ms)) x.class.file e) (c.index.ensures ∙ same_read ms c.args.index m d c.requires.within)
     (members_missing (names (classes_of ms)) m.class.file e absent c.broken.ensures)
 
 pub returns-clause-resolved : goal.returns-clause-resolved
@@ -52,7 +52,7 @@ returns-clause-resolved c =
     let k = c.args.index in
     let m = c.index.result.now in
     let n = c.index_mut-entry.result.now in
-    let same : m.class.file ≡ n.class.file = ap (λ (x : ClassEntry). x.class.file) (c.index.ensures ∙ (same_read ms k m n c.requires.within ∙ sym c.index_mut-entry.ensures.value)) in
+    let same : m.class.file ≡ n.class.file = ap (λ (x : Entry). x.class.file) (c.index.ensures ∙ (same_read ms k m n c.requires.within ∙ sym c.index_mut-entry.ensures.value)) in
     let new : Class = record { file = n.class.file; superclass = c.in_ok-superclass.superclass; interfaces = c.in_ok-interfaces.interfaces; is_built_in = n.class.is_built_in } in
     let superclass = subst (λ xs. option_map (λ (id : ClassId). slice_get (names (classes_of xs)) id.0) new.superclass ≡ option_map (λ (name : List ℕ). Some name) m.class.file.superclass) c.as_slice.ensures.value c.in_ok-superclass.ensures.ok in
     let interfaces = subst (λ xs. map (λ (id : ClassId). slice_get (names (classes_of xs)) id.0) new.interfaces ≡ map (λ (name : List ℕ). Some name) m.class.file.interfaces) c.as_slice-2.ensures.value c.in_ok-interfaces.ensures.ok in
@@ -66,4 +66,4 @@ returns-clause-resolved c =
       interfaces = subst (λ (f : ClassFile). map (λ (id : ClassId). slice_get ns id.0) new.interfaces ≡ map (λ (name : List ℕ). Some name) f.interfaces) same interfaces;
     }) (subst (λ f. MembersNameAbsent ns f → ⊥) same present)
     in
-    λ d. subst (λ (x : ClassEntry). IsWhole ns x.class) (sym (get_or-set_same ms k (record { class = new; rank = n.rank }) d c.requires.within)) is
+    λ d. subst (λ (x : Entry). IsWhole ns x.class) (sym (get_or-set_same ms k (record { class = new; rank = n.rank }) d c.requires.within)) is

@@ -1,6 +1,6 @@
 use Rattle.std.proofs.Common.{◌≡◌, ◌∙◌, ◌+◌, ◌<◌, false, [], ◌∷◌, length, length-append, get_or, sym, subst, ap, arith}
 use Rattle.std.proofs.Math.Seq.{map-set_same}
-use Rattle.cls_set.specs.declared.entries.ClassEntry.{ClassEntry}
+use Rattle.cls_set.specs.declared.entries.Entry.{Entry}
 use Rattle.cls_set.specs.Entries.{classes_of, IsTable}
 use Rattle.cls_set.specs.Walks.{AreWithin, IsWalked}
 use Rattle.cls_set.proofs.Heights.{IsHeight, any_member, height_of, long_classes, one_more, ranked_by_heights, table_more, table_of}
@@ -39,8 +39,8 @@ loop-index-preserved c =
     let table = w.long in
     let read : get_or walk.met.items k false ≡ c.index.result.now = same_read walk.met.items k false c.index.result.now (omega (arith, table, within)) ∙ sym c.index.ensures in
     let high : length walk.order.items ≡ c.len-height.result = omega arith in
-    let y : ClassEntry = record { class = c.index_mut.result.now.class; rank = c.len-height.result } in (
-      map-set_same (λ (m : ClassEntry). m.class) entries k y c.index_mut.result.now (ap (λ (m : ClassEntry). m.class) c.index_mut.ensures.value) ∙ c.loop-index.invariant.0,
+    let y : Entry = record { class = c.index_mut.result.now.class; rank = c.len-height.result } in (
+      map-set_same (λ (m : Entry). m.class) entries k y c.index_mut.result.now (ap (λ (m : Entry). m.class) c.index_mut.ensures.value) ∙ c.loop-index.invariant.0,
       one_more (classes_of start) entries k y (omega (arith, long)) c.loop-index.invariant.1 (subst (λ n. IsHeight (classes_of start) k n) high (height_of (classes_of start) k walk w (read ∙ c.if-index.false))),
       ap length c.in_ok-push.ensures.items ∙ (length-append c.loop-index.tables.items (c.new.result ∷ []) ∙ ap (λ n. n + 1) c.loop-index.invariant.2),
       table_more (classes_of start) c.loop-index.tables.items k c.new.result _ c.loop-index.invariant.2 c.in_ok-push.ensures.items c.loop-index.invariant.3 (subst (IsTable (classes_of start) k) (sym c.new.ensures) (table_of (classes_of start) k walk w)),

@@ -1,5 +1,5 @@
 use Rattle.std.proofs.Common.{◌≡◌, ◌<◌, ℕ, [], get_or, length}
-use Rattle.cls_set.specs.declared.entries.ClassEntry.{ClassEntry}
+use Rattle.cls_set.specs.declared.entries.Entry.{Entry}
 use Rattle.cls_set.specs.Entries.{classes_of, IsTable}
 use Rattle.cls_set.proofs.Heights.{IsHeight}
 use Rattle.cls_set.proofs.walking.rank.Given as goal
@@ -8,6 +8,6 @@ use Rattle.cls_set.proofs.walking.rank.Given as goal
 abbrev pub invariant-loop-index : goal.invariant-loop-index
 invariant-loop-index l =
     (classes_of l.entries.items ≡ classes_of l.fn.entries.items)
-    × ((j : ℕ) (d : ClassEntry) → j < l.index → IsHeight (classes_of l.fn.entries.items) j (get_or l.entries.items j d).rank)
+    × ((j : ℕ) (d : Entry) → j < l.index → IsHeight (classes_of l.fn.entries.items) j (get_or l.entries.items j d).rank)
     × (length l.tables.items ≡ l.index)
     × ((j : ℕ) → j < l.index → IsTable (classes_of l.fn.entries.items) j (get_or l.tables.items j []))
