@@ -1,0 +1,5 @@
+mod RowLemmas
+mod TreeOfTasks
+mod TreeOfFrames
+mod TreeOfSpaces
+mod TreeOfWorlds
