@@ -1,0 +1,2 @@
+mod EventRules
+mod StartedLemmas

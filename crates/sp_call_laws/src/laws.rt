@@ -1,0 +1,17 @@
+//! The laws of calls: how many tasks they start, in which directions frames go, and how they end.
+
+ghost use Rattle.sp_call_laws.specs.Started.{CallsStartOneTask, CallsStartOneTaskInWorlds};
+
+/// A call that came on a connection under a number starts one task at most, whatever happens then: the
+/// tasks that it started before and after any part of a history are one. In a history no number of a
+/// connection comes again.
+pub fn calls_start_one_task()
+    ensures { CallsStartOneTask }
+{}
+
+/// In every run of every world, whatever is lost or fails, a call that comes to a space on a connection
+/// under a number starts one task there at most: two tasks that it started, at any two moments of the
+/// space's history, are one.
+pub fn calls_start_one_task_in_worlds()
+    ensures { CallsStartOneTaskInWorlds }
+{}
