@@ -46,6 +46,7 @@ use Rattle.sp_rules.proofs.OwnLemmas.{some-same}
 use Rattle.sp_rules.proofs.ReadyLemmas.{ready-is}
 use Rattle.sp_rules.proofs.Stable.{new_row}
 use Rattle.sp_laws.proofs.FlowRules.{Owed, Removed, Inbound, removed, of_origin, of_until, IsSameRow}
+use Rattle.sp_call_laws.specs.CallEnds.{is_hello}
 use Rattle.sp_call_laws.specs.Sent.{MaySend, is_send}
 
 -- ---- what is kept in an event
@@ -92,9 +93,10 @@ is_ending (Bad conn) = true
 is_ending (WriteFailed conn unsent) = true
 is_ending _ = false
 
-abbrev pub is_hello : Message → Bool
-is_hello (message.Hello version space digest) = true
-is_hello _ = false
+-- then no task is finished
+pub ending-goes : (e : Event) → is_ending e ≡ true → is_finish e ≡ false
+ending-goes (Finished task k) is = absurd (true≢false (sym is))
+ending-goes _ is = refl
 
 -- the events with which no peer is reached: a Dial is refused, a first Hello is wrong
 abbrev pub is_unreached : Event → Bool
@@ -118,7 +120,7 @@ pub record Flows (V : View) : Type 0 where
   pub origins : (l : List Owed) (s : State) → V.Keeps l s → AllOf (λ (t : Living). IsFrom V t.origin) s.tasks
   pub sided : (p : ParkedFrame) → V.Known p → V.Dialled p.conn (not (Frames.is_call_frame p.frame))
   pub fails : (asked : Asked) (class : ClassId) → V.Fails class → V.Ends asked (Throws class)
-  pub gives : (p : ParkedFrame) (value : Option Value) (fuel : ℕ) (asked : Asked) → V.Known p → p.frame ≡ ReturnedFrame value fuel → ParkedFrames.has_number p.number asked ≡ true → V.Ends asked (GivesBack value fuel)
+  pub gives : (p : ParkedFrame) (value : Option Value) (fuel : ℕ) (asked : Asked) → is_ending V.event ≡ true → V.Known p → p.frame ≡ ReturnedFrame value fuel → ParkedFrames.has_number p.number asked ≡ true → V.Ends asked (GivesBack value fuel)
   -- outputs
   pub quiet : (l : List Owed) (s t : State) → event_parts t ≡ event_parts s → V.Keeps l s → V.Keeps l t
   pub says : (l : List Owed) (s : State) (output : Output) → is_send output ≡ false → V.Keeps l s → V.Keeps l (say output s)
@@ -373,13 +375,13 @@ finish_flow {V} F {l} {s} id k over h = some_flow F (ready_at s id) _ h (λ t is
 
 -- ---- parked frames
 
-start_call_flow : {V : View} (F : Flows V) {l : List Owed} {s : State} (p : ParkedFrame) (target : ObjId) (method fuel : ℕ) (arguments : List Value) → is_finish V.event ≡ false → V.Dialled p.conn false → V.Keeps (Inbound p.conn p.number ∷ l) s → V.Keeps l (ParkedFrames.start_call V.setting p target method fuel arguments s)
+start_call_flow : {V : View} (F : Flows V) {l : List Owed} {s : State} (p : ParkedFrame) (target : ObjId) (method fuel : ℕ) (arguments : List Value) → is_ending V.event ≡ true → V.Dialled p.conn false → V.Keeps (Inbound p.conn p.number ∷ l) s → V.Keeps l (ParkedFrames.start_call V.setting p target method fuel arguments s)
 unfolding ParkedFrames.start_call
 start_call_flow {V} F {l} {s} p target method fuel arguments going there h = some_flow F (object_at s target) _ (F.falls l s p.conn p.number h) (λ o is. selected (record { space = V.setting.id; id = target; class = o.class }) (V.setting.classes.selected o.class method))
   where
     selected : (receiver : Ref) (found : Option ℕ) → V.Keeps l (ParkedFrames.start_selected V.setting p.conn p.number receiver found fuel arguments s)
     selected receiver None = send_flow F _ p.conn _ there (F.falls l s p.conn p.number h)
-    selected receiver (Some m) = add_task_flow F (OfCall p.conn p.number) m _ fuel going h
+    selected receiver (Some m) = add_task_flow F (OfCall p.conn p.number) m _ fuel (ending-goes V.event going) h
 
 both-right : (a b : Bool) → a && b ≡ true → b ≡ true
 both-right true b e = e
@@ -390,7 +392,7 @@ unfolding ParkedFrames.answer_parked
 answer_parked_flow {V} F {l} {s} p reply there may h = some_flow F (find (ParkedFrames.is_call_on p.conn p.number) s.requests) _ h (λ q is. reply_to_flow F q.asked reply (may q.asked (both-right (ParkedFrames.is_out_on p.conn q.stage) _ (found-is (ParkedFrames.is_call_on p.conn p.number) s.requests q is))) (send_flow F _ p.conn _ there
     (F.removes_one l s (ParkedFrames.is_call_on p.conn p.number) (ParkedFrames.is_call_on p.conn p.number) p.number q is (λ x e. e) (λ x e. both-right (ParkedFrames.is_out_on p.conn x.stage) _ e) h)))
 
-go_flow : {V : View} (F : Flows V) {l : List Owed} {s : State} (p : ParkedFrame) → is_finish V.event ≡ false → V.Keeps l s → V.Keeps l (ParkedFrames.go V.setting s p)
+go_flow : {V : View} (F : Flows V) {l : List Owed} {s : State} (p : ParkedFrame) → is_ending V.event ≡ true → V.Keeps l s → V.Keeps l (ParkedFrames.go V.setting s p)
 unfolding ParkedFrames.go
 go_flow {V} F {l} {s} p going h = some_flow F (find (ParkedFrames.is_parked_at p.conn p.number) s.parked) _ h (λ q is. let_go_flow F p s.parked (frame q q.frame refl is))
   where
@@ -402,17 +404,17 @@ go_flow {V} F {l} {s} p going h = some_flow F (find (ParkedFrames.is_parked_at p
 
     frame : (q : ParkedFrame) (f : Frame) → q.frame ≡ f → find (ParkedFrames.is_parked_at p.conn p.number) s.parked ≡ Some q → V.Keeps l (ParkedFrames.go_frame V.setting q f (ParkedFrames.take_parked p s))
     frame q (CallFrame target method fuel arguments) e is = start_call_flow F q target method fuel arguments going (sided q e (known q is)) (F.takes_call l s p q is (ap Frames.is_call_frame e) h)
-    frame q (ReturnedFrame value fuel) e is = answer_parked_flow F q _ (sided q e (known q is)) (λ asked has. F.gives q value fuel asked (known q is) e has) (F.takes l s p h)
+    frame q (ReturnedFrame value fuel) e is = answer_parked_flow F q _ (sided q e (known q is)) (λ asked has. F.gives q value fuel asked going (known q is) e has) (F.takes l s p h)
 
-go_all_flow : {V : View} (F : Flows V) {l : List Owed} {s : State} → is_finish V.event ≡ false → V.Keeps l s → V.Keeps l (ParkedFrames.go_all V.setting s)
+go_all_flow : {V : View} (F : Flows V) {l : List Owed} {s : State} → is_ending V.event ≡ true → V.Keeps l s → V.Keeps l (ParkedFrames.go_all V.setting s)
 unfolding ParkedFrames.go_all
 go_all_flow {V} F going h = each_flow F _ _ (λ t p k. go_flow F p going k) h
 
-park_call_flow : {V : View} (F : Flows V) {l : List Owed} {s : State} (conn number : ℕ) (target : ObjId) (method fuel : ℕ) (arguments : List Value) (references : List ForeignId) → is_finish V.event ≡ false → V.Known (record { conn = conn; number = number; frame = CallFrame target method fuel arguments; references = references }) → V.Keeps (Inbound conn number ∷ l) s → V.Keeps l (ParkedFrames.park_frame V.setting conn number (CallFrame target method fuel arguments) references s)
+park_call_flow : {V : View} (F : Flows V) {l : List Owed} {s : State} (conn number : ℕ) (target : ObjId) (method fuel : ℕ) (arguments : List Value) (references : List ForeignId) → is_ending V.event ≡ true → V.Known (record { conn = conn; number = number; frame = CallFrame target method fuel arguments; references = references }) → V.Keeps (Inbound conn number ∷ l) s → V.Keeps l (ParkedFrames.park_frame V.setting conn number (CallFrame target method fuel arguments) references s)
 unfolding ParkedFrames.park_frame
-park_call_flow F {l} {s} conn number target method fuel arguments references going known h = go_all_flow F going (hold_flow F references (F.parks_call l s (record { conn = conn; number = number; frame = CallFrame target method fuel arguments; references = references }) going known refl h))
+park_call_flow {V} F {l} {s} conn number target method fuel arguments references going known h = go_all_flow F going (hold_flow F references (F.parks_call l s (record { conn = conn; number = number; frame = CallFrame target method fuel arguments; references = references }) (ending-goes V.event going) known refl h))
 
-park_result_flow : {V : View} (F : Flows V) {l : List Owed} {s : State} (conn number : ℕ) (value : Option Value) (fuel : ℕ) (references : List ForeignId) → is_finish V.event ≡ false → V.Known (record { conn = conn; number = number; frame = ReturnedFrame value fuel; references = references }) → V.Keeps l s → V.Keeps l (ParkedFrames.park_frame V.setting conn number (ReturnedFrame value fuel) references s)
+park_result_flow : {V : View} (F : Flows V) {l : List Owed} {s : State} (conn number : ℕ) (value : Option Value) (fuel : ℕ) (references : List ForeignId) → is_ending V.event ≡ true → V.Known (record { conn = conn; number = number; frame = ReturnedFrame value fuel; references = references }) → V.Keeps l s → V.Keeps l (ParkedFrames.park_frame V.setting conn number (ReturnedFrame value fuel) references s)
 unfolding ParkedFrames.park_frame
 park_result_flow F {l} {s} conn number value fuel references going known h = go_all_flow F going (hold_flow F references (F.parks_result l s (record { conn = conn; number = number; frame = ReturnedFrame value fuel; references = references }) known refl h))
 
@@ -483,7 +485,7 @@ first_flow {V} F {s} conn c (message.Hello version space digest) same B row h = 
     by (Some peer) e = if_flow F _ (flush_flow F peer c.number (subst (V.Dialled c.number) (ap is_some e) row) known) (close_flow F _ c.number may (B.connect (ap is_unreached same)) h)
 first_flow F conn c _ same B row h = close_flow F _ c.number (B.unmarshal (ap is_ending same)) (B.unmarshal (ap is_ending same)) h
 
-call_of_flow : {V : View} (F : Flows V) {l : List Owed} {s : State} (conn number : ℕ) (o : Object) (method fuel : ℕ) (arguments : List Value) → is_finish V.event ≡ false → ((p : ParkedFrame) → Frames.is_call_frame p.frame ≡ true → V.Dialled p.conn false → V.Known p) → V.Dialled conn false → V.Keeps (Inbound conn number ∷ l) s → V.Keeps l (Frames.call_of V.setting conn number o method fuel arguments s)
+call_of_flow : {V : View} (F : Flows V) {l : List Owed} {s : State} (conn number : ℕ) (o : Object) (method fuel : ℕ) (arguments : List Value) → is_ending V.event ≡ true → ((p : ParkedFrame) → Frames.is_call_frame p.frame ≡ true → V.Dialled p.conn false → V.Known p) → V.Dialled conn false → V.Keeps (Inbound conn number ∷ l) s → V.Keeps l (Frames.call_of V.setting conn number o method fuel arguments s)
 call_of_flow {V} F {l} {s} conn number o method fuel arguments going comes there h =
     if_flow F (not (V.setting.classes.may_call o.class method) || (not (fit_kinds (V.setting.classes.parameters method) arguments) || list_any (Holders.is_refused V.setting s) (references_of arguments))) (send_flow F _ conn _ there (F.falls l s conn number h))
     (if_flow F (Frames.is_busy s) (send_flow F _ conn _ there (F.falls l s conn number h)) (park_call_flow F conn number o.id method fuel arguments _ going (comes _ refl there) h))
@@ -492,7 +494,7 @@ found_flow : {V : View} (F : Flows V) {l : List Owed} {s : State} (conn number :
 found_flow F {l} {s} conn number None there h = send_flow F _ conn _ there (F.falls l s conn number h)
 found_flow {V} F conn number (Some o) there h = send_flow F _ conn _ there (keep_flow F (state.Acked conn number) (Some (values.Ref (record { space = V.setting.id; id = o.id; class = o.class }))) h)
 
-got_call_flow : {V : View} (F : Flows V) {l : List Owed} {s : State} (c : Connection) (number : ℕ) (target : ObjId) (method fuel : ℕ) (arguments : List Value) → is_finish V.event ≡ false → ((p : ParkedFrame) → Frames.is_call_frame p.frame ≡ true → V.Dialled p.conn false → V.Known p) → V.Fails V.setting.classes.unmarshal → V.Dialled c.number false → connection_at s c.number ≡ Some c → V.Keeps l s → V.Keeps l (Frames.got_call V.setting c number target method fuel arguments s)
+got_call_flow : {V : View} (F : Flows V) {l : List Owed} {s : State} (c : Connection) (number : ℕ) (target : ObjId) (method fuel : ℕ) (arguments : List Value) → is_ending V.event ≡ true → ((p : ParkedFrame) → Frames.is_call_frame p.frame ≡ true → V.Dialled p.conn false → V.Known p) → V.Fails V.setting.classes.unmarshal → V.Dialled c.number false → connection_at s c.number ≡ Some c → V.Keeps l s → V.Keeps l (Frames.got_call V.setting c number target method fuel arguments s)
 unfolding Frames.got_call
 got_call_flow {V} F {l} {s} c number target method fuel arguments going comes may there is h = pick (nat_le number c.last) refl
   where
@@ -534,7 +536,7 @@ answered_flow : {V : View} (F : Flows V) {l : List Owed} {s : State} (conn numbe
     → V.Keeps (Removed q.peer q.asked ∷ l) (ParkedFrames.remove_requests (ParkedFrames.is_call_on conn number) s)
 answered_flow F {l} {s} conn number q is h = F.removes_one l s (ParkedFrames.is_asked_on conn number) (ParkedFrames.is_call_on conn number) number q is (asked-out conn number) (λ x e. both-right (ParkedFrames.is_out_on conn x.stage) _ e) h
 
-returned_flow : {V : View} (F : Flows V) {l : List Owed} {s : State} (c : Connection) (number fuel : ℕ) (value : Option Value) (q : Request) → is_finish V.event ≡ false → V.Fails V.setting.classes.unmarshal → V.Dialled c.number true → ((references : List ForeignId) → V.Known (record { conn = c.number; number = number; frame = ReturnedFrame value fuel; references = references })) → find (ParkedFrames.is_asked_on c.number number) s.requests ≡ Some q → V.Keeps l s → V.Keeps l (Frames.returned_for V.setting c number fuel value q.asked s)
+returned_flow : {V : View} (F : Flows V) {l : List Owed} {s : State} (c : Connection) (number fuel : ℕ) (value : Option Value) (q : Request) → is_ending V.event ≡ true → V.Fails V.setting.classes.unmarshal → V.Dialled c.number true → ((references : List ForeignId) → V.Known (record { conn = c.number; number = number; frame = ReturnedFrame value fuel; references = references })) → find (ParkedFrames.is_asked_on c.number number) s.requests ≡ Some q → V.Keeps l s → V.Keeps l (Frames.returned_for V.setting c number fuel value q.asked s)
 returned_flow {V} F {l} {s} c number fuel value q going may there known is h = if_flow F _ (reply_to_flow F q.asked (Throws V.setting.classes.unmarshal) (F.fails q.asked V.setting.classes.unmarshal may) (send_flow F Acks c.number (message.Ack number) there (answered_flow F c.number number q is h)))
     (park_result_flow F c.number number value fuel (foreign_ids V.setting.id (references_in value)) going (known (foreign_ids V.setting.id (references_in value))) (F.answers l s c.number number h))
 
@@ -545,7 +547,7 @@ answered_by_flow {V} F {s = s} c number next k may h = some_flow F (find (Parked
 ends_as_flow : {V : View} (F : Flows V) {l : List Owed} {s : State} (c : Connection) (number : ℕ) (reply : Asked → Reply) (q : Request) → ((asked : Asked) → ParkedFrames.has_number number asked ≡ true → V.Ends asked (reply asked)) → find (ParkedFrames.is_asked_on c.number number) s.requests ≡ Some q → V.Keeps l s → V.Keeps l (Frames.ends_as V.setting c number reply q.asked s)
 ends_as_flow F {s = s} c number reply q may is h = reply_to_flow F q.asked (reply q.asked) (may q.asked (both-right (ParkedFrames.is_unanswered_on c.number q.stage) _ (found-is (ParkedFrames.is_asked_on c.number number) s.requests q is))) (answered_flow F c.number number q is h)
 
-told_by_flow : {V : View} (F : Flows V) {l : List Owed} {s : State} (c : Connection) (dirty : Bool) (sequence : ℕ) (event : ℕ → lease_events.Event) → is_finish V.event ≡ false → V.Fails V.setting.classes.unmarshal → V.Keeps l s → V.Keeps l (Frames.told_by V.setting c dirty sequence event s)
+told_by_flow : {V : View} (F : Flows V) {l : List Owed} {s : State} (c : Connection) (dirty : Bool) (sequence : ℕ) (event : ℕ → lease_events.Event) → is_ending V.event ≡ true → V.Fails V.setting.classes.unmarshal → V.Keeps l s → V.Keeps l (Frames.told_by V.setting c dirty sequence event s)
 unfolding Frames.told_by
 told_by_flow {V} F {l} {s} c dirty sequence event going may h = some_flow F (find (Frames.tells_on dirty c.number sequence) s.requests) _ (close_flow F _ c.number may may h) (λ q is. go_all_flow F going (tells q.asked (F.removes_told l s dirty c.number sequence h)))
   where
@@ -558,8 +560,8 @@ got_flow : {V : View} (F : Flows V) {s : State} (c : Connection) (m : Message) �
 unfolding Frames.got Frames.got_dirty Frames.got_clean
 got_flow {V} F {s} c m same B is way h = by m same way
   where
-    going : is_finish V.event ≡ false
-    going = ap is_finish same
+    going : is_ending V.event ≡ true
+    going = ap is_ending same
 
     may : V.Fails V.setting.classes.unmarshal
     may = B.unmarshal (ap is_ending same)

@@ -1,2 +1,3 @@
 mod EventRules
 mod StartedLemmas
+mod DirectionLemmas

@@ -46,7 +46,7 @@ lower {o = o} le h = record { tasks = h.tasks; parked = h.parked; owed = λ e. l
 
 -- ---- tasks
 
-find-more : (is : Living → Bool) (ts : List Living) (row t : Living) → find is ts ≡ Some t → find is (ts ++ row ∷ []) ≡ Some t
+pub find-more : (is : Living → Bool) (ts : List Living) (row t : Living) → find is ts ≡ Some t → find is (ts ++ row ∷ []) ≡ Some t
 find-more is [] row t e = absurd (some-none t (sym e))
 find-more is (u ∷ ts) row t e = pick (is u) e (find-more is ts row t)
   where
@@ -210,7 +210,7 @@ started_flow g e conn k i = record {
   origins = λ l s h. all-from g e conn k i s.tasks;
   sided = λ p a. tt;
   fails = λ asked class a. tt;
-  gives = λ p value fuel asked a b c. tt;
+  gives = λ p value fuel asked is a b c. tt;
   quiet = λ l s t eq h. subst (λ (c : EventParts). Started conn k i (is_finish e) (owed_of conn k l) c.tasks c.parked c.connections) (sym eq) h;
   says = λ l s output is h. h;
   sends = λ l s turn c m may h. h;

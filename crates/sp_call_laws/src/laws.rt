@@ -1,5 +1,6 @@
 //! The laws of calls: how many tasks they start, in which directions frames go, and how they end.
 
+ghost use Rattle.sp_call_laws.specs.Directions.{FramesGoTheirWay, SpacesHaveDirections};
 ghost use Rattle.sp_call_laws.specs.Started.{CallsStartOneTask, CallsStartOneTaskInWorlds};
 
 /// A call that came on a connection under a number starts one task at most, whatever happens then: the
@@ -14,4 +15,18 @@ pub fn calls_start_one_task()
 /// space's history, are one.
 pub fn calls_start_one_task_in_worlds()
     ensures { CallsStartOneTaskInWorlds }
+{}
+
+/// After every history of a space each frame that an event is answered with goes its way: a Call, Lookup,
+/// Ack, Dirty or Clean on a connection that this space dialled, a Returned, Threw, Spent, Lease or Cleaned
+/// on one that a peer dialled.
+pub fn frames_go_their_way()
+    ensures { FramesGoTheirWay }
+{}
+
+/// In every run of every world, whatever is lost or fails, each frame that a space sent went its way, each
+/// of its tasks that a call started came on a connection that a peer dialled, and no connection is both
+/// one that the space dialled and one that a peer dialled.
+pub fn spaces_have_directions()
+    ensures { SpacesHaveDirections }
 {}
