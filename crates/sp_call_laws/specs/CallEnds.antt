@@ -1,13 +1,15 @@
 -- How a call ends: with its callee's answer, as the frame says it, or with an exception of a failure, and with nothing else (Java RMI specification, A.2: ConnectException, MarshalException, UnmarshalException; 3.2 on results).
-use Rattle.std.specs.Prelude.{◌≡◌, ◌⊎◌, ℕ, true, false, List, [], ◌∷◌, Option, Bool, if◌then◌else◌}
+use Rattle.std.specs.Prelude.{◌≡◌, ◌⊎◌, ℕ, true, false, List, [], ◌∷◌, Option, Some, Bool, find, if◌then◌else◌}
 use Rattle.net_message.specs.declared.message.Message.{Message}
 use Rattle.net_message.specs.declared.message.Message.TheVariants as message
 use Rattle.space_ids.specs.declared.ids.ClassId.{ClassId}
 use Rattle.space_ids.specs.declared.value.Value.{Value}
 use Rattle.sp_rules.specs.Behaviours.{Reply, Gives, GivesBack, Throws, RunsOut}
-use Rattle.sp_rules.specs.Classes.{Setting}
+use Rattle.sp_rules.specs.Classes.{Setting, Kind}
 use Rattle.sp_rules.specs.Events.{Event, Refused, Received, Closed, ReadFailed, Bad, WriteFailed}
-use Rattle.sp_rules.specs.State.{State, Living, ReturnedFrame, ParkedFrame}
+use Rattle.sp_rules.specs.ParkedFrames.{has_number}
+use Rattle.sp_rules.specs.Space.{state_of, on}
+use Rattle.sp_rules.specs.State.{State, Living, Request, Calls, ReturnedFrame, ParkedFrame, task_at}
 
 -- ---- what ends calls
 
@@ -60,3 +62,11 @@ pub record IsGiven (reply : Reply) (t u : Living) : Type 0 where
 -- The task waits on, or the call of this number ended with a reply that the event may end it with.
 abbrev pub WaitsOrEnds : Setting → State → Event → ℕ → Living → Living → Type 0
 WaitsOrEnds g s e number t u = WaitsOn t u ⊎ ((reply : Reply) × (IsGiven reply t u × MayEndWith g s e number reply))
+
+-- ---- the law
+
+-- After every history, whatever event comes: the task of a call that stands among the requests lives on, and waits on or was given one such reply.
+abbrev pub CallsEndAsNamed : Type 0
+CallsEndAsNamed = (g : Setting) (h : List Event) (e : Event) (number task lent : ℕ) (kind : Kind) (m : Message) (q : Request) (t : Living)
+    → find (λ (p : Request). has_number number p.asked) (state_of g h).requests ≡ Some q → q.asked ≡ Calls number task lent kind m → task_at (state_of g h) task ≡ Some t
+    → (u : Living) × ((task_at (on g e (state_of g h)).0 task ≡ Some u) × WaitsOrEnds g (state_of g h) e number t u)

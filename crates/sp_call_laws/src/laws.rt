@@ -1,5 +1,6 @@
 //! The laws of calls: how many tasks they start, in which directions frames go, and how they end.
 
+ghost use Rattle.sp_call_laws.specs.CallEnds.{CallsEndAsNamed};
 ghost use Rattle.sp_call_laws.specs.Directions.{FramesGoTheirWay, SpacesHaveDirections};
 ghost use Rattle.sp_call_laws.specs.Started.{CallsStartOneTask, CallsStartOneTaskInWorlds};
 
@@ -29,4 +30,13 @@ pub fn frames_go_their_way()
 /// one that the space dialled and one that a peer dialled.
 pub fn spaces_have_directions()
     ensures { SpacesHaveDirections }
+{}
+
+/// After every history of a space, whatever event comes, the task of a call that waits lives on; and it
+/// waits on, with nothing given to it, or it was given one reply. That is the value and the fuel of a
+/// Returned of the call's number that came or had waited for leases; what a Threw or a Spent of that
+/// number says; or the exception of a failure: ConnectException only where no peer is reached,
+/// MarshalException only where a write failed, UnmarshalException.
+pub fn calls_end_as_named()
+    ensures { CallsEndAsNamed }
 {}
