@@ -323,7 +323,7 @@ came-begin g s conn k o e new = record {
           bound = omega arith;
         }
 
-came-of : (g : Setting) (h : List Event) (conn k : ℕ) → OpensOnce h → CameOnce conn k (count (opened conn h)) [] (Space.state_of g h)
+pub came-of : (g : Setting) (h : List Event) (conn k : ℕ) → OpensOnce h → CameOnce conn k (count (opened conn h)) [] (Space.state_of g h)
 unfolding Space.state_of opening
 came-of g [] conn k t = record { live = omega arith; bound = omega arith }
 came-of g (e ∷ h) conn k t = pick (opens conn e) refl (came-of g h conn k t.1)

@@ -2,20 +2,20 @@ pub mod MadeLemmas
 mod CountLemmas
 mod CountSteps
 mod CountRules
-mod FlowRules
-mod WaitLemmas
-mod WaitHistories
-mod InboundLemmas
+pub mod FlowRules
+pub mod WaitLemmas
+pub mod WaitHistories
+pub mod InboundLemmas
 mod HeldCalls
 mod OwingLemmas
 mod PlaceLemmas
 mod PlaceRules
 mod PlaceEvents
 mod AwayRules
-mod OnceRules
+pub mod OnceRules
 mod SpaceLemmas
 mod EndedLemmas
-mod PastLemmas
+pub mod PastLemmas
 mod IdleLemmas
 mod AwaitedLemmas
 mod AskingLemmas

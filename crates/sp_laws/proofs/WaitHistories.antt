@@ -123,7 +123,7 @@ given-more k c = pick (c + 1 == k) refl (nat_le k c) refl (nat_le k (c + 1)) ref
     pick false e false f true g = omega arith
     pick false e false f false g = omega arith
 
-waits-begin : (g : Setting) (s : State) (e : Event) → s.fresh ≡ [] → Begins g Waits s e
+pub waits-begin : (g : Setting) (s : State) (e : Event) → s.fresh ≡ [] → Begins g Waits s e
 waits-begin g s e none = record {
   opens = λ conn dialled is h. record { tasks = h.tasks; numbers = h.numbers };
   parks = λ id k t target method arguments is ready stands h. record {

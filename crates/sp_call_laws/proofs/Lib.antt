@@ -1,0 +1,4 @@
+mod EventRules
+mod StartedLemmas
+mod DirectionLemmas
+mod CallEndLemmas

@@ -1,0 +1,4 @@
+pub mod Sent
+pub mod Started
+pub mod Directions
+pub mod CallEnds

@@ -1,0 +1,42 @@
+//! The laws of calls: how many tasks they start, in which directions frames go, and how they end.
+
+ghost use Rattle.sp_call_laws.specs.CallEnds.{CallsEndAsNamed};
+ghost use Rattle.sp_call_laws.specs.Directions.{FramesGoTheirWay, SpacesHaveDirections};
+ghost use Rattle.sp_call_laws.specs.Started.{CallsStartOneTask, CallsStartOneTaskInWorlds};
+
+/// A call that came on a connection under a number starts one task at most, whatever happens then: the
+/// tasks that it started before and after any part of a history are one. In a history no number of a
+/// connection comes again.
+pub fn calls_start_one_task()
+    ensures { CallsStartOneTask }
+{}
+
+/// In every run of every world, whatever is lost or fails, a call that comes to a space on a connection
+/// under a number starts one task there at most: two tasks that it started, at any two moments of the
+/// space's history, are one.
+pub fn calls_start_one_task_in_worlds()
+    ensures { CallsStartOneTaskInWorlds }
+{}
+
+/// After every history of a space each frame that an event is answered with goes its way: a Call, Lookup,
+/// Ack, Dirty or Clean on a connection that this space dialled, a Returned, Threw, Spent, Lease or Cleaned
+/// on one that a peer dialled.
+pub fn frames_go_their_way()
+    ensures { FramesGoTheirWay }
+{}
+
+/// In every run of every world, whatever is lost or fails, each frame that a space sent went its way, each
+/// of its tasks that a call started came on a connection that a peer dialled, and no connection is both
+/// one that the space dialled and one that a peer dialled.
+pub fn spaces_have_directions()
+    ensures { SpacesHaveDirections }
+{}
+
+/// After every history of a space, whatever event comes, the task of a call that waits lives on; and it
+/// waits on, with nothing given to it, or it was given one reply. That is the value and the fuel of a
+/// Returned of the call's number that came or had waited for leases; what a Threw or a Spent of that
+/// number says; or the exception of a failure: ConnectException only where no peer is reached,
+/// MarshalException only where a write failed, UnmarshalException.
+pub fn calls_end_as_named()
+    ensures { CallsEndAsNamed }
+{}
