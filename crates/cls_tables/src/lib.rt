@@ -1,0 +1,8 @@
+//! Tables of a linked class set: what running asks of fields, each answer in constant time.
+#![tactic(auto)]
+
+pub use cls_link::{ClassId, FieldSlot, Linked, MemberIndex};
+pub use tables::Tables;
+
+mod slots;
+mod tables;
