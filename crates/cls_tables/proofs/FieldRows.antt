@@ -17,7 +17,7 @@ use Rattle.cls_resolve.specs.declared.named.MemberIndex.{MemberIndex}
 use Rattle.cls_search.specs.FieldSearches.{field_at}
 use Rattle.cls_tables.specs.Slots.{slots_from, HasSlots, HaveSlots}
 
-cases : (b : Bool) → (b ≡ true) ⊎ (b ≡ false)
+pub cases : (b : Bool) → (b ≡ true) ⊎ (b ≡ false)
 cases true = inl refl
 cases false = inr refl
 
@@ -30,10 +30,10 @@ one f = cond (is_instance f) 1 0
 counted : (f : Field) (fs : List Field) → count_by is_instance (f ∷ fs) ≡ one f + count_by is_instance fs
 counted f fs = sum_by-cons (λ (x : Field). cond (is_instance x) 1 0) f fs
 
-counted_yes : (f : Field) (fs : List Field) → is_instance f ≡ true → count_by is_instance (f ∷ fs) ≡ suc (count_by is_instance fs)
+pub counted_yes : (f : Field) (fs : List Field) → is_instance f ≡ true → count_by is_instance (f ∷ fs) ≡ suc (count_by is_instance fs)
 counted_yes f fs is = let all = counted f fs in let n : one f ≡ 1 = ap (λ b. cond b 1 0) is in omega (arith, all, n)
 
-counted_no : (f : Field) (fs : List Field) → is_instance f ≡ false → count_by is_instance (f ∷ fs) ≡ count_by is_instance fs
+pub counted_no : (f : Field) (fs : List Field) → is_instance f ≡ false → count_by is_instance (f ∷ fs) ≡ count_by is_instance fs
 counted_no f fs is = let all = counted f fs in let n : one f ≡ 0 = ap (λ b. cond b 1 0) is in omega (arith, all, n)
 
 slots_yes : (slot : ℕ) (f : Field) (fs : List Field) → is_instance f ≡ true → slots_from slot (f ∷ fs) ≡ Some (record { 0 = slot }) ∷ slots_from (suc slot) fs

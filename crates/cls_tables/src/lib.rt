@@ -3,6 +3,8 @@
 
 pub use cls_link::{ClassId, FieldSlot, Linked, MemberIndex};
 pub use tables::Tables;
+pub use vm_heap::WordKind;
 
+mod kinds;
 mod slots;
 mod tables;

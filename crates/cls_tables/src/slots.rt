@@ -7,14 +7,14 @@ ghost use Rattle.cls_tables.specs.Slots.{slots_from, HaveSlots, HasSlots};
 use cls_link::{ClassId, ClassSet, Field, FieldSlot, Flags, Linked, Row};
 use std::alloc::{AllocError, Global};
 
-fn is_of_instances(field: &Field) -> bool
+pub(crate) fn is_of_instances(field: &Field) -> bool
     ensures { result ≡ is_instance field.now }
 {
     !field.flags.has(Flags::STATIC)
 }
 
 // How many of the fields are instance fields.
-fn count_instance_fields(fields: &[Field]) -> usize
+pub(crate) fn count_instance_fields(fields: &[Field]) -> usize
     ensures { result ≡ count_by is_instance fields.now }
 {
     let mut count = 0;
