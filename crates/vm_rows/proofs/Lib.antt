@@ -4,3 +4,4 @@ pub mod Stands
 pub mod WordRows
 pub mod IntRows
 pub mod ReturnRows
+pub mod ObjectRows
