@@ -5,3 +5,5 @@ pub mod WordRows
 pub mod IntRows
 pub mod ReturnRows
 pub mod ObjectRows
+pub mod CallRows
+pub mod NeverStuck

@@ -1,6 +1,6 @@
 -- The rows of objects, their fields, and casts.
-use Rattle.std.proofs.Common.{◌≡◌, ◌⊎◌, inl, inr, ℕ, ◌+◌, ◌<◌, Bool, true, false, not, List, [], ◌∷◌, length, map, refl, sym, subst, ap, ◌∙◌, Option, Some, None, Ok, arith}
-use Rattle.std.specs.Prelude.{nat_eq, ◌||◌, ◌&&◌, bytes_eq, codes, if◌then◌else◌, option_and_then, slice_get}
+use Rattle.std.proofs.Common.{◌≡◌, ◌⊎◌, inl, inr, ℕ, ◌<◌, Bool, true, false, not, List, [], ◌∷◌, length, map, refl, sym, subst, ap, ◌∙◌, Option, Some, None, Ok}
+use Rattle.std.specs.Prelude.{nat_eq, ◌||◌, ◌&&◌, bytes_eq, codes, if◌then◌else◌, slice_get}
 use Rattle.std.specs.List.{list_all, list_any}
 use Rattle.std.specs.Option.{option_map_or}
 use Rattle.std.proofs.lemmas.Option.{slice_get_within}
@@ -8,7 +8,6 @@ use Rattle.std.proofs.lemmas.Slice.Eq.{bytes_eq-Decides}
 use Rattle.cf_reader.specs.declared.class_file.Field.{Field}
 use Rattle.cls_link.specs.Links.{Links}
 use Rattle.cls_link.specs.Targets.{index_from}
-use Rattle.cls_link.specs.declared.linked.LinkedInsn.{LinkedInsn}
 use Rattle.cls_link.specs.declared.linked.LinkedInsn.TheVariants as insn
 use Rattle.cls_resolve.specs.Meanings.{field_of}
 use Rattle.cls_resolve.specs.declared.named.CastType.{CastType}
@@ -23,23 +22,21 @@ use Rattle.space_ids.specs.declared.ids.ClassId.{ClassId}
 use Rattle.ver_check.specs.Bodies.{Body, offset_at}
 use Rattle.ver_check.specs.Effects.{cast_vtype, effect}
 use Rattle.ver_check.specs.Members.{field_at, get_field, is_own_field, make_new, put_field, written_object}
-use Rattle.ver_check.specs.Steps.{◌>>=◌, demand, found_or, give, take}
+use Rattle.ver_check.specs.Steps.{demand, found_or, give, take}
 use Rattle.ver_rules.specs.Wants.{is_wanted}
 use Rattle.ver_rules.specs.declared.fault.CheckRule.TheVariants as rule
-use Rattle.ver_rules.specs.declared.want.Want.{Want}
 use Rattle.ver_rules.specs.declared.want.Want.TheVariants as want
 use Rattle.ver_frames.specs.Assignable.{IsAssignable, IsObjectAssignable}
 use Rattle.ver_frames.specs.AssignableTest.{is_assignable}
 use Rattle.ver_frames.specs.Changes as changes
 use Rattle.ver_frames.specs.Frames.{Frame}
-use Rattle.ver_frames.specs.Made.{made_at, new_class}
+use Rattle.ver_frames.specs.Made.{made_at}
 use Rattle.ver_frames.specs.StackMapFormat.{is_uninit_this}
 use Rattle.ver_frames.specs.Types.{field_vtype}
 use Rattle.ver_frames.specs.declared.vtype.VType.{VType}
 use Rattle.ver_frames.specs.declared.vtype.VType.TheVariants as vtype
 use Rattle.vm_act.specs.Objects as acts
 use Rattle.vm_act.specs.Steps.{on_some}
-use Rattle.vm_act.specs.declared.machine.Machine.{Machine}
 use Rattle.vm_act.specs.declared.objects.Referent.{Referent}
 use Rattle.vm_act.specs.declared.objects.Referent.TheVariants as referent
 use Rattle.vm_code.specs.Classes.{is_instance, is_object, passes}
@@ -49,16 +46,15 @@ use Rattle.vm_typing.proofs.Objects as objects
 use Rattle.vm_typing.proofs.Referents as referents
 use Rattle.vm_typing.specs.Laws.{Leads}
 use Rattle.vm_typing.specs.Owed.{CastFits, IsOne, MayWrite, Owed, Refers}
-use Rattle.vm_typing.specs.Typed.{IsAt}
 use Rattle.vm_typing.specs.World.{World, IsKnown, cleared, is_made_at}
-use Rattle.vm_rows.specs.Rows.{CastsTo, MakesObjects, NamesField, StandsAt, IsRow, ObjectRows}
+use Rattle.vm_rows.specs.Rows.{CastsTo, MakesObjects, NamesField, IsRow, ObjectRows}
 use Rattle.vm_rows.proofs.Stands.{fits_asked, next_is, room_for}
-use Rattle.vm_rows.proofs.Takes.{demanded, found_is, gives, in_turn, passes_then, same_ok, take_last, take_then}
-use Rattle.vm_rows.proofs.Wants.{assignable_by, initialized_wanted}
+use Rattle.vm_rows.proofs.Takes.{demanded, found_is, gives, passes_then, same_ok, take_last, take_then}
+use Rattle.vm_rows.proofs.Wants.{initialized_wanted}
 
 -- ---- what a `new` made before
 
-same_made : (offset : ℕ) (t : VType) → is_made_at offset t ≡ changes.is_made_at offset t
+pub same_made : (offset : ℕ) (t : VType) → is_made_at offset t ≡ changes.is_made_at offset t
 same_made offset vtype.Top = refl
 same_made offset vtype.Int = refl
 same_made offset vtype.Null = refl
