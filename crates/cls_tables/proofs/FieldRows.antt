@@ -10,7 +10,7 @@ use Rattle.cls_set.proofs.Hierarchy.{same_read}
 use Rattle.cls_set.specs.declared.class.Class.{Class}
 use Rattle.space_ids.specs.declared.ids.ClassId.{ClassId}
 use Rattle.cls_link.proofs.FieldCounts.{few_last, held, slot_is}
-use Rattle.cls_link.specs.declared.linked.FieldSlot.{FieldSlot}
+use Rattle.cls_link.specs.declared.linked_code.FieldSlot.{FieldSlot}
 use Rattle.cls_link.specs.Fields.{is_instance, CountsFields, IsFieldSlot}
 use Rattle.cls_resolve.specs.Meanings.{field_of}
 use Rattle.cls_resolve.specs.declared.named.MemberIndex.{MemberIndex}

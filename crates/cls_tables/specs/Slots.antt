@@ -3,7 +3,7 @@ use Rattle.std.specs.Prelude.{◌≡◌, ◌+◌, ◌<◌, ℕ, suc, Option, Som
 use Rattle.cf_reader.specs.declared.class_file.Field.{Field}
 use Rattle.cls_set.specs.declared.class.Class.{Class}
 use Rattle.space_ids.specs.declared.ids.ClassId.{ClassId}
-use Rattle.cls_link.specs.declared.linked.FieldSlot.{FieldSlot}
+use Rattle.cls_link.specs.declared.linked_code.FieldSlot.{FieldSlot}
 use Rattle.cls_link.specs.Fields.{is_instance, CountsFields}
 
 -- the slots of fields as declared, where the first instance field has this one; a static field has none

@@ -8,8 +8,8 @@ use Rattle.cf_insns.specs.declared.insn.InvokeKind.TheVariants as kind
 use Rattle.cf_reader.specs.declared.class_file.Method.{Method}
 use Rattle.cf_text.specs.declared.types.FieldType.{FieldType}
 use Rattle.cls_link.specs.Links.{Links}
-use Rattle.cls_link.specs.declared.linked.LinkedInsn.{LinkedInsn}
-use Rattle.cls_link.specs.declared.linked.LinkedInsn.TheVariants as insn
+use Rattle.cls_link.specs.declared.linked_code.LinkedInsn.{LinkedInsn}
+use Rattle.cls_link.specs.declared.linked_code.LinkedInsn.TheVariants as insn
 use Rattle.cls_resolve.specs.Meanings.{method_of}
 use Rattle.cls_resolve.specs.declared.named.MemberIndex.{MemberIndex}
 use Rattle.cls_search.specs.MethodSearches.{method_in}

@@ -10,9 +10,9 @@ use Rattle.cf_insns.specs.declared.insn.Condition.{Condition}
 use Rattle.cf_insns.specs.declared.insn.Equality.{Equality}
 use Rattle.cf_insns.specs.declared.insn.UnaryOperator.{UnaryOperator}
 use Rattle.cls_link.specs.Links.{Links}
-use Rattle.cls_link.specs.declared.linked.LinkedInsn.TheVariants as insn
-use Rattle.cls_link.specs.declared.linked.LinkedSwitch.{LinkedSwitch}
-use Rattle.cls_link.specs.declared.linked.LinkedSwitch.TheVariants as switch
+use Rattle.cls_link.specs.declared.linked_code.LinkedInsn.TheVariants as insn
+use Rattle.cls_link.specs.declared.linked_code.LinkedSwitch.{LinkedSwitch}
+use Rattle.cls_link.specs.declared.linked_code.LinkedSwitch.TheVariants as switch
 use Rattle.cls_set.specs.Sets.{IsClassSet}
 use Rattle.ver_check.specs.Bodies.{Body}
 use Rattle.ver_check.specs.Effects.{array_effect, effect, switch_targets}

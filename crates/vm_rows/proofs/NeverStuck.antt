@@ -7,9 +7,9 @@ use Rattle.std.proofs.lemmas.Option.{slice_get_within}
 use Rattle.cls_link.proofs.Indices.{index_found}
 use Rattle.cls_link.specs.Links.{Links, AreLinks}
 use Rattle.cls_link.specs.Targets.{index_from}
-use Rattle.cls_link.specs.declared.linked.LinkedInsn.{LinkedInsn}
-use Rattle.cls_link.specs.declared.linked.LinkedInsn.TheVariants as insn
-use Rattle.cls_link.specs.declared.linked.LinkedMethod.{LinkedMethod}
+use Rattle.cls_link.specs.declared.linked_code.LinkedInsn.{LinkedInsn}
+use Rattle.cls_link.specs.declared.linked_code.LinkedInsn.TheVariants as insn
+use Rattle.cls_link.specs.declared.linked_code.LinkedMethod.{LinkedMethod}
 use Rattle.cls_set.proofs.Hierarchy.{same_some, some_of, true_false}
 use Rattle.cls_set.specs.declared.class.Class.{Class}
 use Rattle.ver_check.specs.Acceptance.{subject_of}
@@ -57,7 +57,7 @@ is_entry links number s e =
     let entry = passes_both (slice_get links.methods number) _ s e in
     let linked = passes_both entry.0.code _ s entry.1.1 in
     let class = passes_both (slice_get links.classes entry.0.class.0) _ s linked.1.1 in
-    let method = passes_both (slice_get class.0.file.methods entry.0.place) _ s class.1.1 in
+    let method = passes_both (slice_get class.0.file.methods entry.0.index) _ s class.1.1 in
     let code = passes_both method.0.code _ s method.1.1 in
     subst (λ (t : Subject). IsEntry links number t) (same_some code.1.1) (record { entry = entry.0; at = entry.1.0; code = linked.1.0; class = refl })
 

@@ -8,7 +8,7 @@ use Rattle.std.proofs.lemmas.Slice.Eq.{bytes_eq-Decides}
 use Rattle.cf_reader.specs.declared.class_file.Field.{Field}
 use Rattle.cls_link.specs.Links.{Links}
 use Rattle.cls_link.specs.Targets.{index_from}
-use Rattle.cls_link.specs.declared.linked.LinkedInsn.TheVariants as insn
+use Rattle.cls_link.specs.declared.linked_code.LinkedInsn.TheVariants as insn
 use Rattle.cls_resolve.specs.Meanings.{field_of}
 use Rattle.cls_resolve.specs.declared.named.CastType.{CastType}
 use Rattle.cls_resolve.specs.declared.named.CastType.TheVariants as cast

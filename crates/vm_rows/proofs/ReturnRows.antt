@@ -5,7 +5,7 @@ use Rattle.std.specs.Option.{option_map_or}
 use Rattle.cf_insns.specs.declared.insn.ValueKind.{ValueKind}
 use Rattle.cf_insns.specs.declared.insn.ValueKind.TheVariants as value
 use Rattle.cls_link.specs.Links.{Links}
-use Rattle.cls_link.specs.declared.linked.LinkedInsn.TheVariants as insn
+use Rattle.cls_link.specs.declared.linked_code.LinkedInsn.TheVariants as insn
 use Rattle.cls_set.proofs.Hierarchy.{true_false}
 use Rattle.cls_set.specs.Sets.{IsClassSet}
 use Rattle.cls_set.specs.declared.class.Class.{Class}

@@ -6,7 +6,7 @@ use Rattle.cf_insns.specs.declared.insn.StackOperation.{StackOperation}
 use Rattle.cf_insns.specs.declared.insn.StackOperation.TheVariants as stack
 use Rattle.cf_insns.specs.declared.insn.ValueKind.{ValueKind}
 use Rattle.cls_link.specs.Links.{Links}
-use Rattle.cls_link.specs.declared.linked.LinkedInsn.TheVariants as insn
+use Rattle.cls_link.specs.declared.linked_code.LinkedInsn.TheVariants as insn
 use Rattle.ver_check.specs.Bodies.{Body}
 use Rattle.ver_check.specs.Effects.{effect}
 use Rattle.ver_check.specs.Steps.{◌>>=◌, give, give_all, local_type, popped_into, rearranged, take, taken, taken_two}

@@ -25,8 +25,8 @@ use Rattle.cf_insns.specs.declared.insn.StackOperation.{StackOperation}
 use Rattle.cf_insns.specs.declared.insn.UnaryOperator.{UnaryOperator}
 use Rattle.cf_insns.specs.declared.insn.ValueKind.{ValueKind}
 use Rattle.cls_link.specs.Links.{Links}
-use Rattle.cls_link.specs.declared.linked.LinkedInsn.{LinkedInsn}
-use Rattle.cls_link.specs.declared.linked.LinkedInsn.TheVariants as insn
+use Rattle.cls_link.specs.declared.linked_code.LinkedInsn.{LinkedInsn}
+use Rattle.cls_link.specs.declared.linked_code.LinkedInsn.TheVariants as insn
 use Rattle.ver_check.specs.Bodies.{Body, offset_at}
 use Rattle.ver_check.specs.Effects.{effect, falls_through, targets}
 use Rattle.ver_frames.specs.Frames.{Frame}
@@ -40,8 +40,8 @@ use Rattle.vm_typing.specs.World.{World, IsKnown, Enters}
 use Rattle.cf_insns.specs.declared.insn.InvokeKind.{InvokeKind}
 use Rattle.cf_insns.specs.declared.insn.InvokeKind.TheVariants as invoke
 use Rattle.cf_reader.specs.declared.class_file.Method.{Method}
-use Rattle.cls_link.specs.declared.linked.LinkedMethod.{LinkedMethod}
-use Rattle.cls_link.specs.declared.linked.LinkedSwitch.{LinkedSwitch}
+use Rattle.cls_link.specs.declared.linked_code.LinkedMethod.{LinkedMethod}
+use Rattle.cls_link.specs.declared.linked_code.LinkedSwitch.{LinkedSwitch}
 use Rattle.vm_act.specs.declared.calls.Callee.{Callee}
 use Rattle.vm_act.specs.declared.calls.Selected.{Selected}
 use Rattle.vm_code.specs.Calls.{id_of}
