@@ -90,7 +90,7 @@ ordered : (v : Part) (notes : List Note) → total (output_part v) (in_order not
 unfolding in_order
 ordered v notes = in-ranks v 14 notes
 
-record_sent_within : {v : Part} {qs : List Request} {n : ℕ} {s : State} (o : Output) → Within v qs n s → Within v qs n (Space.record_sent s o)
+record_sent_within : {low : ℕ} {v : Part} {qs : List Request} {n : ℕ} {s : State} (o : Output) → Within low v qs n s → Within low v qs n (Space.record_sent s o)
 record_sent_within (Started task) k = k
 record_sent_within (Ended task outcome) k = k
 record_sent_within (Withdrawn ids) k = k
@@ -101,22 +101,22 @@ record_sent_within (Close conn) k = k
 record_sent_within (Ready task) k = k
 
 -- What is in a space and what it sends is no more than this; and each call is of the tree of its task.
-pub record Leaves (v : Part) (n : ℕ) (r : State × List Output) : Type 0 where
+pub record Leaves (low : ℕ) (v : Part) (n : ℕ) (r : State × List Output) : Type 0 where
   pub bound : left_in v r.0 + total (output_part v) r.1 ≤ n
-  pub tags : Tags v [] (tag_parts r.0)
+  pub tags : Tags low v [] (tag_parts r.0)
 
-finish-leaves : {v : Part} {n : ℕ} {s : State} (answers : Bool) → Within v [] n s → Leaves v n (Space.finish_event answers s)
-finish-leaves {v} {n} {s} true k =
+pub finish-leaves : {low : ℕ} {v : Part} {n : ℕ} {s : State} (answers : Bool) → Within low v [] n s → Leaves low v n (Space.finish_event answers s)
+finish-leaves {low} {v} {n} {s} true k =
     let t : State = settle s in
-    let settled : Within v [] n t = settle_within k in
+    let settled : Within low v [] n t = settle_within k in
     let b : left_in v (settle s) ≤ n = settled.bound in
     let m : ℕ = left_in v (record t { notes = [] }) in
     let self : m ≤ m = omega arith in
-    let sent : Within v [] m (each Space.record_sent (in_order t.notes) (record t { notes = [] })) = each_same Space.record_sent (in_order t.notes) (λ u o h. record_sent_within o h) (record { bound = self; tags = settled.tags }) in
+    let sent : Within low v [] m (each Space.record_sent (in_order t.notes) (record t { notes = [] })) = each_same Space.record_sent (in_order t.notes) (λ u o h. record_sent_within o h) (record { bound = self; tags = settled.tags }) in
     let a : left_in v (each Space.record_sent (in_order t.notes) (record t { notes = [] })) ≤ m = sent.bound in
     let c : total (output_part v) (in_order t.notes) ≤ total (note_part v) t.notes = ordered v t.notes in
     record { bound = omega arith; tags = sent.tags }
-finish-leaves {v} {n} {s} false k = let b : left_in v s ≤ n = k.bound in record { bound = omega arith; tags = k.tags }
+finish-leaves {low} {v} {n} {s} false k = let b : left_in v s ≤ n = k.bound in record { bound = omega arith; tags = k.tags }
 
 -- what a task executed is in the sum until it ends
 ended-less : (v : Part) (s : State) (e : Event) → ended_part v s e ≤ left_in v s
@@ -161,19 +161,19 @@ ended-less v s (Finished id k) = found (ready_at s id) refl
         let b : counted (has_task v t) (Tasks.steps k t.task).made ≤ total (task_part v) s.tasks = one t (ready-is (task_at s id) t is).0 in
         omega arith
 
-pub on-leaves : (v : Part) (g : Setting) (e : Event) (s : State) → FitsTree v s e → Tags v [] (tag_parts s)
-    → (left_in v (Space.on g e s).0 + total (output_part v) (Space.on g e s).1 + ended_part v s e ≤ left_in v s + brought v s e) × Tags v [] (tag_parts (Space.on g e s).0)
+pub on-leaves : {low : ℕ} (v : Part) (g : Setting) (e : Event) (s : State) → FitsTree v s e → Tags low v [] (tag_parts s)
+    → (left_in v (Space.on g e s).0 + total (output_part v) (Space.on g e s).1 + ended_part v s e ≤ left_in v s + brought v s e) × Tags low v [] (tag_parts (Space.on g e s).0)
 unfolding Space.on
-on-leaves v g e s fits tags =
+on-leaves {low} v g e s fits tags =
     let less : ended_part v s e ≤ left_in v s = ended-less v s e in
     let n : ℕ = left_in v s - ended_part v s e in
     let all : left_in v s ≤ n + ended_part v s e = omega arith in
-    let out : Leaves v (n + brought v s e) (Space.finish_event (Space.answers_outputs e) (Space.happen g e s)) = finish-leaves (Space.answers_outputs e) (happen_within n g e fits (record { bound = all; tags = tags })) in
+    let out : Leaves low v (n + brought v s e) (Space.finish_event (Space.answers_outputs e) (Space.happen g e s)) = finish-leaves (Space.answers_outputs e) (happen_within n g e fits (record { bound = all; tags = tags })) in
     let b : left_in v (Space.on g e s).0 + total (output_part v) (Space.on g e s).1 ≤ n + brought v s e = out.bound in
     (omega arith, out.tags)
 
 -- after every history in which each call is of the tree of its task
-pub tags-of : (v : Part) (g : Setting) (h : List Event) → FitsHistory v g h → Tags v [] (tag_parts (Space.state_of g h))
+pub tags-of : (v : Part) (g : Setting) (h : List Event) → FitsHistory v g h → Tags 0 v [] (tag_parts (Space.state_of g h))
 unfolding Space.state_of opening
-tags-of v g [] fits = record { ids = tt; requests = tt; fresh = tt; also = tt; connections = tt }
+tags-of v g [] fits = record { calls = omega arith; ids = tt; requests = tt; fresh = tt; also = tt; connections = tt }
 tags-of v g (e ∷ h) fits = (on-leaves v g e (Space.state_of g h) fits.0 (tags-of v g h fits.1)).1

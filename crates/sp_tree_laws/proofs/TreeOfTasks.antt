@@ -32,7 +32,7 @@ use Rattle.sp_rules.proofs.FuelOfTasks.{stage-le, units_of, steps-units, back, a
 use Rattle.sp_rules.proofs.OwnLemmas.{some-same}
 use Rattle.sp_rules.proofs.ReadyLemmas.{ready-is}
 use Rattle.sp_rules.proofs.Stable.{new_row}
-use Rattle.sp_tree_laws.specs.Trees.{Part, is_of, has_task, counted, task_part, carried, asked_part, request_part, fresh_part, output_part, note_part, left_in, ended_at, ended_part}
+use Rattle.sp_tree_laws.specs.Trees.{Part, is_of, has_task, counted, task_part, carried, asked_part, request_part, fresh_part, output_part, note_part, left_in, ended_at, ended_part, is_call, stands_at_call}
 use Rattle.sp_tree_laws.proofs.RowLemmas.{counted-less, counted-both, carried-same, FirstIs, found-first, first-more, first-set, first-fewer}
 
 -- ---- calls and their tasks
@@ -59,6 +59,7 @@ abbrev pub IsDialler : Part → Connection → Type 0
 IsDialler p c = is_some c.dialled ≡ true → HasOwn p c.number
 
 pub record TagParts : Type 0 where
+  pub calls : ℕ
   pub made : ℕ
   pub tasks : List Living
   pub requests : List Request
@@ -66,10 +67,11 @@ pub record TagParts : Type 0 where
   pub connections : List Connection
 
 abbrev pub tag_parts : State → TagParts
-tag_parts s = record { made = s.tasks_made; tasks = s.tasks; requests = s.requests; fresh = s.fresh; connections = s.connections }
+tag_parts s = record { calls = s.calls_made; made = s.tasks_made; tasks = s.tasks; requests = s.requests; fresh = s.fresh; connections = s.connections }
 
 -- Each call among the requests, and among these besides, is of the tree of its task; and what is out went on a connection that this space dialled.
-pub record Tags (p : Part) (qs : List Request) (x : TagParts) : Type 0 where
+pub record Tags (low : ℕ) (p : Part) (qs : List Request) (x : TagParts) : Type 0 where
+  pub calls : low ≤ x.calls
   pub ids : AllOf (λ (t : Living). t.id ≤ x.made) x.tasks
   pub requests : AllOf (IsTagged p x.made x.tasks) x.requests
   pub fresh : AllOf (IsTagged p x.made x.tasks) x.fresh
@@ -78,103 +80,103 @@ pub record Tags (p : Part) (qs : List Request) (x : TagParts) : Type 0 where
 
 -- ---- the bound
 
-pub record Within (p : Part) (qs : List Request) (n : ℕ) (s : State) : Type 0 where
+pub record Within (low : ℕ) (p : Part) (qs : List Request) (n : ℕ) (s : State) : Type 0 where
   pub bound : left_in p s ≤ n
-  pub tags : Tags p qs (tag_parts s)
+  pub tags : Tags low p qs (tag_parts s)
 
-pub if_within : {p : Part} {qs : List Request} {n : ℕ} {t u : State} (b : Bool) → Within p qs n t → Within p qs n u → Within p qs n (if b then t else u)
+pub if_within : {low : ℕ} {p : Part} {qs : List Request} {n : ℕ} {t u : State} (b : Bool) → Within low p qs n t → Within low p qs n u → Within low p qs n (if b then t else u)
 if_within true e f = e
 if_within false e f = f
 
-pub more : {p : Part} {qs : List Request} {n : ℕ} {s : State} (k : ℕ) → Within p qs n s → Within p qs (n + k) s
-more {p} {n = n} {s} k e = let b : left_in p s ≤ n = e.bound in record { bound = omega arith; tags = e.tags }
+pub more : {low : ℕ} {p : Part} {qs : List Request} {n : ℕ} {s : State} (k : ℕ) → Within low p qs n s → Within low p qs (n + k) s
+more {low} {p} {n = n} {s} k e = let b : left_in p s ≤ n = e.bound in record { bound = omega arith; tags = e.tags }
 
-pub some_within : {p : Part} {qs : List Request} {A : Type 0} {n : ℕ} {t : State} (x : Option A) (f : A → State) → Within p qs n t → ((a : A) → x ≡ Some a → Within p qs n (f a)) → Within p qs n (with_some x t f)
+pub some_within : {low : ℕ} {p : Part} {qs : List Request} {A : Type 0} {n : ℕ} {t : State} (x : Option A) (f : A → State) → Within low p qs n t → ((a : A) → x ≡ Some a → Within low p qs n (f a)) → Within low p qs n (with_some x t f)
 some_within None f e g = e
 some_within (Some a) f e g = g a refl
 
 -- each is one of those besides
-pub each_within : {p : Part} (qs : List Request) (f : State → Request → State) (v : Request → ℕ) (xs : List Request) {n : ℕ} {s : State}
-    → ((rs : List Request) (m : ℕ) (t : State) (x : Request) → Within p (x ∷ rs) m t → Within p rs (m + v x) (f t x)) → Within p (xs ++ qs) n s → Within p qs (n + total v xs) (each f xs s)
+pub each_within : {low : ℕ} {p : Part} (qs : List Request) (f : State → Request → State) (v : Request → ℕ) (xs : List Request) {n : ℕ} {s : State}
+    → ((rs : List Request) (m : ℕ) (t : State) (x : Request) → Within low p (x ∷ rs) m t → Within low p rs (m + v x) (f t x)) → Within low p (xs ++ qs) n s → Within low p qs (n + total v xs) (each f xs s)
 unfolding each
 each_within qs f v [] g e = more 0 e
-each_within {p} qs f v (x ∷ xs) {n} {s} g e =
-    let k : Within p qs (n + v x + total v xs) (each f xs (f s x)) = each_within qs f v xs g (g (xs ++ qs) n s x e) in
+each_within {low} {p} qs f v (x ∷ xs) {n} {s} g e =
+    let k : Within low p qs (n + v x + total v xs) (each f xs (f s x)) = each_within qs f v xs g (g (xs ++ qs) n s x e) in
     let b : left_in p (each f xs (f s x)) ≤ n + v x + total v xs = k.bound in record { bound = omega arith; tags = k.tags }
 
-pub each_same : {p : Part} {qs : List Request} {A : Type 0} (f : State → A → State) (xs : List A) {n : ℕ} {s : State} → ((t : State) (x : A) → Within p qs n t → Within p qs n (f t x)) → Within p qs n s → Within p qs n (each f xs s)
+pub each_same : {low : ℕ} {p : Part} {qs : List Request} {A : Type 0} (f : State → A → State) (xs : List A) {n : ℕ} {s : State} → ((t : State) (x : A) → Within low p qs n t → Within low p qs n (f t x)) → Within low p qs n s → Within low p qs n (each f xs s)
 unfolding each
 each_same f [] g e = e
 each_same f (x ∷ xs) {n} {s} g e = each_same f xs g (g s x e)
 
-pub say_within : {p : Part} {qs : List Request} {n : ℕ} {s : State} (o : Output) → Within p qs n s → Within p qs (n + output_part p o) (State.say o s)
-say_within {p} {n = n} {s} o e =
+pub say_within : {low : ℕ} {p : Part} {qs : List Request} {n : ℕ} {s : State} (o : Output) → Within low p qs n s → Within low p qs (n + output_part p o) (State.say o s)
+say_within {low} {p} {n = n} {s} o e =
     let b : left_in p s ≤ n = e.bound in
     let q : total (note_part p) (s.notes ++ Says o ∷ []) ≡ total (note_part p) s.notes + output_part p o = total-snoc (note_part p) s.notes (Says o) in
     record { bound = omega arith; tags = e.tags }
 
-pub send_within : {p : Part} {qs : List Request} {n : ℕ} {s : State} (turn : Turn) (conn : ℕ) (m : Message) → Within p qs n s → Within p qs (n + carried (p.frames conn) m) (send turn conn m s)
+pub send_within : {low : ℕ} {p : Part} {qs : List Request} {n : ℕ} {s : State} (turn : Turn) (conn : ℕ) (m : Message) → Within low p qs n s → Within low p qs (n + carried (p.frames conn) m) (send turn conn m s)
 unfolding send
-send_within {p} {n = n} {s} turn conn m e =
+send_within {low} {p} {n = n} {s} turn conn m e =
     let b : left_in p s ≤ n = e.bound in
     let q : total (note_part p) (s.notes ++ Sends turn conn m ∷ []) ≡ total (note_part p) s.notes + carried (p.frames conn) m = total-snoc (note_part p) s.notes (Sends turn conn m) in
     if_within (is_open s conn) (record { bound = omega arith; tags = e.tags }) (more (carried (p.frames conn) m) e)
 
-pub hold_within : {p : Part} {qs : List Request} {n : ℕ} {s : State} (refs : List ForeignId) → Within p qs n s → Within p qs n (hold_ids refs s)
+pub hold_within : {low : ℕ} {p : Part} {qs : List Request} {n : ℕ} {s : State} (refs : List ForeignId) → Within low p qs n s → Within low p qs n (hold_ids refs s)
 unfolding hold_ids
 hold_within refs e = each_same _ _ (λ t x h. record { bound = h.bound; tags = h.tags }) e
 
-pub drop_within : {p : Part} {qs : List Request} {n : ℕ} {s : State} (refs : List ForeignId) → Within p qs n s → Within p qs n (drop_ids refs s)
+pub drop_within : {low : ℕ} {p : Part} {qs : List Request} {n : ℕ} {s : State} (refs : List ForeignId) → Within low p qs n s → Within low p qs n (drop_ids refs s)
 unfolding drop_ids
 drop_within refs e = each_same _ _ (λ t x h. record { bound = h.bound; tags = h.tags }) e
 
-pub plus-zero : {p : Part} {qs : List Request} {n : ℕ} {s : State} → Within p qs (n + 0) s → Within p qs n s
-plus-zero {p} {n = n} {s} e = let b : left_in p s ≤ n + 0 = e.bound in record { bound = omega arith; tags = e.tags }
+pub plus-zero : {low : ℕ} {p : Part} {qs : List Request} {n : ℕ} {s : State} → Within low p qs (n + 0) s → Within low p qs n s
+plus-zero {low} {p} {n = n} {s} e = let b : left_in p s ≤ n + 0 = e.bound in record { bound = omega arith; tags = e.tags }
 
-pub weaken : {p : Part} {qs : List Request} (n k m : ℕ) {s : State} → k ≤ m → Within p qs (n + k) s → Within p qs (n + m) s
-weaken {p} n k m {s} le e = let b : left_in p s ≤ n + k = e.bound in record { bound = omega arith; tags = e.tags }
+pub weaken : {low : ℕ} {p : Part} {qs : List Request} (n k m : ℕ) {s : State} → k ≤ m → Within low p qs (n + k) s → Within low p qs (n + m) s
+weaken {low} {p} n k m {s} le e = let b : left_in p s ≤ n + k = e.bound in record { bound = omega arith; tags = e.tags }
 
 -- ---- requests besides
 
-pub push : {p : Part} {qs : List Request} {n : ℕ} {s : State} (q : Request) → IsTagged p s.tasks_made s.tasks q → Within p qs n s → Within p (q ∷ qs) n s
-push q tag e = record { bound = e.bound; tags = record { ids = e.tags.ids; requests = e.tags.requests; fresh = e.tags.fresh; also = (tag, e.tags.also); connections = e.tags.connections } }
+pub push : {low : ℕ} {p : Part} {qs : List Request} {n : ℕ} {s : State} (q : Request) → IsTagged p s.tasks_made s.tasks q → Within low p qs n s → Within low p (q ∷ qs) n s
+push q tag e = record { bound = e.bound; tags = record { calls = e.tags.calls; ids = e.tags.ids; requests = e.tags.requests; fresh = e.tags.fresh; also = (tag, e.tags.also); connections = e.tags.connections } }
 
-pub pop : {p : Part} {qs : List Request} {n : ℕ} {s : State} (q : Request) → Within p (q ∷ qs) n s → Within p qs n s
-pop q e = record { bound = e.bound; tags = record { ids = e.tags.ids; requests = e.tags.requests; fresh = e.tags.fresh; also = e.tags.also.1; connections = e.tags.connections } }
+pub pop : {low : ℕ} {p : Part} {qs : List Request} {n : ℕ} {s : State} (q : Request) → Within low p (q ∷ qs) n s → Within low p qs n s
+pop q e = record { bound = e.bound; tags = record { calls = e.tags.calls; ids = e.tags.ids; requests = e.tags.requests; fresh = e.tags.fresh; also = e.tags.also.1; connections = e.tags.connections } }
 
 -- a request is added
-pub add_within : {p : Part} {qs : List Request} {n : ℕ} {s : State} (q : Request) → IsTagged p s.tasks_made s.tasks q → Within p qs n s → Within p qs (n + request_part p q) (Requests.add_request q s)
-add_within {p} {n = n} {s} q tag e =
+pub add_within : {low : ℕ} {p : Part} {qs : List Request} {n : ℕ} {s : State} (q : Request) → IsTagged p s.tasks_made s.tasks q → Within low p qs n s → Within low p qs (n + request_part p q) (Requests.add_request q s)
+add_within {low} {p} {n = n} {s} q tag e =
     let b : left_in p s ≤ n = e.bound in
     let k : total (request_part p) (s.requests ++ q ∷ []) ≡ total (request_part p) s.requests + request_part p q = total-snoc (request_part p) s.requests q in
-    record { bound = omega arith; tags = record { ids = e.tags.ids; requests = all-more (IsTagged p s.tasks_made s.tasks) s.requests q e.tags.requests tag; fresh = e.tags.fresh; also = e.tags.also; connections = e.tags.connections } }
+    record { bound = omega arith; tags = record { calls = e.tags.calls; ids = e.tags.ids; requests = all-more (IsTagged p s.tasks_made s.tasks) s.requests q e.tags.requests tag; fresh = e.tags.fresh; also = e.tags.also; connections = e.tags.connections } }
 
 group-carried : (has : ℕ → Bool) (kind : Due) (sequence : ℕ) (ids : List ObjId) → carried has (Requests.group_frame kind sequence ids) ≡ 0
 group-carried has due.Dirty sequence ids = refl
 group-carried has (due.Clean strong) sequence ids = refl
 
-pub send_nothing : {p : Part} {qs : List Request} {n : ℕ} {s : State} (turn : Turn) (conn : ℕ) (m : Message) → carried (p.frames conn) m ≡ 0 → Within p qs n s → Within p qs n (send turn conn m s)
-send_nothing {p} {qs} {n} {s} turn conn m z e =
-    let k : Within p qs (n + carried (p.frames conn) m) (send turn conn m s) = send_within turn conn m e in
+pub send_nothing : {low : ℕ} {p : Part} {qs : List Request} {n : ℕ} {s : State} (turn : Turn) (conn : ℕ) (m : Message) → carried (p.frames conn) m ≡ 0 → Within low p qs n s → Within low p qs n (send turn conn m s)
+send_nothing {low} {p} {qs} {n} {s} turn conn m z e =
+    let k : Within low p qs (n + carried (p.frames conn) m) (send turn conn m s) = send_within turn conn m e in
     let b : left_in p (send turn conn m s) ≤ n + carried (p.frames conn) m = k.bound in record { bound = omega arith; tags = k.tags }
 
-pub part_within : {p : Part} {qs : List Request} {n : ℕ} {s : State} (turn : Turn) (conn call : ℕ) (part : Group) → HasOwn p conn → Within p qs n s → Within p qs n (Requests.part_goes_out turn conn call s part)
+pub part_within : {low : ℕ} {p : Part} {qs : List Request} {n : ℕ} {s : State} (turn : Turn) (conn call : ℕ) (part : Group) → HasOwn p conn → Within low p qs n s → Within low p qs n (Requests.part_goes_out turn conn call s part)
 unfolding Requests.part_goes_out
-part_within {p} {n = n} turn conn call part own e =
+part_within {low} {p} {n = n} turn conn call part own e =
     send_nothing turn conn _ (group-carried (p.frames conn) part.kind _ part.ids) (plus-zero (add_within {n = n} _ (tt, own) (record { bound = e.bound; tags = e.tags })))
 
-pub goes_within : {p : Part} {qs : List Request} {n : ℕ} {s : State} (turn : Turn) (conn : ℕ) (peer : Uuid) (a : Asked) → HasOwn p conn → Fits p s.tasks_made s.tasks a → Within p qs n s → Within p qs (n + asked_part p a) (goes_out turn conn peer a s)
-goes_within {p} {qs} {n} {s} turn conn peer (Calls number task lent kind m) own fits e =
+pub goes_within : {low : ℕ} {p : Part} {qs : List Request} {n : ℕ} {s : State} (turn : Turn) (conn : ℕ) (peer : Uuid) (a : Asked) → HasOwn p conn → Fits p s.tasks_made s.tasks a → Within low p qs n s → Within low p qs (n + asked_part p a) (goes_out turn conn peer a s)
+goes_within {low} {p} {qs} {n} {s} turn conn peer (Calls number task lent kind m) own fits e =
     let c : carried (p.frames conn) m ≡ carried p.calls m = carried-same (p.frames conn) p.calls own m in
     weaken n (carried (p.frames conn) m) (carried p.calls m) (omega arith) (send_within turn conn m (plus-zero (add_within _ (fits, own) e)))
 goes_within turn conn peer (LooksUp number task name) own fits e = more 0 (send_nothing turn conn _ refl (plus-zero (add_within _ (tt, own) e)))
 goes_within turn conn peer (Tells call group) own fits e = more 0 (each_same _ _ (λ t part h. part_within turn conn call part own h) e)
 
-pub go_out_within : {p : Part} {qs : List Request} {n : ℕ} {s : State} (turn : Turn) (conn : ℕ) (q : Request) → HasOwn p conn → Within p (q ∷ qs) n s → Within p qs (n + asked_part p q.asked) (go_out turn conn q s)
+pub go_out_within : {low : ℕ} {p : Part} {qs : List Request} {n : ℕ} {s : State} (turn : Turn) (conn : ℕ) (q : Request) → HasOwn p conn → Within low p (q ∷ qs) n s → Within low p qs (n + asked_part p q.asked) (go_out turn conn q s)
 unfolding go_out
 go_out_within turn conn q own e = goes_within turn conn q.peer q.asked own e.tags.also.0.0 (pop q e)
 
-pub dial_within : {p : Part} {qs : List Request} {n : ℕ} {s : State} (peer : Uuid) → Within p qs n s → Within p qs n (dial peer s)
+pub dial_within : {low : ℕ} {p : Part} {qs : List Request} {n : ℕ} {s : State} (peer : Uuid) → Within low p qs n s → Within low p qs n (dial peer s)
 unfolding dial
 dial_within {n = n} {s} peer e = if_within (is_some (connection_to s peer) || State.is_dialling s peer) e
     (plus-zero (say_within {n = n} {s = record s { dialling = s.dialling ++ peer ∷ [] }} (Dial peer) (record { bound = e.bound; tags = e.tags })))
@@ -195,32 +197,32 @@ hello-own p peer conn cs own e = pick (find (λ (c : Connection). is_to peer c.d
         greets true n = subst (HasOwn p) (some-same n) (all-found (IsDialler p) (λ (d : Connection). is_to peer d.dialled) cs c is own (dialled-some peer c.dialled (found-is (λ (d : Connection). is_to peer d.dialled) cs c is)))
         greets false n = absurd (some-none conn (sym n))
 
-pub ask_within : {p : Part} {qs : List Request} {n : ℕ} {s : State} (q : Request) → Within p (q ∷ qs) n s → Within p qs (n + asked_part p q.asked) (ask s q)
+pub ask_within : {low : ℕ} {p : Part} {qs : List Request} {n : ℕ} {s : State} (q : Request) → Within low p (q ∷ qs) n s → Within low p qs (n + asked_part p q.asked) (ask s q)
 unfolding ask
-ask_within {p} {qs} {n} {s} q e = some_within (Requests.hello_came (connection_to s q.peer)) _
+ask_within {low} {p} {qs} {n} {s} q e = some_within (Requests.hello_came (connection_to s q.peer)) _
     (dial_within q.peer (weaken n (request_part p q) (asked_part p q.asked) (stage-le q.stage (asked_part p q.asked)) (add_within q e.tags.also.0 (pop q e))))
     (λ conn is. go_out_within _ conn q (hello-own p q.peer conn s.connections e.tags.connections is) e)
 
-pub make_group_within : {p : Part} {qs : List Request} {n : ℕ} {s : State} (b : Group) → Within p qs n s → Within p qs n (make_group s b)
+pub make_group_within : {low : ℕ} {p : Part} {qs : List Request} {n : ℕ} {s : State} (b : Group) → Within low p qs n s → Within low p qs n (make_group s b)
 unfolding make_group
 make_group_within {n = n} b e = plus-zero (ask_within {n = n} _ (push _ (tt, tt) (record { bound = e.bound; tags = e.tags })))
 
-pub make_due_within : {p : Part} {qs : List Request} {n : ℕ} {s : State} → Within p qs n s → Within p qs n (Requests.make_due s)
+pub make_due_within : {low : ℕ} {p : Part} {qs : List Request} {n : ℕ} {s : State} → Within low p qs n s → Within low p qs n (Requests.make_due s)
 unfolding Requests.make_due
 make_due_within e = each_same _ _ (λ t b h. make_group_within b h) e
 
-pub ask_fresh_within : {p : Part} {qs : List Request} {n : ℕ} {s : State} → Within p qs n s → Within p qs n (Requests.ask_fresh s)
+pub ask_fresh_within : {low : ℕ} {p : Part} {qs : List Request} {n : ℕ} {s : State} → Within low p qs n s → Within low p qs n (Requests.ask_fresh s)
 unfolding Requests.ask_fresh
-ask_fresh_within {p} {qs} {n} {s} e =
+ask_fresh_within {low} {p} {qs} {n} {s} e =
     let b : left_in p s ≤ n = e.bound in
     let t : State = record s { fresh = [] } in
     let le : left_in p t ≤ left_in p t = omega arith in
-    let own : Within p (s.fresh ++ qs) (left_in p t) t = record { bound = le; tags = record { ids = e.tags.ids; requests = e.tags.requests; fresh = tt; also = all-append (IsTagged p s.tasks_made s.tasks) s.fresh qs e.tags.fresh e.tags.also; connections = e.tags.connections } } in
-    let all : Within p qs (left_in p t + total (fresh_part p) s.fresh) (each ask s.fresh t) = each_within qs ask (fresh_part p) s.fresh (λ rs m u q h. ask_within q h) own in
+    let own : Within low p (s.fresh ++ qs) (left_in p t) t = record { bound = le; tags = record { calls = e.tags.calls; ids = e.tags.ids; requests = e.tags.requests; fresh = tt; also = all-append (IsTagged p s.tasks_made s.tasks) s.fresh qs e.tags.fresh e.tags.also; connections = e.tags.connections } } in
+    let all : Within low p qs (left_in p t + total (fresh_part p) s.fresh) (each ask s.fresh t) = each_within qs ask (fresh_part p) s.fresh (λ rs m u q h. ask_within q h) own in
     let k : left_in p (each ask s.fresh t) ≤ left_in p t + total (fresh_part p) s.fresh = all.bound in
     record { bound = omega arith; tags = all.tags }
 
-pub settle_within : {p : Part} {qs : List Request} {n : ℕ} {s : State} → Within p qs n s → Within p qs n (settle s)
+pub settle_within : {low : ℕ} {p : Part} {qs : List Request} {n : ℕ} {s : State} → Within low p qs n s → Within low p qs n (settle s)
 unfolding settle
 settle_within e = ask_fresh_within (make_due_within e)
 
@@ -239,15 +241,16 @@ waiting-units p peer (q ∷ qs) = pick (bytes_eq q.peer peer) q.stage (waiting-u
     pick false (Out conn sequence) e = e
     pick false (Answered conn) e = e
 
-pub flush_within : {p : Part} {qs : List Request} {n : ℕ} {s : State} (peer : Uuid) (conn : ℕ) → HasOwn p conn → Within p qs n s → Within p qs n (flush_waiting peer conn s)
+pub flush_within : {low : ℕ} {p : Part} {qs : List Request} {n : ℕ} {s : State} (peer : Uuid) (conn : ℕ) → HasOwn p conn → Within low p qs n s → Within low p qs n (flush_waiting peer conn s)
 unfolding flush_waiting
-flush_within {p} {qs} {n} {s} peer conn right e =
+flush_within {low} {p} {qs} {n} {s} peer conn right e =
     let b : left_in p s ≤ n = e.bound in
     let t : State = Requests.without_waiting peer s in
     let le : left_in p t ≤ left_in p t = omega arith in
-    let own : Within p (filter (waits_for peer) s.requests ++ qs) (left_in p t) t = record {
+    let own : Within low p (filter (waits_for peer) s.requests ++ qs) (left_in p t) t = record {
       bound = le;
       tags = record {
+        calls = e.tags.calls;
         ids = e.tags.ids;
         requests = all-filter (IsTagged p s.tasks_made s.tasks) (λ q. not (waits_for peer q)) s.requests e.tags.requests;
         fresh = e.tags.fresh;
@@ -257,7 +260,7 @@ flush_within {p} {qs} {n} {s} peer conn right e =
     } in
     let w : total (fresh_part p) (filter (waits_for peer) s.requests) ≤ total (request_part p) (filter (waits_for peer) s.requests) = waiting-units p peer s.requests in
     let parts : total (request_part p) (filter (waits_for peer) s.requests) + total (request_part p) (filter (λ q. not (waits_for peer q)) s.requests) ≡ total (request_part p) s.requests = total-parts (request_part p) (waits_for peer) s.requests in
-    let all : Within p qs (left_in p t + total (fresh_part p) (filter (waits_for peer) s.requests)) (flush_waiting peer conn s) = each_within qs (λ u q. go_out Waited conn q u) (fresh_part p) (filter (waits_for peer) s.requests) (λ rs m u q h. go_out_within _ conn q right h) own in
+    let all : Within low p qs (left_in p t + total (fresh_part p) (filter (waits_for peer) s.requests)) (flush_waiting peer conn s) = each_within qs (λ u q. go_out Waited conn q u) (fresh_part p) (filter (waits_for peer) s.requests) (λ rs m u q h. go_out_within _ conn q right h) own in
     let k : left_in p (flush_waiting peer conn s) ≤ left_in p t + total (fresh_part p) (filter (waits_for peer) s.requests) = all.bound in
     record { bound = omega arith; tags = all.tags }
 
@@ -281,10 +284,10 @@ fits-more p made tasks row is q tag = (of q.asked tag.0, tag.1)
     of (LooksUp number task name) f = tt
     of (Tells call group) f = tt
 
-pub add_task_within : {p : Part} {qs : List Request} {n : ℕ} {s : State} (g : Setting) (origin : Origin) (method : ℕ) (arguments : List Value) (fuel : ℕ)
-    → Within p qs n s → Within p qs (n + counted (is_of p (s.tasks_made + 1) origin) fuel) (LivingTasks.add_task g origin method arguments fuel s)
+pub add_task_within : {low : ℕ} {p : Part} {qs : List Request} {n : ℕ} {s : State} (g : Setting) (origin : Origin) (method : ℕ) (arguments : List Value) (fuel : ℕ)
+    → Within low p qs n s → Within low p qs (n + counted (is_of p (s.tasks_made + 1) origin) fuel) (LivingTasks.add_task g origin method arguments fuel s)
 unfolding LivingTasks.add_task Tasks.start
-add_task_within {p} {qs} {n} {s} g origin method arguments fuel e =
+add_task_within {low} {p} {qs} {n} {s} g origin method arguments fuel e =
     let id : ℕ = s.tasks_made + 1 in
     let row : Living = new_row g origin method arguments fuel s in
     let b : left_in p s ≤ n = e.bound in
@@ -297,6 +300,7 @@ add_task_within {p} {qs} {n} {s} g origin method arguments fuel e =
     plus-zero (say_within (Ready id) (hold_within {n = n + counted (is_of p (s.tasks_made + 1) origin) fuel} _ (plus-zero (say_within {n = n + counted (is_of p (s.tasks_made + 1) origin) fuel} (Started id) (record {
       bound = now;
       tags = record {
+        calls = e.tags.calls;
         ids = all-more (λ (t : Living). t.id ≤ s.tasks_made + 1) s.tasks row (all-weaken (λ (t : Living). t.id ≤ s.tasks_made) (λ (t : Living). t.id ≤ s.tasks_made + 1) s.tasks (λ t le. omega (arith, le)) e.tags.ids) last;
         requests = all-weaken (IsTagged p s.tasks_made s.tasks) (IsTagged p (s.tasks_made + 1) (s.tasks ++ row ∷ [])) s.requests still e.tags.requests;
         fresh = all-weaken (IsTagged p s.tasks_made s.tasks) (IsTagged p (s.tasks_made + 1) (s.tasks ++ row ∷ [])) s.fresh still e.tags.fresh;
@@ -305,10 +309,10 @@ add_task_within {p} {qs} {n} {s} g origin method arguments fuel e =
       };
     })))))
 
-pub keep_within : {p : Part} {qs : List Request} {n : ℕ} {s : State} (g : Setting) (until : Until) (value : Option Value) → Within p qs n s → Within p qs n (LivingTasks.keep g until value s)
+pub keep_within : {low : ℕ} {p : Part} {qs : List Request} {n : ℕ} {s : State} (g : Setting) (until : Until) (value : Option Value) → Within low p qs n s → Within low p qs n (LivingTasks.keep g until value s)
 keep_within {n = n} g until value e = hold_within {n = n} _ (record { bound = e.bound; tags = e.tags })
 
-pub keep_result_within : {p : Part} {qs : List Request} {n : ℕ} {s : State} (g : Setting) (until : Until) (outcome : Outcome) → Within p qs n s → Within p qs n (LivingTasks.keep_result g until outcome s)
+pub keep_result_within : {low : ℕ} {p : Part} {qs : List Request} {n : ℕ} {s : State} (g : Setting) (until : Until) (outcome : Outcome) → Within low p qs n s → Within low p qs n (LivingTasks.keep_result g until outcome s)
 keep_result_within g until (Returned value) e = keep_within g until value e
 keep_result_within g until (Threw class) e = e
 keep_result_within g until Spent e = e
@@ -318,9 +322,9 @@ answer-part g has number fuel (Returned value) = omega arith
 answer-part g has number fuel (Threw class) = omega arith
 answer-part g has number fuel Spent = omega arith
 
-pub report_within : {p : Part} {qs : List Request} {n : ℕ} {s : State} (g : Setting) (origin : Origin) (id fuel : ℕ) (outcome : Outcome) → Within p qs n s → Within p qs (n + counted (is_of p id origin) fuel) (LivingTasks.report g origin id fuel outcome s)
-report_within {p} g OfRoot id fuel outcome e = more (counted (p.roots id) fuel) (keep_result_within g _ outcome e)
-report_within {p} {qs} {n} {s} g (OfCall conn number) id fuel outcome e =
+pub report_within : {low : ℕ} {p : Part} {qs : List Request} {n : ℕ} {s : State} (g : Setting) (origin : Origin) (id fuel : ℕ) (outcome : Outcome) → Within low p qs n s → Within low p qs (n + counted (is_of p id origin) fuel) (LivingTasks.report g origin id fuel outcome s)
+report_within {low} {p} g OfRoot id fuel outcome e = more (counted (p.roots id) fuel) (keep_result_within g _ outcome e)
+report_within {low} {p} {qs} {n} {s} g (OfCall conn number) id fuel outcome e =
     if_within (is_open s conn) (weaken n _ (counted (p.frames conn number) fuel) (answer-part g (p.frames conn) number fuel outcome) (send_within _ conn _ (keep_result_within g (State.Acked conn number) outcome e))) (more (counted (p.frames conn number) fuel) e)
 
 -- ---- a task's row changes
@@ -341,8 +345,9 @@ fits-set p made id f keeps tasks q tag = (of q.asked tag.0, tag.1)
     of (LooksUp number task name) e = tt
     of (Tells call group) e = tt
 
-tags-set : {p : Part} {qs : List Request} (s : State) (id : ℕ) (f : Living → Living) → KeepsRow f → Tags p qs (tag_parts s) → Tags p qs (tag_parts (set_task f id s))
-tags-set {p} {qs} s id f keeps e = record {
+tags-set : {low : ℕ} {p : Part} {qs : List Request} (s : State) (id : ℕ) (f : Living → Living) → KeepsRow f → Tags low p qs (tag_parts s) → Tags low p qs (tag_parts (set_task f id s))
+tags-set {low} {p} {qs} s id f keeps e = record {
+  calls = e.calls;
   ids = all-first (λ (t : Living). t.id ≤ s.tasks_made) (λ (t : Living). t.id == id) f s.tasks (λ t le. subst (λ i. i ≤ s.tasks_made) (sym (keeps.id t)) le) e.ids;
   requests = all-weaken (IsTagged p s.tasks_made s.tasks) (IsTagged p s.tasks_made (at_first (λ (t : Living). t.id == id) f s.tasks)) s.requests (fits-set p s.tasks_made id f keeps s.tasks) e.requests;
   fresh = all-weaken (IsTagged p s.tasks_made s.tasks) (IsTagged p s.tasks_made (at_first (λ (t : Living). t.id == id) f s.tasks)) s.fresh (fits-set p s.tasks_made id f keeps s.tasks) e.fresh;
@@ -350,10 +355,10 @@ tags-set {p} {qs} s id f keeps e = record {
   connections = e.connections;
 }
 
-pub row_within : {p : Part} {qs : List Request} {n : ℕ} {s : State} (k id : ℕ) (t : Living) (f : Living → Living) → KeepsRow f → task_at s id ≡ Some t
-    → task_part p (f t) ≤ task_part p t + k → Within p qs n s → Within p qs (n + k) (set_task f id s)
+pub row_within : {low : ℕ} {p : Part} {qs : List Request} {n : ℕ} {s : State} (k id : ℕ) (t : Living) (f : Living → Living) → KeepsRow f → task_at s id ≡ Some t
+    → task_part p (f t) ≤ task_part p t + k → Within low p qs n s → Within low p qs (n + k) (set_task f id s)
 unfolding value_in
-row_within {p} {qs} {n} {s} k id t f keeps is le e =
+row_within {low} {p} {qs} {n} {s} k id t f keeps is le e =
     let b : left_in p s ≤ n = e.bound in
     let was : value_in (task_part p) (task_at s id) ≡ task_part p t = found-value (task_part p) (task_at s id) t is in
     let now : value_in (λ u. task_part p (f u)) (task_at s id) ≡ task_part p (f t) = found-value (λ u. task_part p (f u)) (task_at s id) t is in
@@ -372,10 +377,10 @@ less-part p t u k same le =
 pub reply-keeps : (g : Setting) (reply : Reply) → KeepsRow (LivingTasks.after_reply g reply)
 reply-keeps g reply = record { id = λ t. refl; origin = λ t. refl }
 
-pub reply_task_within : {p : Part} {qs : List Request} {n : ℕ} {s : State} (g : Setting) (id : ℕ) (reply : Reply) (k : ℕ) → ((t : Living) → task_at s id ≡ Some t → counted (has_task p t) (back reply) ≤ k)
-    → Within p qs n s → Within p qs (n + k) (LivingTasks.reply_task g id reply s)
+pub reply_task_within : {low : ℕ} {p : Part} {qs : List Request} {n : ℕ} {s : State} (g : Setting) (id : ℕ) (reply : Reply) (k : ℕ) → ((t : Living) → task_at s id ≡ Some t → counted (has_task p t) (back reply) ≤ k)
+    → Within low p qs n s → Within low p qs (n + k) (LivingTasks.reply_task g id reply s)
 unfolding LivingTasks.reply_task units_of
-reply_task_within {p} {qs} {n} {s} g id reply k gains e = some_within (task_at s id) _ (more k e) (λ t is.
+reply_task_within {low} {p} {qs} {n} {s} g id reply k gains e = some_within (task_at s id) _ (more k e) (λ t is.
     let le : counted (has_task p t) (back reply) ≤ k = gains t is in
     let part : task_part p (LivingTasks.after_reply g reply t) ≤ task_part p t + counted (has_task p t) (back reply) = less-part p t (LivingTasks.after_reply g reply t) (back reply) refl (answer-task-units g reply t.task) in
     plus-zero (say_within (Ready id) (hold_within _
@@ -387,7 +392,7 @@ Gains p k s reply (Calls number task lent kind m) = (t : Living) → task_at s t
 Gains p k s reply (LooksUp number task name) = Unit {0}
 Gains p k s reply (Tells call group) = Unit {0}
 
-pub reply_to_within : {p : Part} {qs : List Request} {n : ℕ} {s : State} (g : Setting) (asked : Asked) (reply : Reply) (k : ℕ) → Gains p k s reply asked → Within p qs n s → Within p qs (n + k) (LivingTasks.reply_to g asked reply s)
+pub reply_to_within : {low : ℕ} {p : Part} {qs : List Request} {n : ℕ} {s : State} (g : Setting) (asked : Asked) (reply : Reply) (k : ℕ) → Gains p k s reply asked → Within low p qs n s → Within low p qs (n + k) (LivingTasks.reply_to g asked reply s)
 unfolding LivingTasks.reply_to Gains
 reply_to_within g (Calls number task lent kind m) reply k gains e = reply_task_within g task reply k gains e
 reply_to_within g (LooksUp number task name) reply k gains e =
@@ -405,10 +410,10 @@ no-gain p s reply (LooksUp number task name) z = tt
 no-gain p s reply (Tells call group) z = tt
 
 -- a reply that gives nothing back
-pub reply_none_within : {p : Part} {qs : List Request} {n : ℕ} {s : State} (g : Setting) (asked : Asked) (reply : Reply) → back reply ≡ 0 → Within p qs n s → Within p qs n (LivingTasks.reply_to g asked reply s)
-reply_none_within {p} {s = s} g asked reply z e = plus-zero (reply_to_within g asked reply 0 (no-gain p s reply asked z) e)
+pub reply_none_within : {low : ℕ} {p : Part} {qs : List Request} {n : ℕ} {s : State} (g : Setting) (asked : Asked) (reply : Reply) → back reply ≡ 0 → Within low p qs n s → Within low p qs n (LivingTasks.reply_to g asked reply s)
+reply_none_within {low} {p} {s = s} g asked reply z e = plus-zero (reply_to_within g asked reply 0 (no-gain p s reply asked z) e)
 
-pub after_op_within : {p : Part} {qs : List Request} {n : ℕ} {s : State} (g : Setting) (op : Op) → Within p qs n s → Within p qs n (LivingTasks.after_op g op s)
+pub after_op_within : {low : ℕ} {p : Part} {qs : List Request} {n : ℕ} {s : State} (g : Setting) (op : Op) → Within low p qs n s → Within low p qs n (LivingTasks.after_op g op s)
 unfolding LivingTasks.after_op
 after_op_within {n = n} {s} g (Create class) e = if_within (LivingTasks.is_full s) e (record { bound = e.bound; tags = e.tags })
 after_op_within g (Get id slot) e = e
@@ -425,29 +430,29 @@ no-more p t u same le =
     nothing true = refl
     nothing false = refl
 
-pub give_back_within : {p : Part} {qs : List Request} {n : ℕ} {s : State} (id k : ℕ) → Within p qs n s → Within p qs n (LivingTasks.give_back id k s)
+pub give_back_within : {low : ℕ} {p : Part} {qs : List Request} {n : ℕ} {s : State} (id k : ℕ) → Within low p qs n s → Within low p qs n (LivingTasks.give_back id k s)
 unfolding LivingTasks.give_back units_of
-give_back_within {p} {qs} {n} {s} id k e = some_within (ready_at s id) _ e (λ t is.
+give_back_within {low} {p} {qs} {n} {s} id k e = some_within (ready_at s id) _ e (λ t is.
     plus-zero (row_within 0 id t (LivingTasks.after_steps k) (record { id = λ u. refl; origin = λ u. refl }) (ready-is (task_at s id) t is).0 (no-more p t (LivingTasks.after_steps k t) refl (weak t)) e))
   where
     weak : (u : Living) → task_units (LivingTasks.after_steps k u) ≤ task_units u + 0
     weak u = let le : units_of (Tasks.steps k u.task) ≤ units_of u.task = steps-units k u.task in omega arith
 
-pub commit_within : {p : Part} {qs : List Request} {n : ℕ} {s : State} (g : Setting) (id k : ℕ) (op : Op) → Within p qs n s → Within p qs n (LivingTasks.commit g id k op s)
+pub commit_within : {low : ℕ} {p : Part} {qs : List Request} {n : ℕ} {s : State} (g : Setting) (id k : ℕ) (op : Op) → Within low p qs n s → Within low p qs n (LivingTasks.commit g id k op s)
 unfolding LivingTasks.commit units_of
-commit_within {p} {qs} {n} {s} g id k op e = some_within (ready_at s id) _ e (λ t is.
+commit_within {low} {p} {qs} {n} {s} g id k op e = some_within (ready_at s id) _ e (λ t is.
     after_op_within g op (hold_within _ (plus-zero (row_within 0 id t (λ (u : Living). LivingTasks.after_reply g (LivingTasks.op_reply g op s) (LivingTasks.after_steps k u)) (record { id = λ u. refl; origin = λ u. refl })
     (ready-is (task_at s id) t is).0 (no-more p t (LivingTasks.after_reply g (LivingTasks.op_reply g op s) (LivingTasks.after_steps k t)) refl (committed-units g s op k t.task)) e))))
 
 -- ---- a call is made
 
-pub park_op_within : {p : Part} {qs : List Request} {n : ℕ} {s : State} (g : Setting) (id k : ℕ) (t : Living) (op : Op) → task_at s id ≡ Some t → p.calls (s.calls_made + 1) ≡ has_task p t
-    → Within p qs n s → Within p qs n (LivingTasks.park_op g id k t op s)
+pub park_op_within : {low : ℕ} {p : Part} {qs : List Request} {n : ℕ} {s : State} (g : Setting) (id k : ℕ) (t : Living) (op : Op) → task_at s id ≡ Some t → (is_call op ≡ true → p.calls (s.calls_made + 1) ≡ has_task p t)
+    → Within low p qs n s → Within low p qs n (LivingTasks.park_op g id k t op s)
 unfolding units_of value_in
 park_op_within g id k t (Create class) is fits e = e
 park_op_within g id k t (Get o slot) is fits e = e
 park_op_within g id k t (Put o slot value) is fits e = e
-park_op_within {p} {qs} {n} {s} g id k t (Call target method arguments) is fits e =
+park_op_within {low} {p} {qs} {n} {s} g id k t (Call target method arguments) is fits e =
     let f : Living → Living = LivingTasks.waiting k in
     let b : left_in p s ≤ n = e.bound in
     let was : value_in (task_part p) (task_at s id) ≡ task_part p t = found-value (task_part p) (task_at s id) t is in
@@ -459,9 +464,10 @@ park_op_within {p} {qs} {n} {s} g id k t (Call target method arguments) is fits 
     let less : counted (has_task p t) (units_of (Tasks.lend_fuel (Tasks.steps k t.task)) + fuel) ≤ counted (has_task p t) (units_of t.task) = counted-less (has_task p t) _ _ le in
     let both : counted (has_task p t) (units_of (Tasks.lend_fuel (Tasks.steps k t.task)) + fuel) ≡ counted (has_task p t) (units_of (Tasks.lend_fuel (Tasks.steps k t.task))) + counted (has_task p t) fuel
     = counted-both (has_task p t) (units_of (Tasks.lend_fuel (Tasks.steps k t.task))) fuel in
-    let call : counted (p.calls (s.calls_made + 1)) fuel ≡ counted (has_task p t) fuel = ap (λ x. counted x fuel) fits in
-    let set : Tags p qs (tag_parts (set_task f id s)) = tags-set s id f keeps e.tags in
-    record { bound = omega arith; tags = record { ids = set.ids; requests = set.requests; fresh = (((known, owned), tt), tt); also = set.also; connections = set.connections } }
+    let call : counted (p.calls (s.calls_made + 1)) fuel ≡ counted (has_task p t) fuel = ap (λ x. counted x fuel) (fits refl) in
+    let set : Tags low p qs (tag_parts (set_task f id s)) = tags-set s id f keeps e.tags in
+    let given : low ≤ s.calls_made = e.tags.calls in
+    record { bound = omega arith; tags = record { calls = omega (arith, given); ids = set.ids; requests = set.requests; fresh = (((known, owned), tt), tt); also = set.also; connections = set.connections } }
   where
     keeps : KeepsRow (LivingTasks.waiting k)
     keeps = record { id = λ u. refl; origin = λ u. refl }
@@ -472,16 +478,16 @@ park_op_within {p} {qs} {n} {s} g id k t (Call target method arguments) is fits 
 
     owned : FirstIs (λ u. has_task p u ≡ p.calls (s.calls_made + 1)) id (at_first (λ (u : Living). u.id == id) (LivingTasks.waiting k) s.tasks)
     owned = first-set (λ u. has_task p u ≡ p.calls (s.calls_made + 1)) (λ (u : Living). u.id == id) (LivingTasks.waiting k) id s.tasks keeps.id (λ u h. h)
-        (found-first (λ u. has_task p u ≡ p.calls (s.calls_made + 1)) id s.tasks (λ u found. ap (has_task p) (some-same (sym found ∙ is)) ∙ sym fits))
+        (found-first (λ u. has_task p u ≡ p.calls (s.calls_made + 1)) id s.tasks (λ u found. ap (has_task p) (some-same (sym found ∙ is)) ∙ sym (fits refl)))
 
-pub park_call_within : {p : Part} {qs : List Request} {n : ℕ} {s : State} (g : Setting) (id k : ℕ) → ((t : Living) → ready_at s id ≡ Some t → p.calls (s.calls_made + 1) ≡ has_task p t) → Within p qs n s → Within p qs n (LivingTasks.park_call g id k s)
+pub park_call_within : {low : ℕ} {p : Part} {qs : List Request} {n : ℕ} {s : State} (g : Setting) (id k : ℕ) → ((t : Living) → ready_at s id ≡ Some t → stands_at_call (Tasks.stand (Tasks.steps k t.task)) ≡ true → p.calls (s.calls_made + 1) ≡ has_task p t) → Within low p qs n s → Within low p qs n (LivingTasks.park_call g id k s)
 unfolding LivingTasks.park_call
-park_call_within {p} {qs} {n} {s} g id k fits e = some_within (ready_at s id) _ e (λ t is. at t (ready-is (task_at s id) t is).0 (fits t is) (Tasks.stand (Tasks.steps k t.task)))
+park_call_within {low} {p} {qs} {n} {s} g id k fits e = some_within (ready_at s id) _ e (λ t is. at t (ready-is (task_at s id) t is).0 (Tasks.stand (Tasks.steps k t.task)) (fits t is))
   where
-    at : (t : Living) → task_at s id ≡ Some t → p.calls (s.calls_made + 1) ≡ has_task p t → (stands : Stand) → Within p qs n (LivingTasks.park_at g id k t stands s)
-    at t is f Runs = e
-    at t is f (AsksFor op) = park_op_within g id k t op is f e
-    at t is f (HasEnded outcome) = e
+    at : (t : Living) → task_at s id ≡ Some t → (stands : Stand) → (stands_at_call stands ≡ true → p.calls (s.calls_made + 1) ≡ has_task p t) → Within low p qs n (LivingTasks.park_at g id k t stands s)
+    at t is Runs f = e
+    at t is (AsksFor op) f = park_op_within g id k t op is f e
+    at t is (HasEnded outcome) f = e
 
 -- ---- a task ends
 
@@ -494,10 +500,10 @@ fits-fewer p made id tasks q tag = (of q.asked tag.0, tag.1)
     of (Tells call group) e = tt
 
 -- What a task executed goes out of the sum as it ends.
-pub end_with_within : {p : Part} {qs : List Request} {n : ℕ} {s : State} (g : Setting) (id : ℕ) (t u : Living) (outcome : Outcome) → task_at s id ≡ Some u → t.id ≡ id → has_task p t ≡ has_task p u → task_units t ≤ task_units u
-    → Within p qs (n + counted (has_task p t) t.task.made) s → Within p qs n (LivingTasks.end_with g id t outcome s)
+pub end_with_within : {low : ℕ} {p : Part} {qs : List Request} {n : ℕ} {s : State} (g : Setting) (id : ℕ) (t u : Living) (outcome : Outcome) → task_at s id ≡ Some u → t.id ≡ id → has_task p t ≡ has_task p u → task_units t ≤ task_units u
+    → Within low p qs (n + counted (has_task p t) t.task.made) s → Within low p qs n (LivingTasks.end_with g id t outcome s)
 unfolding value_in
-end_with_within {p} {qs} {n} {s} g id t u outcome is own same le e =
+end_with_within {low} {p} {qs} {n} {s} g id t u outcome is own same le e =
     let b : left_in p s ≤ n + counted (has_task p t) t.task.made = e.bound in
     let was : value_in (task_part p) (task_at s id) ≡ task_part p u = found-value (task_part p) (task_at s id) u is in
     let q : value_in (task_part p) (task_at s id) + total (task_part p) (filter (λ (v : Living). not (v.id == id)) s.tasks) ≤ total (task_part p) s.tasks = total-find (task_part p) (λ (v : Living). v.id == id) s.tasks in
@@ -507,9 +513,10 @@ end_with_within {p} {qs} {n} {s} g id t u outcome is own same le e =
     let moved : counted (has_task p t) (task_units t) ≡ counted (has_task p u) (task_units t) = ap (λ x. counted x (task_units t)) same in
     let less : counted (has_task p u) (task_units t) ≤ counted (has_task p u) (task_units u) = counted-less (has_task p u) (task_units t) (task_units u) le in
     let both : counted (has_task p t) (t.task.made + t.task.fuel) ≡ counted (has_task p t) t.task.made + counted (has_task p t) t.task.fuel = counted-both (has_task p t) t.task.made t.task.fuel in
-    let begun : Within p qs m (record s { tasks = rows; retired = s.retired + t.task.made }) = record {
+    let begun : Within low p qs m (record s { tasks = rows; retired = s.retired + t.task.made }) = record {
       bound = self;
       tags = record {
+        calls = e.tags.calls;
         ids = all-filter (λ (v : Living). v.id ≤ s.tasks_made) (λ (v : Living). not (v.id == id)) s.tasks e.tags.ids;
         requests = all-weaken (IsTagged p s.tasks_made s.tasks) (IsTagged p s.tasks_made rows) s.requests (fits-fewer p s.tasks_made id s.tasks) e.tags.requests;
         fresh = all-weaken (IsTagged p s.tasks_made s.tasks) (IsTagged p s.tasks_made rows) s.fresh (fits-fewer p s.tasks_made id s.tasks) e.tags.fresh;
@@ -517,24 +524,24 @@ end_with_within {p} {qs} {n} {s} g id t u outcome is own same le e =
         connections = e.tags.connections;
       };
     } in
-    let out : Within p qs (m + 0 + counted (is_of p id t.origin) t.task.fuel) (LivingTasks.end_with g id t outcome s) =
+    let out : Within low p qs (m + 0 + counted (is_of p id t.origin) t.task.fuel) (LivingTasks.end_with g id t outcome s) =
     drop_within _ (report_within g t.origin id t.task.fuel outcome (say_within (Ended id outcome) begun)) in
     let bound : left_in p (LivingTasks.end_with g id t outcome s) ≤ m + 0 + counted (is_of p id t.origin) t.task.fuel = out.bound in
     let named : counted (has_task p t) t.task.fuel ≡ counted (is_of p id t.origin) t.task.fuel = ap (λ i. counted (is_of p i t.origin) t.task.fuel) own in
     record { bound = omega arith; tags = out.tags }
 
-pub finish_within : {p : Part} {qs : List Request} {n : ℕ} {s : State} (g : Setting) (id k : ℕ) → Within p qs (n + ended_part p s (Finished id k)) s → Within p qs n (LivingTasks.finish_task g id k s)
+pub finish_within : {low : ℕ} {p : Part} {qs : List Request} {n : ℕ} {s : State} (g : Setting) (id k : ℕ) → Within low p qs (n + ended_part p s (Finished id k)) s → Within low p qs n (LivingTasks.finish_task g id k s)
 unfolding LivingTasks.finish_task units_of
-finish_within {p} {qs} {n} {s} g id k e = found (ready_at s id) refl e
+finish_within {low} {p} {qs} {n} {s} g id k e = found (ready_at s id) refl e
   where
-    ends : (t : Living) → ready_at s id ≡ Some t → (at : Stand) → Within p qs (n + ended_at (has_task p t) (Tasks.steps k t.task).made at) s → Within p qs n (LivingTasks.end_at g id (LivingTasks.after_steps k t) at s)
+    ends : (t : Living) → ready_at s id ≡ Some t → (at : Stand) → Within low p qs (n + ended_at (has_task p t) (Tasks.steps k t.task).made at) s → Within low p qs n (LivingTasks.end_at g id (LivingTasks.after_steps k t) at s)
     ends t is Runs h = plus-zero h
     ends t is (AsksFor op) h = plus-zero h
     ends t is (HasEnded outcome) h =
         let there : task_at s id ≡ Some t = (ready-is (task_at s id) t is).0 in
         end_with_within g id (LivingTasks.after_steps k t) t outcome there (eqb-true t.id id (found-is (λ (u : Living). u.id == id) s.tasks t there)) refl (steps-units k t.task) h
 
-    found : (o : Option Living) → ready_at s id ≡ o → Within p qs (n + with_some o 0 (λ t. ended_at (has_task p t) (Tasks.steps k t.task).made (Tasks.stand (Tasks.steps k t.task)))) s
-        → Within p qs n (with_some o s (λ t. LivingTasks.end_at g id (LivingTasks.after_steps k t) (Tasks.stand (Tasks.steps k t.task)) s))
+    found : (o : Option Living) → ready_at s id ≡ o → Within low p qs (n + with_some o 0 (λ t. ended_at (has_task p t) (Tasks.steps k t.task).made (Tasks.stand (Tasks.steps k t.task)))) s
+        → Within low p qs n (with_some o s (λ t. LivingTasks.end_at g id (LivingTasks.after_steps k t) (Tasks.stand (Tasks.steps k t.task)) s))
     found None is h = plus-zero h
     found (Some t) is h = ends t is (Tasks.stand (Tasks.steps k t.task)) h

@@ -26,7 +26,7 @@ use Rattle.sp_tree_laws.proofs.TreeOfSpaces.{on-leaves, tags-of}
 -- ---- lists, with places
 
 -- the place of an element in a list whose first has this one
-abbrev place : ℕ → ℕ → ℕ
+abbrev pub place : ℕ → ℕ → ℕ
 place zero j = j
 place (suc i) j = place i (suc j)
 
@@ -34,7 +34,7 @@ place-zero : (i j : ℕ) → place i j ≡ i + j
 place-zero zero j = omega arith
 place-zero (suc i) j = let e : place i (suc j) ≡ i + suc j = place-zero i (suc j) in omega arith
 
-place-of : (i : ℕ) → place i 0 ≡ i
+pub place-of : (i : ℕ) → place i 0 ≡ i
 place-of i = let e : place i 0 ≡ i + 0 = place-zero i 0 in omega arith
 
 -- one element is changed: what it was goes out of the sum, and what it is comes in
@@ -70,17 +70,17 @@ back-from P g zero j (x ∷ xs) k a = (k x a.0, a.1)
 back-from P g (suc i) j (x ∷ xs) k a = (a.0, back-from P g i (suc j) xs k a.1)
 
 -- what holds of the one that was changed
-at-from : {A : Type 0} (P : ℕ → A → Type 0) (g : A → A) (i j : ℕ) (xs : List A) (x : A) → slice_get xs i ≡ Some x → AllFrom P j (at_index g i xs) → P (place i j) (g x)
+pub at-from : {A : Type 0} (P : ℕ → A → Type 0) (g : A → A) (i j : ℕ) (xs : List A) (x : A) → slice_get xs i ≡ Some x → AllFrom P j (at_index g i xs) → P (place i j) (g x)
 at-from P g i j [] x is a = absurd (some-none x (sym is))
 at-from P g zero j (y ∷ xs) x is a = subst (λ z. P j (g z)) (some-same is) a.0
 at-from P g (suc i) j (y ∷ xs) x is a = at-from P g i (suc j) xs x is a.1
 
-all-at : {A : Type 0} (P : A → Type 0) (i : ℕ) (xs : List A) (x : A) → slice_get xs i ≡ Some x → AllOf P xs → P x
+pub all-at : {A : Type 0} (P : A → Type 0) (i : ℕ) (xs : List A) (x : A) → slice_get xs i ≡ Some x → AllOf P xs → P x
 all-at P i [] x is a = absurd (some-none x (sym is))
 all-at P zero (y ∷ xs) x is a = subst P (some-same is) a.0
 all-at P (suc i) (y ∷ xs) x is a = all-at P i xs x is a.1
 
-all-set : {A : Type 0} (P : A → Type 0) (g : A → A) (i : ℕ) (xs : List A) → ((x : A) → P x → P (g x)) → AllOf P xs → AllOf P (at_index g i xs)
+pub all-set : {A : Type 0} (P : A → Type 0) (g : A → A) (i : ℕ) (xs : List A) → ((x : A) → P x → P (g x)) → AllOf P xs → AllOf P (at_index g i xs)
 all-set P g i [] k a = tt
 all-set P g zero (x ∷ xs) k a = (k x a.0, a.1)
 all-set P g (suc i) (x ∷ xs) k a = (a.0, all-set P g i xs k a.1)
@@ -94,7 +94,7 @@ taken f (suc n) (x ∷ xs) = let h : total f (take n xs) ≤ total f xs = taken 
 -- ---- a world with fuel of a tree in hand
 
 -- what is in the world of a tree, with so much more in hand, is no more than the fuel of its roots
-record Holds (tree : Tree) (k : ℕ) (w : World) : Type 0 where
+pub record Holds (tree : Tree) (k : ℕ) (w : World) : Type 0 where
   pub bound : IsTree tree w → spent tree w + k ≤ root_fuel tree w
   pub histories : AllOf HasHistory w.spaces
 
@@ -200,7 +200,7 @@ grown-part tree i e s history fits = subst (λ x. left_in v (Space.on s.setting 
     past : State
     past = Space.state_of s.setting s.history
 
-grown-history : (e : Event) (s : Space) → HasHistory s → HasHistory (grown e s)
+pub grown-history : (e : Event) (s : Space) → HasHistory s → HasHistory (grown e s)
 unfolding Space.state_of
 grown-history e s h = ap (λ t. (Space.on s.setting e t).0) h
 
@@ -234,7 +234,7 @@ act_holds {tree} {before} {v} i e old now = some_holds (slice_get v.spaces i) _ 
 
 -- ---- what may happen
 
-plain : {tree : Tree} {w : World} → Holds tree 0 w → Holds tree 0 (record w { refused = None })
+pub plain : {tree : Tree} {w : World} → Holds tree 0 w → Holds tree 0 (record w { refused = None })
 plain e = record { bound = e.bound; histories = e.histories }
 
 on_side_holds : {tree : Tree} {m : ℕ} (k conn : ℕ) (end : End) (f : Side → Side) (w : World) → ((s : Side) → total (carried (calls_on tree conn)) (f s).queue ≤ total (carried (calls_on tree conn)) s.queue + k)
@@ -389,7 +389,7 @@ step_holds i id w h = some_holds (slice_get w.spaces i) _ h (λ s is.
     some_holds (task_at s.state id) _ (record { bound = h.bound; histories = h.histories }) (λ t here.
     if_holds t.waits (record { bound = h.bound; histories = h.histories }) (acts_hold w i _ w (steps-no-frames id t.task (Tasks.stand t.task)) h h)))
 
-happens_holds : {tree : Tree} (e : WorldEvent) (w : World) → Holds tree 0 w → Holds tree 0 (happens e w)
+pub happens_holds : {tree : Tree} (e : WorldEvent) (w : World) → Holds tree 0 w → Holds tree 0 (happens e w)
 happens_holds (Own i e) w h = own_event_holds i e w h
 happens_holds (Step i task) w h = step_holds i task w h
 happens_holds (Open a b) w h = open_holds a b w h
@@ -414,7 +414,7 @@ unfolding Space.state_of
 new-histories [] = tt
 new-histories (g ∷ gs) = (refl, new-histories gs)
 
-begins : (tree : Tree) (settings : List Setting) → Holds tree 0 (new_world settings)
+pub begins : (tree : Tree) (settings : List Setting) → Holds tree 0 (new_world settings)
 unfolding new_world
 begins tree settings = let e : total_from (space_part tree) 0 (map new_space settings) ≡ 0 = nothing-yet tree 0 settings in record { bound = λ is. omega (arith, e); histories = new-histories settings }
 

@@ -3,6 +3,7 @@ use Rattle.std.specs.Prelude.{◌≡◌, ◌≤◌, ℕ, suc, ◌+◌, Bool, tru
 use Rattle.net_message.specs.declared.message.Message.{Message}
 use Rattle.net_message.specs.declared.message.Message.TheVariants as message
 use Rattle.uuid.specs.declared.Uuid.{Uuid}
+use Rattle.sp_rules.specs.Behaviours.{Op, Create, Get, Put, Call}
 use Rattle.sp_rules.specs.Classes.{Setting}
 use Rattle.sp_rules.specs.Events.{Event, Root, Opened, Parked, Finished, Output, Send, Note, output_of}
 use Rattle.sp_rules.specs.Fuel.{task_units, in_stage, parked_units}
@@ -135,6 +136,18 @@ root_fuel tree w = total_from (roots_at tree) 0 w.spaces
 
 -- ---- the law
 
+abbrev pub is_call : Op → Bool
+is_call (Create class) = false
+is_call (Get object slot) = false
+is_call (Put object slot value) = false
+is_call (Call target method arguments) = true
+
+-- whether a task stands at a call
+abbrev pub stands_at_call : Stand → Bool
+stands_at_call Runs = false
+stands_at_call (AsksFor op) = is_call op
+stands_at_call (HasEnded outcome) = false
+
 -- On a connection that a space dialled the calls are its own.
 abbrev pub DialsOwn : Part → ℕ → Option Uuid → Type 0
 DialsOwn p conn None = Unit {0}
@@ -142,7 +155,7 @@ DialsOwn p conn (Some peer) = (number : ℕ) → p.frames conn number ≡ p.call
 
 -- A call is of the tree of the task that makes it.
 abbrev pub FitsTree : Part → State → Event → Type 0
-FitsTree p s (Parked id k) = (t : Living) → ready_at s id ≡ Some t → p.calls (s.calls_made + 1) ≡ has_task p t
+FitsTree p s (Parked id k) = (t : Living) → ready_at s id ≡ Some t → stands_at_call (stand (steps k t.task)) ≡ true → p.calls (s.calls_made + 1) ≡ has_task p t
 FitsTree p s (Opened conn dialled) = DialsOwn p conn dialled
 FitsTree p s _ = Unit {0}
 
