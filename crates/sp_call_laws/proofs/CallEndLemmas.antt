@@ -212,6 +212,7 @@ view g before e number task t = record {
   setting = g;
   event = e;
   Dialled = λ c d. Unit {0};
+  Answers = λ c m. Unit {0};
   Known = IsKnown g before e;
   Fails = IsFailure g e;
   Ends = λ asked reply. (is_ending e ≡ true) × ((n : ℕ) → ParkedFrames.has_number n asked ≡ true → MayEndWith g before e n reply);
@@ -241,6 +242,8 @@ ends_flow g before e number task t = record {
   sided = λ p a. tt;
   fails = λ asked class a. (failing-ends g e class a, λ n has. inr a);
   gives = λ p value fuel asked is known eq has. (is, λ n also. subst (λ x. MayEndWith g before e x (GivesBack value fuel)) (same-number p.number n asked has also) (known value fuel eq));
+  refuses = λ c n class is. tt;
+  finds = λ c n name r is own. tt;
   quiet = λ l s u eq k. (W.quiet l s u (ap (λ (c : EventParts). record { calls_made = c.calls_made; tasks_made = c.tasks_made; tasks = c.tasks; requests = c.requests; fresh = c.fresh; results = c.results; connections = c.connections; parked = c.parked }) eq) k.0, subst (Goes g before e number task t l) (sym eq) k.1);
   says = λ l s output is k. (W.quiet l s _ refl k.0, same _ refl refl refl refl k.1);
   sends = λ l s turn c m may k. (W.quiet l s _ refl k.0, same _ refl refl refl refl k.1);
@@ -331,6 +334,7 @@ ends-begin g s e number task t none given = record {
   marshal = λ is. fails-marshal g e is;
   threw = λ c n class is asked has. (ap is_ending is, λ k also. inl (record { conn = c; thrown = class; came = subst (λ x. e ≡ Received c (message.Threw x class)) (same-number n k asked has also) is; told = refl }));
   spent = λ c n is asked has. (ap is_ending is, λ k also. spends c n is asked k (same-number n k asked has also) also);
+  finished = λ id n v outcome c m is ready stands origin. tt;
   call_came = λ p is there. λ value fuel eq. absurd (true≢false (sym is ∙ ap Frames.is_call_frame eq));
   result_came = λ p value fuel is frame there. λ v f eq.
       let x : (value, fuel) ≡ (v, f) = ap answer-of (sym frame ∙ eq) in

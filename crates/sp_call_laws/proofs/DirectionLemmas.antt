@@ -6,7 +6,13 @@ use Rattle.uuid.specs.declared.Uuid.{Uuid}
 use Rattle.net_message.specs.declared.message.Message.TheVariants as message
 use Rattle.net_message.specs.declared.message.Message.{Message}
 use Rattle.sp_rules.specs.Classes.{Setting}
-use Rattle.sp_rules.specs.Events.{Event, Opened, Output, Started, Ended, Withdrawn, Denied, Send, Dial, Close, Ready, Note, Says, Sends, output_of, in_order, ranks}
+use Rattle.sp_rules.specs.Events.{Event, Opened, Output, Started, Ended, Withdrawn, Denied, Send, Dial, Close, Ready, Note, Says, Sends, output_of, in_order, ranks, Received, Finished}
+use Rattle.sp_rules.specs.Behaviours.{Outcome}
+use Rattle.space_ids.specs.declared.ids.ClassId.{ClassId}
+use Rattle.space_ids.specs.declared.ids.Ref.{Ref}
+use Rattle.sp_rules.specs.Tasks.{HasEnded, stand, steps}
+use Rattle.sp_call_laws.specs.Answers.{IsRefusal}
+use Rattle.space_ids.specs.declared.value.Value.TheVariants as values
 use Rattle.sp_rules.specs.Frames
 use Rattle.sp_rules.specs.Laws.{AllOf}
 use Rattle.sp_rules.specs.Lists.{at_first}
@@ -14,7 +20,7 @@ use Rattle.sp_rules.specs.LivingTasks
 use Rattle.sp_rules.specs.ParkedFrames
 use Rattle.sp_rules.specs.Requests
 use Rattle.sp_rules.specs.Space
-use Rattle.sp_rules.specs.State.{State, Living, Origin, OfRoot, OfCall, Request, Asked, Calls, LooksUp, Tells, Connection, ParkedFrame, Until, Passed, Acked, RootAcked, opening, say}
+use Rattle.sp_rules.specs.State.{State, Living, Origin, OfRoot, OfCall, Request, Asked, Calls, LooksUp, Tells, Connection, ParkedFrame, Until, Passed, Acked, RootAcked, opening, say, ready_at}
 use Rattle.sp_rules.specs.Worlds.{Space, run, new_world}
 use Rattle.sp_rules.proofs.AllLemmas.{or-left, or-right, all-weaken, all-append, all-more, all-filter, all-map, all-first, all-found, all-with, ranks-all}
 use Rattle.sp_rules.proofs.WorldLemmas.{all_hold}
@@ -24,41 +30,41 @@ use Rattle.sp_laws.proofs.FlowRules.{Owed, Removed, Inbound, removed, of_origin,
 use Rattle.sp_laws.proofs.OnceRules.{connections_are_opened_once}
 use Rattle.sp_call_laws.specs.Directions.{opens_end, was_opened, HasOpened, GoesItsWay, CameFromPeer, FramesGoTheirWay, HasDirections, SpacesHaveDirections}
 use Rattle.sp_call_laws.specs.Sent.{MaySend, is_send}
-use Rattle.sp_call_laws.proofs.EventRules.{View, Flows, Begins, EventParts, event_parts, IsFrom, on_flow, happen_settles}
+use Rattle.sp_call_laws.proofs.EventRules.{View, Flows, Begins, EventParts, event_parts, IsFrom, on_flow, happen_settles, CanSend}
 
 -- ---- what is kept
 
 -- the frame of a call is a Call
-abbrev IsCall : Message → Type 0
+abbrev pub IsCall : Message → Type 0
 IsCall (message.Call number object method fuel arguments) = Unit {0}
 IsCall _ = ⊥
 
-abbrev AsksByCall : Asked → Type 0
+abbrev pub AsksByCall : Asked → Type 0
 AsksByCall (Calls number task lent kind m) = IsCall m
 AsksByCall (LooksUp number task name) = Unit {0}
 AsksByCall (Tells call group) = Unit {0}
 
-abbrev OwedGoes : List Event → Owed → Type 0
+abbrev pub OwedGoes : List Event → Owed → Type 0
 OwedGoes h (Removed peer asked) = AsksByCall asked
 OwedGoes h (Inbound conn number) = HasOpened h conn false
 
-abbrev Noted : List Event → Note → Type 0
+abbrev pub Noted : List Event → Note → Type 0
 Noted h n = GoesItsWay h (output_of n)
 
-abbrev Row : List Event → Connection → Type 0
+abbrev pub Row : List Event → Connection → Type 0
 Row h c = HasOpened h c.number (is_some c.dialled)
 
-abbrev Frames-in : List Event → ParkedFrame → Type 0
+abbrev pub Frames-in : List Event → ParkedFrame → Type 0
 Frames-in h p = HasOpened h p.conn (not (Frames.is_call_frame p.frame))
 
-record Directed (h : List Event) (l : List Owed) (s : EventParts) : Type 0 where
-  rows : AllOf (Row h) s.connections
-  frames : AllOf (Frames-in h) s.parked
-  tasks : AllOf (λ (t : Living). CameFromPeer h t.origin) s.tasks
-  requests : AllOf (λ (q : Request). AsksByCall q.asked) s.requests
-  fresh : AllOf (λ (q : Request). AsksByCall q.asked) s.fresh
-  owed : AllOf (OwedGoes h) l
-  notes : AllOf (Noted h) s.notes
+pub record Directed (h : List Event) (l : List Owed) (s : EventParts) : Type 0 where
+  pub rows : AllOf (Row h) s.connections
+  pub frames : AllOf (Frames-in h) s.parked
+  pub tasks : AllOf (λ (t : Living). CameFromPeer h t.origin) s.tasks
+  pub requests : AllOf (λ (q : Request). AsksByCall q.asked) s.requests
+  pub fresh : AllOf (λ (q : Request). AsksByCall q.asked) s.fresh
+  pub owed : AllOf (OwedGoes h) l
+  pub notes : AllOf (Noted h) s.notes
 
 all-removed : (h : List Event) (rs : List Request) (l : List Owed) → AllOf (λ (q : Request). AsksByCall q.asked) rs → AllOf (OwedGoes h) l → AllOf (OwedGoes h) (removed rs ++ l)
 all-removed h [] l a b = b
@@ -70,11 +76,12 @@ of-removed h (q ∷ rs) l a = let rest = of-removed h rs l a.1 in ((a.0, rest.0)
 
 -- ---- through the rules
 
-abbrev view : Setting → Event → List Event → View
-view g e h = record {
+abbrev pub view : Setting → Event → List Event → (ℕ → Message → Type 0) → View
+view g e h Is = record {
   setting = g;
   event = e;
   Dialled = HasOpened (e ∷ h);
+  Answers = Is;
   Known = Frames-in (e ∷ h);
   Fails = λ c. Unit {0};
   Ends = λ a r. Unit {0};
@@ -91,9 +98,23 @@ said h (Dial peer) e = tt
 said h (Close conn) e = tt
 said h (Ready task) e = tt
 
-from-is : (g : Setting) (e : Event) (h : List Event) (o : Origin) → CameFromPeer (e ∷ h) o → IsFrom (view g e h) o
-from-is g e h OfRoot a = tt
-from-is g e h (OfCall conn number) a = a
+from-is : (g : Setting) (e : Event) (h : List Event) (Is : ℕ → Message → Type 0) (o : Origin) → CameFromPeer (e ∷ h) o → IsFrom (view g e h Is) o
+from-is g e h Is OfRoot a = tt
+from-is g e h Is (OfCall conn number) a = a
+
+-- what is known of a frame says its direction
+can-may : (g : Setting) (e : Event) (h : List Event) (Is : ℕ → Message → Type 0) (conn : ℕ) (m : Message) → CanSend (view g e h Is) conn m → MaySend (HasOpened (e ∷ h)) conn m
+can-may g e h Is conn (message.Hello version space digest) a = tt
+can-may g e h Is conn (message.Call number object method fuel arguments) a = a
+can-may g e h Is conn (message.Lookup number name) a = a
+can-may g e h Is conn (message.Ack number) a = a
+can-may g e h Is conn (message.Dirty sequence period objects) a = a
+can-may g e h Is conn (message.Clean sequence strong objects) a = a
+can-may g e h Is conn (message.Returned number fuel value) a = a.0
+can-may g e h Is conn (message.Threw number class) a = a.0
+can-may g e h Is conn (message.Spent number) a = a.0
+can-may g e h Is conn (message.Lease sequence period) a = a
+can-may g e h Is conn (message.Cleaned sequence) a = a
 
 asks-by : (h : List Event) (conn : ℕ) (m : Message) → IsCall m → HasOpened h conn true → MaySend (HasOpened h) conn m
 asks-by h conn (message.Call number object method fuel arguments) a there = there
@@ -146,17 +167,20 @@ until-owed h (RootAcked task) l a = a
 until-owed h (Acked conn number) l a = a.1
 until-owed h (Passed moment) l a = a
 
-directed_flow : (g : Setting) (e : Event) (h : List Event) → Flows (view g e h)
-directed_flow g e h = record {
+pub directed_flow : (g : Setting) (e : Event) (h : List Event) (Is : ℕ → Message → Type 0) → ((conn number : ℕ) (class : ClassId) → IsRefusal g class → Is conn (message.Threw number class))
+    → ((conn number : ℕ) (name : List ℕ) (r : Ref) → e ≡ Received conn (message.Lookup number name) → r.space ≡ g.id → Is conn (message.Returned number 0 (Some (values.Ref r)))) → Flows (view g e h Is)
+directed_flow g e h Is refuses finds = record {
   known = λ l s k. k.frames;
   dialled = λ l s k. k.rows;
-  origins = λ l s k. all-weaken (λ (t : Living). CameFromPeer (e ∷ h) t.origin) (λ (t : Living). IsFrom (view g e h) t.origin) s.tasks (λ t a. from-is g e h t.origin a) k.tasks;
+  origins = λ l s k. all-weaken (λ (t : Living). CameFromPeer (e ∷ h) t.origin) (λ (t : Living). IsFrom (view g e h Is) t.origin) s.tasks (λ t a. from-is g e h Is t.origin a) k.tasks;
   sided = λ p a. a;
   fails = λ asked class a. tt;
   gives = λ p value fuel asked is a b c. tt;
+  refuses = refuses;
+  finds = finds;
   quiet = λ l s t eq k. subst (Directed (e ∷ h) l) (sym eq) k;
   says = λ l s output is k. notes-more s (Says output) (said (e ∷ h) output is) k;
-  sends = λ l s turn c m may k. notes-more s (Sends turn c m) may k;
+  sends = λ l s turn c m may k. notes-more s (Sends turn c m) (can-may g e h Is c m may) k;
   clears = λ s k. record { rows = k.rows; frames = k.frames; tasks = k.tasks; requests = k.requests; fresh = k.fresh; owed = k.owed; notes = tt };
   adds = λ l s q k. owes k.owed.1 (requests-are s _ (all-more (λ (p : Request). AsksByCall p.asked) s.requests q k.requests k.owed.0) k);
   calls_out = λ l s turn c peer number task lent kind m there k. notes-more (record s { requests = s.requests ++ record { peer = peer; asked = Calls number task lent kind m; stage = Rattle.sp_rules.specs.State.Out c 0 } ∷ [] }) (Sends turn c m) (asks-by (e ∷ h) c m k.owed.0 there)
@@ -206,8 +230,12 @@ opens-now : (h : List Event) (conn : ℕ) (dialled : Option Uuid) → HasOpened 
 opens-now h conn None = or-left (conn == conn && true) _ (ap (λ b. b && true) (eq-eqb conn conn refl))
 opens-now h conn (Some peer) = or-left (conn == conn && true) _ (ap (λ b. b && true) (eq-eqb conn conn refl))
 
-directed-begin : (g : Setting) (s : State) (e : Event) (h : List Event) → Begins (view g e h) s
-directed-begin g s e h = record {
+-- what is known of the answer to a task that the event ends
+abbrev pub Finishes : Setting → State → Event → (ℕ → Message → Type 0) → Type 0
+Finishes g s e Is = (id k : ℕ) (t : Living) (outcome : Outcome) (conn number : ℕ) → e ≡ Finished id k → ready_at s id ≡ Some t → stand (steps k t.task) ≡ HasEnded outcome → t.origin ≡ OfCall conn number → Is conn (LivingTasks.reply_frame g number (steps k t.task).fuel outcome)
+
+pub directed-begin : (g : Setting) (s : State) (e : Event) (h : List Event) (Is : ℕ → Message → Type 0) → Finishes g s e Is → Begins (view g e h Is) s
+directed-begin g s e h Is finished = record {
   opens = λ c dialled is k. rows-are s _ (all-more (Row (e ∷ h)) s.connections (record { number = c; dialled = dialled; peer = None; last = 0; sent = [] }) k.rows (subst (λ d. HasOpened (d ∷ h) c (is_some dialled)) (sym is) (opens-now h c dialled))) k;
   parks = λ id n t target method arguments is ready stands k. record { rows = k.rows; frames = k.frames; tasks = set-tasks (e ∷ h) id (LivingTasks.waiting n) (λ u. refl) s.tasks k.tasks; requests = k.requests; fresh = (tt, tt); owed = k.owed; notes = k.notes };
   looks = λ peer name is k. record { rows = k.rows; frames = k.frames; tasks = k.tasks; requests = k.requests; fresh = (tt, tt); owed = k.owed; notes = k.notes };
@@ -216,6 +244,7 @@ directed-begin g s e h = record {
   marshal = λ is. tt;
   threw = λ c n class is asked has. tt;
   spent = λ c n is asked has. tt;
+  finished = finished;
   call_came = λ p is there. subst (λ b. HasOpened (e ∷ h) p.conn (not b)) (sym is) there;
   result_came = λ p value fuel is frame there. subst (λ f. HasOpened (e ∷ h) p.conn (not (Frames.is_call_frame f))) (sym frame) there;
 }
@@ -253,10 +282,10 @@ later-from e h OfRoot a = tt
 later-from e h (OfCall conn number) a = later e h conn false a
 
 -- Between events nothing is owed, and nothing is noted.
-abbrev Between : List Event → State → Type 0
+abbrev pub Between : List Event → State → Type 0
 Between h s = Directed h [] (event_parts s)
 
-wider : (e : Event) (h : List Event) (s : State) → Between h s → Between (e ∷ h) s
+pub wider : (e : Event) (h : List Event) (s : State) → Between h s → Between (e ∷ h) s
 wider e h s k = record {
   rows = all-weaken (Row h) (Row (e ∷ h)) s.connections (λ c a. later e h c.number (is_some c.dialled) a) k.rows;
   frames = all-weaken (Frames-in h) (Frames-in (e ∷ h)) s.parked (λ p a. later e h p.conn (not (Frames.is_call_frame p.frame)) a) k.frames;
@@ -267,22 +296,26 @@ wider e h s k = record {
   notes = all-weaken (Noted h) (Noted (e ∷ h)) s.notes (λ n a. later-goes e h (output_of n) a) k.notes;
 }
 
+-- nothing is asked of answers
+abbrev Any : ℕ → Message → Type 0
+Any conn m = Unit {0}
+
 after-event : (g : Setting) (e : Event) (h : List Event) (s : State) → Between h s → Between (e ∷ h) (Space.on g e s).0
-after-event g e h s k = on_flow (directed_flow g e h) s (directed-begin g s e h) (wider e h s k)
+after-event g e h s k = on_flow (directed_flow g e h Any (λ c n class is. tt) (λ c n name r is own. tt)) s (directed-begin g s e h Any (λ id n t outcome c m is ready stands origin. tt)) (wider e h s k)
 
 answered : (g : Setting) (e : Event) (h : List Event) (s : State) → Between h s → AllOf (GoesItsWay (e ∷ h)) (Space.on g e s).1
 unfolding Space.on in_order
 answered g e h s k = by (Space.answers_outputs e)
   where
     by : (b : Bool) → AllOf (GoesItsWay (e ∷ h)) (Space.finish_event b (Space.happen g e s)).1
-    by true = ranks-all (GoesItsWay (e ∷ h)) ranks (Requests.settle (Space.happen g e s)).notes (happen_settles (directed_flow g e h) s (directed-begin g s e h) (wider e h s k)).notes
+    by true = ranks-all (GoesItsWay (e ∷ h)) ranks (Requests.settle (Space.happen g e s)).notes (happen_settles (directed_flow g e h Any (λ c n class is. tt) (λ c n name r is own. tt)) s (directed-begin g s e h Any (λ id n t outcome c m is ready stands origin. tt)) (wider e h s k)).notes
     by false = tt
 
 new-space : Between [] opening
 unfolding opening
 new-space = record { rows = tt; frames = tt; tasks = tt; requests = tt; fresh = tt; owed = tt; notes = tt }
 
-directed-of : (g : Setting) (h : List Event) → Between h (Space.state_of g h)
+pub directed-of : (g : Setting) (h : List Event) → Between h (Space.state_of g h)
 unfolding Space.state_of
 directed-of g [] = new-space
 directed-of g (e ∷ h) = after-event g e h (Space.state_of g h) (directed-of g h)

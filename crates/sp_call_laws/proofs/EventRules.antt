@@ -1,5 +1,6 @@
 -- What is asked of peers, what peers ask and what is sent, as the rules of a space move it in one event. A property of requests, of calls that came, of frames that are sent and of what is under way between them is kept by each rule, where the few moves keep it; each move says what is known as it is made.
 use mathlib.Core.Path.{sym, ap, subst, ◌∙◌}
+use Rattle.std.proofs.Common.{inl, inr}
 use Rattle.std.proofs.lemmas.Bool.{true≢false, eqb-true}
 use Rattle.std.specs.List.{list_any}
 use Rattle.std.specs.Str.{bytes_eq}
@@ -47,7 +48,8 @@ use Rattle.sp_rules.proofs.ReadyLemmas.{ready-is}
 use Rattle.sp_rules.proofs.Stable.{new_row}
 use Rattle.sp_laws.proofs.FlowRules.{Owed, Removed, Inbound, removed, of_origin, of_until, IsSameRow}
 use Rattle.sp_call_laws.specs.CallEnds.{is_hello}
-use Rattle.sp_call_laws.specs.Sent.{MaySend, is_send}
+use Rattle.sp_call_laws.specs.Answers.{IsRefusal}
+use Rattle.sp_call_laws.specs.Sent.{is_send}
 
 -- ---- what is kept in an event
 
@@ -65,11 +67,12 @@ pub record EventParts : Type 0 where
 abbrev pub event_parts : State → EventParts
 event_parts s = record { calls_made = s.calls_made; tasks_made = s.tasks_made; tasks = s.tasks; requests = s.requests; fresh = s.fresh; results = s.results; connections = s.connections; parked = s.parked; notes = s.notes }
 
--- An event of a space; what is known of a connection, by its number and whether this space dialled it, and of parked frames; the classes with which calls end that fail, what calls and lookups end with; and what is kept.
+-- An event of a space; what is known of a connection, by its number and whether this space dialled it, of the answers to calls that are sent there, and of parked frames; the classes with which calls end that fail, what calls and lookups end with; and what is kept.
 pub record View : Type 1 where
   pub setting : Setting
   pub event : Event
   pub Dialled : ℕ → Bool → Type 0
+  pub Answers : ℕ → Message → Type 0
   pub Known : ParkedFrame → Type 0
   pub Fails : ClassId → Type 0
   pub Ends : Asked → Reply → Type 0
@@ -78,6 +81,20 @@ pub record View : Type 1 where
 abbrev pub IsFrom : View → Origin → Type 0
 IsFrom V OfRoot = Unit {0}
 IsFrom V (OfCall conn number) = V.Dialled conn false
+
+-- what is known of a frame as it is sent
+abbrev pub CanSend : View → ℕ → Message → Type 0
+CanSend V conn (message.Hello version space digest) = Unit {0}
+CanSend V conn (message.Call number object method fuel arguments) = V.Dialled conn true
+CanSend V conn (message.Lookup number name) = V.Dialled conn true
+CanSend V conn (message.Ack number) = V.Dialled conn true
+CanSend V conn (message.Dirty sequence period objects) = V.Dialled conn true
+CanSend V conn (message.Clean sequence strong objects) = V.Dialled conn true
+CanSend V conn (message.Returned number fuel value) = V.Dialled conn false × V.Answers conn (message.Returned number fuel value)
+CanSend V conn (message.Threw number class) = V.Dialled conn false × V.Answers conn (message.Threw number class)
+CanSend V conn (message.Spent number) = V.Dialled conn false × V.Answers conn (message.Spent number)
+CanSend V conn (message.Lease sequence period) = V.Dialled conn false
+CanSend V conn (message.Cleaned sequence) = V.Dialled conn false
 
 abbrev pub is_finish : Event → Bool
 is_finish (Finished task k) = true
@@ -121,10 +138,12 @@ pub record Flows (V : View) : Type 0 where
   pub sided : (p : ParkedFrame) → V.Known p → V.Dialled p.conn (not (Frames.is_call_frame p.frame))
   pub fails : (asked : Asked) (class : ClassId) → V.Fails class → V.Ends asked (Throws class)
   pub gives : (p : ParkedFrame) (value : Option Value) (fuel : ℕ) (asked : Asked) → is_ending V.event ≡ true → V.Known p → p.frame ≡ ReturnedFrame value fuel → ParkedFrames.has_number p.number asked ≡ true → V.Ends asked (GivesBack value fuel)
+  pub refuses : (conn number : ℕ) (class : ClassId) → IsRefusal V.setting class → V.Answers conn (message.Threw number class)
+  pub finds : (conn number : ℕ) (name : List ℕ) (r : Ref) → V.event ≡ Received conn (message.Lookup number name) → r.space ≡ V.setting.id → V.Answers conn (message.Returned number 0 (Some (values.Ref r)))
   -- outputs
   pub quiet : (l : List Owed) (s t : State) → event_parts t ≡ event_parts s → V.Keeps l s → V.Keeps l t
   pub says : (l : List Owed) (s : State) (output : Output) → is_send output ≡ false → V.Keeps l s → V.Keeps l (say output s)
-  pub sends : (l : List Owed) (s : State) (turn : Turn) (conn : ℕ) (m : Message) → MaySend V.Dialled conn m → V.Keeps l s → V.Keeps l (record s { notes = s.notes ++ Sends turn conn m ∷ [] })
+  pub sends : (l : List Owed) (s : State) (turn : Turn) (conn : ℕ) (m : Message) → CanSend V conn m → V.Keeps l s → V.Keeps l (record s { notes = s.notes ++ Sends turn conn m ∷ [] })
   pub clears : (s : State) → V.Keeps [] s → V.Keeps [] (record s { notes = [] })
   -- requests
   pub adds : (l : List Owed) (s : State) (q : Request) → V.Keeps (Removed q.peer q.asked ∷ l) s → V.Keeps l (Requests.add_request q s)
@@ -176,6 +195,8 @@ pub record Begins (V : View) (s : State) : Type 0 where
   pub marshal : is_unwritten V.event ≡ true → V.Fails V.setting.classes.marshal
   pub threw : (conn number : ℕ) (class : ClassId) → V.event ≡ Received conn (message.Threw number class) → (asked : Asked) → ParkedFrames.has_number number asked ≡ true → V.Ends asked (Frames.thrown_reply V.setting class)
   pub spent : (conn number : ℕ) → V.event ≡ Received conn (message.Spent number) → (asked : Asked) → ParkedFrames.has_number number asked ≡ true → V.Ends asked (Frames.spent_reply V.setting asked)
+  pub finished : (id k : ℕ) (t : Living) (outcome : Outcome) (conn number : ℕ) → V.event ≡ Finished id k → ready_at s id ≡ Some t → stand (steps k t.task) ≡ HasEnded outcome → t.origin ≡ OfCall conn number
+      → V.Answers conn (LivingTasks.reply_frame V.setting number (steps k t.task).fuel outcome)
   pub call_came : (p : ParkedFrame) → Frames.is_call_frame p.frame ≡ true → V.Dialled p.conn false → V.Known p
   pub result_came : (p : ParkedFrame) (value : Option Value) (fuel : ℕ) → V.event ≡ Received p.conn (message.Returned p.number fuel value) → p.frame ≡ ReturnedFrame value fuel → V.Dialled p.conn true → V.Known p
 
@@ -200,7 +221,7 @@ unfolding each
 each_removed F f [] k h = h
 each_removed F {l} {s = s} f (q ∷ rs) k h = each_removed F f rs k (k (removed rs ++ l) s q h)
 
-send_flow : {V : View} (F : Flows V) {l : List Owed} {s : State} (turn : Turn) (conn : ℕ) (m : Message) → MaySend V.Dialled conn m → V.Keeps l s → V.Keeps l (send turn conn m s)
+send_flow : {V : View} (F : Flows V) {l : List Owed} {s : State} (turn : Turn) (conn : ℕ) (m : Message) → CanSend V conn m → V.Keeps l s → V.Keeps l (send turn conn m s)
 unfolding send
 send_flow {V} F {l} {s} turn conn m may h = if_flow F (is_open s conn) (F.sends l s turn conn m may h) h
 
@@ -218,7 +239,7 @@ let_go_flow {V} F p parked h = each_flow F _ (filter (ParkedFrames.is_parked_at 
 -- ---- requests
 
 -- a dirty or clean call goes to the space that was dialled
-group-goes : (V : View) (conn sequence : ℕ) (ids : List ObjId) → V.Dialled conn true → (kind : Due) → MaySend V.Dialled conn (Requests.group_frame kind sequence ids)
+group-goes : (V : View) (conn sequence : ℕ) (ids : List ObjId) → V.Dialled conn true → (kind : Due) → CanSend V conn (Requests.group_frame kind sequence ids)
 group-goes V conn sequence ids there due.Dirty = there
 group-goes V conn sequence ids there (due.Clean strong) = there
 
@@ -308,18 +329,22 @@ keep_result_flow F until (Threw class) h = until_falls F until h
 keep_result_flow F until Spent h = until_falls F until h
 
 -- an outcome is answered on a connection that a peer dialled
-reply-goes : (V : View) (conn number fuel : ℕ) → V.Dialled conn false → (outcome : Outcome) → MaySend V.Dialled conn (LivingTasks.reply_frame V.setting number fuel outcome)
-reply-goes V conn number fuel there (Returned value) = there
-reply-goes V conn number fuel there (Threw class) = there
-reply-goes V conn number fuel there Spent = there
+reply-goes : (V : View) (conn number fuel : ℕ) → V.Dialled conn false → (outcome : Outcome) → V.Answers conn (LivingTasks.reply_frame V.setting number fuel outcome) → CanSend V conn (LivingTasks.reply_frame V.setting number fuel outcome)
+reply-goes V conn number fuel there (Returned value) answers = (there, answers)
+reply-goes V conn number fuel there (Threw class) answers = (there, answers)
+reply-goes V conn number fuel there Spent answers = (there, answers)
 
-report_flow : {V : View} (F : Flows V) {l : List Owed} {s : State} (origin : Origin) (id fuel : ℕ) (outcome : Outcome) → IsFrom V origin → V.Keeps (of_origin origin ++ l) s → V.Keeps l (LivingTasks.report V.setting origin id fuel outcome s)
-report_flow F OfRoot id fuel outcome from h = keep_result_flow F (state.RootAcked id) outcome h
-report_flow {V} F {l} {s} (OfCall conn number) id fuel outcome from h = if_flow F (is_open s conn) (send_flow F _ conn _ (reply-goes V conn number fuel from outcome) (keep_result_flow F (state.Acked conn number) outcome h)) (F.falls l s conn number h)
+-- what is known of the answer to a task of this origin
+abbrev AnswersTo : View → Origin → ℕ → Outcome → Type 0
+AnswersTo V origin fuel outcome = (conn number : ℕ) → origin ≡ OfCall conn number → V.Answers conn (LivingTasks.reply_frame V.setting number fuel outcome)
 
-end_with_flow : {V : View} (F : Flows V) {l : List Owed} {s : State} (id : ℕ) (t u : Living) (outcome : Outcome) → is_finish V.event ≡ true → ready_at s id ≡ Some u → t.origin ≡ u.origin → V.Keeps l s → V.Keeps l (LivingTasks.end_with V.setting id t outcome s)
-end_with_flow {V} F {l} {s} id t u outcome over is same h = drop_flow F _ (report_flow F t.origin id t.task.fuel outcome
-    (subst (IsFrom V) (sym same) (all-found (λ (v : Living). IsFrom V v.origin) (λ (v : Living). v.id == id) s.tasks u (ready-is (task_at s id) u is).0 (F.origins l s h)))
+report_flow : {V : View} (F : Flows V) {l : List Owed} {s : State} (origin : Origin) (id fuel : ℕ) (outcome : Outcome) → IsFrom V origin → AnswersTo V origin fuel outcome → V.Keeps (of_origin origin ++ l) s → V.Keeps l (LivingTasks.report V.setting origin id fuel outcome s)
+report_flow F OfRoot id fuel outcome from says h = keep_result_flow F (state.RootAcked id) outcome h
+report_flow {V} F {l} {s} (OfCall conn number) id fuel outcome from says h = if_flow F (is_open s conn) (send_flow F _ conn _ (reply-goes V conn number fuel from outcome (says conn number refl)) (keep_result_flow F (state.Acked conn number) outcome h)) (F.falls l s conn number h)
+
+end_with_flow : {V : View} (F : Flows V) {l : List Owed} {s : State} (id : ℕ) (t u : Living) (outcome : Outcome) → AnswersTo V t.origin t.task.fuel outcome → is_finish V.event ≡ true → ready_at s id ≡ Some u → t.origin ≡ u.origin → V.Keeps l s → V.Keeps l (LivingTasks.end_with V.setting id t outcome s)
+end_with_flow {V} F {l} {s} id t u outcome says over is same h = drop_flow F _ (report_flow F t.origin id t.task.fuel outcome
+    (subst (IsFrom V) (sym same) (all-found (λ (v : Living). IsFrom V v.origin) (λ (v : Living). v.id == id) s.tasks u (ready-is (task_at s id) u is).0 (F.origins l s h))) says
     (F.says _ _ (Ended id outcome) refl (F.quiet _ (record s { tasks = filter (λ (v : Living). not (v.id == id)) s.tasks }) (record s { tasks = filter (λ (v : Living). not (v.id == id)) s.tasks; retired = s.retired + t.task.made }) refl (subst (λ o. V.Keeps (of_origin o ++ l) (record s { tasks = filter (λ (v : Living). not (v.id == id)) s.tasks })) (sym same) (F.ends l s id u over is h)))))
 
 reply_to_flow : {V : View} (F : Flows V) {l : List Owed} {s : State} {peer : Uuid} (asked : Asked) (reply : Reply) → V.Ends asked reply → V.Keeps (Removed peer asked ∷ l) s → V.Keeps l (LivingTasks.reply_to V.setting asked reply s)
@@ -364,14 +389,14 @@ park_flow {V} F {s} id k same B h = some_flow F (ready_at s id) _ h (λ t is. at
     at t is (AsksFor op) e = parks t is op e
     at t is (HasEnded outcome) e = h
 
-finish_flow : {V : View} (F : Flows V) {l : List Owed} {s : State} (id k : ℕ) → is_finish V.event ≡ true → V.Keeps l s → V.Keeps l (LivingTasks.finish_task V.setting id k s)
+finish_flow : {V : View} (F : Flows V) {s : State} (id k : ℕ) → V.event ≡ Finished id k → Begins V s → V.Keeps [] s → V.Keeps [] (LivingTasks.finish_task V.setting id k s)
 unfolding LivingTasks.finish_task
-finish_flow {V} F {l} {s} id k over h = some_flow F (ready_at s id) _ h (λ t is. at t is (stand (steps k t.task)))
+finish_flow {V} F {s} id k same B h = some_flow F (ready_at s id) _ h (λ t is. at t is (stand (steps k t.task)) refl)
   where
-    at : (t : Living) → ready_at s id ≡ Some t → (stands : Stand) → V.Keeps l (LivingTasks.end_at V.setting id (LivingTasks.after_steps k t) stands s)
-    at t is Runs = h
-    at t is (AsksFor op) = h
-    at t is (HasEnded outcome) = end_with_flow F id (LivingTasks.after_steps k t) t outcome over is refl h
+    at : (t : Living) → ready_at s id ≡ Some t → (stands : Stand) → stand (steps k t.task) ≡ stands → V.Keeps [] (LivingTasks.end_at V.setting id (LivingTasks.after_steps k t) stands s)
+    at t is Runs e = h
+    at t is (AsksFor op) e = h
+    at t is (HasEnded outcome) e = end_with_flow F id (LivingTasks.after_steps k t) t outcome (λ conn number origin. B.finished id k t outcome conn number same is e origin) (ap is_finish same) is refl h
 
 -- ---- parked frames
 
@@ -380,7 +405,7 @@ unfolding ParkedFrames.start_call
 start_call_flow {V} F {l} {s} p target method fuel arguments going there h = some_flow F (object_at s target) _ (F.falls l s p.conn p.number h) (λ o is. selected (record { space = V.setting.id; id = target; class = o.class }) (V.setting.classes.selected o.class method))
   where
     selected : (receiver : Ref) (found : Option ℕ) → V.Keeps l (ParkedFrames.start_selected V.setting p.conn p.number receiver found fuel arguments s)
-    selected receiver None = send_flow F _ p.conn _ there (F.falls l s p.conn p.number h)
+    selected receiver None = send_flow F _ p.conn _ (there, F.refuses p.conn p.number _ (inr (inr (inl refl)))) (F.falls l s p.conn p.number h)
     selected receiver (Some m) = add_task_flow F (OfCall p.conn p.number) m _ fuel (ending-goes V.event going) h
 
 both-right : (a b : Bool) → a && b ≡ true → b ≡ true
@@ -426,7 +451,7 @@ fail_parked_flow {V} F {l} {s} p may known h = frame p.frame refl (let_go_flow F
     sided e = subst (λ f. V.Dialled p.conn (not (Frames.is_call_frame f))) e (F.sided p known)
 
     frame : (f : Frame) → p.frame ≡ f → {t : State} → V.Keeps l t → V.Keeps l (ParkedFrames.fail_frame V.setting p f t)
-    frame (CallFrame target method fuel arguments) e k = send_flow F _ p.conn _ (sided e) k
+    frame (CallFrame target method fuel arguments) e k = send_flow F _ p.conn _ (sided e, F.refuses p.conn p.number _ (inr (inl refl))) k
     frame (ReturnedFrame value fuel) e k = answer_parked_flow F p (Throws V.setting.classes.unmarshal) (sided e) (λ asked has. F.fails asked V.setting.classes.unmarshal may) k
 
 -- ---- endings
@@ -487,32 +512,32 @@ first_flow F conn c _ same B row h = close_flow F _ c.number (B.unmarshal (ap is
 
 call_of_flow : {V : View} (F : Flows V) {l : List Owed} {s : State} (conn number : ℕ) (o : Object) (method fuel : ℕ) (arguments : List Value) → is_ending V.event ≡ true → ((p : ParkedFrame) → Frames.is_call_frame p.frame ≡ true → V.Dialled p.conn false → V.Known p) → V.Dialled conn false → V.Keeps (Inbound conn number ∷ l) s → V.Keeps l (Frames.call_of V.setting conn number o method fuel arguments s)
 call_of_flow {V} F {l} {s} conn number o method fuel arguments going comes there h =
-    if_flow F (not (V.setting.classes.may_call o.class method) || (not (fit_kinds (V.setting.classes.parameters method) arguments) || list_any (Holders.is_refused V.setting s) (references_of arguments))) (send_flow F _ conn _ there (F.falls l s conn number h))
-    (if_flow F (Frames.is_busy s) (send_flow F _ conn _ there (F.falls l s conn number h)) (park_call_flow F conn number o.id method fuel arguments _ going (comes _ refl there) h))
+    if_flow F (not (V.setting.classes.may_call o.class method) || (not (fit_kinds (V.setting.classes.parameters method) arguments) || list_any (Holders.is_refused V.setting s) (references_of arguments))) (send_flow F _ conn _ (there, F.refuses conn number _ (inr (inl refl))) (F.falls l s conn number h))
+    (if_flow F (Frames.is_busy s) (send_flow F _ conn _ (there, F.refuses conn number _ (inr (inr (inl refl)))) (F.falls l s conn number h)) (park_call_flow F conn number o.id method fuel arguments _ going (comes _ refl there) h))
 
-found_flow : {V : View} (F : Flows V) {l : List Owed} {s : State} (conn number : ℕ) (o : Option Object) → V.Dialled conn false → V.Keeps (Inbound conn number ∷ l) s → V.Keeps l (Frames.found V.setting conn number o s)
-found_flow F {l} {s} conn number None there h = send_flow F _ conn _ there (F.falls l s conn number h)
-found_flow {V} F conn number (Some o) there h = send_flow F _ conn _ there (keep_flow F (state.Acked conn number) (Some (values.Ref (record { space = V.setting.id; id = o.id; class = o.class }))) h)
+found_flow : {V : View} (F : Flows V) {l : List Owed} {s : State} (conn number : ℕ) (name : List ℕ) (o : Option Object) → V.event ≡ Received conn (message.Lookup number name) → V.Dialled conn false → V.Keeps (Inbound conn number ∷ l) s → V.Keeps l (Frames.found V.setting conn number o s)
+found_flow F {l} {s} conn number name None same there h = send_flow F _ conn _ (there, F.refuses conn number _ (inr (inr (inr refl)))) (F.falls l s conn number h)
+found_flow {V} F conn number name (Some o) same there h = send_flow F _ conn _ (there, F.finds conn number name (record { space = V.setting.id; id = o.id; class = o.class }) same refl) (keep_flow F (state.Acked conn number) (Some (values.Ref (record { space = V.setting.id; id = o.id; class = o.class }))) h)
 
 got_call_flow : {V : View} (F : Flows V) {l : List Owed} {s : State} (c : Connection) (number : ℕ) (target : ObjId) (method fuel : ℕ) (arguments : List Value) → is_ending V.event ≡ true → ((p : ParkedFrame) → Frames.is_call_frame p.frame ≡ true → V.Dialled p.conn false → V.Known p) → V.Fails V.setting.classes.unmarshal → V.Dialled c.number false → connection_at s c.number ≡ Some c → V.Keeps l s → V.Keeps l (Frames.got_call V.setting c number target method fuel arguments s)
 unfolding Frames.got_call
 got_call_flow {V} F {l} {s} c number target method fuel arguments going comes may there is h = pick (nat_le number c.last) refl
   where
     on : nat_le number c.last ≡ false → (o : Option Object) → V.Keeps l (Frames.call_on V.setting c.number number o method fuel arguments (Frames.counted c.number number s))
-    on e None = send_flow F Replies c.number (message.Threw number V.setting.classes.no_such_object) there (F.falls l _ c.number number (F.counts l s c.number number c there is e h))
+    on e None = send_flow F Replies c.number (message.Threw number V.setting.classes.no_such_object) (there, F.refuses c.number number _ (inl refl)) (F.falls l _ c.number number (F.counts l s c.number number c there is e h))
     on e (Some o) = call_of_flow F c.number number o method fuel arguments going comes there (F.counts l s c.number number c there is e h)
 
     pick : (b : Bool) → nat_le number c.last ≡ b → V.Keeps l (if b then Endings.close V.setting V.setting.classes.unmarshal c.number s else Frames.call_on V.setting c.number number (object_at s target) method fuel arguments (Frames.counted c.number number s))
     pick true e = close_flow F _ c.number may may h
     pick false e = on e (object_at s target)
 
-got_lookup_flow : {V : View} (F : Flows V) {l : List Owed} {s : State} (c : Connection) (number : ℕ) (name : List ℕ) → V.Fails V.setting.classes.unmarshal → V.Dialled c.number false → connection_at s c.number ≡ Some c → V.Keeps l s → V.Keeps l (Frames.got_lookup V.setting c number name s)
+got_lookup_flow : {V : View} (F : Flows V) {l : List Owed} {s : State} (c : Connection) (number : ℕ) (name : List ℕ) → V.event ≡ Received c.number (message.Lookup number name) → V.Fails V.setting.classes.unmarshal → V.Dialled c.number false → connection_at s c.number ≡ Some c → V.Keeps l s → V.Keeps l (Frames.got_lookup V.setting c number name s)
 unfolding Frames.got_lookup
-got_lookup_flow {V} F {l} {s} c number name may there is h = pick (nat_le number c.last) refl
+got_lookup_flow {V} F {l} {s} c number name same may there is h = pick (nat_le number c.last) refl
   where
     pick : (b : Bool) → nat_le number c.last ≡ b → V.Keeps l (if b then Endings.close V.setting V.setting.classes.unmarshal c.number s else Frames.found V.setting c.number number (Frames.object_of s (registry.lookup s.owner.names name)) (Frames.counted c.number number s))
     pick true e = close_flow F _ c.number may may h
-    pick false e = found_flow F c.number number (Frames.object_of s (registry.lookup s.owner.names name)) there (F.counts l s c.number number c there is e h)
+    pick false e = found_flow F c.number number name (Frames.object_of s (registry.lookup s.owner.names name)) same there (F.counts l s c.number number c there is e h)
 
 release_flow : {V : View} (F : Flows V) {l : List Owed} {s : State} (is : KeptResult → Bool) → V.Keeps l s → V.Keeps l (Frames.release V.setting is s)
 unfolding Frames.release
@@ -590,7 +615,7 @@ got_flow {V} F {s} c m same B is way h = by m same way
     by (message.Lease sequence period) e w = told_by_flow F c true sequence (λ call. lease_events.DirtyAnswered call period) going may h
     by (message.Clean sequence strong objects) e w = send_flow F _ c.number _ (asks w) (F.quiet [] s _ refl h)
     by (message.Cleaned sequence) e w = told_by_flow F c false sequence lease_events.CleanAnswered going may h
-    by (message.Lookup number name) e w = got_lookup_flow F c number name may (asks w) is h
+    by (message.Lookup number name) e w = got_lookup_flow F c number name e may (asks w) is h
 
 received_flow : {V : View} (F : Flows V) {s : State} (conn : ℕ) (c : Option Connection) (m : Message) → V.event ≡ Received conn m → Begins V s → connection_at s conn ≡ c → V.Keeps [] s → V.Keeps [] (OwnEvents.received_on V.setting c m s)
 unfolding Frames.receive
@@ -680,7 +705,7 @@ happen_flow {V} F {s} B h = by V.event refl
     by (Committed task k op) same = commit_flow F task k op (ap Space.answers_outputs same) h
     by (Parked task k) same = park_flow F task k same B h
     by (GivenBack task k) same = give_back_flow F task k (ap Space.answers_outputs same) h
-    by (Finished task k) same = finish_flow F task k (ap is_finish same) h
+    by (Finished task k) same = finish_flow F task k same B h
 
 pub sent_flow : {V : View} (F : Flows V) {l : List Owed} {s : State} (o : Output) → V.Keeps l s → V.Keeps l (Space.record_sent s o)
 sent_flow F (Started task) h = h

@@ -2,3 +2,4 @@ mod EventRules
 mod StartedLemmas
 mod DirectionLemmas
 mod CallEndLemmas
+mod AnswerLemmas

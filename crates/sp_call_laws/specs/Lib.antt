@@ -2,3 +2,4 @@ pub mod Sent
 pub mod Started
 pub mod Directions
 pub mod CallEnds
+pub mod Answers

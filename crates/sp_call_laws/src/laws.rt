@@ -1,5 +1,6 @@
 //! The laws of calls: how many tasks they start, in which directions frames go, and how they end.
 
+ghost use Rattle.sp_call_laws.specs.Answers.{AnswersAreOutcomes};
 ghost use Rattle.sp_call_laws.specs.CallEnds.{CallsEndAsNamed};
 ghost use Rattle.sp_call_laws.specs.Directions.{FramesGoTheirWay, SpacesHaveDirections};
 ghost use Rattle.sp_call_laws.specs.Started.{CallsStartOneTask, CallsStartOneTaskInWorlds};
@@ -39,4 +40,13 @@ pub fn spaces_have_directions()
 /// MarshalException only where a write failed, UnmarshalException.
 pub fn calls_end_as_named()
     ensures { CallsEndAsNamed }
+{}
+
+/// After every history of a space each Returned, Threw and Spent that an event is answered with is one of
+/// three. The event ends the task that the call of the frame's number on that connection started, and the
+/// frame says how the task ended, an Error as ServerError and a RemoteException as ServerException, and the
+/// fuel that it left. Or the frame throws NoSuchObjectException, UnmarshalException, ServerError or
+/// NotBoundException. Or a Lookup of that number came, and the frame gives a reference of an own object.
+pub fn answers_are_outcomes()
+    ensures { AnswersAreOutcomes }
 {}
