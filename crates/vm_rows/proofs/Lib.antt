@@ -6,4 +6,10 @@ pub mod IntRows
 pub mod ReturnRows
 pub mod ObjectRows
 pub mod CallRows
+pub mod Entries
 pub mod NeverStuck
+pub mod Declared
+pub mod Callees
+pub mod Readings
+pub mod Sets
+pub mod Named

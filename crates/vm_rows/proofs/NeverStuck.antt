@@ -38,28 +38,12 @@ use Rattle.vm_world.specs.Files.{AreAsRead}
 use Rattle.vm_world.specs.Worlds.{AreTyped, IsTypedBy, method_type, subject_at, world_of}
 use Rattle.vm_rows.specs.Rows.{IsBodyOf, IsRow, StandsAt}
 use Rattle.vm_rows.specs.Steps.{AreNamed, AreNeverStuck, insn_at, step}
+use Rattle.vm_rows.proofs.Entries.{is_entry}
 use Rattle.vm_rows.proofs.CallRows as calls
 use Rattle.vm_rows.proofs.IntRows as ints
 use Rattle.vm_rows.proofs.ObjectRows as objects
 use Rattle.vm_rows.proofs.ReturnRows as returns
 use Rattle.vm_rows.proofs.WordRows as words
-
--- a method with code, among the linked methods
-record IsEntry (links : Links) (number : ℕ) (s : Subject) : Type 0 where
-  entry : LinkedMethod
-  at : slice_get links.methods number ≡ Some entry
-  code : entry.code ≡ Some s.linked
-  class : entry.class ≡ s.class_id
-
-is_entry : (links : Links) (number : ℕ) (s : Subject) → subject_at links number ≡ Some s → IsEntry links number s
-unfolding subject_at subject_of
-is_entry links number s e =
-    let entry = passes_both (slice_get links.methods number) _ s e in
-    let linked = passes_both entry.0.code _ s entry.1.1 in
-    let class = passes_both (slice_get links.classes entry.0.class.0) _ s linked.1.1 in
-    let method = passes_both (slice_get class.0.file.methods entry.0.index) _ s class.1.1 in
-    let code = passes_both method.0.code _ s method.1.1 in
-    subst (λ (t : Subject). IsEntry links number t) (same_some code.1.1) (record { entry = entry.0; at = entry.1.0; code = linked.1.0; class = refl })
 
 there : {A : Type 0} (xs : List A) (n : ℕ) → n < length xs → (x : A) × (slice_get xs n ≡ Some x)
 there [] n inside = absurd (omega (arith, inside))

@@ -1,0 +1,5 @@
+use Rattle.vm_rows.proofs.Callees
+use Rattle.vm_rows.proofs.laws.inits_are_of_their_types.Goals as goal
+
+pub returns : goal.returns
+returns c = Callees.init_runs
