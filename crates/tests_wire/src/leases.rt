@@ -1,8 +1,9 @@
 //! A client's leases.
 
-use dgc_client::{ClientLease, Clients, Due, ForeignId, Group, LONGEST_LEASE};
-use space_ids::ObjId;
+use dgc_client::{ClientLease, Clients, Due, DueCall, DueCalls, ForeignId, Group, LONGEST_LEASE};
+use space_ids::{ObjId, Row};
 use std::alloc::{AllocError, Global};
+use std::process::Abort;
 use std::test::Fail;
 use uuid::Uuid;
 
@@ -241,5 +242,93 @@ fn a_new_holder_does_not_wait_for_a_failed_clean_call(rt: HostRuntime) -> Result
     assert_eq!(rt; lease.due(), None);
     lease.moment(1050);
     assert_eq!(rt; lease.due(), DIRTY);
+    Ok(())
+}
+
+// The call of one reference, as a group.
+fn group_of(alloc: Global, call: &DueCall) -> Result<Group, AllocError> {
+    Ok(Group {
+        peer: call.reference.space,
+        kind: call.kind,
+        ids: Row::new(vec![in alloc; call.reference.id; 1]?),
+    })
+}
+
+// What goes out of these groups, one object a frame.
+fn single_parts(alloc: Global, groups: &Vec<Group>) -> Result<Vec<Group>, AllocError> {
+    let mut parts = Vec::new(alloc);
+    for group in groups {
+        for part in group.parts(alloc, 1)? {
+            parts.push(part)?;
+        }
+    }
+    Ok(parts)
+}
+
+// Holders of references 1 of peer 7, 2 of peer 8 and 3 of peer 7, in room that is made before.
+fn held_reserved(alloc: Global) -> Result<Clients, AllocError> {
+    let mut clients = Clients::new(alloc);
+    clients.reserve(3)?;
+    clients.hold_reserved(&reference(7, 1));
+    clients.hold_reserved(&reference(8, 2));
+    clients.hold_reserved(&reference(7, 3));
+    Ok(clients)
+}
+
+// Each call that is due goes out in a frame of its own, and a dirty one is answered: of one table in
+// groups, of the other in reserved room.
+fn settle_both(
+    rt: &impl Abort,
+    alloc: Global,
+    plain: &mut Clients,
+    reserved: &mut Clients,
+) -> Result<usize, AllocError> {
+    let groups = plain.due(alloc)?;
+    let parts = single_parts(alloc, &groups)?;
+    let mut due = DueCalls::new(alloc);
+    due.reserve(reserved.references())?;
+    reserved.due_reserved(&mut due);
+    reserved.made_calls(due.as_slice(), 1);
+    for group in &groups {
+        plain.made(group, 1);
+    }
+    assert_eq!(rt; due.as_slice().len(), parts.len());
+    for (call, part) in due.as_slice().iter().zip(&parts) {
+        let group = group_of(alloc, call)?;
+        assert!(rt; group.peer == part.peer && group.kind == part.kind);
+        assert_eq!(rt; group.ids.as_slice(), part.ids.as_slice());
+        assert_eq!(rt; reserved.sent(&group, 1), plain.sent(part, 1));
+        reserved.dirty_answered(&group, 1, 100);
+        plain.dirty_answered(part, 1, 100);
+    }
+    Ok(parts.len())
+}
+
+#[test]
+fn calls_in_reserved_room_are_those_of_the_groups(rt: HostRuntime) -> Result<(), Fail> {
+    let mut reserved = held_reserved(rt.alloc())?;
+    let mut plain = Clients::new(rt.alloc());
+    let references = [reference(7, 1), reference(8, 2), reference(7, 3)];
+    for reference in &references {
+        plain.hold(reference)?;
+    }
+    for (moment, dropped, calls, last) in [(0, 9, 3, 3), (50, 1, 3, 6), (60, 3, 1, 7)] {
+        let holder = reference(7, dropped);
+        plain.moment(moment);
+        plain.drop_holder(&holder);
+        reserved.moment(moment);
+        reserved.drop_holder(&holder);
+        let settled = settle_both(&rt, rt.alloc(), &mut plain, &mut reserved)?;
+        assert_eq!(rt; settled, calls, "at {moment}");
+        assert_eq!(rt; reserved.last_number(), last, "at {moment}");
+        assert_eq!(rt; plain.last_number(), last, "at {moment}");
+        for reference in &references {
+            assert_eq!(rt;
+                reserved.lease(reference),
+                plain.lease(reference),
+                "at {moment}"
+            );
+        }
+    }
     Ok(())
 }

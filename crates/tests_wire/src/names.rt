@@ -1,7 +1,7 @@
 //! The names of a space.
 
 use base_types::Numbered;
-use sp_registry::{BindFault, Binding, Registry, RegistryFault};
+use sp_registry::{BindFault, Binding, Name, Registry, RegistryFault};
 use space_ids::ObjId;
 use std::process::Abort;
 use std::test::Fail;
@@ -76,5 +76,42 @@ fn faults_have_their_numbers_and_names(rt: HostRuntime) -> Result<(), Fail> {
         let refusal = BindFault::from(fault);
         assert_eq!(rt; format!(in rt.alloc(); "{refusal}")?.as_str(), name);
     }
+    Ok(())
+}
+
+#[test]
+fn names_in_reserved_room_are_bound_as_the_others(rt: HostRuntime) -> Result<(), Fail> {
+    let mut plain = Registry::new(rt.alloc());
+    let mut reserved = Registry::new(rt.alloc());
+    for (name, object, again) in [
+        (b"a", Some(ObjId(1)), false),
+        (b"b", Some(ObjId(2)), true),
+        (b"a", Some(ObjId(3)), false),
+        (b"a", Some(ObjId(4)), true),
+        (b"c", None, false),
+        (b"c", None, true),
+    ] {
+        let bytes = name.as_slice();
+        let own = Name::new(rt.alloc(), bytes)?;
+        reserved.reserve(1)?;
+        let (answer, expected) = if again {
+            (
+                reserved.rebind_reserved(own, object),
+                plain.rebind(bytes, object),
+            )
+        } else {
+            (
+                reserved.bind_reserved(own, object),
+                plain.bind(bytes, object),
+            )
+        };
+        assert_eq!(rt; answer.map_err(BindFault::Denied), expected);
+        assert_eq!(rt; reserved.list().len(), plain.list().len());
+        for (one, other) in reserved.list().iter().zip(plain.list()) {
+            assert!(rt; is_binding(Some(one), other.name.as_bytes(), other.object.0));
+        }
+    }
+    assert!(rt; is_binding(reserved.list().first(), b"a", 4));
+    assert!(rt; is_binding(reserved.list().last(), b"b", 2));
     Ok(())
 }

@@ -106,6 +106,59 @@ fn clients_are_in_the_order_of_their_entries(rt: HostRuntime) -> Result<(), Fail
     Ok(())
 }
 
+// What the two remember of object 1 and 2 is the same.
+fn compare_lists(
+    rt: &impl Abort,
+    alloc: Global,
+    one: &RefList,
+    other: &RefList,
+) -> Result<(), AllocError> {
+    for object in [ObjId(1), ObjId(2)] {
+        let clients = one.clients_of(alloc, object)?;
+        assert_eq!(rt;
+            clients.as_slice(),
+            other.clients_of(alloc, object)?.as_slice()
+        );
+        assert_eq!(rt; one.entries_of(object), other.entries_of(object));
+        for of in [1, 2] {
+            let client = client(of);
+            assert_eq!(rt; one.entry(&client, object), other.entry(&client, object));
+        }
+    }
+    Ok(())
+}
+
+#[test]
+fn calls_in_reserved_room_leave_what_the_others_leave(rt: HostRuntime) -> Result<(), Fail> {
+    let objects = [ObjId(1), ObjId(2)];
+    let mut plain = RefList::new(rt.alloc());
+    let mut reserved = RefList::new(rt.alloc());
+    for (of, number, period) in [(1, 3, 100), (2, 1, 700_000), (1, 2, 50), (1, 5, 70)] {
+        let client = client(of);
+        reserved.reserve_dirty(&client, &objects, number, period)?;
+        let granted = reserved.dirty_reserved(&client, &objects, number, period);
+        assert_eq!(rt; granted, plain.dirty(&client, &objects, number, period)?);
+        compare_lists(&rt, rt.alloc(), &reserved, &plain)?;
+    }
+    for (of, number, strong, left) in [(1, 4, true, 2), (1, 6, true, 1), (2, 2, false, 0)] {
+        let client = client(of);
+        if strong {
+            reserved.reserve_clean(&client, &objects)?;
+        }
+        reserved.clean_reserved(&client, &objects, number, strong);
+        plain.clean(&client, &objects, number, strong)?;
+        reserved.release(&client, &objects);
+        assert_eq!(rt; reserved.entries_of(ObjId(1)), left);
+        compare_lists(&rt, rt.alloc(), &reserved, &plain)?;
+    }
+    dirty_1(&mut reserved, 1, &[5])?;
+    assert!(rt;
+        !stands(&reserved, 1),
+        "the number stays after a strong call"
+    );
+    Ok(())
+}
+
 // What one client and object were told.
 #[derive(Clone, Copy)]
 enum Told {
