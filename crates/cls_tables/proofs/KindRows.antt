@@ -103,15 +103,6 @@ kind_copied row now new start end i k rising within inside so_far is pushed =
     ∙ (append_assoc row (take i (drop start row)) (k ∷ [])
     ∙ ap (λ ks. row ++ ks) (ap (λ x. take i (drop start row) ++ x ∷ []) here ∙ sym (take_more (drop start row) i k (omega (arith, low, few))))))
 
-pub starts_itself : (row : List WordKind) → Starts row row
-starts_itself row = record { more = []; is = sym (append-nil row) }
-
-pub starts_on : (row new more : List WordKind) → new ≡ row ++ more → Starts row new
-starts_on row new more is = record { more = more; is = is }
-
-pub starts_both : {row mid new : List WordKind} → Starts row mid → Starts mid new → Starts row new
-starts_both {row} {mid} {new} a b = record { more = a.more ++ b.more; is = b.is ∙ (ap (λ ks. ks ++ b.more) a.is ∙ append_assoc row a.more b.more) }
-
 get_set_same : {X : Type 0} (xs : List X) (i : ℕ) (a : X) → i < length xs → slice_get (set xs i a) i ≡ Some a
 get_set_same [] i a h = absurd (omega (arith, h))
 get_set_same (x ∷ xs) zero a h = refl

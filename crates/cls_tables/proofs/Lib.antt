@@ -1,2 +1,3 @@
 pub mod FieldRows
+pub mod Grown
 pub mod KindRows

@@ -36,8 +36,8 @@ abbrev pub part : List WordKind → ℕ → ℕ → List WordKind
 part row start end = take (end - start) (drop start row)
 
 -- a row goes on from another
-pub record Starts (old new : List WordKind) : Type 0 where
-  pub more : List WordKind
+pub record Starts {A : Type 0} (old new : List A) : Type 0 where
+  pub more : List A
   pub is : new ≡ old ++ more
 
 -- a part of the row is what the fields of an object of a class hold

@@ -8,3 +8,4 @@ pub use vm_heap::WordKind;
 mod kinds;
 mod slots;
 mod tables;
+mod trees;
