@@ -84,7 +84,6 @@ step nodes levels index key node b at is =
 
 module _ (old mid new : List Node) (levels root : ℕ) (key value : ℕ) (node : Node) (at : slice_get old root ≡ Some node) (index made : ℕ)
     (first : Starts old mid) (last : Starts mid new) (whole : Starts old new) where
-
   pub found_even : (t : IsTree old levels node.odd) → (m : IsTree mid levels made) → (key % 2 == 0) ≡ true → slice_get new index ≡ Some (record { even = made; odd = node.odd })
       → ((k : ℕ) → find mid levels made k ≡ (if agree levels k (key / 2) then value else find old levels node.even k))
       → (k : ℕ) → find new (suc levels) index k ≡ (if agree (suc levels) k key then value else find old (suc levels) root k)

@@ -1,3 +1,4 @@
 pub mod FieldRows
 pub mod Grown
 pub mod KindRows
+pub mod Numbered

@@ -6,6 +6,7 @@ pub use tables::Tables;
 pub use vm_heap::WordKind;
 
 mod kinds;
+mod numbers;
 mod slots;
 mod tables;
 mod trees;

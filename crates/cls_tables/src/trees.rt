@@ -18,13 +18,7 @@ fn child(nodes: &[Node], index: u32, key: u32) -> u32
     ensures { result ≡ child (slice_get nodes.now index) key }
 {
     match nodes.get(index as usize) {
-        Some(node) => {
-            if key % 2 == 0 {
-                node.even
-            } else {
-                node.odd
-            }
-        }
+        Some(node) => { if key % 2 == 0 { node.even } else { node.odd } }
         None => 0,
     }
 }
@@ -74,11 +68,23 @@ pub(crate) fn with(
     let node = nodes[root as usize];
     if key % 2 == 0 {
         let even = with(nodes, levels - 1, node.even, key / 2, value)?;
-        let index = add(nodes, Node { even, odd: node.odd })?;
+        let index = add(
+            nodes,
+            Node {
+                even,
+                odd: node.odd,
+            },
+        )?;
         Ok(index)
     } else {
         let odd = with(nodes, levels - 1, node.odd, key / 2, value)?;
-        let index = add(nodes, Node { even: node.even, odd })?;
+        let index = add(
+            nodes,
+            Node {
+                even: node.even,
+                odd,
+            },
+        )?;
         Ok(index)
     }
 }
