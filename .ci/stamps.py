@@ -43,6 +43,13 @@ def proof_file(folder, path):
     return None
 
 
+def code_of(file):
+    """Returns the text of a file without its lines of comment: what a comment says decides no trial."""
+    mark = {".rt": "//", ".antt": "--"}.get(os.path.splitext(file)[1])
+    text = rt.rtlib.text_of(file)
+    return text if not mark or text is None else [row for row in text.split("\n") if not row.lstrip().startswith(mark)]
+
+
 def line_of(crate, root):
     """Returns the crate's line of crates.txt."""
     lines = (rt.rtlib.text_of(f"{root}/crates.txt") or "").splitlines()
@@ -51,13 +58,13 @@ def line_of(crate, root):
 
 def stamp(crate, root):
     """Returns a sum of all that a trial of the crate's edits reads: these tools, its own files and edits, its line of crates.txt, of the libraries
-    below the public text, the definitions and the proofs that it cites, and the kit."""
+    below the public text, the definitions and the proofs that it cites, and the kit; all without lines of comment."""
     sum = hashlib.sha256(repr((rt.rtlib.text_of(f"{rt.KIT}/KIT-ID"), line_of(crate, root))).encode())
     read = [f"{os.path.dirname(os.path.abspath(__file__))}/{it}" for it in TOOLS]
     read += [file for part in OWN for file in files_below(f"{crate.folder}/{part}")]
     read += [file for below in crate.below() for file in files_below(f"{below.folder}/specs")]
     for file in [*read, *cited_proofs(crate)]:
-        sum.update(repr((os.path.relpath(file, root), rt.rtlib.text_of(file))).encode())
+        sum.update(repr((os.path.relpath(file, root), code_of(file))).encode())
     for below in crate.below():
         for file in files_below(f"{below.folder}/src"):
             sum.update(repr((os.path.relpath(file, root), public_text(rt.rtlib.text_of(file)))).encode())

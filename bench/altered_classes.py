@@ -16,7 +16,7 @@ ENTRIES = {3: 5, 4: 5, 5: 9, 6: 9, 7: 3, 8: 3, 9: 5, 10: 5, 11: 5, 12: 5, 15: 4,
 
 
 class Layout:
-    """Where a class file has its code, its tables of frames and the limits of its methods."""
+    """The positions in a class file of its code, its tables of frames and the limits of its methods."""
 
     def __init__(self, content):
         self.content, self.at = content, 8

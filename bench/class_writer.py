@@ -46,7 +46,7 @@ class Pool:
 
 
 class Label:
-    """A place in the code, with the frame that is declared there: local variables and operands, the one on top last."""
+    """An index in the code, with the frame that is declared there: local variables and operands, the one on top last."""
 
     def __init__(self, frame):
         self.frame = frame
@@ -165,7 +165,7 @@ class Code:
 
 
 def spell_members(pool, members):
-    """Fields or methods: flags, name, descriptor and the attribute that is spelled, where there is one."""
+    """Fields or methods: flags, name, descriptor and the attribute that is spelled, if there is one."""
     spelled = [u2(flags) + u2(pool.text(name)) + u2(pool.text(kind)) + u2(bool(own)) + own for flags, name, kind, own in members]
     return u2(len(members)) + b"".join(spelled)
 

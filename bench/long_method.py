@@ -1,7 +1,7 @@
-"""Writes a class T with `static int f(int)` of so many instructions and two more, which returns its argument.
+"""Writes a class T with `static int f(int)` of n instructions and two more, which returns its argument.
 
 Each 100 instructions but the first begin at a declared frame and have a branch to the next 100.
-Words: how many instructions, a multiple of 100 up to 64,000, and how many such methods (1 if not said): f, f1, f2 and on.
+Arguments: n, a multiple of 100 up to 64,000, and how many such methods (1 by default): f, f1, f2 and so on.
 """
 
 import sys

@@ -4,6 +4,8 @@ Words: the folder, the shape, and how many classes.
 
 - small: classes below java/lang/Object, each with a static method of two instructions.
 - chain: each class extends the one before it.
+- overriders: each class extends the one before it, and all of them declare one instance method of the same name.
+- callers: a chain, of which the last class names a static method of the first one 20,000 times.
 - ladder: interfaces, two a rung; each extends both of the rung below.
 """
 
@@ -15,7 +17,12 @@ from long_method import attribute, u2, u4, utf8
 PUBLIC, STATIC, SUPER, INTERFACE, ABSTRACT = 0x0001, 0x0008, 0x0020, 0x0200, 0x0400
 
 
-def class_file(name, superclass, interfaces, flags):
+# How often the last class of a chain names a method of the first one.
+CALLS = 20_000
+
+
+def class_file(name, superclass, interfaces, flags, method_name=None, called=None):
+    """Returns the bytes of a class. Its method has this name if one is told, and is then one of instances; it calls a method if one is told."""
     pool = []
 
     def text(value):
@@ -31,9 +38,19 @@ def class_file(name, superclass, interfaces, flags):
     below = [class_entry(interface) for interface in interfaces]
     methods = []
     if not flags & INTERFACE:
-        code = u2(1) + u2(1) + u4(2) + b"\x1a\xac" + u2(0) + u2(0)
-        method = text("f" + name), text("(I)I"), text("Code")
-        methods = [u2(PUBLIC | STATIC) + u2(method[0]) + u2(method[1]) + u2(1) + attribute(method[2], code)]
+        insns = b"\x1a\xac"
+        if called:
+            pair = text(called[1]), text("(I)I")
+            pool.append(b"\x0c" + u2(pair[0]) + u2(pair[1]))
+            owner = class_entry(called[0])
+            pool.append(b"\x0a" + u2(owner) + u2(len(pool) - 2))
+            insns = b"\x1a" + (b"\xb8" + u2(len(pool))) * CALLS + b"\xac"
+        elif method_name:
+            insns = b"\x1b\xac"
+        code = u2(1) + u2(2) + u4(len(insns)) + insns + u2(0) + u2(0)
+        method = text(method_name or "f" + name), text("(I)I"), text("Code")
+        access = PUBLIC if method_name else PUBLIC | STATIC
+        methods = [u2(access) + u2(method[0]) + u2(method[1]) + u2(1) + attribute(method[2], code)]
     return (
         u4(0xCAFEBABE) + u2(0) + u2(52) + u2(len(pool) + 1) + b"".join(pool)
         + u2(flags) + u2(this) + u2(above) + u2(len(below)) + b"".join(map(u2, below)) + u2(0)
@@ -41,13 +58,15 @@ def class_file(name, superclass, interfaces, flags):
     )
 
 
-def shaped(shape, n):
+def shaped(shape, n, is_last):
     name = f"C{n:05}"
     if shape == "small":
         return name, class_file(name, "java/lang/Object", [], PUBLIC | SUPER)
-    if shape == "chain":
+    if shape in ("chain", "overriders", "callers"):
         above = f"C{n - 1:05}" if n else "java/lang/Object"
-        return name, class_file(name, above, [], PUBLIC | SUPER)
+        method_name = "f" if shape == "overriders" else None
+        called = (above, "fC00000") if shape == "callers" and is_last else None
+        return name, class_file(name, above, [], PUBLIC | SUPER, method_name, called)
     rung = n // 2
     below = [f"C{rung * 2 - 2 + side:05}" for side in (0, 1)] if rung else []
     return name, class_file(name, "java/lang/Object", below, PUBLIC | INTERFACE | ABSTRACT)
@@ -56,7 +75,7 @@ def shaped(shape, n):
 def main(folder, shape, count):
     os.makedirs(folder, exist_ok=True)
     for n in range(count):
-        name, content = shaped(shape, n)
+        name, content = shaped(shape, n, n == count - 1)
         with open(os.path.join(folder, name + ".class"), "wb") as file:
             file.write(content)
 

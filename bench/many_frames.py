@@ -1,7 +1,7 @@
-"""Writes a class T with `static int f(int)` of so many nops, at each of which a frame is declared, with 65,535 local
-variables. It returns its argument.
+"""Writes a class T with `static int f(int)` of n nops and 65,535 local variables. A frame is declared at each nop. The
+method returns its argument.
 
-Words: the kind of the frames, and how many (65,000 at most). A `same` frame keeps the local variables of the frame
+Arguments: the kind of the frames, and n (65,000 at most). A `same` frame keeps the local variables of the frame
 before it; an `append` frame has one more, of the type top, so that the last has as many as there are frames.
 """
 
@@ -9,7 +9,7 @@ import sys
 
 from long_method import PUBLIC_STATIC, PUBLIC_SUPER, attribute, u2, u4, utf8
 
-# The distance of a frame from the instruction after the one before it, in the tag or behind it.
+# The distance of a frame from the instruction after the one before it, in the tag or after it.
 FRAMES = {"same": b"\x00", "append": b"\xfc\x00\x00\x00"}
 
 

@@ -9,7 +9,7 @@ POP, POP2, DUP, DUP_X1, DUP_X2, DUP2, DUP2_X1, DUP2_X2, SWAP = range(87, 96)
 IINC, GOTO, TABLESWITCH, LOOKUPSWITCH, IRETURN, ARETURN, RETURN = 132, 167, 170, 171, 172, 176, 177
 GETSTATIC, GETFIELD, PUTFIELD, INVOKEVIRTUAL, INVOKESPECIAL, INVOKESTATIC, INVOKEINTERFACE = 178, 180, 181, 182, 183, 184, 185
 NEW, NEWARRAY, ARRAYLENGTH, ATHROW, CHECKCAST, INSTANCEOF, WIDE, GOTO_W = 187, 188, 190, 191, 192, 193, 196, 200
-# What a branch takes from the stack: so many words, which all are ints or all references.
+# What a branch takes from the stack: how many words, and whether they are ints; else they are references.
 BRANCHES = [(range(153, 159), 1, True), (range(159, 165), 2, True), (range(165, 167), 2, False), (range(198, 200), 1, False)]
 # How each instruction rearranges the words on top, the topmost last: how many it takes, and which of them it puts.
 WORDS = {
@@ -211,7 +211,7 @@ class Body:
     # ---- the whole
 
     def meet(self):
-        """Places a label, where nothing comes from the instruction before, or now and then; one at a place."""
+        """Puts a label here if nothing comes from the instruction before, or now and then; at most one at an index."""
         if self.items and isinstance(self.items[-1], Label):
             return
         ready = self.pending if not self.reached else [it for it in self.pending if self.flows_to(it)]

@@ -39,7 +39,7 @@ def attribute(name, content):
 
 
 class Branch:
-    """The operand of a branch: the place of an instruction."""
+    """The operand of a branch: the index of an instruction."""
 
     def __init__(self, target):
         self.target = target
@@ -58,19 +58,19 @@ class Body:
         self.depth = 0
         self.reached = True
         self.code = []
-        # The frames at places that were branched to, and those that are declared.
+        # The frames at indices that were branched to, and those that are declared.
         self.wanted, self.declared = {}, {}
 
     def put(self, opcode, operand=b""):
         self.code.append((opcode, operand))
 
     def want(self, target):
-        """A branch from here to a later place."""
+        """A branch from here to a later index."""
         depth, ints = self.wanted.setdefault(target, (self.depth, list(self.ints)))
         self.wanted[target] = (depth, [a and b for a, b in zip(ints, self.ints)])
 
     def level(self):
-        """Brings the depth to that of the branches to this place, which then lies behind."""
+        """Brings the depth to that of the branches to this index."""
         place = len(self.code)
         depth, ints = self.wanted.pop(place)
         while self.depth != depth:
@@ -82,7 +82,7 @@ class Body:
         self.wanted[len(self.code)] = (depth, ints)
 
     def meet(self):
-        """Declares a frame here, where one is wanted, where nothing falls in, and now and then."""
+        """Declares a frame here if one is wanted, if nothing falls in, and now and then."""
         place = len(self.code)
         if place in self.wanted and self.reached and self.wanted[place][0] != self.depth and self.choose.random() < 0.9:
             self.level()

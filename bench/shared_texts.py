@@ -6,17 +6,20 @@ Words: what is shared, and how many members there are.
 - types: methods of one descriptor of 65,535 bytes that names a class, each with a name of its own.
 - parameters: methods of one descriptor of 255 parameters, each with a name of its own.
 - interfaces: one superinterface with a name of 65,535 bytes, named again and again.
+- references: methods as of names, and code that names the last of them 1,000 times.
+- descriptors: methods of one name, each with another descriptor of 254 parameters.
 
 The class that a shared descriptor or interface names is not in the set: the class is read whole, and refused then.
 """
 
 import sys
 
-from long_method import u2, u4, utf8
+from long_method import attribute, u2, u4, utf8
 
 ABSTRACT = 0x0400
 PUBLIC = 0x0001
 LONGEST = 65_535
+CALLS = 1_000
 
 
 def number(n):
@@ -37,9 +40,13 @@ def descriptors(count):
 
 def members(kind, count, add):
     """The name and descriptor indices of the methods."""
-    if kind == "names":
+    if kind in ("names", "references"):
         name = add("n" * LONGEST)
-        return [(name, add(text)) for text in descriptors(count)]
+        # The one without parameters is the last.
+        return [(name, add(text)) for text in descriptors(count)][::-1]
+    if kind == "descriptors":
+        name = add("n")
+        return [(name, add("(" + f"{n:012b}".replace("0", "I").replace("1", "Z") + "I" * 242 + ")V")) for n in range(count)]
     if kind == "types":
         shared = add("(L" + "c" * (LONGEST - 5) + ";)V")
     elif kind == "parameters":
@@ -47,6 +54,15 @@ def members(kind, count, add):
     else:
         return []
     return [(add(number(n)), shared) for n in range(count)]
+
+
+def calls(pool, add, this, member):
+    """Returns a method `c()V` that calls a method of its class again and again, on null."""
+    pool.append(b"\x0c" + u2(member[0]) + u2(member[1]))
+    pool.append(b"\x0a" + u2(this) + u2(len(pool)))
+    insns = (b"\x01\xb6" + u2(len(pool))) * CALLS + b"\xb1"
+    code = u2(1) + u2(1) + u4(len(insns)) + insns + u2(0) + u2(0)
+    return u2(PUBLIC) + u2(add("c")) + u2(add("()V")) + u2(1) + attribute(add("Code"), code)
 
 
 def main(kind, count):
@@ -67,10 +83,11 @@ def main(kind, count):
         pool.append(b"\x07" + u2(add("i" * LONGEST)))
         interfaces = u2(len(pool)) * count
     body = b"".join(u2(PUBLIC | ABSTRACT) + u2(name) + u2(descriptor) + u2(0) for name, descriptor in methods)
+    caller = calls(pool, add, this, methods[-1]) if kind == "references" else b""
     sys.stdout.buffer.write(
         u4(0xCAFEBABE) + u2(0) + u2(52) + u2(len(pool) + 1) + b"".join(pool)
         + u2(PUBLIC | ABSTRACT | 0x0020) + u2(this) + u2(superclass) + u2(len(interfaces) // 2) + interfaces + u2(0)
-        + u2(len(methods)) + body + u2(0)
+        + u2(len(methods) + bool(caller)) + body + caller + u2(0)
     )
 
 

@@ -19,21 +19,21 @@ impl<T> Model for Row<T> {
 }
 
 impl<T> Row<T> {
-    /// The row of these values. It takes no memory.
+    /// Returns the row of these values. It takes no memory.
     pub fn new(items: Vec<T>) -> Row<T>
         ensures { result ≡ items.items }
     {
         Row { items }
     }
 
-    /// Its values.
+    /// Returns the values of the row.
     pub fn as_slice(&self) -> &[T]
         ensures { result.now ≡ self.now }
     {
         &self.items
     }
 
-    /// Gives the values back. It takes no memory.
+    /// Returns the values, and gives up the row. It takes no memory.
     pub fn into_vec(self) -> Vec<T>
         ensures { result.items ≡ self }
     {

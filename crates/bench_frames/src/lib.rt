@@ -7,7 +7,7 @@ ghost use Rattle.std.specs.Prelude.{◌<◌, ◌≤◌, length};
 use net_frames::{Frame, FrameReader, ObjId, Row, Value, encode};
 use std::alloc::Global;
 
-// A call with one array of so many ints, or without arguments where that is 0.
+// A call with one array of `ints` ints, or without arguments if that is 0.
 fn call(alloc: Global, ints: usize) -> Option<Frame> {
     let mut arguments = Vec::new(alloc);
     if ints > 0 {
@@ -17,8 +17,8 @@ fn call(alloc: Global, ints: usize) -> Option<Frame> {
     Frame::call(1, ObjId(2), 7, 99, Row::new(arguments)).ok()
 }
 
-/// Writes the frame of such a call to the front of the bytes, and answers how many it has: 0 where
-/// it does not fit, or memory ran out.
+/// Writes the frame of such a call to the front of the bytes, and returns how many bytes it has: 0
+/// if it does not fit, or memory ran out.
 #[unsafe(no_mangle)]
 pub extern "C" fn bench_frames_write(alloc: Global, ints: usize, out: &mut [u8]) -> usize
     ensures { result ≤ length out.old }
@@ -35,7 +35,7 @@ pub extern "C" fn bench_frames_write(alloc: Global, ints: usize, out: &mut [u8])
     }
 }
 
-/// Encodes the frame of such a call so many times, and answers how many bytes came of it: 0 where
+/// Encodes the frame of such a call `times` times, and returns how many bytes came of it: 0 if
 /// memory ran out.
 #[unsafe(no_mangle)]
 pub extern "C" fn bench_frames_encode(alloc: Global, ints: usize, times: u64) -> u64 {
@@ -52,8 +52,8 @@ pub extern "C" fn bench_frames_encode(alloc: Global, ints: usize, times: u64) ->
     total
 }
 
-/// Feeds the bytes to a new reader in pieces of so many, and answers how many frames came of them: 0
-/// where they are no frames, or memory ran out.
+/// Feeds the bytes to a new reader in pieces of `piece` bytes, and returns how many frames came of
+/// them: 0 if they are no frames, or memory ran out.
 #[unsafe(no_mangle)]
 pub extern "C" fn bench_frames_feed(alloc: Global, bytes: &[u8], piece: usize) -> u64
     requires { 0 < piece }

@@ -1,7 +1,7 @@
-//! What bench/leases measures: the first word is a scenario of the client's leases or of the owner's
-//! reference lists, and the number after it is its size; a third word says how many events touch one
-//! reference, or how many moments come. Prints how many calls were answered. Without words it runs each
-//! at a small size.
+//! What bench/leases measures. The first argument is a scenario of the client's leases or of the
+//! owner's reference lists, and the second its size; the third says how many events touch one
+//! reference, or how many moments come. Prints how many calls were answered. Without arguments it
+//! runs each scenario at a small size.
 #![tactic(auto)]
 
 use dgc_client::{Clients, ForeignId};
@@ -36,11 +36,11 @@ enum Scenario {
     Touched,
     /// References are held and leased, and moments come before a lease is half over.
     Moments,
-    /// As many clients of one object come and go.
+    /// `size` clients of one object come and go.
     Clients,
     /// One client renews its lease of one object with two periods in turn.
     Renewals,
-    /// One client's leases of as many objects end at one moment.
+    /// One client's leases of `size` objects end at one moment.
     Ends,
     /// Each of these.
     All,
@@ -58,7 +58,7 @@ fn scenario_of(word: &str) -> Scenario {
     }
 }
 
-/// What the words say.
+/// What the arguments say.
 #[derive(Clone, Copy)]
 struct Words {
     scenario: Scenario,
@@ -114,7 +114,7 @@ fn reference(id: u64) -> ForeignId {
     }
 }
 
-// Makes, sends and answers all that is due. Answers how many groups that were.
+// Makes, sends and answers all that is due. Returns how many groups that were.
 fn settle(clients: &mut Clients, alloc: Global) -> Result<u64, AllocError> {
     let groups = clients.due(alloc)?;
     for group in &groups {
@@ -136,7 +136,7 @@ fn held(alloc: Global, size: u64) -> Result<u64, AllocError> {
     Ok(answered)
 }
 
-// Holds as many references, and leases them. Answers how many groups that were.
+// Holds `size` references, and leases them. Returns how many groups that were.
 fn lease_all(clients: &mut Clients, alloc: Global, size: u64) -> Result<u64, AllocError> {
     for id in 0..size {
         clients.hold(&reference(id))?;

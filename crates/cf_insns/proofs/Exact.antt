@@ -1,4 +1,4 @@
--- Reading finds the one listing of code where there is one, and else what is wrong with the code.
+-- Reading finds the one listing of code if there is one, and else what is wrong with the code.
 use Rattle.std.proofs.Common.{◌≡◌, ℕ, zero, suc, ℤ, pos, negsuc, ◌+◌, ◌+ℤ◌, ◌≤◌, ◌⊎◌, inl, inr, eqb, eq-eqb, Bool, true, false, cond, List, [], ◌∷◌, ◌++◌, length, get_or, take, drop, Option, Some, None, Result, Ok, Err, IfOk, IfErr, MatchResult, refl, ap, sym, subst, ◌∙◌, arith, add-zero, length-take, length-append, append_assoc}
 use Rattle.std.specs.List.{AllByRecursion}
 use Rattle.std.proofs.Math.Seq.{drop-append_seam, take-append_seam}
@@ -74,7 +74,7 @@ listed_again : {offset : ℕ} {bytes : List ℕ} {listing : Listing} → Lists o
 listed_again nothing = nothing_again _
 listed_again (instruction spells rest) = front_again _ _ _ _ _ (again spells) (listed_again rest)
 
--- What is not read breaks a rule behind what is listed.
+-- What is not read breaks a rule after what is listed.
 
 broken : {offset opcode : ℕ} {operands : List ℕ} {rule : CodeRule} → Tells offset opcode operands (Err rule) → Breaks offset rule (opcode ∷ operands)
 broken (breaks rule bad) = bad
@@ -88,7 +88,7 @@ record BreaksBehind (offset : ℕ) (bytes : List ℕ) (rule : CodeRule) (at : �
   bad : Breaks at rule rest
   at_is : at ≡ offset + length before
 
--- either the first instruction breaks the rule, or one behind it
+-- either the first instruction breaks the rule, or one after it
 data FailsAt (offset : ℕ) (read : Result Spelled CodeRule) (rest : ℕ → Result Listing CodeFault) (rule : CodeRule) (at : ℕ) : Type 0 where
   here : read ≡ Err rule → at ≡ offset → FailsAt offset read rest rule at
   later : (s : Spelled) → read ≡ Ok s → rest s.operands ≡ Err (Broken rule at) → FailsAt offset read rest rule at
@@ -141,7 +141,7 @@ breaks_behind (suc k) offset (operand ∷ bytes) rule at is within =
     let moved : offset + 1 + k ≡ offset + suc k = omega arith in
     subst (λ o. BreaksBehind o (drop k bytes) rule at) moved (breaks_behind k (offset + 1) bytes rule at is (omega arith))
 
--- Where branches go.
+-- The targets of branches.
 
 begins_told : (offsets : List ℕ) (place : ℤ) → begins_at offsets place ≡ true → Begins offsets place
 begins_told offsets (pos n) is =
@@ -169,7 +169,7 @@ first_or : (test : Bool) (others : Option ℕ) (n : ℕ) (found : Option ℕ) �
 first_or true others n found is = inl (refl, is)
 first_or false others n found is = inr (refl, sym is)
 
--- none is astray where each lands
+-- none is astray if each lands
 none_astray : (offsets : List ℕ) (listing : Listing) → AllByRecursion (Lands offsets) listing → first_astray offsets listing ≡ None
 none_astray offsets [] land = refl
 none_astray offsets (entry ∷ listing) land =
@@ -309,7 +309,7 @@ begins_at_offset (instruction spells rest) = refl
 pub listing_begins : (code : List ℕ) (listing : Listing) → IsListing code listing → get_or (offsets listing) 0 0 ≡ 0
 listing_begins code listing is = begins_at_offset is.spelled
 
--- What a call that gives the reading ensures of its result, whose listing is seen by `items`.
+-- What a call ensures of its result if it gives the reading; `items` is the view of the listing.
 module _ {V : Type 0} (items : V → Listing) (code : List ℕ) where
   abbrev Gives : Result V CodeFault → Type 0
   Gives result = MatchResult result (λ listing. listings.reading code ≡ Ok (items listing)) (λ fault. Fails fault (listings.reading code))

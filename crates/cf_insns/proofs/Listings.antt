@@ -1,4 +1,4 @@
--- How the listing of code goes on behind an instruction.
+-- How the listing of code goes on after an instruction.
 use Rattle.std.proofs.Common.{◌≡◌, ℕ, zero, suc, ◌+◌, ◌<◌, ◌≤◌, List, [], ◌∷◌, ◌++◌, length, get_or, drop, Result, Ok, Err, refl, ap, sym, ◌∙◌, arith, add-zero, add-one, drop-cons, append_assoc, append-nil}
 use Rattle.std.proofs.lemmas.List.{drop-drop}
 use Rattle.std.proofs.Math.ListN.{drop_of_length-le}
@@ -23,7 +23,7 @@ listing_from-skipped (suc k) offset (byte ∷ bytes) =
     let moved : offset + 1 + k ≡ offset + suc k = omega arith in
     listing_from-skipped k (offset + 1) bytes ∙ ap (λ at. listing_from 0 at (drop k bytes)) moved
 
--- the listing of what stands behind an instruction and its operands
+-- the listing of what stands after an instruction and its operands
 abbrev pub behind : List ℕ → ℕ → ℕ → Result Listing CodeFault
 behind code at operands = listing_from 0 (at + (1 + operands)) (drop (at + (1 + operands)) code)
 
@@ -35,7 +35,7 @@ listed_same : (offset : ℕ) (read : Result Spelled CodeRule) (f g : ℕ → Res
 listed_same offset (Ok s) f g same = ap (with_front ((offset, s.insn) ∷ [])) (same s.operands)
 listed_same offset (Err rule) f g same = refl
 
--- an instruction stands in front of what is listed behind its operands
+-- the listing from an offset on is its instruction, and what is listed after the operands
 pub listing_from-at : (code : List ℕ) (at : ℕ) → at < length code
     → listing_from 0 at (drop at code) ≡ listed at (instruction at (get_or code at 0) (drop (at + 1) code)) (behind code at)
 listing_from-at code at within =
@@ -52,7 +52,7 @@ with_front-append front back (Ok listing) = ap Ok (append_assoc front back listi
 with_front-append front back (Err fault) = refl
 
 module _ (code : List ℕ) (at : ℕ) (operands : List ℕ) (within : at < length code) (operands_are : operands ≡ drop (at + 1) code) (front : Listing) where
-  -- what is read behind the front begins with what the opcode and the operands say
+  -- what is read after the front begins with what the opcode and the operands say
   read_here : with_front front (listing_from 0 at (drop at code)) ≡ with_front front (listed at (instruction at (get_or code at 0) operands) (behind code at))
   read_here = ap (with_front front) (listing_from-at code at within ∙ ap (λ bytes. listed at (instruction at (get_or code at 0) bytes) (behind code at)) (sym operands_are))
 

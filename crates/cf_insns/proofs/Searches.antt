@@ -24,7 +24,7 @@ offsets-at listing i = get_or-map (λ entry. entry.0) listing i (0, Nop)
 length-offsets : (listing : Listing) → length (offsets listing) ≡ length listing
 length-offsets listing = length-map listing (λ entry. entry.0)
 
--- a target that is a number begins an instruction where its number does
+-- a target that is a number begins an instruction if its number does
 pub begins_at-number : (offsets : List ℕ) (target : ℤ) (n : ℕ) → FitsUnsignedBits 64 target × (n ≡ nat_abs target) → list_any (λ offset. eqb offset n) offsets ≡ begins_at offsets target
 begins_at-number offsets (pos m) n h = rw h.1 refl
 begins_at-number offsets (negsuc m) n h = absurd h.0

@@ -72,7 +72,7 @@ signed_int_of-cut (a ∷ b ∷ []) h = refl
 signed_int_of-cut (a ∷ b ∷ c ∷ []) h = refl
 signed_int_of-cut (a ∷ b ∷ c ∷ d ∷ bytes) h = absurd (omega arith)
 
--- what is cut behind a number is cut
+-- what is cut after a number is cut
 through : {A : Type 0} (bytes : List ℕ) (f : ℤ → Result A CodeRule) → ((n : ℤ) → f n ≡ Err Cut) → (signed_int_of bytes >>= f) ≡ Err Cut
 through [] f behind = refl
 through (a ∷ []) f behind = refl
@@ -90,7 +90,7 @@ after_three : {A : Type 0} (one two three : Result ℤ CodeRule) (n m k : ℤ) (
     → (one >>= λ n. two >>= λ m. three >>= λ k. f n m k) ≡ f n m k
 after_three one two three n m k f one_is two_is three_is = rw (one_is, two_is, three_is) refl
 
--- bytes that end inside an instruction that some bytes complete
+-- bytes that end inside an instruction: some bytes more complete it
 pub completed : (offset opcode : ℕ) (bytes fill : List ℕ) → 0 < length fill → IsLaidOut offset (opcode ∷ bytes ++ fill) → Breaks offset Cut (opcode ∷ bytes)
 completed offset opcode bytes [] some laid = absurd (omega arith)
 completed offset opcode bytes (missing ∷ more) some laid = cut opcode missing bytes more laid
@@ -287,7 +287,7 @@ pub cases_again : {rows : List ℕ} {found : List SwitchCase} → AreCases rows 
 cases_again no_cases rest = refl
 cases_again (cases (int a b c d) (int e f g h) more) rest = ap (λ found. record { key = signed_int a b c d; branch = signed_int e f g h } ∷ found) (cases_again more rest)
 
--- the rows of so many numbers
+-- the rows of n numbers
 pub record Ints (n : ℕ) (bytes : List ℕ) : Type 0 where
   pub rows : List ℕ
   pub rest : List ℕ
@@ -313,7 +313,7 @@ ints_told (suc n) (a ∷ b ∷ c ∷ d ∷ bytes) le =
       many = ap (λ n. suc n) told.many;
     }
 
--- the rows of so many cases
+-- the rows of n cases
 pub record Cases (n : ℕ) (bytes : List ℕ) : Type 0 where
   pub rows : List ℕ
   pub rest : List ℕ

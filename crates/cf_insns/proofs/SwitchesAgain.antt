@@ -18,7 +18,7 @@ use Rattle.cf_insns.proofs.SwitchParts.{Table, table_length, table_rest, table_r
 reached : {A : Type 0} (operands : List ℕ) (end : ℕ) (cut found : A) → end ≤ length operands → cond (nat_lt (length operands) end) cut found ≡ found
 reached operands end cut found le = let test : nat_lt (length operands) end ≡ false = grind (arith, nat_tests) in rw test refl
 
--- so many, at least one
+-- a count of one at least
 some : {A : Type 0} (count n : ℕ) (none found : A) → count ≡ n + 1 → cond (eqb count 0) none found ≡ found
 some count n none found is = let test : eqb count 0 ≡ false = grind (arith, nat_tests) in rw test refl
 

@@ -87,7 +87,7 @@ module _ (offset : ℕ) (operands : List ℕ) (t : Lookup offset operands) where
     told : Cases n t.rest
     told = cases_told n t.rest (let all = lookup_length offset operands t in omega (arith, all))
 
-    -- as many cases as there are
+    -- npairs is the number of the cases
     many_are : IsInt t.npairs (pos (length (cases_of n t.rest)))
     many_are = subst (IsInt t.npairs) (n_is ∙ ap pos (sym told.many)) t.npairs_is
 

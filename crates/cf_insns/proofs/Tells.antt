@@ -33,14 +33,14 @@ use Rattle.cf_insns.proofs.SwitchParts.{completed, order, zeros, zeros_length}
 use Rattle.cf_insns.proofs.Told.{Tells, takes, breaks}
 use Rattle.cf_insns.proofs.SwitchesTell.{table_tells, lookup_tells}
 
--- an opcode of so many bytes of operands, and fewer behind it
+-- an opcode with n bytes of operands, and fewer after it
 short_of_operands : (offset opcode n : ℕ) (operands : List ℕ) → operand_count opcode ≡ Some n → length operands < n → Tells offset opcode operands (Err Cut)
 short_of_operands offset opcode n operands has few =
     let k = n - length operands in
     let filled : length (operands ++ zeros k) ≡ n = length-append operands (zeros k) ∙ omega (arith, zeros_length k) in
     breaks Cut (completed offset opcode operands (zeros k) (omega (arith, zeros_length k)) (fixed (operands ++ zeros k) (has ∙ ap Some (sym filled))))
 
--- the same behind wide
+-- the same after wide
 short_of_widened : (offset opcode n : ℕ) (operands : List ℕ) → widened_count opcode ≡ Some n → length operands < n → Tells offset op.WIDE (opcode ∷ operands) (Err Cut)
 short_of_widened offset opcode n operands has few =
     let k = n - length operands in
@@ -108,7 +108,7 @@ none_begins opcode out offset more insn spells =
     sym (out offset (read.operands ++ [])) ∙ ap (λ o. instruction offset o (read.operands ++ [])) opcode_is ∙ read.read [] in
     cc
 
--- and so with the byte behind it
+-- nor does any instruction begin with this opcode and the byte after it
 none_begins_two : (opcode second : ℕ) → ((offset : ℕ) (operands : List ℕ) → instruction offset opcode (second ∷ operands) ≡ Err OutOfProfile) → NoneBegins (opcode ∷ second ∷ [])
 none_begins_two opcode second out offset more insn spells =
     let read = again spells in
@@ -327,7 +327,7 @@ unfolding reading.wide
 wide_tells offset here [] = breaks Cut (completed offset op.WIDE [] (op.ILOAD ∷ zeros 2) (omega arith) (widened (zeros 2) refl))
 wide_tells offset here (opcode ∷ operands) = widened_tells offset opcode operands here
 
--- what is read of all bytes behind an opcode is so behind the one that it is
+-- reading by the group of an opcode, at the number that the opcode is
 read_at : (opcode n : ℕ) (group : ℕ → List ℕ → Result Spelled CodeRule) → opcode ≡ n → IsReadBy opcode (group opcode) → IsReadBy n (group n)
 read_at opcode n group is here = subst (λ n. IsReadBy n (group n)) is here
 

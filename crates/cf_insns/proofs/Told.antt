@@ -1,4 +1,4 @@
--- What is read of an instruction, told as the relations tell it.
+-- What is read of an instruction, in the terms of the relations.
 use Rattle.std.proofs.Common.{ℕ, ◌≤◌, List, ◌∷◌, length, take, Result, Ok, Err}
 use Rattle.cf_insns.specs.declared.fault.CodeRule.{CodeRule}
 use Rattle.cf_insns.specs.declared.insn.Insn.{Insn}

@@ -14,20 +14,20 @@ stands_alone n =
     || (n == op.IADD || (n == op.ISUB || (n == op.IMUL || (n == op.IDIV || (n == op.IREM || (n == op.INEG || (n == op.ISHL || (n == op.ISHR || (n == op.IUSHR || (n == op.IAND || (n == op.IOR || (n == op.IXOR
     || (within op.I2B op.I2S n || (n == op.IRETURN || (within op.ARETURN op.RETURN n || within op.ARRAYLENGTH op.ATHROW n))))))))))))))))))))
 
--- one byte of operands stands behind it
+-- one byte of operands stands after it
 abbrev pub has_one : ℕ → Bool
 has_one n = n == op.BIPUSH || (n == op.LDC || (n == op.ILOAD || (n == op.ALOAD || (n == op.ISTORE || (n == op.ASTORE || n == op.NEWARRAY)))))
 
--- two bytes stand behind it
+-- two bytes stand after it
 abbrev pub has_two : ℕ → Bool
 has_two n =
     n == op.SIPUSH || (n == op.LDC_W || (n == op.IINC || (within op.IFEQ op.GOTO n || (n == op.GETSTATIC || (within op.GETFIELD op.INVOKESTATIC n || (n == op.NEW || (within op.CHECKCAST op.INSTANCEOF n || within op.IFNULL op.IFNONNULL n)))))))
 
--- four bytes stand behind it
+-- four bytes stand after it
 abbrev pub has_four : ℕ → Bool
 has_four n = n == op.INVOKEINTERFACE || n == op.GOTO_W
 
--- how many bytes of operands stand behind an opcode of the profile that always has as many
+-- how many bytes of operands stand after an opcode of the profile, if it always has the same number
 abbrev pub operand_count : ℕ → Option ℕ
 operand_count n =
     if stands_alone n then Some 0
@@ -36,7 +36,7 @@ operand_count n =
     else (if has_four n then Some 4
     else None)))
 
--- how many stand behind an opcode that wide widens
+-- how many stand after an opcode that wide widens
 abbrev pub widened_count : ℕ → Option ℕ
 widened_count n =
     if n == op.ILOAD || (n == op.ALOAD || (n == op.ISTORE || n == op.ASTORE)) then Some 2
@@ -48,21 +48,21 @@ pub record IsPadding (offset : ℕ) (padding : List ℕ) : Type 0 where
   pub few : length padding ≤ 3
   pub aligned : (offset + 1 + length padding) % 4 ≡ 0
 
--- how many bytes of padding stand behind an opcode at an offset
+-- how many bytes of padding stand after an opcode at an offset
 abbrev pub padding_length : ℕ → ℕ
 padding_length offset = 3 - offset % 4
 
--- how many ints there are from a lowest one to the one that is as far above it: none where that is below
+-- how many ints there are from a lowest one to one at this distance above it: none if the distance is negative
 abbrev pub counted : ℤ → ℕ
 counted (pos n) = n + 1
 counted (negsuc n) = 0
 
--- as many, where a count is not negative
+-- the number that a count says, 0 if it is negative
 abbrev pub count_of : ℤ → ℕ
 count_of (pos n) = n
 count_of (negsuc n) = 0
 
--- the bytes are as many as an instruction at this offset of the code has
+-- the bytes have the length of an instruction at this offset of the code
 pub data IsLaidOut : ℕ → List ℕ → Type 0 where
   fixed : {offset opcode : ℕ} (operands : List ℕ) → operand_count opcode ≡ Some (length operands) → IsLaidOut offset (opcode ∷ operands)
   widened : {offset opcode : ℕ} (operands : List ℕ) → widened_count opcode ≡ Some (length operands) → IsLaidOut offset (op.WIDE ∷ opcode ∷ operands)

@@ -1,4 +1,4 @@
--- 'Multibyte data items are always stored in big-endian order, where the high bytes come first' (JVMS 4, 6.1): the numbers behind an opcode,
+-- 'Multibyte data items are always stored in big-endian order, where the high bytes come first' (JVMS 4, 6.1): the numbers after an opcode,
 -- of one, two or four bytes. Signed ones are in two's complement.
 use Rattle.std.specs.Prelude.{ℕ, ℤ, List, [], ◌∷◌, ◌++◌, Result, Ok, Err}
 use Rattle.std.specs.Int.{w8, w16, w32, cast_signed}
@@ -34,7 +34,7 @@ pub data AreCases : List ℕ → List SwitchCase → Type 0 where
   cases : {key branch rest : List ℕ} {k b : ℤ} {more : List SwitchCase} → IsInt key k → IsInt branch b → AreCases rest more
       → AreCases (key ++ (branch ++ rest)) (record { key = k; branch = b } ∷ more)
 
--- The operand at the front of the bytes, where they do not end inside it.
+-- The operand at the front of the bytes, if they do not end inside it.
 
 abbrev pub byte_of : List ℕ → Result ℕ CodeRule
 byte_of [] = Err Cut

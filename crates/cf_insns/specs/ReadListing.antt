@@ -1,5 +1,5 @@
--- What is read of the bytes of code from the left: instructions, or the first rule that is broken: the code's way of reading. That it is the
--- relation `IsListing`, and that a rule is broken where it says so, are laws.
+-- What is read of the bytes of code from the left, as the code of this crate reads them: instructions, or the first broken rule. Laws say
+-- that this is the relation `IsListing`, and that a rule is broken at the offset that is named.
 use Rattle.std.specs.Prelude.{◌≡◌, ◌++◌, ℕ, zero, suc, ◌+◌, List, [], ◌∷◌, Option, Some, None, Result, Ok, Err}
 use Rattle.cf_insns.specs.declared.fault.CodeRule.{CodeRule}
 use Rattle.cf_insns.specs.declared.fault.CodeRule.TheVariants.{Target}
@@ -9,17 +9,17 @@ use Rattle.cf_insns.specs.declared.reading.Spelled.{Spelled}
 use Rattle.cf_insns.specs.Listing.{Listing, offsets, first_astray}
 use Rattle.cf_insns.specs.Reading.{instruction, ◌>>=◌}
 
--- an entry before the listing of what comes behind it
+-- an entry before the listing of what comes after it
 abbrev pub with_front : Listing → Result Listing CodeFault → Result Listing CodeFault
 with_front front (Ok listing) = Ok (front ++ listing)
 with_front front (Err fault) = Err fault
 
--- the listing of an instruction at an offset and of what comes behind its operands
+-- the listing of an instruction at an offset and of what comes after its operands
 abbrev pub listed : ℕ → Result Spelled CodeRule → (ℕ → Result Listing CodeFault) → Result Listing CodeFault
 listed offset (Ok s) behind = with_front ((offset, s.insn) ∷ []) (behind s.operands)
 listed offset (Err rule) behind = Err (Broken rule offset)
 
--- the listing of the bytes from an offset on, of which so many are operands of the instruction before
+-- the listing of the bytes from an offset on, of which the first `skipped` are operands of the instruction before
 unfoldable pub listing_from : ℕ → ℕ → List ℕ → Result Listing CodeFault
 listing_from skipped offset [] = Ok []
 listing_from zero offset (opcode ∷ bytes) =
@@ -31,7 +31,7 @@ abbrev pub if_none_astray : Listing → Option ℕ → Result Listing CodeFault
 if_none_astray listing None = Ok listing
 if_none_astray listing (Some offset) = Err (Broken Target offset)
 
--- all instructions first, and then where the branches go
+-- all instructions first, and then the targets of branches
 unfoldable pub reading : List ℕ → Result Listing CodeFault
 reading code = listing_from 0 0 code >>= λ listing. if_none_astray listing (first_astray (offsets listing) listing)
 

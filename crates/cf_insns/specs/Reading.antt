@@ -1,5 +1,5 @@
--- What is read of the bytes of one instruction from the left, or the first rule that they break: the code's way of reading. That it is the
--- relation `Spells`, and that a rule is broken where it says so, are laws.
+-- What is read of the bytes of one instruction from the left, as the code of this crate reads them, or the first rule that they break. Laws
+-- say that this is the relation `Spells`, and that the rule is broken.
 use Rattle.std.specs.Prelude.{ℕ, suc, ◌+◌, ◌-◌, ◌*◌, ℤ, pos, negsuc, ◌-ℤ◌, ◌&&◌, nat_le, nat_lt, ◌==◌, if◌then◌else◌, Bool, true, List, [], ◌∷◌, drop, length, Option, Some, None, Result, Ok, Err, ok_or, int_lt}
 use Rattle.cf_insns.specs.declared.fault.CodeRule.{CodeRule}
 use Rattle.cf_insns.specs.declared.fault.CodeRule.TheVariants.{Opcode, Cut, Padding, Keys, OutOfProfile}
@@ -32,11 +32,11 @@ abbrev pub ◌>>=◌ : {A B E : Type 0} → Result A E → (A → Result B E) �
 (Ok x) >>= f = f x
 (Err e) >>= f = Err e
 
--- an instruction with its number of bytes behind the opcode
+-- an instruction with its number of bytes after the opcode
 abbrev pub spelled : Insn → ℕ → Result Spelled CodeRule
 spelled insn operands = Ok (record { insn = insn; operands = operands })
 
--- The groups of the opcode table (JVMS 7), each with the bytes behind the opcode.
+-- The groups of the opcode table (JVMS 7), each with the bytes after the opcode.
 
 unfoldable pub constant : ℕ → List ℕ → Result Spelled CodeRule
 constant opcode operands =
@@ -216,12 +216,12 @@ plain opcode operands =
 
 -- The switches.
 
--- the numbers at the front, so many
+-- the first n numbers
 abbrev pub ints_of : ℕ → List ℕ → List ℤ
 ints_of (suc n) (a ∷ b ∷ c ∷ d ∷ rest) = signed_int a b c d ∷ ints_of n rest
 ints_of _ _ = []
 
--- the cases at the front, so many
+-- the first n cases
 abbrev pub cases_of : ℕ → List ℕ → List SwitchCase
 cases_of (suc n) (a ∷ b ∷ c ∷ d ∷ e ∷ f ∷ g ∷ h ∷ rest) = record { key = signed_int a b c d; branch = signed_int e f g h } ∷ cases_of n rest
 cases_of _ _ = []
@@ -236,7 +236,7 @@ keys_rise (one ∷ other ∷ cases) = int_lt one.key other.key && keys_rise (oth
 abbrev pub rows_end : ℕ → List ℕ → Result ℕ CodeRule
 rows_end end operands = if nat_lt (length operands) end then Err Cut else Ok end
 
--- a table of so many branches, from an index of the operands on, and where they end
+-- a table of `count` branches, from an index of the operands on, and its end
 abbrev pub table_rows : ℕ → ℤ → ℤ → ℕ → List ℕ → Result Spelled CodeRule
 table_rows from default low count operands = rows_end (from + 4 * count) operands >>= λ end.
     if count == 0 then Err Keys else spelled (TableSwitch default low (ints_of count (drop from operands))) end
@@ -248,11 +248,11 @@ table_switch offset operands =
     signed_int_of (drop (padding_length offset + 8) operands) >>= λ high.
     table_rows (padding_length offset + 12) default low (counted (high -ℤ low)) operands
 
--- cases, where their keys rise
+-- the cases if their keys rise, else a fault
 abbrev pub sorted : ℤ → List SwitchCase → ℕ → Result Spelled CodeRule
 sorted default cases end = if keys_rise cases then spelled (LookupSwitch default cases) end else Err Keys
 
--- so many cases, from an index of the operands on, and where they end
+-- `count` cases, from an index of the operands on, and their end
 abbrev pub lookup_rows : ℕ → ℤ → ℤ → List ℕ → Result Spelled CodeRule
 lookup_rows from default (pos count) operands = rows_end (from + 8 * count) operands >>= λ end. sorted default (cases_of count (drop from operands)) end
 lookup_rows from default (negsuc count) operands = Err Keys
@@ -263,7 +263,7 @@ lookup_switch offset operands =
     signed_int_of (drop (padding_length offset + 4) operands) >>= λ count.
     lookup_rows (padding_length offset + 8) default count operands
 
--- the instruction at an offset, of its opcode and the bytes behind it
+-- the instruction at an offset, of its opcode and the bytes after it
 unfoldable pub instruction : ℕ → ℕ → List ℕ → Result Spelled CodeRule
 instruction offset opcode operands =
     if opcode == op.TABLESWITCH then table_switch offset operands

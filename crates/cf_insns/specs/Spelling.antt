@@ -1,5 +1,5 @@
--- 'The format of an instruction: the mnemonic is the opcode, and its operands follow' (JVMS 6.1, 6.5): how instructions are spelled, a rule a
--- form. Some have several spellings. A switch is spelled by its offset, which says where its padding ends.
+-- 'The format of an instruction: the mnemonic is the opcode, and its operands follow' (JVMS 6.1, 6.5): how instructions are spelled, a rule
+-- a form. Some have several spellings. The spelling of a switch depends on its offset, which decides the length of its padding.
 use Rattle.std.specs.Prelude.{◌≡◌, ℕ, ◌+◌, ◌≤◌, ℤ, pos, ◌-ℤ◌, ◌<ℤ◌, List, [], ◌∷◌, ◌++◌, length}
 use Rattle.cf_insns.specs.declared.insn.Insn.{Insn}
 use Rattle.cf_insns.specs.declared.insn.Insn.TheVariants.{Nop, Null, Constant, LoadConstant, Load, Store, Increment, Stack, Unary, Binary, Array, If, IfCompare, IfSame, IfNull, Goto, TableSwitch, LookupSwitch, ReturnValue, Return, Throw, Field, Invoke, InvokeInterface, Class}
@@ -65,7 +65,7 @@ pub data Spells : ℕ → List ℕ → Insn → Type 0 where
       → IsPadding offset padding → IsInt default d → IsInt low l → IsInt high h → AreInts rows branches
       → h -ℤ l ≡ pos n → length branches ≡ n + 1
       → Spells offset (op.TABLESWITCH ∷ padding ++ (default ++ (low ++ (high ++ rows)))) (TableSwitch d l branches)
-  -- as many cases as npairs says, their keys rising
+  -- npairs cases, their keys rising
   lookupswitch : {offset : ℕ} {padding default npairs rows : List ℕ} {d : ℤ} {cases : List SwitchCase}
       → IsPadding offset padding → IsInt default d → IsInt npairs (pos (length cases)) → AreCases rows cases → KeysRise cases
       → Spells offset (op.LOOKUPSWITCH ∷ padding ++ (default ++ (npairs ++ rows))) (LookupSwitch d cases)

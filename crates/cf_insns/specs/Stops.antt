@@ -7,7 +7,7 @@ use Rattle.cf_insns.specs.declared.reading.Spelled.{Spelled}
 use Rattle.cf_insns.specs.declared.reading.Stop.{Stop}
 use Rattle.cf_insns.specs.declared.reading.Stop.TheVariants.{Broken, Memory}
 
--- a rule is the one that what is read names, unless memory ran out
+-- the rule is the one that the reading names, unless memory ran out
 abbrev pub Stops : Stop → Result Spelled CodeRule → Type 0
 Stops Memory read = Unit {0}
 Stops (Broken rule) read = read ≡ Err rule

@@ -77,7 +77,7 @@ pub(crate) fn control(opcode: u8, operands: &[u8]) -> Result<Spelled, CodeRule>
     }
 }
 
-// What wide makes of an opcode, whose operands stand behind it: the first operand is the opcode.
+// What wide makes of an opcode and its operands: the first of wide's operands is that opcode.
 #[tactic(auto, unfolding(crate::specs::Reading::wide))]
 fn wide(operands: &[u8]) -> Result<Spelled, CodeRule>
     ensures exact { result ≡ spec.wide operands.now }

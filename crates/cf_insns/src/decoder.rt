@@ -23,7 +23,7 @@ fn fault_at(offset: u16, stop: Stop) -> CodeFault
     }
 }
 
-// The instructions from the first byte to the last, or the first rule that is broken.
+// The instructions from the first byte to the last, or the first broken rule.
 fn listing_of(alloc: Global, code: &[u8]) -> Result<Vec<(u16, Insn)>, CodeFault>
     requires { length code.now ≤ 65535 }
     ensures exact { MatchResult result (λ listing. listing_from 0 0 code.now ≡ Ok listing.items) (λ fault. Fails fault (listing_from 0 0 code.now)) }
@@ -131,7 +131,7 @@ fn first_astray(listing: &[(u16, Insn)]) -> Option<u16>
     None
 }
 
-// The listing, or the first rule that is broken: all bytes are read before a target is looked at.
+// The listing, or the first broken rule: all bytes are read before a target is looked at.
 #[tactic(auto, unfolding(crate::specs::ReadListing::reading))]
 fn listing_with_targets(alloc: Global, code: &[u8]) -> Result<Vec<(u16, Insn)>, CodeFault>
     requires { length code.now ≤ 65535 }
@@ -148,15 +148,15 @@ fn listing_with_targets(alloc: Global, code: &[u8]) -> Result<Vec<(u16, Insn)>, 
     }
 }
 
-/// The instructions of a method's code with their offsets, in order.
+/// Returns the instructions of a method's code with their offsets, in order.
 ///
-/// The fault that is answered is that of the first instruction at fault. Its opcode decides first
-/// (`Opcode`, `OutOfProfile`), then the end of the code inside it (`Cut`), then its operands
-/// (`Padding`, `Keys`). Where branches go (`Target`) is looked at when all instructions are read.
+/// The fault is that of the first instruction at fault. Its opcode decides first (`Opcode`,
+/// `OutOfProfile`), then the end of the code inside it (`Cut`), then its operands (`Padding`,
+/// `Keys`). The targets of branches (`Target`) are looked at after all instructions are read.
 pub fn decode(alloc: Global, code: &[u8]) -> Result<Vec<(u16, Insn)>, CodeFault>
     requires { length code.now ≤ 65535 }
 
-    // What is Ok is the listing of the code. Where there is one, only memory can be wanting.
+    // What is Ok is the listing of the code. If there is one, the only fault is out of memory.
     ensures found { IfOk result (λ listing. IsListing code.now listing.items) }
     ensures only { (listing : Listing) → IsListing code.now listing → MatchResult result (λ found. found.items ≡ listing) (λ fault. fault ≡ CodeFault.Memory) }
 

@@ -1,4 +1,4 @@
-//! Faults of decoding: the rule that is broken, and the instruction that breaks it.
+//! Faults of decoding: the broken rule, and the instruction that breaks it.
 
 ghost use Rattle.std.specs.Prelude.{◌≡◌, Some};
 ghost use Rattle.cf_insns.specs.declared.fault.CodeFault.TheVariants.{Memory};
@@ -12,15 +12,16 @@ use thiserror::Error;
 /// A rule on the bytes of a method's code (JVMS 4.9.1, 6.5) or of this project's profile.
 #[derive(Clone, Copy, Debug, PartialEq, Eq, Error)]
 pub enum CodeRule {
-    /// The opcode is none: 202 to 255.
+    /// The byte is no opcode of the standard: 202 to 255.
     Opcode = 20,
     /// The code ends inside the instruction.
     Cut = 21,
-    /// A byte that has to be 0 is not.
+    /// The fourth operand of invokeinterface is not 0.
     Padding = 22,
-    /// The keys of a switch are not as they have to be.
+    /// A tableswitch has its lowest key above its highest, or a lookupswitch a negative number of
+    /// cases or keys that do not rise.
     Keys = 23,
-    /// A branch goes to no instruction's first byte.
+    /// A branch goes to an offset that is not the first byte of an instruction.
     Target = 24,
     /// The instruction is not in this project's profile.
     OutOfProfile = 25,

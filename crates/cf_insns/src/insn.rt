@@ -108,7 +108,7 @@ pub struct SwitchCase {
 
 /// An instruction as the code spells it. Short, long and wide forms of one instruction are one
 /// variant. A branch counts from the instruction's own offset. An `index` is one of the constant
-/// pool of the class, and so is the number behind an operation or a kind of invoking.
+/// pool of the class, and so is the number that comes with an operation or a kind of invoking.
 #[derive(Debug, Drop)]
 pub enum Insn {
     /// nop.

@@ -10,8 +10,8 @@ pub fn one_listing()
     ensures { (code : List ℕ) (one other : Listing) → IsListing code one → IsListing code other → one ≡ other }
 {}
 
-/// No spelling of an instruction at an offset begins a spelling of another one there, or a longer one of
-/// its own.
+/// No spelling of an instruction at an offset is the front of a spelling of another one there, or
+/// of a longer spelling of its own.
 pub fn one_spelling()
     ensures { (offset : ℕ) (one other rest more : List ℕ) (insn others : Insn) → Spells offset one insn → Spells offset other others → one ++ rest ≡ other ++ more → (one ≡ other) × (insn ≡ others) }
 {}

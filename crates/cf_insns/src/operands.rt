@@ -1,6 +1,6 @@
-//! The numbers behind an opcode: signed ones in two's complement, the high byte first.
+//! The numbers after an opcode: signed ones in two's complement, the high byte first.
 //!
-//! Each function reads the operand that begins at an index of the bytes behind the opcode, or says
+//! Each function reads the operand that begins at an index of the bytes after the opcode, or says
 //! that the code ends inside it.
 
 ghost use Rattle.std.specs.Prelude.{◌≡◌, ◌+◌, ◌≤◌, length, drop, IfOk};
@@ -50,7 +50,7 @@ pub(crate) fn signed_int(operands: &[u8], at: usize) -> Result<i32, CodeRule>
     Ok(int_at(operands, at))
 }
 
-// The signed number of four bytes at an index from which the code goes on for as many.
+// The signed number of four bytes at an index. The caller owes that the code has four bytes there.
 pub(crate) fn int_at(operands: &[u8], at: usize) -> i32
     requires { at + 4 ≤ length operands.now }
     ensures { signed_int_of (drop at operands.now) ≡ Ok result }

@@ -11,7 +11,7 @@ use super::values::{constant, conversion, load, math, stack_operation, store};
 use super::{CodeRule, Insn, opcode as op};
 use std::alloc::{AllocError, AllocFailed, Global};
 
-// An instruction, and how many bytes of its spelling stand behind the opcode.
+// An instruction, and how many bytes of its spelling stand after the opcode.
 #[derive(Debug, Drop)]
 pub(crate) struct Spelled {
     pub(crate) insn: Insn,
@@ -88,7 +88,7 @@ fn plain(opcode: u8, operands: &[u8]) -> Result<Spelled, CodeRule>
     }
 }
 
-// The instruction at an offset, of its opcode and the bytes behind it, or the first rule that they
+// The instruction at an offset, of its opcode and the bytes after it, or the first rule that they
 // break.
 #[tactic(auto, unfolding(crate::specs::Reading::instruction))]
 pub(crate) fn instruction(

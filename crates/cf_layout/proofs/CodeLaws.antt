@@ -83,7 +83,7 @@ code_tells bytes attribute =
 
 -- ---- StackMapTable
 
--- what follows where the look has not ended
+-- what follows if the look has not ended
 abbrev behind : (ℕ → Result (Option ℕ) ReadFault) → Option ℕ → Result (Option ℕ) ReadFault
 behind next None = Ok None
 behind next (Some at) = next at

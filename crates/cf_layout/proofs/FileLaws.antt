@@ -1,4 +1,4 @@
--- The layout of a class file is read exactly where its format stands.
+-- The layout of a class file is read exactly if its format stands.
 use Rattle.std.proofs.Common.{◌≡◌, ◌&&◌, ℕ, Bool, true, false, cond, eqb, leb, List, length, Result, Ok, Err, refl, ap, subst}
 use Rattle.std.specs.Prelude.{IfErr, IfOk}
 use Rattle.cf_text.specs.declared.fault.Rule.{Rule}

@@ -1,11 +1,11 @@
--- Looking through one after the other, as a loop does.
+-- Looking through items one after the other, as a loop does.
 use Rattle.std.proofs.Common.{◌≡◌, ℕ, suc, ◌+◌, ◌-◌, ◌<◌, ◌≤◌, Option, Some, None, Result, Ok, refl, sym, ◌∙◌, arith}
 use Rattle.cf_text.specs.declared.fault.ReadFault.{ReadFault}
 use Rattle.cf_text.specs.declared.fault.ReadFault.TheVariants.{Broken, Memory}
 use Rattle.cf_text.specs.Reading.{Fails}
 use Rattle.cf_layout.specs.Codes.{and_then, skim_many}
 
--- Of so many, `done` were looked through.
+-- Of `count` items `done` were looked through.
 module _ (skim : ℕ → Result (Option ℕ) ReadFault) (count done at : ℕ) (all : Result (Option ℕ) ReadFault) (so_far : skim_many skim (count - done) at ≡ all) where
   skim-next : done < count → all ≡ and_then (skim at) (skim_many skim (count - (done + 1)))
   unfolding skim_many

@@ -43,7 +43,7 @@ code_head_look bytes at = do
   length ← standing (number_format 4 bytes) max_locals.1
   known (record { max_stack = max_stack.0; max_locals = max_locals.0; length_at = max_locals.1; length = length.0; code = length.1 })
 
--- the code, the exception table of eight bytes an entry, and attributes, with where they end
+-- the code, the exception table of eight bytes an entry, and attributes, with their end
 unfoldable pub code_rest_look : List ℕ → CodeHead → Look (CodeLayout × ℕ)
 code_rest_look bytes head = do
   code_end ← passing head.length bytes head.code
@@ -66,7 +66,7 @@ code_look bytes attribute = do
   _ ← keeping (nat_le 1 head.length && nat_le head.length 65535) rules.CodeLength head.length_at
   filling attribute (code_inside (take attribute.end bytes) head attribute.end)
 
--- ---- StackMapTable: how far it reaches, or none from a reserved tag on, or from an item's tag above 8 on
+-- ---- StackMapTable: its end, or none if a reserved tag, or an item's tag above 8, ends the look
 
 -- an item: a tag, and after 7 and 8 two bytes
 unfoldable pub item_look : List ℕ → ℕ → Look (Option ℕ)
@@ -76,7 +76,7 @@ item_look bytes at = do
     to ← passing 2 bytes tag.1
     known (Some to)) (known None))
 
--- after one part another one, where the first has an end
+-- one part, and if it has an end, a second one after it
 abbrev pub behind_some : (ℕ → Look (Option ℕ)) → Option ℕ → Look (Option ℕ)
 behind_some next None = known None
 behind_some next (Some at) = next at
@@ -84,7 +84,7 @@ behind_some next (Some at) = next at
 abbrev pub going_on : Look (Option ℕ) → (ℕ → Look (Option ℕ)) → Look (Option ℕ)
 going_on one next = one >>= behind_some next
 
--- so many, one after the other
+-- n of one look, one after the other
 unfoldable pub many_looks : (ℕ → Look (Option ℕ)) → ℕ → ℕ → Look (Option ℕ)
 many_looks look zero at = known (Some at)
 many_looks look (suc n) at = going_on (look at) (many_looks look n)
@@ -95,7 +95,7 @@ items_look bytes at = do
   count ← standing (number_format 2 bytes) at
   many_looks (item_look bytes) count.0 count.1
 
--- after a frame's tag and its offset: one item, none, so many locals, or all locals and operands
+-- after a frame's tag and its offset: one item, none, one to three locals, or all locals and operands
 unfoldable pub lists_look : ℕ → List ℕ → ℕ → Look (Option ℕ)
 lists_look tag bytes at =
     choosing (tag == 247) (many_looks (item_look bytes) 1 at)
@@ -131,7 +131,7 @@ table_look bytes attribute = filling attribute (table_inside (take attribute.end
 
 -- ---- all of them
 
--- what stands inside each attribute, were it of the kind, or how nothing does
+-- what stands inside an attribute, if it is of the kind, or how its bytes fail to spell it
 pub record Insides : Type 0 where
   pub constant : Attribute → Result Item ReadFault
   pub table : Attribute → Result (Unit {0}) ReadFault

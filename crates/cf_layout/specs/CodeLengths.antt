@@ -3,7 +3,7 @@ use Rattle.std.specs.Prelude.{◌≡◌, ◌≤◌, ◌+◌, ◌-◌}
 use Rattle.cf_layout.specs.declared.items.CodeHead.{CodeHead}
 use Rattle.cf_layout.specs.declared.items.CodeLayout.{CodeLayout}
 
--- the code stands after this head, and ends as many bytes after it begins as the head says
+-- the code begins after this head, and its length is the one in the head
 pub record EndsAfter (front : CodeHead) (code : CodeLayout) : Type 0 where
   pub head : code.head ≡ front
   pub end : code.code_end ≡ front.code + front.length

@@ -43,14 +43,14 @@ code_filling bytes head end = do
   _ ← keeps (rest.1 == end) rules.AttributeLength rest.1
   Ok rest.0
 
--- The layout of a Code attribute. Where its code has a wrong length, the rest is not looked at.
+-- The layout of a Code attribute. If its code has a wrong length, the rest is not looked at.
 unfoldable pub code_of : List ℕ → Attribute → Result CodeLayout ReadFault
 code_of bytes attribute = do
   head ← blamed attribute.name.at (code_head_at (take attribute.end bytes) attribute.body)
   _ ← keeps (nat_le 1 head.length && nat_le head.length 65535) rules.CodeLength head.length_at
   blamed attribute.name.at (code_filling (take attribute.end bytes) head attribute.end)
 
--- ---- StackMapTable: how far it reaches, or none where a reserved tag, or an item's tag above 8, ends the look
+-- ---- StackMapTable: its end, or none if a reserved tag, or an item's tag above 8, ends the look
 
 unfoldable pub skim_item : List ℕ → ℕ → Result (Option ℕ) ReadFault
 skim_item bytes at = do
@@ -59,13 +59,13 @@ skim_item bytes at = do
     to ← skip_at 2 bytes tag.1
     Ok (Some to)) else Ok None
 
--- goes on where the look has not ended
+-- goes on if the look has not ended
 abbrev pub and_then : Result (Option ℕ) ReadFault → (ℕ → Result (Option ℕ) ReadFault) → Result (Option ℕ) ReadFault
 and_then (Ok (Some at)) next = next at
 and_then (Ok None) next = Ok None
 and_then (Err fault) next = Err fault
 
--- so many, one after the other
+-- n of one skim, one after the other
 unfoldable pub skim_many : (ℕ → Result (Option ℕ) ReadFault) → ℕ → ℕ → Result (Option ℕ) ReadFault
 skim_many skim zero at = Ok (Some at)
 skim_many skim (suc n) at = and_then (skim at) (skim_many skim n)

@@ -9,13 +9,13 @@ use Rattle.cf_layout.specs.declared.items.Member.{Member}
 use Rattle.cf_layout.specs.declared.items.Layout.{Layout}
 use Rattle.cf_layout.specs.Layouts.{max_length}
 
--- a number of two bytes, and where it stands
+-- a number of two bytes, and its position
 unfoldable pub item_format : List ℕ → ℕ → Format Item
 item_format bytes at = do
   number ← number_format 2 bytes
   done (record { at = at; value = number.0 })
 
--- an attribute: its name, its length, and so many bytes, which are one item
+-- an attribute: its name, its length, and that many bytes, which are one item
 unfoldable pub attribute_format : List ℕ → ℕ → Format Attribute
 attribute_format bytes at = do
   name ← item_format bytes at

@@ -16,13 +16,13 @@ use Rattle.cf_layout.specs.declared.items.Layout.{Layout}
 abbrev pub between : List ℕ → ℕ → ℕ → List ℕ
 between bytes from to = drop from (take to bytes)
 
--- a number of two bytes, and where it stands
+-- a number of two bytes, and its position
 unfoldable pub item_at : List ℕ → ℕ → Result (Item × ℕ) ReadFault
 item_at bytes at = do
   number ← number_at 2 bytes at
   Ok (record { at = at; value = number.0 }, number.1)
 
--- an attribute: its name, its length, and so many bytes, which are one item
+-- an attribute: its name, its length, and that many bytes, which are one item
 unfoldable pub attribute_at : List ℕ → ℕ → Result (Attribute × ℕ) ReadFault
 attribute_at bytes at = do
   name ← item_at bytes at

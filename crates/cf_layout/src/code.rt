@@ -84,9 +84,9 @@ fn code_of(alloc: Global, bytes: &[u8], attribute: Attribute) -> Result<CodeLayo
     )
 }
 
-/// The layout of a Code attribute. A code that is empty or longer than 65,535 bytes is CodeLength at
-/// its length, and nothing after it is looked at; a Code that does not fill its length exactly is
-/// AttributeLength at its name index.
+/// Returns the layout of a Code attribute. A code that is empty or longer than 65,535 bytes is
+/// CodeLength at its length, and nothing after it is looked at; a Code that does not fill its
+/// length exactly is AttributeLength at its name index.
 pub fn read_code(alloc: Global, bytes: &[u8], attribute: Attribute) -> Result<CodeLayout, ReadFault>
     // What is read stands there, what stands there is read, and a fault is one of what stands there.
     ensures found { IfOk result (code_look bytes.now attribute).Is }
@@ -216,10 +216,10 @@ fn table_of(bytes: &[u8], attribute: Attribute) -> Result<(), ReadFault>
     )
 }
 
-/// A StackMapTable that does not fill its length exactly is AttributeLength at its name index. It is
-/// looked through up to its first reserved tag, or its first item of a tag above 8.
+/// Returns Ok if a StackMapTable fills its length exactly, else AttributeLength at its name index.
+/// It looks through the table up to its first reserved tag, or its first item of a tag above 8.
 pub fn check_table(bytes: &[u8], attribute: Attribute) -> Result<(), ReadFault>
-    // It is Ok where the table fills its length, and there alone; a fault is one of what stands there.
+    // It is Ok exactly if the table fills its length; a fault is one of what stands there.
     ensures found { IfOk result (table_look bytes.now attribute).Is }
     ensures only { (table_look bytes.now attribute).Is tt → Gives (Ok tt) result }
     ensures fault { IfErr result (MissesBy (table_look bytes.now attribute)) }

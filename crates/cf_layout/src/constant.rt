@@ -31,8 +31,8 @@ fn constant_of(bytes: &[u8], attribute: Attribute) -> Result<Item, ReadFault>
     )
 }
 
-/// A ConstantValue's index (JVMS 4.7.2), which is not followed. One that does not fill its length is
-/// AttributeLength at its name index.
+/// Returns a ConstantValue's index (JVMS 4.7.2), which is not followed. One that does not fill its
+/// length is AttributeLength at its name index.
 pub fn read_constant(bytes: &[u8], attribute: Attribute) -> Result<Item, ReadFault>
     // What is read stands there, what stands there is read, and a fault is one of what stands there.
     ensures found { IfOk result (constant_look bytes.now attribute).Is }

@@ -1,4 +1,4 @@
-//! The bytes inside an attribute, and where a fault in them is told.
+//! The bytes inside an attribute, and the position of a fault in them.
 
 ghost use Rattle.std.specs.Prelude.{◌≡◌, ◌-◌, ◌≤◌, IfOk, length, take};
 ghost use Rattle.cf_text.specs.Reading.{Gives};
@@ -19,8 +19,8 @@ pub(crate) fn up_to(bytes: &[u8], end: usize) -> &[u8]
     }
 }
 
-/// The bytes between two positions: those from `from` on that stand before `to`, up to the last of all.
-/// The only fault is out of memory.
+/// Returns the bytes from `from` on that stand before `to`, up to the last of all. The only fault
+/// is out of memory.
 pub fn between(alloc: Global, bytes: &[u8], from: usize, to: usize) -> Result<Row<u8>, ReadFault>
     ensures exact { Gives (Ok (between bytes.now from to)) result }
     ensures within { IfOk result (λ part. length part ≤ to - from) }

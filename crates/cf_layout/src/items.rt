@@ -2,14 +2,15 @@
 
 use cf_pool::{PoolLayout, Table};
 
-/// A number of two bytes, and where it stands.
+/// A number of two bytes, and its position.
 #[derive(Clone, Copy, Debug, PartialEq, Eq)]
 pub struct Item {
     pub at: usize,
     pub value: u16,
 }
 
-/// An attribute (JVMS 4.7): its name, and where the bytes after its length begin and end.
+/// An attribute (JVMS 4.7): its name, and the positions at which the bytes after its length begin
+/// and end.
 #[derive(Clone, Copy, Debug, PartialEq, Eq)]
 pub struct Attribute {
     pub name: Item,
@@ -49,7 +50,7 @@ pub struct CodeHead {
     pub max_locals: u16,
     pub length_at: usize,
     pub length: u32,
-    /// Where the code begins.
+    /// The position of the code's first byte.
     pub code: usize,
 }
 
@@ -57,7 +58,7 @@ pub struct CodeHead {
 #[derive(Debug, Drop)]
 pub struct CodeLayout {
     pub head: CodeHead,
-    /// Where the code ends.
+    /// The position after the code's last byte.
     pub code_end: usize,
     pub handler_count: Item,
     pub attributes: Table<Attribute>,

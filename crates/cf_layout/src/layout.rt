@@ -175,10 +175,10 @@ fn layout_of(alloc: Global, bytes: &[u8]) -> Result<Layout, ReadFault>
     Ok(layout)
 }
 
-/// The layout of a class file. A file of more than 1,048,576 bytes is TooLarge, at the first byte too
-/// many. Else the first of these counts, in the order of bytes: a cut item is Truncated at its first
-/// byte; Magic, Version, Tag; Index where the constant pool's count is 0 or its last entry wants two
-/// indices; Trailing at the first byte after the class.
+/// Returns the layout of a class file. A file of more than 1,048,576 bytes is TooLarge, at the
+/// first byte too many. Else the first of these counts, in the order of bytes: a cut item is
+/// Truncated at its first byte; Magic, Version, Tag; Index if the constant pool's count is 0 or its
+/// last entry takes two indices; Trailing at the first byte after the class.
 pub fn read_layout(alloc: Global, bytes: &[u8]) -> Result<Layout, ReadFault>
     // What is read the bytes lay out, what they lay out is read, and a fault is one of their format.
     ensures found { IfOk result (LaysOut bytes.now) }

@@ -13,7 +13,7 @@ Loads reading (Ok x) = reading ≡ Ok x
 Loads reading (Err (Read fault)) = Fails reading fault
 Loads reading (Err Device) = Unit {0}
 
--- the most that is read of a source: one byte more than a class file may have, which tells that it is too large
+-- the most that is read of a source: one byte more than a class file may have, which shows that it is too large
 abbrev pub most_read : ℕ
 most_read = 1048577
 

@@ -21,7 +21,7 @@ with_cells-push : (entries : List Entry) (positions : List Positions) (cell : Pl
 with_cells-push entries positions cell (Ok x) = simp append_assoc
 with_cells-push entries positions cell (Err fault) = refl
 
--- Of so many indices `done` were read, and stand in front.
+-- Of `count` indices `done` were read; they are the front of the list.
 module _ (entries : List Entry) (positions : List Positions) (count done : ℕ) (taken : Bool) (bytes : List ℕ) (at : ℕ) (all : Result (PoolLayout × ℕ) ReadFault)
     (so_far : with_cells entries positions (cells_from (count - done) taken bytes at) ≡ all) where
   pub cells-go_on : (last : Bool) (cell : PlacedEntry) (after : ℕ) → done < count → last ≡ eqb (count - (done + 1)) 0 → cell_from taken last bytes at ≡ Ok (cell, after)

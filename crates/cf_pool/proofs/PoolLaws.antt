@@ -1,4 +1,4 @@
--- A constant pool is read exactly where its format stands.
+-- A constant pool is read exactly if its format stands.
 use Rattle.std.proofs.Common.{◌≡◌, ℕ, ℤ, zero, suc, Bool, true, false, cond, eqb, not, List, Option, Some, None, Result, Ok, Err, refl}
 use Rattle.std.specs.Int.{w32, cast_signed}
 use Rattle.cf_text.specs.declared.fault.ReadFault.{ReadFault}

@@ -12,7 +12,7 @@ use Rattle.cf_pool.specs.declared.layout.PoolLayout.{PoolLayout}
 use Rattle.cf_pool.specs.Pools.{shape_of}
 use Rattle.cf_text.specs.Formats.{Format, ◌>>=◌, asking, done, number_format, refused, run_format}
 
--- a text: its length, and so many bytes
+-- a text: its length, and that many bytes
 unfoldable pub text_format : List ℕ → ℕ → Format PlacedEntry
 text_format bytes at = do
   length ← number_format 2 bytes
@@ -42,7 +42,7 @@ name_and_type_format bytes at = do
   descriptor ← number_format 2 bytes
   done (record { entry = NameAndType name.0 descriptor.0; positions = record { first = at; second = name.1 }; is_wide = false })
 
--- so many bytes, one item, of no use
+-- n bytes, one item, of no use
 unfoldable pub skipped_format : ℕ → Bool → List ℕ → ℕ → Format PlacedEntry
 skipped_format length wide bytes at = do
   run ← run_format length bytes
@@ -58,7 +58,7 @@ shaped_format shapes.NameAndType bytes at = name_and_type_format bytes at
 shaped_format (shapes.Skipped length) bytes at = skipped_format length false bytes at
 shaped_format shapes.Wide bytes at = skipped_format 8 true bytes at
 
--- what stands after a tag: nothing, where it is unknown; an entry of two indices does not stand last
+-- what stands after a tag: nothing if it is unknown; an entry of two indices does not stand last
 unfoldable pub tagged_format : Bool → ℕ → Option Shape → List ℕ → ℕ → Format PlacedEntry
 tagged_format last tag_at None bytes at = refused rules.Tag tag_at
 tagged_format last tag_at (Some shapes.Wide) bytes at = asking (not last) rules.Index tag_at (shaped_format shapes.Wide bytes at)
@@ -75,12 +75,12 @@ entry_format last bytes at = do
   tag ← number_format 1 bytes
   tagged_format last at (shape_of tag.0) bytes tag.1
 
--- what stands at an index: nothing at index 0 and after an entry of two indices, where `taken`
+-- what stands at an index: nothing if `taken`, as at index 0 and after an entry of two indices
 unfoldable pub cell_format : Bool → Bool → List ℕ → ℕ → Format PlacedEntry
 cell_format true last bytes at = done (record { entry = Unusable; positions = record { first = at; second = at }; is_wide = false })
 cell_format false last bytes at = entry_format last bytes at
 
--- so many indices
+-- n indices
 unfoldable pub cells_format : ℕ → Bool → List ℕ → ℕ → Format PoolLayout
 cells_format zero taken bytes at = done (record { pool = []; positions = [] })
 cells_format (suc n) taken bytes at = do
@@ -88,7 +88,7 @@ cells_format (suc n) taken bytes at = do
   others ← cells_format n first.0.is_wide bytes first.1
   done (record { pool = first.0.entry ∷ others.0.pool; positions = first.0.positions ∷ others.0.positions })
 
--- a pool with its positions: its count, which is not 0, and so many indices
+-- a pool with its positions: its count, which is not 0, and that many indices
 unfoldable pub layout_format : List ℕ → ℕ → Format PoolLayout
 layout_format bytes at = do
   count ← number_format 2 bytes

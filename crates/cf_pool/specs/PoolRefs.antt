@@ -1,4 +1,4 @@
--- What the look-ups of a pool lend, without where it lies in memory.
+-- What the look-ups of a pool lend, apart from its address in memory.
 use Rattle.cf_pool.specs.declared.pool.NameAndTypeRef.{NameAndTypeRef}
 use Rattle.cf_pool.specs.declared.pool.MemberRef.{MemberRef}
 use Rattle.cf_pool.specs.Pools.{NamedMember, NamedType}

@@ -152,7 +152,7 @@ name_and_type_entry bytes at = do
   descriptor ← number_at 2 bytes name.1
   Ok (record { entry = NameAndType name.0 descriptor.0; positions = record { first = at; second = name.1 }; is_wide = false }, descriptor.1)
 
--- so many bytes that are one item and are not looked at
+-- n bytes that are one item and are not looked at
 unfoldable pub skipped_entry : ℕ → Bool → List ℕ → ℕ → Result (PlacedEntry × ℕ) ReadFault
 skipped_entry length wide bytes at = do
   to ← skip_at length bytes at
@@ -186,12 +186,12 @@ entry_from last bytes at = do
   shape ← tagged last at (shape_of tag.0)
   shaped_entry shape bytes tag.1
 
--- what stands at an index: nothing at index 0 and after an entry of two indices, where `taken`
+-- what stands at an index: nothing if `taken`, as at index 0 and after an entry of two indices
 unfoldable pub cell_from : Bool → Bool → List ℕ → ℕ → Result (PlacedEntry × ℕ) ReadFault
 cell_from true last bytes at = Ok (record { entry = Unusable; positions = record { first = at; second = at }; is_wide = false }, at)
 cell_from false last bytes at = entry_from last bytes at
 
--- so many indices of a pool
+-- n indices of a pool
 unfoldable pub cells_from : ℕ → Bool → List ℕ → ℕ → Result (PoolLayout × ℕ) ReadFault
 cells_from zero taken bytes at = Ok (record { pool = []; positions = [] }, at)
 cells_from (suc n) taken bytes at = do
@@ -199,7 +199,7 @@ cells_from (suc n) taken bytes at = do
   others ← cells_from n first.0.is_wide bytes first.1
   Ok (record { pool = first.0.entry ∷ others.0.pool; positions = first.0.positions ∷ others.0.positions }, others.1)
 
--- a pool: its count, and so many indices
+-- a pool: its count, and that many indices
 unfoldable pub layout_from : List ℕ → ℕ → Result (PoolLayout × ℕ) ReadFault
 layout_from bytes at = do
   count ← number_at 2 bytes at
@@ -216,19 +216,18 @@ pool_from bytes at = do
 unfoldable pub is_class_entry_name : List ℕ → Bool
 is_class_entry_name text = if begins_with 91 text then is_field_descriptor text else is_class_name text
 
--- an index names an entry of the kind that is asked, and what it names passes a test
+-- an index names an entry of the kind wanted, and what it names passes a test
 unfoldable pub named : {A : Type 0} → ℕ → Option A → (A → Bool) → List Demand
 named at found test =
     record { at = at; rule = rules.Utf8; holds = where_some test found }
     ∷ record { at = at; rule = rules.Index; holds = is_some found } ∷ []
 
--- an index names an entry of the kind that is asked
+-- an index names an entry of the kind wanted
 unfoldable pub indexed : {A : Type 0} → ℕ → Option A → List Demand
 indexed at found = record { at = at; rule = rules.Index; holds = is_some found } ∷ []
 
--- The demands of an entry: a text is modified UTF-8, and what an index names is of its kind. That the indices of an Other entry,
--- as a String, and the text of a NameAndType's descriptor are not looked at is a rule of this project: nothing of its profile
--- uses them.
+-- The demands of an entry: a text is modified UTF-8, and what an index names is of its kind. The indices of an Other entry, such as a
+-- String, and the text of a NameAndType's descriptor are not looked at (a rule of this project: nothing of its profile uses them).
 unfoldable pub entry_demands : List Entry → Entry → Positions → List Demand
 entry_demands pool (Utf8 text) positions = record { at = positions.second; rule = rules.Utf8; holds = is_modified_utf8 text } ∷ []
 entry_demands pool (Class name) positions = named positions.first (utf8_at pool name) is_class_entry_name

@@ -1,5 +1,5 @@
-//! What is demanded of a constant pool once it is read (JVMS 4.4): texts are modified UTF-8, and each
-//! index names an entry of the kind that is asked.
+//! What is demanded of a constant pool once it is read (JVMS 4.4): texts are modified UTF-8, and
+//! each index names an entry of the kind wanted.
 
 ghost use Rattle.std.specs.Prelude.{◌≡◌, IfErr, IfOk};
 ghost use Rattle.cf_text.specs.Reading.{Gives};
@@ -122,11 +122,11 @@ fn check_index(
     }
 }
 
-/// The first entry at fault in the order of bytes, if any: a text that is no modified UTF-8 is Utf8
-/// at its bytes, an index that names no entry of the kind that is asked is Index there, and a name
-/// that is not allowed is Utf8 at the index that names it. Indices of a String, MethodHandle,
-/// MethodType or InvokeDynamic, and the descriptors of a NameAndType, are not followed: nothing of
-/// the profile uses them.
+/// Returns the fault of the first entry at fault in the order of bytes, or Ok. A text that is no
+/// modified UTF-8 is Utf8 at its bytes; an index that names no entry of the kind wanted is Index
+/// there; a name that is not allowed is Utf8 at the index that names it. Indices of a String,
+/// MethodHandle, MethodType or InvokeDynamic, and the descriptors of a NameAndType, are not
+/// followed: nothing of the profile uses them.
 pub fn check_pool(alloc: Global, layout: &PoolLayout) -> Result<(), ReadFault>
     ensures { Gives (verdict (pool_demands layout.now)) result }
 {

@@ -1,4 +1,4 @@
-//! Reading a constant pool: its entries, and where they stand.
+//! Reading a constant pool: its entries, and their positions.
 
 ghost use Rattle.std.specs.Prelude.{◌≡◌, ℕ, true, List, IfOk, IfErr};
 ghost use Rattle.cf_text.specs.Reading.{Gives};
@@ -223,10 +223,10 @@ fn layout_from(alloc: Global, bytes: &[u8], at: usize) -> Result<(PoolLayout, us
     cells_from(alloc, count, bytes, first)
 }
 
-/// The constant pool from its count at `at` on, with the positions of its entries, and the position after
-/// it. A cut item is Truncated at its first byte, an unknown tag is Tag, and a count of 0, or a Long
-/// or Double with no second index, is Index: the first of these in the order of bytes. Texts and the
-/// entries' own indices are not looked at: that is for `check_pool`.
+/// Returns the constant pool from its count at `at` on, with the positions of its entries, and the
+/// position after it. A cut item is Truncated at its first byte, an unknown tag is Tag, and a count
+/// of 0, or a Long or Double with no second index, is Index: the first of these in the order of
+/// bytes. Texts and the entries' own indices are not looked at: that is for `check_pool`.
 pub fn read_layout(alloc: Global, bytes: &[u8], at: usize) -> Result<(PoolLayout, usize), ReadFault>
     // What is read stands there, what stands there is read, and a fault is one of what stands there.
     ensures found { IfOk result (λ x. (layout_format bytes.now at).Stands at x.0 x.1) }
@@ -247,8 +247,8 @@ fn pool_from(alloc: Global, bytes: &[u8], at: usize) -> Result<(Pool, usize), Re
     Ok((layout.pool, to))
 }
 
-/// The constant pool from its count at `at` on, and the position after it. The faults are those of
-/// `read_layout`.
+/// Returns the constant pool from its count at `at` on, and the position after it. The faults are
+/// those of `read_layout`.
 pub fn read_pool(alloc: Global, bytes: &[u8], at: usize) -> Result<(Pool, usize), ReadFault>
     // What is read stands there, what stands there is read, and a fault is one of what stands there.
     ensures found { IfOk result (λ x. (pool_format bytes.now at).Stands at x.0 x.1) }

@@ -13,13 +13,13 @@ pub(crate) enum Shape {
     Class,
     Member(MemberKind),
     NameAndType,
-    /// So many bytes that are not looked at.
+    /// This many bytes that are not looked at.
     Skipped(usize),
     /// A Long or a Double: eight bytes, and two indices.
     Wide,
 }
 
-/// Where an entry stands: the position after its tag, and the position after the first item there.
+/// The positions of an entry: that after its tag, and that after the first item there.
 #[derive(Clone, Copy, Debug, PartialEq, Eq)]
 pub struct Positions {
     pub first: usize,

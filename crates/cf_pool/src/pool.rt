@@ -78,7 +78,7 @@ impl Pool {
     ghost use Rattle.cf_pool.specs.Pools.{as_class, as_name_and_type};
     ghost use Rattle.cf_pool.specs.PoolRefs.{named_member, named_type};
 
-    /// The pool of these entries by index, from index 0 on. It takes no memory.
+    /// Returns the pool of these entries by index, from index 0 on. It takes no memory.
     pub fn new(entries: Vec<Entry>) -> Pool
         ensures { result ≡ entries.items }
     {
@@ -106,7 +106,7 @@ impl Pool {
         matches!(self.entry(index as usize), Some(Entry::NameAndType { .. }))
     }
 
-    /// The text of a Utf8 entry: `None` exactly where the index names no such entry.
+    /// Returns the text of a Utf8 entry: `None` exactly if the index names no such entry.
     #[tactic(auto, unfolding(crate::specs::Pools::utf8_at))]
     pub fn utf8(&self, index: u16) -> Option<&Text>
         ensures { option_copied result ≡ utf8_at self.now index }
@@ -117,7 +117,7 @@ impl Pool {
         }
     }
 
-    /// The value of an Integer entry: `None` exactly where the index names no such entry.
+    /// Returns the value of an Integer entry: `None` exactly if the index names no such entry.
     #[tactic(auto, unfolding(crate::specs::Pools::integer_at))]
     pub fn integer(&self, index: u16) -> Option<i32>
         ensures { result ≡ integer_at self.now index }
@@ -128,7 +128,7 @@ impl Pool {
         }
     }
 
-    /// The name of a Class entry, or the descriptor where it is an array's: `None` exactly where the
+    /// Returns the name of a Class entry, or the descriptor of an array type: `None` exactly if the
     /// index names no such entry, or one whose own index names no text.
     #[tactic(auto, unfolding(crate::specs::Pools::class_at))]
     pub fn class(&self, index: u16) -> Option<&Text>
@@ -140,8 +140,8 @@ impl Pool {
         }
     }
 
-    /// What a NameAndType entry names: `None` exactly where the index names no such entry, or one
-    /// whose own indices name no texts.
+    /// Returns what a NameAndType entry names: `None` exactly if the index names no such entry, or
+    /// one whose own indices name no texts.
     #[tactic(auto, unfolding(crate::specs::Pools::name_and_type_at))]
     pub fn name_and_type(&self, index: u16) -> Option<NameAndTypeRef<'_>>
         ensures { option_map named_type result ≡ name_and_type_at self.now index }
@@ -154,8 +154,8 @@ impl Pool {
         Some(NameAndTypeRef { name, descriptor })
     }
 
-    /// What a Fieldref, Methodref or InterfaceMethodref entry names: `None` exactly where the index
-    /// names no such entry, or one whose own indices name no class or no name and type.
+    /// Returns what a Fieldref, Methodref or InterfaceMethodref entry names: `None` exactly if the
+    /// index names no such entry, or one whose own indices name no class or no name and type.
     #[tactic(auto, unfolding(crate::specs::Pools::member_at))]
     pub fn member(&self, index: u16) -> Option<MemberRef<'_>>
         ensures { option_map named_member result ≡ member_at self.now index }
@@ -181,8 +181,8 @@ impl Pool {
     }
 }
 
-/// What the look-ups of a pool find is what its indices name, and nothing else; they are `None` exactly
-/// where an index names no entry of the kind that is asked.
+/// What the look-ups of a pool find is what its indices name, and nothing else; they are `None`
+/// exactly if an index names no entry of the kind wanted.
 pub fn look_ups()
     ensures texts { (pool : List Entry) (index : ℕ) → Exactly (utf8_at pool index) (NamesText pool index) }
     ensures integers { (pool : List Entry) (index : ℕ) → Exactly (integer_at pool index) (NamesInteger pool index) }

@@ -119,7 +119,7 @@ method_name_span pool item =
     span_append (16 * item.at) (16 * item.at + 6) (16 * item.at + 13) (named item.at text is_method_name) (of_some text inside) (named_span item.at text is_method_name)
     (some_span (16 * item.at + 6) (16 * item.at + 13) text inside (omega arith) (λ name. (omega arith, omega arith)))
 
--- four parts of a member, each where its item stands
+-- four parts of a member, each at the position of its item
 member_span : (bytes : List ℕ) (at to : ℕ) (member : Member) → IsPlacedMember bytes at to member → (flags name descriptor attributes : List Demand)
     → Span (16 * member.flags.at) (16 * member.flags.at + 13) flags → Span (16 * member.name.at) (16 * member.name.at + 13) name
     → Span (16 * member.descriptor.at) (16 * member.descriptor.at + 13) descriptor

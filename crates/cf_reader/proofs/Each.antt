@@ -44,7 +44,7 @@ each-end read items front index all so_far =
     let one : before front (each read (drop index items)) ≡ Ok front = ap (λ left. before front (each read left)) (drop_of_length-le items all) ∙ ap Ok (append-nil front) in
     sym so_far ∙ one
 
--- a list of so many
+-- a list of n
 abbrev IsLong : {B : Type 0} → ℕ → List B → Type 0
 IsLong n ys = length ys ≡ n
 
@@ -56,7 +56,7 @@ one_more_long : {B : Type 0} (n : ℕ) (first : B) (others : Result (List B) Rea
 one_more_long n first (Ok rest) long = ap suc long
 one_more_long n first (Err fault) long = tt
 
--- as many are made as there are items
+-- n items make n values
 pub each-long : {A B : Type 0} (read : A → Result B ReadFault) (items : List A) → IfOk {T = List B} (each read items) (λ ys. length ys ≡ length items)
 unfolding each
 each-long read [] = refl

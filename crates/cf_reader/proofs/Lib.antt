@@ -5,4 +5,5 @@ pub mod SeenLaws
 pub mod PlacedLaws
 pub mod ClassOrder
 pub mod SpellsLaws
+pub mod WellFormedLaws
 pub mod DescriptorsKept

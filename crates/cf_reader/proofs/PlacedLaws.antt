@@ -1,4 +1,4 @@
--- The demands of members and attributes lie where these stand.
+-- The demands of members and attributes lie within the positions of these.
 use Rattle.std.proofs.Common.{◌≡◌, ◌+◌, ◌*◌, ◌≤◌, ◌⊎◌, ◌||◌, ℕ, zero, suc, Bool, true, false, cond, List, [], ◌∷◌, ◌++◌, length, take, Option, Result, Ok, Err, codes, refl, sym, ap, ◌∙◌, subst, inl, inr, arith}
 use Rattle.std.proofs.lemmas.Bool.{eqb-true}
 use Rattle.std.proofs.lemmas.List.{length-take}
@@ -24,7 +24,7 @@ use Rattle.cf_reader.specs.Profile.{handlers_in_profile}
 use Rattle.cf_text.specs.Order.{number_of}
 use Rattle.cf_text.proofs.Spans.{Span, span_append, span_low}
 
--- ---- where items and attributes stand
+-- ---- the positions of items and attributes
 
 pub record IsPlacedItem (bytes : List ℕ) (at to : ℕ) (item : Item) : Type 0 where
   pub at_is : item.at ≡ at

@@ -1,4 +1,4 @@
--- A layout whose demands hold says a class file, which is the one that is made of it.
+-- A layout whose demands hold says a class file, and that one is made of it.
 use Rattle.std.proofs.Common.{◌≡◌, ◌+◌, ℕ, ℤ, Bool, true, false, cond, List, [], ◌∷◌, ◌++◌, Option, Some, None, Result, Ok, Err, codes, refl, sym, ap, ◌∙◌, subst}
 use Rattle.std.specs.Prelude.{is_some}
 use Rattle.std.specs.List.{AllByRecursion}
@@ -91,24 +91,24 @@ class_again bytes layout class says =
     ∙ ap (λ (s : Option (List ℕ)). rebuilt class pool layout.flags.value s) says.superclass.2) in
     rw (says.name, says.superclass.1, interfaces, fields, methods) whole
 
--- ---- where all demands hold there is such a class
+-- ---- if all demands hold, there is such a class
 
-abbrev AllHold : List Demand → Type 0
+abbrev pub AllHold : List Demand → Type 0
 AllHold = AllByRecursion (λ d. d.holds ≡ true)
 
-abbrev ok : Result (Unit {0}) ReadFault
+abbrev pub ok : Result (Unit {0}) ReadFault
 ok = Ok tt
 
 holding : (holds : Bool) (fault : ReadFault) (rest : Result (Unit {0}) ReadFault) → cond holds rest (Err fault) ≡ ok → (holds ≡ true) × (rest ≡ ok)
 holding true fault rest e = (refl, e)
 holding false fault rest e = absurd cc
 
-all_hold : (ds : List Demand) → verdict ds ≡ ok → AllHold ds
+pub all_hold : (ds : List Demand) → verdict ds ≡ ok → AllHold ds
 unfolding verdict
 all_hold [] e = tt
 all_hold (d ∷ ds) e = let h = holding d.holds (Broken d.rule d.at) (verdict ds) e in (h.0, all_hold ds h.1)
 
-parts : (front rest : List Demand) → AllHold (front ++ rest) → AllHold front × AllHold rest
+pub parts : (front rest : List Demand) → AllHold (front ++ rest) → AllHold front × AllHold rest
 parts [] rest h = (tt, h)
 parts (d ∷ front) rest h = let p = parts front rest h.1 in ((h.0, p.0), p.1)
 
@@ -124,7 +124,7 @@ named_is : {A : Type 0} (at : ℕ) (o : Option A) (test : A → Bool) → AllHol
 unfolding named
 named_is at o test h = some_is o h.1.0
 
-of_some_is : {A : Type 0} (o : Option A) (x : A) (demands : A → List Demand) → o ≡ Some x → AllHold (of_some o demands) → AllHold (demands x)
+pub of_some_is : {A : Type 0} (o : Option A) (x : A) (demands : A → List Demand) → o ≡ Some x → AllHold (of_some o demands) → AllHold (demands x)
 of_some_is {A = A} o x demands is h = subst (λ (p : Option A). AllHold (of_some p demands)) is h
 
 read_is : {A : Type 0} (r : Result A ReadFault) (look : Look A) (demands : A → List Demand) → Tells r look → AllHold (of_read r demands) → (x : A) × look.Is x × AllHold (demands x)

@@ -48,7 +48,7 @@ then_both Less b = refl
 then_both Equal b = refl
 then_both Greater b = refl
 
--- keys compare as equal where their bytes are
+-- keys compare as equal exactly if their bytes are
 equal_keys : (a b : Key) → is_eq (key_cmp a b) ≡ (bytes_eq a.0.now b.0.now && bytes_eq a.1.now b.1.now)
 equal_keys a b =
     then_both (slice_cmp nat_cmp a.0.now b.0.now) (slice_cmp nat_cmp a.1.now b.1.now)

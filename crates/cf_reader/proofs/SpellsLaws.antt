@@ -1,4 +1,4 @@
--- A class is read exactly where the bytes spell it, in profile, and a refusal names a rule that fails.
+-- A class is read exactly if the bytes spell it, in profile, and a refusal names a rule that fails.
 use Rattle.std.proofs.Common.{◌≡◌, ℕ, Bool, true, false, cond, List, [], ◌∷◌, Result, Ok, Err, ◌⊎◌, refl, sym, ap, ◌∙◌, subst, inl, inr}
 use Rattle.std.specs.Prelude.{IfOk, IfErr}
 use Rattle.cf_text.specs.declared.fault.Rule.{Rule}
@@ -22,7 +22,7 @@ use Rattle.cf_layout.specs.ReadInsides.{insides_of}
 use Rattle.cf_reader.specs.Says.{SaysClass}
 use Rattle.cf_layout.proofs.CodeLaws.{insides_read, one_inside}
 use Rattle.cf_layout.proofs.FileLaws.{file_reads}
-use Rattle.cf_reader.proofs.SaysLaws.{class_again, class_says}
+use Rattle.cf_reader.proofs.SaysLaws.{AllHold, all_hold, class_again, class_says}
 
 -- ---- verdicts
 
@@ -80,12 +80,18 @@ demanded bytes layout = (insides_of bytes, insides_read bytes, refl)
 one_demanded : (bytes : List ℕ) (layout : Layout) (asked : List Demand) → AreDemands bytes layout asked → asked ≡ asked_of bytes layout
 one_demanded bytes layout asked are = are.2 ∙ ap (λ (insides : Insides). demands insides layout) (one_inside bytes are.0 are.1)
 
+-- of what is spelled and in profile every demand holds
+pub all_asked : (bytes : List ℕ) (layout : Layout) (class : ClassFile) (spells : Spells bytes layout class) → IsInProfile bytes layout → AllHold spells.asked
+all_asked bytes layout class spells in_profile =
+    let same : in_profile.0 ≡ spells.asked = one_demanded bytes layout in_profile.0 in_profile.1 ∙ sym (one_demanded bytes layout spells.asked spells.demanded) in
+    all_hold spells.asked (verdict-ok spells.asked spells.sound (subst AreInProfile same in_profile.2))
+
 -- ---- the reading, from its parts
 
 equal : (c d : ClassFile) → made c ≡ made d → c ≡ d
 equal c d e = cc
 
--- where all demands hold, the class that is made is the one that the layout says
+-- if all demands hold, the class that is made is the one that the layout says
 said : (bytes : List ℕ) (layout : Layout) (class : ClassFile) → verdict (asked_of bytes layout) ≡ ok → class_from bytes layout ≡ Ok class → SaysClass bytes layout class
 said bytes layout class holds is =
     let says = class_says bytes layout holds in
@@ -116,7 +122,7 @@ found_by bytes (Ok x) reads class e =
     )
 found_by bytes (Err fault) reads class e = absurd cc
 
--- a class can be made where all demands hold
+-- a class can be made if all demands hold
 never_unmade : (bytes : List ℕ) (layout : Layout) (fault : ReadFault) → verdict (asked_of bytes layout) ≡ ok → class_from bytes layout ≡ Err fault → ⊥
 never_unmade bytes layout fault holds e =
     let says = class_says bytes layout holds in

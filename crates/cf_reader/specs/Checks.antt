@@ -46,7 +46,7 @@ unfoldable pub first_named : List Entry → List ℕ → List Attribute → Opti
 first_named pool name [] = None
 first_named pool name (attribute ∷ others) = if is_named pool name attribute then Some attribute else first_named pool name others
 
--- an attribute is of the kind that is known where it stands
+-- an attribute is of the kind that is known on its item
 unfoldable pub is_known : List Entry → Known → Attribute → Bool
 is_known pool known.Nothing attribute = false
 is_known pool known.ConstantValue attribute = is_named pool (codes "ConstantValue") attribute
@@ -59,7 +59,7 @@ one_attribute pool is_known inside seen attribute =
     indexed attribute.name.at (utf8_at pool attribute.name.value)
     ++ (if is_known attribute then (if seen then demand attribute.name.at rules.Duplicate false else inside attribute) else [])
 
--- the demands of attributes, where `seen` tells whether a known one stood before
+-- the demands of attributes; `seen` says whether a known one stood before
 unfoldable pub attribute_demands : List Entry → (Attribute → Bool) → (Attribute → List Demand) → Bool → List Attribute → List Demand
 attribute_demands pool is_known inside seen [] = []
 attribute_demands pool is_known inside seen (attribute ∷ others) =
@@ -72,7 +72,7 @@ known_demands insides pool known.ConstantValue attribute =
     of_read (insides.constant attribute) (λ index. indexed index.at (integer_at pool index.value))
 known_demands insides pool known.StackMapTable attribute = of_read (insides.table attribute) (λ _. [])
 
--- the demands of attributes where one kind but Code is known
+-- the demands of attributes on an item on which one kind but Code is known
 unfoldable pub plain_demands : Insides → List Entry → Known → List Attribute → List Demand
 plain_demands insides pool kind attributes = attribute_demands pool (is_known pool kind) (known_demands insides pool kind) false attributes
 
@@ -113,7 +113,7 @@ flag_demands at fit new in_profile =
 
 -- ---- fields
 
--- what is read as a type is int or boolean; a descriptor that is at fault itself says nothing of that
+-- what is read as a type is int or boolean; of a descriptor that is itself at fault this asks nothing
 abbrev pub is_int_read : Result FieldType ReadFault → Bool
 is_int_read (Ok type) = is_int_type type
 is_int_read (Err fault) = true
@@ -141,7 +141,7 @@ field_descriptor_demands pool item =
 unfoldable pub field_known : ℕ → Known
 field_known bits = if has bits STATIC then known.ConstantValue else known.Nothing
 
--- the demands of a field, where it is told whether it is new
+-- the demands of a field, given whether it is new
 unfoldable pub field_demands_if : Insides → List Entry → ℕ → Bool → Member → List Demand
 field_demands_if insides pool class new field =
     field_flag_demands pool class new field
@@ -149,7 +149,7 @@ field_demands_if insides pool class new field =
     ++ field_descriptor_demands pool field.descriptor
     ++ plain_demands insides pool (field_known field.flags.value) field.attributes
 
--- the demands of a field: it is new where none of its name and descriptor stood before
+-- the demands of a field: it is new if none of its name and descriptor stood before
 abbrev pub field_demands : Insides → List Entry → ℕ → List Member → ℕ → Member → List Demand
 field_demands insides pool class fields index field = field_demands_if insides pool class (not (occurs pool (take index fields) field)) field
 
@@ -184,7 +184,7 @@ element_words (elements.Class name) = 1
 unfoldable pub words_of : FieldType → ℕ
 words_of type = if type.dimensions == 0 then element_words type.element else 1
 
--- parameters, with the receiver where there is one, take at most 255 words (JVMS 4.3.3)
+-- parameters, with the receiver if there is one, take at most 255 words (JVMS 4.3.3)
 unfoldable pub are_few : Bool → List FieldType → Bool
 are_few static parameters = nat_le (sum_by words_of parameters + (if static then 0 else 1)) 255
 
@@ -201,7 +201,7 @@ method_descriptor_demands pool method =
     ++ of_some (utf8_at pool method.descriptor.value)
     (method_type_demands method.descriptor.at (has method.flags.value STATIC) (is_initializer pool method.name))
 
--- the demands of a method, where it is told whether it is new
+-- the demands of a method, given whether it is new
 unfoldable pub method_demands_if : Insides → List Entry → ℕ → Bool → Member → List Demand
 method_demands_if insides pool class new method =
     method_flag_demands pool class new method
@@ -209,7 +209,7 @@ method_demands_if insides pool class new method =
     ++ method_descriptor_demands pool method
     ++ method_attribute_demands insides pool method.attributes
 
--- the demands of a method: it is new where none of its name and descriptor stood before
+-- the demands of a method: it is new if none of its name and descriptor stood before
 abbrev pub method_demands : Insides → List Entry → ℕ → List Member → ℕ → Member → List Demand
 method_demands insides pool class methods index method = method_demands_if insides pool class (not (occurs pool (take index methods) method)) method
 

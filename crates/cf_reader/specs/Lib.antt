@@ -6,3 +6,4 @@ pub mod Descriptors
 pub mod Builds
 pub mod Says
 pub mod Spells
+pub mod WellFormed

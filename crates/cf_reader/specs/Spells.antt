@@ -1,5 +1,4 @@
--- What it is for bytes to spell a class file (JVMS 4.1 to 4.8), for a class file to be in profile, and for bytes to be
--- at fault.
+-- What it means that bytes spell a class file (JVMS 4.1 to 4.8), that a class file is in profile, and that bytes are at fault.
 use Rattle.std.specs.Prelude.{◌≡◌, ℕ, Bool, true, false, ◌⊎◌, List, [], ◌∷◌}
 use Rattle.std.specs.List.{AllByRecursion}
 use Rattle.cf_text.specs.declared.fault.Rule.{Rule}

@@ -18,7 +18,7 @@ pub(crate) const CONSTANT_VALUE: &[u8] = b"ConstantValue";
 
 pub(crate) const STACK_MAP_TABLE: &[u8] = b"StackMapTable";
 
-/// Which attribute is known where it stands, Code aside, which is known in methods.
+/// Which attribute is known on an item, apart from Code, which is known on methods.
 #[derive(Clone, Copy, Debug, PartialEq, Eq)]
 pub(crate) enum Known {
     /// None: all are skipped by their length.
@@ -100,7 +100,7 @@ impl Known {
         self.check(bytes, pool, attribute)
     }
 
-    /// The first demand of these attributes that does not hold, where this kind is known.
+    /// The first demand of these attributes that does not hold, if this kind is known.
     pub(crate) fn check_all(
         self,
         bytes: &[u8],

@@ -50,6 +50,6 @@ pub struct Code {
     pub max_locals: u16,
     /// The bytes of the instructions, 1 to 65,535.
     pub bytes: Table<u8>,
-    /// The bytes of the StackMapTable attribute after its length (JVMS 4.7.4), where there is one.
+    /// The bytes of the StackMapTable attribute after its length (JVMS 4.7.4), if there is one.
     pub stack_map_table: Option<Row<u8>>,
 }

@@ -43,7 +43,7 @@ impl Flags {
 
     pub const ENUM: u16 = 0x4000;
 
-    /// Whether one of the mask's flags is set.
+    /// Returns whether one of the mask's flags is set.
     pub fn has(self, mask: u16) -> bool
         ensures set { IsTrue result ↔ (bit_and self.bits mask ≢ 0) }
         ensures value { result ≡ has self.bits mask }

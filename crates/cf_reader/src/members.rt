@@ -260,7 +260,7 @@ fn words_of(kind: &FieldType) -> usize
     }
 }
 
-// Whether parameters, with the receiver where there is one, take at most 255 words.
+// Whether parameters, with the receiver if there is one, take at most 255 words.
 #[tactic(auto, unfolding(crate::specs::Checks::are_few))]
 fn are_few(is_static: bool, parameters: &[FieldType]) -> bool
     ensures { result ≡ are_few is_static parameters.now }

@@ -1,4 +1,4 @@
--- Descriptors are read exactly where the grammar has them.
+-- A text is read as a descriptor exactly if the grammar has it (JVMS 4.3).
 use Rattle.std.proofs.Common.{◌≡◌, ◌≤◌, ◌<◌, ◌+◌, ◌&&◌, ℕ, zero, suc, Bool, true, false, cond, eqb, ltb, not, List, [], ◌∷◌, ◌++◌, length, take, drop, Option, Some, None, Result, Ok, Err, refl, sym, ap, ◌∙◌, subst, arith, add-one, append_assoc, append-nil}
 use Rattle.std.proofs.Math.ListN.{replicate}
 use Rattle.std.proofs.lemmas.Bool.{false≢true, eqb-true, and_parts, ltb-true, ltb-false, lt-ltb, le-ltb, ne_eqb}
@@ -165,7 +165,7 @@ brackets : (text : List ℕ) → text ≡ replicate (dimensions_of text) 91 ++ d
 brackets [] = refl
 brackets (b ∷ text) = brackets_by b text (eqb b 91) refl (brackets text)
 
--- so many brackets and no more
+-- a text with n brackets before what begins with none has n dimensions
 dimensions_again : (n : ℕ) (text : List ℕ) → dimensions_of text ≡ 0 → dimensions_of (replicate n 91 ++ text) ≡ n
 dimensions_again zero text h = h
 dimensions_again (suc n) text h = ap (λ (k : ℕ). k + 1) (dimensions_again n text h) ∙ add-one n

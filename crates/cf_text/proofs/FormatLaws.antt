@@ -30,7 +30,7 @@ refusal fault = Err fault
 
 -- ---- items
 
--- a reading of one item of so many bytes, with a value that the bytes give
+-- a reading of one item of n bytes, with a value that the bytes give
 module _ {A : Type 0} (n : ℕ) (bytes : List ℕ) (from : ℕ) (value : A) (format : Format A)
     (stands : (to : ℕ) → IsItem n bytes from to → format.Stands from value to)
     (is : (x : A) (to : ℕ) → format.Stands from x to → IsItem n bytes from to × (x ≡ value))

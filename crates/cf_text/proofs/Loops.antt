@@ -1,4 +1,4 @@
--- Reading one after the other, as a loop does: what was read so far stands in front of what is still read.
+-- Reading values one after the other, as a loop does: the values so far are the front of the list.
 use Rattle.std.proofs.Common.{◌≡◌, ℕ, zero, suc, ◌+◌, ◌-◌, ◌<◌, ◌≤◌, List, [], ◌∷◌, ◌++◌, Result, Ok, Err, refl, sym, ap, ◌∙◌, append_assoc, arith}
 use Rattle.std.specs.Prelude.{IfOk, length}
 use Rattle.std.proofs.lemmas.List.{append-nil}
@@ -19,7 +19,7 @@ with_front-push front first (Err fault) = refl
 pub with_front-end : {A R : Type 0} (front : List A) (rest : R) → with_front front (Ok ([], rest)) ≡ Ok (front, rest)
 with_front-end front rest = ap (λ items. Ok (items, rest)) (append-nil front)
 
--- Of so many values, `done` were read, and stand in front.
+-- Of `count` values `done` were read; they are the front of the list.
 module _ {A : Type 0} (read : ℕ → Result (A × ℕ) ReadFault) (front : List A) (count done at : ℕ) (all : Result (List A × ℕ) ReadFault)
     (so_far : with_front front (many read (count - done) at) ≡ all) where
   -- one more is read
@@ -48,7 +48,7 @@ module _ {A : Type 0} (read : ℕ → Result (A × ℕ) ReadFault) (front : List
       let one : with_front front (many read (count - done) at) ≡ Ok (front, at) = rw left (with_front-end front at) in
       sym so_far ∙ one
 
--- a list of so many
+-- a list of n
 abbrev IsLong : {A : Type 0} → ℕ → List A × ℕ → Type 0
 IsLong n x = length x.0 ≡ n
 
@@ -60,7 +60,7 @@ one_more_long : {A : Type 0} (n : ℕ) (first : A) (others : Result (List A × �
 one_more_long n first (Ok x) long = ap suc long
 one_more_long n first (Err fault) long = tt
 
--- as many are read as are asked for
+-- a reading of `count` values gives `count`
 pub many-long : {A : Type 0} (read : ℕ → Result (A × ℕ) ReadFault) (count at : ℕ) → IfOk {T = List A × ℕ} (many read count at) (λ x. length x.0 ≡ count)
 unfolding many
 many-long read zero at = refl

@@ -7,7 +7,7 @@ use Rattle.cf_text.specs.Reading.{Fails}
 use Rattle.cf_text.specs.Types.{begins_with, field_type_of, malformed, parameters_of}
 use Rattle.cf_text.proofs.Loops.{with_front, with_front-push, with_front-end}
 
--- Of at most so many types, `done` were read, and stand in front.
+-- Of at most `most` types `done` were read; they are the front of the list.
 module _ (front : List FieldType) (most done at : ℕ) (text : List ℕ) (all : Result (List FieldType × List ℕ) ReadFault)
     (so_far : with_front front (parameters_of (most - done) at text) ≡ all) where
   pub parameters-close : done < most → begins_with 41 text ≡ true → all ≡ Ok (front, drop 1 text)

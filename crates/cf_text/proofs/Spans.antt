@@ -66,7 +66,7 @@ pub span_rises : (low high : ℕ) (ds : List Demand) → Span low high ds → Ri
 span_rises low high [] span = tt
 span_rises low high (d ∷ ds) span = (all_after d (key d) high ds (omega_le (key d)) span.1, span_rises (key d) high ds span.1)
 
--- one demand after the other, of what stands after each other
+-- the demands of items that follow each other are in order
 pub many_span : {A : Type 0} (format : ℕ → Format A) (demands : ℕ → A → List Demand)
     → ((index at to : ℕ) (x : A) → (format at).Stands at x to → Span (16 * at) (16 * to) (demands index x)) → (n at to index : ℕ) (xs : List A)
     → (many_format format n at).Stands at xs to → Span (16 * at) (16 * to) (of_each demands index xs)

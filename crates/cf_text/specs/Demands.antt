@@ -15,7 +15,7 @@ unfoldable pub verdict : List Demand → Result (Unit {0}) ReadFault
 verdict [] = Ok tt
 verdict (demand ∷ demands) = if demand.holds then verdict demands else Err (Broken demand.rule demand.at)
 
--- a test of a value, which holds where there is none
+-- a test of a value; it holds if there is none
 abbrev pub where_some : {A : Type 0} → (A → Bool) → Option A → Bool
 where_some test (Some x) = test x
 where_some test None = true

@@ -29,7 +29,7 @@ pub record IsFieldType (text : List ℕ) (type : FieldType) : Type 0 where
   pub few : type.dimensions ≤ 255
   pub is : IsElementType element type.element
 
--- one after the other
+-- field types, one after the other
 abbrev pub AreFieldTypes : List ℕ → List FieldType → Type 0
 AreFieldTypes text [] = text ≡ []
 AreFieldTypes text (type ∷ types) = (front : List ℕ) × (rest : List ℕ) × (text ≡ front ++ rest) × IsFieldType front type × AreFieldTypes rest types
@@ -52,7 +52,7 @@ abbrev pub IsDescriptor : List ℕ → Descriptor → Type 0
 IsDescriptor text (Field type) = IsFieldType text type
 IsDescriptor text (Method type) = IsMethodType text type
 
--- what a text that is used at a position spells: where it spells nothing, the fault is at the position
+-- what a text spells; if it spells nothing, the fault is at the position at which the text is used
 abbrev pub spelling : {A : Type 0} → (List ℕ → A → Type 0) → ℕ → List ℕ → Look A
 spelling {A} IsSpelled at text = record {
   Is = IsSpelled text;

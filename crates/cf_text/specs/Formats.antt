@@ -13,7 +13,7 @@ pub record Format (A : Type 0) : Type 1 where
   pub Stands : ℕ → A → ℕ → Type 0
   pub Fails : ℕ → Rule → ℕ → Type 0
 
--- so many bytes, one item, which ends within the file
+-- n bytes, one item, which ends within the file
 pub record IsItem (n : ℕ) (bytes : List ℕ) (from to : ℕ) : Type 0 where
   pub end : to ≡ from + n
   pub inside : to ≤ length bytes
@@ -24,14 +24,14 @@ pub record IsCut (n : ℕ) (bytes : List ℕ) (from : ℕ) (rule : Rule) (at : �
   pub rule_is : rule ≡ Truncated
   pub at_is : at ≡ from
 
--- a big-endian number of so many bytes
+-- a big-endian number of n bytes
 abbrev pub number_format : ℕ → List ℕ → Format ℕ
 number_format n bytes = record {
   Stands = λ from x to. IsItem n bytes from to × (x ≡ big_number n (drop from bytes));
   Fails = IsCut n bytes;
 }
 
--- a run of so many bytes
+-- a run of n bytes
 abbrev pub run_format : ℕ → List ℕ → Format (List ℕ)
 run_format n bytes = record {
   Stands = λ from x to. IsItem n bytes from to × (x ≡ take n (drop from bytes));
@@ -45,8 +45,8 @@ done a = record {
   Fails = λ from rule at. ⊥;
 }
 
--- One format, and after it one that depends on what stood, and on where that ended. It fails where the one fails, or
--- where the one stands and the other fails.
+-- One format, and after it a second one, which depends on what stood and on its end. It fails if the first fails, or if the first stands
+-- and the second fails.
 infixl 10 ◌>>=◌
 abbrev pub ◌>>=◌ : {A B : Type 0} → Format A → (A × ℕ → Format B) → Format B
 ◌>>=◌ {A} {B} one other = record {
@@ -68,7 +68,7 @@ refused rule at = record {
   Fails = λ from broken position. (broken ≡ rule) × (position ≡ at);
 }
 
--- so many of one format, which may name the position where it begins, one after the other
+-- n of one format, one after the other; each may depend on the position at which it begins
 abbrev pub many_format : {A : Type 0} → (ℕ → Format A) → ℕ → ℕ → Format (List A)
 many_format format zero at = done []
 many_format format (suc n) at = format at >>= λ first. many_format format n first.1 >>= λ others. done (first.0 ∷ others.0)

@@ -1,5 +1,4 @@
--- Looks: what is found where no position after it is of interest, and how it fails to be, as relations by cases. They
--- stand beside formats, and are put together of them.
+-- Looks: what is found, or how nothing is, as relations by cases. A look is a format without the position at which it ends.
 use Rattle.std.specs.Prelude.{◌≡◌, ℕ, Bool, true, false, ◌⊎◌, List, Option, Some, None, Result, Ok, Err}
 use Rattle.cf_text.specs.declared.fault.Rule.{Rule}
 use Rattle.cf_text.specs.declared.fault.ReadFault.{ReadFault}
@@ -11,14 +10,14 @@ pub record Look (A : Type 0) : Type 1 where
   pub Is : A → Type 0
   pub Fails : Rule → ℕ → Type 0
 
--- what stands from a position on, with where it ends
+-- what stands from a position on, with its end
 abbrev pub standing : {A : Type 0} → Format A → ℕ → Look (A × ℕ)
 standing format from = record {
   Is = λ x. format.Stands from x.0 x.1;
   Fails = λ rule at. format.Fails from rule at;
 }
 
--- where the next so many bytes end, which are one item
+-- the end of the next n bytes, which are one item
 abbrev pub passing : ℕ → List ℕ → ℕ → Look ℕ
 passing n bytes from = record {
   Is = λ to. IsItem n bytes from to;
@@ -32,8 +31,7 @@ known a = record {
   Fails = λ rule at. ⊥;
 }
 
--- One look, and another one that depends on what was found. It fails where the one fails, or where the one finds and
--- the other fails.
+-- One look, and a second one, which depends on what was found. It fails if the first fails, or if the first finds and the second fails.
 infixl 10 ◌>>=◌
 abbrev pub ◌>>=◌ : {A B : Type 0} → Look A → (A → Look B) → Look B
 ◌>>=◌ {A} {B} one other = record {
@@ -76,7 +74,7 @@ pub record Tells {A : Type 0} (reading : Result A ReadFault) (look : Look A) : T
   pub refuses : (rule : Rule) (at : ℕ) → look.Fails rule at → reading ≡ Err (Broken rule at)
   pub ample : reading ≡ Err Memory → ⊥
 
--- what is found is one, and the only one; nothing is found exactly where there is none
+-- what is found is one, and the only one; nothing is found exactly if there is none
 abbrev pub Exactly : {A : Type 0} → Option A → (A → Type 0) → Type 0
 Exactly {A} (Some x) Is = Is x × ((y : A) → Is y → y ≡ x)
 Exactly {A} None Is = (y : A) → Is y → ⊥

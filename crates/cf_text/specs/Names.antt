@@ -29,7 +29,7 @@ is_method_name text =
     bytes_eq text initializer || bytes_eq text class_initializer
     || (not (length text == 0) && list_all is_method_name_byte text)
 
--- unqualified names parted by /, where `begins` tells that a name has to begin here
+-- unqualified names parted by /; if `begins`, a name has to begin here
 abbrev pub are_parts : Bool → List ℕ → Bool
 are_parts begins [] = not begins
 are_parts begins (b ∷ bs) = (if b == 47 then not begins else is_name_byte b) && are_parts (b == 47) bs

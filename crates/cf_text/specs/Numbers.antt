@@ -8,17 +8,17 @@ use Rattle.cf_text.specs.declared.fault.ReadFault.{ReadFault}
 use Rattle.cf_text.specs.declared.fault.ReadFault.TheVariants.{Broken}
 use Rattle.cf_text.specs.declared.fault.Rule.TheVariants.{Truncated}
 
--- the next so many bytes, one item, and the position after them
+-- the next n bytes, one item, and the position after them
 abbrev pub bytes_at : ℕ → List ℕ → ℕ → Result (List ℕ × ℕ) ReadFault
 bytes_at n bytes at =
     if nat_le (at + n) (length bytes) then Ok (take n (drop at bytes), at + n) else Err (Broken Truncated at)
 
--- the big-endian number in the next so many bytes, and the position after it
+-- the big-endian number in the next n bytes, and the position after it
 abbrev pub number_at : ℕ → List ℕ → ℕ → Result (ℕ × ℕ) ReadFault
 number_at n bytes at =
     if nat_le (at + n) (length bytes) then Ok (big_number n (drop at bytes), at + n) else Err (Broken Truncated at)
 
--- the position after the next so many bytes, one item
+-- the position after the next n bytes, one item
 abbrev pub skip_at : ℕ → List ℕ → ℕ → Result ℕ ReadFault
 skip_at n bytes at = if nat_le (at + n) (length bytes) then Ok (at + n) else Err (Broken Truncated at)
 

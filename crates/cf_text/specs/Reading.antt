@@ -3,7 +3,7 @@ use Rattle.std.specs.Prelude.{◌≡◌, ℕ, zero, suc, List, [], ◌∷◌, Re
 use Rattle.cf_text.specs.declared.fault.ReadFault.{ReadFault}
 use Rattle.cf_text.specs.declared.fault.ReadFault.TheVariants.{Broken, Memory}
 
--- a step, and what follows where it does not fail
+-- a step, and what follows if it does not fail
 infixl 10 ◌>>=◌
 abbrev pub ◌>>=◌ : {A B : Type 0} → Result A ReadFault → (A → Result B ReadFault) → Result B ReadFault
 (Ok x) >>= f = f x
@@ -24,7 +24,7 @@ abbrev pub GivesSeen : {A B : Type 0} → (A → B) → Result B ReadFault → R
 GivesSeen view reading (Ok x) = reading ≡ Ok (view x)
 GivesSeen view reading (Err fault) = Fails reading fault
 
--- so many values one after the other, each from where the one before ended
+-- n values one after the other, each from the end of the one before
 unfoldable pub many : {A : Type 0} → (ℕ → Result (A × ℕ) ReadFault) → ℕ → ℕ → Result (List A × ℕ) ReadFault
 many read zero at = Ok ([], at)
 many read (suc n) at = do

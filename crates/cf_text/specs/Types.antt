@@ -1,5 +1,5 @@
--- Descriptors (JVMS 4.3), read from the front of a text: what is read, and the text after it. A fault
--- is at the position where the text is used.
+-- Descriptors (JVMS 4.3), read from the front of a text: what is read, and the text after it. A fault is at the position at which the text
+-- is used.
 use Rattle.std.specs.Prelude.{ℕ, zero, suc, Bool, false, ◌==◌, ◌&&◌, ◌+◌, not, nat_lt, List, [], ◌∷◌, length, take, drop, Option, Some, None, Result, Ok, Err, is_ok, if◌then◌else◌}
 use Rattle.cf_text.specs.declared.fault.ReadFault.{ReadFault}
 use Rattle.cf_text.specs.declared.fault.ReadFault.TheVariants.{Broken}
@@ -17,7 +17,7 @@ use Rattle.cf_text.specs.Names.{is_class_name}
 abbrev pub malformed : {A : Type 0} → ℕ → Result A ReadFault
 malformed at = Err (Broken rules.Descriptor at)
 
--- how many dimensions a text begins with: as many as it has brackets in front
+-- the number of brackets at the front of a text: its dimensions
 abbrev pub dimensions_of : List ℕ → ℕ
 dimensions_of [] = 0
 dimensions_of (b ∷ bs) = if b == 91 then dimensions_of bs + 1 else 0
@@ -62,7 +62,7 @@ field_type_of at text = if nat_lt 255 (dimensions_of text) then malformed at els
   element ← element_type_of at (drop (dimensions_of text) text)
   Ok (record { dimensions = dimensions_of text; element = element.0 }, element.1)
 
--- field types up to a closing bracket, at most so many
+-- field types up to a closing parenthesis, at most n
 unfoldable pub parameters_of : ℕ → ℕ → List ℕ → Result (List FieldType × List ℕ) ReadFault
 parameters_of zero at text = malformed at
 parameters_of (suc n) at text = if begins_with 41 text then Ok ([], drop 1 text) else do
@@ -102,7 +102,7 @@ abbrev pub as_found : Result Descriptor ReadFault → Option Descriptor
 as_found (Ok descriptor) = Some descriptor
 as_found (Err fault) = None
 
--- what a text says as a descriptor: none where it is not one
+-- what a text says as a descriptor: none if it is not one
 unfoldable pub descriptor_in : List ℕ → Option Descriptor
 descriptor_in text = as_found (descriptor_of text)
 

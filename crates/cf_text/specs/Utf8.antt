@@ -9,8 +9,8 @@ is_in low high b = nat_le low b && nat_le b high
 
 -- what a character's first byte leads to: one byte up to 7F but 0, the first of two from C2 to DF, the
 -- first of three from E0 to EF. C0 80 is the character 0; no other character has a longer form.
--- That either half of a surrogate pair may stand alone is a rule of this project: each is spelled by itself, and texts are compared
--- by their bytes.
+-- Either half of a surrogate pair may stand alone (a rule of this project): each is spelled by itself, and texts are compared by their
+-- bytes.
 abbrev pub after_first : ℕ → Expected
 after_first b =
     if is_in 1 127 b then Character else if b == 192 then LastOfNull else if is_in 194 223 b then Last

@@ -5,7 +5,7 @@ ghost use Rattle.cf_text.specs.Demands.{verdict};
 
 use super::{ReadFault, Rule};
 
-/// The item at a position keeps a rule, or is a fault.
+/// Returns Ok if the item at a position keeps a rule, else the fault of that rule there.
 #[tactic(auto, unfolding(crate::specs::Demands::verdict))]
 pub fn demand(holds: bool, rule: Rule, at: usize) -> Result<(), ReadFault>
     ensures { result ≡ verdict (record { at = at; rule = rule; holds = holds } ∷ []) }

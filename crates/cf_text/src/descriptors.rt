@@ -1,5 +1,5 @@
-//! Reading descriptors (JVMS 4.3), from the front of a text on. A fault is at the position where the
-//! text is used.
+//! Reading descriptors (JVMS 4.3), from the front of a text on. A fault is at the position at which
+//! the text is used.
 
 ghost use Rattle.std.specs.Prelude.{◌≡◌, ◌<◌, ◌≤◌, length, IsTrue, IfOk};
 ghost use Rattle.cf_text.specs.Reading.{Gives, GivesSeen};
@@ -34,7 +34,7 @@ fn dimensions(text: &[u8]) -> usize
     text.len()
 }
 
-// How many bytes stand before the first semicolon: all of them where there is none.
+// How many bytes stand before the first semicolon: all of them if there is none.
 fn name_length(text: &[u8]) -> usize
     ensures value { result ≡ name_length text.now }
     ensures within { result ≤ length text.now }
@@ -47,7 +47,7 @@ fn name_length(text: &[u8]) -> usize
     text.len()
 }
 
-/// Whether a text begins with a byte.
+/// Returns whether a text begins with a byte.
 pub fn begins_with(text: &[u8], byte: u8) -> bool
     ensures value { result ≡ begins_with byte text.now }
     ensures some { IsTrue result → 0 < length text.now }
@@ -125,7 +125,7 @@ fn field_type(alloc: Global, text: &[u8], at: usize) -> Result<(FieldType, &[u8]
     ))
 }
 
-// At most so many field types, up to a closing bracket, and the text after it.
+// At most `most` field types, up to a closing parenthesis, and the text after it.
 fn parameters(
     alloc: Global,
     text: &[u8],
@@ -147,7 +147,7 @@ fn parameters(
     Err(malformed(at))
 }
 
-/// The field type that a text is (JVMS 4.3.2). A text that is none is a fault at `at`.
+/// Returns the field type that a text is (JVMS 4.3.2). A text that is none is a fault at `at`.
 #[tactic(auto, unfolding(crate::specs::Types::field_descriptor_of))]
 pub fn read_field_descriptor(alloc: Global, text: &[u8], at: usize) -> Result<FieldType, ReadFault>
     ensures { Gives (field_descriptor_of at text.now) result }
@@ -174,7 +174,8 @@ fn method_result(alloc: Global, text: &[u8], at: usize) -> Result<Option<FieldTy
     Ok(Some(kind))
 }
 
-/// The method descriptor that a text is (JVMS 4.3.3). A text that is none is a fault at `at`.
+/// Returns the method descriptor that a text is (JVMS 4.3.3). A text that is none is a fault at
+/// `at`.
 #[tactic(auto, unfolding(crate::specs::Types::method_descriptor_of))]
 pub fn read_method_descriptor(
     alloc: Global,
@@ -215,11 +216,11 @@ fn descriptor_in(alloc: Global, text: &[u8]) -> Result<Option<Descriptor>, Alloc
     }
 }
 
-/// What a text says as a descriptor (JVMS 4.3): a method descriptor where it begins with `(`, else a
-/// field type. `None` exactly where it is neither. Every type of the standard is read, in this
-/// project's profile or not; `Err` is out of memory.
+/// Returns what a text says as a descriptor (JVMS 4.3): a method descriptor if it begins with `(`,
+/// else a field type, and `None` exactly if it is neither. `Err` is out of memory. Every type of
+/// the standard is read, in this project's profile or not.
 pub fn descriptor(alloc: Global, text: &[u8]) -> Result<Option<Descriptor>, AllocError>
-    // The one descriptor that the text spells, or none where it spells none.
+    // The one descriptor that the text spells, or none if it spells none.
     ensures exactly { IfOk result (λ found. Exactly found (IsDescriptor text.now)) }
     ensures value { IfOk result (λ found. found ≡ descriptor_in text.now) }
 {

@@ -1,4 +1,4 @@
-//! Faults of reading a class file: the rule that is broken, and where.
+//! Faults of reading a class file: the broken rule, and the position.
 
 ghost use Rattle.std.specs.Prelude.{◌≡◌, Some};
 ghost use Rattle.cf_text.specs.declared.fault.ReadFault.TheVariants.{Memory};
@@ -23,7 +23,7 @@ pub enum Rule {
     Tag = 4,
     /// Bytes are no modified UTF-8, or a name is not allowed.
     Utf8 = 5,
-    /// An index of the constant pool does not name an entry of the kind that is asked.
+    /// An index of the constant pool does not name an entry of the kind wanted.
     Index = 6,
     /// A descriptor is malformed.
     Descriptor = 7,

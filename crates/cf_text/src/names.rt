@@ -44,16 +44,16 @@ fn are_method_name_bytes(text: &[u8]) -> bool
     true
 }
 
-/// Whether a text is an unqualified name (JVMS 4.2.2), as of a field: not empty, and without `.`,
-/// `;`, `[` and `/`.
+/// Returns whether a text is an unqualified name, such as a field's (JVMS 4.2.2): not empty, and
+/// without `.`, `;`, `[` and `/`.
 pub fn is_name(text: &[u8]) -> bool
     ensures { result ≡ is_name text.now }
 {
     !text.is_empty() && are_name_bytes(text)
 }
 
-/// Whether a text is a name of a method: `<init>`, `<clinit>`, or an unqualified name without `<`
-/// and `>`.
+/// Returns whether a text is a name of a method: `<init>`, `<clinit>`, or an unqualified name
+/// without `<` and `>`.
 pub fn is_method_name(text: &[u8]) -> bool
     ensures { result ≡ is_method_name text.now }
 {
@@ -62,8 +62,8 @@ pub fn is_method_name(text: &[u8]) -> bool
         || (!text.is_empty() && are_method_name_bytes(text))
 }
 
-/// Whether a text is the name of a class in internal form (JVMS 4.2.1): unqualified names parted by
-/// `/`.
+/// Returns whether a text is the name of a class in internal form (JVMS 4.2.1): unqualified names
+/// parted by `/`.
 pub fn is_class_name(text: &[u8]) -> bool
     ensures { result ≡ is_class_name text.now }
 {

@@ -9,7 +9,7 @@ use super::{ReadFault, Row, Rule, Text};
 use byteorder::{BigEndian, ByteOrder};
 use std::alloc::Global;
 
-/// The position after the next `len` bytes.
+/// Returns the position after the next `len` bytes.
 pub fn skip(bytes: &[u8], at: usize, len: usize) -> Result<usize, ReadFault>
     ensures { Gives (skip_at len bytes.now at) result }
 {
@@ -22,7 +22,7 @@ pub fn skip(bytes: &[u8], at: usize, len: usize) -> Result<usize, ReadFault>
     Ok(at + len)
 }
 
-/// A number of one byte.
+/// Returns a number of one byte.
 pub fn read_u8(bytes: &[u8], at: usize) -> Result<(u8, usize), ReadFault>
     ensures { Gives (number_at 1 bytes.now at) result }
 {
@@ -30,7 +30,7 @@ pub fn read_u8(bytes: &[u8], at: usize) -> Result<(u8, usize), ReadFault>
     Ok((bytes[at], to))
 }
 
-/// A number of two bytes.
+/// Returns a number of two bytes.
 pub fn read_u16(bytes: &[u8], at: usize) -> Result<(u16, usize), ReadFault>
     ensures { Gives (number_at 2 bytes.now at) result }
 {
@@ -38,7 +38,7 @@ pub fn read_u16(bytes: &[u8], at: usize) -> Result<(u16, usize), ReadFault>
     Ok((BigEndian::read_u16(&bytes[at..]), to))
 }
 
-/// A number of four bytes.
+/// Returns a number of four bytes.
 pub fn read_u32(bytes: &[u8], at: usize) -> Result<(u32, usize), ReadFault>
     ensures { Gives (number_at 4 bytes.now at) result }
 {
@@ -46,7 +46,7 @@ pub fn read_u32(bytes: &[u8], at: usize) -> Result<(u32, usize), ReadFault>
     Ok((BigEndian::read_u32(&bytes[at..]), to))
 }
 
-/// A signed number of four bytes, in two's complement.
+/// Returns a signed number of four bytes, in two's complement.
 #[tactic(auto, unfolding(crate::specs::Numbers::signed_at))]
 pub fn read_i32(bytes: &[u8], at: usize) -> Result<(i32, usize), ReadFault>
     ensures { Gives (signed_at bytes.now at) result }
@@ -55,7 +55,7 @@ pub fn read_i32(bytes: &[u8], at: usize) -> Result<(i32, usize), ReadFault>
     Ok((bits.cast_signed(), to))
 }
 
-/// The next `len` bytes, as a text.
+/// Returns the next `len` bytes, as a text.
 pub fn read_text(
     alloc: Global,
     bytes: &[u8],
@@ -69,7 +69,7 @@ pub fn read_text(
     Ok((Text::new(alloc, text)?, to))
 }
 
-/// The next `len` bytes, as a row.
+/// Returns the next `len` bytes, as a row.
 pub fn read_row(
     alloc: Global,
     bytes: &[u8],

@@ -22,7 +22,7 @@ impl<T> Model for Shared<T> {
 }
 
 impl<T: Drop> Shared<T> {
-    /// The value, with one owner.
+    /// Returns the value, with one owner.
     ///
     /// If memory runs out the value is dropped.
     pub fn new(alloc: Global, value: T) -> Result<Shared<T>, AllocError>
@@ -36,7 +36,7 @@ impl<T: Drop> Shared<T> {
 }
 
 impl<T> Shared<T> {
-    /// The same value, with one owner more. It takes no memory.
+    /// Returns the same value, with one owner more. It takes no memory.
     pub fn share(&self) -> Result<Shared<T>, AllocError>
         ensures { IfOk result (λ shared. shared ≡ self.now) }
     {

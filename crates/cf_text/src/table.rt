@@ -4,8 +4,9 @@ ghost use Rattle.std.specs.Prelude.{◌≡◌, ◌≤◌, length};
 
 use std::marker::Model;
 
-/// Items of a class file in order, over a `Vec`: 65,535 at most, as many as a table's count of two bytes
-/// tells (JVMS 4.1, 4.7) and as code has bytes (JVMS 4.7.3). A contract sees it as the list of them.
+/// Items of a class file in order, over a `Vec`: at most 65,535, since a table's count has two
+/// bytes (JVMS 4.1, 4.7) and code at most 65,535 bytes (JVMS 4.7.3). A contract sees it as the list
+/// of them.
 #[derive(Debug, Drop)]
 pub struct Table<T> {
     items: Vec<T>,
@@ -22,7 +23,8 @@ impl<T> Model for Table<T> {
 }
 
 impl<T> Table<T> {
-    /// The table of these items, of which the caller owes 65,535 at most. It takes no memory.
+    /// Returns the table of these items. The caller owes that they are at most 65,535. It takes no
+    /// memory.
     pub fn new(items: Vec<T>) -> Table<T>
         requires few { length items.items ≤ 65535 }
         ensures { result ≡ items.items }
@@ -30,7 +32,7 @@ impl<T> Table<T> {
         Table { items }
     }
 
-    /// Its items.
+    /// Returns the items of the table.
     pub fn as_slice(&self) -> &[T]
         ensures items { result.now ≡ self.now }
         ensures few { length self.now ≤ 65535 }
@@ -38,7 +40,7 @@ impl<T> Table<T> {
         &self.items
     }
 
-    /// Gives the items back. It takes no memory.
+    /// Returns the items, and gives up the table. It takes no memory.
     pub fn into_vec(self) -> Vec<T>
         ensures { result.items ≡ self }
     {

@@ -22,7 +22,7 @@ impl Model for Text {
 }
 
 impl Text {
-    /// The text of these bytes.
+    /// Returns the text of these bytes.
     pub fn new(alloc: Global, bytes: Vec<u8>) -> Result<Text, AllocError>
         ensures { IfOk result (λ text. text ≡ bytes.items) }
     {
@@ -30,21 +30,21 @@ impl Text {
         Ok(Text { bytes })
     }
 
-    /// Its bytes.
+    /// Returns the bytes of the text.
     pub fn as_bytes(&self) -> &[u8]
         ensures { result.now ≡ self.now }
     {
         &self.bytes
     }
 
-    /// Whether the text is these bytes.
+    /// Returns whether the text is these bytes.
     pub fn is(&self, bytes: &[u8]) -> bool
         ensures { IsTrue result ↔ (self.now ≡ bytes.now) }
     {
         self.as_bytes() == bytes
     }
 
-    /// A copy, which shares the bytes: it takes no memory.
+    /// Returns a copy that shares the bytes. It takes no memory.
     pub fn copy(&self) -> Result<Text, AllocError>
         ensures { IfOk result (λ copy. copy ≡ self.now) }
     {

@@ -2,7 +2,7 @@
 
 use super::{Row, Text};
 
-/// A field type (JVMS 4.3.2): an element after so many array dimensions, 0 to 255.
+/// A field type (JVMS 4.3.2): an element type after 0 to 255 array dimensions.
 #[derive(Debug, Drop)]
 pub struct FieldType {
     pub dimensions: u8,

@@ -54,7 +54,7 @@ impl Expected {
 
 ghost use Rattle.cf_text.specs.Utf8.{is_modified_utf8};
 
-/// Whether a text is modified UTF-8.
+/// Returns whether a text is modified UTF-8.
 pub fn is_modified_utf8(text: &[u8]) -> bool
     ensures { result ≡ is_modified_utf8 text.now }
 {

@@ -1,7 +1,8 @@
 //! Makes class files from their parts, for tests and examples: the constant pool is made on the way,
 //! each text and class in it once, in the order of first use.
 //!
-//! What is asked is written, right or wrong, so that a test can also make what is to be refused.
+//! It writes what is asked, right or wrong, so that a test can also make a class file that has to
+//! be refused.
 #![tactic(auto)]
 
 pub use examples::SUM;

@@ -34,7 +34,7 @@ fn put_i32(out: &mut Vec<u8>, number: i32) -> Result<(), BuildFault> {
     Ok(())
 }
 
-// One operand, of as many bytes as the opcode has.
+// One operand, of one or two bytes as the opcode asks.
 fn put_number(out: &mut Vec<u8>, opcode: u8, number: i32) -> Result<(), BuildFault> {
     let [_, _, high, low] = number.to_be_bytes();
     out.push(opcode)?;
@@ -97,7 +97,7 @@ fn put_lookup(out: &mut Vec<u8>, cases: &[(i32, u16)], default: u16) -> Result<(
     Ok(())
 }
 
-// How many words the receiver and the arguments of a method take, where each takes one.
+// How many words the receiver and the arguments of a method take. Each takes one.
 fn argument_count(descriptor: &str) -> u8 {
     let mut count: u8 = 1;
     let mut is_in_name = false;
@@ -132,7 +132,7 @@ fn put_member(
     Ok(())
 }
 
-/// Writes a line.
+/// Appends the bytes of the line's instruction to `out`, and adds what it names to the pool.
 pub fn put_line(pool: &mut PoolParts, out: &mut Vec<u8>, line: &Line) -> Result<(), BuildFault> {
     match line {
         Line::Op(mnemonic) => out.push(opcode(mnemonic)?)?,

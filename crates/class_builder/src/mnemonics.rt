@@ -102,7 +102,7 @@ const OPCODES: [(&str, u8); 99] = [
     ("goto_w", 200),
 ];
 
-/// The opcode of a mnemonic: `None` for what is none of those that are known here.
+/// Returns the opcode of a mnemonic, or `None` if the mnemonic is not known here.
 pub fn opcode_of(mnemonic: &str) -> Option<u8> {
     for (known, opcode) in &OPCODES {
         if *known == mnemonic {

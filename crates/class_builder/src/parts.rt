@@ -44,8 +44,9 @@ pub struct CodeParts<'a> {
     pub attributes: &'a [AttributeParts<'a>],
 }
 
-/// An instruction, as `javap` shows it: opcodes are mnemonics, branches go to offsets, and members and
-/// classes are names. A member is told after the mnemonic by its class, its name and its descriptor.
+/// An instruction, as `javap` shows it: opcodes are mnemonics, branches go to offsets, and members
+/// and classes are names. After the mnemonic a member is given by its class, its name and its
+/// descriptor.
 #[derive(Clone, Copy)]
 pub enum Line<'a> {
     /// No operand: `iload_0`.
@@ -79,7 +80,7 @@ pub enum Line<'a> {
     Bytes(&'a [u8]),
 }
 
-/// An attribute by its name and the bytes behind its length.
+/// An attribute by its name and the bytes after its length.
 #[derive(Clone, Copy)]
 pub struct AttributeParts<'a> {
     pub name: &'a str,

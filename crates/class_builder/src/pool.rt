@@ -29,6 +29,7 @@ pub struct PoolParts {
 }
 
 impl PoolParts {
+    /// Returns a pool without entries.
     pub fn new(alloc: Global) -> PoolParts {
         PoolParts {
             alloc,
@@ -36,7 +37,7 @@ impl PoolParts {
         }
     }
 
-    /// The index of a text, which is added where it is new.
+    /// Returns the index of a text. A new text is added.
     pub fn utf8(&mut self, text: &str) -> Result<u16, BuildFault> {
         for (before, entry) in self.entries.iter().enumerate() {
             if let Entry::Utf8(known) = entry
@@ -49,7 +50,7 @@ impl PoolParts {
         self.add(Entry::Utf8(text))
     }
 
-    /// The index of a class by its name, which is added where it is new.
+    /// Returns the index of a class by its name. A new class is added.
     pub fn class(&mut self, name: &str) -> Result<u16, BuildFault> {
         let name = self.utf8(name)?;
         for (before, entry) in self.entries.iter().enumerate() {
@@ -62,7 +63,7 @@ impl PoolParts {
         self.add(Entry::Class(name))
     }
 
-    /// The index of an int, which is added where it is new.
+    /// Returns the index of an int. A new int is added.
     pub fn integer(&mut self, value: i32) -> Result<u16, BuildFault> {
         for (before, entry) in self.entries.iter().enumerate() {
             if let Entry::Integer(known) = entry
@@ -86,7 +87,8 @@ impl PoolParts {
         self.add(Entry::NameAndType(name, descriptor))
     }
 
-    /// The index of a member by its class, its name and its descriptor, which is added where it is new.
+    /// Returns the index of a member by its class, its name and its descriptor. A new member is
+    /// added.
     pub fn member(
         &mut self,
         tag: MemberTag,
@@ -115,7 +117,7 @@ impl PoolParts {
         Ok(index)
     }
 
-    /// The bytes of the pool: its count and its entries.
+    /// Returns the bytes of the pool: its count and its entries.
     pub fn bytes(&self) -> Result<Vec<u8>, BuildFault> {
         let mut out = Vec::new(self.alloc);
         let count = index_after(self.entries.len())?;
@@ -154,7 +156,7 @@ fn put_entry(out: &mut Vec<u8>, tag: u8, indices: &[u16]) -> Result<(), BuildFau
     Ok(())
 }
 
-// The index of the entry behind so many others.
+// The index of the entry after `entries` others.
 fn index_after(entries: usize) -> Result<u16, BuildFault> {
     match u16::try_from(entries) {
         Ok(entries) if entries < u16::MAX => Ok(entries + 1),

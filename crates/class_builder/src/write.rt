@@ -40,8 +40,8 @@ impl<T: Drop> From<AllocFailed<T>> for BuildFault {
 /// What each file begins with: the magic number and version 52.0.
 pub const HEADER: [u8; 8] = [0xca, 0xfe, 0xba, 0xbe, 0, 0, 0, 52];
 
-/// The bytes of the class file that has these parts. Tests compare them with a file that is known;
-/// the contract says of them what makes each one a class file at all.
+/// Returns the bytes of the class file that has these parts. Tests compare them with a known file;
+/// the contract says only how a class file begins.
 pub fn class_bytes(alloc: Global, class: &ClassParts) -> Result<Vec<u8>, BuildFault>
     ensures header { IfOk result (λ file. StartsWith file.items HEADER) }
 {
@@ -134,7 +134,7 @@ fn put_method(
     Ok(())
 }
 
-// The bytes of a Code attribute behind its length.
+// The bytes of a Code attribute after its length.
 fn code_bytes(
     alloc: Global,
     pool: &mut PoolParts,
@@ -175,7 +175,7 @@ fn put_attribute(
     put_sized(out, attribute.bytes)
 }
 
-// Writes bytes behind their length of four bytes.
+// Writes bytes after their length of four bytes.
 fn put_sized(out: &mut Vec<u8>, bytes: &[u8]) -> Result<(), BuildFault> {
     let length = u32::try_from(bytes.len()).map_err(|_| BuildFault::TooLong)?;
     out.extend_from_slice(&length.to_be_bytes())?;

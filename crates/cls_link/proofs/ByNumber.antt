@@ -11,7 +11,7 @@ use Rattle.cls_search.specs.MethodSearches as selections
 use Rattle.cls_search.specs.MethodSearches.{is_interface, own_of_interface, Resolves}
 
 module _ {A B : Type 0} (g : A → B) where
-  -- what is found, told otherwise
+  -- what is found, in other terms
   mapped : (above : ClassId → List ClassId) (own : ClassId → Option A) (other : ClassId → Option B) → ((c : ClassId) → other c ≡ option_map g (own c)) → {xs : List ClassId} {r : Option A} → Finds above own xs r → Finds above other xs (option_map g r)
   mapped above own other same searches.Finds.nothing = searches.Finds.nothing
   mapped above own other same (searches.Finds.here c rest x is) = searches.Finds.here c rest (g x) (same c ∙ ap (option_map g) is)

@@ -39,13 +39,13 @@ pub link_more : {classes : List Class} (before ds : List Declared) (ms : List Li
 link_more {classes} before ds ms d m all one =
     subst (λ es. AllZip (IsLinked classes) es (ms ++ m ∷ [])) (append_assoc before ds (d ∷ [])) (zip_push (before ++ ds) ms d m all one)
 
--- the first of the methods at fault, where those before it break no rule
+-- the first of the methods at fault, if those before it break no rule
 pub first_fault : (classes : List Class) (ds before : List Declared) (d : Declared) (after : List Declared) (fault : LinkFault) → ds ≡ before ++ d ∷ after → All (IsSoundMethod classes) before → IsMethodFault classes d fault → IsFaultOf classes ds fault
 first_fault classes ds before d after Memory whole sound wrong = tt
 first_fault classes ds before d after (Broken rule class method descriptor at) whole sound wrong =
     record { before = before; faulty = d; after = after; whole = whole; sound = sound; wrong = wrong }
 
--- the same among more methods, where those before break no rule
+-- the same among more methods, if those before break no rule
 pub fault_widened : (classes : List Class) (all pre ds post : List Declared) (fault : LinkFault) → all ≡ pre ++ (ds ++ post) → All (IsSoundMethod classes) pre → IsFaultOf classes ds fault → IsFaultOf classes all fault
 fault_widened classes all pre ds post Memory whole sound f = tt
 fault_widened classes all pre ds post (Broken rule class method descriptor at) whole sound f =
@@ -90,7 +90,7 @@ declared_split k (c ∷ cs) (suc n) =
     let first = declared_in (record { 0 = k }) c.file.name 0 c.file.methods in
     (rest.0, ap (λ ds. first ++ ds) rest.1 ∙ sym (append_assoc first (declared_from (suc k) (take n cs)) rest.0))
 
--- a fault of a class is one of all classes, where those before break no rule
+-- a fault of a class is one of all classes, if those before break no rule
 pub class_fault : (classes cs : List Class) (n : ℕ) (d : Class) (fault : LinkFault) → n < length cs → All (IsSoundMethod classes) (declared_from 0 (take n cs)) → IsFaultOf classes (declared_in (record { 0 = n }) (get_or cs n d).file.name 0 (get_or cs n d).file.methods) fault → IsFaultOf classes (declared_from 0 cs) fault
 class_fault classes cs n d fault h sound f =
     let rest = declared_split 0 cs (n + 1) in

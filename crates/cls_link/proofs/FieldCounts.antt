@@ -103,7 +103,7 @@ own_slot class k (f ∷ fs) (suc i) d e h is =
           ∙ (ap (λ xs. get_or xs n e) (left_out class k f fs u) ∙ more)
     ]
 
--- those before a field, and it with those behind it
+-- those before a field, and it with those after it
 parted : (fs : List Field) (i : ℕ) → count_by is_instance (take i fs) + count_by is_instance (drop i fs) ≡ count_by is_instance fs
 parted fs zero = zero_plus (count_by is_instance fs)
 parted [] (suc i) = refl

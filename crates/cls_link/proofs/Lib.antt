@@ -8,3 +8,4 @@ pub mod Landing
 pub mod MethodNumbers
 pub mod Places
 pub mod Sound
+pub mod NotedCounts

@@ -98,7 +98,7 @@ number_by_place cs class c n t h is =
     ∙ (ap (λ i. number_from (length pre + 0) (declared_in (record { 0 = i }) c.file.name 0 c.file.methods ++ post) class n t) (zero-add class.0)
     ∙ number_among (length pre) 0 0 class c.file.name c.file.methods post n t behind)))
 
--- where the methods of a class start
+-- the number at which the methods of a class start
 starts_at : (s k : ℕ) (cs : List Class) (n : ℕ) → n < length cs → get_or (starts s cs) n 0 ≡ s + length (declared_from k (take n cs))
 starts_at s k [] n h = absurd (omega arith)
 starts_at s k (c ∷ cs) zero h = sym (add-zero s)
@@ -172,7 +172,7 @@ number_found cs class n t =
       | inr r ↦ number_absent cs class n t r.0 ∙ ap (λ o. option_map (number_in cs) (option_and_then (own_of class n t) o)) (sym r.1)
     ]
 
--- a method of the set: its class, and where it stands
+-- a method of the set: its class, and its index there
 pub record StandsIn (cs : List Class) (m : MethodIndex) : Type 0 where
   pub c : Class
   pub at : slice_get cs m.class.0 ≡ Some c

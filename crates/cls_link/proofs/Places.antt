@@ -1,4 +1,4 @@
--- Where methods are declared.
+-- The classes and indices at which methods are declared.
 use Rattle.std.proofs.Common.{◌≡◌, ℕ, zero, suc, ◌-◌, ◌<◌, ◌≤◌, inl, inr, Some, List, [], ◌∷◌, length, get_or, drop, refl, sym, subst, ap, ◌∙◌, arith}
 use Rattle.std.specs.Prelude.{All, IsSomeAnd, option_map, slice_get}
 use Rattle.std.specs.List.{AllZip}

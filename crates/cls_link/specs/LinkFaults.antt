@@ -99,7 +99,7 @@ abbrev pub IsListingStop : List Class → ClassId → Method → Listing → Sto
 IsListingStop classes class method listing stop.Memory = Unit {0}
 IsListingStop classes class method listing (stop.Broken rule at) = IsFirstUnsound classes class method listing rule at
 
--- ---- how a fault is told
+-- ---- the fault that is answered
 
 -- why code is not linked that has no listing
 abbrev pub stop_of : CodeFault → Stop

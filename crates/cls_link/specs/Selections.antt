@@ -26,14 +26,14 @@ abbrev pub instance_method : List Class → List ℕ → List ℕ → ClassId �
 instance_method classes name descriptor class =
     option_and_then (λ id. if option_map_or is_static (method_at classes id) true then None else Some id) (number_of classes class name descriptor)
 
--- what running a method that was found comes to
+-- the selection of a method that was found
 pub data IsSelection (classes : List Class) : Option MethodId → Selection → Type 0 where
   runs : (id : MethodId) (m : Method) → method_at classes id ≡ Some m → IsSome m.code → IsSelection classes (Some id) (Runs id)
   abstract : (id : MethodId) (m : Method) → method_at classes id ≡ Some m → m.code ≡ None → IsSelection classes (Some id) (Abstract id)
   absent : IsSelection classes None Absent
 
--- The method that a call runs (JVMS 5.4.5, 6.5): the first instance method with the name and the descriptor of
--- the one that was resolved, from a class up its superclasses. That private ones count too is a rule of this project.
+-- The method that a call runs (JVMS 5.4.5, 6.5): the first instance method with the name and the descriptor of the one that was resolved,
+-- from a class up its superclasses. Private ones count too (a rule of this project).
 pub record Selects (classes : List Class) (class : ClassId) (resolved : MethodId) (selection : Selection) : Type 0 where
   pub method : Method
   pub declared : method_at classes resolved ≡ Some method

@@ -1,4 +1,4 @@
-//! Faults of linking: the rule that is broken, and the instruction that breaks it.
+//! Faults of linking: the broken rule, and the instruction that breaks it.
 
 ghost use Rattle.std.specs.Prelude.{◌≡◌};
 ghost use Rattle.cls_link.specs.declared.fault.LinkFault.TheVariants.{Memory};

@@ -1,10 +1,8 @@
-//! How many fields objects have, and where they keep them.
+//! How many fields objects have, and the slots of these.
 
-ghost use Rattle.std.specs.Prelude.{◌≡◌, ◌+◌, ◌-◌, ◌*◌, ◌<◌, ◌≤◌, ◌&&◌, ℕ, suc, Some, IfSome, IfNone, IfOk, IsSome, IsTrue, bytes_eq, count_by, drop, length, slice_get};
-ghost use Rattle.cls_link.specs.Fields.{is_instance, AreFieldCounts, CountsFields};
-ghost use Rattle.cls_search.specs.Searches.{IsRanking};
+ghost use Rattle.std.specs.Prelude.{◌≡◌, ◌+◌, ◌-◌, ◌<◌, ◌≤◌, ◌&&◌, Some, IfSome, IfNone, IfOk, IsSome, IsTrue, bytes_eq, count_by, drop, length, slice_get};
+ghost use Rattle.cls_link.specs.Fields.{is_instance, AreFieldCounts, AreNoted, IsCount};
 ghost use Rattle.cf_reader.specs.declared.class_file.Field.{Field};
-ghost use Rattle.space_ids.specs.declared.ids.ClassId.{ClassId};
 ghost use Rattle.cls_set.specs.Sets.{IsClassSet};
 
 use super::FieldSlot;
@@ -30,8 +28,8 @@ fn count_instance_fields(fields: &[Field]) -> usize
     count
 }
 
-// The slot of the field at an index among those that a class declares, which are the last of so many that
-// its objects have: none for a static one.
+// The slot of the field at an index among those that a class declares, which are the last of the
+// `count` that its objects have: none for a static one.
 pub(crate) fn slot_in(fields: &[Field], index: usize, count: u32) -> Option<FieldSlot>
     requires within { index < length fields.now }
     requires few { count_by is_instance (drop index fields.now) ≤ count }
@@ -46,18 +44,30 @@ pub(crate) fn slot_in(fields: &[Field], index: usize, count: u32) -> Option<Fiel
     Some(FieldSlot(count - count_instance_fields(last) as u32))
 }
 
-// How many fields an object of a class has: 65,535 at most of each class on the way up.
-fn count_fields(set: &ClassSet, class: ClassId) -> u32
+// How many fields an object of a class has: 65,535 at most of each class on the way up. Each class is counted
+// once, and noted.
+fn count_fields(set: &ClassSet, class: ClassId, noted: &mut Vec<Option<u32>>) -> u32
     requires set { IsClassSet set.now }
     requires in_set { class.0 < length set.now }
-    ensures counts { CountsFields set.now class result }
-    ensures few { (rank : ClassId → ℕ) → IsRanking set.now rank → result ≤ 65535 * suc (rank class) }
+    requires noted { AreNoted set.now noted.old.items }
+    ensures count { IsCount set.now class result }
+    ensures noted { AreNoted set.now noted.new.items }
 {
+    if let Some(count) = noted[usize::from(class.0)] {
+        return count;
+    }
     let entry = set.class(class);
     let own = count_instance_fields(entry.file.fields.as_slice()) as u32;
     match entry.superclass {
-        Some(superclass) => count_fields(set, superclass) + own,
-        None => own,
+        Some(superclass) => {
+            let count = count_fields(set, superclass, noted) + own;
+            noted[usize::from(class.0)] = Some(count);
+            count
+        }
+        None => {
+            noted[usize::from(class.0)] = Some(own);
+            own
+        }
     }
 }
 
@@ -66,8 +76,9 @@ pub(crate) fn count_all(alloc: Global, set: &ClassSet) -> Result<Vec<u32>, Alloc
     ensures { IfOk result (λ counts. AreFieldCounts set.now counts.items) }
 {
     let mut counts = Vec::with_capacity(alloc, set.len())?;
+    let mut noted: Vec<Option<u32>> = vec![in alloc; None; set.len()]?;
     for number in 0..set.len() {
-        counts.push(count_fields(set, ClassId(number as u16)))?;
+        counts.push(count_fields(set, ClassId(number as u16), &mut noted))?;
     }
     Ok(counts)
 }

@@ -8,6 +8,7 @@ use super::fields::{count_all, slot_in};
 use super::linking::link_class;
 use super::methods::selected;
 use super::{FieldSlot, LinkFault, LinkedMethod, MemberIndex, MethodId, Selection};
+use cls_resolve::KnownMembers;
 use cls_search::{FieldIndex, MethodIndex, find_field, find_method, own_method};
 use cls_set::{ClassId, ClassSet, Method};
 use std::alloc::Global;
@@ -48,7 +49,7 @@ impl Linked {
     ghost use Rattle.cls_link.specs.Selections.{IsSelection, ResolvesMethod, Selects};
     ghost use Rattle.cls_search.specs.MethodSearches.{method_in};
 
-    /// How many methods it has.
+    /// Returns how many methods the set has.
     pub fn len(&self) -> usize
         ensures count { result ≡ length self.now.methods }
         ensures links { AreLinks self.now }
@@ -56,15 +57,15 @@ impl Linked {
         self.methods.len()
     }
 
-    /// Its classes.
+    /// Returns the class set.
     pub fn set(&self) -> &ClassSet
         ensures { result.now ≡ self.now.classes }
     {
         &self.set
     }
 
-    /// The number of the method that a class itself declares with this name and descriptor: `None`
-    /// where it declares none.
+    /// Returns the number of the method that a class itself declares with this name and descriptor:
+    /// `None` if it declares none.
     pub fn declared_method(
         &self,
         class: ClassId,
@@ -91,7 +92,7 @@ impl Linked {
         MethodId((first + method.index) as u32)
     }
 
-    /// The number of a method that is told by its index, as linked instructions tell it.
+    /// Returns the number of a method that is given by its index, as in linked instructions.
     pub fn method_id(&self, member: MemberIndex) -> MethodId
         requires { IsSome (method_in self.now.classes (method_of member)) }
         ensures declared { method_at self.now.classes result ≡ method_in self.now.classes (method_of member) }
@@ -104,10 +105,10 @@ impl Linked {
         })
     }
 
-    /// The number of the method that a name and a descriptor mean in a class or an interface (JVMS
-    /// 5.4.3.3, 5.4.3.4): that of the class or its first superclass that declares one, else that of the
-    /// first of its superinterfaces, depth first; an `<init>` is that of the class alone. `None` where
-    /// none of these declares one. Access is not looked at.
+    /// Returns the number of the method that a name and a descriptor mean in a class or an
+    /// interface (JVMS 5.4.3.3, 5.4.3.4): that of the class or its first superclass that declares
+    /// one, else that of the first of its superinterfaces, depth first; an `<init>` is that of the
+    /// class alone. `None` if none of these declares one. Access is not looked at.
     pub fn method(&self, class: ClassId, name: &[u8], descriptor: &[u8]) -> Option<MethodId>
         requires { class.0 < length self.now.classes }
         ensures resolved { ResolvesMethod self.now.classes class name.now descriptor.now result }
@@ -119,9 +120,10 @@ impl Linked {
         }
     }
 
-    /// Where an object keeps the instance field that a name and a descriptor mean in a class (JVMS
-    /// 5.4.3.2): that of the class, else that of the first of its superinterfaces, depth first, and then
-    /// of its superclass. `None` where what is found is static, or nothing is. Access is not looked at.
+    /// Returns the slot of the instance field that a name and a descriptor mean in a class (JVMS
+    /// 5.4.3.2): that of the class, else that of the first of its superinterfaces, depth first, and
+    /// then of its superclass. `None` if the field is static, or there is none. Access is not
+    /// looked at.
     pub fn field_slot(&self, class: ClassId, name: &[u8], descriptor: &[u8]) -> Option<FieldSlot>
         requires { class.0 < length self.now.classes }
         ensures { IsSlot self.now.classes class name.now descriptor.now result }
@@ -132,8 +134,8 @@ impl Linked {
         }
     }
 
-    /// Where an object keeps a field that is told by its index, as linked instructions tell it: `None` for
-    /// a static one.
+    /// Returns the slot of a field that is given by its index, as in linked instructions: `None`
+    /// for a static one.
     pub fn field_slot_of(&self, member: MemberIndex) -> Option<FieldSlot>
         requires { IsSome (field_at self.now.classes (field_of member)) }
         ensures { IsFieldSlot self.now.classes (field_of member) result }
@@ -144,7 +146,7 @@ impl Linked {
         })
     }
 
-    /// How many fields an object of a class has, those of its superclasses too.
+    /// Returns how many fields an object of a class has, those of its superclasses too.
     pub fn field_count(&self, class: ClassId) -> u32
         requires { class.0 < length self.now.classes }
         ensures { CountsFields self.now.classes class result }
@@ -152,7 +154,7 @@ impl Linked {
         self.field_counts[usize::from(class.0)]
     }
 
-    // Where an object keeps a field: nowhere, where it is static.
+    // The slot of a field: `None` if it is static.
     fn slot_of(&self, field: FieldIndex) -> Option<FieldSlot>
         requires { IsSome (field_at self.now.classes field) }
         ensures { IsFieldSlot self.now.classes field result }
@@ -162,9 +164,10 @@ impl Linked {
         slot_in(fields, field.index, count)
     }
 
-    /// The method that a call of a resolved method runs (JVMS 5.4.5, 6.5): the first instance method of its
-    /// name and descriptor from this class up its superclasses, a private one too. The class is that of
-    /// the receiver, or for invokespecial that with which its rule begins (JVMS 6.5).
+    /// Returns the method that a call of a resolved method runs (JVMS 5.4.5, 6.5): the first
+    /// instance method of its name and descriptor from this class up its superclasses, a private
+    /// one too. The class is that of the receiver, or for invokespecial the one with which its rule
+    /// begins (JVMS 6.5).
     pub fn select(&self, class: ClassId, method: MethodId) -> Selection
         requires class { class.0 < length self.now.classes }
         requires method { method.0 < length self.now.methods }
@@ -178,7 +181,7 @@ impl Linked {
         }
     }
 
-    // What a call that comes to this method runs.
+    // What a call of this method runs.
     fn selection(&self, method: MethodId) -> Selection
         requires { method.0 < length self.now.methods }
         ensures { IsSelection self.now.classes (Some method) result }
@@ -189,7 +192,7 @@ impl Linked {
         }
     }
 
-    /// The method with this number, as declared.
+    /// Returns the method with this number, as declared.
     pub fn declaration(&self, method: MethodId) -> &Method
         requires { method.0 < length self.now.methods }
         ensures declared { method_at self.now.classes method ≡ Some result.now }
@@ -200,7 +203,7 @@ impl Linked {
         &class.file.methods.as_slice()[usize::from(entry.index)]
     }
 
-    /// The method with this number, linked.
+    /// Returns the method with this number, linked.
     pub fn linked_method(&self, method: MethodId) -> &LinkedMethod
         requires { method.0 < length self.now.methods }
         ensures { slice_get self.now.methods method.0 ≡ Some result.now }
@@ -209,15 +212,16 @@ impl Linked {
     }
 }
 
-/// Links the methods of a class set: each code is read once, with each branch as the index of the
-/// instruction that it goes to. Every class, field and method that code names is looked for here, also
-/// where the code is never reached (JVMS 5.4.3).
+/// Returns the class set with its methods linked: each code is read once, and each branch becomes
+/// the index of its target. Every class, field and method that code names is looked for here, also
+/// in code that is never reached (JVMS 5.4.3). The member that an entry of a constant pool means is
+/// searched for once, for all instructions of its class.
 ///
-/// The first method at fault counts, by class number and then as declared. In it a `Code` fault counts
-/// first, else the first instruction that breaks a rule on what it names. At one instruction the rules
-/// are looked for in this order: `AbsentClass`, `WrongRefKind`, `Access` of the class, `Abstract`,
-/// `AbsentField` or `AbsentMethod`, `Access` of the member, `StaticMismatch`, `FinalField`,
-/// `PrivateVirtual`.
+/// The first method at fault counts, by class number and then in the order of declaration. In it a
+/// `Code` fault counts first, else the first instruction that breaks a rule on what it names. At
+/// one instruction the rules are looked for in this order: `AbsentClass`, `WrongRefKind`, `Access`
+/// of the class, `Abstract`, `AbsentField` or `AbsentMethod`, `Access` of the member,
+/// `StaticMismatch`, `FinalField`, `PrivateVirtual`.
 pub fn link(alloc: Global, set: ClassSet) -> Result<Linked, LinkFault>
     ensures classes { IfOk result (λ linked. linked.classes ≡ set) }
     ensures links { IfOk result AreLinks }
@@ -228,12 +232,21 @@ pub fn link(alloc: Global, set: ClassSet) -> Result<Linked, LinkFault>
     let field_counts = count_all(alloc, &set)?;
     let mut methods = Vec::new(alloc);
     let mut first = Vec::with_capacity(alloc, set.len())?;
+    let mut known = KnownMembers::new(alloc);
     let mut marks = vec![in alloc; false; set.len()]?;
     for number in 0..set.len() {
         first.push(methods.len())?;
         let class = ClassId(number as u16);
         let file = &set.class(class).file;
-        link_class(alloc, &set, class, file, &mut marks, &mut methods)?;
+        link_class(
+            alloc,
+            &set,
+            class,
+            file,
+            &mut known,
+            &mut marks,
+            &mut methods,
+        )?;
     }
     Ok(Linked {
         set,

@@ -8,7 +8,7 @@ use super::LinkRule;
 use cf_insns::CodeFault;
 use std::alloc::{AllocError, AllocFailed};
 
-// Why code is not linked: the rule that is broken, and the offset of the instruction that breaks it.
+// Why code is not linked: the broken rule, and the offset of the instruction that breaks it.
 #[derive(Clone, Copy)]
 pub(crate) enum Stop {
     Broken { rule: LinkRule, at: u16 },

@@ -1,4 +1,4 @@
--- Which rule an instruction breaks that asks for a constant or a class.
+-- The rule that an instruction breaks, if it asks for a constant or a class.
 use Rattle.std.proofs.Common.{◌≡◌, ◌≢◌, ◌⊎◌, inl, inr, ℕ, ℤ, Some, None, List, [], ◌∷◌, refl, sym, subst, ap, ◌∙◌}
 use Rattle.std.specs.Prelude.{codes}
 use Rattle.cf_pool.specs.Pools.{class_at, integer_at}

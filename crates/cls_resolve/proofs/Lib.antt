@@ -5,3 +5,4 @@ pub mod Standing
 pub mod Unique
 pub mod UseChecks
 pub mod Used
+pub mod Knowing

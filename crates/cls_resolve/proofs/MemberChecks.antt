@@ -1,4 +1,4 @@
--- Which rule an instruction breaks that asks for a member.
+-- The rule that an instruction breaks, if it asks for a member.
 use Rattle.std.proofs.Common.{◌≡◌, ◌≢◌, inl, inr, ℕ, Option, Some, None, List, ◌∷◌, refl, sym, subst, ap, ◌∙◌}
 use Rattle.cf_pool.specs.Pools.{NamedMember, member_at}
 use Rattle.cf_pool.specs.declared.pool.MemberKind.{MemberKind}

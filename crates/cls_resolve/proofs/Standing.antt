@@ -1,9 +1,7 @@
 -- The class of a member that stands in the set.
-use Rattle.std.proofs.Common.{◌≡◌, ℕ, ◌<◌, true, false, Option, Some, None, List, length, refl}
+use Rattle.std.proofs.Common.{◌≡◌, ◌<◌, true, false, Option, Some, None, List, length, refl}
 use Rattle.std.specs.Prelude.{IsSome, option_and_then, slice_get}
 use Rattle.std.proofs.lemmas.Option.{slice_get_within}
-use Rattle.cf_reader.specs.declared.class_file.Field.{Field}
-use Rattle.cf_reader.specs.declared.class_file.Method.{Method}
 use Rattle.cls_set.specs.declared.class.Class.{Class}
 use Rattle.cls_search.specs.declared.fields.FieldIndex.{FieldIndex}
 use Rattle.cls_search.specs.declared.methods.MethodIndex.{MethodIndex}

@@ -99,7 +99,7 @@ module _ (classes : List Class) (named : NamedMember) (class : ClassId) where
         flags_of = sym fl ∙ (ap (λ (x : Method). x.flags.bits) (same_method (sym at ∙ (ap (method_in classes) same ∙ too))) ∙ gl);
       }
 
-  -- where a field is meant, not none is
+  -- if a field is meant, the search does not answer none
   pub some_field : {owner : ClassId} {flags : ℕ} → Means classes named class owner flags → ResolvesField classes class named.name named.descriptor None → named.kind ≡ kind.Field → ⊥
   some_field (rules.Means.field p f k r at is fl) s l = some_none (one_found (supertypes_of classes) (own_field classes named.name named.descriptor) r s)
   some_field (rules.Means.method p f k r at is fl) s l = k l

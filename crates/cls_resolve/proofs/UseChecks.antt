@@ -1,4 +1,4 @@
--- Which rule an instruction breaks on a member that is found.
+-- The rule that an instruction breaks on a member that is found.
 use Rattle.std.proofs.Common.{◌≡◌, inl, inr, ℕ, true, false, Some, List, sym, subst, ap, ◌∙◌}
 use Rattle.cf_pool.specs.Pools.{NamedMember}
 use Rattle.cf_reader.specs.declared.flags.TheConstants.Flags.{FINAL, PRIVATE, STATIC}

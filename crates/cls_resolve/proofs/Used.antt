@@ -78,7 +78,7 @@ module _ (classes : List Class) (user class : ClassId) (k : MemberKind) (name de
   found_or_not None found absent text = absent text
   found_or_not (Some m) found absent text = found text
 
--- the same, where the name and the descriptor are read from the entry
+-- the same, if the name and the descriptor are read from the entry
 pub member_of_entry : (classes : List Class) (user class : ClassId) (named : NamedMember) (n d : List ℕ) → n ≡ named.name → d ≡ named.descriptor → (o : Option Member) → IfSome o (λ m. (text : List ℕ) → IsMember classes user (record { kind = named.kind; class = text; name = n; descriptor = d }) class m) → IfNone o ((text : List ℕ) → MeansNothing classes (record { kind = named.kind; class = text; name = n; descriptor = d }) class) → MatchOption o (MeansNothing classes named class) (IsMember classes user named class)
 member_of_entry classes user class named n d e f o found absent =
     subst (λ x. MatchOption o (MeansNothing classes (record { kind = named.kind; class = named.class; name = x; descriptor = named.descriptor }) class) (IsMember classes user (record { kind = named.kind; class = named.class; name = x; descriptor = named.descriptor }) class)) e

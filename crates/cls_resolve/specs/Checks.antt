@@ -19,7 +19,7 @@ FitsClass kind.Field flags = Unit {0}
 FitsClass kind.Method flags = ¬ Has flags INTERFACE
 FitsClass kind.InterfaceMethod flags = Has flags INTERFACE
 
--- the rule that is broken, if any
+-- the broken rule, if any
 abbrev pub broken_of : {A : Type 0} → Result A LinkRule → Option LinkRule
 broken_of (Ok x) = None
 broken_of (Err rule) = Some rule

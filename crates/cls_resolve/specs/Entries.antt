@@ -1,6 +1,6 @@
 -- What is kept of an entry of the constant pool of a class, for all the instructions that name it: an entry is resolved once
 -- (JVMS 5.4.3).
-use Rattle.std.specs.Prelude.{◌≡◌, ◌≢◌, ◌↔◌, ◌<◌, ℕ, Some, None, List, Bool, IsTrue, MatchOption, codes, length}
+use Rattle.std.specs.Prelude.{◌≡◌, ◌≢◌, ◌↔◌, ◌<◌, ℕ, Option, Some, None, List, Bool, IsTrue, MatchOption, codes, length, slice_get}
 use Rattle.cf_pool.specs.declared.pool.MemberKind.TheVariants as kind
 use Rattle.cf_pool.specs.Pools.{NamedMember, class_at, member_at}
 use Rattle.cf_reader.specs.declared.class_file.Field.{Field}
@@ -10,6 +10,7 @@ use Rattle.cls_set.specs.Classes.{number_of}
 use Rattle.space_ids.specs.declared.ids.ClassId.{ClassId}
 use Rattle.cls_search.specs.FieldSearches.{field_at, ResolvesField}
 use Rattle.cls_search.specs.MethodSearches.{is_initializer, method_in, own_method, Resolves}
+use Rattle.cls_resolve.specs.declared.known.KnownMember.{KnownMember}
 use Rattle.cls_resolve.specs.declared.named.MemberIndex.{MemberIndex}
 use Rattle.cls_resolve.specs.declared.meanings.ClassMeaning.{ClassMeaning}
 use Rattle.cls_resolve.specs.declared.meanings.ClassMeaning.TheVariants as meaning
@@ -107,6 +108,10 @@ IsMemberMeaning classes user index members.NoEntry = member_at (pool_of classes 
 IsMemberMeaning classes user index members.OfArray = IsOfArray classes user index
 IsMemberMeaning classes user index members.OfAbsent = IsOfAbsent classes user index
 IsMemberMeaning classes user index (members.Entry e) = IsMemberEntry classes user index e
+
+-- what is kept of entries is what they mean to instructions of the class with which they are kept
+pub record AreKnown (classes : List Class) (entries : List (Option KnownMember)) : Type 0 where
+  pub known : (index : ℕ) (k : KnownMember) → slice_get entries index ≡ Some (Some k) → IsMemberEntry classes k.user index k.entry
 
 -- ---- what is used
 

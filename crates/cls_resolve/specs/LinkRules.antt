@@ -28,7 +28,7 @@ use Rattle.cls_search.specs.FieldSearches.{field_at, ResolvesField}
 use Rattle.cls_resolve.specs.References.{kind_taken, takes_static}
 use Rattle.cls_search.specs.MethodSearches.{is_initializer, method_in, own_method, Resolves}
 
--- ---- where an instruction stands, and what it names
+-- ---- the site of an instruction, and what it names
 
 -- an instruction that names something: the class and the method whose code has it, what it asks, and of which index of the constant pool
 pub record Site : Type 0 where
@@ -84,7 +84,7 @@ pub record MeansMember (classes : List Class) (site : Site) (operation : MemberO
 
 -- ---- the rules
 
--- 'AbsentClass': the class that is named is not in the set (JVMS 5.4.3.1)
+-- 'AbsentClass': the named class is not in the set (JVMS 5.4.3.1)
 pub data NamesAbsentClass (classes : List Class) (site : Site) : Type 0 where
   class : (operation : ClassOperation) (text : List ℕ) → NamesText classes site operation text → ¬ IsArray text → number_of classes text ≡ None → NamesAbsentClass classes site
   owner : (operation : MemberOperation) (named : NamedMember) → NamesMember classes site operation named → ¬ IsArray named.class → number_of classes named.class ≡ None
@@ -109,7 +109,7 @@ pub data NamesWrongKind (classes : List Class) (site : Site) : Type 0 where
   called_initializer : (operation : MemberOperation) (named : NamedMember) → NamesMember classes site operation named → named.kind ≢ kind.Field
       → IsTrue (is_initializer named.name) → operation ≢ InvokeSpecial → NamesWrongKind classes site
 
--- 'Access': the class that is named may not be used (JVMS 5.4.4)
+-- 'Access': the named class may not be used (JVMS 5.4.4)
 pub data NamesHiddenClass (classes : List Class) (site : Site) : Type 0 where
   class : (operation : ClassOperation) (class : ClassId) → NamesClass classes site operation class → ¬ IsAccessible classes site.class class → NamesHiddenClass classes site
   owner : (operation : MemberOperation) (named : NamedMember) (class : ClassId) → NamesMemberOf classes site operation named class → ¬ IsAccessible classes site.class class

@@ -4,6 +4,7 @@
 
 pub use cf_insns::{ClassOperation, CodeRule, FieldOperation, InvokeKind};
 pub use cls_set::{ClassId, ClassSet, Field, Flags, Method, Numbered};
+pub use known::KnownMembers;
 pub use meanings::UsedMember;
 pub use members::member_use;
 pub use named::{CastType, MemberIndex};
@@ -12,6 +13,7 @@ pub use rule::LinkRule;
 pub use uses::{class_use, constant_use, value_of};
 
 mod access;
+mod known;
 mod meanings;
 mod members;
 mod named;

@@ -8,12 +8,13 @@ ghost use Rattle.cls_resolve.specs.Checks as spec;
 ghost use Rattle.cls_resolve.specs.Checks.{broken_of, of_use, FitsClass, IsFinalWrite, IsMismatch, IsPrivateCall, IsWrongEntry};
 ghost use Rattle.cls_resolve.specs.Access.{IsMemberAccessible};
 ghost use Rattle.cls_search.specs.MethodSearches.{is_initializer};
-ghost use Rattle.cls_resolve.specs.Entries.{IsMemberEntry, IsUsed};
+ghost use Rattle.cls_resolve.specs.Entries.{AreKnown, IsMemberEntry, IsMemberMeaning, IsUsed};
 ghost use Rattle.cls_resolve.specs.LinkRules.{order, IsFirstBroken, MeansMember, Site};
 ghost use Rattle.cls_resolve.specs.References as references;
 
 use super::LinkRule;
 use super::access::flags_of;
+use super::known::KnownMembers;
 use super::meanings::{Member, MemberEntry, MemberMeaning, UsedMember, member_meaning};
 use super::references::{Asked, MemberOperation};
 use cf_pool::MemberKind;
@@ -177,24 +178,52 @@ fn entry_use(
     }
 }
 
-/// What an instruction on a member uses, in a method of the user, or the first rule that it breaks:
-/// `AbsentClass`, `WrongRefKind`, `Access` of the class, `AbsentField` or `AbsentMethod`, `Access` of the
-/// member, `StaticMismatch`, `FinalField`, `PrivateVirtual`. The search writes to the marks, one for each
-/// class.
+// What an index means to an instruction of the user that names a member: looked for where it is not known.
+fn known_meaning(
+    set: &ClassSet,
+    user: ClassId,
+    index: u16,
+    known: &mut KnownMembers,
+    marks: &mut [bool],
+) -> MemberMeaning
+    requires set { IsClassSet set.now }
+    requires user { user.0 < length set.now }
+    requires known { AreKnown set.now known.old }
+    ensures meaning { IsMemberMeaning set.now user index result }
+    ensures known { AreKnown set.now known.new }
+{
+    if let Some(entry) = known.find(user, index) {
+        return MemberMeaning::Entry(entry);
+    }
+    let meaning = member_meaning(set, user, index, marks);
+    if let MemberMeaning::Entry(entry) = meaning {
+        known.note(user, index, entry);
+    }
+    meaning
+}
+
+/// Returns what an instruction on a member uses, in a method of the class `user`, or the first rule
+/// that it breaks: `AbsentClass`, `WrongRefKind`, `Access` of the class, `AbsentField` or
+/// `AbsentMethod`, `Access` of the member, `StaticMismatch`, `FinalField`, `PrivateVirtual`. A
+/// member that is known is not searched for again, and one that is found is known where there is
+/// room. The search writes to the marks, one for each class.
 pub fn member_use(
     set: &ClassSet,
     user: ClassId,
     method: &Method,
     operation: MemberOperation,
     index: u16,
+    known: &mut KnownMembers,
     marks: &mut [bool],
 ) -> Result<UsedMember, LinkRule>
     requires set { IsClassSet set.now }
     requires user { user.0 < length set.now }
+    requires known { AreKnown set.now known.old }
     ensures broken { IsFirstBroken set.now (record { class = user; method = method.now; asked = Asked.Member operation; index = index }) order (broken_of result) }
     ensures used { IfOk result (IsUsed set.now user operation index) }
+    ensures known { AreKnown set.now known.new }
 {
-    match member_meaning(set, user, index, marks) {
+    match known_meaning(set, user, index, known, marks) {
         MemberMeaning::NoEntry => Err(LinkRule::WrongRefKind),
         MemberMeaning::OfArray => Err(LinkRule::WrongRefKind),
         MemberMeaning::OfAbsent => Err(LinkRule::AbsentClass),

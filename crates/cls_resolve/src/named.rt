@@ -2,8 +2,8 @@
 
 use cls_set::ClassId;
 
-/// Where a member is declared: its class, and its index among the fields or among the methods of that
-/// class, as declared.
+/// A member by its class, and its index among the fields or among the methods that the class
+/// declares.
 #[derive(Clone, Copy, Debug, PartialEq, Eq)]
 pub struct MemberIndex {
     pub class: ClassId,

@@ -28,7 +28,7 @@ pub enum Asked {
     Member(MemberOperation),
 }
 
-/// getstatic, getfield, putfield.
+/// Returns what getstatic, getfield or putfield asks of a member.
 pub fn field_operation(operation: FieldOperation) -> MemberOperation
     ensures { result ≡ spec.field_operation operation }
 {
@@ -39,7 +39,7 @@ pub fn field_operation(operation: FieldOperation) -> MemberOperation
     }
 }
 
-/// invokevirtual, invokespecial, invokestatic.
+/// Returns what invokevirtual, invokespecial or invokestatic asks of a member.
 pub fn invoke_operation(kind: InvokeKind) -> MemberOperation
     ensures { result ≡ spec.invoke_operation kind }
 {

@@ -27,7 +27,7 @@ pub enum LinkRule {
     Abstract,
     /// The entry of the constant pool is of a kind that the instruction does not take.
     WrongRefKind,
-    /// The class that is named is not in the set.
+    /// The named class is not in the set.
     AbsentClass,
     /// invokevirtual of a private method.
     PrivateVirtual,

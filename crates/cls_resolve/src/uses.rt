@@ -28,8 +28,8 @@ pub(crate) fn pool_of(set: &ClassSet, class: ClassId) -> &Pool
     &set.class(class).file.pool
 }
 
-/// The int that an instruction of the user on a constant pushes, or the rule that it breaks:
-/// `WrongRefKind`.
+/// Returns the int that ldc or ldc_w pushes in code of the class `user`, or the rule that it
+/// breaks: `WrongRefKind`.
 pub fn constant_use(set: &ClassSet, user: ClassId, index: u16) -> Result<i32, LinkRule>
     requires { user.0 < length set.now }
     ensures broken { (method : methods.Method) → IsFirstBroken set.now (record { class = user; method = method; asked = Asked.Constant; index = index }) order (broken_of result) }
@@ -57,8 +57,8 @@ fn takes_array(operation: ClassOperation, is_of_ints: bool) -> bool
     operation != ClassOperation::New && is_of_ints
 }
 
-/// The type that an instruction of the user on a class or an array type names, or the first rule that it
-/// breaks: `AbsentClass`, `WrongRefKind`, `Access`, `Abstract`.
+/// Returns the type that an instruction on a class or an array type names in code of the class
+/// `user`, or the first rule that it breaks: `AbsentClass`, `WrongRefKind`, `Access`, `Abstract`.
 pub fn class_use(
     set: &ClassSet,
     user: ClassId,
@@ -94,7 +94,8 @@ pub fn class_use(
     }
 }
 
-/// The value of a static field: that of its ConstantValue attribute, or else 0 (JVMS 2.3, 4.7.2).
+/// Returns the value of a static field: that of its ConstantValue attribute, or else 0 (JVMS 2.3,
+/// 4.7.2).
 pub fn value_of(set: &ClassSet, member: MemberIndex) -> i32
     requires { IsSome (field_at set.now (field_of member)) }
     ensures { (f : Field) → field_at set.now (field_of member) ≡ Some f → result ≡ static_value f }

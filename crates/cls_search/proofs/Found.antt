@@ -12,7 +12,7 @@ none_some : {X : Type 0} {x : X} → None ≡ Some x → ⊥
 none_some e = cc
 
 module _ {A : Type 0} (above : ClassId → List ClassId) (own : ClassId → Option A) where
-  -- where nothing is found among the first classes, the search goes on behind them
+  -- if nothing is found among the first classes, the search goes on after them
   none_before : {xs : List ClassId} {r : Option A} → Finds above own xs r → r ≡ None → (ys : List ClassId) (answer : Option A) → Finds above own ys answer → Finds above own (xs ++ ys) answer
   none_before searches.Finds.nothing e ys a f = f
   none_before (searches.Finds.here c rest x is) e ys a f = absurd (none_some (sym e))

@@ -17,7 +17,7 @@ abbrev pub total : (ClassId → ℕ) → List ClassId → ℕ
 total f [] = 0
 total f (c ∷ cs) = f c + total f cs
 
--- the steps of all ways up, as far as n steps lead
+-- the steps of all ways up, at most n steps each
 abbrev pub height : List Class → ℕ → ClassId → ℕ
 height classes zero c = 0
 height classes (suc n) c = suc (total (height classes n) (supertypes_of classes c))

@@ -6,7 +6,7 @@ use Rattle.space_ids.specs.declared.ids.ClassId.{ClassId}
 use Rattle.cls_search.specs.declared.fields.FieldIndex.{FieldIndex}
 use Rattle.cls_search.specs.Searches.{Finds, supertypes_of}
 
--- the index of the first field with this name and descriptor, where the first of the fields has the index k
+-- the index of the first field with this name and descriptor; the first of the fields has the index k
 abbrev pub first_from : ℕ → List Field → List ℕ → List ℕ → Option ℕ
 first_from k [] name descriptor = None
 first_from k (f ∷ fs) name descriptor =
@@ -17,8 +17,8 @@ abbrev pub own_field : List Class → List ℕ → List ℕ → ClassId → Opti
 own_field classes name descriptor class =
     option_and_then (λ (c : Class). option_map (λ index. record { class = class; index = index }) (first_from 0 c.file.fields name descriptor)) (slice_get classes class.0)
 
--- The field that a name and a descriptor mean in a class (JVMS 5.4.3.2), and none where they mean none: the class, its superinterfaces,
--- then its superclass. That superinterfaces are searched depth first is a rule of this project.
+-- The field that a name and a descriptor mean in a class (JVMS 5.4.3.2), or none if they mean none. The search takes the class, its
+-- superinterfaces, then its superclass. That superinterfaces are searched depth first is a rule of this project.
 abbrev pub ResolvesField : List Class → ClassId → List ℕ → List ℕ → Option FieldIndex → Type 0
 ResolvesField classes class name descriptor field = Finds (supertypes_of classes) (own_field classes name descriptor) (class ∷ []) field
 

@@ -8,7 +8,7 @@ use Rattle.space_ids.specs.declared.ids.ClassId.{ClassId}
 use Rattle.cls_search.specs.declared.methods.MethodIndex.{MethodIndex}
 use Rattle.cls_search.specs.Searches.{Finds, superclass_of, supertypes_of}
 
--- the index of the first method with this name and descriptor, where the first has the index k
+-- the index of the first method with this name and descriptor; the first of the methods has the index k
 abbrev pub first_from : ℕ → List Method → List ℕ → List ℕ → Option ℕ
 first_from k [] name descriptor = None
 first_from k (m ∷ ms) name descriptor =
@@ -26,14 +26,14 @@ own_of_interface classes own class = if is_interface classes class then own clas
 abbrev pub is_initializer : List ℕ → Bool
 is_initializer name = bytes_eq name (codes "<init>")
 
--- The method of this name that is meant in a class (JVMS 5.4.3.3) or in an interface (JVMS 5.4.3.4), and none where none is meant, if each class
--- has such a one of its own. That `<init>` is looked for in the class alone, and superinterfaces depth first, are rules of this project.
+-- The method of this name that is meant in a class (JVMS 5.4.3.3) or in an interface (JVMS 5.4.3.4), or none; `own` says which one each
+-- class has of its own. That `<init>` is looked for in the class alone, and superinterfaces depth first, are rules of this project.
 pub data Resolves {A : Type 0} (classes : List Class) (class : ClassId) (name : List ℕ) (own : ClassId → Option A) : Option A → Type 0 where
   of_class_alone : IsTrue (is_initializer name) → Resolves classes class name own (own class)
   -- of a class: itself and its superclasses
   in_superclasses : (method : A) → ¬ IsTrue (is_initializer name) → ¬ IsTrue (is_interface classes class)
       → Finds (superclass_of classes) own (class ∷ []) (Some method) → Resolves classes class name own (Some method)
-  -- where these have none: their superinterfaces
+  -- if these have none: their superinterfaces
   in_superinterfaces : (answer : Option A) → ¬ IsTrue (is_initializer name) → ¬ IsTrue (is_interface classes class)
       → Finds (superclass_of classes) own (class ∷ []) None
       → Finds (supertypes_of classes) (own_of_interface classes own) (class ∷ []) answer → Resolves classes class name own answer

@@ -5,8 +5,8 @@ use Rattle.cls_set.specs.declared.class.Class.{Class}
 use Rattle.space_ids.specs.declared.ids.ClassId.{ClassId}
 use Rattle.cls_set.specs.Subtypes.{IsDirectSupertype}
 
--- A search through classes for what a class has of its own (JVMS 5.4.3, 5.4.5): the class that stands first has it, or else what stands
--- above that class comes next, before the classes behind it. Where no class is left, nothing is found.
+-- A search through classes for what a class has of its own (JVMS 5.4.3, 5.4.5): the first class has it; else the classes above that one
+-- come next, before the classes after it. If no class is left, nothing is found.
 pub data Finds {A : Type 0} (above : ClassId → List ClassId) (own : ClassId → Option A) : List ClassId → Option A → Type 0 where
   nothing : Finds above own [] None
   here : (c : ClassId) (rest : List ClassId) (found : A) → own c ≡ Some found → Finds above own (c ∷ rest) (Some found)

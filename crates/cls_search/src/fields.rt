@@ -48,7 +48,7 @@ fn own_field(set: &ClassSet, class: ClassId, name: &[u8], descriptor: &[u8]) -> 
     }
 }
 
-// The field that a name and a descriptor mean in a class, where none is meant in the marked ones.
+// The field that a name and a descriptor mean in a class, if none is meant in the marked ones.
 fn field_from(
     set: &ClassSet,
     class: ClassId,
@@ -82,12 +82,12 @@ fn field_from(
     }
 }
 
-/// The field that a name and a descriptor mean in a class (JVMS 5.4.3.2): that of the class, else that of
-/// the first of its superinterfaces, depth first, and then of its superclass. `None` where none of these
-/// declares one. Access is not looked at.
+/// Returns the field that a name and a descriptor mean in a class (JVMS 5.4.3.2): that of the
+/// class, else that of the first of its superinterfaces, depth first, and then of its superclass.
+/// `None` if none of these declares one. Access is not looked at.
 ///
-/// With a flag for each class in `marks`, whatever they say, it comes to each interface once; with none as
-/// often as ways lead to it.
+/// With a flag for each class in `marks`, whatever the flags say, the search comes to each
+/// interface at most once. Without flags it comes to an interface once for each way to it.
 pub fn find_field(
     set: &ClassSet,
     class: ClassId,

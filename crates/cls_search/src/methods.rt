@@ -16,7 +16,7 @@ pub struct MethodIndex {
     pub index: usize,
 }
 
-/// Whether a name is that of an initializer of instances (JVMS 2.9).
+/// Returns whether a name is that of an initializer of instances (JVMS 2.9).
 pub fn is_initializer(name: &[u8]) -> bool
     ensures { result ≡ spec.is_initializer name.now }
 {
@@ -42,7 +42,8 @@ fn find(methods: &[Method], name: &[u8], descriptor: &[u8]) -> Option<usize>
     None
 }
 
-/// The method that a class itself declares with this name and descriptor: `None` where it declares none.
+/// Returns the method that a class itself declares with this name and descriptor: `None` if it
+/// declares none.
 pub fn own_method(
     set: &ClassSet,
     class: ClassId,
@@ -133,13 +134,13 @@ fn in_interfaces(
     }
 }
 
-/// The method that a name and a descriptor mean in a class or an interface (JVMS 5.4.3.3, 5.4.3.4): that
-/// of the class or its first superclass that declares one, else that of the first of its superinterfaces,
-/// depth first; an `<init>` is that of the class alone. `None` where none of these declares one. Access is
-/// not looked at.
+/// Returns the method that a name and a descriptor mean in a class or an interface (JVMS 5.4.3.3,
+/// 5.4.3.4): that of the class or its first superclass that declares one, else that of the first of
+/// its superinterfaces, depth first; an `<init>` is that of the class alone. `None` if none of
+/// these declares one. Access is not looked at.
 ///
-/// With a flag for each class in `marks`, whatever they say, it comes to each interface once; with none as
-/// often as ways lead to it.
+/// With a flag for each class in `marks`, whatever the flags say, the search comes to each
+/// interface at most once. Without flags it comes to an interface once for each way to it.
 pub fn find_method(
     set: &ClassSet,
     class: ClassId,

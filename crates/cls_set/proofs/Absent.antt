@@ -66,7 +66,7 @@ mentioned_absent ns c name r entries (sets.Mentions.by_method m among names) non
 pub whole : (ns : List (List ℕ)) (c : Class) → IsResolved ns c → (MembersNameAbsent ns c.file → ⊥) → IsWhole ns c
 whole ns c r entries = record { resolved = r; present = λ a. mentioned_absent ns c a.name r entries a.mentioned a.absent }
 
--- so where a part of the descriptor names one
+-- and so if a part of the descriptor names one
 pub by_result : (ns : List (List ℕ)) (types : MethodDescriptor) (type : FieldType) → types.result ≡ Some type → NamesAbsent ns type → DescriptorNamesAbsent ns types
 by_result ns types type is a = record { name = a.0; named = sets.DescriptorNames.by_result type is a.1; absent = a.2 }
 
@@ -107,7 +107,7 @@ stands_among entries i m h is =
 name_slice : (xs : List Entry) (i : ℕ) (d : Entry) → i < length xs → slice_get (names (classes_of xs)) i ≡ Some (name_of (get_or xs i d))
 name_slice xs i d h = slice_get-get_or (names (classes_of xs)) i [] (subst (λ n. i < n) (sym (length_names xs)) h) ∙ ap (λ n. Some n) (name_read xs i d [] h)
 
--- the first class by name with an absent supertype, where those before it are resolved
+-- the first class by name with an absent supertype, if those before it are resolved
 pub first_absent : (xs : List Entry) (p : ℕ) (m : Entry) (e : SetFault) → IsStrictlySortedBy name_cmp (names (classes_of xs)) → p < length xs → get_or xs p m ≡ m → AllWithin (λ m. IsWhole (names (classes_of xs)) m.class) xs 0 p → IsClassFault (names (classes_of xs)) m.class.file e → IsAbsentFault (names (classes_of xs)) (origins_of xs) e
 first_absent xs p m (Broken AbsentClass n) ordered h is resolved fault =
     let ns = names (classes_of xs) in

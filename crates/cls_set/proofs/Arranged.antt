@@ -1,7 +1,8 @@
 -- A set of classes that are arranged and break no rule.
 use Rattle.std.proofs.Common.{ℕ, suc, ◌<◌, ◌≤◌, List, sym, subst, arith}
-use Rattle.std.specs.Prelude.{Contains, IsPermutation}
+use Rattle.std.specs.Prelude.{All, Contains, IsPermutation}
 use Rattle.std.proofs.lemmas.List.Sorted.{IsPermutation-sym, Contains-permutation}
+use Rattle.cf_reader.specs.WellFormed.{IsWellFormed}
 use Rattle.cf_reader.specs.declared.class_file.ClassFile.{ClassFile}
 use Rattle.cls_set.specs.declared.arranging.Arranged.{Arranged}
 use Rattle.cls_set.specs.declared.fault.SetFault.{SetFault}
@@ -15,10 +16,11 @@ use Rattle.cls_set.specs.ClassRules.{set_rule, AreOf, IsFirstRuleFault, KeepAll}
 use Rattle.cls_set.specs.Faults.{turn, IsFirstToBreak, IsKept, IsSetFault, Keeps, MakeASet}
 use Rattle.cls_set.specs.Entries.{classes_of, AreEntries}
 use Rattle.cls_set.specs.Sets.{Origin, origins, HasClasses}
-use Rattle.cls_set.proofs.Broken.{below_object, extended, first_held, kept_held, rooted}
+use Rattle.cls_set.proofs.Broken.{below_object, extended, first_held, implemented, kept_held, rooted}
 use Rattle.cls_set.proofs.Built.{built_in_stands, origins_of_classes}
 use Rattle.cls_set.proofs.Heights.{long_classes}
 use Rattle.cls_set.proofs.Hierarchy.{rank_of}
+use Rattle.cls_set.proofs.Stated.{as_built_in, complete, well_formed}
 use Rattle.cls_set.proofs.Supertypes.{ranks}
 
 module _ (files : List ClassFile) (a : Arranged) (of : AreOf files a) where
@@ -34,7 +36,7 @@ module _ (files : List ClassFile) (a : Arranged) (of : AreOf files a) where
   broken : (rule : SetRule) (name : List ℕ) → IsFirstToBreak (origins_of a.entries.items) rule name → IsFirstToBreak (origins files) rule name
   broken rule name f = first_held (origins_of a.entries.items) (origins files) forth back rule name f
 
-  -- the rules before this turn are kept where those on each class are
+  -- the rules before this turn are kept if those on each class are
   kept_at : (other : SetRule) (n : ℕ) → turn other < n → ((c : ClassRule) → turn (set_rule c) < n → Keeps (origins_of a.entries.items) (set_rule c)) → IsKept files other
   kept_at rules.Duplicate n l f = of.kept rules.Duplicate (omega arith)
   kept_at rules.TooMany n l f = of.kept rules.TooMany (omega arith)
@@ -66,8 +68,8 @@ module _ (files : List ClassFile) (a : Arranged) (of : AreOf files a) where
   pub has_classes : HasClasses files (classes_of a.entries.items)
   has_classes = subst (IsPermutation (origins files)) (sym (origins_of_classes a.entries.items)) of.held
 
-  pub are_members : KeepAll (origins_of a.entries.items) → AreEntries a.entries.items a.tables.items
-  are_members all =
+  pub are_members : All IsWellFormed files → KeepAll (origins_of a.entries.items) → AreEntries a.entries.items a.tables.items
+  are_members well all =
       let classes = classes_of a.entries.items in
       let known = of.known in
       let keeps = subst (λ os. Keeps os rules.BadSuper) (sym (origins_of_classes a.entries.items)) (all BadSuper) in
@@ -77,9 +79,13 @@ module _ (files : List ClassFile) (a : Arranged) (of : AreOf files a) where
           few = subst (λ n. n ≤ 4096) (sym (long_classes a.entries.items)) known.few;
           resolved = known.resolved;
           built_in = built_in_stands files classes has_classes;
+          as_built_in = as_built_in files classes has_classes known.ordered known.resolved;
+          well_formed = well_formed files classes has_classes well;
+          complete = complete files classes has_classes (of.kept rules.AbsentClass (omega arith));
           rooted = rooted classes known.ordered known.resolved keeps;
           below_object = below_object classes known.ordered known.resolved keeps;
           extended = extended classes known.ordered known.resolved keeps;
+          implemented = implemented classes known.ordered known.resolved keeps;
           rank = rank_of a.entries.items;
           ranked = ranks a.entries.items known.ranked;
         };

@@ -26,12 +26,12 @@ use Rattle.cls_set.specs.Rules as rules
 use Rattle.cf_text.specs.declared.types.FieldType.{FieldType}
 use Rattle.cls_set.specs.Rules.{Breaks, CanBeKept, CanCross, Has, HasFieldNotKept, HasMethodNotCrossing, HasSuperclass, IsBelowRemote, IsItOrAbove, IsRemoteClass, IsRemoteInterface, IsSuperclass, NamesRemoteInterface, OverridesBadly}
 use Rattle.cls_set.specs.Sets.{Origin, origin, IsResolved}
-use Rattle.cls_set.specs.Subtypes.{Extends}
+use Rattle.cls_set.specs.Subtypes.{Declares, Extends}
 use Rattle.cls_set.proofs.Absent.{stands_among}
 use Rattle.cls_set.proofs.Cycles.{later, more_named, resolved_read}
 use Rattle.cls_set.proofs.Hierarchy.{class_read, none_some, same_some, some_and, some_of, true_false}
 use Rattle.cls_set.proofs.Names.{name_of, name_read, length_names}
-use Rattle.cls_set.proofs.Supers.{resolved_none, superclass_in}
+use Rattle.cls_set.proofs.Supers.{resolved_none, superclass_in, superinterface_in}
 use Rattle.cls_set.proofs.Supertypes.{direct_within}
 use Rattle.cls_set.proofs.Walks.{before}
 
@@ -195,6 +195,17 @@ module _ (classes : List Class) (ordered : IsStrictlySortedBy name_cmp (names cl
             some_and (slice_get classes sup.0) (λ c. ¬ IsInterface c) r.0 r.2
             (λ i. keeps (origin c.0) (stood sub.0 c.0 c.1) (rules.Breaks.interface_extended r.0.file (superclass_in classes ordered resolved c.0 (resolved_read classes ordered resolved sub.0 c.0 c.1) sup r.0 c.2 r.2) i))
         | inr r ↦ let inside = direct_within classes resolved sub sup (inl e) in let past = r.0 in absurd (omega (arith, inside, past))
+      ]
+
+  pub implemented : (sub sup : ClassId) → Declares classes sub sup → IsSomeAnd (slice_get classes sup.0) IsInterface
+  implemented sub sup e =
+      let c = some_of (slice_get classes sub.0) (λ c. Contains c.interfaces sup) e in
+      let r = resolved_read classes ordered resolved sub.0 c.0 c.1 in
+      elim (slice_get_cases classes sup.0).1 [
+        | inl s ↦
+            some_and (slice_get classes sup.0) IsInterface s.0 s.2
+            (λ off. keeps (origin c.0) (stood sub.0 c.0 c.1) (rules.Breaks.class_implemented s.0.file (superinterface_in classes ordered resolved c.0 r sup s.0 c.2 s.2) (λ has. has off)))
+        | inr s ↦ let inside = direct_within classes resolved sub sup (inr e) in let past = s.0 in absurd (omega (arith, inside, past))
       ]
 
 -- what holds of the elements so far and of the next holds of one element more

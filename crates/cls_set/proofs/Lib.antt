@@ -12,6 +12,7 @@ pub mod Walks
 pub mod Supers
 pub mod Broken
 pub mod Turns
+pub mod Stated
 pub mod Arranged
 pub mod Remotes
 pub mod Overrides

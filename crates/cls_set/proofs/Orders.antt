@@ -112,7 +112,7 @@ module _ (lower upper : ClassFile) (order : List ℕ) (o : IsOrder upper.methods
         past = λ p f h l. s.past p f (omega (arith, h)) l;
       }
 
-  -- where a method that clashes stands in the order
+  -- the index in the order of a method that clashes
   stands_at : (next : ℕ) → IsSearching lower upper order low next → Any (Clashes lower upper low) upper.methods → (p : ℕ) × (i : ℕ) × (m : Method) × (next ≤ p) × (p < length order) × (get_or order p i ≡ i) × (slice_get upper.methods i ≡ Some m) × Clashes lower upper low m
   stands_at next s (i, m, h, is, clash) =
       let at = o.each i h in

@@ -81,7 +81,7 @@ module _ (entries : List Entry) (a : AreArranged entries) (c : Class) (among : C
   none_above : (f : ClassFile) → c.superclass ≡ None → HasSuperclass (origins_of entries) c.file f → ⊥
   none_above f is h = superclass_none (classes_of entries) a.ordered a.resolved c (resolved_member entries a c among) f is (subst (λ os. HasSuperclass os c.file f) (sym (origins_of_classes entries)) h)
 
--- a class of the entries, where it is read
+-- a class of the entries, as it is read
 class_at : (entries : List Entry) (i : ℕ) (k : Class) → slice_get (classes_of entries) i ≡ Some k → Contains (classes_of entries) k
 class_at entries i k e =
     let h = slice_get_within (classes_of entries) i k e in
@@ -92,8 +92,8 @@ first_up : (os : List Origin) (sub sup : ClassFile) → IsSuperclass os sub sup 
 first_up os sub sup (rules.IsSuperclass.direct a b h) = (b, h, inl refl)
 first_up os sub sup (rules.IsSuperclass.further a m b h up) = (m, h, inr up)
 
--- a walk up the superclasses of a class: what stands above the class that it has come to stands above the first, and if that clashes
--- with a superclass, one that is still to come is such
+-- a walk up the superclasses of a class: what stands above the class that it has reached stands above the first; if the first clashes with
+-- a superclass, it clashes with one still to come
 pub record IsClimbing (entries : List Entry) (lower : ClassFile) (up : Option ClassId) : Type 0 where
   pub below : Class
   pub among : Contains (classes_of entries) below
@@ -161,7 +161,7 @@ module _ (entries : List Entry) (a : AreArranged entries) (lower : ClassFile) wh
       let first = first_up (origins_of entries) w.below.file old.0 old.1 in
       none_above entries a w.below w.among first.0 (w.next ∙ is) first.1
 
--- a clash with a superclass, in the words of the rule
+-- a clash with a superclass, in the terms of the rule
 pub bad_from_clash : (os : List Origin) (lower : ClassFile) → ClashesAbove os lower lower → OverridesBadly os lower
 bad_from_clash os lower (upper, above, (i, low, h, is, (j, high, l, same, clash))) =
     record { low = low; declared = (i, h, is); upper = upper; above = above; high = high; inherited = (j, l, same); clash = clash }

@@ -24,7 +24,7 @@ origins_from_kept (m ∷ ms) = ap (λ os. origin m.class ∷ os) (origins_from_k
 pub origins_kept : (xs ys : List Entry) → map kept xs ≡ map kept ys → origins_of xs ≡ origins_of ys
 origins_kept xs ys e = origins_from_kept xs ∙ (ap (map (λ (k : Origin × ℕ). k.0)) e ∙ sym (origins_from_kept ys))
 
--- an absent supertype, where the entries are those of before but for what resolving changes
+-- an absent supertype, if the entries are those of before but for what resolving changes
 pub absent_kept : (xs ys : List Entry) (e : SetFault) → map kept xs ≡ map kept ys → IsAbsentFault (names (classes_of xs)) (origins_of xs) e → IsAbsentFault (names (classes_of ys)) (origins_of ys) e
 absent_kept xs ys e same h =
     subst (λ ns. IsAbsentFault ns (origins_of ys) e) (names_kept xs ys same) (subst (λ os. IsAbsentFault (names (classes_of xs)) os e) (origins_kept xs ys same) h)

@@ -74,7 +74,7 @@ count_strict name (k ∷ ks) s =
       | false ↦ λ e. let rest = count_strict name ks (sorted_tail name_cmp k ks s) in omega (arith, rest)
     ] refl)
 
--- one that is not above another is below it, or is the other
+-- a name that is not above another is below it, or is the other
 less_if : (x y : List ℕ) → is_lt (name_cmp y x) ≡ false → x ≢ y → name_cmp x y ≡ Less
 less_if x y e ne =
     elim (name_cmp x y) as (λ r. name_cmp x y ≡ r → r ≡ Less) [
@@ -86,7 +86,7 @@ less_if x y e ne =
 not_less : (x y : List ℕ) → is_lt (name_cmp x y) ≡ false → name_cmp x y ≡ Less → ⊥
 not_less x y e f = true_false (sym (ap is_lt f) ∙ e)
 
--- the name at an index, where those before it ascend strictly, it is the one before it, and no later one is below it
+-- the name at an index, if those before it ascend strictly, it is the one before it, and no later one is below it
 pub first_duplicate : (ks : List (List ℕ)) (i : ℕ) (name : List ℕ) → suc i < length ks → IsStrictlySortedBy name_cmp (take (suc i) ks) → get_or ks i [] ≡ name → get_or ks (suc i) [] ≡ name → All (λ n. is_lt (name_cmp n name) ≡ false) (drop (suc i) ks) → IsFirstDuplicate ks name
 first_duplicate ks i name h front before here rest =
     let parts = λ (x : List ℕ). subst (λ l. count_by (matches x) l ≡ count_by (matches x) (take (suc i) ks) + count_by (matches x) (drop (suc i) ks)) (take-append-drop (suc i) ks) (sum_by-append (λ n. cond (matches x n) 1 0) (take (suc i) ks) (drop (suc i) ks)) in

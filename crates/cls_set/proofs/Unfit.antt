@@ -1,4 +1,4 @@
--- Which classes have members that no remote class or interface may have, and which have or inherit them.
+-- Which classes declare members that no remote class or interface may have, and which inherit them.
 use Rattle.std.proofs.Common.{◌≡◌, ℕ, zero, suc, ◌+◌, ◌<◌, ◌≤◌, ◌⊎◌, inl, inr, Bool, true, false, not, Some, None, List, [], ◌∷◌, ◌++◌, length, map, refl, sym, subst, ap, ◌∙◌, arith}
 use Rattle.std.specs.Prelude.{◌↔◌, Contains, IsTrue, slice_get}
 use Rattle.std.specs.List.{Any}

@@ -31,7 +31,7 @@ pub of_option : (o : Option ClassId) (c : ClassId) → Contains (option_to_list 
 of_option None c among = absurd (omega (arith, among.1))
 of_option (Some s) c among = ap (λ x. Some x) (sym (single s c among))
 
--- a direct supertype is among those that a walk meets, and the other way round
+-- the direct supertypes are those that a walk meets
 pub up_among : (classes : List Class) (a b : ClassId) → IsDirectSupertype classes a b → Contains (ups_at classes a) b
 up_among classes a b (inl e) =
     let c = some_of (slice_get classes a.0) (λ c. c.superclass ≡ Some b) e in

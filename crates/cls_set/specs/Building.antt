@@ -48,7 +48,7 @@ IsDuplicateFault names Memory = Unit {0}
 abbrev pub origins_of : List Entry → List Origin
 origins_of entries = map (λ m. origin m.class) entries
 
--- a class of this name names a supertype of which there is none, unless memory ran out
+-- a class of this name names a supertype that is not there, unless memory ran out
 abbrev pub IsMissing : List (List ℕ) → List ℕ → List ℕ → SetFault → Type 0
 IsMissing names super name (Broken AbsentClass n) = (n ≡ name) × (Contains names super → ⊥)
 IsMissing names super name (Broken rule n) = ⊥
@@ -87,7 +87,7 @@ abbrev pub MembersNameAbsent : List (List ℕ) → ClassFile → Type 0
 MembersNameAbsent names file =
     Any (λ (field : Field). NamesAbsent names field.kind) file.fields ⊎ Any (λ (method : Method). DescriptorNamesAbsent names method.types) file.methods
 
--- a class whose supertypes are known by number, and that mentions no absent class
+-- a class with its supertypes known by number, which mentions no absent class
 pub record IsWhole (names : List (List ℕ)) (c : Class) : Type 0 where
   pub resolved : IsResolved names c
   pub present : HasAbsent names c.file → ⊥

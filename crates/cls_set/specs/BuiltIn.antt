@@ -1,3 +1,4 @@
+-- The classes that stand in every set (a rule of this project).
 use Rattle.std.specs.Prelude.{ℕ, Option, Some, None, List, [], ◌∷◌, ◌+◌, codes, map}
 use Rattle.cf_reader.specs.declared.class_file.ClassFile.{ClassFile}
 use Rattle.cf_reader.specs.declared.class_file.Method.{Method}
@@ -5,8 +6,8 @@ use Rattle.cf_reader.specs.declared.flags.TheConstants.Flags.{PUBLIC, INTERFACE,
 use Rattle.cls_set.specs.declared.built_in.Kind.{Kind}
 use Rattle.cls_set.specs.declared.built_in.Kind.TheVariants.{Concrete, Abstract, Interface}
 
--- The classes that stand in every set (a rule of this project). Each is public and not final, and each but the
--- interface java/rmi/Remote has a public <init>()V that returns at once, and no other member.
+-- Each of these classes is public and not final, and each but the interface java/rmi/Remote has a public <init>()V that returns at once,
+-- and no other member.
 
 pub record BuiltIn : Type 0 where
   pub name : List ℕ

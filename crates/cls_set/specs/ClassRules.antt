@@ -79,7 +79,7 @@ abbrev pub IsUnfit : MemberKind → List Origin → ClassFile → Type 0
 IsUnfit Fields classes file = HasFieldNotKept classes file
 IsUnfit Methods classes file = HasMethodNotCrossing classes file
 
--- the indices of just the classes that do
+-- the indices of exactly the classes that do
 pub record AreUnfit (kind : MemberKind) (entries : List Entry) (indices : List ℕ) : Type 0 where
   pub only : (k : ℕ) → Contains indices k → (c : Class) × (slice_get (classes_of entries) k ≡ Some c) × IsUnfit kind (origins_of entries) c.file
   pub each : (k : ℕ) (c : Class) → slice_get (classes_of entries) k ≡ Some c → IsUnfit kind (origins_of entries) c.file → Contains indices k

@@ -1,3 +1,4 @@
+-- The classes of a set by number and by name: numbers follow the order of names (a rule of this project).
 use Rattle.std.specs.Prelude.{ℕ, suc, Option, Some, None, List, [], ◌∷◌, ◌++◌, ◌≢◌, map, slice_get, bytes_eq, if◌then◌else◌, bit_and, option_to_list}
 use Rattle.std.specs.Ordering.{nat_cmp}
 use Rattle.std.specs.declared.cmp.Ordering.{Ordering}
@@ -20,7 +21,7 @@ names classes = map (λ c. c.file.name) classes
 abbrev pub name_at : List Class → ClassId → Option (List ℕ)
 name_at classes id = slice_get (names classes) id.0
 
--- the number of the first class of this name, where the first of the classes has the number k
+-- the number of the first class of this name; the first of the classes has the number k
 abbrev pub number_from : ℕ → List Class → List ℕ → Option ClassId
 number_from k [] name = None
 number_from k (c ∷ cs) name = if bytes_eq c.file.name name then Some (record { 0 = k }) else number_from (suc k) cs name

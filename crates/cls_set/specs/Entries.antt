@@ -1,3 +1,4 @@
+-- How a set keeps its classes: in the order of their names, with ranks and tables of supertypes.
 use Rattle.std.specs.Prelude.{◌≡◌, ◌≤◌, ◌<◌, ◌↔◌, ℕ, Bool, false, List, [], All, IsSomeAnd, IsTrue, length, map, slice_get, slice_index_or}
 use Rattle.std.specs.List.Sorted.{IsStrictlySortedBy}
 use Rattle.cls_set.specs.declared.class.Class.{Class}
@@ -10,7 +11,7 @@ use Rattle.cls_set.specs.Walks.{IsFirstOwn}
 use Rattle.cls_set.specs.declared.walking.Ranks.{Ranks}
 use Rattle.cls_set.specs.declared.walking.Ranks.TheVariants.{Cyclic, Tables}
 
--- How a set keeps its classes.
+-- ---- entries
 
 -- the classes of the entries
 abbrev pub classes_of : List Entry → List Class

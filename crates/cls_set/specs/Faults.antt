@@ -1,5 +1,5 @@
--- Which files make a set, and which fault is named where they make none: the rules are looked for one after the other, each over all
--- classes, and of the classes at fault the first by name is named (a rule of this project).
+-- Which files make a set, and which fault is named if they make none: the rules are looked for one after the other, each over all classes,
+-- and the first class at fault by name is named (a rule of this project).
 use Rattle.std.specs.Prelude.{◌≡◌, ◌≤◌, ◌<◌, ◌-◌, ℕ, Some, List, length, Contains, option_map, slice_get}
 use Rattle.std.specs.declared.cmp.Ordering.TheVariants.{Less}
 use Rattle.cf_reader.specs.declared.class_file.ClassFile.{ClassFile}
@@ -28,7 +28,7 @@ pub record IsFirstToBreak (classes : List Origin) (rule : SetRule) (name : List 
 abbrev pub Keeps : List Origin → SetRule → Type 0
 Keeps classes rule = (class : Origin) → Contains classes class → ¬ Breaks classes class.0 rule
 
--- which class of these files, by name, is the one that breaks a rule
+-- the class of these files, by name, that breaks a rule
 abbrev pub IsBrokenBy : List ClassFile → SetRule → List ℕ → Type 0
 IsBrokenBy files Duplicate name = IsFirstDuplicate (origin_names files) name
 IsBrokenBy files TooMany name = IsTooMany files name
@@ -61,7 +61,7 @@ turn RemoteMethod = 7
 turn Override = 8
 turn NotYet = 9
 
--- the fault of files that make no set, unless memory ran out: the first rule that is broken, and the class that breaks it
+-- the fault of files that make no set, unless memory ran out: the first broken rule, and the class that breaks it
 abbrev pub IsSetFault : List ClassFile → SetFault → Type 0
 IsSetFault files Memory = Unit {0}
 IsSetFault files (Broken rule name) = IsBrokenBy files rule name × ((other : SetRule) → turn other < turn rule → IsKept files other)

@@ -138,7 +138,7 @@ pub data Breaks (classes : List Origin) (file : ClassFile) : SetRule → Type 0 
   remote_field : (upper : ClassFile) → IsRemoteClass classes file → IsItOrAbove classes file upper → HasFieldNotKept classes upper → Breaks classes file RemoteField
   -- a remote interface that has or inherits a method of other types than it may
   remote_method : (upper : ClassFile) → IsRemoteInterface classes file → IsItOrAbove classes file upper → HasMethodNotCrossing classes upper → Breaks classes file RemoteMethod
-  -- a method that overrides or hides one that it may not
+  -- a method that overrides or hides one which it may not
   override : OverridesBadly classes file → Breaks classes file Override
   -- a remote class
   remote : ¬ Has file.flags.bits INTERFACE → IsBelowRemote classes file.name → Breaks classes file NotYet

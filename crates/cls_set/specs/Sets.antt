@@ -8,36 +8,19 @@ use Rattle.cf_text.specs.declared.types.MethodDescriptor.{MethodDescriptor}
 use Rattle.cf_reader.specs.declared.class_file.ClassFile.{ClassFile}
 use Rattle.cf_reader.specs.declared.class_file.Field.{Field}
 use Rattle.cf_reader.specs.declared.class_file.Method.{Method}
+use Rattle.cf_reader.specs.WellFormed.{IsWellFormed}
 use Rattle.cls_set.specs.declared.class.Class.{Class}
 use Rattle.space_ids.specs.declared.ids.ClassId.{ClassId}
 use Rattle.cls_set.specs.Classes.{name_cmp, names, number_of, IsInterface}
-use Rattle.cls_set.specs.Subtypes.{Extends, IsDirectSupertype}
-use Rattle.cls_set.specs.BuiltIn.{BuiltIn, built_ins, built_in_files}
+use Rattle.cls_set.specs.Subtypes.{Declares, Extends, IsDirectSupertype}
+use Rattle.cls_set.specs.BuiltIn.{BuiltIn, built_ins, built_in_files, file_of}
 
 -- the supertypes of a class, by number among these names, are those that its file names
 pub record IsResolved (names : List (List ℕ)) (c : Class) : Type 0 where
   pub superclass : option_map (λ id. slice_get names id.0) c.superclass ≡ option_map (λ name. Some name) c.file.superclass
   pub interfaces : map (λ id. slice_get names id.0) c.interfaces ≡ map (λ name. Some name) c.file.interfaces
 
--- what is true of the classes of every set
-pub record IsClassSet (classes : List Class) : Type 0 where
-  -- they stand in the order of their names, each name once
-  pub ordered : IsStrictlySortedBy name_cmp (names classes)
-  pub few : length classes ≤ 4096
-  pub resolved : All (IsResolved (names classes)) classes
-  -- each class that stands in every set stands in it
-  pub built_in : All (λ (b : BuiltIn). IsSome (number_of classes b.name)) built_ins
-  -- only java/lang/Object has no superclass (JVMS 4.1)
-  pub rooted : All (λ c. c.superclass ≡ None → c.file.name ≡ codes "java/lang/Object") classes
-  -- the superclass of an interface is java/lang/Object (JVMS 4.1)
-  pub below_object : All (λ c. IsInterface c → c.file.superclass ≡ Some (codes "java/lang/Object")) classes
-  -- no superclass is an interface (JVMS 5.3.5)
-  pub extended : (sub sup : ClassId) → Extends classes sub sup → IsSomeAnd (slice_get classes sup.0) (λ c. ¬ IsInterface c)
-  -- no class is its own supertype (JVMS 5.3.5): they can be ranked, each above its direct supertypes
-  pub rank : ClassId → ℕ
-  pub ranked : (sub sup : ClassId) → IsDirectSupertype classes sub sup → rank sup < rank sub
-
--- where a class comes from: what its file says, and whether it stands in every set
+-- the origin of a class: what its file says, and whether it stands in every set
 abbrev pub Origin : Type 0
 Origin = ClassFile × Bool
 
@@ -87,6 +70,31 @@ pub data Mentions (file : ClassFile) (name : List ℕ) : Type 0 where
   as_supertype : Contains (super_names file) name → Mentions file name
   by_field : (field : Field) → Contains file.fields field → TypeNames field.kind name → Mentions file name
   by_method : (method : Method) → Contains file.methods method → DescriptorNames method.types name → Mentions file name
+
+-- what is true of the classes of every set
+pub record IsClassSet (classes : List Class) : Type 0 where
+  -- they stand in the order of their names, each name once
+  pub ordered : IsStrictlySortedBy name_cmp (names classes)
+  pub few : length classes ≤ 4096
+  pub resolved : All (IsResolved (names classes)) classes
+  -- each class that stands in every set stands in it, and a class of its name is that one
+  pub built_in : All (λ (b : BuiltIn). IsSome (number_of classes b.name)) built_ins
+  pub as_built_in : All (λ (b : BuiltIn). All (λ c. c.file.name ≡ b.name → c.file ≡ file_of b) classes) built_ins
+  -- each class is well formed, as a class file in profile is (JVMS 4.3, 4.5, 4.6)
+  pub well_formed : All (λ c. IsWellFormed c.file) classes
+  -- each class that a class mentions stands in it
+  pub complete : All (λ c. (name : List ℕ) → Mentions c.file name → IsSome (number_of classes name)) classes
+  -- only java/lang/Object has no superclass (JVMS 4.1)
+  pub rooted : All (λ c. c.superclass ≡ None → c.file.name ≡ codes "java/lang/Object") classes
+  -- the superclass of an interface is java/lang/Object (JVMS 4.1)
+  pub below_object : All (λ c. IsInterface c → c.file.superclass ≡ Some (codes "java/lang/Object")) classes
+  -- no superclass is an interface (JVMS 5.3.5)
+  pub extended : (sub sup : ClassId) → Extends classes sub sup → IsSomeAnd (slice_get classes sup.0) (λ c. ¬ IsInterface c)
+  -- each superinterface is an interface (JVMS 4.1)
+  pub implemented : (sub sup : ClassId) → Declares classes sub sup → IsSomeAnd (slice_get classes sup.0) IsInterface
+  -- no class is its own supertype (JVMS 5.3.5): they can be ranked, each above its direct supertypes
+  pub rank : ClassId → ℕ
+  pub ranked : (sub sup : ClassId) → IsDirectSupertype classes sub sup → rank sup < rank sub
 
 -- a class mentions a class of none of these names
 pub record HasAbsent (names : List (List ℕ)) (file : ClassFile) : Type 0 where

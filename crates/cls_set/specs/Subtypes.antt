@@ -1,15 +1,16 @@
+-- ---- direct supertypes
 use Rattle.std.specs.Prelude.{◌≡◌, ◌⊎◌, Some, List, Contains, IsSomeAnd, slice_get, codes}
 use Rattle.cls_set.specs.declared.class.Class.{Class}
 use Rattle.space_ids.specs.declared.ids.ClassId.{ClassId}
 use Rattle.cls_set.specs.Classes.{number_of, IsInterface}
 
--- Who extends and implements whom (JVMS 4.10.1.2).
+-- ---- direct supertypes
 
--- a class's direct superclass is the other
+-- the other is the direct superclass of a class
 abbrev pub Extends : List Class → ClassId → ClassId → Type 0
 Extends classes sub sup = IsSomeAnd (slice_get classes sub.0) (λ c. c.superclass ≡ Some sup)
 
--- the other is among a class's direct superinterfaces
+-- the other is among the direct superinterfaces of a class
 abbrev pub Declares : List Class → ClassId → ClassId → Type 0
 Declares classes sub sup = IsSomeAnd (slice_get classes sub.0) (λ c. Contains c.interfaces sup)
 

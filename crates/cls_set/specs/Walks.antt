@@ -1,10 +1,11 @@
+-- ---- what a walk has met
 use Rattle.std.specs.Prelude.{◌≡◌, ◌<◌, ◌↔◌, ℕ, Bool, true, false, Option, Some, None, List, [], ◌∷◌, ◌++◌, All, IsTrue, set, length, count_by, cond, slice_get, slice_index_or, option_to_list}
 use Rattle.cls_set.specs.declared.class.Class.{Class}
 use Rattle.space_ids.specs.declared.ids.ClassId.{ClassId}
 use Rattle.cls_set.specs.declared.walking.Walk.{Walk}
 use Rattle.cls_set.specs.Subtypes.{IsProperSubtype}
 
--- Walks up the direct supertypes of a class.
+-- ---- what a walk has met
 
 -- the classes that a walk has met: whether it has, by number, and in the order in which it has
 abbrev pub Met : Type 0

@@ -11,7 +11,7 @@ use super::resolving::resolve;
 use cf_reader::{ClassFile, Row};
 use std::alloc::Global;
 
-// Classes by name, and for each a table that tells by number which classes are its supertypes.
+// Classes by name, and for each a table of its supertypes by number.
 #[derive(Debug, Drop)]
 pub(crate) struct Arranged {
     pub(crate) entries: Vec<Entry>,

@@ -53,7 +53,7 @@ fn sort(entries: &mut Vec<Entry>) -> Result<(), AllocError>
     })
 }
 
-// The index of the first class whose name stands before it too.
+// The index of the first class that has the name of the class before it.
 fn first_duplicate(entries: &[Entry]) -> Option<usize>
     requires { AscendByName entries.now }
     ensures within { IfSome result (λ k. k < length entries.now) }
@@ -114,7 +114,8 @@ pub(crate) fn refuse_duplicates(entries: &[Entry]) -> Result<(), SetFault>
     }
 }
 
-// Ranks the classes, tells their supertypes in tables, and refuses a class that is its own supertype.
+// Ranks the classes, writes their supertypes into tables, and refuses a class that is its own
+// supertype.
 pub(crate) fn refuse_cycles(
     alloc: Global,
     entries: &mut Vec<Entry>,

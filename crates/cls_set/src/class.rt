@@ -20,7 +20,7 @@ pub struct Class {
 impl Class {
     ghost use Rattle.cls_set.specs.Classes.{IsInterface};
 
-    /// Whether it is an interface (JVMS 4.1).
+    /// Returns whether it is an interface (JVMS 4.1).
     pub fn is_interface(&self) -> bool
         ensures { IsTrue result ↔ IsInterface self.now }
     {

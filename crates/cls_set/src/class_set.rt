@@ -13,7 +13,7 @@ use std::marker::Model;
 #[derive(Debug, Drop)]
 pub struct ClassSet {
     entries: Vec<Entry>,
-    // For each class a table that tells by number which classes are its supertypes.
+    // For each class a table of its supertypes by number.
     tables: Vec<Row<bool>>,
 }
 
@@ -31,7 +31,8 @@ impl Model for ClassSet {
 }
 
 impl ClassSet {
-    ghost use Rattle.std.specs.Prelude.{◌≡◌, ◌<◌, ◌↔◌, Some, IsTrue, IfOk, IfErr, IfSome, OnOk, length, slice_get};
+    ghost use Rattle.std.specs.Prelude.{◌≡◌, ◌<◌, ◌↔◌, All, Some, IsTrue, IfOk, IfErr, IfSome, OnOk, length, slice_get};
+    ghost use Rattle.cf_reader.specs.WellFormed.{IsWellFormed};
     ghost use Rattle.cls_set.specs.Classes.{name_at, number_of};
     ghost use Rattle.space_ids.specs.declared.ids.ClassId.{ClassId};
     ghost use Rattle.cls_set.specs.Faults.{IsSetFault, MakeASet};
@@ -39,14 +40,16 @@ impl ClassSet {
     ghost use Rattle.cls_set.specs.declared.fault.SetFault.TheVariants.{Memory};
     ghost use Rattle.cls_set.specs.Subtypes.{IsProperSubtype, IsRemote, IsSubclass, IsSubtype};
 
-    /// The set of the files' classes and the built-in ones: just of files that break none of the rules. The
-    /// files may come in any order, and nothing of them is handed back with a fault.
+    /// Returns the set of the files' classes and the built-in ones, exactly if the files break no
+    /// rule on sets. The files may come in any order. A fault hands nothing of them back.
     ///
-    /// Faults are looked for in this order, each over all classes: `Duplicate`, `TooMany` (more classes than
-    /// can be numbered, 4,096 with the built-in ones), `AbsentClass`, `Cycle`, `BadSuper`, `FinalSuper`,
-    /// `RemoteField`, `RemoteMethod`, `Override`, `NotYet`. Of the classes at fault the first by name is named;
-    /// `TooMany` names that of the last file.
+    /// Faults are looked for in this order, each over all classes: `Duplicate`, `TooMany` (more
+    /// classes than can be numbered, 4,096 with the built-in ones), `AbsentClass`, `Cycle`,
+    /// `BadSuper`, `FinalSuper`, `RemoteField`, `RemoteMethod`, `Override`, `NotYet`. The fault
+    /// names the first class at fault by name; `TooMany` names the class of the last file.
     pub fn build(alloc: Global, files: Vec<ClassFile>) -> Result<ClassSet, SetFault>
+        // They were read, so that each is well formed.
+        requires { All IsWellFormed files.items }
         ensures set { IfOk result (λ set. IsClassSet set) }
         ensures classes { IfOk result (λ set. HasClasses files.items set) }
         ensures found { OnOk result (MakeASet files.items) }
@@ -65,7 +68,7 @@ impl ClassSet {
         })
     }
 
-    /// How many classes it has.
+    /// Returns how many classes the set has.
     pub fn len(&self) -> usize
         ensures count { result ≡ length self.now }
         ensures set { IsClassSet self.now }
@@ -74,7 +77,7 @@ impl ClassSet {
         self.entries.len()
     }
 
-    /// The class with this number.
+    /// Returns the class with this number.
     pub fn class(&self, class: ClassId) -> &Class
         requires { class.0 < length self.now }
         ensures { slice_get self.now class.0 ≡ Some result.now }
@@ -82,7 +85,7 @@ impl ClassSet {
         &self.entries[usize::from(class.0)].class
     }
 
-    /// Its name.
+    /// Returns the name of the class with this number.
     pub fn name(&self, class: ClassId) -> &Text
         requires { class.0 < length self.now }
         ensures { name_at self.now class ≡ Some result.now }
@@ -90,7 +93,7 @@ impl ClassSet {
         &self.class(class).file.name
     }
 
-    /// The number of the class of this name: `None` where there is none in the set.
+    /// Returns the number of the class of this name: `None` if the set has none.
     pub fn number(&self, name: &[u8]) -> Option<ClassId>
         ensures number { result ≡ number_of self.now name.now }
         ensures in_set { IfSome result (λ id. id.0 < length self.now) }
@@ -99,7 +102,7 @@ impl ClassSet {
         find(&self.entries, name)
     }
 
-    /// Whether a class is another or a subclass of it.
+    /// Returns whether a class is another or a subclass of it.
     pub fn is_subclass(&self, sub: ClassId, sup: ClassId) -> bool
         requires { sub.0 < length self.now }
         ensures { IsTrue result ↔ IsSubclass self.now sub sup }
@@ -107,7 +110,7 @@ impl ClassSet {
         is_below(&self.entries, sub, sup)
     }
 
-    /// Whether a class or interface is a subtype of an interface.
+    /// Returns whether a class or interface is a subtype of an interface.
     pub fn implements(&self, class: ClassId, interface: ClassId) -> bool
         requires { class.0 < length self.now }
         ensures { IsTrue result ↔ IsSubtype self.now class interface }
@@ -116,8 +119,8 @@ impl ClassSet {
         class == interface || is_in(table, usize::from(interface.0))
     }
 
-    /// Whether a class is remote: a class, not an interface, that implements java/rmi/Remote (Java RMI
-    /// specification, 2.4).
+    /// Returns whether a class is remote: a class, not an interface, that implements
+    /// java/rmi/Remote (Java RMI specification, 2.4).
     pub fn is_remote(&self, class: ClassId) -> bool
         requires { class.0 < length self.now }
         ensures { IsTrue result ↔ IsRemote self.now class }

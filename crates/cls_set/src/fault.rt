@@ -1,4 +1,4 @@
-//! Faults of class sets: the rule that is broken, and the class that breaks it.
+//! Faults of class sets: the broken rule, and the class that breaks it.
 
 ghost use Rattle.std.specs.Prelude.{◌≡◌, Some};
 ghost use Rattle.cls_set.specs.declared.fault.SetFault.TheVariants.{Memory};

@@ -160,8 +160,8 @@ pub(crate) fn find_unfit(
     Ok(indices)
 }
 
-// The indices of the classes with fields that no remote class may have or inherit, and of the interfaces with methods
-// that no remote interface may.
+// The indices of the classes with fields that no remote class may have or inherit, and of the
+// interfaces with methods that no remote interface may have.
 #[derive(Debug, Drop)]
 pub(crate) struct Unfit {
     pub(crate) fields: Vec<usize>,

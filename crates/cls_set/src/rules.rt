@@ -99,7 +99,8 @@ fn has_bad_super(entries: &[Entry], class: &Class) -> bool
     implements_class(entries, class)
 }
 
-// Whether a class has or inherits what no remote class or interface may, by its table and the unfit classes.
+// Whether a class has or inherits what no remote class or interface may have, by its table and the
+// unfit classes.
 fn is_remotely_unfit(entries: &[Entry], tables: &[Row<bool>], unfit: &[usize], index: usize) -> bool
     requires arranged { AreArranged entries.now }
     requires tables { HaveTables (classes_of entries.now) tables.now }

@@ -74,8 +74,8 @@ fn walk_up(alloc: Global, entries: &[Entry], from: ClassId) -> Result<Walk, Allo
     Ok(walk)
 }
 
-// What ranking comes to: the index of the first class that is its own supertype, or for each class a table that
-// tells by number which classes are its supertypes.
+// The result of ranking: the index of the first class that is its own supertype, or for each class
+// a table of its supertypes by number.
 #[derive(Debug, Drop)]
 pub(crate) enum Ranks {
     Cyclic(usize),

@@ -50,7 +50,7 @@ field_added start now new fs i f inside is so_far added =
     ∙ (append_assoc start (own_kinds (take i fs)) (own_kinds (f ∷ []))
     ∙ ap (λ ks. start ++ ks) (ap (λ g. own_kinds (take i fs) ++ own_kinds (g ∷ [])) is ∙ sym (own_more fs i f inside))))
 
--- where no field is one of instances, nothing is held
+-- if no field is one of instances, nothing is held
 pub none_held : (fs : List Field) → count_by is_instance fs ≡ 0 → own_kinds fs ≡ []
 unfolding own_kinds
 none_held [] none = refl
@@ -103,28 +103,19 @@ kind_copied row now new start end i k rising within inside so_far is pushed =
     ∙ (append_assoc row (take i (drop start row)) (k ∷ [])
     ∙ ap (λ ks. row ++ ks) (ap (λ x. take i (drop start row) ++ x ∷ []) here ∙ sym (take_more (drop start row) i k (omega (arith, low, few))))))
 
-pub starts_itself : (row : List WordKind) → Starts row row
-starts_itself row = record { more = []; is = sym (append-nil row) }
-
-pub starts_on : (row new more : List WordKind) → new ≡ row ++ more → Starts row new
-starts_on row new more is = record { more = more; is = is }
-
-pub starts_both : {row mid new : List WordKind} → Starts row mid → Starts mid new → Starts row new
-starts_both {row} {mid} {new} a b = record { more = a.more ++ b.more; is = b.is ∙ (ap (λ ks. ks ++ b.more) a.is ∙ append_assoc row a.more b.more) }
-
-get_set_same : {X : Type 0} (xs : List X) (i : ℕ) (a : X) → i < length xs → slice_get (set xs i a) i ≡ Some a
+pub get_set_same : {X : Type 0} (xs : List X) (i : ℕ) (a : X) → i < length xs → slice_get (set xs i a) i ≡ Some a
 get_set_same [] i a h = absurd (omega (arith, h))
 get_set_same (x ∷ xs) zero a h = refl
 get_set_same (x ∷ xs) (suc i) a h = get_set_same xs i a (omega (arith, h))
 
-get_set_other : {X : Type 0} (xs : List X) (i j : ℕ) (a : X) → (j ≡ i → ⊥) → slice_get (set xs i a) j ≡ slice_get xs j
+pub get_set_other : {X : Type 0} (xs : List X) (i j : ℕ) (a : X) → (j ≡ i → ⊥) → slice_get (set xs i a) j ≡ slice_get xs j
 get_set_other [] i j a ne = refl
 get_set_other (x ∷ xs) zero zero a ne = absurd (ne refl)
 get_set_other (x ∷ xs) zero (suc j) a ne = refl
 get_set_other (x ∷ xs) (suc i) zero a ne = refl
 get_set_other (x ∷ xs) (suc i) (suc j) a ne = get_set_other xs i j a (λ e. ne (ap suc e))
 
-either : (m n : ℕ) → (m ≡ n) ⊎ (m ≡ n → ⊥)
+pub either : (m n : ℕ) → (m ≡ n) ⊎ (m ≡ n → ⊥)
 either m n =
     elim (before m n) [
       | inl less ↦ inr (λ e. absurd (omega (arith, less, e)))
@@ -135,7 +126,7 @@ either m n =
           ]
     ]
 
-same_some : {X : Type 0} {x y : X} → Some x ≡ Some y → x ≡ y
+pub same_some : {X : Type 0} {x y : X} → Some x ≡ Some y → x ≡ y
 same_some e = cc
 
 pub laid_on : (classes : List Class) (class : ClassId) (row new : List WordKind) (span : Span) → IsLaid classes class row span → Starts row new → IsLaid classes class new span
@@ -164,7 +155,7 @@ noted classes class row new memo i span have on same inside is =
           ];
     }
 
--- behind no superclass
+-- after no superclass
 pub holds_root : (classes : List Class) (class : ClassId) (c : Class) (inherited : List WordKind) → slice_get classes class.0 ≡ Some c → c.superclass ≡ None → inherited ≡ []
     → IsSomeAnd (slice_get classes class.0) (λ c. HoldsKinds classes class (inherited ++ own_kinds c.file.fields))
 holds_root classes class c inherited at root none =
@@ -176,7 +167,7 @@ pub holds_below : (classes : List Class) (class superclass : ClassId) (c : Class
 holds_below classes class superclass c inherited at up holds =
     some_and (slice_get classes class.0) (λ c. HoldsKinds classes class (inherited ++ own_kinds c.file.fields)) c at (kinds.HoldsKinds.of_subclass class superclass c inherited at up holds)
 
--- what a class was laid out as behind what it inherits
+-- what a class was laid out as, after what it inherits
 pub laid_behind : (classes : List Class) (class : ClassId) (c : Class) (inherited row : List WordKind) (fs : List Field) (span : Span)
     → IsSomeAnd (slice_get classes class.0) (λ c. HoldsKinds classes class (inherited ++ own_kinds c.file.fields)) → slice_get classes class.0 ≡ Some c → fs ≡ c.file.fields
     → span.start ≤ span.end → span.end ≤ length row → part row span.start span.end ≡ inherited ++ own_kinds fs → IsLaid classes class row span
@@ -188,7 +179,7 @@ laid_behind classes class c inherited row fs span holds at same rising within is
       holds = subst (HoldsKinds classes class) (sym (is ∙ ap (λ fs. inherited ++ own_kinds fs) same)) here;
     }
 
-some_none : {X : Type 0} {x : X} → Some x ≡ None → ⊥
+pub some_none : {X : Type 0} {x : X} → Some x ≡ None → ⊥
 some_none e = cc
 
 pub none_laid : (classes : List Class) (row : List WordKind) (memo : List (Option Span)) → length memo ≡ length classes → ((i : ℕ) (o : Option Span) → slice_get memo i ≡ Some o → o ≡ None) → AreLaid classes row memo

@@ -1,2 +1,6 @@
+pub mod Chosen
+pub mod ClassTrees
 pub mod FieldRows
+pub mod Grown
 pub mod KindRows
+pub mod Numbered

@@ -36,8 +36,8 @@ abbrev pub part : List WordKind → ℕ → ℕ → List WordKind
 part row start end = take (end - start) (drop start row)
 
 -- a row goes on from another
-pub record Starts (old new : List WordKind) : Type 0 where
-  pub more : List WordKind
+pub record Starts {A : Type 0} (old new : List A) : Type 0 where
+  pub more : List A
   pub is : new ≡ old ++ more
 
 -- a part of the row is what the fields of an object of a class hold
@@ -46,7 +46,7 @@ pub record IsLaid (classes : List Class) (class : ClassId) (row : List WordKind)
   pub within : span.end ≤ length row
   pub holds : HoldsKinds classes class (part row span.start span.end)
 
--- so it is of each class that has a part, by class number
+-- this holds of each class that has a part, by class number
 pub record AreLaid (classes : List Class) (row : List WordKind) (memo : List (Option Span)) : Type 0 where
   pub one_each : length memo ≡ length classes
   pub laid : (class : ClassId) (span : Span) → slice_get memo class.0 ≡ Some (Some span) → IsLaid classes class row span

@@ -1,2 +1,5 @@
+pub mod Choices
 pub mod Kinds
+pub mod Numbers
 pub mod Slots
+pub mod Trees

@@ -6,7 +6,7 @@ use Rattle.space_ids.specs.declared.ids.ClassId.{ClassId}
 use Rattle.cls_link.specs.declared.linked_code.FieldSlot.{FieldSlot}
 use Rattle.cls_link.specs.Fields.{is_instance, CountsFields}
 
--- the slots of fields as declared, where the first instance field has this one; a static field has none
+-- the slots of fields as declared; the first instance field has this one, and a static field has none
 abbrev pub slots_from : ℕ → List Field → List (Option FieldSlot)
 slots_from slot [] = []
 slots_from slot (f ∷ fs) = if is_instance f then Some (record { 0 = slot }) ∷ slots_from (suc slot) fs else None ∷ slots_from slot fs

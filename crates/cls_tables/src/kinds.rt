@@ -1,5 +1,5 @@
-//! What the fields of objects hold, for each class of a set, in one row: a class goes on where its
-//! superclass ends, or has the row of its superclass again.
+//! What the fields of objects hold, for each class of a set, in one row: a class goes on at the end
+//! of its superclass, or has the row of its superclass again.
 
 ghost use Rattle.std.specs.Prelude.{◌≡◌, ◌+◌, ◌<◌, ◌≤◌, ◌-◌, ◌++◌, [], ◌∷◌, IfOk, OnOk, IsSomeAnd, count_by, length, slice_get};
 ghost use Rattle.cls_link.specs.Fields.{is_instance};
@@ -11,7 +11,7 @@ use cls_link::{ClassId, ClassSet, ElementType, Field, FieldType};
 use std::alloc::{AllocError, Global};
 use vm_heap::WordKind;
 
-/// Where the kinds of the fields of a class stand in the row.
+/// The span of the row with the kinds of the fields of a class.
 #[derive(Clone, Copy)]
 pub(crate) struct Span {
     pub(crate) start: usize,
@@ -72,8 +72,8 @@ fn add_part(row: &mut Vec<WordKind>, span: Span) -> Result<(), AllocError>
     Ok(())
 }
 
-// What the inherited fields hold, and then the own ones: where the inherited ones end the row, or have none
-// behind them, nothing of them is written again.
+// What the inherited fields hold, and then the own ones: if the inherited ones end the row, or no
+// own ones follow, they are not written again.
 fn add_behind(row: &mut Vec<WordKind>, above: Span, fields: &[Field]) -> Result<Span, AllocError>
     requires rising { above.start ≤ above.end }
     requires within { above.end ≤ length row.old.items }
@@ -101,7 +101,7 @@ fn add_behind(row: &mut Vec<WordKind>, above: Span, fields: &[Field]) -> Result<
     })
 }
 
-// Lays out a class behind what it inherits.
+// Lays out a class after what it inherits.
 fn lay_behind(
     set: &ClassSet,
     class: ClassId,

@@ -1,10 +1,13 @@
-//! Tables of a linked class set: what running asks of fields, each answer in constant time.
+//! Tables of a linked class set: what running asks of fields and of the methods that classes select.
 #![tactic(auto)]
 
-pub use cls_link::{ClassId, FieldSlot, Linked, MemberIndex};
+pub use cls_link::{ClassId, FieldSlot, Linked, MemberIndex, MethodId};
 pub use tables::Tables;
 pub use vm_heap::WordKind;
 
+mod choices;
 mod kinds;
+mod numbers;
 mod slots;
 mod tables;
+mod trees;

@@ -26,7 +26,7 @@ pub(crate) fn count_instance_fields(fields: &[Field]) -> usize
     count
 }
 
-// The slots of the fields, where this is the first.
+// The slots of the fields; this is the first.
 fn slots_from(
     alloc: Global,
     fields: &[Field],

@@ -129,7 +129,7 @@ pub struct ClassDraft {
 }
 
 impl ClassDraft {
-    /// A public class of this name below java/lang/Object, without members.
+    /// Returns a public class of this name below java/lang/Object, without members.
     pub fn new(alloc: Global, name: &str) -> Result<ClassDraft, AllocError> {
         Ok(ClassDraft {
             alloc,
@@ -178,8 +178,8 @@ impl ClassDraft {
         Ok(())
     }
 
-    /// The bytes of its class file. `LineFault::Bad` if a line is no code, or a part is too long for a
-    /// class file.
+    /// Returns the bytes of its class file. `LineFault::Bad` if a line is no code, or a part is too
+    /// long for a class file.
     pub fn bytes(&self) -> Result<Vec<u8>, LineFault> {
         let alloc = self.alloc;
         let mut codes = Vec::new(alloc);

@@ -37,10 +37,10 @@ fn short_line<'a>(mnemonic: &'a str, operand: &'a str) -> Result<Line<'a>, LineF
     Ok(Line::Number(mnemonic, int(operand)?))
 }
 
-/// A line of code: a mnemonic and its operands, as `javap` shows them. A branch is told by the offset to
-/// which it goes, `ldc` by its int, a member by its class, name and descriptor. After the mnemonic
-/// `interface` asks for an InterfaceMethodref entry, `method` for a Methodref, `field` for a Fieldref, and
-/// `index` is an index of the constant pool.
+/// Returns a line of code: a mnemonic and its operands, as `javap` shows them. A branch is given by
+/// its target's offset, `ldc` by its int, a member by its class, name and descriptor. After the
+/// mnemonic `interface` asks for an InterfaceMethodref entry, `method` for a Methodref, `field` for
+/// a Fieldref, and `index` is an index of the constant pool.
 pub fn code_line<'a>(words: &[&'a str]) -> Result<Line<'a>, LineFault> {
     match words {
         [mnemonic] => Ok(Line::Op(*mnemonic)),

@@ -23,13 +23,13 @@ pub enum Line<'a> {
     /// A line of the last method's code.
     Code(&'a str),
     Change(Change),
-    /// Words for the program over the folder in memory.
+    /// A command line for the program, over the folder in memory.
     InMemory(&'a str),
-    /// Words for the program over the file system.
+    /// A command line for the program, over the file system.
     OnDisk(&'a str),
 }
 
-/// Reads a line of the script.
+/// Returns what a line of the script asks for.
 pub fn line_of<'a>(alloc: Global, text: &'a str) -> Result<Line<'a>, LineFault> {
     if text.is_empty() || text.starts_with('#') {
         return Ok(Line::Heading);

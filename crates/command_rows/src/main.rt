@@ -19,8 +19,8 @@
 //! | `cut N`, `append HEX` | keeps the first N bytes of the last file, or adds bytes to it |
 //! | `again FROM TO` | appends the last file's own bytes from FROM up to TO |
 //! | `torn` | the device of the last file fails after its bytes |
-//! | `> WORDS` | runs `rmispace` with these words over the folder |
-//! | `@ WORDS` | runs it over the file system |
+//! | `> ARGUMENTS` | runs `rmispace` with these arguments over the folder |
+//! | `@ ARGUMENTS` | runs it over the file system |
 //!
 //! Single spaces part the words of a line, and numbers are decimal. A line that runs is printed; the
 //! exit status follows it, and then each line of the two outputs, after `out: ` or `err: `. A line

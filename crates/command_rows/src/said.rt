@@ -1,4 +1,4 @@
-//! What the program said to a line of words.
+//! What the program said to a command line.
 
 use sp_main::{Folder, command};
 use std::alloc::{AllocError, Global};
@@ -14,7 +14,8 @@ pub struct Said {
 }
 
 impl Said {
-    /// Runs `rmispace` with these words, which single spaces part, over a folder.
+    /// Runs `rmispace` over a folder with these arguments, parted by single spaces, and returns
+    /// what it said.
     pub fn of<F: Folder>(alloc: Global, folder: &F, words: &str) -> Result<Said, AllocError> {
         let words = words_of(alloc, words)?;
         let mut out = Vec::new(alloc);
@@ -38,7 +39,7 @@ impl Said {
     }
 }
 
-// The words of a line, after the program's name.
+// The arguments of a line, after the program's name.
 fn words_of(alloc: Global, line: &str) -> Result<Vec<String>, AllocError> {
     let mut words = Vec::new(alloc);
     words.push(String::from_str(alloc, "rmispace")?)?;

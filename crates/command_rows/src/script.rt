@@ -30,7 +30,7 @@ pub struct Script {
 }
 
 impl Script {
-    /// A script of which no line was played.
+    /// Returns a script of which no line was played.
     pub fn new(alloc: Global) -> Script {
         Script {
             alloc,

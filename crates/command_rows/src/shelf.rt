@@ -57,7 +57,7 @@ pub struct Shelf {
 }
 
 impl Shelf {
-    /// A folder without files.
+    /// Returns a folder without files.
     pub fn new(alloc: Global) -> Shelf {
         Shelf {
             alloc,

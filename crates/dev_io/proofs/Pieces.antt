@@ -32,7 +32,7 @@ all_at_end most before mid after old new passed piece no_more few =
     let end = piece.end no_more in
     at_end most before after new (with_piece before mid after old new passed piece) end.0 (omega (arith, ap (λ (bytes : List ℕ). length bytes) end.1))
 
--- a source gave as many bytes as were asked of it in all
+-- a source gave all the bytes that were asked of it
 all_asked : (most : ℕ) (before after : Option (List ℕ)) (bytes : List ℕ) → Consumes before after bytes → length bytes ≡ most → IfSome before (λ all. bytes ≡ take most all)
 all_asked most None after bytes passed many = tt
 all_asked most (Some all) None bytes passed many = absurd passed

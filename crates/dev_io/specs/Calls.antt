@@ -1,4 +1,4 @@
--- How a device over memory counts its calls: from the one that is to fail on, each call fails.
+-- How a device over memory counts its calls: the call that is chosen to fail, and each after it, fails.
 use Rattle.std.specs.Prelude.{ℕ, ◌-◌, zero, suc, Bool, true, false}
 use Rattle.dev_io.specs.declared.calls.Calls.{Calls}
 use Rattle.dev_io.specs.declared.calls.Calls.TheVariants.{Unlimited, Left, Failed}
@@ -16,7 +16,7 @@ is_failed Unlimited = false
 is_failed (Left n) = false
 is_failed Failed = true
 
--- what becomes of the calls if the call of this number, counted from 1, is to fail: a device that has failed stays so
+-- the calls if the call of this number, counted from 1, has to fail: a device that has failed stays failed
 abbrev pub failing_at : ℕ → Calls → Calls
 failing_at call Unlimited = Left (call - 1)
 failing_at call (Left n) = Left (call - 1)

@@ -2,8 +2,8 @@
 use Rattle.std.specs.Prelude.{◌≡◌, ◌≤◌, ◌<◌, ℕ, Bool, true, false, List, ◌++◌, length, Option}
 use Rattle.std.specs.Io.KnownBytes.{Consumes, IsAtEnd}
 
--- a source that had `before` and has `after` left gave a piece of at most `most` bytes, which was appended to `old`;
--- `more` tells that there was one, else the source is at its end
+-- a source had `before` and has `after` left: it gave a piece of at most `most` bytes, which was appended to `old`. If `more` is false,
+-- there was no piece: the source is at its end
 pub record GivesPiece (before after : Option (List ℕ)) (most : ℕ) (old new : List ℕ) (more : Bool) : Type 0 where
   pub piece : List ℕ
   pub consumed : Consumes before after piece

@@ -9,7 +9,7 @@ use super::Failed;
 pub enum Calls {
     /// All of them.
     Unlimited,
-    /// This many, and the one after them fails.
+    /// This many; the next one fails.
     Left(u64),
     /// None: a call has failed.
     Failed,
@@ -29,7 +29,7 @@ impl Calls {
         }
     }
 
-    // Counts a call, and fails if it is one that is to fail.
+    // Counts a call. Answers `Failed` if this call has to fail.
     pub(crate) fn count(&mut self) -> Result<(), Failed>
         ensures after { self.new ≡ after_call self.old }
         ensures failed { IsErr result ↔ IsTrue (is_failed self.new) }

@@ -1,8 +1,8 @@
-//! Sources that give bytes and sinks that take them: what the layers above read class files and
-//! frames from, and write frames to.
+//! Sources, from which the layers above read class files and frames, and sinks, to which they write
+//! frames.
 //!
-//! A contract names what a device has left or holds, where that is known, and whether a call of it
-//! has failed. A real device says nothing of its bytes; one over memory says all.
+//! A contract names what a device has left or holds, if that is known, and whether a call of it has
+//! failed. Of a real device no bytes are known, of one over memory all.
 #![tactic(auto)]
 
 ghost use Rattle.std.specs.Prelude.{◌≡◌, ◌<◌, ◌≤◌, ℕ, Bool, Option, List, length, IsTrue, IsErr, IfOk, ◌↔◌};
@@ -32,14 +32,14 @@ pub struct Failed;
 
 /// Bytes that come one after the other, as from a file or a connection.
 pub trait Source {
-    // The bytes that reads will give from here on, where they are known.
+    // The bytes that reads will give from here on, if they are known.
     ghost remaining: { Self → Option (List ℕ) };
 
     // Whether a call has failed.
     ghost has_failed: { Self → Bool };
 
-    /// Reads into the front of the buffer, and answers how many bytes. 0 is the end, or an empty
-    /// buffer. A read that fails takes no byte off the source.
+    /// Reads into the front of the buffer, and returns how many bytes it read. 0 is the end, or an
+    /// empty buffer. A read that fails takes no byte off the source.
     fn read(&mut self, buffer: &mut [u8]) -> Result<usize, Failed>
         ensures within { IfOk result (λ count. count ≤ length buffer.new) }
         ensures bytes { ReadConsumes (remaining self.old) (remaining self.new) result buffer.new }
@@ -53,13 +53,13 @@ pub trait Source {
 
 /// Takes bytes one after the other, as a file or a connection does.
 pub trait Sink {
-    // The bytes that the sink has taken, where they are known.
+    // The bytes that the sink has taken, if they are known.
     ghost contents: { Self → Option (List ℕ) };
 
     // Whether a call has failed.
     ghost has_failed: { Self → Bool };
 
-    /// Writes a front part of the bytes, and answers how many: at least one where there is one. A
+    /// Writes a front part of the bytes, and returns how many: at least one if there is one. A
     /// write that fails takes none.
     fn write(&mut self, bytes: &[u8]) -> Result<usize, Failed>
         ensures within { IfOk result (λ count. count ≤ length bytes.now) }

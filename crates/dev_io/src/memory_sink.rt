@@ -1,5 +1,5 @@
-//! A sink into memory, which says all of its bytes: for tests, and where a contract speaks of what
-//! a device takes.
+//! A sink into memory, all of whose bytes are known: for tests, and for contracts on what a device
+//! takes.
 
 ghost use Rattle.std.specs.Prelude.{◌≡◌, ◌<◌, [], IfOk};
 
@@ -32,8 +32,8 @@ impl MemSink {
     ghost use Rattle.dev_io.specs.declared.calls.Calls.TheVariants.{Unlimited};
     ghost use Rattle.dev_io.specs.Calls.{failing_at};
 
-    /// An empty sink that holds at most `room` bytes, and takes at most `step` a call. No call fails
-    /// before it is full.
+    /// Returns an empty sink that holds at most `room` bytes, and takes at most `step` a call. No
+    /// call fails before it is full.
     pub fn new(alloc: Global, room: usize, step: usize) -> Result<MemSink, AllocError>
         requires { 0 < step }
         ensures { IfOk result (λ sink. sink ≡ record { bytes = []; room = room; step = step; calls = Unlimited }) }
@@ -46,8 +46,8 @@ impl MemSink {
         })
     }
 
-    /// The same sink, whose `call`-th call from here on fails, counted from 1. A sink that has failed
-    /// stays failed.
+    /// Returns the same sink, whose `call`-th call from here on fails, counted from 1. A sink that
+    /// has failed stays failed.
     pub fn failing_at(self, call: u64) -> MemSink
         requires { 0 < call }
         ensures { result ≡ record self { calls = failing_at call self.calls } }
@@ -58,7 +58,7 @@ impl MemSink {
         }
     }
 
-    /// The bytes that the sink has taken.
+    /// Returns the bytes that the sink has taken.
     pub fn bytes(&self) -> &[u8]
         ensures { result.now ≡ self.now.bytes }
     {
@@ -87,7 +87,7 @@ impl Sink for MemSink {
         ensures step { self.new.step ≡ self.old.step }
         ensures room { self.new.room ≡ self.old.room }
         ensures calls { OnOk result (self.new.calls ≡ after_call self.old.calls) }
-        // A call fails because it is one that is to fail, or because a byte comes and none fits.
+        // A call fails because it has to fail, or because a byte comes and none fits.
         ensures full { IsErr result → IsTrue (is_failed (after_call self.old.calls)) ⊎ ((self.old.room ≡ length self.old.bytes) × (0 < length bytes.now)) }
     {
         self.calls.count()?;

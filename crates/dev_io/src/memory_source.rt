@@ -1,5 +1,5 @@
-//! A source over bytes in memory, which says all of its bytes: for tests, and where a contract
-//! speaks of what a device gives.
+//! A source over bytes in memory, all of which are known: for tests, and for contracts on what a
+//! device gives.
 
 ghost use Rattle.std.specs.Prelude.{◌≡◌, ◌-◌, ◌<◌, length, min, take};
 
@@ -30,7 +30,7 @@ impl MemSource {
     ghost use Rattle.dev_io.specs.declared.calls.Calls.TheVariants.{Unlimited};
     ghost use Rattle.dev_io.specs.Calls.{failing_at};
 
-    /// The source that gives these bytes, at most `step` a call. No call fails.
+    /// Returns the source that gives these bytes, at most `step` a call. No call fails.
     pub fn new(bytes: Vec<u8>, step: usize) -> MemSource
         requires { 0 < step }
         ensures { result ≡ record { bytes = bytes.items; step = step; calls = Unlimited } }
@@ -43,8 +43,8 @@ impl MemSource {
         }
     }
 
-    /// The same source, whose `call`-th call from here on fails, counted from 1. A source that has
-    /// failed stays failed.
+    /// Returns the same source, whose `call`-th call from here on fails, counted from 1. A source
+    /// that has failed stays failed.
     pub fn failing_at(self, call: u64) -> MemSource
         requires { 0 < call }
         ensures { result ≡ record self { calls = failing_at call self.calls } }
@@ -56,7 +56,7 @@ impl MemSource {
     }
 }
 
-// Copies a front part, at most so many bytes of it and as many as fit, and answers how many.
+// Copies a front part, at most `most` bytes of it and no more than fit, and returns how many.
 fn copy_front(from: &[u8], to: &mut [u8], most: usize) -> usize
     ensures count { result ≡ min most (min (length from.now) (length to.old)) }
     ensures bytes { take result to.new ≡ take result from.now }

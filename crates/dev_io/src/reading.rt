@@ -41,10 +41,10 @@ fn read_piece<S: Source>(
 // How many bytes are asked of a source at once.
 const PIECE: usize = 4096;
 
-/// The bytes of a source to its end, or the first `most` bytes of it. It asks for at most 4,096 bytes
-/// at once, and reads no byte after the first `most`. The error is Device exactly if the source has
-/// failed, else Memory. After an error the source has given some of its bytes: to read again, take a
-/// new source.
+/// Returns the bytes of a source to its end, or its first `most` bytes. The error is Device exactly
+/// if the source has failed, else Memory. It asks for at most 4,096 bytes at once, and reads no
+/// byte after the first `most`. After an error the source has given some of its bytes: to read
+/// again, take a new source.
 pub fn read_bytes<S: Source>(
     alloc: Global,
     source: &mut S,

@@ -6,9 +6,9 @@ ghost use Rattle.std.specs.Io.KnownBytes.{WriteAppends};
 use super::{Failed, Sink};
 use std::io::{ErrorKind, Write};
 
-/// Writes a front part of the bytes to a writer, and answers how many: at least one if there is one. A
-/// write that a signal interrupted is made again. `Failed` is any other error of the writer, or a write
-/// that takes none of some bytes; the writer has taken none then.
+/// Writes a front part of the bytes to a writer, and returns how many: at least one if there is
+/// one. A write that a signal interrupted is made again. `Failed` is any other error of the writer,
+/// or a write that takes none of some bytes; then the writer has taken none.
 pub fn write_part<W: Write>(writer: &mut W, bytes: &[u8]) -> Result<usize, Failed>
     ensures within { IfOk result (λ count. count ≤ length bytes.now) }
     ensures some { IfOk result (λ count. 0 < length bytes.now → 0 < count) }
@@ -33,7 +33,7 @@ pub struct StdSink<W: Write> {
 }
 
 impl<W: Write> StdSink<W> {
-    /// The sink that writes to the writer.
+    /// Returns the sink that writes to the writer.
     pub fn new(writer: W) -> StdSink<W>
         ensures contents { ⟦<StdSink<W> as Sink>⟧.contents result ≡ W.contents writer }
         ensures works { ⟦<StdSink<W> as Sink>⟧.has_failed result ≡ false }

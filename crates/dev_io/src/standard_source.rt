@@ -14,7 +14,7 @@ pub struct StdSource<R: Read> {
 }
 
 impl<R: Read> StdSource<R> {
-    /// The source that reads from the reader.
+    /// Returns the source that reads from the reader.
     pub fn new(reader: R) -> StdSource<R>
         ensures remaining { ⟦<StdSource<R> as Source>⟧.remaining result ≡ R.remaining reader }
         ensures works { ⟦<StdSource<R> as Source>⟧.has_failed result ≡ false }

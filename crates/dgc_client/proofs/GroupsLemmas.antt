@@ -80,7 +80,7 @@ put-first calls call was = record {
   apart = (tt, tt);
 }
 
--- a call in a new group, behind one of another peer or kind
+-- a call in a new group, after one of another peer or kind
 pub put-new : (calls : List DueCall) (groups : List Group) (last : Group) (call : DueCall) → is_of last.peer last.kind call ≡ false
     → IsGrouping calls (groups ++ last ∷ []) → IsGrouping (calls ++ call ∷ []) ((groups ++ last ∷ []) ++ group_of call ∷ [])
 put-new calls groups last call other was = record {
@@ -168,7 +168,7 @@ no-pieces : (count most : ℕ) → pieces_within count most [] ≡ []
 no-pieces zero most = refl
 no-pieces (suc count) most = refl
 
--- as many pieces are counted as there may be
+-- the pieces are within the bound by which they are counted
 counted-pieces : (n m most : ℕ) → 0 < most → (ids : List ObjId) → length ids ≤ n → length ids ≤ m → pieces_within n most ids ≡ pieces_within m most ids
 counted-pieces zero m most some [] a b = sym (no-pieces m most)
 counted-pieces zero m most some (id ∷ ids) a b = absurd (omega arith)

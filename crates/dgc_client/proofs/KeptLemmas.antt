@@ -1,4 +1,4 @@
--- Leases that are told of moments when they are looked at.
+-- Leases into which moments are counted when they are looked at.
 use Rattle.std.proofs.Common.{◌≡◌, ℕ, zero, suc, ◌+◌, ◌-◌, ◌<◌, ◌≤◌, Bool, true, false, cond, not, ◌&&◌, ◌||◌, eqb, get_or, List, [], ◌∷◌, ◌++◌, length, take, drop, map, Option, None, Some, is_some, Result, Ok, Err, OnOk, OnErr, refl, sym, ap, subst, ◌∙◌, arith}
 use Rattle.std.specs.Prelude.{unwrap_or, slice_get, position, nat_lt, option_map}
 use Rattle.std.specs.Cmp.{IsEquivalence}
@@ -206,7 +206,7 @@ module _ (m t : ℕ) where
       same None = refl
       same (Some k) = refl
 
-  -- a reference is known where it has an index
+  -- a reference is known if it has an index
   pub known-at : (r : ForeignId) (es : List (ForeignId × Kept)) (o : Option ℕ) → o ≡ position (is_same r) (keys_of es) → is_some o ≡ is_some (lookup (is_same r) (leases_now m t es))
   known-at r es o at = ap is_some at ∙ is_some-position (is_same r) (keys_of es) ∙ sym (is_some-lookup (is_same r) es) ∙ sym (known-now (is_same r) es)
 

@@ -111,7 +111,7 @@ clean-unheld l strong h = by (is_waiting l) (nat_lt 0 l.holders) refl h
     by false true e h = absurd (no-clean-held (is_none l.dirty && (is_none l.lease || l.renew)) strong h)
     by false false e h = grind (arith, nat_tests)
 
--- where nothing is owed no clean call is due
+-- if nothing is owed, no clean call is due
 no-clean : (l : ClientLease) (strong : Bool) → l.owed ≡ Nothing → due l ≡ Some (Clean_due strong) → ⊥
 no-clean l strong nothing h = by (is_waiting l) (nat_lt 0 l.holders) h
   where
@@ -218,7 +218,7 @@ answered-holders : (made : Option Made) (period : ℕ) (l : ClientLease) → (an
 answered-holders None period l = refl
 answered-holders (Some made) period l = refl
 
--- the holders that are kept, and those that came and are not gone
+-- the holders kept, and those that came and are not gone
 record IsCounted (kept came : ℕ) : Type 0 where
   pub most : kept ≤ 18446744073709551615
   pub either : (kept ≡ came) ⊎ (kept ≡ 18446744073709551615)

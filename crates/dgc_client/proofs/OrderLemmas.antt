@@ -177,7 +177,7 @@ none-of p k (call ∷ calls) h = elim (is_of p k call) as (λ t. is_of p k call 
   | false ↦ λ _. none-of p k calls (left_out p call (alike k calls) (is_same_answer (is_clean call) (is_clean_kind k)) h)
 ] refl
 
--- all calls of a peer and kind, or none where it is no peer of such calls
+-- all calls of a peer and kind, or none if it is no peer of such calls
 all-or-none : (p : List ℕ) (k : Due) (calls : List DueCall) → cond (list_any (bytes_eq p) (peers_of (is_clean_kind k) calls)) (filter (is_of p k) calls) [] ≡ filter (is_of p k) calls
 all-or-none p k calls = elim (list_any (bytes_eq p) (peers_of (is_clean_kind k) calls)) as (λ t. list_any (bytes_eq p) (peers_of (is_clean_kind k) calls) ≡ t → cond t (filter (is_of p k) calls) [] ≡ filter (is_of p k) calls) [
   | true ↦ λ _. refl

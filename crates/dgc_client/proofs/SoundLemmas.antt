@@ -68,7 +68,7 @@ owed-later l m le Clean first second = false≢true (sym first)
 owed-later l m le Strong first second = false≢true (sym first)
 owed-later l m le Again first second = again-later l.last l.moment m le first second
 
--- A call that a moment makes due is one of a reference that waited, or one whose lease is half over.
+-- If a moment makes a call due, the call's reference waited, or its lease is half over.
 pub due-later : (l : ClientLease) (m : ℕ) → l.moment ≤ m → is_some (due l) ≡ false → is_some (due (after_moment m l)) ≡ true
     → (l.waits ≡ true) ⊎ ((t : Term) × (l.lease ≡ Some t) × (is_half_over (Some t) m ≡ true))
 due-later l m le first second = by l.waits refl
@@ -147,7 +147,7 @@ due-at es at h = by (slice_get es at) refl h
 is-due-at : (es : List (ForeignId × ClientLease)) (at : ℕ) (r : ForeignId) (l : ClientLease) → slice_get es at ≡ Some (r, l) → is_some (due l) ≡ true → IsDueAt es at
 is-due-at es at r l is some = ap (λ (o : Option (ForeignId × ClientLease)). is_some (some_of call_of_entry o)) is ∙ call-some r (due l) ∙ some
 
--- where leases and deadlines stay the same
+-- if leases and deadlines stay the same
 pub sound-same : (old : Clients) (leases : Leases) → leases_of leases ≡ leases_of old.leases → leases.moment ≡ old.leases.moment → IsSound old → IsSound (record old { leases = leases })
 sound-same old leases is moment s = record {
   covered = λ at h. elim (s.covered at (subst (λ (es : List (ForeignId × ClientLease)). IsDueAt es at) is h)) [

@@ -27,7 +27,7 @@ use Rattle.dgc_client.specs.Touched.{due_call, holds, reference_of}
 use Rattle.dgc_client.proofs.LeaseLemmas.{clean-unheld}
 use Rattle.dgc_client.proofs.KeptLemmas.{same-reference, same-laws}
 
--- a reference has an index in the table where it is among the keys
+-- a reference has an index in the table if it is among the keys
 pub known-among : (r : ForeignId) (es : List (ForeignId × ClientLease)) → is_some (lookup (is_same r) es) ≡ is_among r (keys_of es)
 known-among r [] = refl
 known-among r (e ∷ es) = elim (is_same r e.0) as (λ t. is_some (cond t (Some e.1) (lookup (is_same r) es)) ≡ (t || is_among r (keys_of es))) [ true ↦ refl | false ↦ known-among r es ]
@@ -79,7 +79,7 @@ after-event h old new reference event lease moment numbers keys each counts is c
       sound = covered was.sound;
     }
 
--- what is told of a reference that was never held is none of it
+-- an event at a reference that was never held is none of its events
 pub after-nothing : (h : List Told) (clients : Clients) (reference : ForeignId) (event : Event) → is_hold event ≡ false → is_among reference (keys_of (leases_of clients.leases)) ≡ false
     → IsAfter h clients → IsAfter (On reference event ∷ h) clients
 after-nothing h clients reference event new_none absent was =
@@ -104,7 +104,7 @@ no-hold (change.DirtyFailed call) = refl
 no-hold (change.CleanAnswered call) = refl
 no-hold (change.CleanFailed call) = refl
 
--- a change, from what is put where the reference is known
+-- a change, from what is put at the reference if it is known
 pub after-change : (h : List Told) (old new : Clients) (reference : ForeignId) (change : Change) (lease : ClientLease)
     → (is_known old reference ≡ true → Puts reference lease old new) → (is_known old reference ≡ false → new ≡ old)
     → lease ≡ after (event_of change) (lease_at old reference) → IsAfter h old → IsAfter (On reference (event_of change) ∷ h) new
@@ -179,7 +179,7 @@ due-map : (f : ForeignId → ClientLease) (ks : List ForeignId)
 due-map f [] = refl
 due-map f (k ∷ ks) = ap (cons_option (due_call k (due (f k)))) (due-map f ks)
 
--- the calls that are due, from the entries
+-- the due calls, from the entries
 pub due-calls : (h : List Told) (clients : Clients) (calls : List DueCall) → IsDistinct is_same (keys_of (leases_of clients.leases))
     → calls ≡ filter_map (λ (e : ForeignId × ClientLease). due_call e.0 (due e.1)) (leases_of clients.leases) → IsAfter h clients → calls ≡ due_of h
 due-calls h clients calls distinct is was =
@@ -246,7 +246,7 @@ after-pass h old new m moment numbers is all was = record {
   sound = all was.sound;
 }
 
--- where other references may have a call due the table is the same otherwise
+-- but for the references that may have a call due, the table is the same
 pub after-touched : (h : List Told) (old new : Clients) → new.leases.moment ≡ old.leases.moment → new.numbers ≡ old.numbers → (leases_of new.leases) ≡ (leases_of old.leases)
     → IsSound new → IsAfter h old → IsAfter h new
 after-touched h old new moment numbers entries covered was = record {

@@ -68,7 +68,7 @@ module _ {X : Type 0} (f : ForeignId × ClientLease → Option X) where
       ∙ ap (λ (xs : List X). filter_map f (take (a + k) es) ++ xs) (no-call (at_index f es (a + k)) (none (a + k) (omega arith) (omega arith)))
       ∙ append-nil (filter_map f (take (a + k) es)) ∙ calls-skip es a k (omega arith) (λ i above below. none i above (omega arith)))
 
-  -- where a call is due there is a reference
+  -- if a call is due at an index, there is a reference
   pub due-within : (es : List (ForeignId × ClientLease)) (at : ℕ) → IsAnswered f es at → at < length es
   due-within es at some = by (slice_get es at) refl some
     where
@@ -76,7 +76,7 @@ module _ {X : Type 0} (f : ForeignId × ClientLease → Option X) where
       by None is some = absurd (false≢true some)
       by (Some e) is some = slice_get_within es at e is
 
-  -- no call is due between the indexes that were passed and the next of those that may have one
+  -- no call is due between the passed indexes and the next one that may have a call
   module _ (es : List (ForeignId × ClientLease)) (candidates : List ℕ) (rises : Rises candidates) (passed index : ℕ)
       (looked : (j : ℕ) → j < index → get_or candidates j 0 < length es → get_or candidates j 0 < passed) where
     none-between : HasAllOf f es candidates → (at : ℕ) → index < length candidates → at ≡ get_or candidates index 0 → (i : ℕ) → passed ≤ i → i < at → IsAnswered f es i → ⊥

@@ -31,7 +31,7 @@ is_clean_kind (Clean s) = true
 abbrev pub is_clean : DueCall → Bool
 is_clean call = is_clean_kind call.kind
 
--- a peer goes last, where it is not there
+-- a peer goes last if it is not there
 abbrev pub with_peer : List (List ℕ) → List ℕ → List (List ℕ)
 with_peer peers peer = if list_any (bytes_eq peer) peers then peers else peers ++ peer ∷ []
 
@@ -61,7 +61,7 @@ calls_of group = map (call_of group.peer group.kind) group.ids
 abbrev pub group_of : DueCall → Group
 group_of call = record { peer = call.reference.space; kind = call.kind; ids = call.reference.id ∷ [] }
 
--- a call before some groups: in the first, where that is of its peer and kind, else in one of its own
+-- a call before some groups: in the first if that is of its peer and kind, else in one of its own
 abbrev pub with_call : DueCall → List Group → List Group
 with_call call [] = group_of call ∷ []
 with_call call (group ∷ groups) =
@@ -72,7 +72,7 @@ abbrev pub grouped : List DueCall → List Group
 grouped [] = []
 grouped (call ∷ calls) = with_call call (grouped calls)
 
--- The first of the groups, where there is one, is of another peer or kind.
+-- The first of the groups, if there is one, is of another peer or kind.
 abbrev pub IsApartFrom : List ℕ → Due → List Group → Type 0
 IsApartFrom peer kind [] = Unit {0}
 IsApartFrom peer kind (next ∷ more) = peer ≡ next.peer → kind ≡ next.kind → ⊥
@@ -82,7 +82,7 @@ abbrev pub AreApart : List Group → Type 0
 AreApart [] = Unit {0}
 AreApart (group ∷ more) = IsApartFrom group.peer group.kind more × AreApart more
 
--- The groups stand for the calls, in their order; each has a reference, and no more groups are made than need be.
+-- The groups stand for the calls, in their order; each has a reference, and there are as few groups as possible.
 pub record IsGrouping (calls : List DueCall) (groups : List Group) : Type 0 where
   pub joined : flat_map calls_of groups ≡ calls
   pub some : All (λ (group : Group). 1 ≤ length group.ids) groups
@@ -102,11 +102,11 @@ pieces most ids = pieces_within (length ids) most ids
 abbrev pub part_of : Group → List ObjId → Group
 part_of group ids = record group { ids = ids }
 
--- what the frames say in which the group goes out, where each names at most `most` objects
+-- the parts in which a group goes out, a frame each, of at most `most` objects
 abbrev pub parts_of : ℕ → Group → List Group
 parts_of most group = map (part_of group) (pieces most group.ids)
 
--- each group but the last has so many references
+-- each group but the last has `most` references
 abbrev pub AreFull : ℕ → List Group → Type 0
 AreFull most [] = Unit {0}
 AreFull most (group ∷ []) = Unit {0}

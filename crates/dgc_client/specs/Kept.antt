@@ -1,4 +1,5 @@
--- A lease is kept as it was when something last happened to its reference, and told of moments when it is looked at. (This project's own; no rule of a standard.)
+-- A lease is kept as it was when something last happened to its reference; the moments since then are counted in when it is looked at.
+-- (This project's own; no rule of a standard.)
 use Rattle.std.specs.Prelude.{◌≡◌, ℕ, ◌≤◌, Bool, List, [], ◌∷◌, map, ◌==◌, ◌&&◌, nat_lt, if◌then◌else◌}
 use Rattle.std.specs.Str.{bytes_eq}
 use Rattle.std.proofs.Props.{props}
@@ -12,7 +13,7 @@ use Rattle.dgc_client.specs.Lease.{after_moment}
 abbrev pub is_same : ForeignId → ForeignId → Bool
 is_same a b = bytes_eq a.space b.space && a.id.0 == b.id.0
 
--- the lease once so many moments came, the last of which is this one
+-- the lease after `moments` moments, the last of which is `moment`
 abbrev pub lease_now : (moment moments : ℕ) → Kept → ClientLease
 lease_now moment moments kept = if nat_lt kept.moments moments then after_moment moment kept.lease else kept.lease
 

@@ -8,7 +8,7 @@ use Rattle.dgc_client.specs.declared.lease.Owed.{Owed}
 use Rattle.dgc_client.specs.declared.lease.Owed.TheVariants.{Nothing, Clean, Strong, Again}
 use Rattle.dgc_index.specs.declared.plans.Term.{Term}
 
--- a reference of which nothing happened yet
+-- a reference to which nothing happened yet
 abbrev pub fresh : ℕ → ClientLease
 fresh moment = record { holders = 0; moment = moment; dirty = None; lease = None; renew = false; last = None; clean = None; owed = Nothing; waits = false }
 
@@ -25,7 +25,7 @@ is_clean (Some clean) call = clean == call
 abbrev pub one_more : ℕ → ℕ
 one_more holders = if nat_lt holders 18446744073709551615 then holders + 1 else holders
 
--- One holder less. Where there were 2^64 - 1 or more nobody knows how many are left, and the reference keeps them.
+-- One holder less. If there were 2^64 - 1 or more, nobody knows how many are left, and the reference keeps them.
 abbrev pub one_less : ℕ → ℕ
 one_less holders = if nat_lt holders 18446744073709551615 then holders - 1 else holders
 
@@ -35,7 +35,7 @@ after_hold l = record l { holders = one_more l.holders }
 abbrev pub after_drop : ClientLease → ClientLease
 after_drop l = record l { holders = one_less l.holders }
 
--- The lease where it stands: its period, counted from the moment at which its dirty call was sent, is not over.
+-- The lease if it stands: its period, counted from the moment at which its dirty call was sent, is not over.
 abbrev pub standing : Option Term → ℕ → Option Term
 standing None moment = None
 standing (Some term) moment = if nat_lt (moment - term.sent) term.period then Some term else None
@@ -81,7 +81,7 @@ sent_at made call moment = if is_made made call then Some (record { call = call;
 abbrev pub after_sent : ℕ → ClientLease → ClientLease
 after_sent call l = record l { dirty = sent_at l.dirty call l.moment; last = sent_at l.last call l.moment }
 
--- The answer gives a lease where the dirty call is still on its way.
+-- The answer gives a lease if the dirty call is still on its way.
 abbrev pub answered : Option Made → ℕ → ClientLease → ClientLease
 answered None period l = l
 answered (Some made) period l = record l { dirty = None; lease = Some (record { sent = made.at; period = period }); renew = false }
@@ -98,7 +98,7 @@ after_answered_clean call l = if is_clean l.clean call then record l { clean = N
 abbrev pub after_failed_clean : ℕ → ClientLease → ClientLease
 after_failed_clean call l = if is_clean l.clean call then record l { clean = None; owed = Again; waits = true } else l
 
--- With holders a dirty call is due where none is on its way, and there is no lease or it is due for renewal.
+-- With holders a dirty call is due if none is on its way, and there is no lease or it is due for renewal.
 abbrev pub due_held : ClientLease → Option Due
 due_held l = if is_none l.dirty && (is_none l.lease || l.renew) then Some Dirty else None
 
@@ -107,7 +107,7 @@ abbrev pub due_again : Option Made → ℕ → Option Due
 due_again None moment = None
 due_again (Some last) moment = if nat_lt (moment - last.at) 600000 then Some (Clean_due true) else None
 
--- Without holders the clean call is due that is owed.
+-- Without holders the clean call that is owed is due.
 abbrev pub due_owed : Owed → ClientLease → Option Due
 due_owed Nothing l = None
 due_owed Clean l = Some (Clean_due false)
@@ -123,10 +123,10 @@ is_again Clean = false
 is_again Strong = false
 is_again Again = true
 
--- Where a call failed nothing is due before the next moment, but for the dirty call of a new holder after a clean call that failed.
+-- After a call failed nothing is due before the next moment. The one exception is the dirty call of a new holder after a clean call failed.
 abbrev pub is_waiting : ClientLease → Bool
 is_waiting l = l.waits && not (nat_lt 0 l.holders && is_again l.owed)
 
--- the call that is due
+-- the due call
 abbrev pub due : ClientLease → Option Due
 due l = if is_waiting l then None else (if nat_lt 0 l.holders then due_held l else due_unheld l)

@@ -1,4 +1,5 @@
--- All foreign references of a client, in the order in which they were first held, and what is told of each. (This project's own form of the Java RMI specification, 9.1.)
+-- All foreign references of a client, in the order in which they were first held, and the events of each. (This project's own form of the
+-- Java RMI specification, 9.1.)
 use Rattle.std.specs.Prelude.{◌≡◌, ℕ, ◌+◌, Some, Bool, true, false, List, [], ◌∷◌, ◌++◌, map, ◌&&◌, ◌||◌, unwrap_or, is_some, slice_get, max, length, ◌≤◌, ◌⊎◌, if◌then◌else◌}
 use Rattle.std.specs.List.{list_any, filter_map}
 use Rattle.std.specs.Map.{lookup, keys_of}
@@ -46,7 +47,7 @@ is_hold (DirtyFailed call) = false
 is_hold (CleanAnswered call) = false
 is_hold (CleanFailed call) = false
 
--- a reference goes last, where it is not there
+-- a reference goes last if it is not there
 abbrev pub with_reference : List ForeignId → ForeignId → List ForeignId
 with_reference references reference = if is_among reference references then references else references ++ reference ∷ []
 
@@ -57,7 +58,7 @@ held (On reference event ∷ h) = if is_hold event then with_reference (held h) 
 held (At moment ∷ h) = held h
 held (Numbered ∷ h) = held h
 
--- What happened to one reference. What is told of a reference that was never held is none of it.
+-- The events of one reference, and all moments. What happens to it before it is first held is none of its events.
 abbrev pub own : ForeignId → List Told → List Event
 own reference [] = []
 own reference (On other event ∷ h) = if is_same other reference && (is_hold event || is_among other (held h)) then event ∷ own reference h else own reference h
@@ -109,11 +110,11 @@ abbrev pub sent_as : Due → Group → ℕ → List Told → List Told
 sent_as Dirty group call h = told group (DirtySent call) h
 sent_as (Clean strong) group call h = h
 
--- a group, or a part of one, goes out: it gets a number, and its leases count from now where it is a dirty call
+-- a group, or a part of one, goes out: it gets a number, and if it is a dirty call its leases count from now
 abbrev pub sent : Group → ℕ → List Told → List Told
 sent group call h = Numbered ∷ sent_as group.kind group call h
 
--- the calls that are due, in the order in which the references were first held
+-- the due calls, in the order in which the references were first held
 abbrev pub due_of : List Told → List DueCall
 due_of h = filter_map (λ reference. due_call reference (due (lease_of (own reference h)))) (held h)
 
@@ -141,7 +142,8 @@ lease_at clients reference = lease_in clients.leases reference
 abbrev pub is_known : Clients → ForeignId → Bool
 is_known clients reference = is_some (lookup (is_same reference) (leases_of clients.leases))
 
--- The reference at an index is looked at when the calls that are due are asked for: it was touched, or its lease may be half over since a moment came.
+-- The reference at an index is looked at when the due calls are asked for: it was touched, or its lease may be half over since a moment
+-- came.
 abbrev pub IsLookedAtIn : Leases → Touched → Plans → Bool → ℕ → Type 0
 IsLookedAtIn leases touched plans moved at =
     IsTouched touched at

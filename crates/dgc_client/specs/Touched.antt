@@ -1,4 +1,5 @@
--- Only a reference to which something happened since the calls that are due were last asked for can have a call due. (This project's own; no rule of a standard.)
+-- A reference can have a call due only if something happened to it since the last question for due calls. (This project's own; no rule of a
+-- standard.)
 use Rattle.std.specs.Prelude.{◌≡◌, ℕ, Bool, true, List, Contains, slice_get, Option, None, Some, is_some, if◌then◌else◌}
 use Rattle.dgc_client.specs.declared.groups.DueCall.{DueCall}
 use Rattle.dgc_client.specs.declared.lease.ClientLease.{ClientLease}

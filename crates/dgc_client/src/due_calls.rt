@@ -1,4 +1,4 @@
-//! The calls that are due, in order, in room that is made before they are known.
+//! The due calls, in order, with room made before they are known.
 
 ghost use Rattle.std.specs.Prelude.{◌≡◌, ◌≤◌, ◌<◌, ◌+◌, ◌++◌, ℕ, [], OnOk, length, filter, vec_len, vec_capacity};
 ghost use Rattle.std.specs.List.{list_any, flat_map};
@@ -11,8 +11,8 @@ use crate::groups::DueCall;
 use std::alloc::{AllocError, Global};
 use uuid::Uuid;
 
-/// The calls that were due when they were asked for, in the order in which they are made. An event makes
-/// room for them before it changes anything, and asks what is due when it can fail no more.
+/// The calls that were due at the last question, in the order in which they are made. An event
+/// makes room for them before it changes anything, and asks once it can fail no more.
 #[derive(Debug, Drop)]
 pub struct DueCalls {
     // In the order of their references.
@@ -22,7 +22,7 @@ pub struct DueCalls {
 }
 
 impl DueCalls {
-    /// No calls, and room for none.
+    /// Returns a row without calls, and room for none.
     pub fn new(alloc: Global) -> DueCalls
         ensures { calls_in result ≡ [] }
     {
@@ -33,7 +33,8 @@ impl DueCalls {
         }
     }
 
-    /// Makes room for this many calls. The calls that were in it are gone, at out of memory too.
+    /// Makes room for this many calls. The calls that were in it are gone, even if it is out of
+    /// memory.
     pub fn reserve(&mut self, calls: usize) -> Result<(), AllocError>
         ensures ok { OnOk result (HasRoomFor calls self.new) }
     {
@@ -46,14 +47,14 @@ impl DueCalls {
         Ok(())
     }
 
-    /// The calls, in the order in which they are made.
+    /// Returns the calls, in the order in which they are made.
     pub fn as_slice(&self) -> &[DueCall]
         ensures { result.now ≡ calls_in self.now }
     {
         self.ordered.as_slice()
     }
 
-    // Where its memory comes from.
+    // The allocator of its memory.
     pub(crate) fn alloc(&self) -> Global {
         *self.found.allocator()
     }

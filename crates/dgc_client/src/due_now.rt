@@ -1,4 +1,4 @@
-//! The calls that are due, found at the references that were touched.
+//! The due calls, found at the references that were touched.
 
 ghost use Rattle.std.specs.Prelude.{◌≡◌, ◌≤◌, ◌<◌, ◌+◌, ◌++◌, ℕ, length, min, vec_len, vec_capacity, option_to_list};
 ghost use Rattle.std.specs.List.{filter_map};
@@ -51,8 +51,8 @@ fn add_call(leases: &Leases, at: usize, calls: &mut Vec<DueCall>, again: &mut To
     }
 }
 
-// The calls that are due at these indexes, which rise, in room that is there: all that are due, if no
-// other index has one. Their indexes are looked at again.
+// The calls that are due at these rising indexes: all that are due, if no other index has one.
+// There is room for them, and their indexes are looked at again.
 pub(crate) fn due_now(
     leases: &Leases,
     candidates: &[usize],
@@ -77,7 +77,7 @@ pub(crate) fn due_now(
     }
 }
 
-// All calls that are due, in room that is there. Their indexes are looked at again.
+// All due calls. There is room for them, and their indexes are looked at again.
 pub(crate) fn all_due(leases: &Leases, calls: &mut Vec<DueCall>, again: &mut Touched)
     requires { length (leases_of leases.now) ≤ vec_capacity calls.old }
     ensures calls { calls.new.items ≡ filter_map call_of_entry (leases_of leases.now) }

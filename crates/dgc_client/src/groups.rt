@@ -91,8 +91,8 @@ impl Group {
         })
     }
 
-    /// The group in parts of `most` objects, the last of which may have fewer: what the frames say in
-    /// which it goes out. `most` is the largest number of objects that a frame names to this peer.
+    /// Returns the group in parts of `most` objects; the last may have fewer. Each part goes out in
+    /// one frame, and `most` is how many objects a frame to this peer may name.
     pub fn parts(&self, alloc: Global, most: usize) -> Result<Vec<Group>, AllocError>
         requires { 0 < most }
         ensures { IfOk result (λ parts. parts.items ≡ parts_of most self.now) }

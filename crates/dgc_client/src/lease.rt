@@ -1,4 +1,4 @@
-//! One foreign reference: its holders, its lease, and the call that is due.
+//! One foreign reference: its holders, its lease, and the due call.
 
 ghost use Rattle.std.specs.Prelude.{◌≡◌};
 ghost use Rattle.dgc_client.specs.Lease.{fresh, is_made, after_hold, after_drop, standing, is_half_over, after_moment, after_dirty, after_clean, after_sent, after_answer, after_failed_dirty, after_answered_clean, after_failed_clean, due_held, due_unheld, is_waiting, due, is_renewed_at, lapses_at};
@@ -9,8 +9,8 @@ use dgc_index::Term;
 /// The period that each dirty call asks for, in milliseconds.
 pub const LONGEST_LEASE: u64 = 600_000;
 
-/// A call that was made: its number among the space's dirty and clean calls as they are made, and the
-/// moment at which it was sent, or made where it is not sent yet.
+/// A call that was made: its number among the space's dirty and clean calls, and the moment at
+/// which it was sent, or made if it is not sent yet.
 #[derive(Clone, Copy, Debug, PartialEq, Eq)]
 pub struct Made {
     pub call: u64,
@@ -31,7 +31,7 @@ pub enum Owed {
     Again,
 }
 
-/// The call that is due.
+/// The due call.
 #[derive(Clone, Copy, Debug, PartialEq, Eq)]
 pub enum Due {
     Dirty,
@@ -45,8 +45,8 @@ pub struct ClientLease {
     pub holders: u64,
     /// The last moment, in milliseconds.
     pub moment: u64,
-    /// The dirty call that is on its way: it is not answered, it has not failed, and no clean call
-    /// was made after it.
+    /// The dirty call on its way: it has no answer, has not failed, and no clean call came after
+    /// it.
     pub dirty: Option<Made>,
     /// The lease that stands.
     pub lease: Option<Term>,
@@ -54,7 +54,7 @@ pub struct ClientLease {
     pub renew: bool,
     /// The dirty call that was made last.
     pub last: Option<Made>,
-    /// The clean call that was made last and is not answered, where no dirty call was made after it.
+    /// The clean call that was made last and is not answered, if no dirty call was made after it.
     pub clean: Option<u64>,
     /// The clean call that is owed once there is no holder.
     pub owed: Owed,
@@ -83,7 +83,7 @@ fn is_call(made: Option<Made>, call: u64) -> bool
 }
 
 impl ClientLease {
-    /// A reference of which nothing happened yet.
+    /// Returns a reference to which nothing happened yet.
     pub fn new(moment: u64) -> ClientLease
         ensures { result ≡ fresh moment }
     {
@@ -100,8 +100,8 @@ impl ClientLease {
         }
     }
 
-    /// The reference has one more holder. Above 2^64 - 1 holders are not counted: the reference then
-    /// keeps them for good, so that it is never taken for one that nobody holds.
+    /// Adds a holder. Above 2^64 - 1 holders are not counted: the reference then keeps them for
+    /// good, so that it is never taken for one that nobody holds.
     pub fn hold(&mut self)
         ensures { self.new ≡ after_hold self.old }
     {
@@ -110,7 +110,7 @@ impl ClientLease {
         }
     }
 
-    /// The reference has one holder less, where it has one and they were all counted.
+    /// Takes a holder away, if there is one and all were counted.
     pub fn drop_holder(&mut self)
         ensures { self.new ≡ after_drop self.old }
     {
@@ -119,9 +119,9 @@ impl ClientLease {
         }
     }
 
-    /// The moment is now. A lease is due for renewal as soon as not more than half of its period is
-    /// left, and lapses when all of it is over, counted from the moment at which its dirty call was
-    /// sent. A moment below the last changes nothing.
+    /// Sets the moment that is now. A lease is due for renewal once at most half of its period is
+    /// left, and lapses once all of it is over; the period counts from the sending of its dirty
+    /// call. A moment below the last changes nothing.
     pub fn moment(&mut self, moment: u64)
         ensures { self.new ≡ after_moment moment self.old }
     {
@@ -134,7 +134,7 @@ impl ClientLease {
         self.renew = is_half_over(self.lease, moment);
     }
 
-    /// A dirty call was made for the reference.
+    /// Notes that a dirty call was made for the reference.
     pub fn dirty_made(&mut self, call: u64)
         ensures { self.new ≡ after_dirty call self.old }
     {
@@ -150,8 +150,7 @@ impl ClientLease {
         self.waits = false;
     }
 
-    /// A clean call was made for the reference: its lease ends, and a dirty call that is on its way is
-    /// overtaken.
+    /// Notes that a clean call was made: the lease ends, and it overtakes a dirty call on its way.
     pub fn clean_made(&mut self, call: u64)
         ensures { self.new ≡ after_clean call self.old }
     {
@@ -163,7 +162,7 @@ impl ClientLease {
         self.waits = false;
     }
 
-    /// A dirty call went out now.
+    /// Notes that a dirty call goes out now.
     pub fn dirty_sent(&mut self, call: u64)
         ensures { self.new ≡ after_sent call self.old }
     {
@@ -179,7 +178,7 @@ impl ClientLease {
         }
     }
 
-    /// A dirty call was answered by a lease for this period. Where it was overtaken it gives none.
+    /// Notes that a dirty call was answered by a lease for this period: none if it was overtaken.
     pub fn dirty_answered(&mut self, call: u64, period: u64)
         ensures { self.new ≡ after_answer call period self.old }
     {
@@ -195,8 +194,8 @@ impl ClientLease {
         }
     }
 
-    /// A dirty call failed. Where it was not overtaken a new dirty call or a strong clean call is due
-    /// from the next moment on.
+    /// Notes that a dirty call failed. If it was not overtaken, a new dirty call or a strong clean
+    /// call is due from the next moment on.
     pub fn dirty_failed(&mut self, call: u64)
         ensures { self.new ≡ after_failed_dirty call self.old }
     {
@@ -207,7 +206,7 @@ impl ClientLease {
         }
     }
 
-    /// A clean call was answered.
+    /// Notes that a clean call was answered.
     pub fn clean_answered(&mut self, call: u64)
         ensures { self.new ≡ after_answered_clean call self.old }
     {
@@ -216,8 +215,8 @@ impl ClientLease {
         }
     }
 
-    /// A clean call failed. Where no dirty call was made after it, a strong one is due from the next
-    /// moment on, while there is no holder and a lease of the last dirty call could stand.
+    /// Notes that a clean call failed. If no dirty call was made after it, a strong one is due from
+    /// the next moment on, while there is no holder and a lease of the last dirty call could stand.
     pub fn clean_failed(&mut self, call: u64)
         ensures { self.new ≡ after_failed_clean call self.old }
     {
@@ -245,7 +244,7 @@ impl ClientLease {
         }
     }
 
-    /// Whether the lease is due for renewal once this moment has come.
+    /// Returns whether the lease is due for renewal once this moment has come.
     pub fn is_renewed_at(&self, moment: u64) -> bool
         ensures { result ≡ is_renewed_at moment self.now }
     {
@@ -254,7 +253,7 @@ impl ClientLease {
         then.renew
     }
 
-    /// Whether there is a lease, and this moment ends it.
+    /// Returns whether there is a lease, and this moment ends it.
     pub fn lapses_at(&self, moment: u64) -> bool
         ensures { result ≡ lapses_at moment self.now }
     {
@@ -263,7 +262,7 @@ impl ClientLease {
         self.lease.is_some() && then.lease.is_none()
     }
 
-    /// The call that is due now.
+    /// Returns the call that is due now, if any.
     pub fn due(&self) -> Option<Due>
         ensures { result ≡ due self.now }
     {
@@ -276,15 +275,15 @@ impl ClientLease {
         }
     }
 
-    // Whether nothing is due before the next moment: a call failed. A new holder does not wait for the
-    // repetition of a clean call.
+    // Whether nothing is due before the next moment, since a call failed. A new holder does not
+    // wait after a clean call that failed.
     fn is_waiting(&self) -> bool
         ensures { result ≡ is_waiting self.now }
     {
         self.waits && !(self.holders > 0 && matches!(self.owed, Owed::Again))
     }
 
-    // The call that is due where there are holders.
+    // The due call if there are holders.
     fn due_held(&self) -> Option<Due>
         ensures { result ≡ due_held self.now }
     {
@@ -295,7 +294,7 @@ impl ClientLease {
         }
     }
 
-    // The call that is due where there are none.
+    // The due call if there are none.
     fn due_unheld(&self) -> Option<Due>
         ensures { result ≡ due_unheld self.now }
     {
@@ -313,7 +312,7 @@ impl ClientLease {
     }
 }
 
-// The lease, where it stands at the moment.
+// The lease, if it stands at the moment.
 fn standing(lease: Option<Term>, moment: u64) -> Option<Term>
     ensures { result ≡ standing lease moment }
 {

@@ -14,16 +14,15 @@ use indexmap::IndexMap;
 use space_ids::ForeignId;
 use std::alloc::{AllocError, Global};
 
-/// A lease as it was when something last happened to its reference, and how many moments had come by
-/// then.
+/// A lease as it was at the last event of its reference, and how many moments had come by then.
 #[derive(Clone, Copy, Debug)]
 pub(crate) struct Kept {
     pub(crate) lease: ClientLease,
     pub(crate) moments: u64,
 }
 
-/// The leases of the references, in the order in which these were first held. A lease is told of a
-/// moment when it is looked at, and not when the moment comes.
+/// The leases of the references, in the order in which these were first held. A moment is counted
+/// into a lease when the lease is looked at, not when the moment comes.
 #[derive(Debug, Drop)]
 pub(crate) struct Leases {
     references: IndexMap<ForeignId, Kept>,
@@ -33,7 +32,7 @@ pub(crate) struct Leases {
 }
 
 impl Kept {
-    // The lease once so many moments came, the last of which is this one.
+    // The lease after `moments` moments, the last of which is `moment`.
     fn lease_now(&self, moment: u64, moments: u64) -> ClientLease
         ensures { result ≡ lease_now moment moments self.now }
     {
@@ -111,8 +110,7 @@ impl Leases {
         self.references.reserve(references)
     }
 
-    // Sets the lease of a reference, which goes behind the others if it was never held. Returns its
-    // index.
+    // Sets the lease of a reference, after the others if it was never held. Returns its index.
     pub(crate) fn insert(
         &mut self,
         reference: &ForeignId,
@@ -136,8 +134,7 @@ impl Leases {
         Ok(index)
     }
 
-    // Sets the lease of a reference that was held. Returns its index; none, and nothing happens, if it
-    // never was.
+    // Sets the lease of a reference if it was ever held. Returns its index, or `None`.
     pub(crate) fn put(&mut self, reference: &ForeignId, lease: ClientLease) -> Option<usize>
         requires { lease.moment ≡ self.old.moment }
         ensures leases { IfSome result (λ index. leases_of self.new ≡ set_value_at (leases_of self.old) index lease) }
@@ -170,7 +167,7 @@ impl Leases {
         self.moment = moment;
     }
 
-    // Counts the moments anew where no more can be counted: each lease is told of the last one.
+    // Counts the moments anew if no more can be counted: the last one is counted into each lease.
     fn count_anew(&mut self)
         ensures leases { leases_of self.new ≡ leases_of self.old }
         ensures moment { self.new.moment ≡ self.old.moment }
@@ -184,7 +181,7 @@ impl Leases {
     }
 }
 
-// Keeps each lease as it is once so many moments came, the last of which is this one, to count from 0.
+// Keeps each lease as it is after `moments` moments, the last of them `moment`, to count from 0.
 fn keep_anew(references: &mut IndexMap<ForeignId, Kept>, moment: u64, moments: u64)
     ensures each { references.new.entries ≡ map (λ entry. (entry.0, kept_anew moment moments entry.1)) references.old.entries }
     ensures room { spare references.new ≡ spare references.old }

@@ -1,5 +1,5 @@
 //! The client's side of distributed garbage collection (Java RMI specification, chapter on garbage
-//! collection): what a space holds of a foreign reference, its lease, and the call that is due.
+//! collection): what a space holds of a foreign reference, its lease, and the due call.
 //!
 //! [`ClientLease`] is the machine of one reference. Its history is the list of what happened to it,
 //! newest first, with the moments. [`Clients`] is the table of these machines, in the order in which

@@ -41,8 +41,7 @@ fn reference_at(leases: &Leases, at: usize, question: Question) -> Option<Foreig
     }
 }
 
-// The references at these indexes, which rise, of which the question holds: all of which it holds, if
-// it holds at no other index.
+// The references at these rising indexes of which the question holds.
 pub(crate) fn picked(
     alloc: Global,
     leases: &Leases,

@@ -33,7 +33,7 @@ use uuid::Uuid;
 #[derive(Debug, Drop)]
 pub struct Clients {
     leases: Leases,
-    // Those that may have a call due now, and those that may have one at any later moment.
+    // The references that may have a call due now or later.
     touched: Touched,
     later: Touched,
     // When leases are half over and end, and whether a moment came since the last question for calls.
@@ -50,7 +50,7 @@ impl Clients {
     ghost use Rattle.dgc_client.specs.Table.{Told, IsAfter, room, references_in, made_each, own, held, is_among, numbers_of, told, made, sent, due_of, IsSound, is_known, Puts};
     ghost use Rattle.dgc_client.specs.Table.Told.{On, At};
 
-    /// No reference was held and no number given, at moment 0.
+    /// Returns the leases of no references, at moment 0; no number was given.
     pub fn new(alloc: Global) -> Clients
         ensures { IsAfter [] result }
     {
@@ -64,7 +64,7 @@ impl Clients {
         }
     }
 
-    /// What is kept of a reference.
+    /// Returns what is kept of a reference.
     pub fn lease(&self, reference: &ForeignId) -> ClientLease
         ensures { (h : List Told) → IsAfter h self.now → result ≡ lease_of (own reference.now h) }
     {
@@ -80,9 +80,9 @@ impl Clients {
         self.leases.reserve(references)
     }
 
-    /// The reference has one more holder: a parked frame, a task, a field, or a result that nobody
-    /// has acknowledged. At want of memory, which only a reference that was never held meets where
-    /// there is no room for it, nothing happens.
+    /// Adds a holder of the reference: a parked frame, a task, a field, or a result that nobody has
+    /// acknowledged. It may be out of memory only if the reference was never held and there is no
+    /// room for it; then nothing changes.
     pub fn hold(&mut self, reference: &ForeignId) -> Result<(), AllocError>
         ensures ok { OnOk result ((h : List Told) → IsAfter h self.old → IsAfter (On reference.now Held ∷ h) self.new) }
         ensures err { OnErr result ((h : List Told) → IsAfter h self.old → IsAfter h self.new) }
@@ -105,8 +105,8 @@ impl Clients {
         Ok(())
     }
 
-    /// The reference has one more holder, as [`hold`](Clients::hold) does, and takes no memory: the
-    /// caller has made [room](Clients::reserve) for it.
+    /// Adds a holder as [`hold`](Clients::hold) does. It takes no memory: the caller owes
+    /// [room](Clients::reserve) for the reference.
     pub fn hold_reserved(&mut self, reference: &ForeignId)
         requires { 0 < room self.old }
         ensures held { (h : List Told) → IsAfter h self.old → IsAfter (On reference.now Held ∷ h) self.new }
@@ -117,7 +117,7 @@ impl Clients {
         };
     }
 
-    /// The reference has one holder less, where it has one.
+    /// Takes a holder of the reference away, if it has one.
     pub fn drop_holder(&mut self, reference: &ForeignId)
         ensures dropped { (h : List Told) → IsAfter h self.old → IsAfter (On reference.now Dropped ∷ h) self.new }
         ensures room { room self.new ≡ room self.old }
@@ -125,11 +125,12 @@ impl Clients {
         self.change(reference, Change::Dropped);
     }
 
-    /// The calls that are due now: clean calls first, then dirty calls; those of one peer together,
-    /// strong clean calls in groups of their own before the others. References stand in the order in
-    /// which they were first held, and peers in the order of their first reference. Nothing happens:
-    /// each group that is answered is to be [`made`](Clients::made). Looks at the references alone that
-    /// something happened to since the last call, and after a moment at those whose lease is half over.
+    /// Returns the calls due now: clean calls first, then dirty calls; those of one peer together,
+    /// strong clean calls in groups of their own before the others. References stand in the order
+    /// in which they were first held, and peers in the order of their first reference. No call is
+    /// made by it: the caller makes ([`made`](Clients::made)) each group. It looks only at
+    /// references to which something happened since the last `due`, and after a moment at those
+    /// whose lease is half over.
     pub fn due(&mut self, alloc: Global) -> Result<Vec<Group>, AllocError>
         ensures groups { IfOk result (λ groups. (h : List Told) → IsAfter h self.old → groups.items ≡ grouped (in_order (due_of h))) }
         ensures same { (h : List Told) → IsAfter h self.old → IsAfter h self.new }
@@ -152,7 +153,7 @@ impl Clients {
         Ok(groups)
     }
 
-    /// How many references were ever held: no more calls can be due.
+    /// Returns how many references were ever held. At most that many calls can be due.
     pub fn references(&self) -> usize
         ensures count { result ≡ references_in self.now }
         ensures held { (h : List Told) → IsAfter h self.now → result ≡ length (held h) }
@@ -160,10 +161,10 @@ impl Clients {
         self.leases.len()
     }
 
-    /// The calls that are due now, as [`due`](Clients::due) groups them, in room that is there: it
-    /// cannot fail. A group is a longest stretch of calls of one peer and kind. Nothing happens: the
-    /// calls of each group that is answered are to be [`made`](Clients::made_calls). If there is no
-    /// memory for what it looks at, it looks at all references.
+    /// Writes the calls due now to `due`, as [`due`](Clients::due) groups them. It cannot fail: the
+    /// caller owes room for them. A group is a longest stretch of calls of one peer and kind. No
+    /// call is made by it: that is for [`made_calls`](Clients::made_calls). If there is no memory
+    /// for what it looks at, it looks at all references.
     pub fn due_reserved(&mut self, due: &mut DueCalls)
         requires { HasRoomFor (references_in self.old) due.old }
         ensures calls { (h : List Told) → IsAfter h self.old → calls_in due.new ≡ in_order (due_of h) }
@@ -177,23 +178,24 @@ impl Clients {
         self.moved = false;
     }
 
-    /// The references whose lease is due for renewal once this moment has come, in the order in which
-    /// they were first held.
+    /// Returns the references whose lease is due for renewal once this moment has come, in the
+    /// order in which they were first held.
     pub fn renewals(&self, alloc: Global, moment: u64) -> Result<Vec<ForeignId>, AllocError>
         ensures { IfOk result (λ references. (h : List Told) → IsAfter h self.now → references.items ≡ filter (λ r. is_renewed_at moment (lease_of (own r h))) (held h)) }
     {
         self.picked(alloc, Question::Renewed(moment))
     }
 
-    /// The references whose lease this moment ends, in the order in which they were first held.
+    /// Returns the references whose lease this moment ends, in the order in which they were first
+    /// held.
     pub fn lapsed(&self, alloc: Global, moment: u64) -> Result<Vec<ForeignId>, AllocError>
         ensures { IfOk result (λ references. (h : List Told) → IsAfter h self.now → references.items ≡ filter (λ r. lapses_at moment (lease_of (own r h))) (held h)) }
     {
         self.picked(alloc, Question::Lapses(moment))
     }
 
-    /// The group's call was made, under this number: by it the group is known until its answer. A
-    /// clean call ends the leases of its references.
+    /// Notes that the group's call was made under this number, by which the group is known until
+    /// its answer. A clean call ends the leases of its references.
     pub fn made(&mut self, group: &Group, call: u64)
         ensures made { (h : List Told) → IsAfter h self.old → IsAfter (made group.now call h) self.new }
         ensures room { room self.new ≡ room self.old }
@@ -201,7 +203,7 @@ impl Clients {
         self.tell(group, making(group.kind, call));
     }
 
-    /// Each of these calls was made, under this number, as [`made`](Clients::made) tells it of a group.
+    /// Notes that these calls were made under this number, as [`made`](Clients::made) does.
     pub fn made_calls(&mut self, calls: &[DueCall], call: u64)
         ensures made { (h : List Told) → IsAfter h self.old → IsAfter (made_each calls.now call h) self.new }
         ensures room { room self.new ≡ room self.old }
@@ -211,8 +213,8 @@ impl Clients {
         }
     }
 
-    /// The group goes out now, or a [part](Group::parts) of it, in one frame. Answers the number of the
-    /// frame, one above the last that was given; none, and nothing happens, where that would be 2^63.
+    /// Notes that the group, or a [part](Group::parts) of it, goes out now in one frame. Returns
+    /// its number, one above the last; `None` if that would be 2^63, and then nothing changes.
     pub fn sent(&mut self, group: &Group, call: u64) -> Option<u64>
         ensures number { IfSome result (λ number. (h : List Told) → IsAfter h self.old → number ≡ numbers_of h + 1) }
         ensures below { IfSome result (λ number. number < 2 ^ 63) }
@@ -231,14 +233,14 @@ impl Clients {
         Some(self.numbers)
     }
 
-    /// The number that was given last, 0 where none was.
+    /// Returns the number that was given last, 0 if none was.
     pub fn last_number(&self) -> u64
         ensures { (h : List Told) → IsAfter h self.now → result ≡ numbers_of h }
     {
         self.numbers
     }
 
-    /// The group's dirty call was answered by a lease for this period, in milliseconds.
+    /// Notes that the group's dirty call was answered by a lease for this period, in milliseconds.
     pub fn dirty_answered(&mut self, group: &Group, call: u64, period: u64)
         ensures answered { (h : List Told) → IsAfter h self.old → IsAfter (told group.now (DirtyAnswered call period) h) self.new }
         ensures room { room self.new ≡ room self.old }
@@ -246,7 +248,7 @@ impl Clients {
         self.tell(group, Change::DirtyAnswered { call, period });
     }
 
-    /// The group's dirty call failed.
+    /// Notes that the group's dirty call failed.
     pub fn dirty_failed(&mut self, group: &Group, call: u64)
         ensures failed { (h : List Told) → IsAfter h self.old → IsAfter (told group.now (DirtyFailed call) h) self.new }
         ensures room { room self.new ≡ room self.old }
@@ -254,7 +256,7 @@ impl Clients {
         self.tell(group, Change::DirtyFailed(call));
     }
 
-    /// The group's clean call was answered.
+    /// Notes that the group's clean call was answered.
     pub fn clean_answered(&mut self, group: &Group, call: u64)
         ensures answered { (h : List Told) → IsAfter h self.old → IsAfter (told group.now (CleanAnswered call) h) self.new }
         ensures room { room self.new ≡ room self.old }
@@ -262,7 +264,7 @@ impl Clients {
         self.tell(group, Change::CleanAnswered(call));
     }
 
-    /// The group's clean call failed.
+    /// Notes that the group's clean call failed.
     pub fn clean_failed(&mut self, group: &Group, call: u64)
         ensures failed { (h : List Told) → IsAfter h self.old → IsAfter (told group.now (CleanFailed call) h) self.new }
         ensures room { room self.new ≡ room self.old }
@@ -270,7 +272,7 @@ impl Clients {
         self.tell(group, Change::CleanFailed(call));
     }
 
-    /// The moment is now, in milliseconds. A moment below the last changes nothing.
+    /// Sets the moment that is now, in milliseconds. A moment below the last changes nothing.
     pub fn moment(&mut self, moment: u64)
         ensures moment { (h : List Told) → IsAfter h self.old → IsAfter (At moment ∷ h) self.new }
         ensures room { room self.new ≡ room self.old }
@@ -297,7 +299,7 @@ impl Clients {
         self.touched.add_all();
     }
 
-    // The calls that are due, in the order of their references, and the references to look at again.
+    // The due calls, in the order of their references, and the references to look at again.
     fn find_due(&self, due: &mut DueCalls) -> Touched
         requires { HasRoomFor (references_in self.now) due.old }
         ensures found { IsSound self.now → due.new.found.items ≡ filter_map call_of_entry (leases_of self.now.leases) }

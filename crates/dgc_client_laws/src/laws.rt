@@ -1,4 +1,4 @@
-//! What the definitions say, in the words of the Java RMI specification.
+//! What the definitions say, in the terms of the Java RMI specification.
 
 ghost use Rattle.std.specs.Prelude.{◌≡◌, ◌+◌, ◌-◌, ◌*◌, ◌^◌, ◌<◌, ◌≤◌, ◌⊎◌, ◌++◌, ◌∷◌, ℕ, Bool, true, false, List, Some, None, filter, length, All};
 ghost use Rattle.std.specs.List.{flat_map};
@@ -14,14 +14,15 @@ ghost use Rattle.dgc_client.specs.Table.{Told, own, due_of};
 ghost use Rattle.dgc_client.specs.History.{Event, lease_of, holders_of, MakesNoDirty, IsQuiet};
 ghost use Rattle.dgc_client.specs.History.Event.{Held, CleanMade, CleanFailed, DirtyAnswered, DirtyFailed};
 
-/// The lease that answers a dirty call after which a clean call was made changes nothing, whatever
-/// else came in between: it gives no lease, and does not stand for the answer to a later dirty call.
+/// If a clean call was made after a dirty call, the answer to the dirty call changes nothing,
+/// whatever else came in between: it gives no lease, and does not stand for the answer to a later
+/// dirty call.
 pub fn an_overtaken_answer_gives_no_lease()
     ensures { (h later : List Event) (call clean period : ℕ) → MakesNoDirty call later → lease_of (DirtyAnswered call period ∷ later ++ CleanMade clean ∷ h) ≡ lease_of (later ++ CleanMade clean ∷ h) }
 {}
 
-/// A clean call is due of a reference without holders alone, and each clean call that is due of a
-/// space names one.
+/// A clean call is due only of a reference without holders, and each clean call of a space that is
+/// due names such a reference.
 pub fn a_clean_call_is_due_without_holders()
     ensures due { (l : ClientLease) (strong : Bool) → due l ≡ Some (Clean strong) → l.holders ≡ 0 }
     ensures named { (h : List Told) → All (λ (call : DueCall). is_clean call ≡ true → (lease_of (own call.reference h)).holders ≡ 0) (due_of h) }
@@ -39,9 +40,9 @@ pub fn a_clean_call_is_due_once()
     ensures { (h later : List Event) (clean : ℕ) (strong : Bool) → IsQuiet later → due (lease_of (later ++ CleanMade clean ∷ h)) ≡ Some (Clean strong) → ⊥ }
 {}
 
-/// A new holder does not wait for the repetition of a clean call that failed: its dirty call is due at
-/// once. Where a dirty call failed nothing is due before the next moment, whether there is a holder or
-/// not.
+/// A new holder does not wait for the repetition of a clean call that failed: its dirty call is due
+/// at once. After a dirty call failed nothing is due before the next moment, whether there is a
+/// holder or not.
 pub fn a_new_holder_waits_for_failed_dirty_calls_alone()
     ensures clean { (h : List Event) (call : ℕ) → (lease_of h).clean ≡ Some call → due (lease_of (Held ∷ CleanFailed call ∷ h)) ≡ Some Dirty }
     ensures dirty { (h : List Event) (call : ℕ) → is_made (lease_of h).dirty call ≡ true → due (lease_of (DirtyFailed call ∷ h)) ≡ None }

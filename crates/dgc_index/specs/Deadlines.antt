@@ -8,7 +8,8 @@ use Rattle.dgc_index.specs.declared.deadlines.Deadline.{Deadline}
 use Rattle.dgc_index.specs.declared.deadlines.Deadlines.{Deadlines}
 use Rattle.dgc_index.specs.contracts.deadlines.DeadlineOrd.TheImpl as deadline_ord
 
--- The moment by which so much of a period is over that was sent then. Nothing is over at any moment, and 2^64 - 1 is the last one.
+-- The moment by which `part` milliseconds of a period are over, if its call was sent at `sent`. A part of 0 is over at any moment, and 2^64
+-- - 1 is the last moment.
 abbrev pub over_at : (sent part : ℕ) → ℕ
 over_at sent part = if part == 0 then 0 else (if nat_lt (18446744073709551615 - sent) part then 18446744073709551615 else sent + part)
 

@@ -1,4 +1,5 @@
--- Only a reference to which something happened since the calls that are due were last asked for can have a call due. (This project's own; no rule of a standard.)
+-- A reference can have a call due only if something happened to it since the last question for due calls. (This project's own; no rule of a
+-- standard.)
 use Rattle.std.specs.Prelude.{◌≡◌, ℕ, ◌<◌, ◌≤◌, false, List, length, Contains, slice_index}
 use Rattle.dgc_index.specs.declared.touched.Touched.{Touched}
 

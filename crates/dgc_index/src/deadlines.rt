@@ -25,8 +25,8 @@ pub struct Deadlines {
     pub all: bool,
 }
 
-/// The moment by which this part of a period is over that was sent then, and the last moment if none
-/// comes so late. Nothing is over at any moment.
+/// Returns the moment by which this part of a period is over, if its dirty call was sent at `sent`:
+/// the last moment if none comes so late. A part of 0 is over at any moment.
 pub fn over_at(sent: u64, part: u64) -> u64
     ensures { result ≡ over_at sent part }
 {
@@ -40,7 +40,7 @@ pub fn over_at(sent: u64, part: u64) -> u64
 }
 
 impl Deadlines {
-    /// No deadlines.
+    /// Returns a set without deadlines.
     pub fn new(alloc: Global) -> Deadlines
         ensures all { result.all ≡ false }
         ensures row { result.row.keys ≡ [] }
@@ -51,7 +51,7 @@ impl Deadlines {
         }
     }
 
-    /// No deadlines any more.
+    /// Takes all deadlines out.
     pub fn clear(&mut self)
         ensures all { self.new.all ≡ false }
         ensures row { self.new.row.keys ≡ [] }
@@ -61,7 +61,7 @@ impl Deadlines {
     }
 
     /// Adds a deadline, and all others stay. It cannot fail: if it is out of memory, there may be a
-    /// deadline at any moment.
+    /// deadline at any moment from then on.
     pub fn add(&mut self, deadline: Deadline)
         ensures here { IsPlanned self.new deadline }
         ensures kept { (other : Deadline) → IsPlanned self.old other → IsPlanned self.new other }
@@ -79,7 +79,8 @@ impl Deadlines {
         let _ = self.row.remove(&deadline);
     }
 
-    /// The indexes, below this count, of the deadlines up to a moment. There may be others among them.
+    /// Returns the indexes, below this count, of the deadlines up to a moment. There may be others
+    /// among them.
     pub fn up_to(&self, alloc: Global, moment: u64, count: usize) -> Result<Vec<usize>, AllocError>
         ensures { IfOk result (λ indexes. (other : Deadline) → other.moment ≤ moment → other.index < count → IsPlanned self.now other → Contains indexes.items other.index) }
     {

@@ -1,5 +1,5 @@
 //! Which references of a client's table are looked at, by their indexes: those to which something
-//! happened ([`Touched`]), and those of which a lease reaches a deadline ([`Deadlines`]). So a question
+//! happened ([`Touched`]), and those whose lease reaches a deadline ([`Deadlines`]). So a question
 //! of all references costs no walk over them.
 #![tactic(auto)]
 

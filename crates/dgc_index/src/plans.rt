@@ -9,7 +9,7 @@ ghost use Rattle.dgc_index.specs.Plans.{half_at, end_at, IsPlannedTerm};
 use crate::{Deadline, Deadlines, over_at};
 use std::alloc::Global;
 
-/// A lease: when its dirty call was sent, and the period that was granted, in milliseconds.
+/// A lease: when its dirty call was sent, and the granted period, in milliseconds.
 #[derive(Clone, Copy, Debug, PartialEq, Eq)]
 pub struct Term {
     pub sent: u64,
@@ -24,7 +24,7 @@ pub struct Plans {
 }
 
 impl Plans {
-    /// No deadlines.
+    /// Returns plans without deadlines.
     pub fn new(alloc: Global) -> Plans
         ensures halves { result.halves.all ≡ false }
         ensures ends { result.ends.all ≡ false }
@@ -35,14 +35,14 @@ impl Plans {
         }
     }
 
-    /// Whether there was no memory for some deadlines.
+    /// Returns whether there was no memory for some deadlines.
     pub fn lacks_deadlines(&self) -> bool
         ensures { result ≡ (self.now.halves.all || self.now.ends.all) }
     {
         self.halves.all || self.ends.all
     }
 
-    /// No deadlines any more.
+    /// Takes all deadlines out.
     pub fn clear(&mut self)
         ensures halves { self.new.halves.all ≡ false }
         ensures ends { self.new.ends.all ≡ false }
@@ -51,8 +51,8 @@ impl Plans {
         self.ends.clear();
     }
 
-    /// The lease at an index is this one now. `kept` is the one for which there may be deadlines,
-    /// `before` the one for which there are.
+    /// Moves the deadlines to the lease that stands at an index now. There may be deadlines for the
+    /// lease `kept`, and there are those for `before`.
     pub fn change(
         &mut self,
         index: usize,

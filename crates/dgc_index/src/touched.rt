@@ -6,11 +6,11 @@ ghost use Rattle.dgc_index.specs.Touched.{IsTouched, Rises};
 use std::alloc::{AllocError, Global};
 
 /// The indexes of the references to which something happened since they were last looked at, and of
-/// those that are to be looked at again. A reference that is not among them has no call due, so what is
-/// due is found without a walk over all references.
+/// those to be looked at again. A reference that is not among them has no call due, so no walk over
+/// all references is needed.
 #[derive(Debug, Drop)]
 pub struct Touched {
-    /// The indexes that are known, in the order in which they were added.
+    /// The known indexes, in the order in which they were added.
     pub indexes: Vec<usize>,
     /// Whether it may be any reference, since there were more indexes than references or an allocation
     /// failed.
@@ -18,7 +18,7 @@ pub struct Touched {
 }
 
 impl Touched {
-    /// No reference.
+    /// Returns a set without references.
     pub fn new(alloc: Global) -> Touched
         ensures all { result.all ≡ false }
         ensures indexes { result.indexes.items ≡ [] }
@@ -29,8 +29,8 @@ impl Touched {
         }
     }
 
-    /// Something happened to the reference at an index, of this count of references. It cannot fail: if
-    /// it is out of memory, it may be any of them.
+    /// Adds the reference at an index, of this count of references: something happened to it. It
+    /// cannot fail: if it is out of memory, it may be any of them.
     pub fn add(&mut self, at: usize, count: usize)
         ensures here { IsTouched self.new at }
         ensures kept { (other : ℕ) → IsTouched self.old other → IsTouched self.new other }
@@ -41,7 +41,7 @@ impl Touched {
         }
     }
 
-    /// The same, if a condition holds; else nothing happens.
+    /// Adds the reference if a condition holds; else nothing changes.
     pub fn add_if(&mut self, condition: bool, at: usize, count: usize)
         ensures here { condition ≡ true → IsTouched self.new at }
         ensures kept { (other : ℕ) → IsTouched self.old other → IsTouched self.new other }
@@ -51,14 +51,14 @@ impl Touched {
         }
     }
 
-    /// Something happened to all of them.
+    /// Adds all references: something happened to each of them.
     pub fn add_all(&mut self)
         ensures { (at : ℕ) → IsTouched self.new at }
     {
         self.all = true;
     }
 
-    /// These alone.
+    /// Sets the references to these alone.
     pub fn only(&mut self, indexes: Vec<usize>)
         ensures all { self.new.all ≡ false }
         ensures indexes { self.new.indexes.items ≡ indexes.items }
@@ -67,8 +67,8 @@ impl Touched {
         self.all = false;
     }
 
-    /// The others, too, of this count of references. It cannot fail: if it is out of memory, it may be
-    /// any of them.
+    /// Adds the references of another set, of this count of references. It cannot fail: if it is
+    /// out of memory, it may be any of them.
     pub fn join(&mut self, other: &mut Touched, count: usize)
         ensures kept { (at : ℕ) → IsTouched self.old at → IsTouched self.new at }
         ensures joined { (at : ℕ) → IsTouched other.old at → IsTouched self.new at }
@@ -83,7 +83,7 @@ impl Touched {
         }
     }
 
-    /// None of them.
+    /// Takes all references out.
     pub fn clear(&mut self)
         ensures all { self.new.all ≡ false }
         ensures indexes { self.new.indexes.items ≡ [] }
@@ -92,7 +92,8 @@ impl Touched {
         self.all = false;
     }
 
-    /// The indexes and some more, rising, of this count of references.
+    /// Returns the touched indexes and those of `more`, rising. If any reference may be touched,
+    /// these are all indexes below `count`.
     pub fn rising(
         &self,
         alloc: Global,
@@ -113,7 +114,7 @@ impl Touched {
     }
 }
 
-/// The indexes, rising.
+/// Returns these indexes, rising.
 pub fn sorted(indexes: Vec<usize>) -> Vec<usize>
     ensures rising { Rises result.items }
     ensures there { (at : ℕ) → Contains indexes.items at → Contains result.items at }
@@ -123,7 +124,7 @@ pub fn sorted(indexes: Vec<usize>) -> Vec<usize>
     indexes
 }
 
-/// All indexes below a count, rising.
+/// Returns all indexes below a count, rising.
 pub fn up_to(alloc: Global, count: usize) -> Result<Vec<usize>, AllocError>
     ensures rising { IfOk result (λ indexes. Rises indexes.items) }
     ensures there { IfOk result (λ indexes. (at : ℕ) → at < count → Contains indexes.items at) }

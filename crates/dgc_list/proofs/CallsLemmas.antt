@@ -44,7 +44,7 @@ leased_after-same c true cs = refl
 leased_after-same c false cs = refl
 
 module _ (f : Remembered → Remembered) (idem : (r : Remembered) → f (f r) ≡ f r) (client : List ℕ) where
-  -- nothing was told yet
+  -- no call was made yet
   pub tells-none : (objects : List (ObjId × List (List ℕ × Remembered))) → Tells f client [] objects objects
   tells-none objects = record {
     remembered_is = λ o c. elim (bytes_eq client c) as (λ t. remembered_at objects o c ≡ cond (t && false) (f (remembered_at objects o c)) (remembered_at objects o c)) [ true ↦ refl | false ↦ refl ];
@@ -54,7 +54,7 @@ module _ (f : Remembered → Remembered) (idem : (r : Remembered) → f (f r) �
   module _ (ids : List ObjId) (id : ObjId) (old now new : List (ObjId × List (List ℕ × Remembered))) (told : Tells f client ids old now)
       (set : Sets client (f (remembered_at now id client)) (clients_at now id) (clients_at new id))
       (others : (o : ObjId) → is_same id o ≡ false → clients_at new o ≡ clients_at now o) where
-    -- what was remembered of the client, told once more
+    -- what was remembered of the client, after the call once more
     again : (named : Bool) → remembered_at now id client ≡ cond named (f (remembered_at old id client)) (remembered_at old id client)
         → f (remembered_at now id client) ≡ f (remembered_at old id client)
     again true h = ap f h ∙ idem (remembered_at old id client)
@@ -78,7 +78,7 @@ module _ (f : Remembered → Remembered) (idem : (r : Remembered) → f (f r) �
     set-twice true h l = rw (h, idem (remembered_at old id client)) (leased_after-same client (is_some (f (remembered_at old id client)).expires) (leased (clients_at now id)) ∙ l)
     set-twice false h l = rw (h, l) refl
 
-    -- one more object is told
+    -- the call on one more object
     pub tells-push : Tells f client (ids ++ id ∷ []) old new
     tells-push = record {
       remembered_is = λ o c. elim (is_same id o) as (λ t. is_same id o ≡ t → remembered_at new o c
@@ -99,7 +99,7 @@ module _ (f : Remembered → Remembered) (idem : (r : Remembered) → f (f r) �
           ] refl;
     }
 
--- the client keeps its room at the objects, where something is left to remember
+-- the client keeps its room at the objects if something is left to remember
 pub known-kept : (client : List ℕ) (ids : List ObjId) (id : ObjId) (r : Remembered) (now new : List (ObjId × List (List ℕ × Remembered)))
     → Sets client r (clients_at now id) (clients_at new id) → is_blank r ≡ false
     → ((o : ObjId) → is_same id o ≡ false → clients_at new o ≡ clients_at now o) → AreKnown client ids now → AreKnown client ids new

@@ -30,7 +30,7 @@ without-absent c (e ∷ es) h =
     elim (is_some e.1.expires) as (λ t. without c (cond t (e.0 ∷ leased es) (leased es)) ≡ cond t (e.0 ∷ leased es) (leased es))
     [ true ↦ rw h.0 (ap (λ cs. e.0 ∷ cs) (without-absent c es h.1)) | false ↦ without-absent c es h.1 ]
 
--- the same where the first name is only equal to the client
+-- the same if the first name is only equal to the client
 absent-same : (a b : List ℕ) (ks : List (List ℕ)) → a ≡ b → AllByRecursion (λ k. bytes_eq a k ≡ false) ks → AllByRecursion (λ k. bytes_eq b k ≡ false) ks
 absent-same a b ks same h = subst (λ (x : List ℕ). AllByRecursion (λ k. bytes_eq x k ≡ false) ks) same h
 
@@ -96,7 +96,7 @@ without-unleased c (e ∷ es) distinct bare =
       | false ↦ λ apart none. sym (without-cons c e es es apart (sym (without-unleased c es tail none)))
     ] refl bare
 
--- writing at the same index, where no entry is set anew
+-- writing at the same index, if no entry is set anew
 pub leased-put : (c : List ℕ) (r : Remembered) (es : List (List ℕ × Remembered)) → IsDistinct bytes_eq (keys_of es)
     → IsTrue (is_known es c) → (IsTrue (is_some r.expires) → IsTrue (is_some (remembered_in es c).expires))
     → leased (set_value (bytes_eq c) es r) ≡ leased_after c (is_some (remembered_in es c).expires) (is_some r.expires) (leased es)
@@ -137,14 +137,14 @@ sets-from c r w old new at is order = record {
   known = λ q there apart. subst (λ (o : Option Remembered). IsTrue (is_some o)) (sym (at q)) (still-known (bytes_eq c q) w (lookup (bytes_eq q) old) apart there);
 }
 
--- an entry behind all others
+-- an entry after all others
 leased-last : (c : List ℕ) (r : Remembered) (es : List (List ℕ × Remembered)) → is_some r.expires ≡ true → leased (es ++ (c, r) ∷ []) ≡ leased es ++ c ∷ []
 leased-last c r [] set = rw set refl
 leased-last c r (e ∷ es) set =
     elim (is_some e.1.expires) as (λ t. cond t (e.0 ∷ leased (es ++ (c, r) ∷ [])) (leased (es ++ (c, r) ∷ [])) ≡ cond t (e.0 ∷ leased es) (leased es) ++ c ∷ [])
     [ true ↦ ap (λ cs. e.0 ∷ cs) (leased-last c r es set) | false ↦ leased-last c r es set ]
 
--- an entry that is set anew behind all others
+-- an entry that is set anew after all others
 pub leased-put_last : (c : List ℕ) (r : Remembered) (es : List (List ℕ × Remembered)) → IsDistinct bytes_eq (keys_of es)
     → is_some (remembered_in es c).expires ≡ false → is_some r.expires ≡ true
     → leased (remove_entry (bytes_eq c) es ++ (c, r) ∷ []) ≡ leased_after c (is_some (remembered_in es c).expires) (is_some r.expires) (leased es)
@@ -169,7 +169,7 @@ entry-none c (e ∷ es) absent =
       | false ↦ λ none. entry-none c es none
     ] absent
 
--- a client that has room is written, and goes behind all others
+-- a client that has room is written, and goes after all others
 pub demoted-put : (c : List ℕ) (r : Remembered) (cache : LruCache (List ℕ) Remembered) → IsTrue (is_known cache.entries c)
     → demoted (bytes_eq c) (put_entries bytes_eq cache c r) ≡ remove_entry (bytes_eq c) cache.entries ++ (c, r) ∷ []
 demoted-put c r cache there = let (v, found) = entry-here c cache.entries there in rw (found, bytes_eq-refl c) refl
@@ -184,7 +184,7 @@ put-new c r cache absent fits =
 one-key : (c x y : List ℕ) → bytes_eq c x ≡ true → bytes_eq c y ≡ bytes_eq x y
 one-key c x y here = ap (λ k. bytes_eq k y) ((bytes_eq-Decides c x).0 here)
 
--- what is found where a client is written, taken out, or set behind all others
+-- what is found once a client is written, taken out, or set after all others
 pub lookup-written : (c q : List ℕ) (r : Remembered) (es : List (List ℕ × Remembered)) → IsTrue (is_known es c)
     → lookup (bytes_eq q) (set_value (bytes_eq c) es r) ≡ cond (bytes_eq c q) (Some r) (lookup (bytes_eq q) es)
 lookup-written c q r es there = lookup-set_value bytes_eq-laws (bytes_eq c) (one-key c) q r es there
@@ -218,7 +218,7 @@ lookup-put_last c q r es distinct =
       | false ↦ λ apart. rw (apart-flips c q apart) (or-itself (lookup (bytes_eq q) es))
     ] refl))
 
--- each client stands once where one is taken out, or set behind all others
+-- each client stands once after one is taken out, or set after all others
 absent-removed : (c k : List ℕ) (es : List (List ℕ × Remembered)) → AllByRecursion (λ x. bytes_eq k x ≡ false) (keys_of es)
     → AllByRecursion (λ x. bytes_eq k x ≡ false) (keys_of (remove_entry (bytes_eq c) es))
 absent-removed c k [] h = h

@@ -20,7 +20,7 @@ pub on_err : {T E P : Type 0} (r : Result T E) → P → OnErr r P
 on_err (Ok x) p = tt
 on_err (Err e) p = p
 
--- where nothing is remembered anew and no expiry is lost, the list is what it was
+-- if nothing is remembered anew and no expiry is lost, the list is what it was
 pub after-same : (h : List Call) (old new : RefList) → new.moment ≡ old.moment → ((o : ObjId) → IsSame (clients_at old.objects o) (clients_at new.objects o))
     → ((other : Expiry) → Contains old.expiries other → Contains new.expiries other) → IsAfter h old → IsAfter h new
 after-same h old new moment same kept after = record {

@@ -39,7 +39,7 @@ module _ (moment : ℕ) (id : ObjId) (client : List ℕ) (old now new : List (Ob
   changed : (o : ObjId) (c : List ℕ) → remembered_at new o c ≡ cond (is_same id o && bytes_eq client c) (after_moment moment (remembered_at now id client)) (remembered_at now o c)
   changed = remembered-set id client (after_moment moment (remembered_at now id client)) now new set others
 
-  -- the one client and object, or another
+  -- this client and object, or another
   both : (o : ObjId) (c : List ℕ) → (is_same id o && bytes_eq client c) ≡ true → (id ≡ o) × (client ≡ c)
   both o c h = elim (is_same id o) as (λ t. is_same id o ≡ t → (t && bytes_eq client c) ≡ true → (id ≡ o) × (client ≡ c))
       [ true ↦ λ same k. (same-object id o same, same-client client c k) | false ↦ λ _ k. absurd (false≢true k) ] refl h
@@ -111,7 +111,7 @@ module _ (moment : ℕ) (id : ObjId) (client : List ℕ) (old now new : List (Ob
     ] refl;
   }
 
-  -- each entry that is left has its expiry among those that are left
+  -- each entry left has its expiry among those left
   pub covered-next : (expiries left : List Expiry) (gone : Expiry) → gone.object ≡ id → gone.client ≡ client → gone.moment ≤ moment
       → ((other : Expiry) → Contains expiries other → (other ≡ gone) ⊎ Contains left other) → IsCovered now expiries → IsCovered new left
   covered-next expiries left gone at_object at_client reached others_left covered o c at stands =

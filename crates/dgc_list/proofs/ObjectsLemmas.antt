@@ -57,7 +57,7 @@ same-trans a b c f g = record {
 pub same-along : (a b : List (List ℕ × Remembered)) → b ≡ a → IsSame a b
 same-along a b h = subst (λ (es : List (List ℕ × Remembered)). IsSame a es) (sym h) (same-refl a)
 
--- where the one object's clients stay the same, those of each object do
+-- if the changed object's clients stay the same, those of each object do
 pub same-changed : (object : ObjId) (w : List (List ℕ × Remembered)) (old new : List (ObjId × List (List ℕ × Remembered)))
     → ((q : ObjId) → lookup (is_same q) new ≡ cond (is_same object q) (Some w) (lookup (is_same q) old))
     → IsSame (clients_at old object) w → (q : ObjId) → IsSame (clients_at old q) (clients_at new q)

@@ -57,12 +57,12 @@ strong-some n r = by r.number
     by None = refl
     by (Some last) = elim (nat_le n last) as (λ t. is_blank (cond t (made (Some last) r.strong r.expires) (made (Some n) true None)) ≡ false) [ true ↦ refl | false ↦ refl ]
 
--- a clean call leaves an entry only where it is late
+-- a clean call leaves an entry only if it is late
 pub clean-keeps : (n : ℕ) (s : Bool) (r : Remembered) (at : ℕ) → (after_clean n s r).expires ≡ Some at → r.expires ≡ Some at
 clean-keeps n s r at = elim (is_late r n) as (λ t. (cond t r (made (if s || r.strong then Some n else None) (s || r.strong) None)).expires ≡ Some at → r.expires ≡ Some at)
     [ true ↦ λ h. h | false ↦ λ h. cc ]
 
--- a dirty call leaves the entry that stood, where it is late, or its own
+-- a dirty call leaves the entry that stood if it is late, else its own
 pub dirty-keeps : (n e : ℕ) (r : Remembered) (at : ℕ) → (after_dirty n e r).expires ≡ Some at → (r.expires ≡ Some at) ⊎ (e ≡ at)
 dirty-keeps n e r at = elim (is_late r n) as (λ t. (cond t r (made (Some n) r.strong (Some e))).expires ≡ Some at → (r.expires ≡ Some at) ⊎ (e ≡ at))
     [ true ↦ λ h. inl h | false ↦ λ h. inr (cc) ]
@@ -83,7 +83,7 @@ moment-keeps m r at = by r.expires
       | false ↦ λ later h. (h, let same : x ≡ at = cc in omega (arith, leb-false x m later))
     ] refl
 
--- where all entries are later, a moment changes nothing
+-- if all entries are later, a moment changes nothing
 pub moment-none : (m : ℕ) (r : Remembered) → ((at : ℕ) → r.expires ≡ Some at → m < at) → after_moment m r ≡ r
 moment-none m r later = by r.expires later
   where

@@ -14,7 +14,7 @@ use Rattle.dgc_list.proofs.ObjectsLemmas.{same-object, is_same-refl}
 use Rattle.dgc_list.proofs.MomentLemmas.{remembered-set}
 use Rattle.dgc_list.proofs.RememberedLemmas.{dirty-keeps}
 
--- the one client and object
+-- this client and object
 both : (id o : ObjId) (client c : List ℕ) → (is_same id o && bytes_eq client c) ≡ true → (id ≡ o) × (client ≡ c)
 both id o client c h = elim (is_same id o) as (λ t. is_same id o ≡ t → (t && bytes_eq client c) ≡ true → (id ≡ o) × (client ≡ c))
     [ true ↦ λ same k. (same-object id o same, same-client client c k) | false ↦ λ _ k. absurd (false≢true k) ] refl h
@@ -38,7 +38,7 @@ module _ (id : ObjId) (client : List ℕ) (r : Remembered) (now new : List (ObjI
       subst (λ (x : ObjId). Contains left (record { moment = at; object = x; client = c })) same.0
       (subst (λ (y : List ℕ). Contains left (record { moment = at; object = id; client = y })) same.1 (own-base at stands))
 
-  -- each entry that stands then has its expiry among those that are left
+  -- each entry that stands then has its expiry among those left
   pub covered-replaced : IsCovered now expiries → IsCovered new left
   covered-replaced covered o c at stands =
       elim (is_same id o && bytes_eq client c) as (λ t. (is_same id o && bytes_eq client c) ≡ t → Contains left (record { moment = at; object = o; client = c })) [
@@ -49,7 +49,7 @@ module _ (id : ObjId) (client : List ℕ) (r : Remembered) (now new : List (ObjI
             (λ same_id same_client. absurd (false≢true (sym apart ∙ is-own id o client c same_id same_client)))
       ] refl
 
--- a dirty call that sets an entry until the moment of the entry before keeps that moment
+-- if a dirty call sets an entry until the moment of the entry before, the moment stays
 pub dirty-same : (n e : ℕ) (r : Remembered) → r.expires ≡ Some e → (after_dirty n e r).expires ≡ Some e
 dirty-same n e r stands =
     elim (is_late r n) as (λ t. (cond t r (record { number = Some n; strong = r.strong; expires = Some e })).expires ≡ Some e) [ true ↦ stands | false ↦ refl ]
@@ -59,7 +59,7 @@ late-again : (n e : ℕ) (r : Remembered) (named : Bool) → is_late r n ≡ tru
 late-again n e r true late = rw late refl
 late-again n e r false late = refl
 
--- an entry that a dirty call leaves stood before it, or the call sets it until its own moment, for a client and object of which it is not late
+-- an entry that a dirty call leaves stood before it, or the call is not late and sets it until its own moment
 pub dirty-stands : (n e : ℕ) (first now : Remembered) (named : Bool) → now ≡ cond named (after_dirty n e first) first
     → (at : ℕ) → (after_dirty n e now).expires ≡ Some at → (now.expires ≡ Some at) ⊎ ((is_late first n ≡ false) × (e ≡ at))
 dirty-stands n e first now named is at stands =

@@ -33,7 +33,8 @@ pub record IsAlike (old new : List (List ℕ × Remembered)) : Type 0 where
 abbrev pub without : List ℕ → List (List ℕ) → List (List ℕ)
 without client clients = filter (λ other. not (bytes_eq client other)) clients
 
--- The clients with an entry, after a change of one client: whether it had an entry, and whether it has one now. One that is set goes behind the others.
+-- The clients with an entry, after a change of one client: whether it had an entry, and whether it has one now. One that is set goes after
+-- the others.
 abbrev pub leased_after : List ℕ → Bool → Bool → List (List ℕ) → List (List ℕ)
 leased_after client true true clients = clients
 leased_after client true false clients = without client clients

@@ -8,7 +8,8 @@ use Rattle.dgc_list.specs.Remembered.{blank, after_dirty, after_clean, after_mom
 use Rattle.dgc_list.specs.Clients.{leased, leased_after}
 use Rattle.dgc_list.specs.Objects.{is_same, clients_at, remembered_at, is_named, AreKnown, ArePlanned, IsCovered}
 
--- What a reference list is told. A history is the list of it, newest first. A client is the sixteen bytes of its space's id; moments and periods are in milliseconds.
+-- A call on a reference list. A history is a list of calls, newest first. A client is the sixteen bytes of its space's id; moments and
+-- periods are in milliseconds.
 pub data Call : Type 0 where
   Dirty : (client : List ℕ) (objects : List ObjId) (number period : ℕ) → Call
   Clean : (client : List ℕ) (objects : List ObjId) (number : ℕ) (strong : Bool) → Call
@@ -23,7 +24,7 @@ moment_of (Clean client objects number strong ∷ h) = moment_of h
 moment_of (Moment moment ∷ h) = max moment (moment_of h)
 moment_of (Forget object ∷ h) = moment_of h
 
--- the period that is granted where this one is asked
+-- the period granted if this one is asked
 abbrev pub granted : ℕ → ℕ
 granted period = min period 600000
 
@@ -31,7 +32,8 @@ granted period = min period 600000
 abbrev pub is_told : List ℕ → List ObjId → List ℕ → ObjId → Bool
 is_told client objects c o = bytes_eq client c && is_named o objects
 
--- What is remembered of a client and an object. Only the calls of that client on that object count, the moments, and the object's withdrawal.
+-- What is remembered of a client and an object. It depends on the calls of that client on that object, the moments and the object's
+-- withdrawal alone.
 abbrev pub remembered_of : List Call → List ℕ → ObjId → Remembered
 remembered_of [] c o = blank
 remembered_of (Dirty client objects number period ∷ h) c o =

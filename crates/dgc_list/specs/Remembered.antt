@@ -1,4 +1,5 @@
--- What an owner remembers of one client and one object: a call with a sequence number that is not above the last is late, and a strong clean call has its number remembered (Java RMI specification, 9.1: `DGC.clean`).
+-- What an owner remembers of one client and one object: a call with a sequence number that is not above the last is late, and the number of
+-- a strong clean call is remembered (Java RMI specification, 9.1: `DGC.clean`).
 use Rattle.std.specs.Prelude.{ℕ, Bool, false, Option, None, Some, is_none, ◌&&◌, ◌||◌, not, nat_le, if◌then◌else◌}
 use Rattle.dgc_list.specs.declared.remembered.Remembered.{Remembered}
 
@@ -18,12 +19,12 @@ is_at_most number (Some last) = nat_le number last
 abbrev pub is_late : Remembered → ℕ → Bool
 is_late r number = is_at_most number r.number
 
--- A dirty call that is not late sets the entry and has its number remembered.
+-- A dirty call that is not late sets the entry, and its number is remembered.
 abbrev pub after_dirty : ℕ → ℕ → Remembered → Remembered
 after_dirty number expires r =
     if is_late r number then r else record { number = Some number; strong = r.strong; expires = Some expires }
 
--- A clean call that is not late removes the entry. Where it or one before it was strong its number is remembered, else none.
+-- A clean call that is not late removes the entry. If it or one before it was strong, its number is remembered, else none.
 abbrev pub after_clean : ℕ → Bool → Remembered → Remembered
 after_clean number strong r =
     if is_late r number then r
@@ -34,7 +35,7 @@ abbrev pub is_gone : ℕ → Option ℕ → Bool
 is_gone moment None = false
 is_gone moment (Some expires) = nat_le expires moment
 
--- An entry that is gone counts as cleaned, not strongly; where a strong clean call was kept the number stays.
+-- An entry that is gone counts as cleaned, not strongly; if a strong clean call was kept, the number stays.
 abbrev pub after_moment : ℕ → Remembered → Remembered
 after_moment moment r =
     if is_gone moment r.expires

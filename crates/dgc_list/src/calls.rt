@@ -48,7 +48,7 @@ fn release_at(objects: &mut Objects, client: &Uuid, id: ObjId)
     }
 }
 
-// Adds the expiries of the entries that a client's call sets for the objects: none where it is late.
+// Adds the expiries of the entries that a client's call sets for the objects: none if it is late.
 pub(crate) fn add_expiries(
     expiries: &mut Expiries,
     objects: &Objects,
@@ -100,7 +100,7 @@ fn replace(
     }
 }
 
-// A dirty call of a client that has room, and whose expiries are there.
+// A dirty call of a client. The client has room, and the expiries are there.
 pub(crate) fn tell_dirty(
     objects: &mut Objects,
     expiries: &mut Expiries,
@@ -120,7 +120,7 @@ pub(crate) fn tell_dirty(
     }
 }
 
-// A clean call of a client, which has room where the call is strong.
+// A clean call of a client. The client has room if the call is strong.
 pub(crate) fn tell_clean(
     objects: &mut Objects,
     expiries: &mut Expiries,

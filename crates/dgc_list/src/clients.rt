@@ -96,8 +96,8 @@ impl Clients {
         Ok(())
     }
 
-    // Sets what is remembered of a client that has room, or of which nothing is; another is left out.
-    // A new entry goes after the others, and a client of which nothing is remembered goes.
+    // Sets what is remembered of a client if it has room, or if that is nothing; else nothing
+    // changes. A new entry goes after the others, and a client of which nothing is remembered goes.
     pub(crate) fn set(&mut self, client: &Uuid, remembered: Remembered)
         ensures { IsTrue (is_known self.old client.now || is_blank remembered) → Sets client.now remembered self.old self.new }
     {

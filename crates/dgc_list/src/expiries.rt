@@ -17,9 +17,9 @@ pub(crate) struct Expiry {
     pub(crate) client: Uuid,
 }
 
-/// Expiries in the order of their moments, one for each entry that stands. One more may be there for
-/// an entry that went with its object, or whose call met the end of memory: it does no harm, since the
-/// entry itself is looked at when the moment comes.
+/// Expiries in the order of their moments, one for each entry that stands. One more may be there if
+/// an entry went with its object, or its call was out of memory. It does no harm, since the entry
+/// itself is looked at when the moment comes.
 #[derive(Debug, Drop)]
 pub(crate) struct Expiries {
     row: BTreeSet<Expiry>,

@@ -1,9 +1,9 @@
 //! The reference lists of a space: for each of its objects, which clients have a lease for it (Java
 //! RMI specification, chapter on garbage collection).
 //!
-//! A contract speaks of the history of what a list was told, newest first. What is remembered of a
-//! client and an object is a function of that history, in which only the calls of that client on that
-//! object count, the moments, and the object's withdrawal.
+//! A contract speaks of the history of a list's calls, newest first. What is remembered of a client
+//! and an object is a function of that history. Only the calls of that client on that object count
+//! in it, the moments, and the object's withdrawal.
 #![tactic(auto)]
 
 pub use list::{LONGEST_LEASE, RefList};

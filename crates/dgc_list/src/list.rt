@@ -29,7 +29,7 @@ impl RefList {
     ghost use Rattle.dgc_list.specs.History.{Call, granted, remembered_of, clients_of, HasRoomForClean, HasRoomForDirty, IsAfter};
     ghost use Rattle.dgc_list.specs.History.Call.{Dirty, Clean, Moment, Forget};
 
-    /// Reference lists of which nothing is told yet, at moment 0.
+    /// Returns reference lists after no call, at moment 0.
     pub fn new(alloc: Global) -> RefList
         ensures { IsAfter [] result }
     {
@@ -40,9 +40,9 @@ impl RefList {
         }
     }
 
-    /// Makes room for what is remembered of a client of these objects, so that a strong
-    /// [`clean_reserved`](RefList::clean_reserved) takes no memory. Nothing else changes, at out of
-    /// memory too.
+    /// Makes room for what is remembered of a client at these objects, so that a strong
+    /// [`clean_reserved`](RefList::clean_reserved) takes no memory. Nothing else changes, even if
+    /// it is out of memory.
     pub fn reserve_clean(&mut self, client: &Uuid, objects: &[ObjId]) -> Result<(), AllocError>
         ensures room { OnOk result (HasRoomForClean client.now objects.now self.new) }
         ensures same { (h : List Call) → IsAfter h self.old → IsAfter h self.new }
@@ -56,8 +56,8 @@ impl RefList {
         }
     }
 
-    /// Takes back the room that was made for a client of these objects, where nothing is remembered of
-    /// it: an event that made room and was refused leaves nothing behind.
+    /// Takes back the room that was made for a client at those of these objects at which nothing is
+    /// remembered of it: an event that made room and was refused leaves nothing behind.
     pub fn release(&mut self, client: &Uuid, objects: &[ObjId])
         ensures { (h : List Call) → IsAfter h self.old → IsAfter h self.new }
     {
@@ -65,8 +65,8 @@ impl RefList {
     }
 
     /// Makes room for a dirty call of this number and period that comes now, so that
-    /// [`dirty_reserved`](RefList::dirty_reserved) takes no memory. Nothing else changes, at out of
-    /// memory too.
+    /// [`dirty_reserved`](RefList::dirty_reserved) takes no memory. Nothing else changes, even if
+    /// it is out of memory.
     pub fn reserve_dirty(
         &mut self,
         client: &Uuid,
@@ -96,8 +96,8 @@ impl RefList {
         }
     }
 
-    /// A dirty call, as [`dirty`](RefList::dirty) tells it, for which there is
-    /// [room](RefList::reserve_dirty). It takes no memory. Returns the period that is granted.
+    /// Makes a dirty call as [`dirty`](RefList::dirty) does, and returns the granted period. The
+    /// caller owes that there is [room](RefList::reserve_dirty). It takes no memory.
     pub fn dirty_reserved(
         &mut self,
         client: &Uuid,
@@ -122,10 +122,9 @@ impl RefList {
         granted
     }
 
-    /// A dirty call of a client on objects that stand. For each of them it sets the client's entry,
-    /// granted now for `period` or the longest lease, whichever is less, and has its number
-    /// remembered; if it is late it changes nothing. Returns the period that is granted. At out of
-    /// memory no entry is changed.
+    /// Makes a dirty call of a client on standing objects, and returns the granted period: `period`
+    /// or the longest lease, whichever is less. For each object it sets the client's entry, granted
+    /// now, and remembers the call's number. If the call is late or out of memory, nothing changes.
     pub fn dirty(
         &mut self,
         client: &Uuid,
@@ -141,8 +140,8 @@ impl RefList {
         Ok(self.dirty_reserved(client, objects, number, period))
     }
 
-    /// A clean call, as [`clean`](RefList::clean) tells it, for which there is
-    /// [room](RefList::reserve_clean) if it is strong. It takes no memory.
+    /// Makes a clean call as [`clean`](RefList::clean) does. The caller owes that there is
+    /// [room](RefList::reserve_clean) if the call is strong. It takes no memory.
     pub fn clean_reserved(&mut self, client: &Uuid, objects: &[ObjId], number: u64, strong: bool)
         requires { IsTrue strong → HasRoomForClean client.now objects.now self.old }
         ensures { (h : List Call) → IsAfter h self.old → IsAfter (Clean client.now objects.now number strong ∷ h) self.new }
@@ -157,10 +156,10 @@ impl RefList {
         );
     }
 
-    /// A clean call of a client on objects that stand. For each of them it removes the client's
-    /// entry. A strong one has its number remembered; one that is not strong has it forgotten, unless
-    /// a strong one was kept before. If it is late it changes nothing. At out of memory, which only a
-    /// strong one meets, no entry is changed.
+    /// Makes a clean call of a client on standing objects: for each of them it removes the client's
+    /// entry. A strong call's number is remembered; one that is not strong forgets the number,
+    /// unless a strong one was kept before. If the call is late or out of memory, nothing changes.
+    /// Only a strong call needs memory.
     pub fn clean(
         &mut self,
         client: &Uuid,
@@ -179,8 +178,8 @@ impl RefList {
         Ok(())
     }
 
-    /// The moment is now, in milliseconds. Entries whose period is over are gone, as if cleaned not
-    /// strongly. A moment below the last changes nothing.
+    /// Sets the moment that is now, in milliseconds. Entries whose period is over are gone, as
+    /// after a clean call that is not strong. A moment below the last changes nothing.
     pub fn moment(&mut self, moment: u64)
         requires { moment < 2 ^ 63 }
         ensures { (h : List Call) → IsAfter h self.old → IsAfter (Moment moment ∷ h) self.new }
@@ -192,22 +191,22 @@ impl RefList {
         expire(&mut self.objects, &mut self.expiries, moment);
     }
 
-    /// The object was withdrawn: nothing is remembered of it any more.
+    /// Forgets all that is remembered of an object, which was withdrawn.
     pub fn forget(&mut self, object: ObjId)
         ensures { (h : List Call) → IsAfter h self.old → IsAfter (Forget object ∷ h) self.new }
     {
         self.objects.forget(object);
     }
 
-    /// The moment from which the client's entry for the object is gone, where one stands.
+    /// Returns the moment from which the client's entry for the object is gone, if one stands.
     pub fn entry(&self, client: &Uuid, object: ObjId) -> Option<u64>
         ensures { (h : List Call) → IsAfter h self.now → result ≡ (remembered_of h client.now object).expires }
     {
         self.objects.get(object, client).expires
     }
 
-    /// The clients with an entry for the object, in the order in which the entries that stand were
-    /// first set (an order of our own).
+    /// Returns the clients with an entry for the object, in the order in which the entries that
+    /// stand were first set (an order of our own).
     #[tactic(auto, using(crate::proofs::ClientsLemmas::leased_filter))]
     pub fn clients_of(&self, alloc: Global, object: ObjId) -> Result<Vec<Uuid>, AllocError>
         ensures { IfOk result (λ clients. (h : List Call) → IsAfter h self.now → clients.items ≡ clients_of h object) }
@@ -218,7 +217,7 @@ impl RefList {
         }
     }
 
-    /// How many clients have an entry for the object.
+    /// Returns how many clients have an entry for the object.
     pub fn entries_of(&self, object: ObjId) -> usize
         ensures { (h : List Call) → IsAfter h self.now → result ≡ length (clients_of h object) }
     {

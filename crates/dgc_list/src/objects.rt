@@ -81,7 +81,7 @@ impl Objects {
         Ok(())
     }
 
-    // Sets what is remembered of a client of an object, where the client has room or that is nothing.
+    // Sets what is remembered of a client of an object, if the client has room or that is nothing.
     pub(crate) fn set(&mut self, object: ObjId, client: &Uuid, remembered: Remembered)
         ensures here { IsTrue (is_known (clients_at self.old object) client.now || is_blank remembered) → Sets client.now remembered (clients_at self.old object) (clients_at self.new object) }
         ensures others { (other : ObjId) → is_same object other ≡ false → clients_at self.new other ≡ clients_at self.old other }

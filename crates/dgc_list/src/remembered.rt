@@ -3,14 +3,14 @@
 ghost use Rattle.std.specs.Prelude.{◌≡◌, ◌+◌, ◌^◌, ◌<◌, ◌↔◌, IsTrue};
 ghost use Rattle.dgc_list.specs.Remembered.{blank, is_late, after_dirty, after_clean, after_moment, is_blank};
 
-/// What an owner remembers of a client and an object. Nothing is remembered where all is none.
+/// What an owner remembers of a client and an object. Nothing is remembered if each part is `None`.
 #[derive(Clone, Copy, Debug, PartialEq, Eq)]
 pub struct Remembered {
-    /// The number of the call that counted last, where it is kept: calls up to it are late.
+    /// The number of the call that counted last, if it is kept: calls up to it are late.
     pub number: Option<u64>,
     /// Whether a strong clean call was ever kept.
     pub strong: bool,
-    /// The moment from which the client's entry is gone, where one stands.
+    /// The moment from which the client's entry is gone, if one stands.
     pub expires: Option<u64>,
 }
 

@@ -43,7 +43,7 @@ zero-above n h = grind (arith, nat_tests)
 
 -- ---- machines
 
--- another reason may come or go where the object stands as long as there is one, and there is one as long as a frame is parked
+-- another reason may come or go, if the object stands while there is one and there is one while a frame is parked
 other-set : (t : Bool) (s : State) → (t ≡ true → s.stands ≡ true) → (0 < s.parked → t ≡ true) → IsSafe s → IsSafe (record s { other = t })
 other-set t s stands parked h = record {
   entry_stands = h.entry_stands;
@@ -182,7 +182,7 @@ sends sender receiver w fits h = record {
     loan who = subst (λ n. n ≤ held_by who w) (sym (count-last (is_from who) w.frames f))
         (one-more sender who (lent who w) (λ b. held_by b w) (h.loans who) (λ e. subst (λ b. lent b w < held_by b w) e fits))
 
--- a frame that is parked counts as one on its way, but for those that are parked
+-- a parked frame counts as one on its way, except among the parked ones
 count-park : (p : Frame → Bool) (before : List Frame) (f g : Frame) (later : List Frame) → p f ≡ p g → count p (before ++ f ∷ later) ≡ count p (before ++ g ∷ later)
 count-park p before f g later same = count-mid p before f later ∙ (ap (λ t. bit t + count p (before ++ later)) same ∙ sym (count-mid p before g later))
 
@@ -306,7 +306,7 @@ own-lets w fits h = record {
   parked = h.parked;
 }
 
--- where nothing holds the object, no frame names it
+-- if nothing holds the object, no frame names it
 no-holder : (w : World) → Fits Sweeps w → IsWhole w → (who : Option ℕ) → held_by who w ≡ 0
 no-holder w fits h None = fits.0
 no-holder w fits h (Some d) = by (w.clients d).started refl

@@ -30,7 +30,7 @@ last-new (op ∷ ops) next call below new =
     let other : eqb (call_of op) call ≡ false = let b = below.0 in apart (call_of op) call (omega arith) in
     rw other (last-new ops next call below.1 new)
 
--- a call that has not arrived is not the one that is new
+-- a call that has not arrived is not the new one
 comes-new : (calls : List ℕ) (next call : ℕ) → CallsBelow next calls → next ≤ call → comes call calls ≡ false
 comes-new [] next call below new = refl
 comes-new (c ∷ calls) next call below new =
@@ -107,7 +107,7 @@ goes false s fits h = record {
   coming_below = h.coming_below;
 }
 
--- a started holder comes or goes where it is secure
+-- a started holder comes or goes if the reference is secure
 holds : (s : State) (started : ℕ) → IsSecure s.entry s.path → IsSafe s → IsSafe (record s { started = started })
 holds s started secure h = record {
   entry_stands = h.entry_stands;

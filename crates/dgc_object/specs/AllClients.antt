@@ -25,7 +25,7 @@ pub data Event : Type 0 where
   Parks : (before : List Frame) (sender : Option ℕ) (client : ℕ) (later : List Frame) → Event
   -- a parked frame goes
   Goes : (before : List Frame) (sender : Option ℕ) (client : ℕ) (later : List Frame) (held : Bool) → Event
-  -- a frame that is not parked is done, as one that comes to the owner
+  -- a frame that is not parked is done, such as one to the owner
   Ends : (before : List Frame) (frame : Frame) (later : List Frame) → Event
   OwnHolds : Event
   OwnLets : Event
@@ -63,7 +63,8 @@ abbrev pub held_by : Option ℕ → World → ℕ
 held_by None w = w.own
 held_by (Some client) w = (w.clients client).started
 
--- A client's machine: for it, the other reason to stand is a frame on its way to the client or parked there, whose sender holds the reference.
+-- A client's machine: for it, the other reason to stand is a frame on its way to the client or parked there; its sender holds the
+-- reference.
 abbrev pub seen : ℕ → World → State
 seen client w = record (w.clients client) { stands = w.stands; other = nat_lt 0 (count (is_to client) w.frames) }
 
@@ -114,7 +115,7 @@ pub record IsWhole (w : World) : Type 0 where
   pub own_stands : 0 < w.own → w.stands ≡ true
   pub parked : (client : ℕ) → (w.clients client).parked ≡ count (is_parked_at client) w.frames
 
--- no client, no frame, and an object that stands
+-- no client, no frame, and a standing object
 abbrev pub start : ℕ → World
 start own = record { clients = λ client. pair.start true false; stands = true; own = own; frames = [] }
 

@@ -1,4 +1,5 @@
--- One client and one object that another space owns: what both keep of it, and the dirty and clean calls, and leases, that are on their way between them, of which none is lost (Java RMI specification, 3.3 and 9.1; the machine is this project's own form of it).
+-- One client and one object that another space owns: what both keep of it, and the dirty and clean calls and leases on their way between
+-- them. None of these is lost (Java RMI specification, 3.3 and 9.1; the machine is this project's own form of it).
 use Rattle.std.specs.Prelude.{◌≡◌, ◌<◌, ◌≤◌, ℕ, ◌+◌, ◌-◌, ◌==◌, Bool, true, false, not, ◌&&◌, ◌||◌, List, [], ◌∷◌, ◌++◌, Option, None, Some, if◌then◌else◌}
 
 -- a call of the client on the reference, with its number

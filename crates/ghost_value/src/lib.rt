@@ -1,7 +1,7 @@
 //! Data that exists in proofs alone: a token of no bytes whose value only clauses read.
 //!
-//! A word of the interpreter carries its tagged value so: the machine has bare words, and contracts
-//! see what each of them stands for.
+//! A word of the interpreter carries its tagged value in such a token: the machine has bare words,
+//! and contracts see what each word stands for.
 #![tactic(auto)]
 
 ghost use Rattle.std.specs.Prelude.{◌≡◌};
@@ -27,7 +27,7 @@ impl<T> Model for Ghost<T> {
 }
 
 impl<T> Ghost<T> {
-    /// The token whose value `M` reads off `x`. It does nothing when it runs.
+    /// Returns the token whose value `M` reads off `x`. It does nothing when it runs.
     #[inline(always)]
     pub fn of<X, M: Says<X, T>>(x: &X) -> Ghost<T>
         ensures { result.value ≡ M.says x.now }
@@ -38,7 +38,7 @@ impl<T> Ghost<T> {
         }
     }
 
-    /// A second token of the same value.
+    /// Returns a second token of the same value.
     #[inline(always)]
     pub fn copy(&self) -> Ghost<T>
         ensures { result.value ≡ self.now.value }

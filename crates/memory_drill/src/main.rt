@@ -1,8 +1,8 @@
 //! Plays calls that take memory, of each layer, while one allocation of the process fails, and says
 //! whether each answer was the right one.
 //!
-//! Want of memory may stand in place of any answer, and changes nothing: so where a call answers it,
-//! the same call is made again and owes its answer. `.ci/fail-alloc` runs the program once for each
+//! A call may be out of memory instead of any answer, and then changes nothing: so the drill makes
+//! that call again, which now owes its answer. `.ci/fail-alloc` runs the program once for each
 //! allocation; its one argument says how many allocations are made and dropped beforehand.
 #![tactic(auto)]
 
@@ -44,7 +44,7 @@ fn allocations_before<R: Env + AllocGlobal>(rt: &R) -> io::Result<u32> {
     }
 }
 
-// Makes so many allocations, and drops each.
+// Makes `count` allocations, and drops each.
 fn spend(alloc: Global, count: u32) {
     for _ in 0..count {
         let _ = Box::new(alloc, 0u8);

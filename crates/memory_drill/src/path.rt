@@ -16,7 +16,8 @@ use ver_check::CheckFault;
 use vm_heap::Value;
 use vm_step::{Limits, StartFault};
 
-// A line of words, with the status and the text that it owes. Most of its memory goes into the words.
+// A command line, with the status and the text that it owes. Most of its memory goes into the
+// arguments.
 const LINE: (&str, u8, &str) = ("run box T f(I)I 4 --fuel 38", 0, "returned 10\n");
 
 const WANT: (u8, &str) = (3, "no memory\n");
@@ -46,7 +47,7 @@ impl Folder for Shelf {
     }
 }
 
-// What a line of words came to.
+// What a command line came to.
 #[derive(Drop)]
 struct Said {
     status: u8,
@@ -72,7 +73,7 @@ fn say(alloc: Global, line: &str) -> Result<Said, AllocError> {
     for word in line.split(' ') {
         words.push(String::from_str(alloc, word)?)?;
     }
-    // With room for every text, so that to write takes no memory.
+    // An output with room for every text, so that writing takes no memory.
     let mut out = Vec::with_capacity(alloc, 256)?;
     let mut err = Vec::with_capacity(alloc, 256)?;
     let status = command(

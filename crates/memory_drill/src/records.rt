@@ -105,7 +105,7 @@ fn leases(alloc: Global, tally: &mut Tally) {
     }
 }
 
-/// Plays each.
+/// Plays names, reference lists and leases.
 pub fn play(alloc: Global, tally: &mut Tally) -> Result<(), AllocError> {
     names(alloc, tally);
     lists(alloc, tally);

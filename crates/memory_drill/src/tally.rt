@@ -1,6 +1,6 @@
 //! How calls were answered.
 
-/// How many answers were right and wrong, and how many calls wanted memory and were made again.
+/// How many answers were right and wrong, and how many calls were out of memory and made again.
 #[derive(Clone, Copy, Debug, Default)]
 pub struct Tally {
     pub right: u32,
@@ -9,7 +9,7 @@ pub struct Tally {
 }
 
 impl Tally {
-    /// An answer was compared.
+    /// Counts an answer that was compared.
     pub fn answer(&mut self, is_right: bool) {
         if is_right {
             self.right = self.right.saturating_add(1);
@@ -18,7 +18,7 @@ impl Tally {
         }
     }
 
-    /// A call wanted memory.
+    /// Counts a call that was out of memory.
     pub fn want(&mut self) {
         self.wants = self.wants.saturating_add(1);
     }

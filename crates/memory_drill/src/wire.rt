@@ -41,7 +41,7 @@ fn is_encoded(alloc: Global, frame: &Frame, bytes: &[u8], tally: &mut Tally) -> 
     }
 }
 
-// Feeds the bytes in pieces of so many, and compares the frames that come with their bytes.
+// Feeds the bytes in pieces of `piece` bytes, and compares the frames that come with their bytes.
 fn feed(alloc: Global, piece: usize, tally: &mut Tally)
     requires { 0 < piece }
 {
@@ -70,7 +70,7 @@ fn feed(alloc: Global, piece: usize, tally: &mut Tally)
     tally.answer(owed.next().is_none());
 }
 
-// Receives the two frames and then the end from a source that gives so many bytes at a time.
+// Receives the two frames and then the end from a source that gives `step` bytes at a time.
 fn receive(alloc: Global, step: usize, tally: &mut Tally) -> Result<(), AllocError>
     requires { 0 < step }
 {

@@ -64,7 +64,7 @@ module _ {S : Type 0} (remaining : S → Option (List ℕ)) (has_failed : S → 
   at-end held bytes (Some more) is end =
       let same : held ++ more ≡ bytes = cc in sym (append-nil held) ∙ ap (λ (x : List ℕ). held ++ x) (sym end) ∙ same
 
-  -- what a call does where no fault ended the stream
+  -- what a call does if no fault ended the stream
   goes : (old : Receiver S) (result : Result Inflow AllocError) (new : Receiver S) → old.fault ≡ None → Receives remaining has_failed old result new → Goes remaining has_failed old result new
   goes old result new none receives = by old.fault none receives
     where
@@ -79,7 +79,7 @@ module _ {S : Type 0} (remaining : S → Option (List ℕ)) (has_failed : S → 
   stays : (old : Receiver S) (result : Result Inflow AllocError) (new : Receiver S) (f : WireFault) → old.fault ≡ Some f → Receives remaining has_failed old result new → (result ≡ Ok (inflows.Bad f)) × (new ≡ old)
   stays old result new f some receives = subst (λ (o : Option WireFault). MatchOption o (Goes remaining has_failed old result new) (λ fault. (result ≡ Ok (inflows.Bad fault)) × (new ≡ old))) some receives
 
-  -- behind a fault no frame comes
+  -- after a fault no frame comes
   stopped : (results : List (Result Inflow AllocError)) (old new : Receiver S) (f : WireFault) → old.fault ≡ Some f → Answers remaining has_failed old results new → (new.fault ≡ Some f) × (frames_in results ≡ [])
   unfolding Answers
   stopped [] old new f is h = (ap (λ (r : Receiver S). r.fault) h ∙ is, refl)
@@ -122,7 +122,7 @@ module _ {S : Type 0} (remaining : S → Option (List ℕ)) (has_failed : S → 
       let g = goes old (Err error) h.0 none h.1.0 in
       ends-closed h.0 between new results bytes inside g.1 (kept (left remaining old) (left remaining h.0) bytes is g.0) h.1.1 last
 
-  -- a fault that is told is one of the bytes that are left
+  -- a fault that is answered is one of the bytes left
   breaks-left : (new : Receiver S) (bytes : List ℕ) (fault : WireFault) → left remaining new ≡ Some bytes → Breaks fault new.held → Breaks fault bytes
   breaks-left new bytes fault is breaks =
       let all = begins new.held bytes (remaining new.source) is in subst (Breaks fault) (sym all.1) (breaks_stays new.held all.0 fault breaks)

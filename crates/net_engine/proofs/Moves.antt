@@ -25,7 +25,7 @@ known_moves None y held bytes consumes = tt
 known_moves (Some xs) None held bytes consumes = absurd consumes
 known_moves (Some xs) (Some ys) held bytes consumes = append_assoc held bytes ys ∙ ap (λ (z : List ℕ). held ++ z) (sym consumes)
 
--- what a source gave stands behind what was held
+-- what a source gave stands after what was held
 pub moved : {S : Type 0} (remaining : S → Option (List ℕ)) (old part : List ℕ) (a k count : ℕ) (s t : S) → a + k ≤ length old → length part ≡ k → count ≤ k → Consumes (remaining s) (remaining t) (take count part)
     → Keeps (known remaining (take a old) s) (known remaining (take (a + count) (put_mid a k old part)) t)
 moved remaining old part a k count s t within len most consumes =
@@ -56,7 +56,7 @@ stays_within held more within =
           rw (le-ltb (length (held ++ more)) 4 there, told_stays held more long) at_most
     ]
 
--- bytes are read behind a length only if a body has it
+-- bytes are read after a length only if a body has it
 stays_told : (held more : List ℕ) → IsPartial held → length (held ++ more) ≤ known_end held → 4 < length (held ++ more) → IsBodyLength (told_length (held ++ more))
 stays_told held more partial within past =
     elim (cases_lt (length held) 4) [
@@ -81,7 +81,7 @@ whole_at_once held within has =
     let ends : length held ≤ 4 + told_length held = rw (le-ltb (length held) 4 (omega (arith, has.1))) at within.0 in
     omega (arith, has.1)
 
--- a fault is told as soon as it can be
+-- a fault is answered as soon as it can be
 pub at_once : (fault : WireFault) (held : List ℕ) → IsWithinFirst held → Breaks fault held → length held ≡ fault_end fault held
 unfolding Breaks
 at_once faults.Length held within b =

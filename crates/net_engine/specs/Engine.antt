@@ -17,7 +17,7 @@ pub record Sender (K : Type 0) : Type 0 where
   pub sink : K
   pub room : ℕ
 
--- what receives: its source, the bytes that it has read of the frame that has begun, the fault that ended the stream, and how many bytes it has room for
+-- a receiver: its source, the bytes read of the frame that has begun, the fault that ended the stream, and how many bytes it has room for
 pub record Receiver (S : Type 0) : Type 0 where
   pub source : S
   pub held : List ℕ
@@ -28,22 +28,22 @@ pub record Receiver (S : Type 0) : Type 0 where
 abbrev pub IsWithinFirst : List ℕ → Type 0
 IsWithinFirst bytes = (length bytes ≤ known_end bytes) × (4 < length bytes → IsBodyLength (told_length bytes))
 
--- how many bytes of a frame tell its fault: a bad length is told with its fourth byte, all else when the body is whole
+-- how many bytes of a frame show its fault: the fourth byte shows a bad length, the whole body all else
 abbrev pub fault_end : WireFault → List ℕ → ℕ
 fault_end faults.Length bytes = 4
 fault_end faults.Kind bytes = 4 + told_length bytes
 fault_end faults.Body bytes = 4 + told_length bytes
 fault_end faults.Trailing bytes = 4 + told_length bytes
 
--- the bytes tell this fault of their first frame, and no byte behind them was read
+-- the bytes show this fault of their first frame, and no byte after them was read
 abbrev pub TellsFault : WireFault → List ℕ → Type 0
 TellsFault fault bytes = Breaks fault bytes × (length bytes ≡ fault_end fault bytes)
 
--- what is left of the stream, where the source tells it: the bytes held, and then those of the source
+-- what is left of the stream, if the source's bytes are known: the bytes held, and then those of the source
 abbrev pub left : {S : Type 0} → (S → Option (List ℕ)) → Receiver S → Option (List ℕ)
 left remaining receiver = prepend_known receiver.held (remaining receiver.source)
 
--- the bytes held, and then those of a source, where it tells them
+-- the bytes held, and then those of a source, if they are known
 abbrev pub known : {S : Type 0} → (S → Option (List ℕ)) → List ℕ → S → Option (List ℕ)
 known remaining held source = prepend_known held (remaining source)
 
@@ -55,7 +55,7 @@ Sees held (looks.Come (inflows.Closed inside)) = ⊥
 Sees held (looks.Come inflows.ReadFailed) = ⊥
 Sees held (looks.Missing count) = IsPartial held × (0 < count) × (length held + count ≡ known_end held)
 
--- what comes next, with the bytes that were read of it and the source behind them: want of memory may stand for any answer
+-- what comes next, with the bytes that were read of it and the source after them; it may be out of memory instead of any answer
 abbrev pub Comes : {S : Type 0} → (S → Option (List ℕ)) → (S → Bool) → Result Inflow AllocError → List ℕ → S → Type 0
 Comes remaining has_failed (Ok (inflows.Frame message)) held source = IsWire held message
 Comes remaining has_failed (Ok (inflows.Closed inside)) held source = IsAtEnd (remaining source) × IsPartial held × (IsTrue inside ↔ (0 < length held))
@@ -73,7 +73,7 @@ Goes remaining has_failed old (Ok inflows.ReadFailed) new = Keeps (left remainin
 Goes remaining has_failed old (Ok (inflows.Bad fault)) new = Keeps (left remaining old) (left remaining new) × TellsFault fault new.held × (new.fault ≡ Some fault)
 Goes remaining has_failed old (Err error) new = Keeps (left remaining old) (left remaining new) × (new.fault ≡ None)
 
--- What the next call answers, and what it leaves. The fault that ended the stream is answered for good.
+-- What the next call answers, and what it leaves. After the fault that ended the stream each call answers it.
 -- A frame takes exactly its bytes off the stream; nothing else takes any.
 abbrev pub Receives : {S : Type 0} → (S → Option (List ℕ)) → (S → Bool) → Receiver S → Result Inflow AllocError → Receiver S → Type 0
 Receives remaining has_failed old result new =

@@ -44,7 +44,7 @@ impl<S: Source> Model for Inbound<S> {
     ghost invariant = { λ inbound. (vec_len inbound.buffer ≡ 65540) × (inbound.filled ≤ 65540) × IsWithinFirst (take inbound.filled inbound.buffer.items) };
 }
 
-// Reads up to so many bytes behind those that are there, and answers how many.
+// Reads at most `missing` bytes after the `filled` that are there, and returns how many.
 fn read_more<S: Source>(
     source: &mut S,
     buffer: &mut [u8],
@@ -129,8 +129,8 @@ fn room_for_a_frame(alloc: Global) -> Result<Vec<u8>, AllocError>
 }
 
 impl<S: Source + Drop> Inbound<S> {
-    /// Receives from the source. The room for a frame of any kind is reserved here; without it the
-    /// source is dropped.
+    /// Returns a receiver from the source. It reserves the room for a frame of any kind; if it is
+    /// out of memory, the source is dropped.
     pub fn new(alloc: Global, source: S) -> Result<Inbound<S>, AllocError>
         ensures { IfOk result (λ inbound. inbound ≡ record { source = source; held = []; fault = None; room = MAX_FRAME }) }
     {
@@ -145,8 +145,9 @@ impl<S: Source + Drop> Inbound<S> {
 }
 
 impl<S: Source> Inbound<S> {
-    /// What comes next. A frame takes exactly its bytes off the stream. `Bad` is answered for good.
-    /// At want of memory no byte that was read is lost: the next call goes on from there.
+    /// Returns what comes next. A frame takes exactly its bytes off the stream. After `Bad` each
+    /// call answers it. If memory runs out, no byte that was read is lost: the next call goes on
+    /// from there.
     pub fn next(&mut self) -> Result<Inflow, AllocError>
         ensures next { Receives S.remaining S.has_failed self.old result self.new }
         ensures room { self.new.room ≡ self.old.room }

@@ -11,9 +11,9 @@ ghost use Rattle.net_engine.specs.Engine.{Receiver, left, Receives, Answers, fra
 
 use dev_io::Source;
 
-/// The frames that calls answer before the end of the stream are the frames of its bytes, and what is
-/// held then is what is left of them; before a fault they are the frames in front of it. It does not
-/// count how often memory ran out in between, or a read failed.
+/// The frames that calls answer before the end of the stream are the frames of its bytes, and what
+/// is held then is what is left of them. Before a fault they are the frames in front of it. This
+/// holds however often memory ran out in between, or a read failed.
 pub fn frames_before_the_end_are_those_of_the_bytes<S: Source>()
     ensures closed { (old between new : Receiver S) (results : List (Result Inflow AllocError)) (bytes : List ℕ) (inside : Bool)
         → old.fault ≡ None → left S.remaining old ≡ Some bytes → Answers S.remaining S.has_failed old results between

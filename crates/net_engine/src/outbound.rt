@@ -40,8 +40,8 @@ impl<K: Sink> Model for Outbound<K> {
 }
 
 impl<K: Sink + Drop> Outbound<K> {
-    /// Sends into the sink. The room for a frame of any kind is reserved here; without it the sink
-    /// is dropped.
+    /// Returns a sender into the sink. It reserves the room for a frame of any kind; if it is out
+    /// of memory, the sink is dropped.
     pub fn new(alloc: Global, sink: K) -> Result<Outbound<K>, AllocError>
         ensures sink { IfOk result (λ outbound. outbound.sink ≡ sink) }
         ensures room { IfOk result (λ outbound. MAX_FRAME ≤ outbound.room) }
@@ -54,7 +54,7 @@ impl<K: Sink + Drop> Outbound<K> {
 }
 
 impl<K: Sink> Outbound<K> {
-    /// What it sends into.
+    /// Returns the sink.
     pub fn sink(&self) -> &K
         ensures { result.now ≡ self.now.sink }
     {
@@ -62,7 +62,7 @@ impl<K: Sink> Outbound<K> {
     }
 
     /// Sends the frame, whose body has at most 65,536 bytes (`Frame::body_len`): all of its bytes,
-    /// or the first `sent` of them where the sink fails. It takes no memory.
+    /// or the first `sent` of them if the sink fails. It takes no memory.
     pub fn send(&mut self, frame: &Frame) -> Result<(), WriteFailed>
         requires { length (body frame.now) ≤ 65536 }
         ensures all { OnOk result (Appends (K.contents self.old.sink) (K.contents self.new.sink) (wire.frame frame.now)) }

@@ -138,7 +138,7 @@ one_message m n x y fits fits2 same =
     let e = ok_is (m, x) (n, y) (sym (message_again m x fits) ∙ ap message_at same ∙ message_again n y fits2) in
     (ap (λ (p : Message × List ℕ). p.0) e, ap (λ (p : Message × List ℕ). p.1) e)
 
--- the first rule that is broken is the fault that is read
+-- the first broken rule is the fault of the reading
 pub breaks_whole : (bytes : List ℕ) (fault : WireFault) → IsBytes bytes → BreaksIn fault bytes → whole_at bytes ≡ Err fault
 unfolding whole_at BreaksIn
 breaks_whole bytes faults.Length h b = absurd b

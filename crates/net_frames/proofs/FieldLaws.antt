@@ -1,4 +1,4 @@
--- A field that is read is the field that was written, and what was written is read again.
+-- A field is read as it was written, and what was written is read again.
 use Rattle.std.proofs.Common.{◌≡◌, ℕ, zero, suc, ◌+◌, ◌<◌, ◌≤◌, Bool, true, false, cond, ltb, List, [], ◌∷◌, ◌++◌, length, get_or, take, drop, Result, Ok, Err, refl, sym, ap, subst, ◌∙◌, append_assoc, arith, inl, inr, ◌⊎◌}
 use Rattle.std.specs.List.{flat_map, AllByRecursion}
 use Rattle.std.proofs.lemmas.Bool.{cases_lt, ltb-false, le-ltb}
@@ -32,7 +32,7 @@ pub bind_ok : {A B : Type 0} (r : Result A WireFault) (f : A → Result B WireFa
 bind_ok (Ok x) f y e = (x, refl, e)
 bind_ok (Err d) f y e = absurd cc
 
--- where a step failed
+-- the step that failed
 pub bind_err : {A B : Type 0} (r : Result A WireFault) (f : A → Result B WireFault) (d : WireFault) → (r >>= f) ≡ Err d → (r ≡ Err d) ⊎ ((x : A) × ((r ≡ Ok x) × (f x ≡ Err d)))
 bind_err (Ok x) f d e = inr (x, (refl, e))
 bind_err (Err c) f d e = inl (cc)
@@ -99,7 +99,7 @@ pub shown_again : {A B : Type 0} (read : List ℕ → Result (A × List ℕ) Wir
     → (a : A) (rest : List ℕ) → F a → shown f read (spelled a ++ rest) ≡ Ok (f a, rest)
 shown_again read spelled F f field a rest fits = ap (λ r. r >>= λ x. Ok (f x.0, x.1)) (field.again a rest fits)
 
--- the same behind a byte that tells what comes
+-- the same after a byte that says what comes
 pub headed_takes : {A B : Type 0} (read : List ℕ → Result (A × List ℕ) WireFault) (spelled : A → List ℕ) (F : A → Type 0) (f : A → B) (head : ℕ) (spelled_as : B → List ℕ) (G : B → Type 0) → IsField read spelled F
     → ((a : A) → F a → spelled_as (f a) ≡ head ∷ spelled a) → ((a : A) → F a → G (f a))
     → (bytes : List ℕ) (y : B × List ℕ) → IsBytes bytes → shown f read bytes ≡ Ok y → Takes spelled_as G (head ∷ bytes) y
@@ -114,7 +114,7 @@ pub shown_fails : {A B : Type 0} (read : List ℕ → Result (A × List ℕ) Wir
 shown_fails {A} {B} read spelled F f field bytes fault e =
     elim (bind_err (read bytes) (λ x. Ok (f x.0, x.1)) fault e) [ inl one ↦ field.fails bytes fault one | inr two ↦ absurd (let never : Ok (f two.0.0, two.0.1) ≡ Err fault = two.1.1 in cc) ]
 
--- a field behind a map that goes both ways
+-- a field under a map that goes both ways
 pub shown_field : {A B : Type 0} (read : List ℕ → Result (A × List ℕ) WireFault) (spelled : A → List ℕ) (F : A → Type 0) (f : A → B) (g : B → A) (spelled_as : B → List ℕ) (G : B → Type 0) → IsField read spelled F
     → ((a : A) → F a → spelled_as (f a) ≡ spelled a) → ((a : A) → F a → G (f a))
     → ((b : B) → G b → F (g b)) → ((b : B) → G b → f (g b) ≡ b) → IsField (shown f read) spelled_as G
@@ -157,7 +157,7 @@ both_field first s F second t G one two = record {
       ];
 }
 
--- so many of one kind
+-- n fields of one kind
 items_takes : {A : Type 0} (read : List ℕ → Result (A × List ℕ) WireFault) (s : A → List ℕ) (F : A → Type 0) → IsField read s F → (n : ℕ) (bytes : List ℕ) (x : List A × List ℕ) → IsBytes bytes → items_at read n bytes ≡ Ok x
     → Takes (flat_map s) (λ xs. (length xs ≡ n) × AllByRecursion F xs) bytes x
 items_takes {A = A} read s F field zero bytes x h e =
@@ -253,7 +253,7 @@ byte_field = record { takes = takes; again = λ byte rest lt. refl; fails = fail
     takes [] x h e = absurd cc
     takes (b ∷ bytes) x h e = subst (Takes (λ byte. byte ∷ []) (λ byte. byte < 256) (b ∷ bytes)) (ok_is (b, bytes) x e) (record { parts = refl; fits = h 0; rest = IsBytes-rest b bytes h })
 
--- a row behind its count
+-- a row after its count
 pub row_field : {A : Type 0} (test : ℕ → Bool) (width : ℕ) (read : List ℕ → Result (A × List ℕ) WireFault) (s : A → List ℕ) (F : A → Type 0) → IsWidth width → IsField read s F
     → IsField (row_at test width read) (row_bytes width s) (λ xs. FitsBytes width (length xs) × (test (length xs) ≡ true) × AllByRecursion F xs)
 row_field test width read s F wide field = let counts = tested_field (number_at width) (number_bytes width) (FitsBytes width) test (number_field width wide) in record {

@@ -15,7 +15,7 @@ use Rattle.net_frames.proofs.FieldLaws.{IsBytes, ok_not_err}
 use Rattle.net_frames.proofs.FrontLaws.{front_at, partial_front, breaks_front, wire_front}
 use Rattle.net_frames.specs.Stream.{told_length, IsBodyLength, HasBody, first_body, BreaksIn, Reads, IsPartial, Breaks, Held, Rest, Stopped, Stream, IsNext, IsSplit, Feeds, Refuses}
 
--- what is read of the rest is read of all, behind the frames so far
+-- what is read of the rest is read of all, after the frames so far
 abbrev pub GoesOn : List ℕ → List Message → ℕ → Type 0
 GoesOn bytes messages taken = (more : List Message) (end : Held) → Stream (drop taken bytes) more end → Stream bytes (messages ++ more) end
 
@@ -31,7 +31,7 @@ one_frame_more bytes all messages taken len message is wire' so_far more end str
     (take len (drop taken bytes), drop len (drop taken bytes), (wire, sym (take-append-drop len (drop taken bytes)), subst (λ x. Stream x more end) rest stream)) in
     subst (λ ms. Stream bytes ms end) (sym (append_assoc messages (message ∷ []) more)) (so_far (message ∷ more) end next)
 
--- where no frame follows
+-- the split at which no frame follows
 pub is_split : (bytes rest : List ℕ) (messages : List Message) (taken : ℕ) (fault : Option WireFault) → rest ≡ drop taken bytes → IsNext rest (nexts.End fault) → taken ≤ length bytes → GoesOn bytes messages taken → IsSplit bytes messages taken fault
 unfolding Stream
 is_split bytes rest messages taken None is next within so_far =
@@ -106,7 +106,7 @@ one_reading bytes (m ∷ ms) (n ∷ ns) end other h s t =
     let later = one_reading s.1 ms ns end other rest s.2.2 (subst (λ x. Stream x ns other) (sym two.2) t.2.2) in
     (ap (λ (k : Message). k ∷ ms) two.0 ∙ ap (λ (ks : List Message). n ∷ ks) later.0, later.1)
 
--- what follows a rest is read behind it
+-- what follows a rest is read after it
 pub goes_on : (bytes rest more : List ℕ) (ms ns : List Message) (end : Held) → Stream bytes ms (Rest rest) → Stream (rest ++ more) ns end → Stream (bytes ++ more) (ms ++ ns) end
 unfolding Stream
 goes_on bytes rest more [] ns end s t = subst (λ x. Stream (x ++ more) ns end) s.1 t

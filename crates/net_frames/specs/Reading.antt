@@ -45,7 +45,7 @@ tested test read bytes = read bytes >>= λ x. if test x.0 then Ok x else Err fau
 abbrev pub both : {A B : Type 0} → (List ℕ → Result (A × List ℕ) WireFault) → (List ℕ → Result (B × List ℕ) WireFault) → List ℕ → Result ((A × B) × List ℕ) WireFault
 both first second bytes = first bytes >>= λ x. second x.1 >>= λ y. Ok ((x.0, y.0), y.1)
 
--- so many of one kind
+-- n fields of one kind
 abbrev pub items_at : {A : Type 0} → (List ℕ → Result (A × List ℕ) WireFault) → ℕ → List ℕ → Result (List A × List ℕ) WireFault
 items_at read zero bytes = Ok ([], bytes)
 items_at read (suc n) bytes = read bytes >>= λ first. items_at read n first.1 >>= λ others. Ok (first.0 ∷ others.0, others.1)
@@ -54,14 +54,14 @@ abbrev pub byte_at : List ℕ → Result (ℕ × List ℕ) WireFault
 byte_at [] = Err faults.Body
 byte_at (byte ∷ bytes) = Ok (byte, bytes)
 
--- so many bytes as they are
+-- n bytes as they are
 unfoldable pub raw_at : ℕ → List ℕ → Result (List ℕ × List ℕ) WireFault
 raw_at count bytes = if nat_lt (length bytes) count then Err faults.Body else Ok (take count bytes, drop count bytes)
 
 unfoldable pub number_at : ℕ → List ℕ → Result (ℕ × List ℕ) WireFault
 number_at width bytes = if nat_lt (length bytes) width then Err faults.Body else Ok (big_number width bytes, drop width bytes)
 
--- so many as the count in front says, where the count passes a test
+-- a count that passes a test, and that many fields of one kind
 abbrev pub row_at : {A : Type 0} → (ℕ → Bool) → ℕ → (List ℕ → Result (A × List ℕ) WireFault) → List ℕ → Result (List A × List ℕ) WireFault
 row_at test width read bytes = tested test (number_at width) bytes >>= λ count. items_at read count.0 count.1
 
@@ -111,7 +111,7 @@ objects_at bytes = row_at (is_within 1 1024) 2 id_at bytes
 unfoldable pub flag_at : List ℕ → Result (Bool × List ℕ) WireFault
 flag_at bytes = shown (λ flag. flag == 1) (tested (is_within 0 1) byte_at) bytes
 
--- a name that its length in front tells
+-- a name after its length
 unfoldable pub name_at : List ℕ → Result (List ℕ × List ℕ) WireFault
 name_at bytes = tested is_name (λ bytes. byte_at bytes >>= λ count. raw_at count.0 count.1) bytes
 

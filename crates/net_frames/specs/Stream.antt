@@ -18,7 +18,7 @@ use Rattle.net_message.specs.Wire.{body, IsInRange, IsWire}
 unfoldable pub told_length : List ℕ → ℕ
 told_length bytes = big_number 4 bytes
 
--- a body may be so long
+-- a body may have this length
 abbrev pub IsBodyLength : ℕ → Type 0
 IsBodyLength n = (1 ≤ n) × (n ≤ 65536)
 
@@ -38,28 +38,27 @@ first_body bytes = take (told_length bytes) (drop 4 bytes)
 abbrev pub IsKind : ℕ → Type 0
 IsKind kind = (1 ≤ kind) × (kind ≤ 11)
 
--- a whole body breaks that rule, and none that is looked at before
+-- a whole body breaks that rule, and no earlier one
 unfoldable pub BreaksIn : WireFault → List ℕ → Type 0
 BreaksIn faults.Length bytes = ⊥
 BreaksIn faults.Kind bytes = ¬ (IsKind (slice_index bytes 0))
 BreaksIn faults.Body bytes = IsKind (slice_index bytes 0) × ((message : Message) (more : List ℕ) → IsInRange message → bytes ≡ body message ++ more → ⊥)
 BreaksIn faults.Trailing bytes = (message : Message) × (more : List ℕ) × (IsInRange message × (bytes ≡ body message ++ more) × (more ≢ []))
 
--- The first frame breaks that rule, and none that is looked at before: a length is known with its
--- fourth byte, all else when the body is there.
+-- The first frame breaks that rule, and no earlier one. A length is known with its fourth byte, all else when the body is there.
 unfoldable pub Breaks : WireFault → List ℕ → Type 0
 Breaks faults.Length bytes = (4 ≤ length bytes) × ¬ (IsBodyLength (told_length bytes))
 Breaks faults.Kind bytes = HasBody bytes × BreaksIn faults.Kind (first_body bytes)
 Breaks faults.Body bytes = HasBody bytes × BreaksIn faults.Body (first_body bytes)
 Breaks faults.Trailing bytes = HasBody bytes × BreaksIn faults.Trailing (first_body bytes)
 
--- what reading a whole body answers: want of memory may stand for any answer
+-- what reading a whole body answers; it may be out of memory instead of any answer
 abbrev pub ReadsBody : List ℕ → Result Message WireError → Type 0
 ReadsBody bytes (Ok message) = (bytes ≡ body message) × IsInRange message
 ReadsBody bytes (Err (errors.Fault fault)) = BreaksIn fault bytes
 ReadsBody bytes (Err errors.Memory) = Unit {0}
 
--- where the first frame ends, as far as its first bytes tell
+-- the end of the first frame, as far as its first bytes tell it
 abbrev pub known_end : List ℕ → ℕ
 known_end bytes = if nat_lt (length bytes) 4 then 4 else (4 + told_length bytes)
 
@@ -72,12 +71,12 @@ ReadsFront bytes (Err errors.Memory) = Unit {0}
 
 -- ---- the stream relation
 
--- what a reader holds of a stream: the bytes behind the last frame, or the fault that ended the stream
+-- what a reader holds of a stream: the bytes after the last frame, or the fault that ended the stream
 pub data Held : Type 0 where
   Rest : List ℕ → Held
   Stopped : WireFault → Held
 
--- the bytes, where no fault ended the stream
+-- the bytes, if no fault ended the stream
 abbrev pub held : List ℕ → Option WireFault → Held
 held bytes None = Rest bytes
 held bytes (Some fault) = Stopped fault
@@ -96,7 +95,7 @@ IsNext bytes (nexts.Frame message len) = (len ≤ length bytes) × IsWire (take 
 IsNext bytes (nexts.End None) = IsPartial bytes
 IsNext bytes (nexts.End (Some fault)) = Breaks fault bytes
 
--- some bytes are the frames that say these messages, which take so many of them, and what is held then
+-- some bytes are the frames that say these messages, which take the first `taken` bytes, and what is held then
 abbrev pub IsSplit : List ℕ → List Message → ℕ → Option WireFault → Type 0
 IsSplit bytes messages taken fault = (taken ≤ length bytes) × Stream bytes messages (held (drop taken bytes) fault)
 
@@ -108,19 +107,18 @@ StopsAtOnce [] (Stopped fault) = Unit {0}
 StopsAtOnce [] (Rest rest) = ⊥
 StopsAtOnce (message ∷ messages) held = ⊥
 
--- there are no messages, and the error is the fault behind them
+-- there are no messages, and the error is the fault after them
 abbrev pub Tells : List Message → Option WireFault → WireError → Type 0
 Tells [] (Some fault) error = error ≡ errors.Fault fault
 Tells [] None error = ⊥
 Tells (message ∷ messages) fault error = ⊥
 
--- A piece after what is held gives these messages. A fault behind them is held for the next call.
+-- A piece after what is held gives these messages. A fault after them is held for the next call.
 abbrev pub Feeds : Held → List ℕ → List Message → Held → Type 0
 Feeds (Rest rest) piece messages new = Stream (rest ++ piece) messages new × (¬ (StopsAtOnce messages new))
 Feeds (Stopped fault) piece messages new = ⊥
 
--- A piece after what is held gives this error. A fault stays for good; where memory runs out the
--- piece counts as not fed.
+-- A piece after what is held gives this error. A fault stays for good. If memory runs out, the piece counts as not fed.
 abbrev pub Refuses : Held → List ℕ → WireError → Held → Type 0
 Refuses (Rest rest) piece (errors.Fault fault) new = Stream (rest ++ piece) [] (Stopped fault) × (new ≡ Stopped fault)
 Refuses (Rest rest) piece errors.Memory new = new ≡ Rest rest
@@ -132,7 +130,7 @@ Refuses (Stopped fault) piece error new = (error ≡ errors.Fault fault) × (new
 abbrev pub AreBytes : List ℕ → Type 0
 AreBytes bytes = (i : ℕ) → slice_index bytes i < 256
 
--- Pieces, one after the other, give these messages and leave that. A piece behind a fault gives none.
+-- Pieces, one after the other, give these messages and leave that. A piece after a fault gives none.
 unfoldable pub Reads : Held → List (List ℕ) → List Message → Held → Type 0
 Reads start [] messages end = (messages ≡ []) × (end ≡ start)
 Reads (Stopped fault) (piece ∷ pieces) messages end = Reads (Stopped fault) pieces messages end

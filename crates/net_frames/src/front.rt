@@ -9,12 +9,12 @@ use byteorder::{BigEndian, ByteOrder};
 use net_message::{Frame, MAX_BODY, WireError, WireFault};
 use std::alloc::Global;
 
-/// How far bytes that begin with no fault have come.
+/// What bytes that begin with no fault hold of their first frame.
 #[derive(Debug, Drop)]
 pub enum Front {
     /// A frame, and how many bytes it takes. Bytes may follow it.
     Whole { frame: Frame, length: usize },
-    /// A frame may have begun. It has at least so many more bytes, and it is not known to have more.
+    /// A frame may have begun. It has at least `count` more bytes, and is not known to have more.
     Missing { count: usize },
 }
 
@@ -35,7 +35,7 @@ fn told_length(bytes: &[u8]) -> usize
     BigEndian::read_u32(bytes) as usize
 }
 
-// The first body, which is so long.
+// The first body, of `body_length` bytes.
 fn first_body(bytes: &[u8], body_length: usize) -> &[u8]
     requires { 4 + body_length ≤ length bytes.now }
     ensures { result.now ≡ take body_length (drop 4 bytes.now) }
@@ -45,8 +45,9 @@ fn first_body(bytes: &[u8], body_length: usize) -> &[u8]
     body
 }
 
-/// Reads the frame at the front of the bytes. A length's fault is known with its fourth byte, any
-/// other when the body is there: the kind, then the fields in order, then bytes left.
+/// Returns the frame at the front of the bytes, or what is missing of it. A fault of the length is
+/// known with its fourth byte, any other when the body is there: the kind, then the fields in
+/// order, then bytes left.
 pub fn read_front(alloc: Global, bytes: &[u8]) -> Result<Front, WireError>
     ensures { ReadsFront bytes.now result }
 {

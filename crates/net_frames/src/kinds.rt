@@ -5,7 +5,7 @@ ghost use Rattle.net_frames.specs.Reading.{Gives, kind_at};
 
 use net_message::{WireError, WireFault};
 
-/// What a frame's first byte tells.
+/// The kind of a frame, by the first byte of its body.
 #[derive(Clone, Copy, Debug)]
 pub(crate) enum FrameKind {
     Hello = 1,

@@ -20,7 +20,7 @@ pub fn no_frame_has_two_spellings()
     ensures { (first second : List ℕ) (m : Message) → IsWire first m → IsWire second m → first ≡ second }
 {}
 
-/// A frame's bytes alone are the stream of that frame, with nothing behind it.
+/// A frame's bytes alone are the stream of that frame, with nothing after it.
 pub fn a_frame_is_a_stream()
     ensures { (bytes : List ℕ) (m : Message) → IsWire bytes m → Stream bytes (m ∷ []) (Rest []) }
 {}
@@ -33,7 +33,7 @@ pub fn the_rest_is_read_as_if_alone()
         → Stream (first ++ rest) (m ∷ ms) end → Stream rest ms end }
 {}
 
-/// Bytes have one reading as a stream: the frames, and what is held behind them.
+/// Bytes have one reading as a stream: the frames, and what is held after them.
 pub fn a_stream_has_one_reading()
     ensures { (bytes : List ℕ) (ms ns : List Message) (end other : Held) → AreBytes bytes
         → Stream bytes ms end → Stream bytes ns other → (ms ≡ ns) × (end ≡ other) }
@@ -49,8 +49,8 @@ pub fn no_cut_changes_the_frames()
         → Reads (Rest []) pieces ms end → Reads (Rest []) others ns other → (ms ≡ ns) × (end ≡ other) }
 {}
 
-/// What is encoded is read back: a new reader that is fed a frame's bytes answers that frame alone
-/// and holds nothing, or wants memory.
+/// What is encoded is read back: of a frame's bytes a new reader answers that frame alone and holds
+/// nothing, or is out of memory.
 pub fn what_is_encoded_is_read_back()
     ensures frames { (bytes : List ℕ) (m : Message) (ms : List Message) (end : Held) → AreBytes bytes → IsWire bytes m
         → Feeds (Rest []) bytes ms end → (ms ≡ m ∷ []) × (end ≡ Rest []) }
@@ -58,8 +58,8 @@ pub fn what_is_encoded_is_read_back()
         → Refuses (Rest []) bytes error end → error ≡ errors.Memory }
 {}
 
-/// What is read is encoded back: bytes of which a new reader answers one frame, and holds nothing,
-/// are that frame's.
+/// What is read is encoded back: if a new reader answers one frame of some bytes, and holds
+/// nothing, the bytes are that frame's.
 pub fn what_is_read_is_encoded_back()
     ensures { (bytes : List ℕ) (m : Message) → Feeds (Rest []) bytes (m ∷ []) (Rest []) → IsWire bytes m }
 {}

@@ -1,6 +1,6 @@
 //! Frames of the protocol between spaces, version 1 (a format of this project): reading them from a
-//! stream that comes in pieces. What a frame says and how it is spelled is of `net_message`, whose
-//! names stand here too.
+//! stream that comes in pieces. `net_message` has what a frame says and how it is spelled; its
+//! names are exported here too.
 #![tactic(auto)]
 
 pub use front::{Front, read_front};

@@ -44,7 +44,7 @@ fn next_of(alloc: Global, bytes: &[u8]) -> Result<Next, AllocError>
     }
 }
 
-// The frames of some bytes, how many bytes they take, and the fault behind them, if one is there.
+// The frames of some bytes, how many bytes they take, and the fault after them, if one is there.
 #[derive(Drop)]
 struct Split {
     frames: Vec<Frame>,
@@ -55,7 +55,7 @@ struct Split {
 impl Split {
     ghost use Rattle.net_frames.specs.Stream.{StopsAtOnce, Tells, held};
 
-    // The frames, or if there are none the fault behind them.
+    // The frames, or if there are none the fault after them.
     fn answer(self) -> Result<Vec<Frame>, WireError>
         ensures frames { IfOk result (λ frames. frames ≡ self.frames) }
         ensures goes_on { IfOk result (λ frames. (bytes : List ℕ) → ¬ (StopsAtOnce frames.items (held bytes self.fault))) }
@@ -96,7 +96,7 @@ impl FrameReader {
     ghost use Rattle.std.specs.Prelude.{[]};
     ghost use Rattle.net_frames.specs.Stream.{Rest, Feeds, Refuses};
 
-    /// A reader at the beginning of a stream. It takes no memory.
+    /// Returns a reader at the beginning of a stream. It takes no memory.
     pub fn new(alloc: Global) -> FrameReader
         ensures { result ≡ Rest [] }
     {
@@ -107,9 +107,9 @@ impl FrameReader {
         }
     }
 
-    /// Reads on with the next piece of the stream, and answers the frames that are whole now. A
-    /// fault behind them is answered by the next call; where there are none, and from then on, at
-    /// once. At want of memory the piece counts as not fed.
+    /// Returns the frames that the next piece of the stream completes. If a fault stands after
+    /// them, the next call answers it; if there are none, this call does, and so does each later
+    /// one. If memory runs out, the piece counts as not fed.
     pub fn feed(&mut self, piece: &[u8]) -> Result<Vec<Frame>, WireError>
         ensures frames { IfOk result (λ frames. Feeds self.old piece.now frames.items self.new) }
         ensures error { IfErr result (λ error. Refuses self.old piece.now error self.new) }

@@ -5,7 +5,7 @@ use Rattle.net_message.specs.declared.fault.WireFault.TheVariants as faults
 use Rattle.net_message.specs.declared.message.Message.{Message}
 use Rattle.net_message.specs.Wire.{IsInRange}
 
--- the frame says the message exactly where each field is in its range
+-- the frame says the message exactly if each field is in its range
 abbrev pub MakesFrame : Message → Result Message WireFault → Type 0
 MakesFrame message (Ok made) = (made ≡ message) × IsInRange message
 MakesFrame message (Err fault) = (fault ≡ faults.Body) × ¬ (IsInRange message)

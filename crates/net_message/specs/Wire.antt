@@ -13,7 +13,7 @@ use Rattle.net_message.specs.declared.message.Message.TheVariants.{Hello, Call, 
 
 -- ---- spelling
 
--- a number in so many bytes, the highest first
+-- a number in `width` bytes, the highest first
 unfoldable pub number_bytes : ℕ → ℕ → List ℕ
 number_bytes width n = big_bytes width n
 
@@ -30,7 +30,7 @@ class_bytes class = number_bytes 2 class.0
 unfoldable pub reference_bytes : Ref → List ℕ
 reference_bytes r = r.space ++ (id_bytes r.id ++ class_bytes r.class)
 
--- things of one kind behind their count, which has so many bytes
+-- things of one kind after their count, which has `width` bytes
 abbrev pub row_bytes : {A : Type 0} → ℕ → (A → List ℕ) → List A → List ℕ
 row_bytes width item_bytes items = number_bytes width (length items) ++ flat_map item_bytes items
 
@@ -53,7 +53,7 @@ unfoldable pub flag_bytes : Bool → List ℕ
 flag_bytes false = 0 ∷ []
 flag_bytes true = 1 ∷ []
 
--- a name behind its length
+-- a name after its length
 unfoldable pub name_bytes : List ℕ → List ℕ
 name_bytes name = length name ∷ name
 
@@ -78,7 +78,7 @@ frame message = number_bytes 4 (length (body message)) ++ body message
 
 -- ---- ranges
 
--- a number that so many bytes can spell
+-- a number that `width` bytes can spell
 abbrev pub FitsBytes : ℕ → ℕ → Type 0
 FitsBytes width n = n < 256 ^ width
 

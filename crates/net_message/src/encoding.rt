@@ -16,7 +16,8 @@ use std::alloc::Global;
 pub const MAX_BODY: usize = 65_536;
 
 impl Frame {
-    /// Appends the frame's bytes where room for them is reserved. It takes no memory.
+    /// Appends the frame's bytes. The caller owes that room for them is reserved. It takes no
+    /// memory.
     pub fn append_to(&self, out: &mut BytesMut)
         requires short { length (body self.now) ≤ MAX_BODY }
         requires room { 4 + length (body self.now) ≤ out.old.spare }
@@ -29,7 +30,7 @@ impl Frame {
     }
 }
 
-/// The bytes of the frame; fault 70 exactly where its body is over the limit.
+/// Returns the bytes of the frame. Fault 70 exactly if its body is over the limit.
 pub fn encode(alloc: Global, frame: &Frame) -> Result<Vec<u8>, WireError>
     ensures ok { IfOk result (λ bytes. IsWire bytes.items frame.now) }
     ensures long { (result ≡ Err (errors.Fault faults.Length)) ↔ (MAX_BODY < length (body frame.now)) }

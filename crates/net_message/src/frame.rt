@@ -32,8 +32,8 @@ impl Frame {
     ghost use Rattle.net_message.specs.Frame.{MakesFrame};
     ghost use Rattle.net_message.specs.declared.message.Message.TheVariants.{Hello, Call, Returned, Threw, Spent, Ack, Dirty, Lease, Clean, Cleaned, Lookup};
 
-    /// The frame that says a message whose fields are known to be in their ranges, as what was read
-    /// from bytes is. The constructors of the kinds test them.
+    /// Returns the frame that says a message. The caller owes that its fields are in their ranges,
+    /// as they are after reading. The constructors of the kinds test them.
     pub fn new(message: Message) -> Frame
         requires { IsInRange message }
         ensures { result ≡ message }
@@ -41,7 +41,8 @@ impl Frame {
         Frame { message }
     }
 
-    /// Who speaks: the protocol's version (1, else fault 72), the space and its classes' digest.
+    /// Returns the Hello that says who speaks: the protocol's version, the space and its classes'
+    /// digest. Fault 72 for a version that is not 1.
     #[tactic(auto, unfolding(crate::specs::Wire::IsInRange))]
     pub fn hello(version: u8, space: Uuid, digest: Digest) -> Result<Frame, WireFault>
         ensures { MakesFrame (Hello version space digest) result }
@@ -57,7 +58,7 @@ impl Frame {
         Ok(Frame { message })
     }
 
-    /// A call; fault 72 for more than 255 values, or an array of more than 8,000 ints.
+    /// Returns a Call. Fault 72 for more than 255 values, or an array of more than 8,000 ints.
     #[tactic(auto, unfolding(crate::specs::Wire::IsInRange))]
     pub fn call(
         number: u64,
@@ -81,7 +82,7 @@ impl Frame {
         Ok(Frame { message })
     }
 
-    /// A result; fault 72 for an array of more than 8,000 ints.
+    /// Returns a Returned, the result of a call. Fault 72 for an array of more than 8,000 ints.
     #[tactic(auto, unfolding(crate::specs::Wire::IsInRange))]
     pub fn returned(number: u64, fuel: u64, value: Option<Value>) -> Result<Frame, WireFault>
         ensures { MakesFrame (Returned number fuel value) result }
@@ -97,7 +98,7 @@ impl Frame {
         Ok(Frame { message })
     }
 
-    /// The class of what was thrown.
+    /// Returns a Threw: the call threw an object of this class.
     #[tactic(auto, unfolding(crate::specs::Wire::IsInRange))]
     pub fn threw(number: u64, class: ClassId) -> Frame
         ensures { result ≡ Threw number class }
@@ -108,7 +109,7 @@ impl Frame {
         }
     }
 
-    /// A call that ran out of fuel.
+    /// Returns a Spent: the call ran out of fuel.
     #[tactic(auto, unfolding(crate::specs::Wire::IsInRange))]
     pub fn spent(number: u64) -> Frame
         ensures { result ≡ Spent number }
@@ -118,7 +119,7 @@ impl Frame {
         }
     }
 
-    /// A result has arrived.
+    /// Returns an Ack: the result has arrived.
     #[tactic(auto, unfolding(crate::specs::Wire::IsInRange))]
     pub fn ack(number: u64) -> Frame
         ensures { result ≡ Ack number }
@@ -128,7 +129,7 @@ impl Frame {
         }
     }
 
-    /// A dirty call, with its period in milliseconds; fault 72 for no object or more than 1,024.
+    /// Returns a Dirty, with its period in milliseconds. Fault 72 for no object or more than 1,024.
     #[tactic(auto, unfolding(crate::specs::Wire::IsInRange))]
     pub fn dirty(sequence: u64, period: u64, objects: Row<ObjId>) -> Result<Frame, WireFault>
         ensures { MakesFrame (Dirty sequence period objects) result }
@@ -144,7 +145,7 @@ impl Frame {
         Ok(Frame { message })
     }
 
-    /// A granted lease, with its period in milliseconds.
+    /// Returns a Lease: the granted period, in milliseconds.
     #[tactic(auto, unfolding(crate::specs::Wire::IsInRange))]
     pub fn lease(sequence: u64, period: u64) -> Frame
         ensures { result ≡ Lease sequence period }
@@ -154,7 +155,7 @@ impl Frame {
         }
     }
 
-    /// A clean call; fault 72 for no object or more than 1,024.
+    /// Returns a Clean. Fault 72 for no object or more than 1,024.
     #[tactic(auto, unfolding(crate::specs::Wire::IsInRange))]
     pub fn clean(sequence: u64, strong: bool, objects: Row<ObjId>) -> Result<Frame, WireFault>
         ensures { MakesFrame (Clean sequence strong objects) result }
@@ -170,7 +171,7 @@ impl Frame {
         Ok(Frame { message })
     }
 
-    /// A clean call was taken.
+    /// Returns a Cleaned: the clean call was taken.
     #[tactic(auto, unfolding(crate::specs::Wire::IsInRange))]
     pub fn cleaned(sequence: u64) -> Frame
         ensures { result ≡ Cleaned sequence }
@@ -180,8 +181,8 @@ impl Frame {
         }
     }
 
-    /// A look-up of a name; fault 72 for a name that is empty, of more than 255 bytes, or not of
-    /// ASCII letters, digits, `_` and `.` alone.
+    /// Returns a Lookup of a name. Fault 72 for a name that is empty, of more than 255 bytes, or
+    /// not of ASCII letters, digits, `_` and `.` alone.
     #[tactic(auto, unfolding(crate::specs::Wire::IsInRange))]
     pub fn lookup(number: u64, name: Row<u8>) -> Result<Frame, WireFault>
         ensures { MakesFrame (Lookup number name) result }
@@ -193,14 +194,14 @@ impl Frame {
         Ok(Frame { message })
     }
 
-    /// How many bytes its body has. A frame goes over the wire with at most 65,536.
+    /// Returns how many bytes the frame's body has. At most 65,536 go over the wire.
     pub fn body_len(&self) -> usize
         ensures { result ≡ length (body self.now) }
     {
         body_len(&self.message)
     }
 
-    /// What the frame says.
+    /// Returns what the frame says.
     pub fn message(&self) -> &Message
         ensures says { result.now ≡ self.now }
         ensures in_range { IsInRange self.now }
@@ -208,7 +209,7 @@ impl Frame {
         &self.message
     }
 
-    /// Gives up the frame for what it says.
+    /// Returns what the frame says, and gives up the frame.
     pub fn into_message(self) -> Message
         ensures says { result ≡ self }
         ensures in_range { IsInRange self }

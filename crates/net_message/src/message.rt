@@ -26,7 +26,7 @@ pub enum Message {
         fuel: u64,
         arguments: Row<Value>,
     },
-    /// The result of a `Call` or a `Lookup`, and the fuel that is left.
+    /// The result of a `Call` or a `Lookup`, and the fuel left.
     Returned {
         number: u64,
         fuel: u64,
@@ -45,14 +45,14 @@ pub enum Message {
     Ack {
         number: u64,
     },
-    /// The sender holds references to these 1 to 1,024 objects, and asks for a lease of so many
+    /// The sender holds references to these 1 to 1,024 objects, and asks for a lease of `period`
     /// milliseconds (Java RMI specification, `DGC.dirty`).
     Dirty {
         sequence: u64,
         period: u64,
         objects: Row<ObjId>,
     },
-    /// A lease was granted for so many milliseconds.
+    /// A lease was granted for `period` milliseconds.
     Lease {
         sequence: u64,
         period: u64,

@@ -31,7 +31,7 @@ fn passes_as_name(name: &[u8]) -> bool
     are_name_bytes(name)
 }
 
-/// Whether a registry may have the name: 1 to 255 ASCII letters, digits, `_` and `.`.
+/// Returns whether a registry may have the name: 1 to 255 ASCII letters, digits, `_` and `.`.
 pub fn is_name(name: &[u8]) -> bool
     ensures read { result ≡ wire.is_name name.now }
     ensures range { IsTrue result ↔ IsName name.now }
@@ -39,7 +39,7 @@ pub fn is_name(name: &[u8]) -> bool
     passes_as_name(name)
 }
 
-// A contract knows the range of a number where it is read, so each is.
+// A contract knows the range of a number once it is read, so each is read.
 fn are_ints(ints: &[i32]) -> bool
     ensures { IsTrue result ↔ AreInts ints.now }
 {

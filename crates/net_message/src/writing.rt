@@ -318,7 +318,7 @@ pub(crate) fn put_body(out: &mut BytesMut, message: &Message)
     }
 }
 
-/// Appends the frame that says the message, whose body is so long.
+/// Appends the frame that says the message. Its body has `len` bytes.
 pub(crate) fn put_frame(out: &mut BytesMut, len: u32, message: &Message)
     requires fits { IsInRange message.now }
     requires len { len ≡ length (body message.now) }

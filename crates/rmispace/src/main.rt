@@ -1,5 +1,5 @@
-//! The program `rmispace`: hands the words of the process, its file system and its standard streams
-//! to the library, and ends with the status that the library answers.
+//! The program `rmispace`: hands its arguments, the file system and its standard streams to the
+//! library, and ends with the status that the library returns.
 #![tactic(auto)]
 
 use sp_main::{Disk, Status, command};
@@ -26,7 +26,7 @@ fn main(rt: HostRuntime) -> ExitCode {
     ExitCode::from(status)
 }
 
-// The words of the command line, the program's own name first.
+// The arguments of the command line, the program's own name first.
 fn words_of<R: Env + AllocGlobal>(rt: &R) -> io::Result<Vec<String>> {
     let mut words = Vec::new(rt.alloc());
     for word in env::args(rt)? {

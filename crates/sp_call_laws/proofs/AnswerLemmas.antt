@@ -94,7 +94,7 @@ notes-after g s e none = by (Space.answers_outputs e) (quiet-notes g s e)
     by true h = sent-notes _ _
     by false h = h refl none
 
-no-notes : (g : Setting) (h : List Event) → (Space.state_of g h).notes ≡ []
+pub no-notes : (g : Setting) (h : List Event) → (Space.state_of g h).notes ≡ []
 unfolding Space.state_of opening
 no-notes g [] = refl
 no-notes g (e ∷ h) = notes-after g (Space.state_of g h) e (no-notes g h)
@@ -170,8 +170,8 @@ answers_flow g e h before = record {
   refuses = D.refuses;
   finds = D.finds;
   quiet = λ l s t eq k. (D.quiet l s t eq k.0, subst (λ (c : EventParts). AllOf (Told g before e) c.notes) (sym eq) k.1);
-  says = λ l s output is k. (D.says l s output is k.0, all-more (Told g before e) s.notes (Says output) k.1 (said g e before output is));
-  sends = λ l s turn c m may k. (D.sends l s turn c m may k.0, all-more (Told g before e) s.notes (Sends turn c m) k.1 (can-answer g e h before c m may));
+  says = λ l s output is so k. (D.says l s output is so k.0, all-more (Told g before e) s.notes (Says output) k.1 (said g e before output is));
+  sends = λ l s turn c m may held k. (D.sends l s turn c m may held k.0, all-more (Told g before e) s.notes (Sends turn c m) k.1 (can-answer g e h before c m may));
   clears = λ s k. (D.clears s k.0, tt);
   adds = λ l s q k. (D.adds l s q k.0, k.1);
   calls_out = λ l s turn c peer n id lent kind m there k. (D.calls_out l s turn c peer n id lent kind m there k.0, all-more (Told g before e) s.notes (Sends turn c m) k.1 (call-answers g e before c m k.0.owed.0));
@@ -191,7 +191,7 @@ answers_flow g e h before = record {
   looked_up = λ l s peer n id name reply may k. (D.looked_up l s peer n id name reply may k.0, all-more (Told g before e) s.notes (Says (Ended id (LivingTasks.outcome_of reply))) k.1 tt);
   works = λ l s id t f lent row ready is k. (D.works l s id t f lent row ready is k.0, k.1);
   keeps = λ l s until value k. (D.keeps l s until value k.0, k.1);
-  results_go = λ l s is k. (D.results_go l s is k.0, k.1);
+  results_go = λ l s is goes k. (D.results_go l s is goes k.0, k.1);
   falls = λ l s c n k. (D.falls l s c n k.0, k.1);
   row = λ l s c f num last dialled k. (D.row l s c f num last dialled k.0, k.1);
   counts = λ l s c n d there is low k. (D.counts l s c n d there is low k.0, k.1);
@@ -199,7 +199,7 @@ answers_flow g e h before = record {
   parks_result = λ l s p known is k. (D.parks_result l s p known is k.0, k.1);
   takes = λ l s p k. (D.takes l s p k.0, k.1);
   takes_call = λ l s p q is call k. (D.takes_call l s p q is call k.0, k.1);
-  closes = λ l s c k. (D.closes l s c k.0, k.1);
+  closes = λ l s c why k. (D.closes l s c why k.0, k.1);
 }
   where
     D : Flows (view g e h (IsAnswer g before e))

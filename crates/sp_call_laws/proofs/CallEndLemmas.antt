@@ -2,7 +2,8 @@
 use mathlib.Core.Path.{sym, ap, subst, ◌∙◌}
 use Rattle.std.proofs.Common.{arith, inl, inr}
 use Rattle.std.proofs.lemmas.Bool.{true≢false, eqb-true, leb-true}
-use Rattle.std.specs.Prelude.{◌≡◌, ◌⊎◌, refl, ℕ, ◌+◌, ◌≤◌, ◌==◌, not, nat_le, cond, Bool, true, false, List, [], ◌∷◌, ◌++◌, Option, None, Some, filter, find, if◌then◌else◌}
+use Rattle.std.specs.List.{list_any}
+use Rattle.std.specs.Prelude.{◌≡◌, ◌⊎◌, refl, ℕ, ◌+◌, ◌≤◌, ◌==◌, ◌||◌, not, nat_le, cond, Bool, true, false, List, [], ◌∷◌, ◌++◌, Option, None, Some, filter, find, if◌then◌else◌}
 use Rattle.net_message.specs.declared.message.Message.{Message}
 use Rattle.net_message.specs.declared.message.Message.TheVariants as message
 use Rattle.space_ids.specs.declared.ids.ClassId.{ClassId}
@@ -25,13 +26,13 @@ use Rattle.sp_laws.specs.Waiting.{count, call_of}
 use Rattle.sp_laws.proofs.FlowRules.{Owed, Removed, Inbound, removed, of_origin, of_until}
 use Rattle.sp_laws.proofs.WaitHistories.{no-fresh, waits-begin, waits-of}
 use Rattle.sp_laws.proofs.WaitLemmas.{asked_sum, flow_sum, one_of, waits_in, Waits, waits_flow, changed-at, changed-other, gone-other, different}
-use Rattle.sp_call_laws.specs.CallEnds.{IsFailure, IsParkedIn, MayEndWith, WaitsOn, IsGiven, WaitsOrEnds, CallsEndAsNamed}
+use Rattle.sp_call_laws.specs.CallEnds.{IsOutOn, IsFailure, IsParkedIn, MayEndWith, WaitsOn, IsGiven, WaitsOrEnds, CallsEndAsNamed}
 use Rattle.sp_call_laws.proofs.EventRules.{View, Flows, Begins, EventParts, event_parts, IsFrom, is_finish, is_ending, is_unreached, is_unwritten, on_flow}
 use Rattle.sp_call_laws.proofs.StartedLemmas.{find-more}
 
 -- ---- what is kept
 
--- What is asked is the call of this number exactly where it is the call of this task.
+-- What is asked is the call of this number exactly if it is the call of this task.
 abbrev Matched : ℕ → ℕ → Asked → Type 0
 Matched number task asked = call_of task asked ≡ one_of number asked
 
@@ -43,7 +44,7 @@ OwedMatched number task (Removed peer asked) = Matched number task asked
 OwedMatched number task (Inbound conn k) = Unit {0}
 
 -- a parked answer is one that came, or was parked
-abbrev IsKnown : Setting → State → Event → ParkedFrame → Type 0
+abbrev pub IsKnown : Setting → State → Event → ParkedFrame → Type 0
 IsKnown g before e p = (value : Option Value) (fuel : ℕ) → p.frame ≡ ReturnedFrame value fuel → MayEndWith g before e p.number (GivesBack value fuel)
 
 abbrev Stands : Setting → State → Event → ℕ → Living → Living → Type 0
@@ -102,12 +103,12 @@ tasks-are s ts a k = record { requests = k.requests; fresh = k.fresh; owed = k.o
 
 -- ---- with what an event ends calls
 
-same-number : (a b : ℕ) (asked : Asked) → ParkedFrames.has_number a asked ≡ true → ParkedFrames.has_number b asked ≡ true → a ≡ b
+pub same-number : (a b : ℕ) (asked : Asked) → ParkedFrames.has_number a asked ≡ true → ParkedFrames.has_number b asked ≡ true → a ≡ b
 same-number a b (Calls n task lent kind m) x y = sym (eqb-true n a x) ∙ eqb-true n b y
 same-number a b (LooksUp n task name) x y = sym (eqb-true n a x) ∙ eqb-true n b y
 same-number a b (Tells call group) x y = absurd (true≢false (sym x))
 
-failing-ends : (g : Setting) (e : Event) (class : ClassId) → IsFailure g e class → is_ending e ≡ true
+pub failing-ends : (g : Setting) (e : Event) (class : ClassId) → IsFailure g e class → is_ending e ≡ true
 failing-ends g (Refused peer) class a = refl
 failing-ends g (Received conn m) class a = refl
 failing-ends g (Closed conn) class a = refl
@@ -116,7 +117,7 @@ failing-ends g (Bad conn) class a = refl
 failing-ends g (WriteFailed conn unsent) class a = refl
 failing-ends g _ class a = absurd a
 
-fails-unmarshal : (g : Setting) (e : Event) → is_ending e ≡ true → IsFailure g e g.classes.unmarshal
+pub fails-unmarshal : (g : Setting) (e : Event) → is_ending e ≡ true → IsFailure g e g.classes.unmarshal
 fails-unmarshal g (Refused peer) is = inr refl
 fails-unmarshal g (Received conn m) is = inr refl
 fails-unmarshal g (Closed conn) is = refl
@@ -125,16 +126,16 @@ fails-unmarshal g (Bad conn) is = refl
 fails-unmarshal g (WriteFailed conn unsent) is = inr refl
 fails-unmarshal g _ is = absurd (true≢false (sym is))
 
-fails-connect : (g : Setting) (e : Event) → is_unreached e ≡ true → IsFailure g e g.classes.connect
+pub fails-connect : (g : Setting) (e : Event) → is_unreached e ≡ true → IsFailure g e g.classes.connect
 fails-connect g (Refused peer) is = inl refl
 fails-connect g (Received conn m) is = inl (is, refl)
 fails-connect g _ is = absurd (true≢false (sym is))
 
-fails-marshal : (g : Setting) (e : Event) → is_unwritten e ≡ true → IsFailure g e g.classes.marshal
+pub fails-marshal : (g : Setting) (e : Event) → is_unwritten e ≡ true → IsFailure g e g.classes.marshal
 fails-marshal g (WriteFailed conn unsent) is = inl refl
 fails-marshal g _ is = absurd (true≢false (sym is))
 
--- where calls end no task is at work, and none is parked
+-- if an event ends calls, no task is at work, and none is parked
 ending-answers : (e : Event) → is_ending e ≡ true → Space.answers_outputs e ≡ false → ⊥
 ending-answers (Committed task k op) is lent = true≢false (sym is)
 ending-answers (GivenBack task k) is lent = true≢false (sym is)
@@ -142,7 +143,7 @@ ending-answers _ is lent = true≢false lent
 
 -- ---- the task's row
 
--- it waits where a call of it is under way
+-- it waits if a call of it is under way
 waits-now : {g : Setting} {before : State} {e : Event} {number task : ℕ} {t : Living} {l : List Owed} {s : State} (k : Goes g before e number task t l (event_parts s)) → Waits l s → 1 ≤ flow_sum (call_of task) l s → WaitsOn t k.row.0
 waits-now {g} {before} {e} {number} {task} {t} {l} {s} k w some = by k.row.1.1
   where
@@ -153,7 +154,7 @@ waits-now {g} {before} {e} {number} {task} {t} {l} {s} k w some = by k.row.1.1
     by (inl x) = x
     by (inr x) = absurd (let a : count k.row.0.waits ≡ 0 = ap count x.1.1.0.ready in omega (arith, sum, some))
 
--- a task that is ready is another one, where calls end it is not at work
+-- a task that is ready is another one; if an event ends calls, it is not at work
 not-ready : {g : Setting} {before : State} {e : Event} {number task : ℕ} {t : Living} {l : List Owed} (s : State) (id : ℕ) (v : Living) → ready_at s id ≡ Some v → (is_ending e ≡ true → ⊥) → Goes g before e number task t l (event_parts s) → id ≡ task → ⊥
 not-ready {g} {before} {e} {number} {task} {t} s id v is never k eq = by k.row.1.1
   where
@@ -245,8 +246,8 @@ ends_flow g before e number task t = record {
   refuses = λ c n class is. tt;
   finds = λ c n name r is own. tt;
   quiet = λ l s u eq k. (W.quiet l s u (ap (λ (c : EventParts). record { calls_made = c.calls_made; tasks_made = c.tasks_made; tasks = c.tasks; requests = c.requests; fresh = c.fresh; results = c.results; connections = c.connections; parked = c.parked }) eq) k.0, subst (Goes g before e number task t l) (sym eq) k.1);
-  says = λ l s output is k. (W.quiet l s _ refl k.0, same _ refl refl refl refl k.1);
-  sends = λ l s turn c m may k. (W.quiet l s _ refl k.0, same _ refl refl refl refl k.1);
+  says = λ l s output is so k. (W.quiet l s _ refl k.0, same _ refl refl refl refl k.1);
+  sends = λ l s turn c m may held k. (W.quiet l s _ refl k.0, same _ refl refl refl refl k.1);
   clears = λ s k. (W.quiet [] s _ refl k.0, same _ refl refl refl refl k.1);
   adds = λ l s q k. (W.adds l s q k.0, goes k.1.owed.1 (requests-are s _ (all-more (Matches number task) s.requests q k.1.requests k.1.owed.0) k.1));
   calls_out = λ l s turn c peer n id lent kind m there k.
@@ -281,7 +282,7 @@ ends_flow g before e number task t = record {
   looked_up = λ l s peer n id name reply may k. (W.quiet l s _ refl (W.looked_up l s peer n id name k.0), same _ refl refl refl refl (goes k.1.owed.1 k.1));
   works = λ l s id v f lent row ready is k. (W.works l s id v f row ready is k.0, tasks-are s _ (other-set s id f row.id (not-ready s id v is (λ x. ending-answers e x lent) k.1) k.1) k.1);
   keeps = λ l s until value k. (W.keeps l s until value k.0, same _ refl refl refl refl (goes (until-owed number task until l k.1.owed) k.1));
-  results_go = λ l s is k. (W.results_go l s is k.0, same _ refl refl refl refl k.1);
+  results_go = λ l s is goes k. (W.results_go l s is k.0, same _ refl refl refl refl k.1);
   falls = λ l s c n k. (W.falls l s c n k.0, goes k.1.owed.1 k.1);
   row = λ l s c f a b d k. (W.row l s c f a b d k.0, same _ refl refl refl refl k.1);
   counts = λ l s c n d there is low k. (W.counts l s c n d is low k.0, same _ refl refl refl refl (goes (tt, k.1.owed) k.1));
@@ -289,7 +290,7 @@ ends_flow g before e number task t = record {
   parks_result = λ l s p known is k. (W.parks_result l s p is k.0, frames-are s _ (all-more (IsKnown g before e) s.parked p k.1.frames known) k.1);
   takes = λ l s p k. (W.takes l s p k.0, frames-are s _ (all-filter (IsKnown g before e) (λ q. not (ParkedFrames.is_parked_at p.conn p.number q)) s.parked k.1.frames) k.1);
   takes_call = λ l s p q is call k. (W.takes_call l s p q is call k.0, goes (tt, k.1.owed) (frames-are s _ (all-filter (IsKnown g before e) (λ x. not (ParkedFrames.is_parked_at p.conn p.number x)) s.parked k.1.frames) k.1));
-  closes = λ l s c k. (W.closes l s c k.0, same _ refl refl refl refl k.1);
+  closes = λ l s c why k. (W.closes l s c k.0, same _ refl refl refl refl k.1);
 }
   where
     W : Rattle.sp_laws.proofs.FlowRules.Flows g Waits
@@ -302,6 +303,18 @@ ends_flow g before e number task t = record {
     counts-one : (id : ℕ) (l : List Owed) (s : State) (n lent : ℕ) (kind : Kind) (m : Message) (peer : Rattle.uuid.specs.declared.Uuid.Uuid) → 1 ≤ flow_sum (call_of id) (Removed peer (Calls n id lent kind m) ∷ l) s
     counts-one id l s n lent kind m peer = let a : count (id == id) ≡ 1 = ap count (Rattle.std.proofs.lemmas.Bool.eq-eqb id id refl) in omega arith
 
+-- what is found to be asked on a connection is out there
+found-any : {A : Type 0} (is : A → Bool) (xs : List A) (x : A) → find is xs ≡ Some x → list_any is xs ≡ true
+found-any is [] x e = absurd (Rattle.sp_rules.proofs.AllLemmas.some-none x (sym e))
+found-any {A} is (y ∷ ys) x e = pick (is y) e (found-any is ys x)
+  where
+    pick : (b : Bool) → cond b (Some y) (find is ys) ≡ Some x → (find is ys ≡ Some x → list_any is ys ≡ true) → b || list_any is ys ≡ true
+    pick true f rest = refl
+    pick false f rest = rest f
+
+pub asked-on : (conn n k : ℕ) (rs : List Request) (q : Request) → find (ParkedFrames.is_asked_on conn n) rs ≡ Some q → n ≡ k → IsOutOn conn k rs
+asked-on conn n k rs q found eq = subst (λ x. IsOutOn conn x rs) eq (found-any (ParkedFrames.is_asked_on conn n) rs q found)
+
 -- a number that is given now is not the one that was given
 other-number : (c k : ℕ) → k ≤ c → count (c + 1 == k) ≡ 0
 other-number c k le = pick (c + 1 == k) refl
@@ -310,7 +323,7 @@ other-number c k le = pick (c + 1 == k) refl
     pick true e = let q : c + 1 ≡ k = eqb-true (c + 1) k e in absurd (omega arith)
     pick false e = refl
 
-abbrev answer-of : Frame → Option Value × ℕ
+abbrev pub answer-of : Frame → Option Value × ℕ
 answer-of (CallFrame target method fuel arguments) = (None, 0)
 answer-of (ReturnedFrame value fuel) = (value, fuel)
 
@@ -332,13 +345,17 @@ ends-begin g s e number task t none given = record {
   unmarshal = λ is. fails-unmarshal g e is;
   connect = λ is. fails-connect g e is;
   marshal = λ is. fails-marshal g e is;
-  threw = λ c n class is asked has. (ap is_ending is, λ k also. inl (record { conn = c; thrown = class; came = subst (λ x. e ≡ Received c (message.Threw x class)) (same-number n k asked has also) is; told = refl }));
-  spent = λ c n is asked has. (ap is_ending is, λ k also. spends c n is asked k (same-number n k asked has also) also);
+  threw = λ c n class is q found has. (
+    ap is_ending is,
+    λ k also.
+        inl (record { conn = c; thrown = class; out = asked-on c n k s.requests q found (same-number n k q.asked has also); came = subst (λ x. e ≡ Received c (message.Threw x class)) (same-number n k q.asked has also) is; told = refl }),
+  );
+  spent = λ c n is q found has. (ap is_ending is, λ k also. spends c n is q.asked k (same-number n k q.asked has also) (asked-on c n k s.requests q found (same-number n k q.asked has also)) also);
   finished = λ id n v outcome c m is ready stands origin. tt;
   call_came = λ p is there. λ value fuel eq. absurd (true≢false (sym is ∙ ap Frames.is_call_frame eq));
-  result_came = λ p value fuel is frame there. λ v f eq.
+  result_came = λ p value fuel is frame there q found. λ v f eq.
       let x : (value, fuel) ≡ (v, f) = ap answer-of (sym frame ∙ eq) in
-      inl (p.conn, subst (λ (y : Option Value × ℕ). e ≡ Received p.conn (message.Returned p.number y.1 y.0)) x is);
+      inl (p.conn, (asked-on p.conn p.number p.number s.requests q found refl, subst (λ (y : Option Value × ℕ). e ≡ Received p.conn (message.Returned p.number y.1 y.0)) x is));
 }
   where
     B : Rattle.sp_laws.proofs.FlowRules.Begins g Waits s e
@@ -354,10 +371,10 @@ ends-begin g s e number task t none given = record {
         pick true f = absurd (apart (eqb-true a b f))
         pick false f = refl
 
-    spends : (c n : ℕ) → e ≡ Received c (message.Spent n) → (asked : Asked) (k : ℕ) → n ≡ k → ParkedFrames.has_number k asked ≡ true → MayEndWith g s e k (Frames.spent_reply g asked)
-    spends c n is (Calls number task lent kind m) k eq also = (c, subst (λ x. e ≡ Received c (message.Spent x)) eq is)
-    spends c n is (LooksUp number task name) k eq also = inr (fails-unmarshal g e (ap is_ending is))
-    spends c n is (Tells call group) k eq also = absurd (true≢false (sym also))
+    spends : (c n : ℕ) → e ≡ Received c (message.Spent n) → (asked : Asked) (k : ℕ) → n ≡ k → IsOutOn c k s.requests → ParkedFrames.has_number k asked ≡ true → MayEndWith g s e k (Frames.spent_reply g asked)
+    spends c n is (Calls number task lent kind m) k eq out also = (c, (out, subst (λ x. e ≡ Received c (message.Spent x)) eq is))
+    spends c n is (LooksUp number task name) k eq out also = inr (fails-unmarshal g e (ap is_ending is))
+    spends c n is (Tells call group) k eq out also = absurd (true≢false (sym also))
 
 -- ---- as an event begins
 
@@ -365,7 +382,7 @@ none-left : (v w : Asked → ℕ) (rs : List Request) → asked_sum v rs ≡ 0 �
 none-left v w [] a b = tt
 none-left v w (q ∷ rs) a b = (omega (arith, a, b), none-left v w rs (omega (arith, a)) (omega (arith, b)))
 
--- where one counts for both, and nothing more is counted, both are the same of each
+-- if one counts for both, and nothing more is counted, both are the same of each
 only-one : (v w : Asked → ℕ) (is : Request → Bool) (rs : List Request) (q : Request) → find is rs ≡ Some q → v q.asked ≡ 1 → w q.asked ≡ 1 → asked_sum v rs ≤ 1 → asked_sum w rs ≤ 1 → AllOf (λ (p : Request). v p.asked ≡ w p.asked) rs
 only-one v w is [] q e a b c d = tt
 only-one v w is (p ∷ rs) q e a b c d = pick (is p) e (only-one v w is rs q)
@@ -383,7 +400,7 @@ only-one v w is (p ∷ rs) q e a b c d = pick (is p) e (only-one v w is rs q)
         (omega (arith, i, j, k, m, a, b, c, d), rest f a b (omega (arith, c)) (omega (arith, d)))
 
 -- frames that are parked are known
-parked-known : (g : Setting) (s : State) (e : Event) → AllOf (IsKnown g s e) s.parked
+pub parked-known : (g : Setting) (s : State) (e : Event) → AllOf (IsKnown g s e) s.parked
 parked-known g s e = all s.parked (λ number value fuel x. x)
   where
     all : (ps : List ParkedFrame) → ((number : ℕ) (value : Option Value) (fuel : ℕ) → IsParkedIn number value fuel ps → IsParkedIn number value fuel s.parked) → AllOf (IsKnown g s e) ps

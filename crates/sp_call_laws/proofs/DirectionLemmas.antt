@@ -1,7 +1,8 @@
 -- Frames go in one direction each, through every event.
 use mathlib.Core.Path.{sym, ap, subst, ◌∙◌}
+use Rattle.std.proofs.Common.{inl, inr}
 use Rattle.std.proofs.lemmas.Bool.{true≢false, eq-eqb}
-use Rattle.std.specs.Prelude.{◌≡◌, refl, ℕ, ◌==◌, ◌&&◌, ◌||◌, not, is_some, is_none, Bool, true, false, List, [], ◌∷◌, ◌++◌, Option, None, Some, filter, find, map}
+use Rattle.std.specs.Prelude.{◌≡◌, ◌⊎◌, refl, ℕ, ◌==◌, ◌&&◌, ◌||◌, not, is_some, is_none, Bool, true, false, List, [], ◌∷◌, ◌++◌, Option, None, Some, filter, find, map}
 use Rattle.uuid.specs.declared.Uuid.{Uuid}
 use Rattle.net_message.specs.declared.message.Message.TheVariants as message
 use Rattle.net_message.specs.declared.message.Message.{Message}
@@ -102,9 +103,18 @@ from-is : (g : Setting) (e : Event) (h : List Event) (Is : ℕ → Message → T
 from-is g e h Is OfRoot a = tt
 from-is g e h Is (OfCall conn number) a = a
 
+-- an end that is opened was opened
+opens-now : (h : List Event) (conn : ℕ) (dialled : Option Uuid) → HasOpened (Opened conn dialled ∷ h) conn (is_some dialled)
+opens-now h conn None = or-left (conn == conn && true) _ (ap (λ b. b && true) (eq-eqb conn conn refl))
+opens-now h conn (Some peer) = or-left (conn == conn && true) _ (ap (λ b. b && true) (eq-eqb conn conn refl))
+
 -- what is known of a frame says its direction
 can-may : (g : Setting) (e : Event) (h : List Event) (Is : ℕ → Message → Type 0) (conn : ℕ) (m : Message) → CanSend (view g e h Is) conn m → MaySend (HasOpened (e ∷ h)) conn m
-can-may g e h Is conn (message.Hello version space digest) a = tt
+can-may g e h Is conn (message.Hello version space digest) a = says-hello a.0 a.1
+  where
+    says-hello : (dialled : Option Uuid) → e ≡ Opened conn dialled → HasOpened (e ∷ h) conn true ⊎ HasOpened (e ∷ h) conn false
+    says-hello None is = inr (subst (λ d. HasOpened (d ∷ h) conn false) (sym is) (opens-now h conn None))
+    says-hello (Some peer) is = inl (subst (λ d. HasOpened (d ∷ h) conn true) (sym is) (opens-now h conn (Some peer)))
 can-may g e h Is conn (message.Call number object method fuel arguments) a = a
 can-may g e h Is conn (message.Lookup number name) a = a
 can-may g e h Is conn (message.Ack number) a = a
@@ -179,8 +189,8 @@ directed_flow g e h Is refuses finds = record {
   refuses = refuses;
   finds = finds;
   quiet = λ l s t eq k. subst (Directed (e ∷ h) l) (sym eq) k;
-  says = λ l s output is k. notes-more s (Says output) (said (e ∷ h) output is) k;
-  sends = λ l s turn c m may k. notes-more s (Sends turn c m) (can-may g e h Is c m may) k;
+  says = λ l s output is so k. notes-more s (Says output) (said (e ∷ h) output is) k;
+  sends = λ l s turn c m may held k. notes-more s (Sends turn c m) (can-may g e h Is c m may) k;
   clears = λ s k. record { rows = k.rows; frames = k.frames; tasks = k.tasks; requests = k.requests; fresh = k.fresh; owed = k.owed; notes = tt };
   adds = λ l s q k. owes k.owed.1 (requests-are s _ (all-more (λ (p : Request). AsksByCall p.asked) s.requests q k.requests k.owed.0) k);
   calls_out = λ l s turn c peer number task lent kind m there k. notes-more (record s { requests = s.requests ++ record { peer = peer; asked = Calls number task lent kind m; stage = Rattle.sp_rules.specs.State.Out c 0 } ∷ [] }) (Sends turn c m) (asks-by (e ∷ h) c m k.owed.0 there)
@@ -208,7 +218,7 @@ directed_flow g e h Is refuses finds = record {
   looked_up = λ l s peer number task name reply may k. notes-more s (Says (Ended task (LivingTasks.outcome_of reply))) tt (owes k.owed.1 k);
   works = λ l s id t f lent row ready is k. tasks-are s _ (set-tasks (e ∷ h) id f row.origin s.tasks k.tasks) k;
   keeps = λ l s until value k. owes (until-owed (e ∷ h) until l k.owed) (record { rows = k.rows; frames = k.frames; tasks = k.tasks; requests = k.requests; fresh = k.fresh; owed = k.owed; notes = k.notes });
-  results_go = λ l s is k. record { rows = k.rows; frames = k.frames; tasks = k.tasks; requests = k.requests; fresh = k.fresh; owed = k.owed; notes = k.notes };
+  results_go = λ l s is goes k. record { rows = k.rows; frames = k.frames; tasks = k.tasks; requests = k.requests; fresh = k.fresh; owed = k.owed; notes = k.notes };
   falls = λ l s c n k. owes k.owed.1 k;
   row = λ l s c f num last dialled k. rows-are s _ (set-rows (e ∷ h) c f num dialled s.connections k.rows) k;
   counts = λ l s c n d there is low k. owes (there, k.owed) (rows-are s _ (set-rows (e ∷ h) c (λ (d : Connection). record d { last = n }) (λ d. refl) (λ d. refl) s.connections k.rows) k);
@@ -218,17 +228,12 @@ directed_flow g e h Is refuses finds = record {
   takes_call = λ l s p q is call k.
       let a : Frames-in (e ∷ h) q = all-found (Frames-in (e ∷ h)) (ParkedFrames.is_parked_at p.conn p.number) s.parked q is k.frames in
       owes (subst (λ b. HasOpened (e ∷ h) q.conn (not b)) call a, k.owed) (frames-are s _ (all-filter (Frames-in (e ∷ h)) (λ x. not (ParkedFrames.is_parked_at p.conn p.number x)) s.parked k.frames) k);
-  closes = λ l s c k. record { rows = all-filter (Row (e ∷ h)) (λ (d : Connection). not (d.number == c)) s.connections k.rows; frames = k.frames; tasks = k.tasks; requests = k.requests; fresh = k.fresh; owed = k.owed; notes = k.notes };
+  closes = λ l s c why k. record { rows = all-filter (Row (e ∷ h)) (λ (d : Connection). not (d.number == c)) s.connections k.rows; frames = k.frames; tasks = k.tasks; requests = k.requests; fresh = k.fresh; owed = k.owed; notes = k.notes };
 }
   where
     answered : (c n : ℕ) (q : Request) → AsksByCall q.asked → (b : Bool) → AsksByCall (Rattle.std.specs.Prelude.if◌then◌else◌ {A = Request} b (record q { stage = Rattle.sp_rules.specs.State.Answered c }) q).asked
     answered c n q a true = a
     answered c n q a false = a
-
--- an end that is opened was opened
-opens-now : (h : List Event) (conn : ℕ) (dialled : Option Uuid) → HasOpened (Opened conn dialled ∷ h) conn (is_some dialled)
-opens-now h conn None = or-left (conn == conn && true) _ (ap (λ b. b && true) (eq-eqb conn conn refl))
-opens-now h conn (Some peer) = or-left (conn == conn && true) _ (ap (λ b. b && true) (eq-eqb conn conn refl))
 
 -- what is known of the answer to a task that the event ends
 abbrev pub Finishes : Setting → State → Event → (ℕ → Message → Type 0) → Type 0
@@ -242,11 +247,11 @@ directed-begin g s e h Is finished = record {
   unmarshal = λ is. tt;
   connect = λ is. tt;
   marshal = λ is. tt;
-  threw = λ c n class is asked has. tt;
-  spent = λ c n is asked has. tt;
+  threw = λ c n class is q found has. tt;
+  spent = λ c n is q found has. tt;
   finished = finished;
   call_came = λ p is there. subst (λ b. HasOpened (e ∷ h) p.conn (not b)) (sym is) there;
-  result_came = λ p value fuel is frame there. subst (λ f. HasOpened (e ∷ h) p.conn (not (Frames.is_call_frame f))) (sym frame) there;
+  result_came = λ p value fuel is frame there q found. subst (λ f. HasOpened (e ∷ h) p.conn (not (Frames.is_call_frame f))) (sym frame) there;
 }
 
 -- ---- histories grow
@@ -255,7 +260,8 @@ later : (e : Event) (h : List Event) (conn : ℕ) (end : Bool) → HasOpened h c
 later e h conn end o = or-right (opens_end conn end e) (was_opened h conn end) o
 
 later-sends : (e : Event) (h : List Event) (conn : ℕ) (m : Message) → MaySend (HasOpened h) conn m → MaySend (HasOpened (e ∷ h)) conn m
-later-sends e h conn (message.Hello version space digest) a = tt
+later-sends e h conn (message.Hello version space digest) (inl a) = inl (later e h conn true a)
+later-sends e h conn (message.Hello version space digest) (inr a) = inr (later e h conn false a)
 later-sends e h conn (message.Call number object method fuel arguments) a = later e h conn true a
 later-sends e h conn (message.Lookup number name) a = later e h conn true a
 later-sends e h conn (message.Ack number) a = later e h conn true a

@@ -1,10 +1,12 @@
--- What is asked of peers, what peers ask and what is sent, as the rules of a space move it in one event. A property of requests, of calls that came, of frames that are sent and of what is under way between them is kept by each rule, where the few moves keep it; each move says what is known as it is made.
+-- What is asked of peers, what peers ask and what is sent, as the rules of a space move it in one event. If the few moves keep a property
+-- of requests, of calls that came, of frames that are sent and of what is under way between them, each rule keeps it; each move says what
+-- is known as it is made.
 use mathlib.Core.Path.{sym, ap, subst, ◌∙◌}
 use Rattle.std.proofs.Common.{inl, inr}
 use Rattle.std.proofs.lemmas.Bool.{true≢false, eqb-true}
 use Rattle.std.specs.List.{list_any}
 use Rattle.std.specs.Str.{bytes_eq}
-use Rattle.std.specs.Prelude.{◌≡◌, refl, ℕ, ◌+◌, ◌==◌, ◌&&◌, ◌||◌, not, nat_le, nat_lt, is_some, is_none, Bool, true, false, List, [], ◌∷◌, ◌++◌, Option, None, Some, Result, Ok, Err, filter, find, map, if◌then◌else◌}
+use Rattle.std.specs.Prelude.{◌≡◌, ◌⊎◌, refl, ℕ, ◌+◌, ◌==◌, ◌&&◌, ◌||◌, not, nat_le, nat_lt, is_some, is_none, Bool, true, false, List, [], ◌∷◌, ◌++◌, Option, None, Some, Result, Ok, Err, filter, find, map, if◌then◌else◌}
 use Rattle.space_ids.specs.declared.ids.ClassId.{ClassId}
 use Rattle.dgc_client.specs.History as lease_events
 use Rattle.dgc_client.specs.Lease as lease
@@ -67,7 +69,8 @@ pub record EventParts : Type 0 where
 abbrev pub event_parts : State → EventParts
 event_parts s = record { calls_made = s.calls_made; tasks_made = s.tasks_made; tasks = s.tasks; requests = s.requests; fresh = s.fresh; results = s.results; connections = s.connections; parked = s.parked; notes = s.notes }
 
--- An event of a space; what is known of a connection, by its number and whether this space dialled it, of the answers to calls that are sent there, and of parked frames; the classes with which calls end that fail, what calls and lookups end with; and what is kept.
+-- An event of a space; what is known of a connection, by its number and whether this space dialled it, of the answers to calls that are
+-- sent there, and of parked frames; the classes with which failed calls end, and what calls and lookups end with; and what is kept.
 pub record View : Type 1 where
   pub setting : Setting
   pub event : Event
@@ -84,7 +87,7 @@ IsFrom V (OfCall conn number) = V.Dialled conn false
 
 -- what is known of a frame as it is sent
 abbrev pub CanSend : View → ℕ → Message → Type 0
-CanSend V conn (message.Hello version space digest) = Unit {0}
+CanSend V conn (message.Hello version space digest) = (dialled : Option Uuid) × (V.event ≡ Opened conn dialled)
 CanSend V conn (message.Call number object method fuel arguments) = V.Dialled conn true
 CanSend V conn (message.Lookup number name) = V.Dialled conn true
 CanSend V conn (message.Ack number) = V.Dialled conn true
@@ -95,6 +98,27 @@ CanSend V conn (message.Threw number class) = V.Dialled conn false × V.Answers 
 CanSend V conn (message.Spent number) = V.Dialled conn false × V.Answers conn (message.Spent number)
 CanSend V conn (message.Lease sequence period) = V.Dialled conn false
 CanSend V conn (message.Cleaned sequence) = V.Dialled conn false
+
+-- a result is one of these
+abbrev pub IsKeptIn : KeptResult → List KeptResult → Type 0
+IsKeptIn k [] = ⊥
+IsKeptIn k (x ∷ xs) = (k ≡ x) ⊎ IsKeptIn k xs
+
+-- a result that is sent is held until its Ack
+abbrev pub IsHeldFor : List KeptResult → ℕ → Message → Type 0
+IsHeldFor results conn (message.Returned number fuel value) = IsKeptIn (record { until = state.Acked conn number; value = value }) results
+IsHeldFor results conn _ = Unit {0}
+
+-- With an event a result is let go: that of a root or lookup as it is acknowledged, that of a call as its Ack comes on its connection, one whose connection ended at a moment not below its end.
+abbrev pub IsReleased : Event → Until → Type 0
+IsReleased e (state.RootAcked task) = e ≡ RootAck task
+IsReleased e (state.Acked conn number) = e ≡ Received conn (message.Ack number)
+IsReleased e (state.Passed until) = (moment : ℕ) × ((e ≡ Moment moment) × (nat_le until moment ≡ true))
+
+-- that a task ended is said by the event that finishes it
+abbrev pub IsSaid : View → Output → Type 0
+IsSaid V (Ended task outcome) = (made : ℕ) × (V.event ≡ Finished task made)
+IsSaid V _ = Unit {0}
 
 abbrev pub is_finish : Event → Bool
 is_finish (Finished task k) = true
@@ -142,8 +166,8 @@ pub record Flows (V : View) : Type 0 where
   pub finds : (conn number : ℕ) (name : List ℕ) (r : Ref) → V.event ≡ Received conn (message.Lookup number name) → r.space ≡ V.setting.id → V.Answers conn (message.Returned number 0 (Some (values.Ref r)))
   -- outputs
   pub quiet : (l : List Owed) (s t : State) → event_parts t ≡ event_parts s → V.Keeps l s → V.Keeps l t
-  pub says : (l : List Owed) (s : State) (output : Output) → is_send output ≡ false → V.Keeps l s → V.Keeps l (say output s)
-  pub sends : (l : List Owed) (s : State) (turn : Turn) (conn : ℕ) (m : Message) → CanSend V conn m → V.Keeps l s → V.Keeps l (record s { notes = s.notes ++ Sends turn conn m ∷ [] })
+  pub says : (l : List Owed) (s : State) (output : Output) → is_send output ≡ false → IsSaid V output → V.Keeps l s → V.Keeps l (say output s)
+  pub sends : (l : List Owed) (s : State) (turn : Turn) (conn : ℕ) (m : Message) → CanSend V conn m → IsHeldFor s.results conn m → V.Keeps l s → V.Keeps l (record s { notes = s.notes ++ Sends turn conn m ∷ [] })
   pub clears : (s : State) → V.Keeps [] s → V.Keeps [] (record s { notes = [] })
   -- requests
   pub adds : (l : List Owed) (s : State) (q : Request) → V.Keeps (Removed q.peer q.asked ∷ l) s → V.Keeps l (Requests.add_request q s)
@@ -172,7 +196,7 @@ pub record Flows (V : View) : Type 0 where
   pub works : (l : List Owed) (s : State) (id : ℕ) (t : Living) (f : Living → Living) → Space.answers_outputs V.event ≡ false → IsSameRow f → (f t).waits ≡ false → ready_at s id ≡ Some t → V.Keeps l s → V.Keeps l (set_task f id s)
   -- results
   pub keeps : (l : List Owed) (s : State) (until : Until) (value : Option Value) → V.Keeps (of_until until ++ l) s → V.Keeps l (record s { results = s.results ++ record { until = until; value = value } ∷ [] })
-  pub results_go : (l : List Owed) (s : State) (is : KeptResult → Bool) → V.Keeps l s → V.Keeps l (record s { results = filter is s.results })
+  pub results_go : (l : List Owed) (s : State) (is : KeptResult → Bool) → ((k : KeptResult) → is k ≡ false → IsReleased V.event k.until) → V.Keeps l s → V.Keeps l (record s { results = filter is s.results })
   -- calls that come
   pub falls : (l : List Owed) (s : State) (conn number : ℕ) → V.Keeps (Inbound conn number ∷ l) s → V.Keeps l s
   pub row : (l : List Owed) (s : State) (conn : ℕ) (f : Connection → Connection) → ((c : Connection) → (f c).number ≡ c.number) → ((c : Connection) → (f c).last ≡ c.last) → ((c : Connection) → (f c).dialled ≡ c.dialled) → V.Keeps l s → V.Keeps l (state.set_connection f conn s)
@@ -181,7 +205,7 @@ pub record Flows (V : View) : Type 0 where
   pub parks_result : (l : List Owed) (s : State) (p : ParkedFrame) → V.Known p → Frames.is_call_frame p.frame ≡ false → V.Keeps l s → V.Keeps l (record s { parked = s.parked ++ p ∷ [] })
   pub takes : (l : List Owed) (s : State) (p : ParkedFrame) → V.Keeps l s → V.Keeps l (ParkedFrames.take_parked p s)
   pub takes_call : (l : List Owed) (s : State) (p q : ParkedFrame) → find (ParkedFrames.is_parked_at p.conn p.number) s.parked ≡ Some q → Frames.is_call_frame q.frame ≡ true → V.Keeps l s → V.Keeps (Inbound q.conn q.number ∷ l) (ParkedFrames.take_parked p s)
-  pub closes : (l : List Owed) (s : State) (conn : ℕ) → V.Keeps l s → V.Keeps l (Endings.without_connection conn s)
+  pub closes : (l : List Owed) (s : State) (conn : ℕ) → V.Fails V.setting.classes.unmarshal → V.Keeps l s → V.Keeps l (Endings.without_connection conn s)
 
 -- What the event itself brings: what it begins, the frames that come with it, and with what calls end.
 pub record Begins (V : View) (s : State) : Type 0 where
@@ -193,12 +217,12 @@ pub record Begins (V : View) (s : State) : Type 0 where
   pub unmarshal : is_ending V.event ≡ true → V.Fails V.setting.classes.unmarshal
   pub connect : is_unreached V.event ≡ true → V.Fails V.setting.classes.connect
   pub marshal : is_unwritten V.event ≡ true → V.Fails V.setting.classes.marshal
-  pub threw : (conn number : ℕ) (class : ClassId) → V.event ≡ Received conn (message.Threw number class) → (asked : Asked) → ParkedFrames.has_number number asked ≡ true → V.Ends asked (Frames.thrown_reply V.setting class)
-  pub spent : (conn number : ℕ) → V.event ≡ Received conn (message.Spent number) → (asked : Asked) → ParkedFrames.has_number number asked ≡ true → V.Ends asked (Frames.spent_reply V.setting asked)
+  pub threw : (conn number : ℕ) (class : ClassId) → V.event ≡ Received conn (message.Threw number class) → (q : Request) → find (ParkedFrames.is_asked_on conn number) s.requests ≡ Some q → ParkedFrames.has_number number q.asked ≡ true → V.Ends q.asked (Frames.thrown_reply V.setting class)
+  pub spent : (conn number : ℕ) → V.event ≡ Received conn (message.Spent number) → (q : Request) → find (ParkedFrames.is_asked_on conn number) s.requests ≡ Some q → ParkedFrames.has_number number q.asked ≡ true → V.Ends q.asked (Frames.spent_reply V.setting q.asked)
   pub finished : (id k : ℕ) (t : Living) (outcome : Outcome) (conn number : ℕ) → V.event ≡ Finished id k → ready_at s id ≡ Some t → stand (steps k t.task) ≡ HasEnded outcome → t.origin ≡ OfCall conn number
       → V.Answers conn (LivingTasks.reply_frame V.setting number (steps k t.task).fuel outcome)
   pub call_came : (p : ParkedFrame) → Frames.is_call_frame p.frame ≡ true → V.Dialled p.conn false → V.Known p
-  pub result_came : (p : ParkedFrame) (value : Option Value) (fuel : ℕ) → V.event ≡ Received p.conn (message.Returned p.number fuel value) → p.frame ≡ ReturnedFrame value fuel → V.Dialled p.conn true → V.Known p
+  pub result_came : (p : ParkedFrame) (value : Option Value) (fuel : ℕ) → V.event ≡ Received p.conn (message.Returned p.number fuel value) → p.frame ≡ ReturnedFrame value fuel → V.Dialled p.conn true → (q : Request) → find (ParkedFrames.is_asked_on p.conn p.number) s.requests ≡ Some q → V.Known p
 
 -- ---- small steps
 
@@ -221,9 +245,9 @@ unfolding each
 each_removed F f [] k h = h
 each_removed F {l} {s = s} f (q ∷ rs) k h = each_removed F f rs k (k (removed rs ++ l) s q h)
 
-send_flow : {V : View} (F : Flows V) {l : List Owed} {s : State} (turn : Turn) (conn : ℕ) (m : Message) → CanSend V conn m → V.Keeps l s → V.Keeps l (send turn conn m s)
+send_flow : {V : View} (F : Flows V) {l : List Owed} {s : State} (turn : Turn) (conn : ℕ) (m : Message) → CanSend V conn m → IsHeldFor s.results conn m → V.Keeps l s → V.Keeps l (send turn conn m s)
 unfolding send
-send_flow {V} F {l} {s} turn conn m may h = if_flow F (is_open s conn) (F.sends l s turn conn m may h) h
+send_flow {V} F {l} {s} turn conn m may held h = if_flow F (is_open s conn) (F.sends l s turn conn m may held h) h
 
 hold_flow : {V : View} (F : Flows V) {l : List Owed} {s : State} (ids : List ForeignId) → V.Keeps l s → V.Keeps l (hold_ids ids s)
 unfolding hold_ids
@@ -243,9 +267,14 @@ group-goes : (V : View) (conn sequence : ℕ) (ids : List ObjId) → V.Dialled c
 group-goes V conn sequence ids there due.Dirty = there
 group-goes V conn sequence ids there (due.Clean strong) = there
 
+-- a dirty or clean call is no result
+group-held : (results : List KeptResult) (conn sequence : ℕ) (ids : List ObjId) (kind : Due) → IsHeldFor results conn (Requests.group_frame kind sequence ids)
+group-held results conn sequence ids due.Dirty = tt
+group-held results conn sequence ids (due.Clean strong) = tt
+
 part_flow : {V : View} (F : Flows V) {l : List Owed} {s : State} (turn : Turn) (conn call : ℕ) (part : Group) → V.Dialled conn true → V.Keeps l s → V.Keeps l (Requests.part_goes_out turn conn call s part)
 unfolding Requests.part_goes_out
-part_flow {V} F {l} {s} turn conn call part there h = send_flow F turn conn _ (group-goes V conn (client.numbers_of s.leases + 1) part.ids there part.kind) (F.tells l _ _ call part refl (F.quiet l s (record s { leases = client.sent part call s.leases }) refl h))
+part_flow {V} F {l} {s} turn conn call part there h = send_flow F turn conn _ (group-goes V conn (client.numbers_of s.leases + 1) part.ids there part.kind) (group-held s.results conn (client.numbers_of s.leases + 1) part.ids part.kind) (F.tells l _ _ call part refl (F.quiet l s (record s { leases = client.sent part call s.leases }) refl h))
 
 go_out_flow : {V : View} (F : Flows V) {l : List Owed} {s : State} (turn : Turn) (conn : ℕ) (q : Request) → V.Dialled conn true → V.Keeps (Removed q.peer q.asked ∷ l) s → V.Keeps l (Requests.go_out turn conn q s)
 unfolding Requests.go_out send
@@ -258,9 +287,9 @@ go_out_flow {V} F {l} {s} turn conn q there h = goes q.asked h
 
 dial_flow : {V : View} (F : Flows V) {l : List Owed} {s : State} (peer : Uuid) → V.Keeps l s → V.Keeps l (Requests.dial peer s)
 unfolding Requests.dial
-dial_flow {V} F {l} {s} peer h = if_flow F (is_some (connection_to s peer) || state.is_dialling s peer) h (F.says l _ (Dial peer) refl (F.quiet l s (record s { dialling = s.dialling ++ peer ∷ [] }) refl h))
+dial_flow {V} F {l} {s} peer h = if_flow F (is_some (connection_to s peer) || state.is_dialling s peer) h (F.says l _ (Dial peer) refl tt (F.quiet l s (record s { dialling = s.dialling ++ peer ∷ [] }) refl h))
 
--- where a Hello came from a space that was dialled, this space dialled it
+-- if a Hello came from a space that was dialled, this space dialled it
 hello-row : (o : Option Connection) (conn : ℕ) → Requests.hello_came o ≡ Some conn → (c : Connection) × ((o ≡ Some c) × (c.number ≡ conn))
 hello-row None conn e = absurd (Rattle.sp_rules.proofs.AllLemmas.some-none conn (sym e))
 hello-row (Some c) conn e = pick (is_some c.peer) e
@@ -312,7 +341,7 @@ settle_flow {V} F {s} h = asks (Requests.make_due s) (each_flow F _ _ (λ t b k.
 
 add_task_flow : {V : View} (F : Flows V) {l : List Owed} {s : State} (origin : Origin) (method : ℕ) (arguments : List Value) (fuel : ℕ) → is_finish V.event ≡ false → V.Keeps (of_origin origin ++ l) s → V.Keeps l (LivingTasks.add_task V.setting origin method arguments fuel s)
 unfolding LivingTasks.add_task
-add_task_flow {V} F {l} {s} origin method arguments fuel going h = F.says l _ _ refl (hold_flow F _ (F.says l _ _ refl (F.begins l s origin method arguments fuel going h)))
+add_task_flow {V} F {l} {s} origin method arguments fuel going h = F.says l _ _ refl tt (hold_flow F _ (F.says l _ _ refl tt (F.begins l s origin method arguments fuel going h)))
 
 keep_flow : {V : View} (F : Flows V) {l : List Owed} {s : State} (until : Until) (value : Option Value) → V.Keeps (of_until until ++ l) s → V.Keeps l (LivingTasks.keep V.setting until value s)
 keep_flow F {l} {s} until value h = hold_flow F _ (F.keeps l s until value h)
@@ -338,14 +367,33 @@ reply-goes V conn number fuel there Spent answers = (there, answers)
 abbrev AnswersTo : View → Origin → ℕ → Outcome → Type 0
 AnswersTo V origin fuel outcome = (conn number : ℕ) → origin ≡ OfCall conn number → V.Answers conn (LivingTasks.reply_frame V.setting number fuel outcome)
 
+-- as a result is answered it is held
+kept-last : (xs : List KeptResult) (k : KeptResult) → IsKeptIn k (xs ++ k ∷ [])
+kept-last [] k = inl refl
+kept-last (x ∷ xs) k = inr (kept-last xs k)
+
+hold-results : (ids : List ForeignId) (s : State) → (hold_ids ids s).results ≡ s.results
+unfolding hold_ids each
+hold-results [] s = refl
+hold-results (r ∷ ids) s = hold-results ids (Holders.holder_comes s r)
+
+keep-held : (g : Setting) (conn number : ℕ) (value : Option Value) (s : State) → IsKeptIn (record { until = state.Acked conn number; value = value }) (LivingTasks.keep g (state.Acked conn number) value s).results
+keep-held g conn number value s = subst (IsKeptIn (record { until = state.Acked conn number; value = value })) (sym (hold-results (foreign_ids g.id (references_in value)) (record s { results = s.results ++ record { until = state.Acked conn number; value = value } ∷ [] })))
+    (kept-last s.results (record { until = state.Acked conn number; value = value }))
+
+outcome-held : (g : Setting) (conn number fuel : ℕ) (outcome : Outcome) (s : State) → IsHeldFor (LivingTasks.keep_result g (state.Acked conn number) outcome s).results conn (LivingTasks.reply_frame g number fuel outcome)
+outcome-held g conn number fuel (Returned value) s = keep-held g conn number value s
+outcome-held g conn number fuel (Threw class) s = tt
+outcome-held g conn number fuel Spent s = tt
+
 report_flow : {V : View} (F : Flows V) {l : List Owed} {s : State} (origin : Origin) (id fuel : ℕ) (outcome : Outcome) → IsFrom V origin → AnswersTo V origin fuel outcome → V.Keeps (of_origin origin ++ l) s → V.Keeps l (LivingTasks.report V.setting origin id fuel outcome s)
 report_flow F OfRoot id fuel outcome from says h = keep_result_flow F (state.RootAcked id) outcome h
-report_flow {V} F {l} {s} (OfCall conn number) id fuel outcome from says h = if_flow F (is_open s conn) (send_flow F _ conn _ (reply-goes V conn number fuel from outcome (says conn number refl)) (keep_result_flow F (state.Acked conn number) outcome h)) (F.falls l s conn number h)
+report_flow {V} F {l} {s} (OfCall conn number) id fuel outcome from says h = if_flow F (is_open s conn) (send_flow F _ conn _ (reply-goes V conn number fuel from outcome (says conn number refl)) (outcome-held V.setting conn number fuel outcome s) (keep_result_flow F (state.Acked conn number) outcome h)) (F.falls l s conn number h)
 
-end_with_flow : {V : View} (F : Flows V) {l : List Owed} {s : State} (id : ℕ) (t u : Living) (outcome : Outcome) → AnswersTo V t.origin t.task.fuel outcome → is_finish V.event ≡ true → ready_at s id ≡ Some u → t.origin ≡ u.origin → V.Keeps l s → V.Keeps l (LivingTasks.end_with V.setting id t outcome s)
-end_with_flow {V} F {l} {s} id t u outcome says over is same h = drop_flow F _ (report_flow F t.origin id t.task.fuel outcome
+end_with_flow : {V : View} (F : Flows V) {l : List Owed} {s : State} (id : ℕ) (t u : Living) (outcome : Outcome) → AnswersTo V t.origin t.task.fuel outcome → is_finish V.event ≡ true → ((made : ℕ) × (V.event ≡ Finished id made)) → ready_at s id ≡ Some u → t.origin ≡ u.origin → V.Keeps l s → V.Keeps l (LivingTasks.end_with V.setting id t outcome s)
+end_with_flow {V} F {l} {s} id t u outcome says over ended is same h = drop_flow F _ (report_flow F t.origin id t.task.fuel outcome
     (subst (IsFrom V) (sym same) (all-found (λ (v : Living). IsFrom V v.origin) (λ (v : Living). v.id == id) s.tasks u (ready-is (task_at s id) u is).0 (F.origins l s h))) says
-    (F.says _ _ (Ended id outcome) refl (F.quiet _ (record s { tasks = filter (λ (v : Living). not (v.id == id)) s.tasks }) (record s { tasks = filter (λ (v : Living). not (v.id == id)) s.tasks; retired = s.retired + t.task.made }) refl (subst (λ o. V.Keeps (of_origin o ++ l) (record s { tasks = filter (λ (v : Living). not (v.id == id)) s.tasks })) (sym same) (F.ends l s id u over is h)))))
+    (F.says _ _ (Ended id outcome) refl ended (F.quiet _ (record s { tasks = filter (λ (v : Living). not (v.id == id)) s.tasks }) (record s { tasks = filter (λ (v : Living). not (v.id == id)) s.tasks; retired = s.retired + t.task.made }) refl (subst (λ o. V.Keeps (of_origin o ++ l) (record s { tasks = filter (λ (v : Living). not (v.id == id)) s.tasks })) (sym same) (F.ends l s id u over is h)))))
 
 reply_to_flow : {V : View} (F : Flows V) {l : List Owed} {s : State} {peer : Uuid} (asked : Asked) (reply : Reply) → V.Ends asked reply → V.Keeps (Removed peer asked ∷ l) s → V.Keeps l (LivingTasks.reply_to V.setting asked reply s)
 unfolding LivingTasks.reply_to LivingTasks.reply_task
@@ -354,7 +402,7 @@ reply_to_flow {V} F {l} {s} {peer} (Calls number task lent kind m) reply may h =
     pick : (found : Option Living) → task_at s task ≡ found
         → V.Keeps l (with_some found s (λ t. state.say (Ready task) (Holders.hold V.setting (gained t.task (answer V.setting reply t.task)) (set_task (LivingTasks.after_reply V.setting reply) task s))))
     pick None is = F.replies_none l s peer number task lent kind m is h
-    pick (Some t) is = F.says l _ _ refl (hold_flow F _ (F.replies l s peer number task lent kind m reply t may is h))
+    pick (Some t) is = F.says l _ _ refl tt (hold_flow F _ (F.replies l s peer number task lent kind m reply t may is h))
 reply_to_flow F {l} {s} {peer} (LooksUp number task name) reply may h = keep_result_flow F (state.RootAcked task) (LivingTasks.outcome_of reply) (F.looked_up l s peer number task name reply may h)
 reply_to_flow F {l} {s} {peer} (Tells call group) reply may h = F.told l s peer call group h
 
@@ -396,7 +444,7 @@ finish_flow {V} F {s} id k same B h = some_flow F (ready_at s id) _ h (λ t is. 
     at : (t : Living) → ready_at s id ≡ Some t → (stands : Stand) → stand (steps k t.task) ≡ stands → V.Keeps [] (LivingTasks.end_at V.setting id (LivingTasks.after_steps k t) stands s)
     at t is Runs e = h
     at t is (AsksFor op) e = h
-    at t is (HasEnded outcome) e = end_with_flow F id (LivingTasks.after_steps k t) t outcome (λ conn number origin. B.finished id k t outcome conn number same is e origin) (ap is_finish same) is refl h
+    at t is (HasEnded outcome) e = end_with_flow F id (LivingTasks.after_steps k t) t outcome (λ conn number origin. B.finished id k t outcome conn number same is e origin) (ap is_finish same) (k, same) is refl h
 
 -- ---- parked frames
 
@@ -405,7 +453,7 @@ unfolding ParkedFrames.start_call
 start_call_flow {V} F {l} {s} p target method fuel arguments going there h = some_flow F (object_at s target) _ (F.falls l s p.conn p.number h) (λ o is. selected (record { space = V.setting.id; id = target; class = o.class }) (V.setting.classes.selected o.class method))
   where
     selected : (receiver : Ref) (found : Option ℕ) → V.Keeps l (ParkedFrames.start_selected V.setting p.conn p.number receiver found fuel arguments s)
-    selected receiver None = send_flow F _ p.conn _ (there, F.refuses p.conn p.number _ (inr (inr (inl refl)))) (F.falls l s p.conn p.number h)
+    selected receiver None = send_flow F _ p.conn _ (there, F.refuses p.conn p.number _ (inr (inr (inl refl)))) tt (F.falls l s p.conn p.number h)
     selected receiver (Some m) = add_task_flow F (OfCall p.conn p.number) m _ fuel (ending-goes V.event going) h
 
 both-right : (a b : Bool) → a && b ≡ true → b ≡ true
@@ -414,7 +462,7 @@ both-right false b e = absurd (true≢false (sym e))
 
 answer_parked_flow : {V : View} (F : Flows V) {l : List Owed} {s : State} (p : ParkedFrame) (reply : Reply) → V.Dialled p.conn true → ((asked : Asked) → ParkedFrames.has_number p.number asked ≡ true → V.Ends asked reply) → V.Keeps l s → V.Keeps l (ParkedFrames.answer_parked V.setting p reply s)
 unfolding ParkedFrames.answer_parked
-answer_parked_flow {V} F {l} {s} p reply there may h = some_flow F (find (ParkedFrames.is_call_on p.conn p.number) s.requests) _ h (λ q is. reply_to_flow F q.asked reply (may q.asked (both-right (ParkedFrames.is_out_on p.conn q.stage) _ (found-is (ParkedFrames.is_call_on p.conn p.number) s.requests q is))) (send_flow F _ p.conn _ there
+answer_parked_flow {V} F {l} {s} p reply there may h = some_flow F (find (ParkedFrames.is_call_on p.conn p.number) s.requests) _ h (λ q is. reply_to_flow F q.asked reply (may q.asked (both-right (ParkedFrames.is_out_on p.conn q.stage) _ (found-is (ParkedFrames.is_call_on p.conn p.number) s.requests q is))) (send_flow F _ p.conn (message.Ack p.number) there tt
     (F.removes_one l s (ParkedFrames.is_call_on p.conn p.number) (ParkedFrames.is_call_on p.conn p.number) p.number q is (λ x e. e) (λ x e. both-right (ParkedFrames.is_out_on p.conn x.stage) _ e) h)))
 
 go_flow : {V : View} (F : Flows V) {l : List Owed} {s : State} (p : ParkedFrame) → is_ending V.event ≡ true → V.Keeps l s → V.Keeps l (ParkedFrames.go V.setting s p)
@@ -451,7 +499,7 @@ fail_parked_flow {V} F {l} {s} p may known h = frame p.frame refl (let_go_flow F
     sided e = subst (λ f. V.Dialled p.conn (not (Frames.is_call_frame f))) e (F.sided p known)
 
     frame : (f : Frame) → p.frame ≡ f → {t : State} → V.Keeps l t → V.Keeps l (ParkedFrames.fail_frame V.setting p f t)
-    frame (CallFrame target method fuel arguments) e k = send_flow F _ p.conn _ (sided e, F.refuses p.conn p.number _ (inr (inl refl))) k
+    frame (CallFrame target method fuel arguments) e k = send_flow F _ p.conn _ (sided e, F.refuses p.conn p.number _ (inr (inl refl))) tt k
     frame (ReturnedFrame value fuel) e k = answer_parked_flow F p (Throws V.setting.classes.unmarshal) (sided e) (λ asked has. F.fails asked V.setting.classes.unmarshal may) k
 
 -- ---- endings
@@ -485,11 +533,11 @@ end_requests_flow {V} F {l} {s} is why may all h =
 
 end_connection_flow : {V : View} (F : Flows V) {l : List Owed} {s : State} (why : Asked → ClassId) (conn : ℕ) → V.Fails V.setting.classes.unmarshal → ((asked : Asked) → V.Fails (why asked)) → V.Keeps l s → V.Keeps l (Endings.end_connection V.setting why conn s)
 unfolding Endings.end_connection
-end_connection_flow {V} F {l} {s} why conn may all h = some_flow F (connection_at s conn) _ h (λ c is. end_requests_flow F _ why may all (each_flow F _ _ (λ t p k. let_go_flow F p t.parked (F.takes l t p k)) (F.closes l s conn h)))
+end_connection_flow {V} F {l} {s} why conn may all h = some_flow F (connection_at s conn) _ h (λ c is. end_requests_flow F _ why may all (each_flow F _ _ (λ t p k. let_go_flow F p t.parked (F.takes l t p k)) (F.closes l s conn may h)))
 
 close_flow : {V : View} (F : Flows V) {l : List Owed} {s : State} (class : ClassId) (conn : ℕ) → V.Fails V.setting.classes.unmarshal → V.Fails class → V.Keeps l s → V.Keeps l (Endings.close V.setting class conn s)
 unfolding Endings.close
-close_flow F {l} class conn may why h = F.says l _ (Close conn) refl (end_connection_flow F _ conn may (λ asked. why) h)
+close_flow F {l} class conn may why h = F.says l _ (Close conn) refl tt (end_connection_flow F _ conn may (λ asked. why) h)
 
 -- ---- frames that come
 
@@ -512,19 +560,20 @@ first_flow F conn c _ same B row h = close_flow F _ c.number (B.unmarshal (ap is
 
 call_of_flow : {V : View} (F : Flows V) {l : List Owed} {s : State} (conn number : ℕ) (o : Object) (method fuel : ℕ) (arguments : List Value) → is_ending V.event ≡ true → ((p : ParkedFrame) → Frames.is_call_frame p.frame ≡ true → V.Dialled p.conn false → V.Known p) → V.Dialled conn false → V.Keeps (Inbound conn number ∷ l) s → V.Keeps l (Frames.call_of V.setting conn number o method fuel arguments s)
 call_of_flow {V} F {l} {s} conn number o method fuel arguments going comes there h =
-    if_flow F (not (V.setting.classes.may_call o.class method) || (not (fit_kinds (V.setting.classes.parameters method) arguments) || list_any (Holders.is_refused V.setting s) (references_of arguments))) (send_flow F _ conn _ (there, F.refuses conn number _ (inr (inl refl))) (F.falls l s conn number h))
-    (if_flow F (Frames.is_busy s) (send_flow F _ conn _ (there, F.refuses conn number _ (inr (inr (inl refl)))) (F.falls l s conn number h)) (park_call_flow F conn number o.id method fuel arguments _ going (comes _ refl there) h))
+    if_flow F (not (V.setting.classes.may_call o.class method) || (not (fit_kinds (V.setting.classes.parameters method) arguments) || list_any (Holders.is_refused V.setting s) (references_of arguments))) (send_flow F _ conn _ (there, F.refuses conn number _ (inr (inl refl))) tt (F.falls l s conn number h))
+    (if_flow F (Frames.is_busy s) (send_flow F _ conn _ (there, F.refuses conn number _ (inr (inr (inl refl)))) tt (F.falls l s conn number h)) (park_call_flow F conn number o.id method fuel arguments _ going (comes _ refl there) h))
 
 found_flow : {V : View} (F : Flows V) {l : List Owed} {s : State} (conn number : ℕ) (name : List ℕ) (o : Option Object) → V.event ≡ Received conn (message.Lookup number name) → V.Dialled conn false → V.Keeps (Inbound conn number ∷ l) s → V.Keeps l (Frames.found V.setting conn number o s)
-found_flow F {l} {s} conn number name None same there h = send_flow F _ conn _ (there, F.refuses conn number _ (inr (inr (inr refl)))) (F.falls l s conn number h)
-found_flow {V} F conn number name (Some o) same there h = send_flow F _ conn _ (there, F.finds conn number name (record { space = V.setting.id; id = o.id; class = o.class }) same refl) (keep_flow F (state.Acked conn number) (Some (values.Ref (record { space = V.setting.id; id = o.id; class = o.class }))) h)
+found_flow F {l} {s} conn number name None same there h = send_flow F _ conn _ (there, F.refuses conn number _ (inr (inr (inr refl)))) tt (F.falls l s conn number h)
+found_flow {V} F {l} {s} conn number name (Some o) same there h = send_flow F _ conn _ (there, F.finds conn number name (record { space = V.setting.id; id = o.id; class = o.class }) same refl)
+    (keep-held V.setting conn number (Some (values.Ref (record { space = V.setting.id; id = o.id; class = o.class }))) s) (keep_flow F (state.Acked conn number) (Some (values.Ref (record { space = V.setting.id; id = o.id; class = o.class }))) h)
 
 got_call_flow : {V : View} (F : Flows V) {l : List Owed} {s : State} (c : Connection) (number : ℕ) (target : ObjId) (method fuel : ℕ) (arguments : List Value) → is_ending V.event ≡ true → ((p : ParkedFrame) → Frames.is_call_frame p.frame ≡ true → V.Dialled p.conn false → V.Known p) → V.Fails V.setting.classes.unmarshal → V.Dialled c.number false → connection_at s c.number ≡ Some c → V.Keeps l s → V.Keeps l (Frames.got_call V.setting c number target method fuel arguments s)
 unfolding Frames.got_call
 got_call_flow {V} F {l} {s} c number target method fuel arguments going comes may there is h = pick (nat_le number c.last) refl
   where
     on : nat_le number c.last ≡ false → (o : Option Object) → V.Keeps l (Frames.call_on V.setting c.number number o method fuel arguments (Frames.counted c.number number s))
-    on e None = send_flow F Replies c.number (message.Threw number V.setting.classes.no_such_object) (there, F.refuses c.number number _ (inl refl)) (F.falls l _ c.number number (F.counts l s c.number number c there is e h))
+    on e None = send_flow F Replies c.number (message.Threw number V.setting.classes.no_such_object) (there, F.refuses c.number number _ (inl refl)) tt (F.falls l _ c.number number (F.counts l s c.number number c there is e h))
     on e (Some o) = call_of_flow F c.number number o method fuel arguments going comes there (F.counts l s c.number number c there is e h)
 
     pick : (b : Bool) → nat_le number c.last ≡ b → V.Keeps l (if b then Endings.close V.setting V.setting.classes.unmarshal c.number s else Frames.call_on V.setting c.number number (object_at s target) method fuel arguments (Frames.counted c.number number s))
@@ -539,16 +588,36 @@ got_lookup_flow {V} F {l} {s} c number name same may there is h = pick (nat_le n
     pick true e = close_flow F _ c.number may may h
     pick false e = found_flow F c.number number name (Frames.object_of s (registry.lookup s.owner.names name)) same there (F.counts l s c.number number c there is e h)
 
-release_flow : {V : View} (F : Flows V) {l : List Owed} {s : State} (is : KeptResult → Bool) → V.Keeps l s → V.Keeps l (Frames.release V.setting is s)
+release_flow : {V : View} (F : Flows V) {l : List Owed} {s : State} (is : KeptResult → Bool) → ((k : KeptResult) → is k ≡ true → IsReleased V.event k.until) → V.Keeps l s → V.Keeps l (Frames.release V.setting is s)
 unfolding Frames.release
-release_flow {V} F {l} {s} is h = each_flow F _ _ (λ t q k. drop_flow F _ k) (F.results_go l s (λ q. not (is q)) h)
+release_flow {V} F {l} {s} is goes h = each_flow F _ _ (λ t q k. drop_flow F _ k) (F.results_go l s (λ q. not (is q)) (λ k e. goes k (not-not (is k) e)) h)
+  where
+    not-not : (b : Bool) → not b ≡ false → b ≡ true
+    not-not true e = refl
+    not-not false e = absurd (true≢false e)
 
-got_ack_flow : {V : View} (F : Flows V) {l : List Owed} {s : State} (c : Connection) (number : ℕ) → V.Fails V.setting.classes.unmarshal → V.Keeps l s → V.Keeps l (Frames.got_ack V.setting c number s)
+acked-goes : (e : Event) (conn number : ℕ) → e ≡ Received conn (message.Ack number) → (until : Until) (value : Option Value) → Frames.is_acked_by conn number (record { until = until; value = value }) ≡ true → IsReleased e until
+acked-goes e conn number same (state.RootAcked task) value f = absurd (true≢false (sym f))
+acked-goes e conn number same (state.Acked c n) value f = subst (λ k. e ≡ Received k (message.Ack n)) (sym (eqb-true c conn (Rattle.sp_rules.proofs.OwnLemmas.and-left (c == conn) (n == number) f)))
+    (subst (λ k. e ≡ Received conn (message.Ack k)) (sym (eqb-true n number (both-right (c == conn) (n == number) f))) same)
+acked-goes e conn number same (state.Passed moment) value f = absurd (true≢false (sym f))
+
+root-goes : (e : Event) (task : ℕ) → e ≡ RootAck task → (until : Until) (value : Option Value) → OwnEvents.is_of_root task (record { until = until; value = value }) ≡ true → IsReleased e until
+root-goes e task same (state.RootAcked t) value f = subst (λ k. e ≡ RootAck k) (sym (eqb-true t task f)) same
+root-goes e task same (state.Acked c n) value f = absurd (true≢false (sym f))
+root-goes e task same (state.Passed moment) value f = absurd (true≢false (sym f))
+
+moment-goes : (e : Event) (moment : ℕ) → e ≡ Moment moment → (until : Until) (value : Option Value) → OwnEvents.is_over_at moment (record { until = until; value = value }) ≡ true → IsReleased e until
+moment-goes e moment same (state.RootAcked t) value f = absurd (true≢false (sym f))
+moment-goes e moment same (state.Acked c n) value f = absurd (true≢false (sym f))
+moment-goes e moment same (state.Passed until) value f = (moment, (same, f))
+
+got_ack_flow : {V : View} (F : Flows V) {l : List Owed} {s : State} (c : Connection) (number : ℕ) → V.event ≡ Received c.number (message.Ack number) → V.Fails V.setting.classes.unmarshal → V.Keeps l s → V.Keeps l (Frames.got_ack V.setting c number s)
 unfolding Frames.got_ack
-got_ack_flow {V} F {s = s} c number may h = if_flow F (list_any (Frames.is_acked_by c.number number) s.results) (release_flow F _ h) (close_flow F _ c.number may may h)
+got_ack_flow {V} F {s = s} c number same may h = if_flow F (list_any (Frames.is_acked_by c.number number) s.results) (release_flow F _ (λ k f. acked-goes V.event c.number number same k.until k.value f) h) (close_flow F _ c.number may may h)
 
 -- a call that has no answer is out
-asked-out : (conn number : ℕ) (q : Request) → ParkedFrames.is_asked_on conn number q ≡ true → ParkedFrames.is_call_on conn number q ≡ true
+pub asked-out : (conn number : ℕ) (q : Request) → ParkedFrames.is_asked_on conn number q ≡ true → ParkedFrames.is_call_on conn number q ≡ true
 asked-out conn number q e = pick q.stage e
   where
     pick : (stage : state.Stage) → ParkedFrames.is_unanswered_on conn stage && ParkedFrames.has_number number q.asked ≡ true → ParkedFrames.is_out_on conn stage && ParkedFrames.has_number number q.asked ≡ true
@@ -562,15 +631,15 @@ answered_flow : {V : View} (F : Flows V) {l : List Owed} {s : State} (conn numbe
 answered_flow F {l} {s} conn number q is h = F.removes_one l s (ParkedFrames.is_asked_on conn number) (ParkedFrames.is_call_on conn number) number q is (asked-out conn number) (λ x e. both-right (ParkedFrames.is_out_on conn x.stage) _ e) h
 
 returned_flow : {V : View} (F : Flows V) {l : List Owed} {s : State} (c : Connection) (number fuel : ℕ) (value : Option Value) (q : Request) → is_ending V.event ≡ true → V.Fails V.setting.classes.unmarshal → V.Dialled c.number true → ((references : List ForeignId) → V.Known (record { conn = c.number; number = number; frame = ReturnedFrame value fuel; references = references })) → find (ParkedFrames.is_asked_on c.number number) s.requests ≡ Some q → V.Keeps l s → V.Keeps l (Frames.returned_for V.setting c number fuel value q.asked s)
-returned_flow {V} F {l} {s} c number fuel value q going may there known is h = if_flow F _ (reply_to_flow F q.asked (Throws V.setting.classes.unmarshal) (F.fails q.asked V.setting.classes.unmarshal may) (send_flow F Acks c.number (message.Ack number) there (answered_flow F c.number number q is h)))
+returned_flow {V} F {l} {s} c number fuel value q going may there known is h = if_flow F _ (reply_to_flow F q.asked (Throws V.setting.classes.unmarshal) (F.fails q.asked V.setting.classes.unmarshal may) (send_flow F Acks c.number (message.Ack number) there tt (answered_flow F c.number number q is h)))
     (park_result_flow F c.number number value fuel (foreign_ids V.setting.id (references_in value)) going (known (foreign_ids V.setting.id (references_in value))) (F.answers l s c.number number h))
 
 answered_by_flow : {V : View} (F : Flows V) {l : List Owed} {s : State} (c : Connection) (number : ℕ) (next : Asked → State → State) → ((q : Request) → find (ParkedFrames.is_asked_on c.number number) s.requests ≡ Some q → V.Keeps l (next q.asked s)) → V.Fails V.setting.classes.unmarshal → V.Keeps l s → V.Keeps l (Frames.answered_by V.setting c number next s)
 unfolding Frames.answered_by
 answered_by_flow {V} F {s = s} c number next k may h = some_flow F (find (ParkedFrames.is_asked_on c.number number) s.requests) _ (close_flow F _ c.number may may h) (λ q is. k q is)
 
-ends_as_flow : {V : View} (F : Flows V) {l : List Owed} {s : State} (c : Connection) (number : ℕ) (reply : Asked → Reply) (q : Request) → ((asked : Asked) → ParkedFrames.has_number number asked ≡ true → V.Ends asked (reply asked)) → find (ParkedFrames.is_asked_on c.number number) s.requests ≡ Some q → V.Keeps l s → V.Keeps l (Frames.ends_as V.setting c number reply q.asked s)
-ends_as_flow F {s = s} c number reply q may is h = reply_to_flow F q.asked (reply q.asked) (may q.asked (both-right (ParkedFrames.is_unanswered_on c.number q.stage) _ (found-is (ParkedFrames.is_asked_on c.number number) s.requests q is))) (answered_flow F c.number number q is h)
+ends_as_flow : {V : View} (F : Flows V) {l : List Owed} {s : State} (c : Connection) (number : ℕ) (reply : Asked → Reply) (q : Request) → (ParkedFrames.has_number number q.asked ≡ true → V.Ends q.asked (reply q.asked)) → find (ParkedFrames.is_asked_on c.number number) s.requests ≡ Some q → V.Keeps l s → V.Keeps l (Frames.ends_as V.setting c number reply q.asked s)
+ends_as_flow F {s = s} c number reply q may is h = reply_to_flow F q.asked (reply q.asked) (may (both-right (ParkedFrames.is_unanswered_on c.number q.stage) _ (found-is (ParkedFrames.is_asked_on c.number number) s.requests q is))) (answered_flow F c.number number q is h)
 
 told_by_flow : {V : View} (F : Flows V) {l : List Owed} {s : State} (c : Connection) (dirty : Bool) (sequence : ℕ) (event : ℕ → lease_events.Event) → is_ending V.event ≡ true → V.Fails V.setting.classes.unmarshal → V.Keeps l s → V.Keeps l (Frames.told_by V.setting c dirty sequence event s)
 unfolding Frames.told_by
@@ -607,13 +676,13 @@ got_flow {V} F {s} c m same B is way h = by m same way
     by : (m : Message) → V.event ≡ Received c.number m → Frames.is_wrong_way (Frames.is_asking m) (is_some c.dialled) ≡ false → V.Keeps [] (Frames.got V.setting c m s)
     by (message.Hello version space digest) e w = close_flow F _ c.number may may h
     by (message.Call number object method fuel arguments) e w = got_call_flow F c number object method fuel arguments going B.call_came may (asks w) is h
-    by (message.Returned number fuel value) e w = answered_by_flow F c number _ (λ q asked. returned_flow F c number fuel value q going may (answers w) (λ references. B.result_came (record { conn = c.number; number = number; frame = ReturnedFrame value fuel; references = references }) value fuel e refl (answers w)) asked h) may h
-    by (message.Threw number class) e w = answered_by_flow F c number _ (λ q asked. ends_as_flow F c number (λ a. Frames.thrown_reply V.setting class) q (B.threw c.number number class e) asked h) may h
-    by (message.Spent number) e w = answered_by_flow F c number _ (λ q asked. ends_as_flow F c number (Frames.spent_reply V.setting) q (B.spent c.number number e) asked h) may h
-    by (message.Ack number) e w = got_ack_flow F c number may h
-    by (message.Dirty sequence period objects) e w = send_flow F _ c.number _ (asks w) (F.quiet [] s _ refl h)
+    by (message.Returned number fuel value) e w = answered_by_flow F c number _ (λ q asked. returned_flow F c number fuel value q going may (answers w) (λ references. B.result_came (record { conn = c.number; number = number; frame = ReturnedFrame value fuel; references = references }) value fuel e refl (answers w) q asked) asked h) may h
+    by (message.Threw number class) e w = answered_by_flow F c number _ (λ q asked. ends_as_flow F c number (λ a. Frames.thrown_reply V.setting class) q (B.threw c.number number class e q asked) asked h) may h
+    by (message.Spent number) e w = answered_by_flow F c number _ (λ q asked. ends_as_flow F c number (Frames.spent_reply V.setting) q (B.spent c.number number e q asked) asked h) may h
+    by (message.Ack number) e w = got_ack_flow F c number e may h
+    by (message.Dirty sequence period objects) e w = send_flow F _ c.number _ (asks w) tt (F.quiet [] s _ refl h)
     by (message.Lease sequence period) e w = told_by_flow F c true sequence (λ call. lease_events.DirtyAnswered call period) going may h
-    by (message.Clean sequence strong objects) e w = send_flow F _ c.number _ (asks w) (F.quiet [] s _ refl h)
+    by (message.Clean sequence strong objects) e w = send_flow F _ c.number _ (asks w) tt (F.quiet [] s _ refl h)
     by (message.Cleaned sequence) e w = told_by_flow F c false sequence lease_events.CleanAnswered going may h
     by (message.Lookup number name) e w = got_lookup_flow F c number name e may (asks w) is h
 
@@ -634,9 +703,9 @@ received_flow {V} F {s = s} conn (Some c) m same B e h = if_flow F (is_none c.pe
 
 -- ---- own events
 
-moment_flow : {V : View} (F : Flows V) {l : List Owed} {s : State} (moment : ℕ) → V.Keeps l s → V.Keeps l (OwnEvents.on_moment V.setting moment s)
+moment_flow : {V : View} (F : Flows V) {l : List Owed} {s : State} (moment : ℕ) → V.event ≡ Moment moment → V.Keeps l s → V.Keeps l (OwnEvents.on_moment V.setting moment s)
 unfolding OwnEvents.on_moment
-moment_flow {V} F {l} {s} moment h = if_flow F (nat_lt moment s.moment) h (release_flow F _ (F.quiet l s _ refl h))
+moment_flow {V} F {l} {s} moment same h = if_flow F (nat_lt moment s.moment) h (release_flow F _ (λ k f. moment-goes V.event moment same k.until k.value f) (F.quiet l s _ refl h))
 
 sweep_flow : {V : View} (F : Flows V) {l : List Owed} {s : State} → V.Keeps l s → V.Keeps l (OwnEvents.on_sweep V.setting s)
 unfolding OwnEvents.on_sweep
@@ -644,21 +713,21 @@ sweep_flow {V} F {l} {s} h = sweeps (OwnEvents.without_reason V.setting s)
   where
     sweeps : (gone : List Object) → V.Keeps l (OwnEvents.sweep_of V.setting s gone)
     sweeps [] = h
-    sweeps (o ∷ os) = F.says l _ _ refl (each_flow F _ (o ∷ os) (λ t p k. drop_flow F _ k) (each_flow F _ _ (λ t id k. F.quiet l t _ refl k) (F.quiet l s _ refl h)))
+    sweeps (o ∷ os) = F.says l _ _ refl tt (each_flow F _ (o ∷ os) (λ t p k. drop_flow F _ k) (each_flow F _ _ (λ t id k. F.quiet l t _ refl k) (F.quiet l s _ refl h)))
 
 names_flow : {V : View} (F : Flows V) {l : List Owed} {s : State} (x : Result (List Binding) RegistryFault) → V.Keeps l s → V.Keeps l (OwnEvents.set_names x s)
 unfolding OwnEvents.set_names
 names_flow F {l} {s} (Ok names) h = F.quiet l s _ refl h
-names_flow F {l} {s} (Err why) h = F.says l s _ refl h
+names_flow F {l} {s} (Err why) h = F.says l s _ refl tt h
 
 lookup_flow : {V : View} (F : Flows V) {s : State} (peer : Uuid) (name : List ℕ) → V.event ≡ Lookup peer name → Begins V s → V.Keeps [] s → V.Keeps [] (OwnEvents.on_lookup V.setting peer name s)
 unfolding OwnEvents.on_lookup
-lookup_flow {V} F {s} peer name same B h = if_flow F (is_name name) (F.says [] _ _ refl (B.looks peer name same h)) (F.says [] s _ refl h)
+lookup_flow {V} F {s} peer name same B h = if_flow F (is_name name) (F.says [] _ _ refl tt (B.looks peer name same h)) (F.says [] s _ refl tt h)
 
 opened_flow : {V : View} (F : Flows V) {s : State} (conn : ℕ) (dialled : Option Uuid) → V.event ≡ Opened conn dialled → Begins V s → V.Keeps [] s → V.Keeps [] (OwnEvents.on_opened V.setting conn dialled s)
 unfolding OwnEvents.on_opened
-opened_flow {V} F conn None same B h = send_flow F _ conn (message.Hello 1 V.setting.id V.setting.digest) tt (B.opens conn None same h)
-opened_flow {V} F conn (Some peer) same B h = send_flow F _ conn (message.Hello 1 V.setting.id V.setting.digest) tt (F.quiet [] _ _ refl (B.opens conn (Some peer) same h))
+opened_flow {V} F conn None same B h = send_flow F _ conn (message.Hello 1 V.setting.id V.setting.digest) (None, same) tt (B.opens conn None same h)
+opened_flow {V} F conn (Some peer) same B h = send_flow F _ conn (message.Hello 1 V.setting.id V.setting.digest) (Some peer, same) tt (F.quiet [] _ _ refl (B.opens conn (Some peer) same h))
 
 refused_flow : {V : View} (F : Flows V) {l : List Owed} {s : State} (peer : Uuid) → V.Fails V.setting.classes.unmarshal → V.Fails V.setting.classes.connect → V.Keeps l s → V.Keeps l (OwnEvents.on_refused V.setting peer s)
 unfolding OwnEvents.on_refused
@@ -687,10 +756,10 @@ happen_flow {V} F {s} B h = by V.event refl
     unsent may why numbers (Tells call group) = may
 
     by : (e : Event) → V.event ≡ e → V.Keeps [] (Space.happen V.setting e s)
-    by (Moment moment) same = moment_flow F moment h
+    by (Moment moment) same = moment_flow F moment same h
     by Sweep same = sweep_flow F h
     by (Root method arguments fuel) same = add_task_flow F OfRoot method arguments fuel (ap is_finish same) h
-    by (RootAck task) same = release_flow F _ h
+    by (RootAck task) same = release_flow F _ (λ k f. root-goes V.event task same k.until k.value f) h
     by (Bind name value) same = names_flow F _ h
     by (Rebind name value) same = names_flow F _ h
     by (Unbind name) same = names_flow F _ h

@@ -1,5 +1,6 @@
-mod EventRules
-mod StartedLemmas
-mod DirectionLemmas
-mod CallEndLemmas
-mod AnswerLemmas
+pub mod EventRules
+pub mod StartedLemmas
+pub mod DirectionLemmas
+pub mod CallEndLemmas
+pub mod AnswerLemmas
+mod LookupLemmas

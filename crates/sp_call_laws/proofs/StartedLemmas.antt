@@ -34,7 +34,8 @@ started_in conn k ts = total (λ (t : Living). from_origin conn k t.origin) ts
 abbrev Lives : ℕ → ℕ → ℕ → List Living → Type 0
 Lives conn k i ts = (t : Living) × ((find (λ (u : Living). u.id == i) ts ≡ Some t) × (t.origin ≡ OfCall conn k))
 
--- The call started the task of this id, and no other; it is parked nowhere, and under way at most where a task ends; and its number is not above the last of its connection, where that is open.
+-- The call started the task of this id, and no other; it is parked nowhere, and under way at most as a task ends; and its number is not
+-- above the last of its connection, if that is open.
 record Started (conn k i : ℕ) (finish : Bool) (under_way : ℕ) (ts : List Living) (ps : List ParkedFrame) (cs : List Connection) : Type 0 where
   tasks : (started_in conn k ts ≡ 0) ⊎ ((started_in conn k ts ≡ 1) × Lives conn k i ts)
   parked : total (from_parked conn k) ps ≡ 0
@@ -215,8 +216,8 @@ started_flow g e conn k i = record {
   refuses = λ c n class is. tt;
   finds = λ c n name r is own. tt;
   quiet = λ l s t eq h. subst (λ (c : EventParts). Started conn k i (is_finish e) (owed_of conn k l) c.tasks c.parked c.connections) (sym eq) h;
-  says = λ l s output is h. h;
-  sends = λ l s turn c m may h. h;
+  says = λ l s output is so h. h;
+  sends = λ l s turn c m may held h. h;
   clears = λ s h. h;
   adds = λ l s q h. lower (omega arith) h;
   calls_out = λ l s turn c peer number task lent kind m there h. lower (omega arith) h;
@@ -242,7 +243,7 @@ started_flow g e conn k i = record {
   looked_up = λ l s peer number task name reply may h. lower (omega arith) h;
   works = λ l s id t f lent row ready is h. tasks-set id f row h;
   keeps = λ l s until value h. lower (let a : owed_of conn k (of_until until ++ l) ≡ Rattle.sp_laws.specs.Inbound.from_until conn k until + owed_of conn k l = until-owed conn k until l in omega arith) h;
-  results_go = λ l s is h. h;
+  results_go = λ l s is goes h. h;
   falls = λ l s c n h. lower (omega arith) h;
   row = λ l s at f num last dialled h. rows _ (same-limit 1 k conn at f num last s.connections ∙ h.passed) h;
   counts = λ l s at number c there is low h.
@@ -257,7 +258,7 @@ started_flow g e conn k i = record {
   takes_call = λ l s p q is call h.
       let a : count (q.conn == conn && q.number == k) ≡ 0 = other-call (ParkedFrames.is_parked_at p.conn p.number) q is call h in
       frames-gone (λ x. not (ParkedFrames.is_parked_at p.conn p.number x)) (lower (omega arith) h);
-  closes = λ l s at h. rows _ (closed-passes conn k at s.connections h.passed) h;
+  closes = λ l s at why h. rows _ (closed-passes conn k at s.connections h.passed) h;
 }
 
 started-begin : (g : Setting) (s : State) (conn k i : ℕ) (e : Event) → opens conn e ≡ false → Begins (view g e conn k i) s
@@ -268,11 +269,11 @@ started-begin g s conn k i e old = record {
   unmarshal = λ is. tt;
   connect = λ is. tt;
   marshal = λ is. tt;
-  threw = λ c n class is asked has. tt;
-  spent = λ c n is asked has. tt;
+  threw = λ c n class is q found has. tt;
+  spent = λ c n is q found has. tt;
   finished = λ id n t outcome c m is ready stands origin. tt;
   call_came = λ p is there. tt;
-  result_came = λ p value fuel is frame there. tt;
+  result_came = λ p value fuel is frame there q found. tt;
 }
 
 -- ---- through histories

@@ -27,7 +27,7 @@ pub record IsOutcome (g : Setting) (s : State) (e : Event) (conn : ℕ) (m : Mes
   pub ended : stand (steps made row.task) ≡ HasEnded outcome
   pub says : m ≡ reply_frame g number (steps made row.task).fuel outcome
 
--- the exceptions with which a call or lookup is answered that starts no task
+-- the exceptions that answer a call or lookup which starts no task
 abbrev pub IsRefusal : Setting → ClassId → Type 0
 IsRefusal g class = (class ≡ g.classes.no_such_object) ⊎ ((class ≡ g.classes.unmarshal) ⊎ ((class ≡ g.classes.server_error) ⊎ (class ≡ g.classes.not_bound)))
 
@@ -62,6 +62,6 @@ abbrev pub SendsAnswer : Setting → State → Event → Output → Type 0
 SendsAnswer g s e (Send conn m) = Answers g s e conn m
 SendsAnswer g s e _ = Unit {0}
 
--- So with each event after every history.
+-- This holds of each event after every history.
 abbrev pub AnswersAreOutcomes : Type 0
 AnswersAreOutcomes = (g : Setting) (h : List Event) (e : Event) → AllOf (SendsAnswer g (state_of g h) e) (outputs_of g h e)

@@ -1,4 +1,5 @@
 -- How a call ends: with its callee's answer, as the frame says it, or with an exception of a failure, and with nothing else (Java RMI specification, A.2: ConnectException, MarshalException, UnmarshalException; 3.2 on results).
+use Rattle.std.specs.List.{list_any}
 use Rattle.std.specs.Prelude.{◌≡◌, ◌⊎◌, ℕ, true, false, List, [], ◌∷◌, Option, Some, Bool, find, if◌then◌else◌}
 use Rattle.net_message.specs.declared.message.Message.{Message}
 use Rattle.net_message.specs.declared.message.Message.TheVariants as message
@@ -7,7 +8,7 @@ use Rattle.space_ids.specs.declared.value.Value.{Value}
 use Rattle.sp_rules.specs.Behaviours.{Reply, Gives, GivesBack, Throws, RunsOut}
 use Rattle.sp_rules.specs.Classes.{Setting, Kind}
 use Rattle.sp_rules.specs.Events.{Event, Refused, Received, Closed, ReadFailed, Bad, WriteFailed}
-use Rattle.sp_rules.specs.ParkedFrames.{has_number}
+use Rattle.sp_rules.specs.ParkedFrames.{has_number, is_asked_on}
 use Rattle.sp_rules.specs.Space.{state_of, on}
 use Rattle.sp_rules.specs.State.{State, Living, Request, Calls, ReturnedFrame, ParkedFrame, task_at}
 
@@ -17,7 +18,8 @@ abbrev pub is_hello : Message → Bool
 is_hello (message.Hello version space digest) = true
 is_hello _ = false
 
--- The exceptions of failures: where no peer is reached, by a Dial that is refused or a Hello that is wrong, ConnectException; where a frame was not written whole, MarshalException; and with each end of a connection, and each dirty call that fails, UnmarshalException.
+-- The exceptions of failures: ConnectException if no peer is reached, by a Dial that is refused or a Hello that is wrong; MarshalException
+-- if a frame was not written whole; and UnmarshalException with each end of a connection, and each dirty call that fails.
 abbrev pub IsFailure : Setting → Event → ClassId → Type 0
 IsFailure g (Refused peer) class = (class ≡ g.classes.connect) ⊎ (class ≡ g.classes.unmarshal)
 IsFailure g (Received conn m) class = ((is_hello m ≡ true) × (class ≡ g.classes.connect)) ⊎ (class ≡ g.classes.unmarshal)
@@ -27,10 +29,15 @@ IsFailure g (Bad conn) class = class ≡ g.classes.unmarshal
 IsFailure g (WriteFailed conn unsent) class = (class ≡ g.classes.marshal) ⊎ (class ≡ g.classes.unmarshal)
 IsFailure g _ class = ⊥
 
--- A Threw came under the number, with this class or one that is no Throwable.
-pub record IsThrown (g : Setting) (e : Event) (number : ℕ) (class : ClassId) : Type 0 where
+-- The call or lookup of a number is out on the connection, and not answered.
+abbrev pub IsOutOn : ℕ → ℕ → List Request → Type 0
+IsOutOn conn number requests = list_any (is_asked_on conn number) requests ≡ true
+
+-- A Threw came under the number on the connection on which that is out, with this class or one that is no Throwable.
+pub record IsThrown (g : Setting) (s : State) (e : Event) (number : ℕ) (class : ClassId) : Type 0 where
   pub conn : ℕ
   pub thrown : ClassId
+  pub out : IsOutOn conn number s.requests
   pub came : e ≡ Received conn (message.Threw number thrown)
   pub told : class ≡ (if g.classes.is_throwable thrown then thrown else g.classes.unmarshal)
 
@@ -39,12 +46,12 @@ abbrev pub IsParkedIn : ℕ → Option Value → ℕ → List ParkedFrame → Ty
 IsParkedIn number value fuel [] = ⊥
 IsParkedIn number value fuel (p ∷ ps) = ((p.number ≡ number) × (p.frame ≡ ReturnedFrame value fuel)) ⊎ IsParkedIn number value fuel ps
 
--- With what an event may end the call of a number: with the value and the fuel of a Returned of that number that comes or waited for leases; with what a Threw or a Spent of that number says; or with the exception of a failure.
+-- With what an event may end the call of a number: with the value and the fuel of a Returned of that number that comes on the connection on which the call is out, or waited for leases; with what a Threw or a Spent of that number says that comes there; or with the exception of a failure.
 abbrev pub MayEndWith : Setting → State → Event → ℕ → Reply → Type 0
 MayEndWith g s e number (Gives value) = ⊥
-MayEndWith g s e number (GivesBack value fuel) = ((conn : ℕ) × (e ≡ Received conn (message.Returned number fuel value))) ⊎ IsParkedIn number value fuel s.parked
-MayEndWith g s e number (Throws class) = IsThrown g e number class ⊎ IsFailure g e class
-MayEndWith g s e number RunsOut = (conn : ℕ) × (e ≡ Received conn (message.Spent number))
+MayEndWith g s e number (GivesBack value fuel) = ((conn : ℕ) × (IsOutOn conn number s.requests × (e ≡ Received conn (message.Returned number fuel value)))) ⊎ IsParkedIn number value fuel s.parked
+MayEndWith g s e number (Throws class) = IsThrown g s e number class ⊎ IsFailure g e class
+MayEndWith g s e number RunsOut = (conn : ℕ) × (IsOutOn conn number s.requests × (e ≡ Received conn (message.Spent number)))
 
 -- ---- what becomes of a task that waits
 

@@ -39,16 +39,17 @@ CameFromPeer h (OfCall conn number) = HasOpened h conn false
 
 -- ---- the laws
 
--- So with each event after every history.
+-- This holds of each event after every history.
 abbrev pub FramesGoTheirWay : Type 0
 FramesGoTheirWay = (g : Setting) (h : List Event) (e : Event) → AllOf (GoesItsWay (e ∷ h)) (outputs_of g h e)
 
--- Of a space of a world: all frames that it sent went their way, each of its tasks came from where it may, and no connection is of both kinds.
+-- Of a space of a world: all frames that it sent went their way, each of its tasks came on a connection on which it may come, and no
+-- connection is of both kinds.
 pub record HasDirections (s : Space) : Type 0 where
   pub sent : AllOf (GoesItsWay s.history) s.outputs
   pub tasks : AllOf (λ (t : Living). CameFromPeer s.history t.origin) s.state.tasks
   pub one : (conn : ℕ) → HasOpened s.history conn true → HasOpened s.history conn false → ⊥
 
--- So in every run of every world, whatever is lost or fails.
+-- This holds in every run of every world, whatever is lost or fails.
 abbrev pub SpacesHaveDirections : Type 0
 SpacesHaveDirections = (settings : List Setting) (events : List WorldEvent) → AllOf HasDirections (run (new_world settings) events).spaces

@@ -3,3 +3,4 @@ pub mod Started
 pub mod Directions
 pub mod CallEnds
 pub mod Answers
+pub mod LookupEnds

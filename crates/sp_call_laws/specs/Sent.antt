@@ -1,5 +1,5 @@
 -- In which direction frames go: the space that dialled asks, by Call, Lookup, Ack, Dirty and Clean; the other end answers, by Returned, Threw, Spent, Lease and Cleaned; both say Hello (this project's own protocol).
-use Rattle.std.specs.Prelude.{ℕ, Bool, true, false}
+use Rattle.std.specs.Prelude.{◌⊎◌, ℕ, Bool, true, false}
 use Rattle.net_message.specs.declared.message.Message.{Message}
 use Rattle.net_message.specs.declared.message.Message.TheVariants as message
 use Rattle.sp_rules.specs.Events.{Output, Send}
@@ -8,9 +8,9 @@ abbrev pub is_send : Output → Bool
 is_send (Send conn m) = true
 is_send _ = false
 
--- A frame that asks goes out on a connection that was dialled, one that answers on one that was not.
+-- A frame that asks goes out on a connection that was dialled, one that answers on one that was not, a Hello on either.
 abbrev pub MaySend : (ℕ → Bool → Type 0) → ℕ → Message → Type 0
-MaySend Dialled conn (message.Hello version space digest) = Unit {0}
+MaySend Dialled conn (message.Hello version space digest) = Dialled conn true ⊎ Dialled conn false
 MaySend Dialled conn (message.Call number object method fuel arguments) = Dialled conn true
 MaySend Dialled conn (message.Lookup number name) = Dialled conn true
 MaySend Dialled conn (message.Ack number) = Dialled conn true

@@ -18,14 +18,14 @@ pub record IsStartedBy (conn number id : ℕ) (s : State) : Type 0 where
 abbrev pub StartsOnce : Setting → List Event → List Event → Type 0
 StartsOnce g h more = (conn number id later : ℕ) → IsStartedBy conn number id (state_of g h) → IsStartedBy conn number later (state_of g (more ++ h)) → id ≡ later
 
--- So in every history in which no number of a connection comes again.
+-- This holds in every history in which no number of a connection comes again.
 abbrev pub CallsStartOneTask : Type 0
 CallsStartOneTask = (g : Setting) (h more : List Event) → OpensOnce (more ++ h) → StartsOnce g h more
 
--- So of any two moments in the history of a space of a world.
+-- This holds of any two moments in the history of a space of a world.
 abbrev pub HasStartedOnce : Space → Type 0
 HasStartedOnce s = (h more : List Event) → more ++ h ≡ s.history → StartsOnce s.setting h more
 
--- So in every run of every world, whatever is lost or fails.
+-- This holds in every run of every world, whatever is lost or fails.
 abbrev pub CallsStartOneTaskInWorlds : Type 0
 CallsStartOneTaskInWorlds = (settings : List Setting) (events : List WorldEvent) → AllOf HasStartedOnce (run (new_world settings) events).spaces

@@ -21,7 +21,7 @@ use Rattle.sp_laws.specs.Asking.{StandsAtHeld, AsksOfHeld, TasksAskOfWhatTheyHol
 
 -- ---- what tasks ask
 
--- what is behind the test that the task is lent
+-- the tests after the one that the task is lent
 in-hand : (lent : List ℕ) (s : State) (task : ℕ) (rest : List Check) → first_refusal (Refusals.refuse_if (not (Refusals.is_in_hand lent s task)) Refusals.NotLent ++ rest) ≡ None → first_refusal rest ≡ None
 in-hand lent s task rest e = (first-of (not (Refusals.is_in_hand lent s task)) Refusals.NotLent rest e).1
 

@@ -1,4 +1,5 @@
--- Each rule of a space asks other spaces alone: the references of which holders come, the call or lookup of an event, and the Dials that are answered are other spaces'.
+-- Each rule of a space asks other spaces alone: the references that get holders, the call or lookup of an event, and the Dials that are
+-- answered are other spaces'.
 use Rattle.std.proofs.lemmas.Bool.{true≢false}
 use Rattle.std.specs.List.{list_any, flat_map, filter_map, cons_option}
 use Rattle.std.specs.Prelude.{if◌then◌else◌, ◌≡◌, refl, ℕ, zero, suc, ◌+◌, ◌==◌, ◌&&◌, ◌||◌, not, nat_le, is_some, Bool, true, false, List, [], ◌∷◌, ◌++◌, Option, None, Some, find, fold, nat_lt, is_none, Result, Ok, Err, filter}
@@ -98,7 +99,7 @@ quiet {g} t e h = record { parts = subst (IsAway g) (sym e) h.parts }
 noted : {g : Setting} {s : State} (t : State) (output : Output) → away_parts t ≡ record { leases = s.leases; fresh = s.fresh; notes = s.notes ++ Says output ∷ [] } → IsToOther g output → Away g s → Away g t
 noted {g} {s} t output e ok h = record { parts = subst (IsAway g) (sym e) (record { leases = h.parts.leases; fresh = h.parts.fresh; notes = all-more (Notes g) s.notes (Says output) h.parts.notes ok }) }
 
--- something is told of references
+-- references have an event
 told : {g : Setting} {s : State} (t : State) (h : List Told) → away_parts t ≡ record { leases = h; fresh = s.fresh; notes = s.notes } → AllOf (IsForeign g) h → Away g s → Away g t
 told {g} {s} t h e ok k = record { parts = subst (IsAway g) (sym e) (record { leases = ok; fresh = k.parts.fresh; notes = k.parts.notes }) }
 
@@ -158,7 +159,7 @@ drop_away {g} ids h = each_away Holders.holder_goes ids (λ t x k. told (Holders
 let_go_away : {g : Setting} {s : State} (p : ParkedFrame) (parked : List ParkedFrame) → Away g s → Away g (ParkedFrames.let_go_parked p parked s)
 let_go_away p parked h = each_away _ (filter (ParkedFrames.is_parked_at p.conn p.number) parked) (λ t q k. drop_away q.references k) h
 
--- ---- what is told of groups
+-- ---- the events of groups
 
 on-each : (g : Setting) (rs : List ForeignId) (event : lease_events.Event) (h : List Told) → client.is_hold event ≡ false → AllOf (IsForeign g) h → AllOf (IsForeign g) (client.on_each rs event h)
 on-each g [] event h e a = a

@@ -1,4 +1,4 @@
--- Holders of a reference, counted in lists and in what a client is told.
+-- Holders of a reference, counted in lists and in the events of a client.
 use mathlib.Core.Path.{sym, ap, subst, ◌∙◌}
 use Rattle.std.specs.Prelude.{◌≡◌, refl, ℕ, ◌+◌, ◌-◌, ◌≤◌, ◌<◌, ◌&&◌, ◌||◌, nat_lt, length, Bool, true, false, cond, List, [], ◌∷◌, ◌++◌, Option, None, Some, filter, if◌then◌else◌}
 use Rattle.std.specs.Str.{bytes_eq}
@@ -79,7 +79,7 @@ refs-append u r (x ∷ xs) ys =
     let b : times_in r (foreign_id u x ++ foreign_ids u xs) ≡ times_in r (foreign_id u x) + refs_times u r xs = times-append r (foreign_id u x) (foreign_ids u xs) in
     let c : refs_times u r (xs ++ ys) ≡ refs_times u r xs + refs_times u r ys = refs-append u r xs ys in omega arith
 
--- ---- what a client is told
+-- ---- the events of a client
 
 abbrev pub counted : ForeignId → List Told → ℕ
 counted r h = (lease_of (own r h)).holders
@@ -117,7 +117,7 @@ quiet-after (DirtyFailed call) h d l = same-holders l.holders (lease.is_made l.d
 quiet-after (CleanAnswered call) h d l = same-holders l.holders (lease.is_clean l.clean call) _ l refl refl
 quiet-after (CleanFailed call) h d l = same-holders l.holders (lease.is_clean l.clean call) _ l refl refl
 
--- as many holders, and as many that came
+-- two histories with the same number of holders, and of holders that came
 pub record Alike (r : ForeignId) (h k : List Told) : Type 0 where
   pub holders : counted r k ≡ counted r h
   pub times : times_held r k ≡ times_held r h
@@ -178,7 +178,7 @@ any-more r x (y ∷ xs) e = two (is_same r y) e (any-more r x xs)
     two true f rest = absurd (true≢false f)
     two false f rest = rest f
 
--- one that is not among those that were held has not been held now
+-- a reference that was not among those held is not held now
 among-with : (r x : ForeignId) (xs : List ForeignId) → is_among r (client.with_reference xs x) ≡ false → (is_among r xs ≡ false) × (is_same r x ≡ false)
 among-with r x xs = pick (is_among x xs) refl
   where

@@ -1,4 +1,4 @@
--- Each rule of a space keeps the holders that a client counts to those that there are.
+-- After each rule of a space a client still counts exactly the holders that there are.
 use mathlib.Core.Path.{sym, ap, subst, ◌∙◌}
 use Rattle.std.proofs.Common.{arith, inl, inr}
 use Rattle.std.proofs.lemmas.Bool.{true≢false, eqb-true, ltb-true}
@@ -159,7 +159,7 @@ reply_to_off (Tells call group) reply h = h
 
 -- ---- operations on the store
 
--- An object that is made has an id of which nothing was written; a value is put into a field of an object that stands.
+-- Nothing was written yet under the id of a new object; a value is put into a field of a standing object.
 abbrev OpFits : Setting → ℕ → List Stored → Op → Type 0
 OpFits g made store (Create class) = (id : ObjId) (slot : ℕ) → made + 1 ≤ id.0 → last_written store id slot ≡ None
 OpFits g made store (Get id slot) = Unit {0}

@@ -1,4 +1,4 @@
--- The holders that a client counts and those that there are, as tasks, fields, results and parked frames come, change and go.
+-- The holders that a client counts and the actual ones, as tasks, fields, results and parked frames come, change and go.
 use mathlib.Core.Path.{sym, ap, subst, ◌∙◌}
 use Rattle.std.specs.Prelude.{◌≡◌, refl, ℕ, zero, suc, ◌+◌, ◌≤◌, ◌<◌, ◌==◌, not, length, Bool, true, false, cond, List, [], ◌∷◌, ◌++◌, Option, None, Some, drop, filter, find, map, unwrap_or, if◌then◌else◌}
 use Rattle.std.proofs.Common.{arith}
@@ -62,7 +62,7 @@ sum_of g r c =
 pub record Even (g : Setting) (r : ForeignId) (m n : ℕ) (c : HoldParts) : Type 0 where
   pub even : times_held r c.leases < 18446744073709551615 → counted r c.leases + m ≡ sum_of g r c + n
 
--- The client counts as many holders as there are, but for so many that are to come, and so many that are to go.
+-- The client counts the actual holders, but for m still to come, and n still to go.
 pub record Off (g : Setting) (r : ForeignId) (m n : ℕ) (s : State) : Type 0 where
   pub parts : Even g r m n (hold_parts s)
 
@@ -92,7 +92,7 @@ renumber {g} {r} {s} m n m' n' e h = record {
   };
 }
 
--- each lets so many go
+-- each lets its number go
 pub each_less : {g : Setting} {r : ForeignId} {n : ℕ} {A : Type 0} {s : State} (v : A → ℕ) (f : State → A → State) (xs : List A) → ((k : ℕ) (t : State) (x : A) → Off g r 0 (k + v x) t → Off g r 0 k (f t x))
     → Off g r 0 (n + total v xs) s → Off g r 0 n (each f xs s)
 unfolding each
@@ -203,7 +203,7 @@ task-gains g r reply t held e =
 
 -- ---- one row of each number
 
--- where all numbers are above this one, none of them is it
+-- if all numbers are above this one, none of them is it
 pub total-above : {A : Type 0} (number v : A → ℕ) (k n last : ℕ) (xs : List A) → k ≤ n → RisesWithin n last (map number xs) → total v (filter (λ x. not (number x == k)) xs) ≡ total v xs
 total-above number v k n last [] le r = refl
 total-above number v k n last (x ∷ xs) le r =

@@ -65,7 +65,7 @@ gone_flow g k = record {
   closes = λ l s conn h. less {k = k} {l = l} {m = l} {s = s} (omega arith) refl h;
 }
 
--- a number that is given now is not the one that was given
+-- a number that is given now is not one given before
 other-number : (c k : ℕ) → k ≤ c → count (c + 1 == k) ≡ 0
 other-number c k le = pick (c + 1 == k) refl
   where

@@ -1,4 +1,5 @@
--- What is asked of peers and what peers ask, as the rules of a space move it. A property that keeps count of requests, of calls that came and of what is under way between them is kept by each rule, where the few moves keep it.
+-- What is asked of peers and what peers ask, as the rules of a space move it. If a property keeps count of requests, of calls that came and
+-- of what is under way between them, and the few moves keep it, each rule keeps it.
 use mathlib.Core.Path.{sym, ap, subst}
 use Rattle.std.proofs.lemmas.Bool.{true≢false, eqb-true}
 use Rattle.std.specs.List.{list_any}

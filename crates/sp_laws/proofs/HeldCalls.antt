@@ -194,7 +194,7 @@ held_flow g = record {
 
 -- ---- a call that is made
 
--- a task that lends its fuel stands where it stood
+-- a task that lends its fuel stands at the point at which it stood
 lent-stands : (t : Task) (op : Op) → stand t ≡ AsksFor op → stand (lend_fuel t) ≡ AsksFor op
 unfolding stand lend_fuel
 lent-stands t op e = at t.behaviour t.fuel e

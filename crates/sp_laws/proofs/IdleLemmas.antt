@@ -1,4 +1,4 @@
--- On a connection where nobody asks there is no call, and on one where this space does not ask no request.
+-- On a connection on which nobody asks there is no call, and on one on which this space does not ask no request.
 use mathlib.Core.Path.{sym, subst, ◌∙◌}
 use Rattle.std.proofs.Common.{arith}
 use Rattle.std.proofs.lemmas.Bool.{true≢false, eqb-true}

@@ -37,7 +37,7 @@ owed_at conn k (Inbound c n) = count (c == conn && n == k)
 abbrev pub owed_of : ℕ → ℕ → List Owed → ℕ
 owed_of conn k l = total (owed_at conn k) l
 
--- how often it may occur: not at all above the last number; and so many where the connection is not open
+-- how often it may occur: not at all above the last number; and `o` times if the connection is not open
 abbrev pub limit : ℕ → ℕ → Option Connection → ℕ
 limit o k None = o
 limit o k (Some c) = count (nat_le k c.last)
@@ -149,7 +149,7 @@ open-row conn at apart (d ∷ cs) = pick (d.number == at) refl (d.number == conn
     pick true g false h rest = rest ∙ sym (ap (λ b. cond b (Some d) (find (λ (x : Connection). x.number == conn) cs)) h)
     pick false g e h rest = ap (λ o. cond (d.number == conn) (Some d) o) rest
 
--- a connection more, of another number or of this one where none is open
+-- a connection more, of another number, or of this one if none is open
 pub more-row : (conn : ℕ) (row : Connection) → (row.number == conn) ≡ false → (cs : List Connection) → find (λ (d : Connection). d.number == conn) (cs ++ row ∷ []) ≡ find (λ (d : Connection). d.number == conn) cs
 more-row conn row e [] = ap (λ b. cond b (Some row) None) e
 more-row conn row e (d ∷ cs) = ap (λ o. cond (d.number == conn) (Some d) o) (more-row conn row e cs)

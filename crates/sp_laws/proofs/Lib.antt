@@ -6,17 +6,17 @@ pub mod FlowRules
 pub mod WaitLemmas
 pub mod WaitHistories
 pub mod InboundLemmas
-mod HeldCalls
+pub mod HeldCalls
 mod OwingLemmas
 mod PlaceLemmas
 mod PlaceRules
-mod PlaceEvents
+pub mod PlaceEvents
 mod AwayRules
 pub mod OnceRules
-mod SpaceLemmas
+pub mod SpaceLemmas
 mod EndedLemmas
 pub mod PastLemmas
 mod IdleLemmas
 mod AwaitedLemmas
-mod AskingLemmas
-mod GivenRules
+pub mod AskingLemmas
+pub mod GivenRules

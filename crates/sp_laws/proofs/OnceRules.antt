@@ -79,7 +79,7 @@ abbrev HasEnd : ℕ → Option Pipe → Type 0
 HasEnd i None = ⊥
 HasEnd i (Some p) = (p.dialler.space ≡ i) ⊎ ((p.accepter.space ≡ i) × (Worlds.is_unopened p.accepter.phase ≡ false))
 
--- A side that is changed stays its space's, and open where it was opened.
+-- A side that is changed stays its space's, and open if it was opened.
 record IsKeptSide (f : Side → Side) : Type 0 where
   space : (s : Side) → (f s).space ≡ s.space
   phase : (s : Side) → Worlds.is_unopened s.phase ≡ false → Worlds.is_unopened (f s).phase ≡ false
@@ -182,7 +182,7 @@ puts-once i (o ∷ outputs) w a h = puts-once i outputs (put i w o) a.1 (put-onc
 
 -- ---- an event comes to a space
 
--- Where an event opens a connection, it was not opened there, and the space is an end of it.
+-- If an event opens a connection, it was not opened there, and the space is an end of it.
 abbrev IsNew : List Pipe → ℕ → Event → Space → Type 0
 IsNew ps i e s = (n : ℕ) → opens n e ≡ true → (opened n s.history ≡ false) × HasEnd i (slice_get ps n)
 

@@ -23,7 +23,7 @@ use Rattle.sp_laws.specs.Inbound.{from_origin, from_until, from_parked, occurren
 use Rattle.sp_laws.proofs.FlowRules.{Owed, Removed, Inbound, removed, of_origin, of_until, Flows, Begins, FlowParts, on_flow}
 use Rattle.sp_laws.proofs.InboundLemmas.{owed_of, limit, removed-none, origin-owed, until-owed, first-same, same-limit, counted-row, other-row, closed-row, open-row, more-row, orphans-less, call-weight, result-weight}
 
--- It occurs nowhere, and is not above the last number of its connection where that is open.
+-- It occurs nowhere, and is not above the last number of its connection if that is open.
 pub record IsPast (conn k : ℕ) (l : List Owed) (s : State) : Type 0 where
   pub nowhere : occurrences_of conn k s + owed_of conn k l ≡ 0
   pub passed : limit 1 k (connection_at s conn) ≡ 1

@@ -119,7 +119,7 @@ first_place {g} {s} c (message.Hello version space digest) is h = pick c.dialled
     pick (Some peer) e = if_place (bytes_eq digest g.digest && bytes_eq space peer) (flush_place space peer c is e h) (close_place _ c.number h)
 first_place c _ is h = close_place _ c.number h
 
--- a call is taken where somebody asks
+-- a call is taken on a connection on which somebody asks
 counted_place : {g : Setting} {s : State} (conn number : ℕ) → IsGreeted s.connections conn false → Place g [] s → Place g [] (Frames.counted conn number s)
 counted_place {s = s} conn number came h = row_place conn _ (record { number = λ c. refl; dialled = λ c. refl; greeted = λ c e. e })
     (all-first-found HasTakenNone (λ (d : Connection). d.number == conn) (λ (d : Connection). record d { last = number }) s.connections came.row came.found (λ e. absurd (asked came.row.peer came.row.dialled came.greeted came.end e)) h.parts.unasked) h

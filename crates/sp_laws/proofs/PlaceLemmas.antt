@@ -65,7 +65,7 @@ by-number is (d ∷ cs) c a e = pick (is d) e (by-number is cs c a.1)
     pick true f rest = here (d.number == c.number) (eq-eqb d.number c.number (ap (λ (x : Connection). x.number) (some-same f))) (Some d) (numbered cs c.number) ∙ f
     pick false f rest = there (d.number == c.number) (other-order c.number d.number (all-found (λ (x : Connection). (x.number == d.number) ≡ false) is cs c f a.0)) (Some d) (numbered cs c.number) ∙ rest f
 
--- a connection more, where none is open of its number
+-- a connection more, if none is open of its number
 pub number-more : (cs : List Connection) (row c : Connection) (conn : ℕ) → numbered cs conn ≡ Some c → numbered (cs ++ row ∷ []) conn ≡ Some c
 number-more [] row c conn e = absurd (some-none c (sym e))
 number-more (d ∷ cs) row c conn e = pick (d.number == conn) e (number-more cs row c conn)
@@ -252,7 +252,7 @@ results-elsewhere conn k at n ps e = total-kept (λ (p : ParkedFrame). count (is
 pub results-gone : (conn k : ℕ) (ps : List ParkedFrame) → results_of conn k (filter (λ p. not (is_parked_at conn k p)) ps) ≡ 0
 results-gone conn k ps = total-left (λ (p : ParkedFrame). count (is_result conn k p)) (is_parked_at conn k) ps (λ p not-is. count-false (is_result conn k p) (λ r. true≢false (sym (both-right (not (is_call_frame p.frame)) _ r) ∙ not-is)))
 
--- a call that is out and not answered, with those that are answered, is one of its number
+-- a call that is out and not answered, with the answered ones, is one of its number
 pub out-and-answers : (conn k : ℕ) (rs : List Request) → total (λ (q : Request). count (is_asked_on conn k q)) rs + answers_of conn k rs ≤ calls_numbered k rs
 out-and-answers conn k [] = omega arith
 out-and-answers conn k (q ∷ rs) =

@@ -37,7 +37,7 @@ owed_one w (Inbound conn number) = 0
 abbrev pub owed_sum : (Asked → ℕ) → List Owed → ℕ
 owed_sum w l = total (owed_one w) l
 
--- all that is asked, wherever it stands
+-- all that is asked, in each part of the state
 abbrev pub flow_sum : (Asked → ℕ) → List Owed → State → ℕ
 flow_sum w l s = asked_sum w s.requests + (asked_sum w s.fresh + owed_sum w l)
 
@@ -115,7 +115,7 @@ told-sum w none dirty conn sequence (q ∷ rs) = pick (Frames.tells_on dirty con
 abbrev pub one_of : ℕ → Asked → ℕ
 one_of k asked = count (ParkedFrames.has_number k asked)
 
--- where no request has the number none passes
+-- if no request has the number, none passes
 none-pass : (w : Asked → ℕ) (is : Request → Bool) (k : ℕ) (rs : List Request) → ((p : Request) → is p ≡ true → ParkedFrames.has_number k p.asked ≡ true) → calls_numbered k rs ≡ 0 → asked_sum w (filter is rs) ≡ 0
 none-pass w is k [] has e = refl
 none-pass w is k (q ∷ rs) has e = pick (is q) refl (none-pass w is k rs has)
@@ -132,7 +132,7 @@ found-counts finds k (p ∷ rs) q has e = pick (finds p) refl e (found-counts fi
     pick true t f rest = let c : count (ParkedFrames.has_number k p.asked) ≡ 1 = ap count (has p t) in omega arith
     pick false t f rest = let c : 1 ≤ calls_numbered k rs = rest f in omega arith
 
--- the request that is found is the only one that passes
+-- the request found is the only one that passes
 one-passes : (w : Asked → ℕ) (finds is : Request → Bool) (k : ℕ) (rs : List Request) (q : Request) → find finds rs ≡ Some q → ((p : Request) → finds p ≡ true → is p ≡ true) → ((p : Request) → is p ≡ true → ParkedFrames.has_number k p.asked ≡ true)
     → calls_numbered k rs ≤ 1 → asked_sum w (filter is rs) ≡ w q.asked
 one-passes w finds is k [] q e passes has le = absurd (some-none q (sym e))
@@ -217,7 +217,7 @@ more-at id (u ∷ ts) row e = pick (u.id == id) (more-at id ts row e)
 
 -- ---- what the rules keep
 
--- The calls of a task, and those that are under way, are as many as it waits for; and each number stands once where it was given.
+-- The calls of a task and those under way are together those that it waits for; and each number that was given stands once.
 pub record Waits (l : List Owed) (s : State) : Type 0 where
   pub tasks : (id : ℕ) → flow_sum (call_of id) l s ≡ waits_in (task_at s id)
   pub numbers : (k : ℕ) → flow_sum (one_of k) l s ≤ count (nat_le k s.calls_made)
@@ -242,7 +242,7 @@ stands-once {l} {s} k h =
 pub different : (a b : ℕ) → (a == b) ≡ false → a ≡ b → ⊥
 different a b e f = true≢false (sym (eq-eqb a b f) ∙ e)
 
--- a task that is changed waits where it waited, or as it is said
+-- a task that is changed waits as it waited, or as it is said
 pub set-waits : (s : State) (id : ℕ) (t : Living) (f : Living → Living) → ((u : Living) → (f u).id ≡ u.id) → task_at s id ≡ Some t → (other : ℕ) → waits_in (task_at (set_task f id s) other) ≡ (if id == other then count (f t).waits else waits_in (task_at s other))
 set-waits s id t f same is other = pick (id == other) refl
   where

@@ -14,7 +14,8 @@ use Rattle.sp_laws.specs.Counted.{times_held}
 use Rattle.sp_laws.specs.Owing.{OwesItsEnd}
 use Rattle.sp_laws.specs.Waiting.{CallsWait}
 
--- A space's own references stand, its lines wait for Hellos, each of its tasks that waits has one call, which it holds, its requests and parked frames stand with their connections, and its leases count the holders that there are and owe their ends.
+-- A space's own references stand, and its lines wait for Hellos. Each waiting task of it has one call, and holds what the call names. Its
+-- requests and parked frames stand with their connections. Its leases count the holders that there are, and owe their ends.
 pub record IsInOrder (s : Space) : Type 0 where
   pub own : OwnStand s.setting s.state
   pub lines : HasLines s.state
@@ -24,6 +25,6 @@ pub record IsInOrder (s : Space) : Type 0 where
   pub counted : (r : ForeignId) → nat_lt (times_held r s.state.leases) 18446744073709551615 ≡ true → (lease_now s.state r).holders ≡ holders_of s.setting s.state r
   pub owing : (r : ForeignId) → OwesItsEnd (lease_now s.state r)
 
--- So each space of every world, whatever is lost or fails.
+-- This holds of each space of every world, whatever is lost or fails.
 abbrev pub SpacesAreInOrder : Type 0
 SpacesAreInOrder = (settings : List Setting) (events : List WorldEvent) → AllOf IsInOrder (run (new_world settings) events).spaces

@@ -73,7 +73,8 @@ results_of conn number parked = total (λ (p : ParkedFrame). count (not (is_call
 
 -- ---- the law
 
--- Each request and each parked frame stands with its connection, and on one where nobody asks no call was taken. Of each number as many calls and lookups are answered on a connection as results are parked: one, or none.
+-- Each request and each parked frame stands with its connection, and on one on which nobody asks no call was taken. On a connection the
+-- calls and lookups of a number that are answered are as many as its parked results: one, or none.
 pub record AreInPlace (s : State) : Type 0 where
   pub requests : AllOf (λ (q : Request). StandsOn s.connections q.peer q.stage × GoesTo q.peer q.asked) s.requests
   pub parked : AllOf (CameOn s.connections) s.parked
@@ -81,6 +82,6 @@ pub record AreInPlace (s : State) : Type 0 where
   pub answered : (conn number : ℕ) → answers_of conn number s.requests ≡ results_of conn number s.parked
   pub once : (conn number : ℕ) → results_of conn number s.parked ≤ 1
 
--- So after every history that a space took.
+-- This holds after every history that a space took.
 abbrev pub AnswersAreParked : Type 0
 AnswersAreParked = (g : Setting) (h : List Event) → IsTaken g h → AreInPlace (state_of g h)

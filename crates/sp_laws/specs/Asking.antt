@@ -10,7 +10,7 @@ use Rattle.sp_rules.specs.Space.{state_of}
 use Rattle.sp_rules.specs.State.{State, task_at}
 use Rattle.sp_rules.specs.Tasks.{Stand, Runs, AsksFor, HasEnded}
 
--- where a task stands: at an operation of what it holds, or at an end with a result that it holds
+-- a task stands at an operation of what it holds, or at an end with a result that it holds
 abbrev pub StandsAtHeld : Setting → State → ℕ → Option Stand → Type 0
 StandsAtHeld g s task None = Unit {0}
 StandsAtHeld g s task (Some Runs) = Unit {0}
@@ -24,7 +24,7 @@ AsksOfHeld g s (Parked task k) = StandsAtHeld g s task (stand_after k (task_at s
 AsksOfHeld g s (Finished task k) = StandsAtHeld g s task (stand_after k (task_at s task))
 AsksOfHeld g s _ = Unit {0}
 
--- So each event that a space does not refuse.
+-- This holds of each event that a space does not refuse.
 abbrev pub TasksAskOfWhatTheyHold : Type 0
 TasksAskOfWhatTheyHold = (g : Setting) (lent : List ℕ) (s : State) (e : Event) → refusal g lent s e ≡ None → AsksOfHeld g s e
 

@@ -20,6 +20,6 @@ pub record WaitsForLeases (g : Setting) (p : ParkedFrame) : Type 0 where
   pub references : p.references ≡ awaited g p.frame
   pub some : 1 ≤ length p.references
 
--- So each parked frame after every history that a space took.
+-- This holds of each parked frame after every history that a space took.
 abbrev pub ParkedFramesWaitForLeases : Type 0
 ParkedFramesWaitForLeases = (g : Setting) (h : List Event) → IsTaken g h → AllOf (WaitsForLeases g) (state_of g h).parked

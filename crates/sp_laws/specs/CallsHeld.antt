@@ -32,6 +32,6 @@ IsAskedFor task_of peer (Calls number task lent kind m) = (t : Living) → task_
 IsAskedFor task_of peer (LooksUp number task name) = Unit {0}
 IsAskedFor task_of peer (Tells call group) = Unit {0}
 
--- So of each call that waits to be sent or answered, or whose answer is parked, after every history that a space took.
+-- This holds after every history that a space took, of each call that waits to be sent or answered or has its answer parked.
 abbrev pub CallsAreHeld : Type 0
 CallsAreHeld = (g : Setting) (h : List Event) → IsTaken g h → AllOf (λ (q : Request). IsAskedFor (task_at (state_of g h)) q.peer q.asked) (state_of g h).requests

@@ -23,6 +23,6 @@ pub record HasGivenIds (s : State) : Type 0 where
   pub requests : AllOf (λ (q : Request). HasGivenId s.tasks_made q.asked) s.requests
   pub results : AllOf (λ (k : KeptResult). WaitsForGiven s.tasks_made k.until) s.results
 
--- So after every history.
+-- This holds after every history.
 abbrev pub IdsAreGiven : Type 0
 IdsAreGiven = (g : Setting) (h : List Event) → HasGivenIds (state_of g h)

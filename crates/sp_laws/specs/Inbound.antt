@@ -8,7 +8,7 @@ use Rattle.sp_rules.specs.Space.{state_of}
 use Rattle.sp_rules.specs.State.{State, Living, Origin, OfRoot, OfCall, KeptResult, Until, RootAcked, Acked, Passed, Connection, ParkedFrame, connection_at}
 use Rattle.sp_laws.specs.Waiting.{count}
 
--- ---- where a call that came is
+-- ---- the parts of the state in which a call that came may occur
 
 abbrev pub from_origin : ℕ → ℕ → Origin → ℕ
 from_origin conn number OfRoot = 0
@@ -53,11 +53,11 @@ pub record CallsCameOnce (s : State) : Type 0 where
   pub once : (conn number : ℕ) → occurrences_of conn number s ≤ 1
   pub above : (conn number : ℕ) (c : Connection) → connection_at s conn ≡ Some c → c.last + 1 ≤ number → occurrences_of conn number s ≡ 0
 
--- So after every history in which no number of a connection comes again.
+-- This holds after every history in which no number of a connection comes again.
 abbrev pub CallsThatComeAreOnce : Type 0
 CallsThatComeAreOnce = (g : Setting) (h : List Event) → OpensOnce h → CallsCameOnce (state_of g h)
 
--- A call that came, of a number not above the last of its connection, and that occurs no more never occurs again.
+-- If a call that came, of a number not above the last of its connection, occurs no more, it never occurs again.
 abbrev pub CallsThatWentStayGone : Type 0
 CallsThatWentStayGone = (g : Setting) (h more : List Event) (conn number : ℕ) → OpensOnce (more ++ h) → opened conn h ≡ true → ((c : Connection) → connection_at (state_of g h) conn ≡ Some c → number ≤ c.last)
     → occurrences_of conn number (state_of g h) ≡ 0 → occurrences_of conn number (state_of g (more ++ h)) ≡ 0

@@ -1,4 +1,5 @@
--- Every reference names an object that its space made, of the class that it was made with, whatever is lost or fails (Java RMI specification, 2.6: a remote reference names a remote object).
+-- Every reference names an object that its space made, with its class, whatever is lost or fails (Java RMI specification, 2.6: a remote
+-- reference names a remote object).
 use Rattle.std.specs.Prelude.{◌≡◌, ◌⊎◌, List, [], ◌∷◌}
 use Rattle.space_ids.specs.declared.ids.ClassId.{ClassId}
 use Rattle.net_message.specs.declared.message.Message.{Message}
@@ -26,14 +27,15 @@ abbrev pub IsMadeBy : List Space → Ref → Type 0
 IsMadeBy [] r = ⊥
 IsMadeBy (s ∷ ss) r = ((s.setting.id ≡ r.space) × IsMade s.state.store r.id r.class) ⊎ IsMadeBy ss r
 
--- ---- where references are
+-- ---- the references of a space
 
 -- a parked call's target is an own object of some class
 abbrev pub TargetIs : Setting → (Ref → Type 0) → Frame → Type 0
 TargetIs g Is (CallFrame target method fuel arguments) = (class : ClassId) × Is (record { space = g.id; id = target; class = class })
 TargetIs g Is (ReturnedFrame value fuel) = Unit {0}
 
--- All references of a space are of a kind: those that its tasks hold, those in the fields of standing objects, in results that are held, in parked frames, and in what is asked of peers.
+-- All references of a space are of a kind: those that its tasks hold, those in the fields of standing objects, in held results, in parked
+-- frames, and in what is asked of peers.
 pub record HasOnly (Is : Ref → Type 0) (s : Space) : Type 0 where
   pub tasks : AllOf (λ (t : Living). AllOf Is t.task.held) s.state.tasks
   pub fields : AllOf (λ (o : Object). AllOf Is (references_of (fields_of s.setting s.state o))) (standing s.state.store)

@@ -15,7 +15,7 @@ abbrev pub IsToOther : Setting → Output → Type 0
 IsToOther g (Dial peer) = bytes_eq peer g.id ≡ false
 IsToOther g _ = Unit {0}
 
--- After every history that a space took it answers each event that it takes with Dials of other spaces alone.
+-- After every history that a space took, each further event that it takes is answered with Dials of other spaces alone.
 abbrev pub OthersAreDialled : Type 0
 OthersAreDialled = (g : Setting) (h : List Event) (lent : List ℕ) (e : Event) → IsTaken g h → refusal g lent (state_of g h) e ≡ None → AllOf (IsToOther g) (outputs_of g h e)
 
@@ -27,7 +27,7 @@ HasTwoEnds p = p.dialler.space ≡ p.accepter.space → ⊥
 abbrev pub IsOpenedOnce : Space → Type 0
 IsOpenedOnce s = OpensOnce s.history × CallsCameOnce s.state
 
--- So in every run of every world, whatever is lost or fails.
+-- This holds in every run of every world, whatever is lost or fails.
 pub record OpensConnectionsOnce (w : World) : Type 0 where
   pub spaces : AllOf IsOpenedOnce w.spaces
   pub pipes : AllOf HasTwoEnds w.pipes

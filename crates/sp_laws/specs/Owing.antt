@@ -8,12 +8,13 @@ use Rattle.sp_rules.specs.Events.{Event}
 use Rattle.sp_rules.specs.Holders.{lease_now}
 use Rattle.sp_rules.specs.Space.{state_of}
 
--- Where a dirty call is on its way an ordinary clean call is owed, so no failed one is remembered; where there is a lease a clean call is owed, ordinary or strong; and while a clean call is on its way there is neither, and nothing is owed.
+-- If a dirty call is on its way, an ordinary clean call is owed, so no failed one is remembered. If there is a lease, a clean call is owed,
+-- ordinary or strong. While a clean call is on its way there is neither, and nothing is owed.
 pub record OwesItsEnd (l : ClientLease) : Type 0 where
   pub asked : is_some l.dirty ≡ true → l.owed ≡ owed.Clean
   pub leased : is_some l.lease ≡ true → (l.owed ≡ owed.Clean) ⊎ (l.owed ≡ owed.Strong)
   pub cleaned : is_some l.clean ≡ true → (l.dirty ≡ None) × ((l.lease ≡ None) × (l.owed ≡ owed.Nothing))
 
--- So of each foreign reference after every history.
+-- This holds of each foreign reference after every history.
 abbrev pub LeasesOweTheirEnd : Type 0
 LeasesOweTheirEnd = (g : Setting) (h : List Event) (r : ForeignId) → OwesItsEnd (lease_now (state_of g h) r)

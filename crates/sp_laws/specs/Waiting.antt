@@ -1,4 +1,5 @@
--- Calls that wait: each task that waits for a reply has asked for one call, which no other task has, and each call and lookup has a number of its own (this project's own rule; a remote call returns once by the Java RMI specification, 3.2).
+-- Calls that wait: each task that waits for a reply has asked for one call of its own, and each call and lookup has a number of its own
+-- (this project's own rule; a remote call returns once by the Java RMI specification, 3.2).
 use Rattle.std.specs.Prelude.{◌≡◌, ℕ, ◌+◌, ◌≤◌, ◌==◌, ◌++◌, Bool, true, false, List, Some}
 use Rattle.sp_rules.specs.Classes.{Setting}
 use Rattle.sp_rules.specs.Events.{Event}
@@ -33,14 +34,15 @@ HasTask s (Calls number task lent kind m) = (t : Living) × ((task_at s task ≡
 HasTask s (LooksUp number task name) = Unit {0}
 HasTask s (Tells call group) = Unit {0}
 
--- A task that waits has one call among the requests, one that is ready has none; each call is of a task that waits; and a number stands once, one that was not given nowhere.
+-- A waiting task has one call among the requests, a ready one has none; each call is of a waiting task. A number stands once, and one that
+-- was not given stands nowhere.
 pub record CallsWait (s : State) : Type 0 where
   pub tasks : AllOf (λ (t : Living). calls_of t.id s.requests ≡ count t.waits) s.tasks
   pub requests : AllOf (λ (q : Request). HasTask s q.asked) s.requests
   pub once : (number : ℕ) → calls_numbered number s.requests ≤ 1
   pub given : (number : ℕ) → s.calls_made + 1 ≤ number → calls_numbered number s.requests ≡ 0
 
--- So after every history.
+-- This holds after every history.
 abbrev pub WaitingTasksHaveOneCall : Type 0
 WaitingTasksHaveOneCall = (g : Setting) (h : List Event) → CallsWait (state_of g h)
 

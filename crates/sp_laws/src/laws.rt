@@ -14,23 +14,23 @@ ghost use Rattle.sp_laws.specs.Others.{ConnectionsAreOpenedOnce, OthersAreDialle
 ghost use Rattle.sp_laws.specs.Owing.{LeasesOweTheirEnd};
 ghost use Rattle.sp_laws.specs.Waiting.{EndedCallsStayEnded, WaitingTasksHaveOneCall};
 
-/// In every run of every world each reference in a task, a field, a result, a parked frame, a request or
-/// a frame on its way names an object that its space made, of the class that it was made with; and a
-/// parked call's target was made.
+/// In every run of every world each reference in a task, a field, a result, a parked frame, a
+/// request or a frame on its way names an object that its space made, with its class; and a parked
+/// call's target was made.
 pub fn every_reference_is_made()
     ensures { ReferencesAreMade }
 {}
 
-/// After every history that a space took, its leases count as many holders of a foreign reference as
-/// there are: the living tasks, fields of standing objects, results that are held and parked frames that
-/// have it. Fewer than 2^64 - 1 times has a holder of it come.
+/// After every history that a space took, its leases count exactly the holders of a foreign
+/// reference: the living tasks, fields of standing objects, held results and parked frames that
+/// have it. This holds as long as a holder of it came fewer than 2^64 - 1 times.
 pub fn holders_are_counted()
     ensures { HoldersAreCounted }
 {}
 
-/// After every history of a space each task that waits for a reply has one call among the requests, one
-/// that is ready has none, and each call is of a task that waits. Each number of a call or
-/// lookup stands at one request at most, and at none if it was not given yet.
+/// After every history of a space each task that waits for a reply has one call among the requests,
+/// a ready task has none, and each call is of a waiting task. Each number of a call or lookup
+/// stands at one request at most, and at none if it was not given yet.
 pub fn waiting_tasks_have_one_call()
     ensures { WaitingTasksHaveOneCall }
 {}
@@ -49,17 +49,17 @@ pub fn calls_are_held()
     ensures { CallsAreHeld }
 {}
 
-/// Of each foreign reference after every history of a space: where a dirty call is on its way a clean call
-/// is owed, and no failed one is remembered; where there is a lease a clean call is owed, ordinary or
-/// strong; and while a clean call is on its way there is neither, and nothing is owed.
+/// Of each foreign reference after every history of a space: if a dirty call is on its way, a clean
+/// call is owed, and no failed one is remembered; if there is a lease, a clean call is owed,
+/// ordinary or strong; and while a clean call is on its way there is neither, and nothing is owed.
 pub fn leases_owe_their_end()
     ensures { LeasesOweTheirEnd }
 {}
 
-/// In every run of every world, whatever is lost or fails, each space is in order: its own references
-/// stand, its lines wait for Hellos, each of its tasks that waits has one call, which it holds, its
-/// requests and parked frames stand with their connections, and its leases count the holders that there
-/// are, and owe their ends.
+/// In every run of every world, whatever is lost or fails, each space is in order. Its own
+/// references stand, and its lines wait for Hellos. Each waiting task of it has one call, and holds
+/// what the call names. Its requests and parked frames stand with their connections. Its leases
+/// count the holders that there are, and owe their ends.
 pub fn spaces_are_in_order()
     ensures { SpacesAreInOrder }
 {}
@@ -70,8 +70,8 @@ pub fn ended_calls_stay_ended()
     ensures { EndedCallsStayEnded }
 {}
 
-/// A call that came on a connection, of a number not above the connection's last, and that occurs no more
-/// never occurs again, where no number of a connection comes again.
+/// If a call that came on a connection, of a number not above the connection's last, occurs no
+/// more, it never occurs again, as long as no number of a connection comes again.
 pub fn calls_that_went_stay_gone()
     ensures { CallsThatWentStayGone }
 {}

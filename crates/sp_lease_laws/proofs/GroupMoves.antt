@@ -1,7 +1,7 @@
 -- Groups of dirty and clean calls are made, answered and fail: each move keeps the calls of a reference among the requests or under way.
 use mathlib.Core.Path.{sym, ap, subst, ◌∙◌}
 use Rattle.std.proofs.Common.{arith}
-use Rattle.std.proofs.lemmas.Bool.{true≢false, eq-eqb, leb-true, leb-false}
+use Rattle.std.proofs.lemmas.Bool.{true≢false, eq-eqb, leb-true, leb-false, ltb-true, ltb-false}
 use Rattle.std.specs.Prelude.{◌≡◌, refl, ℕ, ◌+◌, ◌-◌, ◌≤◌, ◌<◌, ◌==◌, ◌&&◌, ◌||◌, not, nat_le, nat_lt, is_none, is_some, Bool, true, false, List, [], ◌∷◌, Option, None, Some, if◌then◌else◌}
 use Rattle.dgc_client.specs.declared.groups.Group.{Group}
 use Rattle.dgc_client.specs.declared.lease.ClientLease.{ClientLease}
@@ -20,6 +20,7 @@ use Rattle.sp_rules.specs.Classes.{Setting}
 use Rattle.sp_rules.specs.Frames.{tells_of, is_dirty_kind}
 use Rattle.sp_rules.specs.State.{State, Asked, Tells}
 use Rattle.sp_rules.proofs.AllLemmas.{some-none}
+use Rattle.sp_lease_laws.specs.MadeWhenDue.{is_owed}
 use Rattle.sp_lease_laws.specs.OnTheWay.{times_named, names_in}
 use Rattle.sp_lease_laws.proofs.NamingLemmas.{Known, known-here, each-other, each-here, numbers-each}
 use Rattle.sp_lease_laws.proofs.PointerLemmas.{bit, named-known, one-of-two, Named, named-same, named-given, makes-dirty, makes-clean, named-makes, Ends, named-ends}
@@ -56,6 +57,56 @@ dirty-free l e = by (lease.is_waiting l) (nat_lt 0 l.holders) e
     by true h f = absurd cc
     by false true f = none-made l.dirty (held-free (is_none l.dirty) (is_none l.lease || l.renew) refl f)
     by false false f = absurd (owes l.owed f)
+
+-- a dirty call is due where none is on its way, and something holds the reference
+due-dirty : (l : ClientLease) → lease.due l ≡ Some due.Dirty → (l.dirty ≡ None) × (1 ≤ l.holders)
+due-dirty l e = by (lease.is_waiting l) (nat_lt 0 l.holders) refl e
+  where
+    owes : (o : Owed) → lease.due_owed o l ≡ Some due.Dirty → ⊥
+    owes owed.Nothing f = cc
+    owes owed.Clean f = cc
+    owes owed.Strong f = cc
+    owes owed.Again f = again l.last f
+      where
+        again : (last : Option Made) → lease.due_again last l.moment ≡ Some due.Dirty → ⊥
+        again None k = cc
+        again (Some m) k = at (nat_lt (l.moment - m.at) 600000) k
+          where
+            at : (b : Bool) → (if b then Some (due.Clean true) else None) ≡ Some due.Dirty → ⊥
+            at true z = cc
+            at false z = cc
+
+    held-free : (b c : Bool) → is_none l.dirty ≡ b → (if b && c then Some due.Dirty else None) ≡ Some due.Dirty → is_none l.dirty ≡ true
+    held-free true c n f = n
+    held-free false c n f = cc
+
+    is-none : (o : Option Made) → is_none o ≡ true → o ≡ None
+    is-none None f = refl
+    is-none (Some m) f = absurd (true≢false (sym f))
+
+    by : (w h : Bool) → nat_lt 0 l.holders ≡ h → (if w then None else (if h then lease.due_held l else lease.due_unheld l)) ≡ Some due.Dirty → (l.dirty ≡ None) × (1 ≤ l.holders)
+    by true h is f = absurd cc
+    by false true is f = (is-none l.dirty (held-free (is_none l.dirty) (is_none l.lease || l.renew) refl f), let a : 0 < l.holders = ltb-true 0 l.holders is in omega arith)
+    by false false is f = absurd (owes l.owed f)
+
+-- a clean call is due where one is owed, and nothing holds the reference
+due-clean : (l : ClientLease) (strong : Bool) → lease.due l ≡ Some (due.Clean strong) → (is_owed l.owed ≡ true) × (l.holders ≡ 0)
+due-clean l strong e = by (lease.is_waiting l) (nat_lt 0 l.holders) refl e
+  where
+    owes : (o : Owed) → lease.due_owed o l ≡ Some (due.Clean strong) → is_owed o ≡ true
+    owes owed.Nothing f = absurd cc
+    owes owed.Clean f = refl
+    owes owed.Strong f = refl
+    owes owed.Again f = refl
+
+    not-dirty : (z : Bool) → (if z then Some due.Dirty else None) ≡ Some (due.Clean strong) → ⊥
+    not-dirty true k = cc
+    not-dirty false k = cc
+
+    by : (w h : Bool) → nat_lt 0 l.holders ≡ h → (if w then None else (if h then lease.due_held l else lease.due_unheld l)) ≡ Some (due.Clean strong) → (is_owed l.owed ≡ true) × (l.holders ≡ 0)
+    by true h is f = absurd cc
+    by false true is f = absurd (not-dirty (is_none l.dirty && (is_none l.lease || l.renew)) f)
+    by false false is f = (owes l.owed f, let a : l.holders ≤ 0 = ltb-false 0 l.holders is in omega arith)
 
 -- While a clean call is on its way no dirty call is, and nothing is owed.
 record IsCleaned (l : ClientLease) : Type 0 where
@@ -140,10 +191,12 @@ made_way {g} {r} {l} {s} b t e few is h = record {
     makes : (kind : Due) → b.kind ≡ kind → times_named r b ≡ 1 → lease.due (lease_of (own r s.leases)) ≡ Some kind → (known : Bool) → Named n s.groups_made known (own r s.leases) → Named m (s.groups_made + 1) true (client.making kind call ∷ own r s.leases)
     makes due.Dirty k one f known x = named-makes true (DirtyMade call) (makes-dirty call) (dirty-free (lease_of (own r s.leases)) f)
         (λ y. let a : names_in true y r (Tells call b) ≡ bit (call == y) = names-at true y call r b (ap is_dirty_kind k) one in omega arith)
-        (λ y. let a : names_in false y r (Tells call b) ≡ 0 = names-not false y call r b (ap (λ z. not (is_dirty_kind z)) k) in omega arith) x
+        (λ y. let a : names_in false y r (Tells call b) ≡ 0 = names-not false y call r b (ap (λ z. not (is_dirty_kind z)) k) in omega arith)
+        (λ low a. let d = due-dirty (lease_of (own r s.leases)) f in (low, (d.0, (d.1, a)))) refl x
     makes (due.Clean strong) k one f known x = named-makes false (CleanMade call) (makes-clean call) (clean-free (lease_of (own r s.leases)) strong (all-cleaned (own r s.leases)) f)
         (λ y. let a : names_in false y r (Tells call b) ≡ bit (call == y) = names-at false y call r b (ap (λ z. not (is_dirty_kind z)) k) one in omega arith)
-        (λ y. let a : names_in true y r (Tells call b) ≡ 0 = names-not true y call r b (ap is_dirty_kind k) in omega arith) x
+        (λ y. let a : names_in true y r (Tells call b) ≡ 0 = names-not true y call r b (ap is_dirty_kind k) in omega arith)
+        (λ low a. let d = due-clean (lease_of (own r s.leases)) strong f in (low, (d.0, (d.1, a)))) refl x
 
     told : (kind : Due) → b.kind ≡ kind → (times : ℕ) → times_named r b ≡ times → Known r m (s.groups_made + 1) (client.made b call s.leases)
     told kind k times z = pick (nat_le 1 times) refl
@@ -203,7 +256,7 @@ among-of {g} {r} {l} {s} d call b is one h = h.parts.known.named.holds d call (
 pub other_ends : {g : Setting} {r : ForeignId} {l : List Asked} {s : State} (call : ℕ) (b : Group) → times_named r b ≡ 0 → Way g r (Tells call b ∷ l) s → Way g r l s
 other_ends {g} {r} {l} {s} call b none h = named_way {l = Tells call b ∷ l} {m = l} (λ d y. let a : names_in d y r (Tells call b) ≡ 0 = names-zero d y call r b none in omega arith) h
 
--- all its references are told
+-- the event reaches all its references
 pub told_ends : {g : Setting} {r : ForeignId} {l : List Asked} {s : State} (d : Bool) (call : ℕ) (b : Group) (e : Event) → Ends d call e → tells_of d (Tells call b) ≡ true → Way g r (Tells call b ∷ l) s → Way g r l (record s { leases = client.told b e s.leases })
 told_ends {g} {r} {l} {s} d call b e E is h = pick (nat_le 1 (times_named r b)) refl
   where
@@ -223,7 +276,7 @@ told_ends {g} {r} {l} {s} d call b e E is h = pick (nat_le 1 (times_named r b)) 
         let none : times_named r b ≡ 0 = omega arith in
         leases_way _ (client.told b e s.leases) refl (numbers-each (references_at b.peer b.ids) e s.leases) (λ k. each-other (references_at b.peer b.ids) e s.leases none k) (other_ends call b none h)
 
--- one of its references is told
+-- the event reaches one of its references
 pub one_ends : {g : Setting} {r : ForeignId} {l : List Asked} {s : State} (d : Bool) (call : ℕ) (b : Group) (x : ForeignId) (e : Event) → Ends d call e → tells_of d (Tells call b) ≡ true → times_named r b ≡ 1 → is_same x r ≡ true → Way g r (Tells call b ∷ l) s → Way g r l (record s { leases = On x e ∷ s.leases })
 one_ends {g} {r} {l} {s} d call b x e E is one same h = record {
   parts = record {

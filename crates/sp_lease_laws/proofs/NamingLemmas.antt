@@ -1,4 +1,4 @@
--- One reference in the leases of a client, as it is told of calls; in groups of calls; and among the calls that are due.
+-- One reference in the events of a client's leases, in groups of calls, and among the due calls.
 use mathlib.Core.Path.{sym, ap, subst, ◌∙◌}
 use Rattle.std.proofs.Common.{arith}
 use Rattle.std.proofs.lemmas.Bool.{true≢false, and_from, or_right}
@@ -26,7 +26,7 @@ use Rattle.sp_rules.proofs.AllLemmas.{or-left, or-right}
 use Rattle.sp_lease_laws.specs.OnTheWay.{times_named}
 use Rattle.sp_lease_laws.proofs.PointerLemmas.{bit, bit-false, Named, IsNeutral, named-neutral, named-known, moment-neutral}
 
--- ---- one reference in what is told
+-- ---- one reference in the events
 
 pub record Known (r : ForeignId) (n : Bool → ℕ → ℕ) (made : ℕ) (h : List Told) : Type 0 where
   pub named : Named n made (is_among r (held h)) (own r h)
@@ -251,7 +251,7 @@ parts-any r b = joined (parts_of 1024 b) ∙ (ap (total (hit_any r)) (parts-join
     joined [] = refl
     joined (p ∷ bs) = let a : total (times_named r) bs ≡ total (hit_any r) (flat_map calls_of bs) = joined bs in let c : total (hit_any r) (calls_of p ++ flat_map calls_of bs) ≡ total (hit_any r) (calls_of p) + total (hit_any r) (flat_map calls_of bs) = total-append (hit_any r) (calls_of p) (flat_map calls_of bs) in let d : total (hit_any r) (calls_of p) ≡ times_named r p = group-any r p in omega arith
 
--- ---- the calls that are due
+-- ---- the due calls
 
 times-none : (r : ForeignId) (refs : List ForeignId) → is_among r refs ≡ false → times_in r refs ≡ 0
 times-none r [] f = refl
@@ -301,7 +301,7 @@ dues-few r f (x ∷ refs) = pick (f x) (dues-few r f refs)
 pub dues-once : (r : ForeignId) (h : List Told) → total (hit_any r) (due_of h) ≤ 1
 dues-once r h = let a : total (hit_any r) (due_of h) ≤ times_in r (held h) = dues-few r (λ x. due (lease_of (own x h))) (held h) in let b : times_in r (held h) ≤ 1 = times-held r h in omega arith
 
--- a call that is due is of a reference that was held, and of its kind
+-- a due call is of a reference that was held, and of its kind
 dues-kind : (r : ForeignId) (k : Due) (f : ForeignId → Option Due) (refs : List ForeignId) → 1 ≤ total (hit r k) (dues f refs) → (is_among r refs ≡ true) × (f r ≡ Some k)
 dues-kind r k f [] le = absurd (omega (arith, le))
 dues-kind r k f (x ∷ refs) le = pick (f x) refl le (λ m. (or-right (is_same r x) _ (dues-kind r k f refs m).0, (dues-kind r k f refs m).1))

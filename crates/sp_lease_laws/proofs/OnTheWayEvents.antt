@@ -44,6 +44,7 @@ use Rattle.sp_rules.specs.State.{State, Object, Living, Origin, OfRoot, OfCall, 
 use Rattle.sp_rules.specs.Tasks.{Stand, Runs, AsksFor, HasEnded, stand, steps}
 use Rattle.sp_rules.proofs.AllLemmas.{found-is}
 use Rattle.sp_rules.proofs.OwnLemmas.{and-right}
+use Rattle.sp_lease_laws.specs.MadeWhenDue.{CallsAreMadeWhenDue}
 use Rattle.sp_lease_laws.specs.Numbered.{is_out_under, calls_under, HasFreshSequences, SequenceNumbersAreFresh}
 use Rattle.sp_lease_laws.specs.OnTheWay.{is_on_its_way, times_named, calls_naming, IsAmongRequests, CallsOnTheirWayAreRequests}
 use Rattle.sp_lease_laws.proofs.NamingLemmas.{known-at, known-other, times-cons, other-way, same-way}
@@ -412,6 +413,8 @@ ways-of g r [] = record {
         holds = λ d call le. absurd (omega (arith, le));
         way = λ d call t. none d call t;
         out = λ d call le. absurd (omega (arith, le));
+        due = tt;
+        below = omega arith;
       };
     };
     fresh = tt;
@@ -455,6 +458,9 @@ among r g s w = record {
 
 pub calls_on_their_way_are_requests : CallsOnTheirWayAreRequests
 calls_on_their_way_are_requests g h r = among r g (Space.state_of g h) (ways-of g r h)
+
+pub calls_are_made_when_due : CallsAreMadeWhenDue
+calls_are_made_when_due g h r = (ways-of g r h).parts.known.named.due
 
 counted : (k : ℕ) (rs : List Request) → calls_under k rs ≡ under k rs
 counted k [] = refl

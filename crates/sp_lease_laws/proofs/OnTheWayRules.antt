@@ -118,7 +118,7 @@ pub flush_way : {g : Setting} {r : ForeignId} {l : List Asked} {s : State} (peer
 unfolding Requests.flush_waiting
 flush_way {l = l} {s = s} peer conn h = each_removed {l = l} (λ (q : Request). q.asked) (λ t q. Requests.go_out Waited conn q t) (filter (Requests.waits_for peer) s.requests) (λ m t q k. go_out_way Waited conn q k) (removes_way (Requests.waits_for peer) h)
 
--- ---- calls that are due
+-- ---- due calls
 
 -- Of the groups that are still to be made one at most names the reference, once; and its call is due.
 record Dues (r : ForeignId) (bs : List Group) (h : List Told) : Type 0 where

@@ -9,18 +9,22 @@ use Rattle.dgc_client.specs.History.{Event, after, lease_of}
 use Rattle.dgc_client.specs.History.Event.{Held, Dropped, Moment, DirtyMade, CleanMade, DirtySent, DirtyAnswered, DirtyFailed, CleanAnswered, CleanFailed}
 use Rattle.dgc_client.specs.Lease as lease
 use Rattle.sp_rules.proofs.AllLemmas.{or-left, or-right}
+use Rattle.sp_lease_laws.specs.MadeWhenDue.{AreMadeWhenDue, next_of}
 use Rattle.sp_lease_laws.specs.OnTheWay.{is_on_its_way, overtakes, is_overtaken}
 
 abbrev pub bit : Bool → ℕ
 bit true = 1
 bit false = 0
 
--- What stands among the requests, so often under each number, and what is on its way after these events of a reference that is known or not.
+-- What stands among the requests, with how often under each number, and what is on its way after these events of a reference that is known
+-- or not.
 pub record Named (n : Bool → ℕ → ℕ) (made : ℕ) (known : Bool) (k : List Event) : Type 0 where
   pub numbers : (call : ℕ) → n true call + n false call ≤ bit (nat_le call made)
   pub holds : (d : Bool) (call : ℕ) → 1 ≤ n d call → known ≡ true
   pub way : (d : Bool) (call : ℕ) → is_on_its_way d (lease_of k) call ≡ true → 1 ≤ n d call
   pub out : (d : Bool) (call : ℕ) → 1 ≤ n d call → (is_on_its_way d (lease_of k) call ≡ true) ⊎ (is_overtaken d call k ≡ true)
+  pub due : AreMadeWhenDue k
+  pub below : next_of k ≤ made + 1
 
 -- ---- numbers
 
@@ -61,26 +65,32 @@ bit-next x made = pick (made + 1 == x) refl (nat_le x made) refl (nat_le x (made
 
 -- ---- events
 
+-- An event makes no call.
+pub record MakesNone (e : Event) : Type 0 where
+  pub due : (k : List Event) → AreMadeWhenDue k → AreMadeWhenDue (e ∷ k)
+  pub next : (k : List Event) → next_of (e ∷ k) ≡ next_of k
+
 -- An event leaves what is on its way.
 pub record IsNeutral (e : Event) : Type 0 where
+  pub none : MakesNone e
   pub same : (d : Bool) (l : ClientLease) (call : ℕ) → is_on_its_way d (after e l) call ≡ is_on_its_way d l call
 
 pub held-neutral : IsNeutral Held
-held-neutral = record { same = same }
+held-neutral = record { none = record { due = λ k a. a; next = λ k. refl }; same = same }
   where
     same : (d : Bool) (l : ClientLease) (call : ℕ) → is_on_its_way d (after Held l) call ≡ is_on_its_way d l call
     same true l call = refl
     same false l call = refl
 
 pub dropped-neutral : IsNeutral Dropped
-dropped-neutral = record { same = same }
+dropped-neutral = record { none = record { due = λ k a. a; next = λ k. refl }; same = same }
   where
     same : (d : Bool) (l : ClientLease) (call : ℕ) → is_on_its_way d (after Dropped l) call ≡ is_on_its_way d l call
     same true l call = refl
     same false l call = refl
 
 pub moment-neutral : (moment : ℕ) → IsNeutral (Moment moment)
-moment-neutral moment = record { same = same }
+moment-neutral moment = record { none = record { due = λ k a. a; next = λ k. refl }; same = same }
   where
     pick : (d : Bool) (l : ClientLease) (call : ℕ) (b : Bool) → is_on_its_way d (if b then l else lease.at_moment moment l) call ≡ is_on_its_way d l call
     pick true l call true = refl
@@ -100,7 +110,7 @@ sent-same (Some m) c moment call = pick (m.call == c) refl
     pick false e = refl
 
 pub sent-neutral : (c : ℕ) → IsNeutral (DirtySent c)
-sent-neutral c = record { same = same }
+sent-neutral c = record { none = record { due = λ k a. a; next = λ k. refl }; same = same }
   where
     same : (d : Bool) (l : ClientLease) (call : ℕ) → is_on_its_way d (after (DirtySent c) l) call ≡ is_on_its_way d l call
     same true l call = sent-same l.dirty c l.moment call
@@ -112,6 +122,8 @@ named-neutral {n} {made} {known} {k} e N h = record {
   holds = h.holds;
   way = λ d call t. h.way d call (sym (N.same d (lease_of k) call) ∙ t);
   out = λ d call le. pick d call (h.out d call le);
+  due = N.none.due k h.due;
+  below = let a : next_of (e ∷ k) ≡ next_of k = N.none.next k in let b : next_of k ≤ made + 1 = h.below in omega arith;
 }
   where
     pick : (d : Bool) (call : ℕ) → (is_on_its_way d (lease_of k) call ≡ true) ⊎ (is_overtaken d call k ≡ true) → (is_on_its_way d (lease_of (e ∷ k)) call ≡ true) ⊎ (is_overtaken d call (e ∷ k) ≡ true)
@@ -120,24 +132,28 @@ named-neutral {n} {made} {known} {k} e N h = record {
 
 -- a reference that becomes known
 pub named-known : {n : Bool → ℕ → ℕ} {made : ℕ} {known : Bool} {k : List Event} (more : Bool) → (known ≡ true → more ≡ true) → Named n made known k → Named n made more k
-named-known more f h = record { numbers = h.numbers; holds = λ d call le. f (h.holds d call le); way = h.way; out = h.out }
+named-known more f h = record { numbers = h.numbers; holds = λ d call le. f (h.holds d call le); way = h.way; out = h.out; due = h.due; below = h.below }
 
--- so often as before
+-- as often as before
 pub named-same : {n : Bool → ℕ → ℕ} {made : ℕ} {known : Bool} {k : List Event} (m : Bool → ℕ → ℕ) → ((d : Bool) (call : ℕ) → m d call ≡ n d call) → Named n made known k → Named m made known k
 named-same {n} {made} m e h = record {
   numbers = λ call. let a : n true call + n false call ≤ bit (nat_le call made) = h.numbers call in let b : m true call ≡ n true call = e true call in let c : m false call ≡ n false call = e false call in omega arith;
   holds = λ d call le. let b : m d call ≡ n d call = e d call in h.holds d call (omega arith);
   way = λ d call t. let a : 1 ≤ n d call = h.way d call t in let b : m d call ≡ n d call = e d call in omega arith;
   out = λ d call le. let b : m d call ≡ n d call = e d call in h.out d call (omega arith);
+  due = h.due;
+  below = h.below;
 }
 
 -- a number more is given, and is not this reference's
 pub named-given : {n : Bool → ℕ → ℕ} {made : ℕ} {known : Bool} {k : List Event} → Named n made known k → Named n (made + 1) known k
-named-given {n} {made} h = record {
+named-given {n} {made} {known} {k} h = record {
   numbers = λ call. let a : n true call + n false call ≤ bit (nat_le call made) = h.numbers call in let b : bit (nat_le call made) ≤ bit (nat_le call (made + 1)) = bit-grows call made in omega arith;
   holds = h.holds;
   way = h.way;
   out = h.out;
+  due = h.due;
+  below = let a : next_of k ≤ made + 1 = h.below in omega arith;
 }
 
 -- ---- a call is made
@@ -162,12 +178,14 @@ makes-clean c = record { new = λ l x. refl; others = λ l x. refl; overtaken = 
 
 pub named-makes : {n m : Bool → ℕ → ℕ} {made : ℕ} {known : Bool} {k : List Event} (d : Bool) (e : Event) → Makes d (made + 1) e
     → ((x : ℕ) → is_on_its_way d (lease_of k) x ≡ false) → ((x : ℕ) → m d x ≡ n d x + bit (made + 1 == x)) → ((x : ℕ) → m (not d) x ≡ n (not d) x)
-    → Named n made known k → Named m (made + 1) true (e ∷ k)
-named-makes {n} {m} {made} {known} {k} d e M free own others h = record {
+    → (next_of k ≤ made + 1 → AreMadeWhenDue k → AreMadeWhenDue (e ∷ k)) → next_of (e ∷ k) ≡ made + 1 + 1 → Named n made known k → Named m (made + 1) true (e ∷ k)
+named-makes {n} {m} {made} {known} {k} d e M free own others dues next h = record {
   numbers = λ x. let a : n true x + n false x ≤ bit (nat_le x made) = h.numbers x in let b : bit (nat_le x made) + bit (made + 1 == x) ≤ bit (nat_le x (made + 1)) = bit-next x made in let c : m true x + m false x ≡ n true x + n false x + bit (made + 1 == x) = sums d own others x in omega arith;
   holds = λ y x le. refl;
   way = λ y x t. ways y (either d y) x t;
   out = λ y x le. outs y (either d y) x le;
+  due = dues h.below h.due;
+  below = omega (arith, next);
 }
   where
     sums : (b : Bool) → ((x : ℕ) → m b x ≡ n b x + bit (made + 1 == x)) → ((x : ℕ) → m (not b) x ≡ n (not b) x) → (x : ℕ) → m true x + m false x ≡ n true x + n false x + bit (made + 1 == x)
@@ -207,6 +225,7 @@ named-makes {n} {m} {made} {known} {k} d e M free own others h = record {
 
 -- the dirty call (or the clean call) of a number is answered, or fails
 pub record Ends (d : Bool) (c : ℕ) (e : Event) : Type 0 where
+  pub none : MakesNone e
   pub hit : (l : ClientLease) → is_on_its_way d l c ≡ true → (x : ℕ) → is_on_its_way d (after e l) x ≡ false
   pub miss : (l : ClientLease) → is_on_its_way d l c ≡ false → (x : ℕ) → is_on_its_way d (after e l) x ≡ is_on_its_way d l x
   pub others : (l : ClientLease) (x : ℕ) → is_on_its_way (not d) (after e l) x ≡ is_on_its_way (not d) l x
@@ -221,6 +240,7 @@ answered-clean (Some m) period l x = refl
 
 pub dirty-answered : (c period : ℕ) → Ends true c (DirtyAnswered c period)
 dirty-answered c period = record {
+  none = record { due = λ k a. a; next = λ k. refl };
   hit = λ l t x. hits l x (lease.is_made l.dirty c) t;
   miss = λ l t x. misses l x (lease.is_made l.dirty c) t;
   others = λ l x. pick l x (lease.is_made l.dirty c);
@@ -238,6 +258,7 @@ dirty-answered c period = record {
 
 pub dirty-failed : (c : ℕ) → Ends true c (DirtyFailed c)
 dirty-failed c = record {
+  none = record { due = λ k a. a; next = λ k. refl };
   hit = λ l t x. subst (λ z. lease.is_made (if z then failed l else l).dirty x ≡ false) (sym t) refl;
   miss = λ l t x. subst (λ z. lease.is_made (if z then failed l else l).dirty x ≡ lease.is_made l.dirty x) (sym t) refl;
   others = λ l x. pick l x (lease.is_made l.dirty c);
@@ -252,6 +273,7 @@ dirty-failed c = record {
 
 pub clean-answered : (c : ℕ) → Ends false c (CleanAnswered c)
 clean-answered c = record {
+  none = record { due = λ k a. a; next = λ k. refl };
   hit = λ l t x. subst (λ z. lease.is_clean (if z then record l { clean = None } else l).clean x ≡ false) (sym t) refl;
   miss = λ l t x. subst (λ z. lease.is_clean (if z then record l { clean = None } else l).clean x ≡ lease.is_clean l.clean x) (sym t) refl;
   others = λ l x. pick l x (lease.is_clean l.clean c);
@@ -263,6 +285,7 @@ clean-answered c = record {
 
 pub clean-failed : (c : ℕ) → Ends false c (CleanFailed c)
 clean-failed c = record {
+  none = record { due = λ k a. a; next = λ k. refl };
   hit = λ l t x. subst (λ z. lease.is_clean (if z then failed l else l).clean x ≡ false) (sym t) refl;
   miss = λ l t x. subst (λ z. lease.is_clean (if z then failed l else l).clean x ≡ lease.is_clean l.clean x) (sym t) refl;
   others = λ l x. pick l x (lease.is_clean l.clean c);
@@ -296,6 +319,8 @@ named-ends {n} {m} {made} {known} {k} d c e E own zero others h = record {
   holds = λ y x le. let b : m y x ≤ n y x = less y x in h.holds y x (omega arith);
   way = λ y x t. ways y (either d y) x t;
   out = λ y x le. outs y (either d y) x le;
+  due = E.none.due k h.due;
+  below = let a : next_of (e ∷ k) ≡ next_of k = E.none.next k in let b : next_of k ≤ made + 1 = h.below in omega arith;
 }
   where
     zero-at : (x : ℕ) → (c == x) ≡ true → m d x ≡ 0

@@ -60,7 +60,7 @@ pub record Way (g : Setting) (r : ForeignId) (l : List Asked) (s : State) : Type
 pub quiet : {g : Setting} {r : ForeignId} {l : List Asked} {s : State} (t : State) → way_parts t ≡ way_parts s → Way g r l s → Way g r l t
 quiet {g} {r} {l} t e h = record { parts = subst (Ways r l) (sym e) h.parts }
 
--- the leases alone are told of something
+-- only the leases have an event
 pub leases_way : {g : Setting} {r : ForeignId} {l : List Asked} {s : State} (t : State) (h : List Told) → way_parts t ≡ record { made = s.groups_made; requests = s.requests; fresh = s.fresh; leases = h } → numbers_of h ≡ numbers_of s.leases
     → (Known r (naming r l s.requests) s.groups_made s.leases → Known r (naming r l s.requests) s.groups_made h) → Way g r l s → Way g r l t
 leases_way {g} {r} {l} {s} t h e same f x = record {
@@ -299,7 +299,7 @@ answered_way {g} {r} {l} {s} conn number h = record {
         pick true e = shut q.stage (ap (λ b. bit (b && Frames.has_sequence k q.stage)) (number-none number q.asked (and-right (ParkedFrames.is_out_on conn q.stage) _ e)))
         pick false e = refl
 
--- where none passes none goes
+-- if none passes, none goes
 total-rest : {A : Type 0} (f n : A → ℕ) (is : A → Bool) → ((y : A) → is y ≡ true → n y ≡ 1) → (ys : List A) → total n ys ≡ 0 → total f (filter (λ z. not (is z)) ys) ≡ total f ys
 total-rest f n is one [] z = refl
 total-rest {A} f n is one (u ∷ ys) z = at (is u) refl (total-rest f n is one ys)
@@ -308,7 +308,7 @@ total-rest {A} f n is one (u ∷ ys) z = at (is u) refl (total-rest f n is one y
     at true t rest = let a : n u ≡ 1 = one u t in let c : n u + total n ys ≡ 0 = z in absurd (omega arith)
     at false t rest = let c : n u + total n ys ≡ 0 = z in let a : total f (filter (λ v. not (is v)) ys) ≡ total f ys = rest (omega arith) in omega arith
 
--- one that is told goes, the only one under its number
+-- the call that ends goes, the only one under its number
 total-one : {A : Type 0} (f n : A → ℕ) (is : A → Bool) (xs : List A) (x : A) → ((y : A) → is y ≡ true → n y ≡ 1) → total n xs ≤ 1 → find is xs ≡ Some x → f x + total f (filter (λ y. not (is y)) xs) ≡ total f xs
 total-one f n is [] x one few e = absurd (some-none x (sym e))
 total-one {A} f n is (y ∷ xs) x one few e = pick (is y) refl e (λ w k. total-one f n is xs x one w k)

@@ -1,3 +1,4 @@
 pub mod OnTheWay
 pub mod Numbered
 pub mod Moments
+pub mod MadeWhenDue

@@ -19,12 +19,12 @@ abbrev pub CountsFromBy : ℕ → Option Term → Type 0
 CountsFromBy moment None = Unit {0}
 CountsFromBy moment (Some term) = term.sent ≤ moment
 
--- The dirty call on its way and the last one are of moments that have come, and so is the moment from which the lease counts.
+-- The dirty call on its way and the last one are of past moments, and so is the moment from which the lease counts.
 pub record IsOfThePast (l : ClientLease) : Type 0 where
   pub dirty : IsMadeBy l.moment l.dirty
   pub last : IsMadeBy l.moment l.last
   pub lease : CountsFromBy l.moment l.lease
 
--- So of each foreign reference after every history.
+-- This holds of each foreign reference after every history.
 abbrev pub LeasesCountFromThePast : Type 0
 LeasesCountFromThePast = (g : Setting) (h : List Event) (r : ForeignId) → IsOfThePast (lease_now (state_of g h) r)

@@ -22,6 +22,6 @@ pub record HasFreshSequences (s : State) : Type 0 where
   pub from_one : calls_under 0 s.requests ≡ 0
   pub given : (sequence : ℕ) → numbers_of s.leases + 1 ≤ sequence → calls_under sequence s.requests ≡ 0
 
--- So after every history.
+-- This holds after every history.
 abbrev pub SequenceNumbersAreFresh : Type 0
 SequenceNumbersAreFresh = (g : Setting) (h : List Event) → HasFreshSequences (state_of g h)

@@ -39,7 +39,7 @@ abbrev pub is_on_its_way : Bool → ClientLease → ℕ → Bool
 is_on_its_way true l call = is_made l.dirty call
 is_on_its_way false l call = is_clean l.clean call
 
--- whether a clean call is made that overtakes a dirty call of this number (or a dirty call that overtakes a clean call)
+-- whether a clean call is made and overtakes a dirty call of this number (or a dirty call a clean call)
 abbrev pub overtakes : Bool → ℕ → Told → Bool
 overtakes dirty call Held = false
 overtakes dirty call Dropped = false
@@ -65,6 +65,6 @@ pub record IsAmongRequests (s : State) (r : ForeignId) : Type 0 where
   pub given : (call : ℕ) → s.groups_made + 1 ≤ call → calls_naming true call r s.requests + calls_naming false call r s.requests ≡ 0
   pub others : (dirty : Bool) (call : ℕ) → 1 ≤ calls_naming dirty call r s.requests → (is_on_its_way dirty (lease_now s r) call ≡ true) ⊎ (is_overtaken dirty call (own r s.leases) ≡ true)
 
--- So of each foreign reference after every history.
+-- This holds of each foreign reference after every history.
 abbrev pub CallsOnTheirWayAreRequests : Type 0
 CallsOnTheirWayAreRequests = (g : Setting) (h : List Event) (r : ForeignId) → IsAmongRequests (state_of g h) r

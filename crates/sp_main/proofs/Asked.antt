@@ -10,7 +10,7 @@ use Rattle.sp_main.specs.declared.words.Request.{Request}
 use Rattle.space_ids.specs.declared.value.Value.{Value}
 use Rattle.sp_main.specs.declared.words.Request.TheVariants.{Run, Check, Tell, Refuse}
 
--- a refusal is right where no run is asked for
+-- a refusal is right if no run is asked for
 pub refusing : {E : Type 0} (rows : List Row) (answer : Result Request E) → IfOk answer IsRefusing → ((run : RunWords) → AreRunWords rows run → ⊥)
     → IfOk answer (IsRunRequest rows)
 refusing rows (Ok (Run request)) is not = absurd is
@@ -44,7 +44,7 @@ pub no_arguments : (words : List (List ℕ)) (said : Option (List (List ℕ))) �
     → ((values : List Value) → AllZip Spells words values → ⊥) → (values : List Value) → AllZip Spells (unwrap_or said []) values → ⊥
 no_arguments words said is not values spells = not values (subst (λ (w : List (List ℕ)). AllZip Spells w values) (sym is) spells)
 
--- what holds of a result, where it is known which
+-- what holds of a result, if it is known which
 pub of_ok : {A E : Type 0} (P : A → Type 0) (Q : E → Type 0) (r : Result A E) (value : A) → r ≡ Ok value → MatchResult r P Q → P value
 of_ok P Q r value is holds = subst (λ r. MatchResult r P Q) is holds
 

@@ -1,4 +1,4 @@
--- The definition of the command line, computed at words that are written out.
+-- The definition of the command line, computed at arguments that are written out.
 use Rattle.std.proofs.Common.{◌≡◌, ◌∷◌, [], ℕ, List, Option, Some, None, codes, option_map, refl}
 use Rattle.clap.proofs.OnLiterals.{clap_on_literals}
 use Rattle.clap.specs.Faults.{fault_of}
@@ -66,7 +66,7 @@ pub bare_has_no_fuel : index (codes "fuel") (subcommand_of program bare) ≡ Som
 unfolding clap_on_literals
 bare_has_no_fuel = refl
 
--- words that ask for no run
+-- arguments that ask for no run
 pub a_word_is_missing : fault_of program (codes "rmispace" ∷ codes "run" ∷ codes "box" ∷ codes "T" ∷ []) ≡ MissingRequiredArgument ∷ []
 unfolding clap_on_literals
 a_word_is_missing = refl

@@ -1,4 +1,4 @@
--- Words that the parser takes begin with a command: any other first word asks for help or for the version, or is refused.
+-- Arguments that the parser takes begin with a command: any other first argument asks for help or for the version, or is refused.
 use Rattle.std.proofs.Common.{◌≡◌, ◌∙◌, ◌||◌, ◌⊎◌, ◌∷◌, [], ℕ, zero, suc, Bool, true, false, cond, List, Option, Some, None, IfSome, length, codes, option_map, slice_get, inl, inr, refl, sym, ap, subst}
 use Rattle.std.specs.Prelude.{find, fold}
 use Rattle.std.specs.Option.{option_map_or}
@@ -15,7 +15,7 @@ use Rattle.clap.specs.declared.error.kind.ErrorKind.{ErrorKind}
 use Rattle.clap.specs.declared.error.kind.ErrorKind.TheVariants.{DisplayHelp, DisplayVersion, InvalidSubcommand, MissingSubcommand, TooManyValues, UnknownArgument}
 use Rattle.sp_main.specs.CommandLine.{program}
 
--- where two steps pass, the first does
+-- if two steps pass, the first does
 first_passes : (a b : Kinds) → or_else a b ≡ [] → a ≡ []
 first_passes [] b e = refl
 first_passes (k ∷ ks) b e = e
@@ -26,7 +26,7 @@ IsRequesting s a = (takes_values a ≡ false) × (react_fault s.rules s.args_ove
 
 -- a command with no arguments but such flags, at its first word
 module _ (s : Shape) (none : arg_by_index s.rules 1 ≡ None) (asks : (p : Rule → Bool) → IfSome (find p s.rules) (IsRequesting s)) where
-  -- a word that a positional would take
+  -- an argument that a positional would take
   stray : (h : Held) → step_fault s 1 h value ≡ [] → ⊥
   stray h e = kinds s.is_leaf (sym (ap (λ o. option_map_or (λ a. positional_fault s.rules s.args_override_self a h) o (stray_fault s)) none) ∙ e)
     where
@@ -51,7 +51,7 @@ module _ (s : Shape) (none : arg_by_index s.rules 1 ≡ None) (asks : (p : Rule 
       (subst (λ b. cond b (option_fault s.rules s.args_override_self a (attached_value rest) nothing_held)
       (or_else (react_fault s.rules s.args_override_self a [] nothing_held) (next (reacted s.rules a [] nothing_held))) ≡ []) asks.0 e))
 
-  -- what is wrong with a word behind its flags
+  -- what is wrong with an argument after its flags
   abbrev behind : Text → Held × Outcome → Kinds
   behind word met = step_fault s 1 (after_flag s.rules idle word met.0 met.1).0 (after_flag s.rules idle word met.0 met.1).1
 
@@ -66,7 +66,7 @@ module _ (s : Shape) (none : arg_by_index s.rules 1 ≡ None) (asks : (p : Rule 
       on None e = stray nothing_held e
       on (Some x) e = short (arg_by_short s.rules x) _ _ (asks _) (first_passes _ _ e)
 
-  -- what is wrong with a word that names no command
+  -- what is wrong with an argument that names no command
   abbrev wrong_with : Text → Kinds
   wrong_with word = or_else (other_fault s None word nothing_held) (step_fault s 1 (subcommand_or_other s.rules None idle 1 word nothing_held).0 (subcommand_or_other s.rules None idle 1 word nothing_held).1)
 
@@ -113,7 +113,7 @@ same_text a b e = (bytes_eq-Decides a b).0 e
 abbrev pub IsCommandName : Text → Type 0
 IsCommandName name = (name ≡ codes "run") ⊎ (name ≡ codes "check")
 
--- a command that is met has the name that stands there
+-- a command that is met has the name of the argument
 met_names : (word : Text) → IfSome (subcommand_met names idle word) (λ name. (name ≡ word) × IsCommandName name)
 unfolding clap_on_literals
 met_names word = on (bytes_eq (codes "run") word) (bytes_eq (codes "check") word) (same_text _ word) (same_text _ word)
@@ -134,13 +134,13 @@ unfolding clap_on_literals
 opened name rest (inl run) = subst (Opens rest) (sym run) (_, refl)
 opened name rest (inr check) = subst (Opens rest) (sym check) (_, refl)
 
--- behind `--` no word is a command, and one is missing
+-- after `--` no argument is a command, and one is missing
 dashed : (own : Text) (rest : List Text) → fault_of program (own ∷ codes "--" ∷ rest) ≡ [] → ⊥
 unfolding clap_on_literals
 dashed own [] e = let bad : MissingSubcommand ∷ [] ≡ [] = e in cc
 dashed own (word ∷ rest) e = let bad : UnknownArgument ∷ InvalidSubcommand ∷ [] ≡ [] = e in cc
 
--- words that the parser takes begin with a command, and it is entered
+-- arguments that the parser takes begin with a command, and it is entered
 pub record Enters (words : List Text) : Type 0 where
   pub name : Text
   pub rows : List Row

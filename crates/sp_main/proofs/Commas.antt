@@ -8,7 +8,7 @@ use Rattle.std.proofs.lemmas.List.Sums.{fails_before_first}
 use Rattle.std.proofs.lemmas.List.Splits.{slice_split_first, slice_split_none}
 use Rattle.sp_main.specs.Arguments.{IsNumber, AreNumbers, IsList, is_comma, IsBracketed}
 
--- what follows '[' is bracketed where it ends in ']'
+-- what follows '[' is bracketed if it ends in ']'
 pub bracketed : (word rest : List ℕ) (r : Option (Bor (List ℕ))) → word ≡ 91 ∷ rest
     → MatchOption r ((front : List ℕ) → rest ≢ front ++ (93 ∷ [])) (λ x. rest ≡ x.now ++ (93 ∷ []))
     → MatchOption r ((inside : List ℕ) → IsBracketed word inside → ⊥) (λ x. IsBracketed word x.now)
@@ -26,7 +26,7 @@ bracket_is_no_number word inside n is number =
     let large : 36 < 10 = moved.1.1.0 in
     absurd (omega (arith, large))
 
--- numbers one behind the other
+-- numbers one after the other
 pub more_numbers : (words : List (List ℕ)) (ns : List ℤ) (word : List ℕ) (n : ℤ)
     → AreNumbers words ns → IsNumber word n → AreNumbers (words ++ (word ∷ [])) (ns ++ (n ∷ []))
 more_numbers [] [] word n are is = (is, tt)
@@ -53,7 +53,7 @@ pub words_of_list : (inside : List ℕ) (ns : List ℤ) → 0 < length inside
 words_of_list [] ns long is = absurd (omega (arith, long))
 words_of_list (c ∷ cs) ns long is = is
 
--- the words of a text are its first one and those behind the comma
+-- the words of a text are its first one and those after the comma
 pub first_word : (text item behind : List ℕ) → position_or_len is_comma text < length text
     → item ≡ before_first is_comma text → behind ≡ after_first is_comma text
     → slice_split is_comma text ≡ item ∷ slice_split is_comma behind

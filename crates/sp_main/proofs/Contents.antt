@@ -1,4 +1,4 @@
--- Files that are read one behind the other.
+-- Files that are read one after the other.
 use Rattle.std.proofs.Common.{◌≡◌, ◌++◌, ◌∷◌, [], ℕ, List, Option, String, Global, refl, string_bytes, sym, subst}
 use Rattle.std.specs.List.{AllZip}
 use Rattle.sp_main.specs.Folders.{AreRead, BehindFile, IsContent}
@@ -23,7 +23,7 @@ module _ (gives : List ℕ → Option (List ℕ) → Type 0) where
   one_file_more (p ∷ paths) [] path file whole is content now = absurd whole
   one_file_more (p ∷ paths) (f ∷ files) path file whole is content now = (whole.0, one_file_more paths files path file whole.1 is content now)
 
-  -- what is behind a whole file
+  -- what follows a whole file
   behind_whole : (content : Content) (rest : Type 0) (files : List ClassBytes) → IsWhole content → rest → BehindFile content rest files
   behind_whole (Bytes bytes) rest files whole read = read
   behind_whole Unreadable rest files whole read = absurd whole

@@ -1,4 +1,4 @@
--- A task that was given as many steps as there can be fuel for, and one more, has ended.
+-- A task has ended after more steps than there can be fuel for.
 use Rattle.std.proofs.Common.{◌≡◌, ◌∙◌, ◌+◌, ◌<◌, ◌≤◌, ℕ, arith, refl, subst, sym}
 use Rattle.cls_link.specs.Links.{Links}
 use Rattle.vm_step.specs.Run.{State, Running, Over, Lost, IsNeverStuck, IsOver, run}

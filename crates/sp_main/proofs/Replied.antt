@@ -22,7 +22,7 @@ use Rattle.sp_main.specs.declared.words.RunRequest.{RunRequest}
 use Rattle.vm_step.specs.declared.limits.Limits.{Limits}
 
 module _ {E : Type 0} (telling : Telling) (run : RunWords) (answer : Result Report E) where
-  -- the report is the reply to all words that ask for this run
+  -- the report is the reply to all arguments that ask for this run
   abbrev pub IsRunReply : Type 0
   IsRunReply = IfOk answer (λ report. (words : List (List ℕ)) → AsksRun words run → IsReply telling words report.status report.text.items)
 
@@ -60,7 +60,7 @@ refusal_replied telling run files read class method limits refusal (Ok report) l
 refusal_replied telling run files read class method limits refusal (Err e) listed ef ec em el is status text = tt
 
 module _ {E : Type 0} (telling : Telling) (folder : List ℕ) (answer : Result Report E) where
-  -- the report is the reply to all words that ask for a check of the folder
+  -- the report is the reply to all arguments that ask for a check of the folder
   abbrev pub IsCheckReply : Type 0
   IsCheckReply = IfOk answer (λ report. (words : List (List ℕ)) → AsksCheck words folder → IsReply telling words report.status report.text.items)
 

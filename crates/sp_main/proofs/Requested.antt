@@ -84,7 +84,7 @@ command_found words command matches is matched taken =
     on name rows (inl same) found = inl (rows, found ∙ ap (λ (n : List ℕ). Some (n, rows)) same)
     on name rows (inr same) found = inr (rows, found ∙ ap (λ (n : List ℕ). Some (n, rows)) same)
 
--- a kind that is told is among those that may come
+-- the kind of an error is among those that may come
 kind_among : (kind : ErrorKind) (error : Error) (kinds : List ErrorKind) → (kind ≡ OutOfMemory → ⊥) → kind_of error ≡ kind → HasKind kinds error → IsAmong kind kinds
 kind_among kind error kinds has is (inl none) = absurd (has (sym is ∙ none))
 kind_among kind error kinds has is (inr among) = subst (λ (k : ErrorKind). IsAmong k kinds) is among

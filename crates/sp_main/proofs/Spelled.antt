@@ -1,4 +1,4 @@
--- Words one behind the other, and the values that they spell.
+-- Arguments one after the other, and the values that they spell.
 use Rattle.std.proofs.Common.{◌≡◌, ◌++◌, ℕ, zero, suc, List, [], ◌∷◌, Bor, ◌<◌, ◌≤◌, length, map, take, Option, Some, None, MatchOption, sym, subst, slice_index_or, arith}
 use Rattle.std.specs.List.{AllZip}
 use Rattle.space_ids.specs.declared.value.Value.{Value}
@@ -33,7 +33,7 @@ all_words (w ∷ words) zero values past are = absurd (omega (arith, past))
 all_words (w ∷ words) (suc index) [] past are = are
 all_words (w ∷ words) (suc index) (v ∷ values) past are = (are.0, all_words words index values (omega (arith, past)) are.1)
 
--- what holds of an option, where it is known which
+-- what holds of an option, if it is known which
 pub of_some : {A : Type 0} (N : Type 0) (P : A → Type 0) (o : Option A) (value : A) → o ≡ Some value → MatchOption o N P → P value
 of_some N P o value is holds = subst (λ o. MatchOption o N P) is holds
 

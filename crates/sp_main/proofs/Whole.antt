@@ -32,7 +32,7 @@ use Rattle.vm_step.specs.declared.outcome.Outcome.TheVariants as outcome
 use Rattle.vm_step.proofs.Opening.{Begins, startable-begins}
 use Rattle.vm_step.proofs.Runs.{run_over}
 
--- a name in place of a number is the name of what was thrown
+-- a name instead of a number is the name of what was thrown
 named-IsTold : (classes : List Class) (e : Ending) (o : Outcome) (named : RunOutcome) → tasks.Tells classes e o → IsNamed classes o named → IsTold e named
 named-IsTold classes ending.ReturnedNothing o named tells is = subst (λ (p : Outcome). IsNamed classes p named) tells is
 named-IsTold classes (ending.ReturnedInt n) o named tells is = subst (λ (p : Outcome). IsNamed classes p named) tells is

@@ -1,4 +1,4 @@
--- Each instruction of the tagged machine keeps as many local variables as there are, and no more operands than there is room for.
+-- Each instruction of the tagged machine keeps the number of local variables, and no more operands than there is room for.
 use Rattle.std.proofs.Common.{◌≡◌, ◌∙◌, ℕ, zero, suc, ◌<◌, ◌≤◌, Bool, true, false, List, [], ◌∷◌, length, refl, ap, arith, Option, Some, None}
 use Rattle.std.specs.Prelude.{ℤ, pos, nat_lt, slice_get, slice_set, if◌then◌else◌}
 use Rattle.std.specs.Int.{int_wrapping_add}
@@ -174,7 +174,7 @@ module _ (code : Code) where
   shown_within (Over ending fuel) within = tt
   shown_within Lost within = tt
 
-  -- where the frame has the local variables of the code and its room, and no operand yet, all states are within
+  -- if the frame has the local variables of the code and its room, and no operand yet, all states are within
   pub run-KeepsWithin : (links : Links) (steps : ℕ) (m : Machine) (fuel : ℕ) → length m.stack.frame.locals ≡ code.max_locals → m.stack.frame.room ≡ code.max_stack
       → m.stack.frame.operands ≡ [] → KeepsWithin code (run links steps (Running m fuel))
   run-KeepsWithin links steps m fuel locals room none =

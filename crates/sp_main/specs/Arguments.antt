@@ -1,4 +1,4 @@
--- What words of a command line stand for.
+-- What arguments of a command line stand for.
 use Rattle.std.specs.Prelude.{◌≡◌, ◌≢◌, ℕ, ℤ, Bool, ◌==◌, List, [], ◌∷◌, ◌++◌, slice_index, FitsSigned, codes, ⊤}
 use Rattle.std.specs.Str.Parse.{IsNumeral, without_leading_sign, signed_digits_value}
 use Rattle.std.specs.List.{slice_split}
@@ -6,14 +6,14 @@ use mir.Syntax.{w32}
 use Rattle.space_ids.specs.declared.value.Value.{Value}
 use Rattle.space_ids.specs.declared.value.Value.TheVariants.{Null, Int, Ints, Ref}
 
--- a whole number: digits behind at most a '-', which 32 bits hold
+-- a whole number: digits after at most a '-', which 32 bits hold
 abbrev pub IsNumber : List ℕ → ℤ → Type 0
 IsNumber word n = (slice_index word 0 ≢ 43)
     × IsNumeral 10 (without_leading_sign word)
     × FitsSigned w32 (signed_digits_value 10 word)
     × (n ≡ signed_digits_value 10 word)
 
--- as many words as numbers, each of which is its word's
+-- the words and the numbers have one length, and each word spells the number at its index
 abbrev pub AreNumbers : List (List ℕ) → List ℤ → Type 0
 AreNumbers [] [] = ⊤
 AreNumbers (word ∷ words) (n ∷ ns) = IsNumber word n × AreNumbers words ns

@@ -1,4 +1,4 @@
--- The command line: what its parser is told, and what words ask for.
+-- The command line: what its parser is told, and what arguments ask for.
 use Rattle.std.specs.Prelude.{◌≡◌, ◌≢◌, ◌⊎◌, ◌<◌, ◌^◌, ◌∷◌, [], ℕ, true, false, List, Option, Some, None, codes, unwrap_or}
 use Rattle.std.specs.List.{AllZip}
 use Rattle.std.specs.Str.Parse.{IsNumeral, digits_value}
@@ -13,11 +13,11 @@ use Rattle.clap.specs.declared.error.kind.ErrorKind.TheVariants.{DisplayHelp, Di
 use Rattle.space_ids.specs.declared.value.Value.{Value}
 use Rattle.sp_main.specs.Arguments.{Spells}
 
--- a word that has to be there
+-- an argument that has to be there
 abbrev pub wanted_rule : List ℕ → Rule
 wanted_rule id = record (new_rule id) { value_names = 1; required = true }
 
--- any number of words
+-- any number of arguments
 abbrev pub arguments_rule : Rule
 arguments_rule = record (new_rule (codes "arguments")) {
   value_names = 1;
@@ -51,7 +51,7 @@ program_shape = record (new_shape (codes "rmispace")) {
 abbrev pub program : App
 program = record { top = program_shape; subs = run_shape ∷ check_shape ∷ [] }
 
--- what a run is asked for
+-- what a run asks for
 pub record RunWords : Type 0 where
   pub folder : List ℕ
   pub class : List ℕ
@@ -59,17 +59,17 @@ pub record RunWords : Type 0 where
   pub arguments : List Value
   pub fuel : Option ℕ
 
--- the fuel that a word stands for: digits alone, of a number below 2^63
+-- the fuel that an argument stands for: digits alone, of a number below 2^63
 abbrev pub IsFuel : List ℕ → ℕ → Type 0
 IsFuel word n = IsNumeral 10 word × (digits_value 10 word < 2 ^ 63) × (n ≡ digits_value 10 word)
 
--- the fuel where a word says it
+-- the fuel, if an argument says it
 abbrev pub IsSaidFuel : Option (List ℕ) → Option ℕ → Type 0
 IsSaidFuel None fuel = fuel ≡ None
 IsSaidFuel (Some word) (Some n) = IsFuel word n
 IsSaidFuel (Some word) None = ⊥
 
--- the words after `run`, each by its name
+-- the arguments after `run`, each by its name
 pub record AreRunWords (rows : List Row) (run : RunWords) : Type 0 where
   pub folder : first_of (codes "folder") rows ≡ Some run.folder
   pub class : first_of (codes "class") rows ≡ Some run.class
@@ -77,25 +77,25 @@ pub record AreRunWords (rows : List Row) (run : RunWords) : Type 0 where
   pub arguments : AllZip Spells (unwrap_or (all_of (codes "arguments") rows) []) run.arguments
   pub fuel : IsSaidFuel (first_of (codes "fuel") rows) run.fuel
 
--- the words ask for a run
+-- the arguments ask for a run
 pub record AsksRun (words : List (List ℕ)) (run : RunWords) : Type 0 where
   pub taken : fault_of program words ≡ []
   pub rows : List Row
   pub command : subcommand_of program words ≡ Some (codes "run", rows)
   pub asked : AreRunWords rows run
 
--- the words ask for a check of the class files of a folder
+-- the arguments ask for a check of the class files of a folder
 pub record AsksCheck (words : List (List ℕ)) (folder : List ℕ) : Type 0 where
   pub taken : fault_of program words ≡ []
   pub rows : List Row
   pub command : subcommand_of program words ≡ Some (codes "check", rows)
   pub asked : first_of (codes "folder") rows ≡ Some folder
 
--- the words ask for help, or for the version
+-- the arguments ask for help, or for the version
 abbrev pub AsksText : List (List ℕ) → Type 0
 AsksText words = IsAmong DisplayHelp (fault_of program words) ⊎ IsAmong DisplayVersion (fault_of program words)
 
--- why nothing is done for words: they do not parse, or they name no values or no fuel
+-- why nothing is done for arguments: they do not parse, or they name no values or no fuel
 pub data IsUsageFault (words : List (List ℕ)) : Type 0 where
   mistaken : (kind : ErrorKind) → IsAmong kind (fault_of program words) → kind ≢ DisplayHelp → kind ≢ DisplayVersion → IsUsageFault words
   senseless : fault_of program words ≡ [] → ((run : RunWords) → AsksRun words run → ⊥) → ((folder : List ℕ) → AsksCheck words folder → ⊥) → IsUsageFault words

@@ -57,7 +57,7 @@ abbrev pub IsContent : (gives : Option (List ℕ) → Type 0) → Content → Ty
 IsContent gives (Bytes bytes) = (known : Option (List ℕ)) × gives known × IfSome known (λ all. bytes.items ≡ take 1048577 all)
 IsContent gives Unreadable = ⊤
 
--- the files behind one: none where its device failed
+-- the files after one: none if its device failed
 abbrev pub BehindFile : Content → (rest : Type 0) → List ClassBytes → Type 0
 BehindFile (Bytes bytes) rest files = rest
 BehindFile Unreadable rest files = files ≡ []

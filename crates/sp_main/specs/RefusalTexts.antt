@@ -30,11 +30,11 @@ use Rattle.vm_step.specs.declared.fault.StartFault.TheVariants as start
 abbrev pub unreadable_text : (path : List ℕ) → List ℕ
 unreadable_text path = codes "cannot read " ++ path
 
--- a folder that cannot be read, or that is none
+-- a folder that cannot be read, or a path that is no folder
 abbrev pub TellsUnreadable : (path text : List ℕ) → Type 0
 TellsUnreadable path text = (text ≡ line_of (unreadable_text path)) ⊎ (text ≡ line_of (unreadable_text path ++ codes ": not a folder"))
 
--- what is refused, and behind it the number of a rule, in decimal, and its name
+-- what is refused, and after it the number of a rule, in decimal, and its name
 abbrev pub rule_text : (refused : List ℕ) → (number : ℕ) → (name : List ℕ) → List ℕ
 rule_text refused number name = refused ++ codes ": " ++ decimal number ++ codes " " ++ name
 
@@ -42,7 +42,7 @@ rule_text refused number name = refused ++ codes ": " ++ decimal number ++ codes
 abbrev pub refused_method : (class method descriptor : List ℕ) → (at : ℕ) → List ℕ
 refused_method class method descriptor at = codes "refused " ++ class ++ codes "." ++ method ++ descriptor ++ codes " at " ++ decimal at
 
--- what is wrong with the file of a path; want of memory has no text here and below
+-- what is wrong with the file of a path; out of memory has no text here and below
 abbrev pub TellsFile : (path : List ℕ) → LoadFault → (text : List ℕ) → Type 0
 TellsFile path load.Device text = text ≡ line_of (unreadable_text path)
 TellsFile path (load.Read (read.Broken rule at)) text = text ≡ line_of (rule_text (codes "refused " ++ path ++ codes " at " ++ decimal at) (number_of rule) (name_of rule))
@@ -72,7 +72,7 @@ abbrev pub IsRefusalOf : List ClassBytes → Refusal → Type 0
 IsRefusalOf files (refusal.File index fault) = index < length files
 IsRefusalOf files _ = Unit {0}
 
--- a refusal of these files; the one that is at fault goes by its path
+-- a refusal of these files; the file at fault is named by its path
 abbrev pub TellsRefusal : List ClassBytes → Refusal → (text : List ℕ) → Type 0
 TellsRefusal files (refusal.File index fault) text = IsSomeAnd (slice_get files index) (λ file. TellsFile (string_bytes file.path) fault text)
 TellsRefusal files (refusal.Set fault) text = TellsSet fault text

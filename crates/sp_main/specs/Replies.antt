@@ -1,4 +1,4 @@
--- What the program answers to its words.
+-- What the program answers to its command line.
 use Rattle.std.specs.Prelude.{◌≡◌, ◌⊎◌, ℕ, List, Option, codes, length, unwrap_or}
 use Rattle.cls_link.specs.Links.{Links}
 use Rattle.sp_main.specs.CommandLine.{AsksCheck, AsksRun, AsksText, IsUsageFault, RunWords}
@@ -19,12 +19,13 @@ use Rattle.vm_step.specs.declared.limits.Limits.{Limits}
 abbrev pub limits_of : Option ℕ → Limits
 limits_of fuel = record { heap_words = 65536; stack_words = 16384; references = 1024; fuel = unwrap_or fuel 1000000 }
 
--- the words ask for something of a folder
+-- the arguments ask for something of a folder
 abbrev pub AsksOf : List (List ℕ) → List ℕ → Type 0
 AsksOf words folder = ((run : RunWords) × AsksRun words run × (folder ≡ run.folder)) ⊎ AsksCheck words folder
 
--- A text is the answer to words, with a status: what they asked to be told, why they are refused, that a folder cannot be read, how the
--- method ended over the class files of the folder, or why they are not run, or that they are accepted, or why not. What a folder tells is given
+-- A text is the answer to a command line, with a status: the help that it asked for, why it is refused, that a folder cannot be read, how
+-- the method ended over the class files of the folder, or why they are not run, or that they are accepted, or why not. What a folder tells
+-- is given
 pub data IsReply (telling : Telling) (words : List (List ℕ)) (status : Status) (text : List ℕ) : Type 0 where
   told : AsksText words → status ≡ Done → (said : List ℕ) → text ≡ line_of said → IsReply telling words status text
   mistaken : IsUsageFault words → status ≡ Failed → (said : List ℕ) → text ≡ line_of said → IsReply telling words status text
@@ -40,7 +41,7 @@ pub data IsReply (telling : Telling) (words : List (List ℕ)) (status : Status)
       → IsRefused files run.class run.method run.arguments (limits_of run.fuel) refusal
       → status ≡ refusal_status refusal → TellsRefusal files refusal text → IsReply telling words status text
 
--- the reply to words went to the output of its status, and the other was left alone
+-- the reply to a command line went to the output of its status, and the other was left alone
 pub record Replies (telling : Telling) (words : List (List ℕ)) (number : ℕ) (out out' err err' : Option (List ℕ)) : Type 0 where
   pub status : Status
   pub text : List ℕ
@@ -49,8 +50,8 @@ pub record Replies (telling : Telling) (words : List (List ℕ)) (number : ℕ) 
   pub told : Tells status text out out' err err'
   pub left : LeavesOther status out out' err err'
 
--- What status 3 stands for: a reply of that status was told, memory ran out, or the output of a reply failed in its
--- middle. Standard output is left alone unless an answer was due there
+-- What status 3 stands for: a reply of that status was printed, memory ran out, or the output of a reply failed in its middle. Standard
+-- output is left alone unless an answer was due there
 pub data Fails (telling : Telling) (words : List (List ℕ)) (out out' err err' : Option (List ℕ)) : Type 0 where
   replied : Replies telling words 3 out out' err err' → Fails telling words out out' err err'
   exhausted : out' ≡ out → IsTold Failed (line_of (codes "no memory")) Failed out out' err err' → Fails telling words out out' err err'

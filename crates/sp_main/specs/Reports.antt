@@ -4,7 +4,7 @@ use Rattle.std.specs.Io.KnownBytes.{Appends}
 use Rattle.sp_main.specs.declared.status.Status.{Status}
 use Rattle.sp_main.specs.declared.status.Status.TheVariants.{Done, Ended, Refused, Failed}
 
--- a text went to the output of its status; what the outputs hold is named before and after, where it is known
+-- a text went to the output of its status; what the outputs hold is named before and after, if it is known
 abbrev pub Tells : Status → List ℕ → (out out' err err' : Option (List ℕ)) → Type 0
 Tells Done text out out' err err' = Appends out out' text
 Tells Ended text out out' err err' = Appends out out' text

@@ -1,4 +1,4 @@
--- What the program makes of its words: a request for what they ask.
+-- What the program makes of its arguments: a request for what they ask.
 use Rattle.std.specs.Prelude.{◌≡◌, ◌≢◌, ◌⊎◌, ℕ, List, false, Option, Some, codes}
 use Rattle.clap.specs.Simple.{Shape, shape_of}
 use Rattle.clap.specs.Walk.{Row, Rule, first_of, rule_of}
@@ -22,28 +22,28 @@ run_words request = record {
   fuel = request.fuel;
 }
 
--- the request is what the words ask for
+-- the request is what the arguments ask for
 abbrev pub IsRequest : List (List ℕ) → Request → Type 0
 IsRequest words (Run request) = AsksRun words (run_words request)
 IsRequest words (Check folder) = AsksCheck words folder.now
 IsRequest words (Tell text) = AsksText words
 IsRequest words (Refuse text) = IsUsageFault words
 
--- the request is what the words after `run` ask for
+-- the request is what the arguments after `run` ask for
 abbrev pub IsRunRequest : List Row → Request → Type 0
 IsRunRequest rows (Run request) = AreRunWords rows (run_words request)
 IsRunRequest rows (Check folder) = ⊥
 IsRunRequest rows (Tell text) = ⊥
 IsRunRequest rows (Refuse text) = (run : RunWords) → AreRunWords rows run → ⊥
 
--- the request is what the words after `check` ask for
+-- the request is what the arguments after `check` ask for
 abbrev pub IsCheckRequest : List Row → Request → Type 0
 IsCheckRequest rows (Run request) = ⊥
 IsCheckRequest rows (Check folder) = first_of (codes "folder") rows ≡ Some folder.now
 IsCheckRequest rows (Tell text) = ⊥
 IsCheckRequest rows (Refuse text) = (folder : List ℕ) → first_of (codes "folder") rows ≡ Some folder → ⊥
 
--- what the parser found: a command, and the words after it
+-- what the parser found: a command, and the arguments after it
 abbrev pub Found : Type 0
 Found = Option (List ℕ × List Row)
 
@@ -55,12 +55,12 @@ IsFound name found = (rows : List Row) × (found ≡ Some (name, rows))
 abbrev pub IsCommandFound : Found → Type 0
 IsCommandFound found = IsFound (codes "run") found ⊎ IsFound (codes "check") found
 
--- the request is what words ask for in which the parser found this command
+-- the request is what arguments ask for in which the parser found this command
 pub data IsAsked (found : Found) (request : Request) : Type 0 where
   run : (rows : List Row) → found ≡ Some (codes "run", rows) → IsRunRequest rows request → IsAsked found request
   check : (rows : List Row) → found ≡ Some (codes "check", rows) → IsCheckRequest rows request → IsAsked found request
 
--- the request is what words ask for in which the parser found this amiss
+-- the request is what arguments ask for in which the parser found this fault
 abbrev pub IsUnasked : ErrorKind → Request → Type 0
 IsUnasked kind (Run request) = ⊥
 IsUnasked kind (Check folder) = ⊥

@@ -1,4 +1,4 @@
--- What it is for class files to run: from their bytes to how the method ends, each layer by its own definition.
+-- What it means that class files run: from their bytes to how the method ends, each layer by its own definition.
 use Rattle.std.specs.Prelude.{◌≡◌, ◌≢◌, ◌+◌, ◌≤◌, ◌==◌, ℕ, zero, suc, Bool, Option, Some, None, Ok, Err, List, take, drop, length, slice_get, option_and_then}
 use Rattle.std.specs.List.{AllZip, position}
 use Rattle.cf_reader.specs.declared.class_file.ClassFile.{ClassFile}
@@ -42,7 +42,7 @@ use Rattle.vm_step.specs.declared.fault.StartFault.{StartFault}
 use Rattle.vm_step.specs.declared.fault.StartFault.TheVariants as start
 use Rattle.vm_step.specs.declared.limits.Limits.{Limits}
 
--- what a device gave of a file spells a class file (JVMS 4.1), which is in profile
+-- what a device gave of a file spells a class file (JVMS 4.1) in profile
 abbrev pub IsSpelled : Content → ClassFile → Type 0
 IsSpelled (Bytes bytes) class = (layout : Layout) × Spells bytes.items layout class × IsInProfile bytes.items layout
 IsSpelled Unreadable class = ⊥
@@ -57,11 +57,11 @@ IsFileFault (Bytes bytes) (load.Read fault) = IsAtFault bytes.items fault
 IsFileFault (Bytes bytes) load.Device = ⊥
 IsFileFault Unreadable fault = fault ≡ load.Device
 
--- why a method is not started, but for want of memory
+-- why a method is not started, out of memory apart
 abbrev pub IsStartFault : Links → MethodId → List Value → Limits → StartFault → Type 0
 IsStartFault program method arguments limits fault = fault ≢ start.Memory → started program zero_bytes method arguments limits ≡ Err fault
 
--- why a method of a program does not run, but for want of memory
+-- why a method of a program does not run, out of memory apart
 abbrev pub IsNotRun : Links → MethodId → List Value → Limits → Refusal → Type 0
 IsNotRun program method arguments limits (refusal.Start fault) = IsStartFault program method arguments limits fault
 IsNotRun program method arguments limits refusal.Memory = Unit {0}
@@ -86,7 +86,7 @@ method_named program class text =
     option_and_then (λ index. links.number_of program.classes holder (take index text) (drop index text))
     (position is_parenthesis text)) (sets.number_of program.classes class)
 
--- how many instructions so many steps make: one a step, while the task runs and has fuel
+-- how many instructions a step makes: one, while the task runs and has fuel
 abbrev pub made_in : State → ℕ
 made_in (Running m zero) = 0
 made_in (Running m (suc fuel)) = 1
@@ -103,14 +103,14 @@ KeepsWithin code (Running m fuel) = (length m.stack.frame.locals ≡ code.max_lo
 KeepsWithin code (Over ending fuel) = Unit {0}
 KeepsWithin code Lost = Unit {0}
 
--- how a task ended, as it is told: a thrown class by its name
+-- how a task ended, as it is printed: a thrown class by its name
 abbrev pub IsTold : Ending → RunOutcome → Type 0
 IsTold ending.ReturnedNothing outcome = outcome ≡ told.Returned None
 IsTold (ending.ReturnedInt n) outcome = outcome ≡ told.Returned (Some (value.Int n))
 IsTold (ending.Threw thrown) outcome = outcome ≡ told.Threw (thrown_name thrown)
 IsTold ending.Spent outcome = outcome ≡ told.Spent
 
--- an outcome with the name of a class in place of its number
+-- an outcome with the name of a class instead of its number
 abbrev pub IsNamed : List Class → Outcome → RunOutcome → Type 0
 IsNamed classes (outcome.Returned value) named = named ≡ told.Returned value
 IsNamed classes (outcome.Threw class) named = (name : List ℕ) × (named ≡ told.Threw name) × (sets.name_at classes class ≡ Some name)
@@ -155,8 +155,8 @@ pub data IsNoProgram (files : List ClassBytes) : Refusal → Type 0 where
   not_safe : (classes : List ClassFile) (linked : Links) (fault : CheckFault) → AreSpelled files classes → HasClasses classes linked.classes → AreLinks linked
       → IsCheckFault linked fault → IsNoProgram files (refusal.Check fault)
 
--- why a method does not run: the files make no program, or it has no such method, or that does not start with these arguments. Want of
--- memory may come in place of any answer
+-- why a method does not run: the files make no program, or it has no such method, or that does not start with these arguments. It may be
+-- out of memory instead of any answer
 pub data IsRefused (files : List ClassBytes) (class text : List ℕ) (arguments : List Value) (limits : Limits) : Refusal → Type 0 where
   no_program : (refused : Refusal) → IsNoProgram files refused → IsRefused files class text arguments limits refused
   absent : (program : Links) → IsProgram files program → method_named program class text ≡ None → IsRefused files class text arguments limits (refusal.Start start.AbsentMethod)

@@ -6,7 +6,7 @@ use Rattle.sp_main.specs.declared.running.RunOutcome.TheVariants.{Returned, Thre
 use Rattle.space_ids.specs.declared.value.Value.{Value}
 use Rattle.space_ids.specs.declared.value.Value.TheVariants.{Null, Int, Ints, Ref}
 
--- numbers, each behind a comma
+-- numbers, each after a comma
 abbrev pub behind_commas : List ℤ → List ℕ
 behind_commas [] = []
 behind_commas (n ∷ ns) = 44 ∷ (signed_decimal n ++ behind_commas ns)

@@ -1,4 +1,4 @@
-//! Arguments of a method, as words of a command line.
+//! Arguments of a method, as arguments of a command line spell them.
 
 ghost use Rattle.std.specs.Prelude.{◌≡◌, ◌∷◌, ◌++◌, List, [], ℤ, ℕ, IfOk, MatchOption};
 ghost use Rattle.sp_main.specs.Arguments.{IsNumber, IsList, Spells, IsBracketed};
@@ -6,11 +6,11 @@ ghost use Rattle.sp_main.specs.Arguments.{IsNumber, IsList, Spells, IsBracketed}
 use std::alloc::{AllocError, Global};
 use vm_heap::{Row, Value};
 
-/// The value that a word stands for: a whole number of 32 bits, `null`, or an array as `[1,-2]` or
-/// `[]`. `None` where it is none of these: a number has digits behind at most a `-`, and an array
-/// has no spaces.
+/// Returns the value that an argument of the command line stands for: a whole number of 32 bits,
+/// `null`, or an array as `[1,-2]` or `[]`. `None` if it is none of these: a number has digits
+/// after at most a `-`, and an array has no spaces.
 pub fn argument_of(alloc: Global, word: &str) -> Result<Option<Value>, AllocError>
-    // A value that the word spells, and none only where it spells none.
+    // A value that the word spells, and none only if it spells none.
     ensures { IfOk result (λ value. MatchOption value ((other : Value) → Spells word.now other → ⊥) (Spells word.now)) }
 {
     if word == "null" {

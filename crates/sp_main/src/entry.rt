@@ -1,4 +1,4 @@
-//! The program as a function of its words, a folder and its standard streams.
+//! The program as a function of its arguments, a folder and its standard streams.
 
 ghost use Rattle.std.specs.Prelude.{◌≡◌, ◌<◌, ◌≤◌, ◌^◌, ℕ, List, map, string_bytes, IfOk, IfSome};
 ghost use Rattle.sp_main.specs.CommandLine.{AsksCheck, AsksRun};
@@ -16,15 +16,15 @@ use std::alloc::{AllocError, Global};
 use std::io::{Read, Write};
 use vm_step::Limits;
 
-/// Does what the words ask for, of which the first is the program's own name, and answers the exit
-/// status. What it prints is made whole before its first byte is written.
+/// Does what the command line asks for, and returns the exit status. The first of `words` is the
+/// program's own name. What it prints is complete before its first byte is written.
 ///
 /// | Status | Says |
 /// |---|---|
-/// | 0 | a method returned, a class set is accepted, or a text was told |
+/// | 0 | a method returned, a class set is accepted, or help was printed |
 /// | 1 | the method threw, or its fuel was spent |
 /// | 2 | the class set is refused |
-/// | 3 | the words, the device or the start are at fault, memory ran out, or an output failed |
+/// | 3 | the command line, the device or the start are at fault, memory ran out, or an output failed |
 pub fn command<F: Folder, I: Read, O: Write, E: Write>(
     alloc: Global,
     words: &[String],
@@ -34,11 +34,12 @@ pub fn command<F: Folder, I: Read, O: Write, E: Write>(
     err: &mut E,
 ) -> u8
     ensures statuses { result ≤ 3 }
-    // What is said is what the words ask for: a text, or how the method ended, or why it is not run.
+    // What is printed is what the command line asks for: a text, or how the method ended, or why it
+    // is not run.
     ensures replied { result < 3 → Replies (told_by (F.lists folder.now) (F.gives folder.now)) (map string_bytes words.now) result
         (O.contents out.old) (O.contents out.new) (E.contents err.old) (E.contents err.new) }
 
-    // Answers go to the one output, faults to the other.
+    // Answers go to standard output, faults to standard error.
     ensures answers { result < 2 → E.contents err.new ≡ E.contents err.old }
     ensures refused { result ≡ 2 → O.contents out.new ≡ O.contents out.old }
     // Status 3 says what failed. Nothing is printed on standard output but the front of an answer that was due there.
@@ -97,7 +98,7 @@ fn check_report<F: Folder>(alloc: Global, path: &str, folder: &F) -> Result<Repo
     }
 }
 
-// The class files of a folder, or why they cannot be told.
+// The class files of a folder, or why they cannot be listed.
 fn class_files<F: Folder>(
     alloc: Global,
     folder: &F,

@@ -1,4 +1,5 @@
-//! Where the program finds class files: a trait, so that tests read from memory, and the disk.
+//! The folders in which the program finds class files: a trait, so that tests read from memory, and
+//! the disk.
 
 ghost use Rattle.std.specs.Prelude.{◌≡◌, ℕ, List, String, Option, ⊤, All, IfOk, IfErr, IsTrue, OnOk, IsSorted, string_bytes};
 ghost use Rattle.std.specs.Global.{Global};
@@ -11,7 +12,7 @@ use std::rt::Files;
 use std::{fs, io};
 use thiserror::Error;
 
-/// Why the files of a folder cannot be told.
+/// Why the files of a folder cannot be listed.
 #[derive(Debug, Drop, Error)]
 pub enum FolderFault {
     /// This folder cannot be read.
@@ -145,7 +146,7 @@ impl Found {
         Ok(())
     }
 
-    // A folder has a file of this name: it counts where it is a class file.
+    // A folder has a file of this name: it counts if it is a class file.
     fn add_file(&mut self, alloc: Global, folder: &str, name: &str) -> Result<(), AllocError>
         requires { IsEntryName name.now }
         ensures { OnOk result ((root : List ℕ) → IsBelow root folder.now → AreBelow root self.old → AreBelow root self.new) }

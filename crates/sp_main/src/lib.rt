@@ -1,4 +1,4 @@
-//! The program as a library: its words, the folder that it reads, what it runs and what it
+//! The program as a library: its command line, the folder that it reads, what it runs and what it
 //! prints.
 #![tactic(auto)]
 

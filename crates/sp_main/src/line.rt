@@ -24,7 +24,7 @@ impl Model for Line {
 }
 
 impl Line {
-    /// An empty line.
+    /// Returns an empty line.
     pub fn new(alloc: Global) -> Line
         ensures { result ≡ [] }
     {
@@ -34,7 +34,7 @@ impl Line {
         }
     }
 
-    /// The line with these bytes behind it.
+    /// Returns the line with these bytes after it.
     pub fn bytes(mut self, bytes: &[u8]) -> Result<Line, AllocError>
         ensures { IfOk result (λ line. line ≡ self ++ bytes.now) }
     {
@@ -42,14 +42,14 @@ impl Line {
         Ok(self)
     }
 
-    /// The line with this text behind it.
+    /// Returns the line with this text after it.
     pub fn text(self, text: &str) -> Result<Line, AllocError>
         ensures { IfOk result (λ line. line ≡ self ++ text.now) }
     {
         self.bytes(text.as_bytes())
     }
 
-    /// The line with what is displayed behind it.
+    /// Returns the line with what is displayed after it.
     pub fn display<D: Display>(self, shown: &D) -> Result<Line, AllocError>
         ensures { IfOk result (λ line. IfSome (D.output shown.now) (λ text. line ≡ self ++ text)) }
     {
@@ -57,7 +57,7 @@ impl Line {
         self.text(text.as_str())
     }
 
-    /// The line, ended: a report with this status.
+    /// Returns the line, ended, as a report with this status.
     pub fn report(self, status: Status) -> Result<Report, AllocError>
         ensures status { IfOk result (λ report. report.status ≡ status) }
         ensures text { IfOk result (λ report. report.text.items ≡ line_of self) }

@@ -8,9 +8,9 @@ use super::Status;
 use dev_io::{Failed, write_part};
 use std::io::Write;
 
-/// A text, which is whole before its first byte is written, and the status that the program then
-/// ends with. Answers (`Done`, `Ended`) are for standard output, faults (`Refused`, `Failed`) for
-/// standard error.
+/// A text, which is complete before its first byte is written, and the status with which the
+/// program then ends. Answers (`Done`, `Ended`) are for standard output, faults (`Refused`,
+/// `Failed`) for standard error.
 #[derive(Debug, Drop)]
 pub struct Report {
     pub text: Vec<u8>,
@@ -18,8 +18,9 @@ pub struct Report {
 }
 
 impl Report {
-    /// Writes the text to its output, and leaves the other alone. If that output fails, the status is
-    /// `Failed`, and the output has taken a front part of the text and not all of it.
+    /// Writes the text to its output, leaves the other alone, and returns the status. If that
+    /// output fails, the status is `Failed`, and the output has taken a front part of the text and
+    /// not all of it.
     pub fn write<O: Write, E: Write>(&self, out: &mut O, err: &mut E) -> Status
         ensures other { LeavesOther self.now.status (O.contents out.old) (O.contents out.new) (E.contents err.old) (E.contents err.new) }
         ensures told { IsTold self.now.status self.now.text.items result (O.contents out.old) (O.contents out.new) (E.contents err.old) (E.contents err.new) }
@@ -28,7 +29,8 @@ impl Report {
     }
 }
 
-// Writes a text to the output of a status, and answers that status, or `Failed` if the output fails.
+// Writes a text to the output of a status, and returns that status, or `Failed` if the output
+// fails.
 pub(crate) fn write_text<O: Write, E: Write>(
     status: Status,
     text: &[u8],
@@ -48,7 +50,7 @@ pub(crate) fn write_text<O: Write, E: Write>(
     }
 }
 
-// The writer is not flushed: that is its owner's.
+// The writer is not flushed: that is left to its owner.
 fn write_whole<W: Write>(to: &mut W, text: &[u8]) -> Result<(), Failed>
     ensures whole { OnOk result (Appends (W.contents to.old) (W.contents to.new) text.now) }
     ensures cut { IfErr result (λ _. IsCutOff (W.contents to.old) (W.contents to.new) text.now) }

@@ -45,10 +45,10 @@ pub enum RunOutcome {
     Spent,
 }
 
-/// Runs the static method of this name and descriptor, as `f(I)I`, over the class set of the files.
-/// The first refusal counts: files in order, then the set, links, checks, and the start. Want of
-/// memory may come in place of any answer. The limits' heap words and references are together below
-/// 2^32.
+/// Runs the static method of this name and descriptor, as `f(I)I`, over the class set of the files,
+/// and returns how it ended. The first refusal counts: files in order, then the set, links, checks,
+/// and the start. It may be out of memory instead of any answer. The limits' heap words and
+/// references are together below 2^32.
 pub fn run_classes(
     alloc: Global,
     files: &[ClassBytes],
@@ -61,7 +61,7 @@ pub fn run_classes(
     // From the bytes to the outcome: the classes that the bytes spell are type safe, and the tagged
     // machine runs the method to this end, never stuck and within its bounds.
     ensures run { IfOk result (IsRun files.now class.now method.now arguments.items limits) }
-    // A refusal says what is wrong, and what comes before it is not.
+    // A refusal says what is wrong, and nothing before it is wrong.
     ensures refused { IfErr result (IsRefused files.now class.now method.now arguments.items limits) }
 {
     let accepted = accepted_of(alloc, files)?;
@@ -71,8 +71,8 @@ pub fn run_classes(
     run_method(alloc, &accepted, method, arguments, limits)
 }
 
-/// Reads, links and checks the class set of the files, and answers how many they are. The first
-/// refusal counts: files in order, then the set, links and checks. Nothing of it runs.
+/// Reads, links and checks the class set of the files, and returns how many files there are. The
+/// first refusal counts: files in order, then the set, links and checks. Nothing of it runs.
 pub fn check_classes(alloc: Global, files: &[ClassBytes]) -> Result<usize, Refusal>
     ensures accepted { IfOk result (λ count. count ≡ length files.now) }
     ensures program { IfOk result (λ _. (program : Links) × IsProgram files.now program) }
@@ -127,7 +127,7 @@ fn find_method(accepted: &Accepted, class: &[u8], method: &[u8]) -> Option<Metho
     linked.declared_method(class, name, descriptor)
 }
 
-// Where the descriptor begins.
+// The index of the descriptor's first byte.
 fn descriptor_place(method: &[u8]) -> Option<usize>
     ensures index { result ≡ position is_parenthesis method.now }
     ensures within { IfSome result (λ index. index ≤ length method.now) }
@@ -150,7 +150,7 @@ fn run_method(
     ensures refused { IfErr result (IsNotRun accepted.now method arguments.items limits) }
 {
     let mut task = Task::start(alloc, accepted, Uuid::nil(), method, arguments, limits)?;
-    // As many instructions as there can be fuel for, and one more: the task ends.
+    // More instructions than there can be fuel for: the task ends.
     let _ = task.run(accepted, u64::MAX);
     let _ = task.run(accepted, 1);
     match task.outcome() {
@@ -159,7 +159,7 @@ fn run_method(
     }
 }
 
-// How a task ended, with the name of a class in place of its number.
+// How a task ended, with the name of a class instead of its number.
 fn named(accepted: &Accepted, outcome: Outcome) -> Result<RunOutcome, AllocError>
     requires { IsOfSet accepted.now.classes outcome }
     ensures { IfOk result (IsNamed accepted.now.classes outcome) }

@@ -5,20 +5,20 @@ ghost use Rattle.std.specs.Prelude.{◌≡◌};
 /// The exit status of the program.
 #[derive(Clone, Copy, Debug, PartialEq, Eq)]
 pub enum Status {
-    /// What was asked is done: a method returned, or a text was told.
+    /// What was asked is done: a method returned, or a text was printed.
     Done = 0,
     /// The method threw, or its fuel was spent.
     Ended = 1,
     /// The class set is refused.
     Refused = 2,
-    /// The words, the device or the start are at fault, or memory ran out.
+    /// The command line, the device or the start are at fault, or memory ran out.
     Failed = 3,
 }
 
 impl Status {
     ghost use Rattle.sp_main.specs.Statuses.{code_of};
 
-    /// Its number.
+    /// Returns the number of the status.
     pub fn code(self) -> u8
         ensures { result ≡ code_of self }
     {

@@ -18,7 +18,7 @@ use ver_check::CheckFault;
 use vm_heap::Value;
 use vm_step::StartFault;
 
-/// A text, with one newline at its end.
+/// Returns a text, with one newline at its end.
 pub fn text_report(alloc: Global, text: &str, status: Status) -> Result<Report, AllocError>
     ensures status { IfOk result (λ report. report.status ≡ status) }
     ensures text { IfOk result (λ report. report.text.items ≡ line_of (trim_end text.now)) }
@@ -26,7 +26,7 @@ pub fn text_report(alloc: Global, text: &str, status: Status) -> Result<Report, 
     Line::new(alloc).text(text.trim_end())?.report(status)
 }
 
-/// What is reported of how a method ended.
+/// Returns the report of how a method ended.
 pub fn outcome_report(alloc: Global, outcome: &RunOutcome) -> Result<Report, AllocError>
     ensures status { IfOk result (λ report. report.status ≡ outcome_status outcome.now) }
     ensures text { IfOk result (λ report. report.text.items ≡ line_of (outcome_text outcome.now)) }
@@ -70,8 +70,8 @@ fn with_ints(line: Line, ints: &[i32]) -> Result<Line, AllocError>
     line.text("]")
 }
 
-/// What is reported of why a class set is not run. `files` are those that were handed in: a refusal
-/// of a file names one of them.
+/// Returns the report of why a class set is not run. `files` are those that were handed in: a
+/// refusal of a file names one of them.
 pub fn refusal_report(
     alloc: Global,
     files: &[ClassBytes],
@@ -107,7 +107,7 @@ fn file_report(alloc: Global, path: &str, fault: LoadFault) -> Result<Report, Al
     }
 }
 
-/// What is reported of a class set that is accepted: of how many files it was made.
+/// Returns the report of a class set that is accepted: of how many files it was made.
 pub fn accepted_report(alloc: Global, files: usize) -> Result<Report, AllocError>
     ensures status { IfOk result (λ report. report.status ≡ Status.Done) }
     ensures text { IfOk result (λ report. report.text.items ≡ line_of (accepted_text files)) }
@@ -119,7 +119,7 @@ pub fn accepted_report(alloc: Global, files: usize) -> Result<Report, AllocError
         .report(Status::Done)
 }
 
-/// What is reported of a folder whose files cannot be told.
+/// Returns the report of a folder whose files cannot be listed.
 pub fn folder_report(alloc: Global, fault: FolderFault) -> Result<Report, AllocError>
     ensures status { IfOk result (λ report. report.status ≡ Status.Failed) }
     ensures text { IfOk result (λ report. (path : List ℕ) × TellsUnreadable path report.text.items) }
@@ -141,7 +141,7 @@ fn no_folder_report(alloc: Global, path: &str) -> Result<Report, AllocError>
         .report(Status::Failed)
 }
 
-/// What is reported of a file that cannot be read.
+/// Returns the report of a file that cannot be read.
 pub fn unreadable_report(alloc: Global, path: &str) -> Result<Report, AllocError>
     ensures status { IfOk result (λ report. report.status ≡ Status.Failed) }
     ensures text { IfOk result (λ report. report.text.items ≡ line_of (unreadable_text path.now)) }

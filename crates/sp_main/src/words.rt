@@ -1,4 +1,4 @@
-//! The words of a command line.
+//! The arguments of a command line.
 
 ghost use Rattle.std.specs.Prelude.{◌≡◌, ℕ, List, map, string_bytes, codes, Option, IfOk, MatchOption, MatchResult};
 ghost use Rattle.std.specs.List.{AllZip};
@@ -17,7 +17,7 @@ use clap::{Arg, ArgAction, ArgMatches, Command, Error};
 use std::alloc::{AllocError, Global};
 use vm_heap::Value;
 
-/// What the words of a command line ask for.
+/// What a command line asks for.
 #[derive(Drop)]
 pub(crate) enum Request<'a> {
     /// To run a method.
@@ -38,11 +38,11 @@ pub(crate) struct RunRequest<'a> {
     /// A method's name and descriptor, as they are written.
     pub method: &'a str,
     pub arguments: Vec<Value>,
-    /// The fuel, where it is said.
+    /// The fuel, if it is said.
     pub fuel: Option<u64>,
 }
 
-/// What the words ask for; the first is the program's own name.
+/// What the arguments ask for; the first is the program's own name.
 pub(crate) fn request_of<'a>(alloc: Global, words: &'a [String]) -> Result<Request<'a>, AllocError>
     ensures { IfOk result (IsRequest (map string_bytes words.now)) }
 {
@@ -52,7 +52,7 @@ pub(crate) fn request_of<'a>(alloc: Global, words: &'a [String]) -> Result<Reque
     }
 }
 
-// What words ask for that the parser does not take.
+// What arguments ask for that the parser does not take.
 fn unasked<'a>(alloc: Global, error: &Error) -> Result<Request<'a>, AllocError>
     ensures { IfOk result (IsUnasked (kind_of error.now)) }
 {
@@ -65,7 +65,7 @@ fn unasked<'a>(alloc: Global, error: &Error) -> Result<Request<'a>, AllocError>
     }
 }
 
-// What words ask for that the parser takes: it found a command then.
+// What arguments ask for that the parser takes: it found a command then.
 fn asked<'a>(alloc: Global, matches: &ArgMatches<'a>) -> Result<Request<'a>, AllocError>
     requires command { IsCommandFound (subcommand_rows_of matches.now) }
     ensures { IfOk result (IsAsked (subcommand_rows_of matches.now)) }
@@ -117,7 +117,7 @@ const WORD_MISSING: &str = "error: a word is missing\n";
 
 const NO_FUEL: &str = "error: the fuel is a whole number from 0 to 9223372036854775807\n";
 
-// The fuel where it is said, and nothing where what is said is no fuel.
+// The fuel if it is said, and nothing if what is said is no fuel.
 fn fuel_said(found: &ArgMatches) -> Option<Option<u64>>
     ensures { MatchOption result
         ((fuel : Option ℕ) → IsSaidFuel (first_of (codes "fuel") (rows_of (found_of found.now))) fuel → ⊥)
@@ -129,7 +129,7 @@ fn fuel_said(found: &ArgMatches) -> Option<Option<u64>>
     }
 }
 
-// The fuel that a word stands for: digits alone, of a number below 2^63.
+// The fuel that an argument stands for: digits alone, of a number below 2^63.
 fn fuel_of(word: &str) -> Option<u64>
     ensures { MatchOption result ((n : ℕ) → IsFuel word.now n → ⊥) (IsFuel word.now) }
 {
@@ -142,7 +142,7 @@ fn fuel_of(word: &str) -> Option<u64>
     }
 }
 
-// The values that the words stand for, or a word that stands for none.
+// The values that the arguments stand for, or an argument that stands for none.
 fn values_of<'a>(
     alloc: Global,
     words: &[&'a str],
@@ -220,7 +220,7 @@ fn run_command<'a>(alloc: Global) -> Result<Command<'a>, AllocError>
         .arg(fuel(alloc))
 }
 
-// A word that has to be there.
+// An argument that has to be there.
 fn wanted<'a>(alloc: Global, id: &'a str, name: &'a str, help: &'a str) -> Arg<'a>
     ensures { IsArgument (wanted_rule id.now) result }
 {

@@ -110,7 +110,7 @@ lookup-unbound (b ∷ bs) name other once =
           ∙ cond-swap (bytes_eq b.name other) (bytes_eq name other) (Some b.object) None (lookup bs other) (names-apart b.name name other apart)
     ] refl
 
--- a name that is not bound is not that of the first binding, and not bound behind it
+-- an unbound name is not that of the first binding, and is unbound after it
 unbound-parts : (t : Bool) (object : ObjId) (rest : Option ObjId) → cond t (Some object) rest ≡ None → (t ≡ false) × (rest ≡ None)
 unbound-parts true object rest h = (cc, cc)
 unbound-parts false object rest h = (refl, h)
@@ -138,7 +138,7 @@ once-unbound (b ∷ bs) name once =
       | false ↦ λ apart. (lookup-unbound bs name b.name once.1 ∙ rw (bytes_eq-sym name b.name ∙ apart, once.0) refl, once-unbound bs name once.1)
     ] refl
 
--- a name that is not bound is bound behind all others
+-- a name that is not bound is bound after all others
 pub rebound-new : (bindings : List Binding) (name : List ℕ) (object : ObjId) → lookup bindings name ≡ None
     → rebound bindings name object ≡ bindings ++ record { name = name; object = object } ∷ []
 rebound-new [] name object new = refl

@@ -24,7 +24,7 @@ abbrev pub lookup : List Binding → List ℕ → Option ObjId
 lookup [] name = None
 lookup (binding ∷ bindings) name = if is_of name binding then Some binding.object else lookup bindings name
 
--- the bindings with the name bound to the object: at its index where it was bound, else at the end
+-- the bindings with the name bound to the object: at its index if it was bound, else at the end
 abbrev pub rebound : List Binding → List ℕ → ObjId → List Binding
 rebound [] name object = record { name = name; object = object } ∷ []
 rebound (binding ∷ bindings) name object =
@@ -48,7 +48,7 @@ abbrev pub HasNamesOnce : List Binding → Type 0
 HasNamesOnce [] = Unit {0}
 HasNamesOnce (binding ∷ bindings) = (lookup bindings binding.name ≡ None) × HasNamesOnce bindings
 
--- the object, which has to be an own one that stands
+-- the object, which has to be an own standing one
 abbrev pub own : Option ObjId → Result ObjId RegistryFault
 own None = Err NotOwn
 own (Some object) = Ok object
@@ -81,7 +81,7 @@ abbrev pub unbind : List Binding → List ℕ → Result (List Binding) Registry
 unbind bindings name =
     if is_name name then (if is_some (lookup bindings name) then Ok (unbound bindings name) else Err NotBound) else Err BadName
 
--- a change that ends so is refused with this fault: the denial, or want of memory where there is none
+-- a change that ends so is refused with this fault: the denial if there is one, else out of memory
 abbrev pub Refuses : Result (List Binding) RegistryFault → BindFault → Type 0
 Refuses (Err denied) fault = fault ≡ Denied denied
 Refuses (Ok bindings) fault = fault ≡ Memory

@@ -8,7 +8,7 @@ use base_types::Numbered;
 use std::alloc::{AllocError, AllocFailed};
 use thiserror::Error;
 
-/// What the registry denies. Of several that fit, a bad name counts first, then an object that is
+/// A denial of the registry. Of several that fit, a bad name counts first, then an object that is
 /// not its own.
 #[derive(Clone, Copy, Debug, PartialEq, Eq, Error)]
 pub enum RegistryFault {
@@ -21,7 +21,7 @@ pub enum RegistryFault {
     /// The name is not 1 to 255 bytes of ASCII letters, digits, `_` and `.`.
     #[error("BadName")]
     BadName = 82,
-    /// The reference is no own object that stands.
+    /// The reference is no own standing object.
     #[error("NotOwn")]
     NotOwn = 83,
 }

@@ -30,7 +30,7 @@ impl Model for Name {
 }
 
 impl Name {
-    /// The name of these bytes, in memory of its own; if they are no name, `BadName`.
+    /// Returns the name of these bytes, in memory of its own. `BadName` if they are no name.
     pub fn new(alloc: Global, bytes: &[u8]) -> Result<Name, BindFault>
         ensures ok { IfOk result (λ name. name ≡ bytes.now) }
         ensures allowed { OnOk result (is_name bytes.now ≡ true) }
@@ -51,7 +51,7 @@ impl Name {
         Ok(Name { bytes })
     }
 
-    /// Its bytes, which are allowed ones.
+    /// Returns the name's bytes.
     pub fn as_bytes(&self) -> &[u8]
         ensures bytes { result.now ≡ self.now }
         ensures allowed { IsTrue (is_name result.now) }
@@ -59,7 +59,7 @@ impl Name {
         &self.bytes
     }
 
-    /// Whether the name is these bytes.
+    /// Returns whether the name is these bytes.
     pub fn is(&self, bytes: &[u8]) -> bool
         ensures { result ≡ bytes_eq self.now bytes.now }
     {

@@ -37,7 +37,7 @@ impl Model for Registry {
 }
 
 impl Registry {
-    /// A registry without names.
+    /// Returns a registry without names.
     pub fn new(alloc: Global) -> Registry
         ensures { result.bindings ≡ [] }
     {
@@ -46,7 +46,7 @@ impl Registry {
         }
     }
 
-    /// Makes room for this many more bindings. Nothing else changes, at out of memory too.
+    /// Makes room for this many more bindings. Nothing else changes, even if it is out of memory.
     pub fn reserve(&mut self, bindings: usize) -> Result<(), AllocError>
         ensures ok { OnOk result (bindings ≤ self.new.room) }
         ensures same { self.new.bindings ≡ self.old.bindings }
@@ -55,8 +55,8 @@ impl Registry {
         self.bindings.reserve(bindings)
     }
 
-    /// Binds the name to the object, after all others. `None` is a reference that is no own object
-    /// that stands. A name that is bound already is denied.
+    /// Binds the name to the object, after all others. `None` stands for any reference but one to
+    /// an own standing object. A name that is bound already is denied.
     pub fn bind(&mut self, name: &[u8], object: Option<ObjId>) -> Result<(), BindFault>
         ensures ok { OnOk result (bind self.old.bindings name.now object ≡ Ok self.new.bindings) }
         ensures refused { IfErr result (Refuses (bind self.old.bindings name.now object)) }
@@ -144,7 +144,7 @@ impl Registry {
         }
     }
 
-    /// The object that the name is bound to, if it is bound.
+    /// Returns the object that the name is bound to, if it is bound.
     pub fn lookup(&self, name: &[u8]) -> Option<ObjId>
         ensures { result ≡ lookup self.now.bindings name.now }
     {
@@ -152,7 +152,7 @@ impl Registry {
         Some(self.bindings[at].object)
     }
 
-    /// All bindings, in the order in which the names were bound.
+    /// Returns all bindings, in the order in which the names were bound.
     pub fn list(&self) -> &[Binding]
         ensures bindings { result.now ≡ self.now.bindings }
         ensures once { HasNamesOnce result.now }
@@ -174,7 +174,7 @@ impl Registry {
         Ok(())
     }
 
-    // Adds a binding at the end, where there is room for it.
+    // Adds a binding at the end. The caller owes that there is room for it.
     fn add_reserved(&mut self, name: Name, object: ObjId)
         requires room { 0 < self.old.room }
         requires unbound { lookup self.old.bindings name ≡ None }
@@ -195,7 +195,7 @@ fn allowed(name: &[u8], object: Option<ObjId>) -> Result<ObjId, RegistryFault>
     object.ok_or(RegistryFault::NotOwn)
 }
 
-// Where the name is bound, with what stands there.
+// The index of the binding of a name: `None` if it is not bound.
 fn index_of(bindings: &[Binding], name: &[u8]) -> Option<usize>
     ensures { MatchOption result (lookup bindings.now name.now ≡ None) (IsIndexOf bindings.now name.now) }
 {

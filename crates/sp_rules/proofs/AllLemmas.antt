@@ -85,7 +85,7 @@ found-is {A} is xs x e = subst (InSome (λ y. is y ≡ true)) e (passes xs)
         pick true t h = t
         pick false t h = h
 
--- where none is found none passes the test
+-- if none is found, none passes the test
 pub none-found : {A : Type 0} (is : A → Bool) (xs : List A) → find is xs ≡ None → AllOf (λ x. is x ≡ false) xs
 none-found is [] e = tt
 none-found {A} is (x ∷ xs) e = pick (is x) refl e (none-found is xs)

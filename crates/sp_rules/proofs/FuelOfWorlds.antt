@@ -29,7 +29,7 @@ changed f g i [] = refl
 changed f g zero (x ∷ xs) = omega arith
 changed f g (suc i) (x ∷ xs) = let h : total f (at_index g i xs) + value_in f (slice_get xs i) ≡ total f xs + value_in (λ a. f (g a)) (slice_get xs i) = changed f g i xs in omega arith
 
--- where each element grows by no more than k, the sum does
+-- if `g` adds no more than k to an element, it adds no more than k to the sum
 grows : {A : Type 0} (f : A → ℕ) (g : A → A) (k i : ℕ) (xs : List A) → ((x : A) → f (g x) ≤ f x + k) → total f (at_index g i xs) ≤ total f xs + k
 grows f g k i [] le = omega arith
 grows f g k zero (x ∷ xs) le = let a : f (g x) ≤ f x + k = le x in omega arith
@@ -42,7 +42,7 @@ taken f (suc n) (x ∷ xs) = let h : total f (take n xs) ≤ total f xs = taken 
 
 -- ---- a world with fuel in hand
 
--- what is in the world, with so much more in hand, is no more than the roots' fuel
+-- what is in the world, with this much more in hand, is no more than the roots' fuel
 record Holds (k : ℕ) (w : World) : Type 0 where
   pub bound : world_units w + k ≤ world_roots w
 

@@ -168,7 +168,7 @@ pub none-of : {A : Type 0} (o : Option A) → is_some o ≡ false → o ≡ None
 none-of None e = refl
 none-of (Some x) e = absurd (true≢false e)
 
--- what is dialled where one connection more is to another peer
+-- what is dialled, if one connection more is to another peer
 pub to-more : (cs : List Connection) (c : Connection) (q : Uuid) → To q c ≡ false → dialled_to (cs ++ c ∷ []) q ≡ dialled_to cs q
 to-more [] c q e = pick (To q c) e
   where
@@ -181,7 +181,7 @@ to-more (d ∷ cs) c q e = pick (To q d) (to-more cs c q e)
     pick true f = refl
     pick false f = f
 
--- the last one, where no other is
+-- the last one, if no other is dialled
 pub to-last : (cs : List Connection) (c : Connection) (q : Uuid) → dialled_to cs q ≡ None → To q c ≡ true → dialled_to (cs ++ c ∷ []) q ≡ Some c
 to-last [] c q e t = pick (To q c) t
   where
@@ -288,7 +288,7 @@ row-some is f r (d ∷ cs) q = pick (is d) (row-some is f r cs q)
     pick true rest = ap (λ x. is_some (cond x (Some (f d)) (dialled_to cs q))) (ap (is_to q) (r.dialled d)) ∙ either (To q d)
     pick false rest = same (To q d) rest
 
--- whether a Hello came does not change where the row is of another peer, or keeps who spoke
+-- whether a Hello came does not change if the row is of another peer, or keeps who spoke
 pub row-hello : (is : Connection → Bool) (f : Connection → Connection) → IsRow f → (cs : List Connection) (q : Uuid) → ((c : Connection) → find is cs ≡ Some c → (To q c ≡ false) ⊎ ((f c).peer ≡ c.peer))
     → Requests.hello_came (dialled_to (at_first is f cs) q) ≡ Requests.hello_came (dialled_to cs q)
 row-hello is f r [] q keeps = refl
@@ -328,7 +328,7 @@ row-numbers is f r (d ∷ cs) a = pick (is d) (row-numbers is f r cs a.1)
     pick true rest = (subst (λ n. AllOf (λ (x : Connection). (x.number == n) ≡ false) cs) (sym (r.number d)) a.0, a.1)
     pick false rest = (Rattle.sp_rules.proofs.AllLemmas.all-first (λ (x : Connection). (x.number == d.number) ≡ false) is f cs (λ x e. ap (λ n. n == d.number) (r.number x) ∙ e) a.0, rest)
 
--- the rows of connections change where no request waits that would see it
+-- the rows of connections change, and no request waits that would see it
 pub row_lines : {g : Setting} {skip : Request → Bool} {s : State} (conn : ℕ) (f : Connection → Connection) → IsRow f
     → ((q : Uuid) (c : Connection) → find (λ (d : Connection). d.number == conn) s.connections ≡ Some c → (To q c ≡ false) ⊎ ((f c).peer ≡ c.peer)) → Lines g skip s → Lines g skip (set_connection f conn s)
 row_lines {g} {skip} {s} conn f r keeps h = record {

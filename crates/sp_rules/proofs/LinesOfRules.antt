@@ -273,7 +273,7 @@ end_requests_lines {s = s} is why h =
     (each_lines _ _ (λ t q k. end_asked_lines (why q.asked) q.asked k) (now_requests _ (all-weaken (λ q. (is q ≡ false → WaitsForHello s.connections s.dialling q) × (not (is q) ≡ true)) (λ q. none q ≡ false → WaitsForHello s.connections s.dialling q) _ (λ q w out. w.0 (not-is-true (is q) w.1))
     (all-both-filter (λ q. is q ≡ false → WaitsForHello s.connections s.dialling q) (λ r. not (is r)) s.requests h.parts.waiting)) h))
 
--- a request that waits and does not end with a connection waits for another peer
+-- a waiting request that does not end with a connection waits for another peer
 waits-elsewhere : (conn : ℕ) (dialled : Option Uuid) (r : Request) → Endings.is_of_connection conn dialled r ≡ false → Requests.is_waiting r.stage ≡ true → is_to r.peer dialled ≡ false
 waits-elsewhere conn None r e waits = refl
 waits-elsewhere conn (Some peer) r e waits = other-way r.peer peer (pick (bytes_eq r.peer peer) (Requests.is_waiting r.stage) waits (or-none (ParkedFrames.is_out_on conn r.stage) _ e).1)
@@ -315,7 +315,7 @@ counted_lines conn number h = row_lines conn _ (counts-row number) (λ q c e. in
 greets-row : (space : Uuid) → IsRow (λ (c : Connection). record c { peer = Some space })
 greets-row space = record { number = λ c. refl; dialled = λ c. refl }
 
--- Where the Hello came on a connection that a peer dialled no line is of it; where it came of a peer that was dialled its line goes out.
+-- If the Hello came on a connection that a peer dialled, no line is of it. If it came of a peer that was dialled, its line goes out.
 greeted_lines : {g : Setting} {s : State} (space : Uuid) (c : Connection) → connection_at s c.number ≡ Some c → c.dialled ≡ None → Lines g none s → Lines g none (Frames.greeted space c.number s)
 greeted_lines {g} {s} space c is e h = row_lines c.number _ (greets-row space) (λ q d found. inl (ap (is_to q) (ap (λ (x : Connection). x.dialled) (some-same (sym found ∙ is)) ∙ e))) h
 
@@ -502,7 +502,7 @@ dialled-more [] c a e = (alone c.dialled, tt)
     alone (Some q) = refl
 dialled-more (d ∷ cs) c a e = (alone-more d.dialled cs c a.0 e.0, dialled-more cs c a.1 e.1)
 
--- no connection of these is to a peer that none is dialled to
+-- none of these connections is to a peer to which none is dialled
 all-others : (p : Uuid) (cs : List Connection) → dialled_to cs p ≡ None → AllOf (λ (d : Connection). (q : Uuid) → d.dialled ≡ Some q → bytes_eq p q ≡ false) cs
 all-others p [] e = tt
 all-others p (d ∷ cs) e = ((λ q is. other-way q p (sym (ap (is_to p) is) ∙ (none-to d cs p e).0)), all-others p cs (none-to d cs p e).1)
@@ -583,7 +583,7 @@ refused_lines {g} {s} peer h = end_requests_lines (Requests.waits_for peer) _ (r
 
 -- ---- events
 
--- an Opened that a space takes is of no open connection, and of a peer that it dialled
+-- an Opened that a space takes is of no open connection, and of a dialled peer
 abbrev Opens : State → Event → Type 0
 Opens s (Opened conn dialled) = (is_open s conn ≡ false) × (Refusals.was_asked s dialled ≡ true)
 Opens s _ = Unit {0}

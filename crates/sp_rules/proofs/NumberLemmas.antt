@@ -23,7 +23,7 @@ begin-lower : (m n last : ℕ) (xs : List ℕ) → m ≤ n → RisesWithin n las
 begin-lower m n last [] le r = let a : n ≤ last = r in omega arith
 begin-lower m n last (x ∷ xs) le r = let a : n + 1 ≤ x = r.0 in (omega arith, r.1)
 
--- one that is next to the last goes behind them
+-- one that is next to the last goes after them
 one-more : (n last : ℕ) (xs : List ℕ) → RisesWithin n last xs → RisesWithin n (last + 1) (xs ++ (last + 1) ∷ [])
 one-more n last [] r = let a : n ≤ last = r in (omega arith, omega arith)
 one-more n last (x ∷ xs) r = (r.0, one-more x last xs r.1)

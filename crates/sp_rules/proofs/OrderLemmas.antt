@@ -1,4 +1,4 @@
--- The outputs of an event stand in the order of their kinds, and what it is refused for in the order of numbers.
+-- The outputs of an event stand in the order of their kinds, and the reasons to refuse it in the order of their numbers.
 use mathlib.Core.Path.{sym, ap, subst, ◌∙◌}
 use Rattle.std.specs.Prelude.{◌≡◌, refl, ℕ, zero, suc, ◌+◌, ◌≤◌, ◌==◌, ◌≢◌, ◌⊎◌, Bool, true, false, List, [], ◌∷◌, ◌++◌, Option, None, Some, filter, map, not, if◌then◌else◌}
 use Rattle.std.proofs.Common.{arith, inl, inr}

@@ -1,4 +1,5 @@
--- The rules of requests and tasks keep the references in a space to those that were there, those that the event brings, and those of objects that stand.
+-- The rules of requests and tasks keep the references in a space to those that were there, those that the event brings, and those of
+-- standing objects.
 use mathlib.Core.Path.{sym, ap, subst, ◌∙◌}
 use Rattle.std.specs.Prelude.{◌≡◌, refl, ℕ, zero, suc, ◌+◌, ◌≤◌, ◌==◌, ◌&&◌, ◌||◌, not, nat_le, is_some, length, Bool, true, false, List, [], ◌∷◌, ◌++◌, Option, None, Some, find, unwrap_or, if◌then◌else◌}
 use Rattle.std.proofs.Common.{arith}
@@ -78,7 +79,8 @@ pub record Holds (g : Setting) (Is Out : Ref → Type 0) (Kept : ParkedFrame →
   pub fresh : AllOf (AskedIs Out) c.fresh
   pub notes : AllOf (NoteIs Out) c.notes
 
--- The references that a space holds are all of one kind, and those that it sends of another, which the first are too; its parked frames are of a kind too.
+-- The references in a space are all of one kind `Is`, those that it sends of a kind `Out`, and its parked frames of a kind `Kept`. What is
+-- of `Is` is of `Out`.
 pub record Only (g : Setting) (Is Out : Ref → Type 0) (Kept : ParkedFrame → Type 0) (s : State) : Type 0 where
   pub parts : Holds g Is Out Kept (parts_of s)
 
@@ -291,7 +293,8 @@ reply_to_only (Tells call group) reply a h = h
 
 -- ---- operations on the store
 
--- what an operation brings: the reference of the object that it makes, a value that it writes to an object that was made; it reads fields that there are
+-- what an operation brings: the reference of the object that it makes, or a value that it writes to an object that was made; the fields
+-- that it reads are there
 abbrev pub OpBrings : Setting → (Ref → Type 0) → ℕ → List Stored → Op → Type 0
 OpBrings g Is made store (Create class) = nat_le 65536 (length (standing store)) ≡ false → Is (record { space = g.id; id = record { 0 = made + 1 }; class = class })
 OpBrings g Is made store (Get id slot) = (o : Object) → find (λ (p : Object). is_id p.id id) (standing store) ≡ Some o → is_some (field_kind g.classes o.class slot) ≡ true

@@ -1,4 +1,5 @@
--- The rules of frames, endings and own events keep the references in a space to those that were there, those that the event brings, and those of objects that stand.
+-- The rules of frames, endings and own events keep the references in a space to those that were there, those that the event brings, and
+-- those of standing objects.
 use mathlib.Core.Path.{sym, ap, subst, ◌∙◌}
 use Rattle.std.specs.Prelude.{◌≡◌, refl, ℕ, ◌+◌, ◌≤◌, ◌==◌, ◌&&◌, ◌||◌, not, nat_le, nat_lt, is_none, Bool, true, false, List, [], ◌∷◌, ◌++◌, Option, None, Some, Result, Ok, Err, filter, find, map, fold, if◌then◌else◌}
 use Rattle.std.specs.List.{list_any, list_all}
@@ -130,7 +131,7 @@ go_all_only : {g : Setting} {Is Out : Ref → Type 0} {Kept : ParkedFrame → Ty
 unfolding ParkedFrames.go_all
 go_all_only h = each_only _ _ (λ t p k. go_only p k) h
 
--- of the frames that are to go, those that are left
+-- of the frames that wait to go, those that are left
 abbrev UnlessGoing : (ParkedFrame → Type 0) → List ParkedFrame → ParkedFrame → Type 0
 UnlessGoing Kept ps q = list_any (λ p. IsAt p q) ps ≡ false → Kept q
 
@@ -251,7 +252,7 @@ first_only c (message.Clean sequence strong objects) h = close_only _ c.number h
 first_only c (message.Cleaned sequence) h = close_only _ c.number h
 first_only c (message.Lookup number name) h = close_only _ c.number h
 
--- what a frame brings is right where it is not refused
+-- what a frame brings is right if it is not refused
 abbrev pub RefBrings : Setting → (Ref → Type 0) → State → Ref → Type 0
 RefBrings g Is s r = Holders.is_refused g s r ≡ false → Is r
 

@@ -212,7 +212,7 @@ taken-brings {g} {Is} {Out} {s} lent e t b h = by e (unrefused g lent s e t) b
     by (WriteFailed conn unsent) r b = tt
     by (GivenBack task k) r b = tt
 
--- ---- an own reference names an object that stands
+-- ---- an own reference names a standing object
 
 abbrev pub NamesIn : Ref → List Object → Type 0
 NamesIn r os = (o : Object) × IsOne o os × (o.id ≡ r.id) × ((o.class.0 == r.class.0) ≡ true)
@@ -316,7 +316,7 @@ new-names g lent s task k class e full =
     let new : Object = record { id = LivingTasks.next_object s; class = class } in
     subst (λ os. Names g os (own_reference g new)) (sym (ap standing (create-stores g lent s task k class e full))) (own-object g new _ (last-one new (standing s.store)))
 
--- a reference that is not refused names an object that stands, if it is own
+-- a reference that is not refused names a standing object, if it is own
 brought-names : (g : Setting) (s : State) (r : Ref) → Holders.is_refused g s r ≡ false → Names g (standing s.store) r
 brought-names g s r e own = own-names g s r (pick (not (g.classes.is_remote r.class)) (bytes_eq r.space g.id) (Holders.is_own_standing g s r) e own)
   where
@@ -333,7 +333,7 @@ root-names g s r e own = own-names g s r (pick (bytes_eq r.space g.id) own e)
     pick true t f = f
     pick false t f = absurd (true≢false (sym t))
 
--- a root that is taken has arguments that may be a root's
+-- the arguments of a root that is taken may be a root's
 pub root-arguments : (g : Setting) (lent : List ℕ) (s : State) (method : ℕ) (arguments : List Value) (fuel : ℕ) → first_refusal (checks g lent s (Root method arguments fuel)) ≡ None
     → AllOf (λ r. Refusals.is_root_argument g s r ≡ true) (references_of arguments)
 root-arguments g lent s method arguments fuel r =

@@ -1,4 +1,4 @@
--- A task that is ready is one that lives and does not wait.
+-- A ready task is one that lives and does not wait.
 use mathlib.Core.Path.{sym, ap, subst, ◌∙◌}
 use Rattle.std.specs.Prelude.{◌≡◌, refl, Bool, true, false, Option, None, Some, if◌then◌else◌}
 use Rattle.sp_rules.specs.State.{Living, that_is_ready}

@@ -1,4 +1,4 @@
--- Whatever happens to a space, its tasks are where their records bring them.
+-- Whatever happens to a space, each of its tasks stands at the point to which its record brings it.
 use mathlib.Core.Path.{sym, ap, subst, ◌∙◌}
 use Rattle.std.specs.Prelude.{◌≡◌, refl, zero, suc, cond, ◌+◌, ◌==◌, ◌++◌, ℕ, Bool, true, false, List, [], ◌∷◌, Option, None, Some, filter, find, if◌then◌else◌}
 use Rattle.std.proofs.Common.{arith}
@@ -43,7 +43,7 @@ find-recorded g p (u ∷ rows) a = pick (p u) (find-recorded g p rows a.1)
 found-recorded : (g : Setting) (s : State) (id : ℕ) (t : Living) → task_at s id ≡ Some t → AreRecorded g s.tasks → IsRecorded g t
 found-recorded g s id t e a = subst (HoldsIn g) e (find-recorded g (λ (u : Living). u.id == id) s.tasks a)
 
--- Where the row that is found is changed into one that is recorded, all are.
+-- If the row that is found is changed into one that is recorded, all are recorded.
 first-recorded : (g : Setting) (p : Living → Bool) (f : Living → Living) (rows : List Living) (t : Living) → find p rows ≡ Some t → IsRecorded g (f t)
     → AreRecorded g rows → AreRecorded g (at_first p f rows)
 first-recorded g p f [] t is h a = tt
@@ -73,7 +73,7 @@ one-more : (g : Setting) (rows : List Living) (u : Living) → AreRecorded g row
 one-more g [] u a r = (r, tt)
 one-more g (v ∷ rows) u a r = (a.0, one-more g rows u a.1 r)
 
--- ---- a task that is ready
+-- ---- a ready task
 
 -- a ready task after instructions of its own
 stepped : (g : Setting) (t : Living) (k : ℕ) → t.waits ≡ false → IsRecorded g t → steps k t.task ≡ steps (t.steps + k) (replayed g t.began t.given)
@@ -130,6 +130,6 @@ naming g = record { named = λ s names h. h }
 withdrawal : (g : Setting) → AllowsWithdrawal (Recorded g)
 withdrawal g = record { gone = λ s ids h. h }
 
--- an event leaves tasks where their records bring them
+-- an event leaves each task at the point to which its record brings it
 pub on_recorded : (g : Setting) (e : Event) (s : State) → AreRecorded g s.tasks → AreRecorded g (Space.on g e s).0.tasks
 on_recorded g e s h = on_keeps (stable g) s e (λ f. telling g) (λ n. naming g) (λ w. withdrawal g) h

@@ -1,4 +1,4 @@
--- A refused event of a world changes nothing but what was refused.
+-- A refused event of a world changes nothing but the note of what was refused.
 use mathlib.Core.Path.{sym, ap, subst, ◌∙◌}
 use Rattle.std.specs.Prelude.{◌≡◌, refl, ℕ, ◌⊎◌, Bool, true, false, List, [], ◌∷◌, Option, None, Some, slice_get, length, if◌then◌else◌}
 use Rattle.std.proofs.Common.{inl, inr}

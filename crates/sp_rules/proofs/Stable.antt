@@ -1,4 +1,5 @@
--- What most rules of a space leave alone. A property that looks at the objects, tasks, names and entries of a space is kept by each rule, where it is kept by the few changes of those parts.
+-- What most rules of a space leave alone. If a property looks at the objects, tasks, names and entries of a space alone, and the few
+-- changes of those parts keep it, each rule keeps it.
 use mathlib.Core.Path.{ap}
 use Rattle.std.specs.Prelude.{◌≡◌, refl, ℕ, ◌+◌, ◌==◌, not, ◌||◌, ◌&&◌, nat_le, nat_lt, is_none, is_some, Bool, true, false, List, [], ◌∷◌, ◌++◌, Option, None, Some, Result, Ok, Err, filter, find, if◌then◌else◌}
 use Rattle.std.specs.List.{list_any}
@@ -67,7 +68,8 @@ new_row g origin method arguments fuel s = record {
 pub record IsFramed (P : State → Type 0) : Type 0 where
   pub frame : (s t : State) → core_of t ≡ core_of s → P s → P t
 
--- A property is stable where it looks at those parts alone, and tasks that begin, go on and end, and objects that are made and written, keep it.
+-- A property is stable if it looks at those parts alone, and tasks that begin, go on and end, and objects that are made and written, keep
+-- it.
 pub record IsStable (g : Setting) (P : State → Type 0) : Type 0 where
   pub framed : IsFramed P
   pub begins : (s : State) (origin : Origin) (method : ℕ) (arguments : List Value) (fuel : ℕ) → P s
@@ -82,7 +84,7 @@ pub record IsStable (g : Setting) (P : State → Type 0) : Type 0 where
   pub makes : (s : State) (class : ClassId) → P s → P (record s { objects_made = s.objects_made + 1; store = Made (LivingTasks.next_object s) class ∷ s.store })
   pub writes : (s : State) (id : ObjId) (slot : ℕ) (value : Value) → P s → P (record s { store = Written id slot value ∷ s.store })
 
--- what is told of the owner's objects keeps it
+-- what clients tell of the owner's objects keeps it
 pub record AllowsTelling (P : State → Type 0) : Type 0 where
   pub told : (s : State) (call : owner.Call) → P s → P (tell_owner call s)
 
@@ -491,7 +493,7 @@ pub finish_event_keeps : {P : State → Type 0} (F : IsFramed P) {s : State} (an
 finish_event_keeps F true h = each_keeps F _ _ (λ t o k. record_sent_keeps F o k) (F.frame _ _ refl (settle_keeps F h))
 finish_event_keeps F false h = h
 
--- a property that is stable, and that what the event may do besides keeps, is kept by the event
+-- an event keeps a stable property, if all that the event may do besides keeps it
 pub on_keeps : {g : Setting} {P : State → Type 0} (S : IsStable g P) (s : State) (e : Event) → (leaves_owner e ≡ false → AllowsTelling P) → (is_naming e ≡ true → AllowsNaming P) → (is_sweep e ≡ true → AllowsWithdrawal P)
     → P s → P (Space.on g e s).0
 unfolding Space.on

@@ -51,7 +51,7 @@ AreGone : (ObjId → Bool) → List ObjId → List Object → Type 0
 AreGone r going [] = Unit {0}
 AreGone r going (o ∷ os) = (r o.id ≡ false → is_id_in going o.id ≡ true) × AreGone r going os
 
--- the same where more goes
+-- the same if more goes
 more-gone : (r : ObjId → Bool) (id : ObjId) (going : List ObjId) (os : List Object) → AreGone r going os → AreGone r (id ∷ going) os
 unfolding AreGone
 more-gone r id going [] a = tt

@@ -14,7 +14,7 @@ use Rattle.sp_rules.specs.Worlds
 use Rattle.sp_rules.specs.Worlds.{World, Space, End, Pipe, grown, put, acts, act, take_event, after, happens, run, new_space, new_world, WorldEvent, Own, Step, Open, Refuse, Accept, Deliver, ReadFails, WriteFails}
 use Rattle.sp_rules.proofs.RecordLemmas.{on_recorded}
 
--- a property of a space that each event of it keeps that it does not refuse
+-- a property of a space; each event that the space does not refuse keeps it
 pub record IsKept (P : Space → Type 0) : Type 0 where
   pub grows : (e : Event) (s : Space) (lent : List ℕ) → Refusals.refusal s.setting lent s.state e ≡ None → P s → P (grown e s)
 

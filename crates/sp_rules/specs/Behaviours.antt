@@ -33,7 +33,8 @@ pub data Reply : Type 0 where
 pub data Behaviour : Type 0 where
   -- an instruction of its own, and then this
   Plain : (next : Behaviour) → Behaviour
-  -- an instruction that asks; and then what it does after each value that may be given. Where an array that is given does not fit its heap it is over: it threw OutOfMemoryError.
+  -- an instruction that asks, and what the task does after each value that may be given. If an array that is given does not fit the task's
+  -- heap, the task is over: it threw OutOfMemoryError.
   Asks : (op : Op) (next : Option Value → Behaviour) → Behaviour
   -- an instruction that ends it
   Ends : (outcome : Outcome) → Behaviour

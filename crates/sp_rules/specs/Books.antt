@@ -7,7 +7,8 @@ use Rattle.sp_rules.specs.LivingTasks.{op_reply}
 use Rattle.sp_rules.specs.Space.{state_of, on, all_outputs}
 use Rattle.sp_rules.specs.State.{State}
 
--- An entry stands for so many private instructions of a task and then one event; that of an event of the space itself is the event. The reply of a commit is entered with it, that of a parked call is the one that the space gives the task at a later entry.
+-- An entry stands for n private instructions of a task and then one event; that of an event of the space itself is the event. The reply of
+-- a commit is entered with it, that of a parked call is the one that the space gives the task at a later entry.
 pub data Entry : Type 0 where
   OnEvent : (event : Event) → Entry
   OnCommit : (task steps : ℕ) (op : Op) (reply : Reply) → Entry

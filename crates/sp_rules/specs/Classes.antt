@@ -26,7 +26,7 @@ pub record Limits : Type 0 where
   pub references : ℕ
   pub fuel : ℕ
 
--- What the rules ask of a class set, whose classes and methods are told by their numbers.
+-- What the rules ask of a class set. Classes and methods are given by their numbers.
 pub record Classes : Type 0 where
   -- the class is a remote class that is not abstract
   pub is_remote : ClassId → Bool
@@ -35,11 +35,12 @@ pub record Classes : Type 0 where
   -- what a method takes and gives
   pub parameters : ℕ → List Kind
   pub result : ℕ → Kind
-  -- the method that a call of this one runs on an object of the class, where selection finds one
+  -- the method that a call of this one runs on an object of the class, if selection finds one
   pub selected : ClassId → ℕ → Option ℕ
   -- why a task of the space does not start at a method with these arguments, if so
   pub start_refusal : Uuid → ℕ → List Value → Option StartRefusal
-  -- what a task of the space does that starts at a method with these arguments and so much fuel. Where an array among them does not fit its heap it is over, it threw OutOfMemoryError; else, where its first frame does not fit its stack, StackOverflowError.
+  -- what a task of the space does that starts at a method with these arguments and this fuel. If an array among them does not fit its heap,
+  -- it is over and threw OutOfMemoryError; else, if its first frame does not fit its stack, StackOverflowError.
   pub behaviour : Uuid → Limits → ℕ → List Value → ℕ → Behaviour
   -- the kinds of the fields of a remote class, inherited ones too, by slot
   pub fields : ClassId → List Kind

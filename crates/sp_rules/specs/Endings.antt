@@ -67,7 +67,7 @@ end_requests g is why s =
 abbrev pub unpark : State → ParkedFrame → State
 unpark s p = let_go_parked p s.parked (take_parked p s)
 
--- Where the connection ends before the Ack of a result, the owner holds the result for 600,000 ms after its last moment.
+-- If the connection ends before the Ack of a result, the owner holds the result for 600,000 ms after its last moment.
 abbrev pub orphan : ℕ → ℕ → KeptResult → KeptResult
 orphan conn moment r = orphaned r.until
   where

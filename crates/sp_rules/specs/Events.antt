@@ -8,11 +8,11 @@ use Rattle.space_ids.specs.declared.value.Value.{Value}
 use Rattle.sp_rules.specs.Behaviours.{Outcome, Op}
 
 pub data Event : Type 0 where
-  -- so many milliseconds have passed since some beginning
+  -- `moment` milliseconds have passed since some beginning
   Moment : (moment : ℕ) → Event
   -- objects without a reason to stay are withdrawn
   Sweep : Event
-  -- a task is to start at a method, with these arguments and so much fuel
+  -- a task starts at a method, with these arguments and this fuel
   Root : (method : ℕ) (arguments : List Value) (fuel : ℕ) → Event
   -- the result of a root or of a lookup is let go
   RootAck : (task : ℕ) → Event

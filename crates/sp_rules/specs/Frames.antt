@@ -54,7 +54,9 @@ is_call_frame (ReturnedFrame value fuel) = false
 abbrev pub is_busy : State → Bool
 is_busy s = nat_le 4096 (length s.tasks + length (filter (λ (p : ParkedFrame). is_call_frame p.frame) s.parked))
 
--- A call of a method that no remote interface of the target's class declares or inherits, with arguments not of the descriptor's kinds, or with a reference that is refused, throws UnmarshalException; with too many tasks it throws ServerError. Else it is parked until every foreign reference in it has a lease, and then starts.
+-- A call throws UnmarshalException if no remote interface of the target's class declares or inherits its method, if its arguments are not
+-- of the descriptor's kinds, or if a reference in it is refused; with too many tasks it throws ServerError. Else it is parked until every
+-- foreign reference in it has a lease, and then starts.
 abbrev pub call_of : Setting → ℕ → ℕ → Object → ℕ → ℕ → List Value → State → State
 call_of g conn number o method fuel arguments s =
     if not (g.classes.may_call o.class method) || (not (fit_kinds (g.classes.parameters method) arguments)
@@ -241,7 +243,7 @@ got g c (message.Clean sequence strong objects) s = got_clean g c sequence stron
 got g c (message.Cleaned sequence) s = told_by g c false sequence lease_events.CleanAnswered s
 got g c (message.Lookup number name) s = got_lookup g c number name s
 
--- whether a frame goes the wrong way: one that asks to the end that dialled, one that answers to the other
+-- whether a frame goes the wrong way: one that asks goes to the end that dialled, one that answers to the other
 abbrev pub is_wrong_way : Bool → Bool → Bool
 is_wrong_way true dialled = dialled
 is_wrong_way false dialled = not dialled

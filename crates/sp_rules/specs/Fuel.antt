@@ -1,4 +1,5 @@
--- Where fuel is, each unit once: what was executed, what tasks have left, and what is lent or given back by frames on their way. (This project's own rule.)
+-- Fuel, each unit counted once: what was executed, what tasks have left, and what frames on their way lend or give back. (This project's
+-- own rule.)
 use Rattle.std.specs.Prelude.{ℕ, ◌+◌}
 use Rattle.net_message.specs.declared.message.Message.{Message}
 use Rattle.net_message.specs.declared.message.Message.TheVariants as message
@@ -7,7 +8,7 @@ use Rattle.sp_rules.specs.Lists.{total}
 use Rattle.sp_rules.specs.State.{State, Living, Request, Asked, Calls, LooksUp, Tells, Stage, Waits, Out, Answered, Frame, CallFrame, ReturnedFrame, ParkedFrame}
 use Rattle.sp_rules.specs.Worlds.{World, Space, Pipe}
 
--- a living task: the instructions that it made, and the fuel that it has left
+-- a living task: its instructions so far, and its fuel left
 abbrev pub task_units : Living → ℕ
 task_units t = t.task.made + t.task.fuel
 
@@ -48,7 +49,7 @@ output_units _ = 0
 abbrev pub note_units : Note → ℕ
 note_units n = output_units (output_of n)
 
--- all instructions that were made in a space and all fuel that is in it
+-- all instructions made in a space and all fuel in it
 abbrev pub units : State → ℕ
 units s =
     s.retired + (total task_units s.tasks + (total request_units s.requests
@@ -74,7 +75,7 @@ space_units s = units s.state
 abbrev pub pipe_units : Pipe → ℕ
 pipe_units p = total message_units p.dialler.queue + total message_units p.accepter.queue
 
--- all instructions that were made in a world and all fuel that is in it: in its spaces and on its connections
+-- all instructions made in a world and all fuel in it: in its spaces and on its connections
 abbrev pub world_units : World → ℕ
 world_units w = total space_units w.spaces + total pipe_units w.pipes
 

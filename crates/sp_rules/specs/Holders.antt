@@ -71,7 +71,7 @@ abbrev pub references_of_frame : Frame → List Ref
 references_of_frame (CallFrame target method fuel arguments) = references_of arguments
 references_of_frame (ReturnedFrame value fuel) = references_in value
 
--- A reference, under its class, has a holder while a living task, a field of a standing object, a result that is held or a parked frame has it.
+-- A reference, under its class, has a holder while a living task, a field of a standing object, a held result or a parked frame has it.
 abbrev pub has_holder : Setting → State → Ref → Bool
 has_holder g s r =
     list_any (λ (t : Living). is_reference_in t.task.held r) s.tasks
@@ -119,13 +119,14 @@ class_is class (Some o) = o.class.0 == class.0
 abbrev pub is_own_standing : Setting → State → Ref → Bool
 is_own_standing g s r = bytes_eq r.space g.id && class_is r.class (object_at s r.id)
 
--- the own object that a value names, where it stands and is of that class
+-- the own object that a value names, if it stands and is of that class
 abbrev pub own_object : Setting → State → Value → Option ObjId
 own_object g s values.Null = None
 own_object g s (values.Int n) = None
 own_object g s (values.Ints ns) = None
 own_object g s (values.Ref r) = if is_own_standing g s r then Some r.id else None
 
--- A call is refused for a reference whose class is no remote class that is not abstract, and for an own reference of no standing object of that class.
+-- A call is refused for a reference whose class is not remote or is abstract, and for an own reference that names no standing object of
+-- that class.
 abbrev pub is_refused : Setting → State → Ref → Bool
 is_refused g s r = not (g.classes.is_remote r.class) || (bytes_eq r.space g.id && not (is_own_standing g s r))

@@ -1,4 +1,4 @@
--- The laws of spaces and worlds, in the subject's own words; each is the contract of a function of this crate.
+-- The laws of spaces and worlds, in the terms of the rules; each is the contract of a function of this crate.
 use Rattle.std.specs.Prelude.{◌+◌, None, Some, map, ◌≡◌, ◌≤◌, ◌⊎◌, ℕ, Bool, true, false, List, [], ◌∷◌, ◌++◌, Option, option_map, slice_get, filter, not, Result, Ok, Err, fold, nat_lt, if◌then◌else◌}
 use Rattle.dgc_list.specs.History as owner
 use Rattle.dgc_list.specs.Remembered.{blank}
@@ -23,7 +23,7 @@ use Rattle.sp_rules.specs.Space.{state_of, on}
 use Rattle.sp_rules.specs.State.{State, Object, Living, Connection, connection_at, Owner, standing}
 use Rattle.sp_rules.specs.Worlds.{World, Space, End, WorldEvent, Refuse, ReadFails, WriteFails, after, run, new_world}
 
--- each of these is so
+-- each of these holds
 abbrev pub AllOf : {A : Type 0} → (A → Type 0) → List A → Type 0
 AllOf Is [] = Unit {0}
 AllOf Is (x ∷ xs) = Is x × AllOf Is xs
@@ -66,7 +66,7 @@ FailuresRemoveNothing =
 
 -- ---- fuel
 
--- Whatever happens, the instructions that are made and the fuel that is left are no more than the fuel of the roots.
+-- Whatever happens, the instructions that are made and the fuel left are no more than the fuel of the roots.
 abbrev pub FuelIsBounded : Type 0
 FuelIsBounded = (settings : List Setting) (events : List WorldEvent) →
     world_units (run (new_world settings) events) ≤ world_roots (run (new_world settings) events)
@@ -85,7 +85,7 @@ abbrev pub unless_denied : List Binding → Result (List Binding) RegistryFault 
 unless_denied names (Ok new) = new
 unless_denied names (Err fault) = names
 
--- what an event makes of the names; a name is bound to an own object that stands
+-- what an event makes of the names; a name is bound to an own standing object
 abbrev pub named_by : Setting → State → Event → List Binding → List Binding
 named_by g s (Bind name value) names = unless_denied names (registry.bind names name (own_object g s value))
 named_by g s (Rebind name value) names = unless_denied names (registry.rebind names name (own_object g s value))
@@ -108,13 +108,13 @@ told_in client s (message.Dirty sequence period ids) calls = owner.Dirty client 
 told_in client s (message.Clean sequence strong ids) calls = owner.Clean client (that_stand s ids) sequence strong ∷ calls
 told_in client s m calls = calls
 
--- what is told on a connection by who spoke there, where this space did not dial it
+-- what the space that spoke on a connection tells there, if this space did not dial it
 abbrev pub told_from : Option Uuid → Option Uuid → State → Message → List owner.Call → List owner.Call
 told_from None dialled s m calls = calls
 told_from (Some client) None s m calls = told_in client s m calls
 told_from (Some client) (Some peer) s m calls = calls
 
--- A client tells by dirty and clean frames alone, on a connection that it dialled and on which its Hello came; its calls speak of objects that stand.
+-- A client tells by dirty and clean frames alone, on a connection that it dialled, after its Hello; its calls speak of standing objects.
 abbrev pub told_on : State → Option Connection → Message → List owner.Call → List owner.Call
 told_on s None m calls = calls
 told_on s (Some c) m calls = told_from c.peer c.dialled s m calls
@@ -198,11 +198,11 @@ OutputsAreInOrder = (g : Setting) (e : Event) (s : State) → RisesFrom 0 (map o
 abbrev pub check_number : Check → ℕ
 check_number c = refusal_number c.refusal
 
--- What an event is refused for is looked at in the order of numbers.
+-- The reasons to refuse an event are looked at in the order of their numbers.
 abbrev pub ChecksRise : Type 0
 ChecksRise = (g : Setting) (lent : List ℕ) (s : State) (e : Event) → RisesFrom 0 (map check_number (checks g lent s e))
 
--- An event of a world that is refused changes nothing but what was refused.
+-- An event of a world that is refused changes nothing but the note of what was refused.
 abbrev pub RefusedChangesNothing : Type 0
 RefusedChangesNothing = (w : World) (e : WorldEvent) (why : Refusal) → (after w e).refused ≡ Some why → after w e ≡ record w { refused = Some why }
 
@@ -211,7 +211,7 @@ RefusedChangesNothing = (w : World) (e : WorldEvent) (why : Refusal) → (after 
 abbrev pub HasRuns : Space → Type 0
 HasRuns s = AreRecorded s.setting s.state.tasks
 
--- In every run of every world each living task is where its start and its own record bring it.
+-- In every run of every world each living task stands at the point to which its start and its own record bring it.
 abbrev pub TasksAreRuns : Type 0
 TasksAreRuns = (settings : List Setting) (events : List WorldEvent) → AllOf HasRuns (run (new_world settings) events).spaces
 
@@ -228,7 +228,8 @@ object_numbers s = map (λ (o : Object). o.id.0) (standing s.store)
 abbrev pub task_numbers : State → List ℕ
 task_numbers s = map (λ (t : Living). t.id) s.tasks
 
--- The objects that stand and the tasks that live have numbers from 1, each its own, in the order in which they were made, and none above the last that was given.
+-- The standing objects and the living tasks have numbers from 1, each its own, in the order in which they were made, and none above the
+-- last that was given.
 abbrev pub HasFreshNumbers : Space → Type 0
 HasFreshNumbers s = RisesWithin 0 s.state.objects_made (object_numbers s.state) × RisesWithin 0 s.state.tasks_made (task_numbers s.state)
 

@@ -1,4 +1,5 @@
--- Who waits for whom: one connection is dialled to a peer at a time, and what is asked of a peer waits for its Hello where that has not come. (This project's own protocol; the Java RMI specification leaves connections open.)
+-- Who waits for whom: one connection is dialled to a peer at a time, and what is asked of a peer waits for its Hello if that has not come.
+-- (This project's own protocol; the Java RMI specification leaves connections open.)
 use Rattle.std.specs.Prelude.{◌≡◌, ◌||◌, true, false, List, [], ◌∷◌, Option, None, Some, is_some, find}
 use Rattle.std.specs.List.{list_any}
 use Rattle.std.specs.Str.{bytes_eq}
@@ -29,7 +30,7 @@ abbrev pub AreOnce : List Uuid → Type 0
 AreOnce [] = Unit {0}
 AreOnce (peer ∷ others) = (list_any (bytes_eq peer) others ≡ false) × AreOnce others
 
--- A request that waits has a peer that is dialled or being dialled, and whose Hello has not come.
+-- A waiting request has a peer that is dialled or being dialled, and whose Hello has not come.
 abbrev pub WaitsForHello : List Connection → List Uuid → Request → Type 0
 WaitsForHello connections dialling r = is_waiting r.stage ≡ true →
     ((is_some (dialled_to connections r.peer) || list_any (bytes_eq r.peer) dialling) ≡ true) × (hello_came (dialled_to connections r.peer) ≡ None)
@@ -41,6 +42,6 @@ pub record HasLines (s : State) : Type 0 where
   pub apart : AllOf (λ (peer : Uuid). dialled_to s.connections peer ≡ None) s.dialling
   pub waiting : AllOf (WaitsForHello s.connections s.dialling) s.requests
 
--- So after every history that a space took.
+-- This holds after every history that a space took.
 abbrev pub LinesWaitForHellos : Type 0
 LinesWaitForHellos = (g : Setting) (h : List Event) → IsTaken g h → HasLines (state_of g h)

@@ -1,11 +1,12 @@
--- Words of lists in which the rules of a space are written: something is done for each of a list in turn, one row of a table is changed. (No rule of a space stands here.)
+-- Operations on lists with which the rules of a space are written: something is done for each of a list in turn, one row of a table is
+-- changed. (No rule of a space stands here.)
 use Rattle.std.specs.Prelude.{ℕ, zero, suc, ◌+◌, Bool, List, [], ◌∷◌, ◌++◌, Option, None, Some, fold, if◌then◌else◌}
 
 -- what is left of a state after something is done for each of these, in turn
 unfoldable pub each : {S A : Type 0} → (S → A → S) → List A → S → S
 each f xs s = fold f s xs
 
--- what is made of something that may be there, or this where it is not
+-- what is made of something that may be there, or this if it is not
 abbrev pub with_some : {A B : Type 0} → Option A → B → (A → B) → B
 with_some None none some = none
 with_some (Some x) none some = some x

@@ -39,7 +39,7 @@ add_task g origin method arguments fuel s =
 abbrev pub keep : Setting → Until → Option Value → State → State
 keep g until value s = hold g (references_in value) (record s { results = s.results ++ record { until = until; value = value } ∷ [] })
 
--- A reply gives back the fuel that is left. An Error is answered as ServerError, a RemoteException as ServerException, any other class as itself.
+-- A reply gives back the fuel left. An Error is answered as ServerError, a RemoteException as ServerException, any other class as itself.
 abbrev pub reply_frame : Setting → ℕ → ℕ → Outcome → Message
 reply_frame g number fuel (Returned value) = message.Returned number fuel value
 reply_frame g number fuel (Threw class) = message.Threw number (told_class g.classes class)
@@ -131,7 +131,7 @@ after_op g (Put id slot value) s =
     (hold g (reference_of value) (record s { store = Written id slot value ∷ s.store }))
 after_op g (Call target method arguments) s = s
 
--- The operation that a lent task stands at is done, and its reply completes the instruction.
+-- The operation at which a lent task stands is done, and its reply completes the instruction.
 unfoldable pub commit : Setting → ℕ → ℕ → Op → State → State
 commit g id k op s = with_some (ready_at s id) s (λ t.
     after_op g op (hold g (gained t.task (answer g (op_reply g op s) (steps k t.task)))
@@ -171,7 +171,7 @@ park_call g id k s = with_some (ready_at s id) s (λ t. park_at g id k t (stand 
 
 -- ---- ends of a lent task
 
--- A task that is given back stands where its own instructions brought it.
+-- A task that is given back stands at the point to which its own instructions brought it.
 unfoldable pub give_back : ℕ → ℕ → State → State
 give_back id k s = with_some (ready_at s id) s (λ t. set_task (after_steps k) id s)
 

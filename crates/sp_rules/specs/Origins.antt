@@ -1,4 +1,5 @@
--- Where the references in a space are, and where they come from: those that were there, those that an event brings and is not refused for, and those of objects that stand (Java RMI specification, 2.6: a remote reference names a remote object; 3.3: an object that is referenced stays).
+-- The references in a space, and their origins: those that were there, those that an event brings without being refused for them, and those
+-- of standing objects (Java RMI specification, 2.6: a remote reference names a remote object; 3.3: an object that is referenced stays).
 use Rattle.std.specs.Prelude.{◌≡◌, ℕ, true, List, [], ◌∷◌, None}
 use Rattle.std.specs.Str.{bytes_eq}
 use Rattle.net_message.specs.declared.message.Message.{Message}
@@ -60,7 +61,8 @@ abbrev pub TargetStands : State → Frame → Type 0
 TargetStands s (CallFrame target method fuel arguments) = stands s target ≡ true
 TargetStands s (ReturnedFrame value fuel) = Unit {0}
 
--- Own references name standing objects of their class: those that tasks hold, those in the fields of standing objects, in results that are held, and in parked frames. So do the targets of parked calls.
+-- Own references name standing objects of their class: those that tasks hold, those in the fields of standing objects, in held results, and
+-- in parked frames. So do the targets of parked calls.
 pub record OwnStand (g : Setting) (s : State) : Type 0 where
   pub tasks : AllOf (λ (t : Living). AllOf (IsRight g s) t.task.held) s.tasks
   pub fields : AllOf (λ (o : Object). AllOf (IsRight g s) (references_of (fields_of g s o))) (standing s.store)

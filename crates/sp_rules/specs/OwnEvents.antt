@@ -51,7 +51,7 @@ withdraw g s gone =
     say (Withdrawn ids) (each (λ t (o : Object). drop g (references_of (fields_of g s o)) t) gone
     (each (λ t id. tell_owner (owner.Forget id) t) ids (record s { store = Gone ids ∷ s.store })))
 
--- Withdrawn is answered with the objects that go, and not where none does.
+-- Withdrawn is answered with the objects that go, if there are any.
 abbrev pub sweep_of : Setting → State → List Object → State
 sweep_of g s [] = s
 sweep_of g s (o ∷ os) = withdraw g s (o ∷ os)

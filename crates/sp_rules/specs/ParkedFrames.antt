@@ -64,7 +64,7 @@ take_parked p s = record s { parked = filter (λ q. not (is_parked_at p.conn p.n
 abbrev pub let_go_parked : ParkedFrame → List ParkedFrame → State → State
 let_go_parked p parked s = each (λ t (q : ParkedFrame). drop_ids q.references t) (filter (is_parked_at p.conn p.number) parked) s
 
--- A call's method is selected at the owner. Where selection finds none, no task starts and the answer is ServerError.
+-- A call's method is selected at the owner. If selection finds none, no task starts and the answer is ServerError.
 abbrev pub start_selected : Setting → ℕ → ℕ → Ref → Option ℕ → ℕ → List Value → State → State
 start_selected g conn number receiver None fuel arguments s = answer_threw conn number g.classes.server_error s
 start_selected g conn number receiver (Some selected) fuel arguments s =
@@ -104,7 +104,7 @@ abbrev pub fail_frame : Setting → ParkedFrame → Frame → State → State
 fail_frame g p (CallFrame target method fuel arguments) s = answer_threw p.conn p.number g.classes.unmarshal s
 fail_frame g p (ReturnedFrame value fuel) s = answer_parked g p (Throws g.classes.unmarshal) s
 
--- A parked frame of which a reference's dirty call failed ends with UnmarshalException.
+-- If a dirty call failed, a parked frame that waits for its reference ends with UnmarshalException.
 unfoldable pub fail_parked : Setting → State → ParkedFrame → State
 fail_parked g s p = fail_frame g p p.frame (let_go_parked p s.parked (take_parked p s))
 

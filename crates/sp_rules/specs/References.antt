@@ -23,7 +23,7 @@ references_in (Some value) = reference_of value
 abbrev pub references_of : List Value → List Ref
 references_of values = flat_map reference_of values
 
--- Two references are one where space, id and class are.
+-- Two references are the same if their space, id and class are.
 abbrev pub is_same_reference : Ref → Ref → Bool
 is_same_reference a b = bytes_eq a.space b.space && (a.id.0 == b.id.0 && a.class.0 == b.class.0)
 

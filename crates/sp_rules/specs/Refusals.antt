@@ -1,4 +1,5 @@
--- Why an event is refused. A refused event changes nothing and is not in the history; of several reasons the one with the lowest number counts, but that a space that is worn out says so first. (This project's own rules and numbers.)
+-- Why an event is refused. A refused event changes nothing and is not in the history; of several reasons the one with the lowest number
+-- counts, but a space that is worn out says so first. (This project's own rules and numbers.)
 use Rattle.std.specs.Prelude.{ℕ, ◌+◌, ◌^◌, ◌==◌, ◌&&◌, ◌||◌, not, nat_lt, nat_le, Bool, true, false, List, [], ◌∷◌, ◌++◌, Option, None, Some, is_some, if◌then◌else◌}
 use Rattle.std.specs.List.{list_any, list_all}
 use Rattle.std.specs.Str.{bytes_eq}
@@ -26,7 +27,7 @@ pub data Refusal : Type 0 where
   NotLent : Refusal
   -- 92: a reference that the task does not hold; of a Root one that is neither of a standing own object nor held with a lease
   NotHeld : Refusal
-  -- 93: a value, class or field that does not fit; a task that does not stand at what the call is for; fuel over the limit
+  -- 93: a value, class or field that does not fit; a task that does not stand at the operation of the event; fuel over the limit
   WrongKind : Refusal
   -- 94: an event of no open connection, an Opened of an open one, a dialled Opened or a Refused that no Dial asked for, a lookup whose peer is the space itself
   Strange : Refusal
@@ -74,7 +75,8 @@ is_give_back _ = false
 
 -- ---- roots
 
--- Root arguments that are references must be of standing own objects, of their class, or foreign references that have a holder, under their class, and a lease.
+-- A reference among a root's arguments must be of a standing own object, of its class, or a foreign reference with a holder, under its
+-- class, and a lease.
 abbrev pub is_root_argument : Setting → State → Ref → Bool
 is_root_argument g s r =
     if bytes_eq r.space g.id then is_own_standing g s r
@@ -87,7 +89,7 @@ refuse_start (Some why) = refuse_if true (CannotStart why)
 
 -- ---- lent tasks
 
--- Which ready tasks are lent stands beside the state: a task is in hand where it is one of these.
+-- The list of the ready tasks that are lent stands beside the state: a task is in hand if it is one of these.
 abbrev pub is_in_hand : List ℕ → State → ℕ → Bool
 is_in_hand lent s task = list_any (◌==◌ task) lent && is_some (ready_at s task)
 
@@ -128,7 +130,7 @@ fits_call g (Get object slot) = false
 fits_call g (Put object slot value) = false
 fits_call g (Call target method arguments) = not (bytes_eq target.space g.id) && fit_kinds (g.classes.parameters method) arguments
 
--- where a task stands after so many instructions of its own
+-- the point at which a task stands after n instructions of its own
 abbrev pub stand_after : ℕ → Option Living → Option Stand
 stand_after k None = None
 stand_after k (Some t) = Some (stand (steps k t.task))
@@ -159,7 +161,7 @@ abbrev pub was_asked : State → Option Uuid → Bool
 was_asked s None = true
 was_asked s (Some peer) = is_dialling s peer
 
--- what an event is refused for, in the order of numbers
+-- the reasons to refuse an event, in the order of their numbers
 abbrev pub checks : Setting → List ℕ → State → Event → List Check
 checks g lent s (Moment moment) = refuse_if (nat_le (2 ^ 63) moment) WornOut
 checks g lent s Sweep = []
@@ -188,6 +190,6 @@ checks g lent s (Parked task k) = refuse_if (not (is_in_hand lent s task)) NotLe
 checks g lent s (GivenBack task k) = refuse_if (not (is_in_hand lent s task)) NotLent
 checks g lent s (Finished task k) = refuse_if (not (is_in_hand lent s task)) NotLent ++ check_finished (task_at s task) (stand_after k (task_at s task))
 
--- why an event is refused by a space whose lent tasks are these, if it is
+-- why a space with these lent tasks refuses an event, if it does
 unfoldable pub refusal : Setting → List ℕ → State → Event → Option Refusal
 refusal g lent s e = if is_worn s && not (is_give_back e) then Some WornOut else first_refusal (checks g lent s e)

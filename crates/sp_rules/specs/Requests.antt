@@ -1,4 +1,5 @@
--- What is asked of peers: how requests are made, wait for the peer's Hello, and go out; and the end of an event, at which the dirty and clean calls that are due are made (Java RMI specification, 9.1: DGC.dirty and DGC.clean).
+-- What is asked of peers: how requests are made, wait for the peer's Hello, and go out; and the end of an event, at which the due dirty and
+-- clean calls are made (Java RMI specification, 9.1: DGC.dirty and DGC.clean).
 use Rattle.std.specs.Prelude.{ℕ, ◌+◌, ◌&&◌, ◌||◌, not, Bool, true, false, List, [], ◌∷◌, ◌++◌, Option, None, Some, is_some, filter, if◌then◌else◌}
 use Rattle.std.specs.Str.{bytes_eq}
 use Rattle.dgc_client.specs.declared.groups.Group.{Group}
@@ -67,13 +68,13 @@ abbrev pub hello_came : Option Connection → Option ℕ
 hello_came None = None
 hello_came (Some c) = if is_some c.peer then Some c.number else None
 
--- Where no connection to a peer is open, Dial is given once.
+-- If no connection to a peer is open, Dial is given once.
 unfoldable pub dial : Uuid → State → State
 dial peer s =
     if is_some (connection_to s peer) || is_dialling s peer then s
     else say (Dial peer) (record s { dialling = s.dialling ++ peer ∷ [] })
 
--- A request goes out where the peer's Hello has come; else it waits for it.
+-- A request goes out if the peer's Hello has come; else it waits for it.
 unfoldable pub ask : State → Request → State
 ask s r = with_some (hello_came (connection_to s r.peer)) (dial r.peer (add_request r s)) (λ conn. go_out (turn_asked r.asked) conn r s)
 
@@ -108,6 +109,7 @@ make_due s = each make_group (due_groups s.leases) s
 unfoldable pub ask_fresh : State → State
 ask_fresh s = each ask s.fresh (record s { fresh = [] })
 
--- At the end of an event the clean and dirty calls that are due are made, and then the call or lookup of the event; so its Dials stand in this order too.
+-- At the end of an event the due clean and dirty calls are made, and then the call or lookup of the event; so its Dials stand in this order
+-- too.
 unfoldable pub settle : State → State
 settle s = ask_fresh (make_due s)

@@ -14,7 +14,7 @@ abbrev pub replayed : Setting → Beginning → List Given → Task
 replayed g b [] = start g b.method b.arguments b.fuel
 replayed g b (given ∷ more) = answer g given.reply (lent_if given.lent (steps given.steps (replayed g b more)))
 
--- where its record brings a living task
+-- the point to which its record brings a living task
 abbrev pub recorded : Setting → Living → Task
 recorded g t = lent_if t.waits (steps t.steps (replayed g t.began t.given))
 

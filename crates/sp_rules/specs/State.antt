@@ -31,7 +31,7 @@ pub record Object : Type 0 where
   pub id : ObjId
   pub class : ClassId
 
--- The objects that stand are those that were made and not withdrawn, by number.
+-- The standing objects are those that were made and not withdrawn, by number.
 abbrev pub standing : List Stored → List Object
 standing [] = []
 standing (Made id class ∷ h) = standing h ++ record { id = id; class = class } ∷ []
@@ -58,7 +58,8 @@ pub record Beginning : Type 0 where
   pub arguments : List Value
   pub fuel : ℕ
 
--- a reply that a task was given, after so many instructions of its own since the one before; and whether it lent its fuel for it, to a call. (What it had asked for is what it stands at there.)
+-- a reply that a task was given, after this number of its own instructions since the one before; and whether it lent its fuel for it, to a
+-- call. (What it had asked for is the operation at which it stands there.)
 pub record Given : Type 0 where
   pub steps : ℕ
   pub lent : Bool
@@ -111,7 +112,7 @@ pub record KeptResult : Type 0 where
 
 pub record Connection : Type 0 where
   pub number : ℕ
-  -- whom this space dialled, where it did
+  -- the peer that this space dialled, if it did
   pub dialled : Option Uuid
   -- who spoke, once the Hello has come
   pub peer : Option Uuid
@@ -227,7 +228,7 @@ set_connection f conn s = record s { connections = at_first (λ (c : Connection)
 abbrev pub set_task : (Living → Living) → ℕ → State → State
 set_task f id s = record s { tasks = at_first (λ (t : Living). t.id == id) f s.tasks }
 
--- the owner's reference lists are told
+-- a call on the owner's reference lists
 abbrev pub tell_owner : owner.Call → State → State
 tell_owner call s = record s { owner = record s.owner { entries = call ∷ s.owner.entries } }
 
@@ -236,6 +237,6 @@ tell_owner call s = record s { owner = record s.owner { entries = call ∷ s.own
 abbrev pub say : Output → State → State
 say output s = record s { notes = s.notes ++ Says output ∷ [] }
 
--- A frame goes out where its connection is open.
+-- A frame goes out if its connection is open.
 unfoldable pub send : Turn → ℕ → Message → State → State
 send turn conn message s = if is_open s conn then record s { notes = s.notes ++ Sends turn conn message ∷ [] } else s

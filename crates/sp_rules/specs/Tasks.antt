@@ -14,7 +14,7 @@ pub record Task : Type 0 where
   -- the references that it holds, each once, in the order in which they came
   pub held : List Ref
 
--- where a task stands: before an instruction of its own, at one that asks, or at its end
+-- the point at which a task stands: before an instruction of its own, at one that asks, or at its end
 pub data Stand : Type 0 where
   Runs : Stand
   AsksFor : (op : Op) → Stand
@@ -50,7 +50,7 @@ step_at (HasEnded outcome) t = t
 unfoldable pub step : Task → Task
 step t = step_at (stand t) t
 
--- so many instructions of its own
+-- n instructions of its own
 unfoldable pub steps : ℕ → Task → Task
 steps zero t = t
 steps (suc k) t = steps k (step t)
@@ -64,7 +64,7 @@ after_reply (Asks op next) value = next value
 after_reply (Ends outcome) value = Ends outcome
 after_reply (Over outcome) value = Over outcome
 
--- Where the references of a task are more than its limit it throws OutOfMemoryError.
+-- If the references of a task are more than its limit, it throws OutOfMemoryError.
 abbrev pub within_limit : Setting → List Ref → Behaviour → Behaviour
 within_limit g references b = if nat_le (length references) g.limits.references then b else Over (Threw g.classes.out_of_memory)
 
@@ -75,7 +75,7 @@ with_value g value t = record t {
   behaviour = within_limit g (with_references t.held (references_in value)) (after_reply t.behaviour value);
 }
 
--- The instruction that asks takes one unit too, and the reply to a call gives back the fuel that is left.
+-- The instruction that asks takes one unit too, and the reply to a call gives back the fuel left.
 abbrev pub pay_with : ℕ → ℕ → Task → Task
 pay_with zero back t = record t { fuel = back }
 pay_with (suc left) back t = record t { fuel = left + back; made = t.made + 1 }

@@ -135,7 +135,8 @@ lent_for (GivenBack task k) = task ∷ []
 lent_for (Finished task k) = task ∷ []
 lent_for _ = []
 
--- Events reach a space, one after the other, in a world that is made ready for them. Where the space refuses one the world stays as it was before, but for the refusal.
+-- Events reach a space one after the other, in a world that is prepared for them. If the space refuses one, the world stays as it was
+-- before, but for the refusal.
 unfoldable pub acts : World → ℕ → List Event → World → World
 acts before i [] w = w
 acts before i (e ∷ es) w = with_some (slice_get w.spaces i) before (λ s.
@@ -231,7 +232,8 @@ deliver_first conn to w space over (m ∷ ms) = act w space (Received conn m) (o
 deliver_first conn to w space true [] = act w space (Closed conn) (on_side ends conn to w)
 deliver_first conn to w space false [] = w
 
--- Deliver hands over a queue's first frame; where it is empty and its writing end has ended, Closed, once. An end that has ended gets no further event.
+-- Deliver hands over a queue's first frame; if the queue is empty and its writing end has ended, Closed, once. An end that has ended gets
+-- no further event.
 unfoldable pub deliver : ℕ → End → World → World
 deliver conn to w = with_some (slice_get w.pipes conn) w (λ p.
     if is_live (side to p).phase then deliver_first conn to w (side to p).space (is_ended (side (other to) p).phase) (side to p).queue else w)
@@ -264,7 +266,7 @@ accept_at conn w space Over = w
 unfoldable pub accept : ℕ → World → World
 accept conn w = with_some (slice_get w.pipes conn) w (λ p. accept_at conn w p.accepter.space p.accepter.phase)
 
--- Open fits where `a` asked for a Dial to `b`, and gives `a` its Opened. Connections are numbered from 0.
+-- Open fits if `a` asked for a Dial to `b`, and gives `a` its Opened. Connections are numbered from 0.
 unfoldable pub open_pipe : ℕ → ℕ → World → World
 open_pipe a b w =
     if is_asked a b w
@@ -275,7 +277,7 @@ abbrev pub refuse_to : World → ℕ → Option Uuid → World → World
 refuse_to before a None w = before
 refuse_to before a (Some peer) w = act before a (Refused peer) w
 
--- Refuse fits where `a` asked for a Dial to `b`.
+-- Refuse fits if `a` asked for a Dial to `b`.
 unfoldable pub refuse : ℕ → ℕ → World → World
 refuse a b w = if is_asked a b w then refuse_to w a (id_at b w) (record w { asked = without_pair a b w.asked }) else w
 
@@ -289,7 +291,7 @@ happens (Deliver conn to) w = deliver conn to w
 happens (ReadFails conn at) w = read_fails conn at w
 happens (WriteFails conn at unsent) w = write_fails conn at unsent w
 
--- One event of a world. One that fits no state changes nothing but what was refused.
+-- One event of a world. One that does not fit the state changes nothing but the note of what was refused.
 unfoldable pub after : World → WorldEvent → World
 after w e = happens e (record w { refused = None })
 

@@ -4,17 +4,17 @@ ghost use Rattle.sp_rules.specs.Lines.{LinesWaitForHellos};
 ghost use Rattle.sp_rules.specs.Origins.{HistoriesAreTaken, OwnReferencesStand};
 ghost use Rattle.sp_rules.specs.Laws.{EventsLeaveOwners, FailuresRemoveNothing, FuelIsBounded, SweepIsExact, OnlySweepsWithdraw, TasksAreRuns, StatesAreHistories, BooksGrow, NamesAreBound, EntriesAreTold, NamesStand, EntriesStand, OutputsAreInOrder, ChecksRise, RefusedChangesNothing, NumbersAreFresh};
 
-/// A failure removes no name and no entry. In a space all events but moments, sweeps, changes of names,
-/// and dirty and clean calls that come leave its names and its clients' entries as they were: also a
-/// connection that ends or is closed, and whatever ends with it. In a world a read that fails, a write
-/// that fails, with any number of frames lost, and a refused Dial leave those of every space.
+/// A failure removes no name and no entry. All events of a space but moments, sweeps, changes of
+/// names, and dirty and clean calls that come leave its names and its clients' entries as they
+/// were, also the end of a connection and whatever ends with it. In a world a read that fails, a
+/// write that fails, with any number of frames lost, and a refused Dial leave those of every space.
 pub fn failures_remove_nothing()
     ensures space { EventsLeaveOwners }
     ensures world { FailuresRemoveNothing }
 {}
 
-/// All instructions that are made in a world, and all fuel that is left in it, in its tasks, its
-/// calls and its frames, are no more than the fuel of its roots.
+/// All instructions that are made in a world, and all fuel left in it, in its tasks, its calls and
+/// its frames, are no more than the fuel of its roots.
 pub fn fuel_is_bounded()
     ensures { FuelIsBounded }
 {}
@@ -26,8 +26,8 @@ pub fn sweeps_are_exact()
     ensures only { OnlySweepsWithdraw }
 {}
 
-/// In every run of every world each living task is where its start and its own record bring it: the
-/// replies that it was given, each after instructions of its own.
+/// In every run of every world each living task stands at the point to which its start and its own
+/// record bring it: the replies that it was given, each after instructions of its own.
 pub fn tasks_are_runs()
     ensures { TasksAreRuns }
 {}
@@ -68,18 +68,18 @@ pub fn outputs_are_in_order()
     ensures { OutputsAreInOrder }
 {}
 
-/// What an event is refused for is looked at in the order of the refusals' numbers, so of several the
+/// The reasons to refuse an event are looked at in the order of their numbers, so of several the
 /// lowest counts; but a space that is worn out says so first.
 pub fn checks_rise()
     ensures { ChecksRise }
 {}
 
-/// An event of a world that is refused changes nothing but what was refused.
+/// An event of a world that is refused changes nothing but the note of what was refused.
 pub fn refused_changes_nothing()
     ensures { RefusedChangesNothing }
 {}
 
-/// In every run of every world the objects that stand and the tasks that live have numbers from 1, each
+/// In every run of every world the standing objects and the living tasks have numbers from 1, each
 /// its own, in the order in which they were made, and none above the last that was given.
 pub fn numbers_are_fresh()
     ensures { NumbersAreFresh }
@@ -91,16 +91,16 @@ pub fn histories_are_taken()
     ensures { HistoriesAreTaken }
 {}
 
-/// After every history that a space took, of which it refused no event, its own references name standing
-/// objects of their class: those that tasks hold, those in the fields of standing objects, in results
-/// that are held and in parked frames. So do the targets of parked calls.
+/// After every history of which a space refused no event, its own references name standing objects
+/// of their class: those that tasks hold, those in the fields of standing objects, in held results
+/// and in parked frames. So do the targets of parked calls.
 pub fn own_references_stand()
     ensures { OwnReferencesStand }
 {}
 
-/// After every history that a space took at most one connection is dialled to a peer, and a peer that is
-/// being dialled, each once, has none. A request that waits has a peer that is dialled or being dialled,
-/// and whose Hello has not come.
+/// After every history that a space took at most one connection is dialled to a peer, and a peer
+/// that is being dialled, each once, has none. A waiting request has a peer that is dialled or
+/// being dialled, and whose Hello has not come.
 pub fn lines_wait_for_hellos()
     ensures { LinesWaitForHellos }
 {}

@@ -169,7 +169,9 @@ OrderOfFrames = heard space (dialled (Received 0 (hello peer) ∷ Received 0 (me
 
 -- ---- a dirty call that was overtaken fails
 
--- A renewal is on its way as the reference is let go, so that a clean call overtakes it, and a new dirty call comes behind. The peer answers the last one alone. As the connection ends, the failure of the renewal does nothing: the lease stands, the clean call is due as soon as the reference is let go, and is an ordinary one.
+-- A renewal is on its way as the reference is let go, so that a clean call overtakes it, and a new dirty call comes after. The peer answers
+-- the last one alone. As the connection ends, the failure of the renewal does nothing: the lease stands, and an ordinary clean call is due
+-- as soon as the reference is let go.
 abbrev pub FailureOfAnOvertakenDirty : Type 0
 FailureOfAnOvertakenDirty = heard space (dialled (Received 0 (hello peer) ∷ Received 0 (message.Returned 1 0 (Some (counter_of peer 1))) ∷ Received 0 (message.Lease 1 600000)
     ∷ Lookup peer name ∷ Moment 300000 ∷ RootAck 1 ∷ Received 0 (message.Returned 2 0 (Some (counter_of peer 1))) ∷ Received 0 (message.Lease 4 600000)
@@ -194,7 +196,8 @@ Refusals = heard space (RootAck 1 ∷ Opened 0 (Some peer) ∷ Refused peer ∷ 
     ∷ Refuses WrongKind ∷ Refuses NotLent ∷ Refuses NotLent ∷ Refuses NotLent ∷ Refuses NotLent
     ∷ Answers (Denied BadName ∷ []) ∷ Answers (Denied NotOwn ∷ []) ∷ Answers (Denied NotBound ∷ []) ∷ Answers (Denied BadName ∷ []) ∷ []
 
--- Of a lent task: an object that it does not hold, a class that is no remote class, a slot that the class has not, a value that is not of the field's kind, a task that does not stand at what the call is for.
+-- Of a lent task: an object that it does not hold, a class that is not remote, a slot that the class has not, a value not of the field's
+-- kind, a task that does not stand at the operation of the call.
 abbrev pub RefusalsOfLentTasks : Type 0
 RefusalsOfLentTasks = heard space (Root counter_make [] 100 ∷ Committed 1 0 (Get (object 5) 0) ∷ Committed 1 0 (Create (class_of remote_exception)) ∷ Parked 1 0 ∷ Finished 1 0
     ∷ Committed 1 0 (Create (class_of counter_class)) ∷ Committed 1 0 (Get (object 1) 1) ∷ Committed 1 0 (Put (object 1) 0 values.Null)

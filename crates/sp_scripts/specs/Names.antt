@@ -1,4 +1,5 @@
--- The numbers of the classes and methods of which the scripts are played: small remote classes, each with the static methods that scripts start. (Their sources are in words beside each method in Methods and Programs.)
+-- The numbers of the classes and methods of which the scripts are played: small remote classes, each with the static methods that scripts
+-- start. (Methods and Programs say in words what each method does.)
 use Rattle.std.specs.Prelude.{ℕ}
 use Rattle.space_ids.specs.declared.ids.ClassId.{ClassId}
 

@@ -165,7 +165,7 @@ script_classes = record {
   not_bound = class_of not_bound_exception;
 }
 
--- a space of the scripts, with the limits that a space has where none are said
+-- a space of the scripts, with the limits that a space has by default
 abbrev pub setting_of : Uuid → Setting
 setting_of id = record {
   classes = script_classes;

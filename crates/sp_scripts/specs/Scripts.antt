@@ -45,7 +45,7 @@ first_ready i (s ∷ ss) = or_else (first_task i s.state.tasks) (first_ready (su
 abbrev pub possible : World → Option WorldEvent
 possible w = or_else (first_asked w.asked) (or_else (first_accept 0 w.pipes) (or_else (first_pipe 0 w.pipes) (first_ready 0 w.spaces)))
 
--- settle gives a world the first event that is possible, at most so many
+-- settle gives a world the first event that is possible, at most n times
 unfoldable pub settle_world : ℕ → World → World
 settle_world zero w = w
 settle_world (suc n) w = elim (possible w) [ None ↦ w | Some e ↦ settle_world n (after w e) ]
@@ -231,7 +231,7 @@ abbrev pub spaces_from : ℕ → ℕ → List Uuid
 spaces_from n zero = []
 spaces_from n (suc m) = (n ∷ []) ∷ spaces_from (suc n) m
 
--- a script of so many spaces: its bad line, what it shows, and the outcomes of its roots and lookups
+-- a script of n spaces: its bad line, what it shows, and the outcomes of its roots and lookups
 abbrev pub played : ℕ → List Line → Sim
 played n lines = run_lines (suc n) lines (record { world = new_world (map setting_of (spaces_from 1 n)); vars = []; shown = []; bad = None })
 

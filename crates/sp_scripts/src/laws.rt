@@ -8,7 +8,7 @@ ghost use Rattle.sp_scripts.specs.ThirdSpacesScripts.{ThirdSpace, ThirdSpaceSwep
 ghost use Rattle.sp_scripts.specs.BadLinesScripts.{BadLookupSelf, BadRootKind, BadRootNoHolder, LapsedLeaseIsNoRootArgument, BadSpace};
 ghost use Rattle.sp_scripts.specs.Answers.{RightHello, WrongDigest, WrongId, NoHello, RefusedDial, DialGivenOnce, ClosedByThoseThatAsk, ClosedByThoseThatAnswer, UnfitReplies, OrderOfFrames, FailureOfAnOvertakenDirty, Refusals, RefusalsOfLentTasks, HeldByATask, HeldByAField, HeldAfterTheEnd, TooManyReferences};
 
-/// Values that cross, and how calls end.
+/// Scripts of values that cross, and of how calls end, show what is written out.
 pub fn scripts_of_values()
     ensures booleans { Booleans }
     ensures nulls { Nulls }
@@ -21,7 +21,7 @@ pub fn scripts_of_values()
     ensures arrays { Arrays }
 {}
 
-/// One space, two spaces, and fuel.
+/// Scripts of one space, of two spaces, and of fuel show what is written out.
 pub fn scripts_of_fuel()
     ensures one_space { OneSpace }
     ensures two_spaces { TwoSpaces }
@@ -36,7 +36,7 @@ pub fn scripts_of_fuel()
     ensures a_thousand_units { AThousandUnits }
 {}
 
-/// Lost frames, failed reads and writes, refused dials.
+/// Scripts of lost frames, failed reads and writes, and refused dials show what is written out.
 pub fn scripts_of_failures()
     ensures ack_lost { AckLost }
     ensures call_lost { CallLost }
@@ -52,7 +52,7 @@ pub fn scripts_of_failures()
     ensures parked_call_dropped { ParkedCallDropped }
 {}
 
-/// Dirty and clean calls, leases and their ends.
+/// Scripts of dirty and clean calls, and of leases and their ends, show what is written out.
 pub fn scripts_of_leases()
     ensures withdrawn_object { WithdrawnObject }
     ensures clean_not_repeated_with_holder { CleanNotRepeatedWithHolder }
@@ -72,7 +72,7 @@ pub fn scripts_of_leases()
     ensures cell_made_afar { CellMadeAfar }
 {}
 
-/// References that pass through a third space.
+/// Scripts of references that pass through a third space show what is written out.
 pub fn scripts_of_third_spaces()
     ensures third_space { ThirdSpace }
     ensures third_space_swept { ThirdSpaceSwept }
@@ -81,7 +81,7 @@ pub fn scripts_of_third_spaces()
     ensures entry_before_start { EntryBeforeStart }
 {}
 
-/// Lines that are refused.
+/// Scripts with a line that is refused say so.
 pub fn scripts_of_bad_lines()
     ensures bad_lookup_self { BadLookupSelf }
     ensures bad_root_kind { BadRootKind }
@@ -90,9 +90,9 @@ pub fn scripts_of_bad_lines()
     ensures bad_space { BadSpace }
 {}
 
-/// What one space refuses and answers before peers that send anything: Hellos, frames that close a
-/// connection, replies that do not fit, the order of outputs, a dirty call that fails after it was
-/// overtaken, refusals, and what a task may hold.
+/// One space answers and refuses what is written out, before peers that send anything: Hellos,
+/// frames that close a connection, replies that do not fit, the order of outputs, a dirty call that
+/// fails after it was overtaken, refusals, and what a task may hold.
 pub fn answers_of_one_space()
     ensures right_hello { RightHello }
     ensures wrong_digest { WrongDigest }

@@ -96,7 +96,7 @@ quiet-fits p s (Committed task k op) q = tt
 quiet-fits p s (GivenBack task k) q = tt
 quiet-fits p s (Finished task k) q = tt
 
--- what held of an event of which something is asked, or of which nothing is
+-- an event of which something is asked, with what held, or one of which nothing is asked
 data Sort : Event → Type 0 where
   Parks : (id k : ℕ) → Sort (Parked id k)
   Opens : (conn : ℕ) (dialled : Option Uuid) → Sort (Opened conn dialled)
@@ -217,7 +217,7 @@ no-fuel made dialler j (s ∷ ss) =
     let a : roots_at (late made dialler) j s ≡ 0 = no-roots made dialler j s.setting s.history in
     let b : total_from (roots_at (late made dialler)) (suc j) ss ≡ 0 = no-fuel made dialler (suc j) ss in omega arith
 
--- ---- lists, with places
+-- ---- lists, with indices
 
 all-weaken-from : {A : Type 0} (P Q : ℕ → A → Type 0) (j : ℕ) (xs : List A) → ((i : ℕ) (x : A) → P i x → Q i x) → AllFrom P j xs → AllFrom Q j xs
 all-weaken-from P Q j [] k a = tt

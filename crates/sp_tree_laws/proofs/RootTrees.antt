@@ -89,7 +89,7 @@ each-spaces i (o ∷ os) w = each-spaces i os (put i w o) ∙ put-spaces i w o
 
 -- ---- events
 
--- where the diallers are right the calls are those of a tree
+-- if the diallers are right, the calls are those of a tree
 abbrev Goes : Tree → (ℕ → ℕ → Bool) → World → Type 0
 Goes tree has w = IsDialled tree.dialler w → Grown tree has w.spaces
 

@@ -23,7 +23,7 @@ pub counted-most : (b : Bool) (n : ℕ) → counted b n ≤ n
 counted-most true n = omega arith
 counted-most false n = omega arith
 
--- where the calls of a connection are known
+-- if the calls of a connection are known
 pub carried-same : (f h : ℕ → Bool) → ((n : ℕ) → f n ≡ h n) → (m : Message) → carried f m ≡ carried h m
 carried-same f h same (message.Hello version space digest) = refl
 carried-same f h same (message.Call number object method fuel arguments) = ap (λ b. counted b fuel) (same number)

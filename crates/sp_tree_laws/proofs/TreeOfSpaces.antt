@@ -1,4 +1,5 @@
--- The fuel of a tree that an event brings into a space covers what it leaves there, what it sends and what a task executed that it ends.
+-- If an event brings fuel of a tree into a space, that fuel covers what the event leaves there, what it sends, and what a task that it ends
+-- has executed.
 use mathlib.Core.Path.{ap}
 use Rattle.std.specs.Prelude.{◌≡◌, refl, zero, suc, ℕ, ◌+◌, ◌≤◌, ◌==◌, ◌≢◌, ◌⊎◌, Bool, true, false, List, [], ◌∷◌, ◌++◌, ◌-◌, filter, map, not, Option, None, Some, if◌then◌else◌}
 use Rattle.std.proofs.Common.{arith, inl, inr}

@@ -23,9 +23,9 @@ use Rattle.sp_tree_laws.specs.Trees.{Tree, Part, part_of, carried, output_part, 
 use Rattle.sp_tree_laws.proofs.TreeOfFrames.{brought}
 use Rattle.sp_tree_laws.proofs.TreeOfSpaces.{on-leaves, tags-of}
 
--- ---- lists, with places
+-- ---- lists, with indices
 
--- the place of an element in a list whose first has this one
+-- the index of an element in a list whose first element has index j
 abbrev pub place : ℕ → ℕ → ℕ
 place zero j = j
 place (suc i) j = place i (suc j)
@@ -49,7 +49,7 @@ changed : {A : Type 0} (f : ℕ → A → ℕ) (g : A → A) (i : ℕ) (xs : Lis
     → total_from f 0 (at_index g i xs) + value_in (f i) (slice_get xs i) ≡ total_from f 0 xs + value_in (λ a. f i (g a)) (slice_get xs i)
 changed f g i xs = subst (λ n. total_from f 0 (at_index g i xs) + value_in (f n) (slice_get xs i) ≡ total_from f 0 xs + value_in (λ a. f n (g a)) (slice_get xs i)) (place-of i) (changed-from f g i 0 xs)
 
--- where the element grows by no more than k, the sum does
+-- if `g` adds no more than k to the element, it adds no more than k to the sum
 grows-from : {A : Type 0} (f : ℕ → A → ℕ) (g : A → A) (k i j : ℕ) (xs : List A) → ((x : A) → f (place i j) (g x) ≤ f (place i j) x + k) → total_from f j (at_index g i xs) ≤ total_from f j xs + k
 grows-from f g k i j [] le = omega arith
 grows-from f g k zero j (x ∷ xs) le = let a : f j (g x) ≤ f j x + k = le x in omega arith
@@ -93,7 +93,7 @@ taken f (suc n) (x ∷ xs) = let h : total f (take n xs) ≤ total f xs = taken 
 
 -- ---- a world with fuel of a tree in hand
 
--- what is in the world of a tree, with so much more in hand, is no more than the fuel of its roots
+-- what is in the world of a tree, with this much more in hand, is no more than the fuel of its roots
 pub record Holds (tree : Tree) (k : ℕ) (w : World) : Type 0 where
   pub bound : IsTree tree w → spent tree w + k ≤ root_fuel tree w
   pub histories : AllOf HasHistory w.spaces

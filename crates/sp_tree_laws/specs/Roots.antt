@@ -13,7 +13,7 @@ use Rattle.sp_tree_laws.specs.Trees.{Tree, part_of, has_task, stands_at_call, Is
 abbrev pub with_call : ℕ → ℕ → Bool → (ℕ → ℕ → Bool) → ℕ → ℕ → Bool
 with_call space number is has i n = if i == space && n == number then is else has i n
 
--- these calls, in place of a tree's own
+-- these calls, instead of a tree's own
 abbrev pub with_calls : Tree → (ℕ → ℕ → Bool) → Tree
 with_calls tree has = record { has_root = tree.has_root; has_call = has; dialler = tree.dialler }
 
@@ -56,7 +56,8 @@ tree_of settings events space task =
 
 -- ---- the laws
 
--- In every run of every world each root has its tree: each call is of it exactly if the task is that made it, and each task that a call started exactly if that call is.
+-- In every run of every world each root has its tree: a call is of it exactly if the task that made the call is, and a task that a call
+-- started is of it exactly if the call is.
 abbrev pub RootsHaveTrees : Type 0
 RootsHaveTrees = (settings : List Setting) (events : List WorldEvent) (space task : ℕ) → IsTree (tree_of settings events space task) (run (new_world settings) events)
 

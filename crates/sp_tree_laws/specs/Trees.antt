@@ -15,7 +15,8 @@ use Rattle.sp_rules.specs.Worlds.{World, Space, Pipe, WorldEvent, run, new_world
 
 -- ---- what is of a tree
 
--- A tree, or several together, is told by its roots and its calls: which of the tasks that a Root started are of it, by space and task, and which calls, by the space that made them and their number. (Each connection has one space that dialled it and makes the calls there.)
+-- A tree, or several together, is given by its roots and its calls: which of the tasks that a Root started are of it, by space and task,
+-- and which calls, by the space that made them and their number. (Each connection has one space that dialled it and makes the calls there.)
 pub record Tree : Type 0 where
   pub has_root : ℕ → ℕ → Bool
   pub has_call : ℕ → ℕ → Bool
@@ -40,7 +41,7 @@ has_task p t = is_of p t.id t.origin
 
 -- ---- fuel of a tree, each unit once
 
--- so much where it is of the tree
+-- a number if it is of the tree, else 0
 abbrev pub counted : Bool → ℕ → ℕ
 counted true n = n
 counted false n = 0
@@ -48,7 +49,7 @@ counted false n = 0
 abbrev pub task_part : Part → Living → ℕ
 task_part p t = counted (has_task p t) (task_units t)
 
--- what a frame lends or gives back, where its call is of the tree
+-- what a frame lends or gives back, if its call is of the tree
 abbrev pub carried : (ℕ → Bool) → Message → ℕ
 carried has (message.Call number object method fuel arguments) = counted (has number) fuel
 carried has (message.Returned number fuel value) = counted (has number) fuel
@@ -76,7 +77,8 @@ output_part p _ = 0
 abbrev pub note_part : Part → Note → ℕ
 note_part p n = output_part p (output_of n)
 
--- what is in a space of a tree: the instructions of its living tasks there, and all its fuel. A task that waits for a Call has one unit in it, for the Call itself.
+-- what a space has of a tree: the instructions of its living tasks there, and all its fuel. A task that waits for a Call has one unit in
+-- it, for the Call itself.
 abbrev pub left_in : Part → State → ℕ
 left_in p s =
     total (task_part p) s.tasks + (total (request_part p) s.requests
@@ -111,7 +113,7 @@ roots_in p g (e ∷ h) = root_part p (state_of g h) e + roots_in p g h
 
 -- ---- over a world
 
--- the sum over a list, by what each is and its place from a number on
+-- the sum over a list, by each element and its index, counted from a number on
 abbrev pub total_from : {A : Type 0} → (ℕ → A → ℕ) → ℕ → List A → ℕ
 total_from f i [] = 0
 total_from f i (x ∷ xs) = f i x + total_from f (suc i) xs
@@ -159,17 +161,18 @@ FitsTree p s (Parked id k) = (t : Living) → ready_at s id ≡ Some t → stand
 FitsTree p s (Opened conn dialled) = DialsOwn p conn dialled
 FitsTree p s _ = Unit {0}
 
--- So each event of a history, newest event first.
+-- This holds of each event of a history, newest event first.
 abbrev pub FitsHistory : Part → Setting → List Event → Type 0
 FitsHistory p g [] = Unit {0}
 FitsHistory p g (e ∷ h) = FitsTree p (state_of g h) e × FitsHistory p g h
 
--- what holds of each of a list, by its place from a number on
+-- what holds of each element of a list, by its index, counted from a number on
 abbrev pub AllFrom : {A : Type 0} → (ℕ → A → Type 0) → ℕ → List A → Type 0
 AllFrom Is i [] = Unit {0}
 AllFrom Is i (x ∷ xs) = Is i x × AllFrom Is (suc i) xs
 
--- A tree, or several together: each call is of it exactly if the task is that made it, and each task that a call started exactly if that call is.
+-- A tree, or several together: a call is of it exactly if the task that made the call is, and a task that a call started is of it exactly
+-- if the call is.
 abbrev pub IsTree : Tree → World → Type 0
 IsTree tree w = AllFrom (λ i (s : Space). FitsHistory (part_of tree i) s.setting s.history) 0 w.spaces
 

@@ -1,4 +1,4 @@
-//! The ids by which spaces name their objects and classes to one another, and the values that cross
+//! The ids by which spaces name their objects and classes to one another. The values that cross
 //! between tasks and spaces: ints, int arrays by copy and remote references.
 #![tactic(auto)]
 

@@ -1,21 +1,17 @@
 //! Type checking.
 
-use cf_text::Shared;
-use cls_link::link;
-use std::alloc::{AllocError, Global};
+use super::one_class::linked_class;
+use class_builder::{AttributeParts, ClassParts, CodeParts, MethodParts, class_bytes};
+use std::alloc::Global;
 use std::test::Fail;
-use ver_check::{
-    CheckFault, ClassFile, ClassSet, Code, ElementType, FieldType, Flags, Method, MethodDescriptor,
-    Numbered, Pool, Row, Table, Text, accept,
-};
+use ver_check::{CheckFault, Flags, Numbered, accept};
 
 // A method of the class T, with the code that is checked.
 #[derive(Clone, Copy)]
 struct Case<'a> {
     flags: u16,
-    name: &'a [u8],
-    parameters: u8,
-    is_void: bool,
+    name: &'a str,
+    descriptor: &'a str,
     max_stack: u16,
     max_locals: u16,
     bytes: &'a [u8],
@@ -26,9 +22,8 @@ struct Case<'a> {
 fn make_case<'a>(bytes: &'a [u8], frames: &'a [u8]) -> Case<'a> {
     Case {
         flags: Flags::STATIC,
-        name: b"f",
-        parameters: 1,
-        is_void: false,
+        name: "f",
+        descriptor: "(I)I",
         max_stack: 1,
         max_locals: 2,
         bytes,
@@ -36,67 +31,59 @@ fn make_case<'a>(bytes: &'a [u8], frames: &'a [u8]) -> Case<'a> {
     }
 }
 
-fn int() -> FieldType {
-    FieldType {
-        dimensions: 0,
-        element: ElementType::Int,
+impl<'b> Case<'b> {
+    // The method, whose code has these attributes.
+    fn method<'a>(self, attributes: &'a [AttributeParts<'a>]) -> MethodParts<'a>
+    where
+        'b: 'a,
+    {
+        let code = CodeParts {
+            max_stack: self.max_stack,
+            max_locals: self.max_locals,
+            bytes: self.bytes,
+            lines: &[],
+            attributes,
+        };
+        MethodParts {
+            flags: self.flags,
+            name: self.name,
+            descriptor: self.descriptor,
+            code: Some(code),
+            attributes: &[],
+        }
     }
 }
 
-fn text(alloc: Global, bytes: &[u8]) -> Result<Text, AllocError> {
-    Text::new(alloc, bytes.to_vec(alloc)?)
-}
-
-fn code_bytes(alloc: Global, bytes: &[u8]) -> Result<Table<u8>, Fail> {
-    if bytes.len() > 65_535 {
-        return Err(Fail::from("too many bytes"));
-    }
-    Ok(Table::new(bytes.to_vec(alloc)?))
-}
-
-fn method(alloc: Global, case: Case) -> Result<Method, Fail> {
-    let mut parameters = Vec::new(alloc);
-    for _ in 0..case.parameters {
-        parameters.push(int())?;
-    }
-    let result = if case.is_void { None } else { Some(int()) };
-    let types = MethodDescriptor {
-        parameters: Row::new(parameters),
-        result,
+// The bytes of the class T with these methods.
+fn class_with(alloc: Global, methods: &[MethodParts]) -> Result<Vec<u8>, Fail> {
+    let class = ClassParts {
+        flags: Flags::PUBLIC,
+        name: "T",
+        superclass: "java/lang/Object",
+        interfaces: &[],
+        fields: &[],
+        methods,
+        attributes: &[],
     };
-    Ok(Method {
-        flags: Flags { bits: case.flags },
-        name: text(alloc, case.name)?,
-        descriptor: text(alloc, b"(I)I")?,
-        types: Shared::new(alloc, types)?,
-        code: Some(Code {
-            max_stack: case.max_stack,
-            max_locals: case.max_locals,
-            bytes: code_bytes(alloc, case.bytes)?,
-            stack_map_table: Some(Row::new(case.frames.to_vec(alloc)?)),
-        }),
-    })
+    Ok(class_bytes(alloc, &class)?)
 }
 
-// The number and the offset of what is wrong with the method: 0 at 0 where nothing is.
+fn file<'a>(
+    alloc: Global,
+    case: Case<'a>,
+    attributes: &'a [AttributeParts<'a>],
+) -> Result<Vec<u8>, Fail> {
+    class_with(alloc, &[case.method(attributes)])
+}
+
+// The number and the offset of what is wrong with the method: 0 at 0 if nothing is.
 fn checked(alloc: Global, case: Case) -> Result<(u8, usize), Fail> {
-    let mut methods = Vec::new(alloc);
-    methods.push(method(alloc, case)?)?;
-    let file = ClassFile {
-        pool: Pool::new(Vec::new(alloc)),
-        flags: Flags {
-            bits: Flags::PUBLIC,
-        },
-        name: text(alloc, b"T")?,
-        superclass: Some(text(alloc, b"java/lang/Object")?),
-        interfaces: Table::new(Vec::new(alloc)),
-        fields: Table::new(Vec::new(alloc)),
-        methods: Table::new(methods),
+    let frames = AttributeParts {
+        name: "StackMapTable",
+        bytes: case.frames,
     };
-    let mut files = Vec::new(alloc);
-    files.push(file)?;
-    let linked = link(alloc, ClassSet::build(alloc, files)?)?;
-    match accept(alloc, linked) {
+    let bytes = file(alloc, case, &[frames])?;
+    match accept(alloc, linked_class(alloc, &bytes)?) {
         Ok(accepted) => {
             let _ = accepted.linked();
             Ok((0, 0))
@@ -106,7 +93,7 @@ fn checked(alloc: Global, case: Case) -> Result<(u8, usize), Fail> {
     }
 }
 
-// The loop of examples/sum, which begins at 2, where its first frame stands; its second is at 16.
+// The code of examples/sum. Its loop begins at 2 with the first frame; the second frame is at 16.
 const SUM: [u8; 18] = [
     0x03, 0x3c, 0x1a, 0x9e, 0x00, 0x0d, 0x1b, 0x1a, 0x60, 0x3c, 0x84, 0x00, 0xff, 0xa7, 0xff, 0xf5,
     0x1b, 0xac,
@@ -134,18 +121,15 @@ fn methods_at_fault(rt: HostRuntime) -> Result<(), Fail> {
     let none = [0, 0];
     let init = Case {
         flags: 0,
-        name: b"<init>",
-        parameters: 0,
-        is_void: true,
+        name: "<init>",
+        descriptor: "()V",
         ..make_case(&[0x00, 0xb1], &none)
     };
     assert_eq!(rt; checked(rt.alloc(), init)?, (63, 1));
     let arguments = Case {
-        parameters: 3,
+        descriptor: "(III)I",
         ..make_case(&[0x60], &none)
     };
     assert_eq!(rt; checked(rt.alloc(), arguments)?, (67, 0));
-    // Code of no instruction, which no class file has.
-    assert_eq!(rt; checked(rt.alloc(), make_case(&[], &none))?, (66, 0));
     Ok(())
 }

@@ -1,13 +1,12 @@
 //! Type checking of code with objects, arrays, calls and switches.
 
-use cf_reader::read_class;
+use super::one_class::linked_class;
 use class_builder::{
     AttributeParts, ClassParts, CodeParts, FieldParts, Line, MethodParts, class_bytes,
 };
-use cls_link::link;
 use std::alloc::Global;
 use std::test::Fail;
-use ver_check::{CheckFault, ClassSet, Numbered, accept};
+use ver_check::{CheckFault, Numbered, accept};
 
 // A method of the class T, which has a field `int x` and no superclass but java/lang/Object.
 #[derive(Clone, Copy)]
@@ -100,17 +99,14 @@ fn file<'a>(
     class_with(alloc, &[case.method(attributes)])
 }
 
-// The number and the offset of what is wrong with the method: 0 at 0 where nothing is.
+// The number and the offset of what is wrong with the method: 0 at 0 if nothing is.
 fn checked(alloc: Global, case: Case) -> Result<(u8, usize), Fail> {
     let frames = AttributeParts {
         name: "StackMapTable",
         bytes: case.frames,
     };
     let bytes = file(alloc, case, &[frames])?;
-    let mut files = Vec::new(alloc);
-    files.push(read_class(alloc, &bytes)?)?;
-    let linked = link(alloc, ClassSet::build(alloc, files)?)?;
-    match accept(alloc, linked) {
+    match accept(alloc, linked_class(alloc, &bytes)?) {
         Ok(accepted) => {
             let _ = accepted.linked();
             Ok((0, 0))
@@ -131,7 +127,7 @@ fn objects_are_initialized_before_they_are_used(rt: HostRuntime) -> Result<(), F
     let alloc = rt.alloc();
     let read = [NEW, Line::Op("dup"), READ, Line::Op("return")];
     assert_eq!(rt; checked(alloc, make_case("()V", &read))?, (63, 4));
-    // new, astore_1, iload_0, ifne 0, return: where 0 is reached again, local variable 1 is top.
+    // new, astore_1, iload_0, ifne 0, return: when 0 is reached again, local variable 1 is top.
     let again = [
         NEW,
         Line::Op("astore_1"),

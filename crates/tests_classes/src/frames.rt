@@ -3,18 +3,15 @@
 ghost use Rattle.std.specs.Prelude.{IsTrue};
 ghost use Rattle.std.specs.List.Sorted.{IsStrictlyIncreasing};
 
-use cf_reader::read_class;
+use super::one_class::linked_class;
 use class_builder::SUM;
-use cls_link::link;
 use std::alloc::Global;
 use std::test::Fail;
-use ver_frames::{ClassSet, Linked, MethodView, TypeFrame, VType, declared, frame_assignable};
+use ver_frames::{Linked, MethodView, TypeFrame, VType, declared, frame_assignable};
 
 // The class of examples/sum: its method f begins a loop at 2, which it leaves to 16.
 fn sum(alloc: Global) -> Result<Linked, Fail> {
-    let mut files = Vec::new(alloc);
-    files.push(read_class(alloc, SUM)?)?;
-    Ok(link(alloc, ClassSet::build(alloc, files)?)?)
+    linked_class(alloc, SUM)
 }
 
 // The class's one method.

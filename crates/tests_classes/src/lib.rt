@@ -11,4 +11,8 @@ mod frames;
 #[cfg(test)]
 mod linking;
 #[cfg(test)]
+mod one_class;
+#[cfg(test)]
 mod sets;
+#[cfg(test)]
+mod whole_sets;

@@ -1,88 +1,88 @@
 //! Methods and fields that names mean.
 
-use cls_link::{
-    ClassFile, ClassSet, Code, ElementType, Field, FieldSlot, FieldType, Flags, Linked, Method,
-    MethodDescriptor, MethodId, Pool, Row, Selection, Shared, Table, Text, link,
-};
-use std::alloc::{AllocError, Global};
+use super::one_class::linked_class;
+use class_builder::{ClassParts, CodeParts, FieldParts, MethodParts, class_bytes};
+use cls_link::{FieldSlot, Flags, Linked, MethodId, Selection};
+use std::alloc::Global;
 use std::process::Abort;
 use std::test::Fail;
 
-fn text(alloc: Global, bytes: &[u8]) -> Result<Text, AllocError> {
-    Text::new(alloc, bytes.to_vec(alloc)?)
-}
+// Returns 0: iconst_0, ireturn.
+const ZERO: CodeParts<'static> = CodeParts {
+    max_stack: 1,
+    max_locals: 1,
+    bytes: &[0x03, 0xac],
+    lines: &[],
+    attributes: &[],
+};
 
-// A method that takes nothing and gives an int, 0 where it has code.
-fn method(alloc: Global, flags: u16, name: &[u8]) -> Result<Method, AllocError> {
-    let mut code = None;
-    if flags & Flags::ABSTRACT == 0 {
-        code = Some(Code {
-            max_stack: 1,
-            max_locals: 1,
-            bytes: Table::new([0x03, 0xac].to_vec(alloc)?),
-            stack_map_table: None,
-        });
-    }
-    let result = Some(FieldType {
-        dimensions: 0,
-        element: ElementType::Int,
-    });
-    let types = MethodDescriptor {
-        parameters: Row::new(Vec::new(alloc)),
-        result,
-    };
-    Ok(Method {
-        flags: Flags { bits: flags },
-        name: text(alloc, name)?,
-        descriptor: text(alloc, b"()I")?,
-        types: Shared::new(alloc, types)?,
+// A method that takes nothing and gives an int.
+fn method<'a>(flags: u16, name: &'a str, code: Option<CodeParts<'a>>) -> MethodParts<'a> {
+    MethodParts {
+        flags,
+        name,
+        descriptor: "()I",
         code,
-    })
+        attributes: &[],
+    }
 }
 
 // A field of an int.
-fn field(alloc: Global, flags: u16, name: &[u8]) -> Result<Field, AllocError> {
-    let kind = FieldType {
-        dimensions: 0,
-        element: ElementType::Int,
-    };
-    Ok(Field {
-        flags: Flags { bits: flags },
-        name: text(alloc, name)?,
-        descriptor: text(alloc, b"I")?,
-        kind: Shared::new(alloc, kind)?,
-        constant: None,
-    })
+fn field<'a>(flags: u16, name: &'a str, constant: Option<i32>) -> FieldParts<'a> {
+    FieldParts {
+        flags,
+        name,
+        descriptor: "I",
+        constant,
+        attributes: &[],
+    }
 }
 
-// The class or interface T, with the methods static f, g and abstract h, numbered 0, 1 and 2, and the
-// fields a, static b and c.
-fn linked(alloc: Global, flags: u16, superclass: &[u8]) -> Result<Linked, Fail> {
-    let mut methods = Vec::new(alloc);
-    methods.push(method(alloc, Flags::PUBLIC | Flags::STATIC, b"f")?)?;
-    methods.push(method(alloc, Flags::PUBLIC, b"g")?)?;
-    methods.push(method(alloc, Flags::PUBLIC | Flags::ABSTRACT, b"h")?)?;
-    let mut fields = Vec::new(alloc);
-    fields.push(field(alloc, Flags::PUBLIC, b"a")?)?;
-    fields.push(field(alloc, Flags::PUBLIC | Flags::STATIC, b"b")?)?;
-    fields.push(field(alloc, Flags::PUBLIC, b"c")?)?;
-    let mut interfaces = Vec::new(alloc);
-    // A class that implements it is a remote class.
-    if flags & Flags::INTERFACE != 0 {
-        interfaces.push(text(alloc, b"java/rmi/Remote")?)?;
-    }
-    let file = ClassFile {
-        pool: Pool::new(Vec::new(alloc)),
-        flags: Flags { bits: flags },
-        name: text(alloc, b"T")?,
-        superclass: Some(text(alloc, superclass)?),
-        interfaces: Table::new(interfaces),
-        fields: Table::new(fields),
-        methods: Table::new(methods),
+const ABSTRACT: u16 = Flags::PUBLIC | Flags::ABSTRACT;
+
+// The abstract class T, with the methods static f, g and abstract h, numbered 0, 1 and 2, and the fields
+// a, static b and c.
+fn class(alloc: Global) -> Result<Linked, Fail> {
+    let methods = [
+        method(Flags::PUBLIC | Flags::STATIC, "f", Some(ZERO)),
+        method(Flags::PUBLIC, "g", Some(ZERO)),
+        method(ABSTRACT, "h", None),
+    ];
+    let constant = Flags::PUBLIC | Flags::STATIC | Flags::FINAL;
+    let fields = [
+        field(Flags::PUBLIC, "a", None),
+        field(constant, "b", Some(1)),
+        field(Flags::PUBLIC, "c", None),
+    ];
+    let class = ClassParts {
+        flags: ABSTRACT,
+        name: "T",
+        superclass: "java/io/IOException",
+        interfaces: &[],
+        fields: &fields,
+        methods: &methods,
+        attributes: &[],
     };
-    let mut files = Vec::new(alloc);
-    files.push(file)?;
-    Ok(link(alloc, ClassSet::build(alloc, files)?)?)
+    linked_class(alloc, &class_bytes(alloc, &class)?)
+}
+
+// The remote interface T, with the methods f, g and h, numbered 0, 1 and 2.
+fn interface(alloc: Global) -> Result<Linked, Fail> {
+    let methods = [
+        method(ABSTRACT, "f", None),
+        method(ABSTRACT, "g", None),
+        method(ABSTRACT, "h", None),
+    ];
+    let interface = ClassParts {
+        flags: ABSTRACT | Flags::INTERFACE,
+        name: "T",
+        superclass: "java/lang/Object",
+        interfaces: &["java/rmi/Remote"],
+        fields: &[],
+        methods: &methods,
+        attributes: &[],
+    };
+    linked_class(alloc, &class_bytes(alloc, &interface)?)
 }
 
 // The method that a name means in a class.
@@ -113,7 +113,7 @@ fn selected(
 
 #[test]
 fn methods_of_a_class_are_found(rt: HostRuntime) -> Result<(), Fail> {
-    let linked = linked(rt.alloc(), Flags::PUBLIC, b"java/io/IOException")?;
+    let linked = class(rt.alloc())?;
     let g = resolved(&rt, &linked, b"T", b"g", b"()I")?;
     assert_eq!(rt; g, Some(MethodId(1)));
     let other_type = resolved(&rt, &linked, b"T", b"g", b"()V")?;
@@ -127,8 +127,7 @@ fn methods_of_a_class_are_found(rt: HostRuntime) -> Result<(), Fail> {
 
 #[test]
 fn methods_of_an_interface_are_found(rt: HostRuntime) -> Result<(), Fail> {
-    let flags = Flags::PUBLIC | Flags::INTERFACE | Flags::ABSTRACT;
-    let linked = linked(rt.alloc(), flags, b"java/lang/Object")?;
+    let linked = interface(rt.alloc())?;
     let h = resolved(&rt, &linked, b"T", b"h", b"()I")?;
     assert_eq!(rt; h, Some(MethodId(2)));
     let absent = resolved(&rt, &linked, b"T", b"i", b"()I")?;
@@ -138,7 +137,7 @@ fn methods_of_an_interface_are_found(rt: HostRuntime) -> Result<(), Fail> {
 
 #[test]
 fn a_declared_method_is_the_class_s_own(rt: HostRuntime) -> Result<(), Fail> {
-    let linked = linked(rt.alloc(), Flags::PUBLIC, b"java/io/IOException")?;
+    let linked = class(rt.alloc())?;
     let class = linked.set().number(b"T").ok_or("no class")?;
     assert!(rt; usize::from(class.0) < linked.set().len());
     assert_eq!(rt;
@@ -151,7 +150,7 @@ fn a_declared_method_is_the_class_s_own(rt: HostRuntime) -> Result<(), Fail> {
 
 #[test]
 fn a_call_runs_the_first_instance_method(rt: HostRuntime) -> Result<(), Fail> {
-    let linked = linked(rt.alloc(), Flags::PUBLIC, b"java/io/IOException")?;
+    let linked = class(rt.alloc())?;
     let own = selected(&rt, &linked, b"T", MethodId(1))?;
     assert_eq!(rt; own, Selection::Runs(MethodId(1)));
     let without_code = selected(&rt, &linked, b"T", MethodId(2))?;
@@ -168,7 +167,7 @@ fn a_call_runs_the_first_instance_method(rt: HostRuntime) -> Result<(), Fail> {
 
 #[test]
 fn instance_fields_have_slots(rt: HostRuntime) -> Result<(), Fail> {
-    let linked = linked(rt.alloc(), Flags::PUBLIC, b"java/io/IOException")?;
+    let linked = class(rt.alloc())?;
     let class = linked.set().number(b"T").ok_or("no class")?;
     assert!(rt; usize::from(class.0) < linked.set().len());
     assert_eq!(rt; linked.field_slot(class, b"a", b"I"), Some(FieldSlot(0)));

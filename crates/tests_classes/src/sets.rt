@@ -1,38 +1,63 @@
 //! Class sets, and who extends whom.
 
-use cls_set::{
-    ClassFile, ClassId, ClassSet, Flags, Numbered, Pool, SetFault, SetRule, Table, Text,
-};
-use std::alloc::{AllocError, Global};
+ghost use Rattle.std.specs.Prelude.{All, IfOk};
+ghost use Rattle.cf_reader.specs.WellFormed.{IsWellFormed};
+
+use cf_reader::read_class;
+use class_builder::{ClassParts, class_bytes};
+use cls_set::{ClassFile, ClassId, ClassSet, Flags, Numbered, SetFault};
+use std::alloc::Global;
 use std::process::Abort;
 use std::test::Fail;
 
-// A public class below java/lang/Object, with no members.
-fn file(alloc: Global, name: &[u8]) -> Result<ClassFile, AllocError> {
-    Ok(ClassFile {
-        pool: Pool::new(Vec::new(alloc)),
-        flags: Flags {
-            bits: Flags::PUBLIC,
-        },
-        name: Text::new(alloc, name.to_vec(alloc)?)?,
-        superclass: Some(Text::new(alloc, b"java/lang/Object".to_vec(alloc)?)?),
-        interfaces: Table::new(Vec::new(alloc)),
-        fields: Table::new(Vec::new(alloc)),
-        methods: Table::new(Vec::new(alloc)),
-    })
+// A class with no members.
+fn class_file(
+    alloc: Global,
+    flags: u16,
+    name: &str,
+    superclass: &str,
+    interfaces: &[&str],
+) -> Result<ClassFile, Fail>
+    ensures { IfOk result IsWellFormed }
+{
+    let class = ClassParts {
+        flags,
+        name,
+        superclass,
+        interfaces,
+        fields: &[],
+        methods: &[],
+        attributes: &[],
+    };
+    Ok(read_class(alloc, &class_bytes(alloc, &class)?)?)
 }
 
-fn files(alloc: Global, names: &[&[u8]]) -> Result<Vec<ClassFile>, AllocError> {
+// Classes, each with its flags, its superclass and its superinterfaces.
+fn files(alloc: Global, rows: &[(u16, &str, &str, &[&str])]) -> Result<Vec<ClassFile>, Fail>
+    ensures { IfOk result (λ files. All IsWellFormed files.items) }
+{
     let mut files = Vec::new(alloc);
-    for name in names {
-        files.push(file(alloc, name)?)?;
+    for (flags, name, superclass, interfaces) in rows {
+        files.push(class_file(alloc, *flags, name, superclass, interfaces)?)?;
     }
     Ok(files)
 }
 
+fn set_of(
+    alloc: Global,
+    rows: &[(u16, &str, &str, &[&str])],
+) -> Result<Result<ClassSet, SetFault>, Fail> {
+    let files = files(alloc, rows)?;
+    Ok(ClassSet::build(alloc, files))
+}
+
+const PUBLIC: u16 = Flags::PUBLIC;
+
+const OBJECT: &str = "java/lang/Object";
+
 #[test]
 fn the_built_in_classes_stand_in_every_set(rt: HostRuntime) -> Result<(), Fail> {
-    let set = ClassSet::build(rt.alloc(), Vec::new(rt.alloc()))?;
+    let set = set_of(rt.alloc(), &[])??;
     assert_eq!(rt; set.len(), 29);
     assert_eq!(rt; set.number(b"java/io/IOException"), Some(ClassId(0)));
     assert_eq!(rt; set.number(b"java/lang/Object"), Some(ClassId(13)));
@@ -52,7 +77,7 @@ fn the_built_in_classes_stand_in_every_set(rt: HostRuntime) -> Result<(), Fail> 
 
 #[test]
 fn a_file_moves_the_numbers_behind_it(rt: HostRuntime) -> Result<(), Fail> {
-    let set = ClassSet::build(rt.alloc(), files(rt.alloc(), &[b"T"])?)?;
+    let set = set_of(rt.alloc(), &[(PUBLIC, "T", OBJECT, &[])])??;
     assert_eq!(rt; set.len(), 30);
     assert_eq!(rt; set.number(b"T"), Some(ClassId(0)));
     assert_eq!(rt; set.number(b"java/lang/Object"), Some(ClassId(14)));
@@ -63,7 +88,7 @@ fn a_file_moves_the_numbers_behind_it(rt: HostRuntime) -> Result<(), Fail> {
 
 #[test]
 fn the_hierarchy_is_that_of_the_names(rt: HostRuntime) -> Result<(), Fail> {
-    let set = ClassSet::build(rt.alloc(), files(rt.alloc(), &[b"T"])?)?;
+    let set = set_of(rt.alloc(), &[(PUBLIC, "T", OBJECT, &[])])??;
     assert_eq!(rt; set.len(), 30);
     let pairs: [(&[u8], &[u8], bool); 6] = [
         (b"T", b"java/lang/Object", true),
@@ -101,66 +126,49 @@ fn refused(rt: &impl Abort, outcome: Result<ClassSet, SetFault>, number: u8, nam
 #[test]
 fn faults_name_the_class(rt: HostRuntime) -> Result<(), Fail> {
     let alloc = rt.alloc();
-    let built_in = ClassSet::build(alloc, files(alloc, &[b"java/lang/Object"])?);
+    let built_in = set_of(alloc, &[(PUBLIC, OBJECT, OBJECT, &[])])?;
     refused(&rt, built_in, 30, b"java/lang/Object");
-    let twice = ClassSet::build(alloc, files(alloc, &[b"U", b"T", b"U", b"T"])?);
+    let twice = set_of(
+        alloc,
+        &[
+            (PUBLIC, "U", OBJECT, &[]),
+            (PUBLIC, "T", OBJECT, &[]),
+            (PUBLIC, "U", OBJECT, &[]),
+            (PUBLIC, "T", OBJECT, &[]),
+        ],
+    )?;
     refused(&rt, twice, 30, b"T");
-    let two = ClassSet::build(alloc, files(alloc, &[b"U", b"T"])?)?;
+    let two = set_of(
+        alloc,
+        &[(PUBLIC, "U", OBJECT, &[]), (PUBLIC, "T", OBJECT, &[])],
+    )??;
     assert_eq!(rt; two.len(), 31);
     Ok(())
-}
-
-// A class with this superclass and these superinterfaces.
-fn under(
-    alloc: Global,
-    name: &[u8],
-    superclass: &[u8],
-    interfaces: &[&[u8]],
-) -> Result<ClassFile, Fail> {
-    let mut file = file(alloc, name)?;
-    let mut names = Vec::new(alloc);
-    for interface in interfaces {
-        names.push(Text::new(alloc, interface.to_vec(alloc)?)?)?;
-    }
-    file.superclass = Some(Text::new(alloc, superclass.to_vec(alloc)?)?);
-    if names.len() > 65_535 {
-        return Err(Fail::from("too many interfaces"));
-    }
-    file.interfaces = Table::new(names);
-    Ok(file)
-}
-
-// The set of classes, each with its superclass and its superinterfaces.
-fn set_of(
-    alloc: Global,
-    rows: &[(&[u8], &[u8], &[&[u8]])],
-) -> Result<Result<ClassSet, SetFault>, Fail> {
-    let mut files = Vec::new(alloc);
-    for (name, superclass, interfaces) in rows {
-        files.push(under(alloc, name, superclass, interfaces)?)?;
-    }
-    Ok(ClassSet::build(alloc, files))
 }
 
 #[test]
 fn absent_supertypes_are_refused(rt: HostRuntime) -> Result<(), Fail> {
     let alloc = rt.alloc();
-    let superclass = set_of(alloc, &[(b"T", b"No", &[])])?;
+    let superclass = set_of(alloc, &[(PUBLIC, "T", "No", &[])])?;
     refused(&rt, superclass, 31, b"T");
-    let interface = set_of(alloc, &[(b"T", b"T", &[b"java/rmi/Remote", b"No"])])?;
+    let interface = set_of(alloc, &[(PUBLIC, "T", "T", &["java/rmi/Remote", "No"])])?;
     refused(&rt, interface, 31, b"T");
     let first = set_of(
         alloc,
         &[
-            (b"V", b"No", &[]),
-            (b"T", b"U", &[]),
-            (b"U", b"T", &[b"No"]),
+            (PUBLIC, "V", "No", &[]),
+            (PUBLIC, "T", "U", &[]),
+            (PUBLIC, "U", "T", &["No"]),
         ],
     )?;
     refused(&rt, first, 31, b"U");
     let twice = set_of(
         alloc,
-        &[(b"V", b"V", &[]), (b"T", b"No", &[]), (b"V", b"V", &[])],
+        &[
+            (PUBLIC, "V", "V", &[]),
+            (PUBLIC, "T", "No", &[]),
+            (PUBLIC, "V", "V", &[]),
+        ],
     )?;
     refused(&rt, twice, 30, b"V");
     Ok(())
@@ -169,73 +177,72 @@ fn absent_supertypes_are_refused(rt: HostRuntime) -> Result<(), Fail> {
 #[test]
 fn classes_on_cycles_are_refused(rt: HostRuntime) -> Result<(), Fail> {
     let alloc = rt.alloc();
-    let superclass = set_of(alloc, &[(b"T", b"T", &[])])?;
+    let superclass = set_of(alloc, &[(PUBLIC, "T", "T", &[])])?;
     refused(&rt, superclass, 32, b"T");
-    let interface = set_of(
-        alloc,
-        &[(b"T", b"java/lang/Object", &[b"java/rmi/Remote", b"T"])],
-    )?;
+    let interface = set_of(alloc, &[(PUBLIC, "T", OBJECT, &["java/rmi/Remote", "T"])])?;
     refused(&rt, interface, 32, b"T");
-    let two = set_of(alloc, &[(b"B", b"A", &[]), (b"A", b"B", &[])])?;
+    let two = set_of(alloc, &[(PUBLIC, "B", "A", &[]), (PUBLIC, "A", "B", &[])])?;
     refused(&rt, two, 32, b"A");
     // A is below the cycle, and not on it.
     let below = set_of(
         alloc,
         &[
-            (b"A", b"C", &[]),
-            (b"C", b"java/lang/Object", &[b"D"]),
-            (b"D", b"java/lang/Object", &[b"B"]),
-            (b"B", b"C", &[]),
+            (PUBLIC, "A", "C", &[]),
+            (PUBLIC, "C", OBJECT, &["D"]),
+            (PUBLIC, "D", OBJECT, &["B"]),
+            (PUBLIC, "B", "C", &[]),
         ],
     )?;
     refused(&rt, below, 32, b"B");
     Ok(())
 }
 
+// The classes T0, T1 and so on.
+fn numbered(alloc: Global, count: u32) -> Result<Vec<ClassFile>, Fail>
+    ensures { IfOk result (λ files. All IsWellFormed files.items) }
+{
+    let mut files = Vec::new(alloc);
+    for index in 0..count {
+        let name = format!(in alloc; "T{index}")?;
+        files.push(class_file(alloc, PUBLIC, name.as_str(), "No", &[])?)?;
+    }
+    Ok(files)
+}
+
 #[test]
 fn classes_that_cannot_be_numbered_are_too_many(rt: HostRuntime) -> Result<(), Fail> {
     let alloc = rt.alloc();
-    let mut files = Vec::new(alloc);
-    for index in 0..4068 {
-        let name = format!(in alloc; "T{index}")?;
-        files.push(under(alloc, name.as_bytes(), b"No", &[])?)?;
-    }
+    let files = numbered(alloc, 4068)?;
     refused(&rt, ClassSet::build(alloc, files), 38, b"T4067");
     Ok(())
-}
-
-// A class with these flags.
-fn flagged(alloc: Global, name: &[u8], superclass: &[u8], bits: u16) -> Result<ClassFile, Fail> {
-    let mut file = under(alloc, name, superclass, &[])?;
-    file.flags = Flags { bits };
-    Ok(file)
 }
 
 #[test]
 fn bad_supertypes_are_refused(rt: HostRuntime) -> Result<(), Fail> {
     let alloc = rt.alloc();
-    let extended = set_of(alloc, &[(b"T", b"java/rmi/Remote", &[])])?;
+    let extended = set_of(alloc, &[(PUBLIC, "T", "java/rmi/Remote", &[])])?;
     refused(&rt, extended, 33, b"T");
-    let implemented = set_of(
-        alloc,
-        &[(b"T", b"java/lang/Object", &[b"java/lang/Exception"])],
-    )?;
+    let implemented = set_of(alloc, &[(PUBLIC, "T", OBJECT, &["java/lang/Exception"])])?;
     refused(&rt, implemented, 33, b"T");
-    let interface = Flags::PUBLIC | Flags::INTERFACE | Flags::ABSTRACT;
-    let mut below_class = Vec::new(alloc);
-    below_class.push(flagged(alloc, b"I", b"java/lang/Exception", interface)?)?;
-    refused(&rt, ClassSet::build(alloc, below_class), 33, b"I");
+    let flags = PUBLIC | Flags::INTERFACE | Flags::ABSTRACT;
+    let interface = set_of(alloc, &[(flags, "I", "java/lang/Exception", &[])])?;
+    refused(&rt, interface, 33, b"I");
     // A final superclass, and the same beside a class that extends an interface: the lower number.
-    let mut finals = Vec::new(alloc);
-    finals.push(flagged(alloc, b"F", b"java/lang/Object", Flags::FINAL)?)?;
-    finals.push(under(alloc, b"G", b"F", &[])?)?;
-    refused(&rt, ClassSet::build(alloc, finals), 34, b"G");
-    let mut both = Vec::new(alloc);
-    both.push(flagged(alloc, b"F", b"java/lang/Object", Flags::FINAL)?)?;
-    both.push(under(alloc, b"G", b"F", &[])?)?;
-    both.push(under(alloc, b"T", b"java/rmi/Remote", &[])?)?;
-    refused(&rt, ClassSet::build(alloc, both), 33, b"T");
-    let remote = set_of(alloc, &[(b"T", b"java/lang/Object", &[b"java/rmi/Remote"])])?;
+    let finals = set_of(
+        alloc,
+        &[(Flags::FINAL, "F", OBJECT, &[]), (PUBLIC, "G", "F", &[])],
+    )?;
+    refused(&rt, finals, 34, b"G");
+    let both = set_of(
+        alloc,
+        &[
+            (Flags::FINAL, "F", OBJECT, &[]),
+            (PUBLIC, "G", "F", &[]),
+            (PUBLIC, "T", "java/rmi/Remote", &[]),
+        ],
+    )?;
+    refused(&rt, both, 33, b"T");
+    let remote = set_of(alloc, &[(PUBLIC, "T", OBJECT, &["java/rmi/Remote"])])?;
     refused(&rt, remote, 39, b"T");
     Ok(())
 }

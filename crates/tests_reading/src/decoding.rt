@@ -90,7 +90,7 @@ fn each_form_is_read(rt: HostRuntime) -> Result<(), Fail> {
     Ok(())
 }
 
-// The same switch behind no, one, two and three instructions; its padding has any values.
+// The same switch after no, one, two and three instructions; its padding has any values.
 #[test]
 fn a_switch_ends_its_padding_at_a_multiple_of_four(rt: HostRuntime) -> Result<(), Fail> {
     for (code, offset) in [

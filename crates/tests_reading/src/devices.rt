@@ -6,7 +6,7 @@ use std::io::{ErrorKind, Read, Write};
 use std::process::Abort;
 use std::test::Fail;
 
-// Reads on until the end or a failure, and answers the bytes.
+// Reads on until the end or a failure, and returns the bytes.
 fn drain<S: Source>(alloc: std::alloc::Global, source: &mut S) -> Result<Vec<u8>, Fail> {
     let mut bytes = Vec::new(alloc);
     let mut buffer = [0u8; 4];

@@ -5,7 +5,7 @@ use cf_reader::{ReadFault, Rule, read_class};
 use class_builder::{ClassParts, FieldParts, class_bytes};
 use std::test::Fail;
 
-// Behind the field stand the count of methods and that of the class's attributes.
+// After the field stand the count of methods and that of the class's attributes.
 #[test]
 fn flags_of_fields_go_together(rt: HostRuntime) -> Result<(), Fail> {
     for (class, flags, descriptor, constant, rule) in [

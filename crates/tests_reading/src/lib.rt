@@ -13,6 +13,8 @@ mod flags;
 #[cfg(test)]
 mod layouts;
 #[cfg(test)]
+mod opcodes;
+#[cfg(test)]
 mod pools;
 #[cfg(test)]
 mod reading;

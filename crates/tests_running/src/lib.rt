@@ -1,4 +1,4 @@
-//! The tests of tasks and of the program's words, in one crate above both, since a crate with tests is
+//! The tests of tasks and of the command line, in one crate above both, since a crate with tests is
 //! proved a second time.
 #![tactic(auto)]
 

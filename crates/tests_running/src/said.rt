@@ -23,7 +23,7 @@ impl Folder for EmptyFolder {
     }
 }
 
-/// The words of a line, which spaces part, after the program's name.
+/// Returns the arguments of a line, parted by spaces, after the program's name.
 pub fn words_of(alloc: Global, line: &str) -> Result<Vec<String>, AllocError> {
     let mut words = Vec::new(alloc);
     words.push(String::from_str(alloc, "rmispace")?)?;
@@ -41,7 +41,7 @@ pub struct Said {
     pub err: Vec<u8>,
 }
 
-/// What the program says to a line of words.
+/// Returns what the program says to a line of arguments.
 pub fn say(alloc: Global, line: &str) -> Result<Said, AllocError> {
     let words = words_of(alloc, line)?;
     let mut out = Vec::new(alloc);

@@ -3,12 +3,9 @@
 ghost use Rattle.std.specs.Prelude.{◌≡◌, ◌+◌, ◌<◌, ◌^◌, IfOk};
 
 use cf_reader::read_class;
-use class_builder::SUM;
+use class_builder::{ClassParts, CodeParts, MethodParts, SUM, class_bytes};
 use cls_link::link;
-use cls_set::{
-    ClassFile, ClassSet, Code, ElementType, FieldType, Flags, Method, MethodDescriptor, Pool, Row,
-    Shared, Table, Text,
-};
+use cls_set::{ClassSet, Flags};
 use std::alloc::{AllocError, Global};
 use std::process::Abort;
 use std::test::Fail;
@@ -17,11 +14,16 @@ use vm_step::{
     Accepted, Limits, MethodId, Numbered, Outcome, Pause, StartFault, Task, Uuid, Value,
 };
 
-fn sum(alloc: Global) -> Result<Accepted, Fail> {
+// The checked set of the class that the bytes spell.
+fn program_of(alloc: Global, bytes: &[u8]) -> Result<Accepted, Fail> {
     let mut files = Vec::new(alloc);
-    files.push(read_class(alloc, SUM)?)?;
+    files.push(read_class(alloc, bytes)?)?;
     let set = ClassSet::build(alloc, files)?;
     Ok(accept(alloc, link(alloc, set)?)?)
+}
+
+fn sum(alloc: Global) -> Result<Accepted, Fail> {
+    program_of(alloc, SUM)
 }
 
 fn method(program: &Accepted, descriptor: &[u8]) -> Option<MethodId> {
@@ -76,7 +78,7 @@ fn turns(task: &mut Task, program: &Accepted) -> u32
     100
 }
 
-// The loop goes round in 8 instructions, and 6 stand around it: f(4) takes 38.
+// Each time round the loop takes 8 instructions, and the code around it 6: f(4) takes 38.
 #[test]
 fn pieces_of_one_instruction_take_one_unit_of_fuel_each(rt: HostRuntime) -> Result<(), Fail> {
     let program = sum(rt.alloc())?;
@@ -159,12 +161,11 @@ fn a_task_does_not_start(rt: HostRuntime) -> Result<(), Fail> {
     assert!(rt; matches!(nowhere, Err(StartFault::AbsentMethod)));
     let empty = begin(alloc, &program, &[], limits(8, 1));
     assert!(rt; matches!(empty, Err(StartFault::BadArgument)));
-    // No class file of the profile has such a method so far.
-    let bytes = program_of_bytes(alloc)?;
-    let method = method(&bytes, b"(B)V").ok_or("no method")?;
+    let arrays = program_of_arrays(alloc)?;
+    let method = method(&arrays, b"([I)V").ok_or("no method")?;
     let refused = Task::start(
         alloc,
-        &bytes,
+        &arrays,
         Uuid::nil(),
         method,
         Vec::new(alloc),
@@ -183,43 +184,36 @@ fn a_task_does_not_start(rt: HostRuntime) -> Result<(), Fail> {
     Ok(())
 }
 
-// The class T, whose one method `f` takes a byte and gives nothing.
-fn program_of_bytes(alloc: Global) -> Result<Accepted, Fail> {
-    let mut parameters = Vec::new(alloc);
-    parameters.push(FieldType {
-        dimensions: 0,
-        element: ElementType::Byte,
-    })?;
-    let types = MethodDescriptor {
-        parameters: Row::new(parameters),
-        result: None,
+const RETURNS: CodeParts<'static> = CodeParts {
+    max_stack: 0,
+    max_locals: 1,
+    bytes: &[0xb1],
+    lines: &[],
+    attributes: &[],
+};
+
+// A method that takes an array and gives nothing.
+fn method_of_array(code: CodeParts<'_>) -> MethodParts<'_> {
+    MethodParts {
+        flags: Flags::STATIC,
+        name: "f",
+        descriptor: "([I)V",
+        code: Some(code),
+        attributes: &[],
+    }
+}
+
+// The class T with that method.
+fn program_of_arrays(alloc: Global) -> Result<Accepted, Fail> {
+    let methods = [method_of_array(RETURNS)];
+    let class = ClassParts {
+        flags: Flags::PUBLIC,
+        name: "T",
+        superclass: "java/lang/Object",
+        interfaces: &[],
+        fields: &[],
+        methods: &methods,
+        attributes: &[],
     };
-    let mut methods = Vec::new(alloc);
-    methods.push(Method {
-        flags: Flags {
-            bits: Flags::STATIC,
-        },
-        name: Text::new(alloc, b"f".to_vec(alloc)?)?,
-        descriptor: Text::new(alloc, b"(B)V".to_vec(alloc)?)?,
-        types: Shared::new(alloc, types)?,
-        code: Some(Code {
-            max_stack: 0,
-            max_locals: 1,
-            bytes: Table::new([0xb1].to_vec(alloc)?),
-            stack_map_table: None,
-        }),
-    })?;
-    let mut files = Vec::new(alloc);
-    files.push(ClassFile {
-        pool: Pool::new(Vec::new(alloc)),
-        flags: Flags {
-            bits: Flags::PUBLIC,
-        },
-        name: Text::new(alloc, b"T".to_vec(alloc)?)?,
-        superclass: Some(Text::new(alloc, b"java/lang/Object".to_vec(alloc)?)?),
-        interfaces: Table::new(Vec::new(alloc)),
-        fields: Table::new(Vec::new(alloc)),
-        methods: Table::new(methods),
-    })?;
-    Ok(accept(alloc, link(alloc, ClassSet::build(alloc, files)?)?)?)
+    program_of(alloc, &class_bytes(alloc, &class)?)
 }

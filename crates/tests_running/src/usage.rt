@@ -1,4 +1,4 @@
-//! Words of the command line, and outputs that fail.
+//! Arguments of the command line, and outputs that fail.
 
 use super::said::{EmptyFolder, Said, say, words_of};
 use sp_main::{argument_of, command};

@@ -225,8 +225,8 @@ fn fields_out_of_range_make_no_frame(rt: HostRuntime) -> Result<(), Fail> {
     Ok(())
 }
 
-// Fed in pieces of so many bytes, the frame comes once, with the last piece, and nothing is held
-// then: the next byte begins a frame.
+// Fed in pieces of `piece` bytes, the frame comes once, with the last piece. Nothing is held then:
+// the next byte begins a frame.
 fn comes_whole_in_pieces(
     rt: &impl Abort,
     alloc: Global,

@@ -123,7 +123,7 @@ fn is_group(group: Option<&Group>, of: u64, kind: Due, ids: &[ObjId]) -> bool {
     }
 }
 
-// All that is due is made, sent and answered, dirty calls for this period. Answers the last number.
+// Makes, sends and answers all that is due, dirty calls for this period. Returns the last number.
 fn settle(clients: &mut Clients, alloc: Global, period: u64) -> Result<Option<u64>, AllocError> {
     let mut number = None;
     for group in &clients.due(alloc)? {

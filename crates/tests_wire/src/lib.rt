@@ -1,7 +1,9 @@
-//! The tests of the wire, of leases and of names, in one crate above them, since a crate with tests is
+//! The tests of the wire, of leases, of names, of remote objects and of cores, in one crate above them, since a crate with tests is
 //! proved a second time.
 #![tactic(auto)]
 
+#[cfg(test)]
+mod cores;
 #[cfg(test)]
 mod engine;
 #[cfg(test)]
@@ -10,5 +12,7 @@ mod frames;
 mod leases;
 #[cfg(test)]
 mod names;
+#[cfg(test)]
+mod objects;
 #[cfg(test)]
 mod reference_lists;

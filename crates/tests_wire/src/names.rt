@@ -17,7 +17,7 @@ fn is_binding(binding: Option<&Binding>, name: &[u8], object: u64) -> bool {
     }
 }
 
-// What is denied is denied, and with its fault, of a registry where `a` and `b.c_9` are bound.
+// A registry in which `a` and `b.c_9` are bound denies what it has to, each with its fault.
 fn refuses(rt: &impl Abort, names: &mut Registry) {
     let own = Some(ObjId(7));
     assert_eq!(rt; names.bind(b"a", own), denied(RegistryFault::AlreadyBound));

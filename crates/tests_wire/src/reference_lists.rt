@@ -106,7 +106,7 @@ fn clients_are_in_the_order_of_their_entries(rt: HostRuntime) -> Result<(), Fail
     Ok(())
 }
 
-// What one client and object were told.
+// A call or moment, as one client and object see it.
 #[derive(Clone, Copy)]
 enum Told {
     Dirty { number: u64, expires: u64 },
@@ -114,7 +114,7 @@ enum Told {
     Moment(u64),
 }
 
-// The plain body: all that one client and object were told, oldest first, is gone through.
+// The plain body goes through all calls and moments of one client and object, oldest first.
 fn plain_entry(told: &[Told]) -> Option<u64> {
     let mut last: Option<u64> = None;
     let mut kept = false;
@@ -147,8 +147,8 @@ fn plain_entry(told: &[Told]) -> Option<u64> {
     entry
 }
 
-// Both bodies are told the same: at each step a call of one of 100 clients on three of 100 objects,
-// one of them named twice.
+// Both bodies get the same: at each step a call of one of 100 clients on three of 100 objects, one
+// of them named twice.
 fn tell(list: &mut RefList, plain: &mut Vec<Vec<Told>>, step: u64) -> Result<(), AllocError> {
     let of = step % 100;
     let mut objects = [ObjId(0); 4];

@@ -94,7 +94,7 @@ safe_at : (classes : List Class) (o : Option LinkedMethod) (m : Subject) → opt
 safe_at classes None m e safe = absurd (cc)
 safe_at classes (Some method) m e safe = safe_subject (subject_of classes method) m e safe
 
--- a class set that is at fault has a method that is not type safe
+-- a class set at fault has a method that is not type safe
 pub set_unsafe : {X : Type 0} (So : X → Type 0) (links : Links) (e : CheckFault) → IsCheckFault links e → SettlesSet {X = X} (Err e) So (¬ AreSafe links)
 unfolding AreSafe
 set_unsafe So links fault.Memory wrong = tt

@@ -52,7 +52,7 @@ past_last declared = rw (slice_get_past declared (length declared) (omega arith)
 abbrev pub is_at : List (ℕ × Frame) → ℕ → ℕ → Bool
 is_at declared next offset = option_map_or (λ (d : ℕ × Frame). d.0 == offset) (slice_get declared next) false
 
--- the indices of the instructions at these offsets, where the frames before an index are those of earlier ones
+-- the indices of the frames at these offsets, if the frames before an index are those of earlier offsets
 unfoldable pub found_from : List (ℕ × Frame) → ℕ → List ℕ → List ℕ
 found_from declared next [] = []
 found_from declared next (o ∷ os) =

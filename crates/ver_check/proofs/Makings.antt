@@ -19,14 +19,14 @@ use Rattle.ver_frames.specs.Frames.{Frame}
 use Rattle.ver_frames.specs.Types.{field_vtype}
 use Rattle.ver_frames.specs.declared.vtype.VType.{VType}
 
--- where a step stops, the whole does
+-- if a step stops, the whole does
 pub step_stops : (s : Stop) (r total : Result Frame CheckRule) (k : Frame → Result Frame CheckRule) (g h : Frame) → Makes {X = Unit {0}} (λ _. g) (Err s) r → (r >>= k) ≡ total
     → Makes {X = Unit {0}} (λ _. h) (Err s) total
 step_stops (Broken rule) r total k g h is so_far = sym so_far ∙ ap (λ (x : Result Frame CheckRule). x >>= k) is
 step_stops (Missing index) r total k g h is so_far = is
 step_stops Memory r total k g h is so_far = tt
 
--- where it does not, the rest is left
+-- if it does not, the rest is left
 pub step_goes : (r total : Result Frame CheckRule) (k : Frame → Result Frame CheckRule) (g : Frame) → r ≡ Ok g → (r >>= k) ≡ total → k g ≡ total
 step_goes r total k g is so_far = sym (ap (λ (x : Result Frame CheckRule). x >>= k) is) ∙ so_far
 

@@ -1,5 +1,5 @@
--- The one pass and the typings of a body: a typing has the frames that the pass reaches, and where the pass comes
--- through all instructions there is a typing.
+-- The one pass and the typings of a body: a typing has the frames that the pass reaches, and if the pass comes through all instructions
+-- there is a typing.
 use Rattle.std.proofs.Common.{◌≡◌, ◌≢◌, inl, inr, ℕ, zero, suc, ◌+◌, ◌<◌, ◌≤◌, Bool, true, false, Option, Some, None, Result, Ok, List, length, refl, sym, ap, subst, ◌∙◌, arith}
 use Rattle.std.specs.Prelude.{◌==◌, if◌then◌else◌, MatchOption, MatchBool, IsSome, slice_get, option_and_then}
 use Rattle.std.proofs.lemmas.Bool.{eq-eqb, ne_eqb}
@@ -17,7 +17,7 @@ use Rattle.ver_rules.specs.declared.fault.CheckRule.{CheckRule}
 use Rattle.ver_frames.specs.Assignable.{IsFrameAssignable}
 use Rattle.ver_frames.specs.Frames.{Frame}
 
--- what a frame is, where one that came in is held against the one declared, if one is
+-- the frame at an index: the declared one, if there is one, to which the incoming frame is assignable; else the incoming one
 abbrev Came : List Class → Option Frame → Frame → Frame → Type 0
 Came classes o given here = MatchOption o (here ≡ given) (λ declared. IsFrameAssignable classes given declared × (here ≡ declared))
 
@@ -102,14 +102,14 @@ pub one_typing : (body : Body) (frames others : ℕ → Frame) → IsTyping body
 one_typing body frames others one other index inside =
     sym (reached body others other index (frames index) (reaches_all body frames one index inside) inside)
 
--- where the pass does not come through an instruction, the body is not type safe
+-- if the pass does not come through an instruction, the body is not type safe
 pub refuted : (body : Body) (index : ℕ) (insn : LinkedInsn) (here : Frame) → Reaches body index here → insn_at body index ≡ Some insn
     → ((next : Frame) → ¬ Passes body index insn here next) → ¬ IsTypeSafe body
 refuted body index insn here reaches at stops safe =
     let inside = slice_get_within body.insns index insn at in
     stops (safe.frames (suc index)) (passes_from body safe.frames safe.typing index insn here (reached body safe.frames safe.typing index here reaches inside) at)
 
--- where the opening frame does not come in at the first instruction, the body is not type safe
+-- if the opening frame does not come in at the first instruction, the body is not type safe
 pub refuted_opening : (body : Body) → ((here : Frame) → ¬ ComesIn body 0 body.opening here) → ¬ IsTypeSafe body
 refuted_opening body stops safe =
     stops (safe.frames 0) (came_from body.classes (declared_at body 0) body.opening (safe.frames 0) safe.typing.opening (safe.typing.declared 0))
@@ -226,7 +226,7 @@ declared_inside body index f listed is = some_offset (slice_get body.offsets ind
     some_offset None at found = absurd (cc)
     some_offset (Some offset) at found = let within : index < length body.offsets = slice_get_within body.offsets index offset at in omega arith
 
--- where the pass comes to the end, the body is type safe
+-- if the pass comes to the end, the body is type safe
 pub proved_safe : (body : Body) (here : Frame) → length body.offsets ≡ length body.insns → length body.opening.locals ≤ body.max_locals → 0 < length body.insns → IsWithin body body.opening
     → ((index : ℕ) (f : Frame) → declared_at body index ≡ Some f → IsWithin body f)
     → Reaches body (length body.insns) here → IsTypeSafe body

@@ -38,7 +38,7 @@ use Rattle.ver_frames.specs.Types.{field_vtype}
 use Rattle.ver_frames.specs.declared.vtype.VType.{VType}
 use Rattle.ver_frames.specs.declared.vtype.VType.TheVariants.{Top, Int, Null, Object, IntArray, Uninitialized, UninitializedThis}
 
--- one after the other
+-- two steps, one after the other
 and_then : {A B : Type 0} (P : A → Type 0) (Q : B → Type 0) (r : Result A CheckRule) (k : A → Result B CheckRule) → IfOk r P → ((x : A) → P x → IfOk (k x) Q) → IfOk (r >>= k) Q
 and_then P Q (Ok x) k here further = further x here
 and_then P Q (Err e) k here further = tt

@@ -1,3 +1,4 @@
+-- Which class sets are accepted (JVMS 4.10).
 use Rattle.std.specs.Prelude.{◌<◌, ℕ, length, Option, Some, List, slice_get, option_and_then, MatchOption}
 use Rattle.cf_reader.specs.declared.class_file.Code.{Code}
 use Rattle.cf_reader.specs.declared.class_file.Method.{Method}
@@ -13,7 +14,7 @@ use Rattle.ver_frames.specs.StackMapFormat.{DeclaresFrames}
 
 -- A class is type safe if each of its methods is (JVMS 4.10.1).
 
--- a method as declared and as linked: none where it has no code
+-- a method as declared and as linked: none if it has no code
 unfoldable pub subject_of : List Class → LinkedMethod → Option Subject
 subject_of classes m =
     option_and_then (λ (linked : LinkedCode).

@@ -1,3 +1,4 @@
+-- A method with code as type checking sees it (JVMS 4.10.1.1, 4.10.1.6).
 use Rattle.std.specs.Prelude.{ℕ, Bool, ◌==◌, if◌then◌else◌, Option, Some, None, List, [], ◌∷◌, bytes_eq, codes, slice_get, slice_index, option_and_then}
 use Rattle.cls_link.specs.declared.linked_code.LinkedInsn.{LinkedInsn}
 use Rattle.cls_link.specs.declared.linked_code.LinkedSwitch.{LinkedSwitch}
@@ -7,11 +8,11 @@ use Rattle.ver_frames.specs.Frames.{Frame}
 use Rattle.ver_frames.specs.Method.{Subject, opening, result_type}
 use Rattle.ver_frames.specs.declared.vtype.VType.{VType}
 
--- A method with code as type checking sees it (JVMS 4.10.1.1, 4.10.1.6).
+-- ---- bodies
 
 -- what is checked of a method with code: the set that it is linked in, the number of its class, whether it is an `<init>`, the frame in
--- which it begins, the type of its result, its limits, its instructions with the offset of each, what its switches go to, and the frames
--- that are declared, each with its offset
+-- which it begins, the type of its result, its limits, its instructions with the offset of each, what its switches go to, and the declared
+-- frames, each with its offset
 pub record Body : Type 0 where
   pub classes : List Class
   pub class_id : ClassId

@@ -1,3 +1,4 @@
+-- The effect of each instruction on a frame (JVMS 4.10.1.9): the frame after it, or the first rule that it breaks.
 use Rattle.std.specs.Prelude.{ℕ, Bool, true, false, not, if◌then◌else◌, Option, Some, None, Result, Ok, Err, List, [], ◌∷◌, is_none, codes, slice_get}
 use Rattle.std.specs.Option.{option_map_or}
 use Rattle.cf_insns.specs.declared.insn.ArrayOperation.{ArrayOperation}
@@ -23,9 +24,8 @@ use Rattle.ver_frames.specs.Frames.{Frame}
 use Rattle.ver_frames.specs.declared.vtype.VType.{VType}
 use Rattle.ver_frames.specs.declared.vtype.VType.TheVariants.{Top, Int, Null, Object, IntArray}
 
--- The effect of each instruction on a frame (JVMS 4.10.1.9): the frame after it, or the first rule that it breaks. At one instruction
--- the local variable comes first, then the operands from the top, then further conditions, then the result of the method, then the
--- room on the operand stack.
+-- At one instruction the local variable comes first, then the operands from the top, then further conditions, then the result of the
+-- method, then the room on the operand stack.
 
 -- ---- arrays of ints
 
@@ -37,7 +37,7 @@ array_effect body array.Length f = take body (want.Fits IntArray) f >>= give bod
 
 -- ---- returns and athrow
 
--- the type of a method's result, where that is a reference
+-- the type of a method's result, if that is a reference
 abbrev pub reference_result : Option VType → Option VType
 reference_result None = None
 reference_result (Some t) = if is_reference t then Some t else None

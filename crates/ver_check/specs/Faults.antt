@@ -18,15 +18,14 @@ use Rattle.ver_frames.specs.StackMap.{declared_frames}
 use Rattle.ver_frames.specs.declared.fault.StackMapFault.{StackMapFault}
 use Rattle.ver_frames.specs.declared.fault.StackMapFault.TheVariants as frames
 
--- Each of these takes the rule that is broken, and the index of the instruction at which that is told.
+-- Each of these takes the broken rule, and the index of the instruction that the fault names.
 
--- what comes from an index is not assignable to the frame that is declared here: that is told at the index that it
--- comes from
+-- what comes from an index is not assignable to the frame declared here: the fault names the index that it comes from
 abbrev pub IsWrongEntry : Body → ℕ → Frame → ℕ → CheckRule → ℕ → Type 0
 IsWrongEntry body here given from rule told =
     IsSomeAnd (declared_at body here) (λ declared. ¬ IsFrameAssignable body.classes given declared × (rule ≡ NotAssignable) × (told ≡ from))
 
--- no frame is declared here: that is told here
+-- no frame is declared here: the fault names this index
 abbrev pub IsMissing : Body → ℕ → CheckRule → ℕ → Type 0
 IsMissing body here rule told = (declared_at body here ≡ None) × (rule ≡ NoFrame) × (told ≡ here)
 
@@ -40,7 +39,7 @@ IsWrongAmong body index after [] rule told = ⊥
 IsWrongAmong body index after (target ∷ others) rule told =
     IsWrongTarget body index after target rule told ⊎ (Lands body after target × IsWrongAmong body index after others rule told)
 
--- the pass does not go on behind an instruction, whose effect gave this frame
+-- the pass does not go on after an instruction, whose effect gave this frame
 abbrev pub IsWrongNext : Body → ℕ → LinkedInsn → Frame → CheckRule → ℕ → Type 0
 IsWrongNext body index insn after rule told =
     MatchBool (falls_through insn)
@@ -48,7 +47,7 @@ IsWrongNext body index insn after rule told =
     ((suc index < length body.insns) × IsMissing body (suc index) rule told)
 
 -- the pass does not come through an instruction: it breaks a rule in this frame; or it does not, and then its
--- targets are looked at, in order; or they are in order, and then what is behind it
+-- targets are looked at, in order; or they are in order, and then what is after it
 pub data IsWrongAt (body : Body) (index : ℕ) (insn : LinkedInsn) (here : Frame) (rule : CheckRule) (told : ℕ) : Type 0 where
   acts : effect body (offset_at body index) insn here ≡ Err rule → told ≡ index → IsWrongAt body index insn here rule told
   lands : (after : Frame) → effect body (offset_at body index) insn here ≡ Ok after → IsWrongAmong body index after (targets body insn) rule told → IsWrongAt body index insn here rule told
@@ -63,7 +62,7 @@ pub data IsWrongBody (body : Body) (rule : CheckRule) (told : ℕ) : Type 0 wher
   opening : length body.opening.locals ≤ body.max_locals → IsWrongEntry body 0 body.opening 0 rule told → IsWrongBody body rule told
   instruction : length body.opening.locals ≤ body.max_locals → (index : ℕ) (insn : LinkedInsn) (here : Frame) → Reaches body index here → insn_at body index ≡ Some insn → IsWrongAt body index insn here rule told → IsWrongBody body rule told
 
--- the rule that is broken, and the offset of the instruction at which that is told
+-- the broken rule, and the offset of the instruction that the fault names
 pub record IsBodyFault (body : Body) (rule : CheckRule) (at : ℕ) : Type 0 where
   pub told : ℕ
   pub wrong : IsWrongBody body rule told

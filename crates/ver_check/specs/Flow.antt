@@ -1,3 +1,4 @@
+-- The one pass over a body, with one current frame (JVMS 4.10.1.6).
 use Rattle.std.specs.Prelude.{◌≡◌, ℕ, suc, ◌<◌, Some, Result, Ok, Err, length, MatchOption, MatchBool}
 use Rattle.std.specs.List.{AllByRecursion}
 use Rattle.cls_link.specs.declared.linked_code.LinkedInsn.{LinkedInsn}
@@ -11,8 +12,7 @@ use Rattle.ver_check.specs.declared.stop.Stop.TheVariants.{Broken, Missing, Memo
 use Rattle.ver_frames.specs.Assignable.{IsFrameAssignable}
 use Rattle.ver_frames.specs.Frames.{Frame}
 
--- The one pass over a body, with one current frame: the declared frames and the instructions are merged by offset, and each
--- instruction is checked from the frame that comes in (JVMS 4.10.1.6).
+-- The pass merges the declared frames and the instructions by offset, and checks each instruction from the frame that comes in.
 
 -- a frame comes in at an index, and the pass goes on there with this one: the frame that is declared
 -- there, or the one that came in
@@ -20,7 +20,7 @@ abbrev pub ComesIn : Body → ℕ → Frame → Frame → Type 0
 ComesIn body index given here =
     MatchOption (declared_at body index) (here ≡ given) (λ declared. IsFrameAssignable body.classes given declared × (here ≡ declared))
 
--- behind an instruction and its effect the pass goes on with this frame
+-- after an instruction and its effect the pass goes on with this frame
 abbrev pub GoesTo : Body → ℕ → LinkedInsn → Frame → Frame → Type 0
 GoesTo body index insn after next =
     MatchBool (falls_through insn)

@@ -1,3 +1,4 @@
+-- The declared frame at each instruction (JVMS 4.7.4), as the code finds it: by the index of the instruction.
 use Rattle.std.specs.Prelude.{◌≡◌, ℕ, Option, List, map, slice_get, option_map}
 use Rattle.ver_check.specs.Bodies.{frame_at_offset}
 use Rattle.ver_frames.specs.Frames.{Frame}

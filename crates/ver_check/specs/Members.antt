@@ -34,7 +34,7 @@ method_at classes m = option_and_then (λ (c : Class). slice_get c.file.methods 
 
 -- ---- getfield, putfield
 
--- an object of the class that is named becomes the value of the field
+-- an object of the named class becomes the value of the field
 unfoldable pub get_field : Body → ClassId → Field → Frame → Result Frame CheckRule
 get_field body class field f =
     take body (want.Fits (Object class)) f >>= give body (field_vtype body.classes field.kind)
@@ -43,8 +43,7 @@ get_field body class field f =
 abbrev pub is_own_field : Body → MemberIndex → Bool
 is_own_field body m = body.is_init && nat_eq m.class.0 body.class_id.0
 
--- what is asked of the object whose field is written: one of the class that is named, or for an own field the receiver that is
--- not initialized
+-- what is asked of the object whose field is written: one of the named class, or for an own field the receiver that is not initialized
 abbrev pub written_object : Body → ClassId → MemberIndex → Want
 written_object body class m = if is_own_field body m then want.FitsOrThis class else want.Fits (Object class)
 
@@ -66,7 +65,7 @@ make_new body at f =
 unfoldable pub arguments_of : Body → Method → List VType
 arguments_of body method = reverse (map (field_vtype body.classes) method.types.parameters)
 
--- puts the result of a method on top, where it has one
+-- puts the result of a method on top, if it has one
 unfoldable pub give_result : Body → Method → Frame → Result Frame CheckRule
 give_result body method f = option_map_or (λ (kind : FieldType). give body (field_vtype body.classes kind) f) method.types.result (Ok f)
 
@@ -77,18 +76,18 @@ take_arguments body method f = take_all body (arguments_of body method) f
 unfoldable pub call_static : Body → Method → Frame → Result Frame CheckRule
 call_static body method f = take_arguments body method f >>= give_result body method
 
--- the receiver is one of the class that is named
+-- the receiver is one of the named class
 unfoldable pub call_virtual : Body → ClassId → Method → Frame → Result Frame CheckRule
 call_virtual body class method f =
     take_arguments body method f >>= take body (want.Fits (Object class)) >>= give_result body method
 
--- the receiver is one of the interface that is named, and the count is that of the receiver and the arguments
+-- the receiver is one of the named interface, and the count is that of the receiver and the arguments
 unfoldable pub call_interface : Body → ℕ → ClassId → Method → Frame → Result Frame CheckRule
 call_interface body count class method f =
     take_arguments body method f >>= take body (want.Fits (Object class))
     >>= demand rule.Mismatch (count == suc (length method.types.parameters)) >>= give_result body method
 
--- the receiver is one of the current class, which may stand for the class that is named
+-- the receiver is one of the current class, which may stand for the named class
 unfoldable pub call_super : Body → ClassId → Method → Frame → Result Frame CheckRule
 call_super body class method f =
     take_arguments body method f >>= take body (want.Fits (Object body.class_id))

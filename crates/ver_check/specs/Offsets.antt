@@ -1,7 +1,8 @@
+-- The offsets at which the frames of a StackMapTable apply (JVMS 4.7.4).
 use Rattle.std.specs.Prelude.{ℕ, List, map}
 use Rattle.ver_frames.specs.Frames.{Frame}
 
--- Where the frames of a StackMapTable apply (JVMS 4.7.4).
+-- ---- declared frames
 
 -- the offsets of the declared frames
 abbrev pub declared_offsets : List (ℕ × Frame) → List ℕ

@@ -1,3 +1,4 @@
+-- What the answer of checking a class set says (JVMS 4.10): all methods are type safe, or the first one that is not breaks a rule.
 use Rattle.std.specs.Prelude.{◌≡◌, ℕ, Option, Result, Ok, Err, IsSomeAnd, option_and_then, slice_get}
 use Rattle.cls_link.specs.Links.{Links}
 use Rattle.ver_check.specs.Acceptance.{subject_of}
@@ -8,7 +9,7 @@ use Rattle.ver_rules.specs.declared.fault.CheckFault.{CheckFault}
 use Rattle.ver_rules.specs.declared.fault.CheckFault.TheVariants as fault
 use Rattle.ver_frames.specs.Method.{Subject}
 
--- the value is so; or the second is so, and the fault tells where; or memory ran out
+-- the answer is a value of which the first statement holds, or a broken rule and the second holds, or out of memory
 abbrev pub SettlesSet : {X : Type 0} → Result X CheckFault → (X → Type 0) → Type 0 → Type 0
 SettlesSet (Ok x) So not_so = So x
 SettlesSet (Err (fault.Broken rule class method descriptor at)) So not_so = not_so
@@ -19,7 +20,7 @@ abbrev pub IsFaultOf : Subject → CheckFault → Type 0
 IsFaultOf m fault.Memory = Unit {0}
 IsFaultOf m (fault.Broken rule class method descriptor at) = IsNamed m class method descriptor × IsMethodFault m rule at
 
--- the same of a method with code, where there is one
+-- the same of a method, if it has code
 abbrev pub IsFaultIn : Option Subject → CheckFault → Type 0
 IsFaultIn m fault.Memory = Unit {0}
 IsFaultIn m (fault.Broken rule class method descriptor at) = IsSomeAnd m (λ m. IsNamed m class method descriptor × IsMethodFault m rule at)

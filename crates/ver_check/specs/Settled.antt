@@ -1,3 +1,4 @@
+-- What the answer of checking one method says (JVMS 4.10.1.6): its body is type safe, or a rule is broken at an offset.
 use Rattle.std.specs.Prelude.{ℕ, List, Result, Ok, Err, slice_index}
 use Rattle.ver_check.specs.declared.check.BodyFault.{BodyFault}
 use Rattle.ver_check.specs.declared.check.BodyFault.TheVariants as fault

@@ -1,5 +1,5 @@
--- What the effects of instructions are made of: operands are popped and pushed, local variables read and changed (JVMS 4.10.1.4).
--- Each gives what comes, or the first rule that is broken.
+-- What the effects of instructions are made of: operands are popped and pushed, local variables read and changed (JVMS 4.10.1.4). Each
+-- gives what comes, or the first broken rule.
 use Rattle.std.specs.Prelude.{ℕ, Bool, nat_lt, if◌then◌else◌, Option, Some, None, Result, Ok, Err, List, [], ◌∷◌, length, slice_get, slice_set}
 use Rattle.cf_insns.specs.declared.insn.StackOperation.{StackOperation}
 use Rattle.cf_insns.specs.declared.insn.StackOperation.TheVariants.{Pop, Pop2, Dup, DupX1, DupX2, Dup2, Dup2X1, Dup2X2, Swap}
@@ -14,13 +14,13 @@ use Rattle.ver_frames.specs.Frames.{Frame}
 use Rattle.ver_frames.specs.declared.vtype.VType.{VType}
 use Rattle.ver_frames.specs.declared.vtype.VType.TheVariants.{Int}
 
--- one after the other, up to the first that fails
+-- steps one after the other, up to the first that fails
 infixl 10 ◌>>=◌
 abbrev pub ◌>>=◌ : {A B : Type 0} → Result A CheckRule → (A → Result B CheckRule) → Result B CheckRule
 (Ok x) >>= f = f x
 (Err e) >>= f = Err e
 
--- the frame, where the test passes
+-- the frame, if the test passes
 abbrev pub demand : CheckRule → Bool → Frame → Result Frame CheckRule
 demand broken test f = if test then Ok f else Err broken
 
@@ -43,7 +43,7 @@ taken body asked f = taken_from f.stack
 abbrev pub take : Body → Want → Frame → Result Frame CheckRule
 take body asked f = taken body asked f >>= λ top. Ok top.1
 
--- the frame without the operands on top, of which each has to fit the type in its place, the first type that of the one on top
+-- the frame without the operands on top; each has to fit the type at its index, and the first type is that of the one on top
 unfoldable pub take_all : Body → List VType → Frame → Result Frame CheckRule
 take_all body [] f = Ok f
 take_all body (t ∷ types) f = take body (want.Fits t) f >>= take_all body types
@@ -62,11 +62,11 @@ give_all body (t ∷ types) f = give body t f >>= give_all body types
 abbrev pub take_two : Body → Want → Frame → Result Frame CheckRule
 take_two body asked f = take body asked f >>= take body asked
 
--- the frame with this operand in the place of the one on top
+-- the frame with this operand instead of the one on top
 abbrev pub replaced : Body → Want → VType → Frame → Result Frame CheckRule
 replaced body asked t f = take body asked f >>= give body t
 
--- the frame with an int in the place of two
+-- the frame with an int instead of two
 abbrev pub combined : Body → Frame → Result Frame CheckRule
 combined body f = take_two body want.Int f >>= give body Int
 
@@ -111,6 +111,6 @@ popped_into body k n f = taken body (kind_wanted k) f >>= λ top. Ok (record top
 abbrev pub store : Body → ValueKind → ℕ → Frame → Result Frame CheckRule
 store body k n f = demand rule.Local (nat_lt n (length f.locals)) f >>= popped_into body k n
 
--- iinc: the frame, where the local variable is int
+-- iinc: the frame, if the local variable is int
 abbrev pub incremented : Body → ℕ → Frame → Result Frame CheckRule
 incremented body n f = local_type body want.Int n f >>= λ t. Ok f

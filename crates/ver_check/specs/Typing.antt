@@ -1,3 +1,4 @@
+-- Type safety of a method with code (JVMS 4.10.1.6).
 use Rattle.std.specs.Prelude.{◌≡◌, ℕ, suc, ◌<◌, ◌≤◌, Some, Ok, length, MatchOption, MatchBool, IsSomeAnd, IsSome}
 use Rattle.std.specs.List.{AllByRecursion}
 use Rattle.cls_link.specs.declared.linked_code.LinkedInsn.{LinkedInsn}
@@ -6,21 +7,20 @@ use Rattle.ver_check.specs.Effects.{effect, falls_through, targets}
 use Rattle.ver_frames.specs.Assignable.{IsFrameAssignable}
 use Rattle.ver_frames.specs.Frames.{Frame}
 
--- Type safety (JVMS 4.10.1.6): there is a frame for each instruction that agrees with the declared
--- frames and with what flows in.
+-- A body is type safe if there is a frame for each instruction that agrees with the declared frames and with what flows in.
 
 -- a frame comes in at an index: it is assignable to the frame declared there, or it is the frame there
 abbrev pub Enters : Body → (ℕ → Frame) → ℕ → Frame → Type 0
 Enters body frames index given =
     MatchOption (declared_at body index) (frames index ≡ given) (λ declared. IsFrameAssignable body.classes given declared)
 
--- a frame comes in at the target of a branch, where one has to be declared
+-- a frame comes in at the target of a branch; a frame has to be declared there
 abbrev pub Lands : Body → Frame → ℕ → Type 0
 Lands body given index =
     IsSomeAnd (declared_at body index) (λ declared. IsFrameAssignable body.classes given declared)
 
--- the frame after an instruction comes in at the next one, which there has to be; where the
--- instruction does not fall through, a frame has to be declared at the next one, if there is one
+-- the frame after an instruction comes in at the next one, which has to be there. If the instruction does not fall through, a frame has to
+-- be declared at the next one, if there is one
 abbrev pub GoesOn : Body → (ℕ → Frame) → ℕ → LinkedInsn → Frame → Type 0
 GoesOn body frames index insn after =
     MatchBool (falls_through insn)

@@ -32,7 +32,7 @@ impl Accepted {
     ghost use Rattle.std.specs.Prelude.{◌≡◌};
     ghost use Rattle.ver_check.specs.Acceptance.{AreSafe};
 
-    /// The linked class set.
+    /// Returns the linked class set.
     pub fn linked(&self) -> &Linked
         ensures linked { result.now ≡ self.now }
         ensures safe { AreSafe self.now }
@@ -41,7 +41,8 @@ impl Accepted {
     }
 }
 
-/// Accepts a linked class set, where every method is type safe. A method without code is.
+/// Returns the linked class set as accepted, exactly if every method is type safe. A method without
+/// code is type safe.
 ///
 /// A fault names the first method, by number, that is not type safe. In it these are looked for in this order:
 ///
@@ -51,12 +52,12 @@ impl Accepted {
 /// 4. the first instruction at which the pass over it stops (JVMS 4.10.1.6).
 ///
 /// At that instruction its local variables come first, then its operands
-/// from the top, further conditions, the method's result, the room on the stack, its targets in order, and what is behind
+/// from the top, further conditions, the method's result, the room on the stack, its targets in order, and what is after
 /// it. `NoFrame` names the offset at which the frame is missing, every other rule the instruction
 /// that breaks it.
 ///
-/// The pass goes once over the instructions, and finds the frame that is declared at one by its
-/// index: a table of a method's frames is laid beside its instructions once.
+/// The pass goes once over the instructions. A table of the method's frames by the index of the
+/// instruction is made first, so that finding a frame takes constant time.
 pub fn accept(alloc: Global, linked: Linked) -> Result<Accepted, CheckFault>
     ensures exact { SettlesSet result (λ accepted. (accepted ≡ linked) × AreSafe linked) (¬ AreSafe linked) }
     ensures fault { IfErr result (IsCheckFault linked) }

@@ -18,7 +18,7 @@ use super::{
 use std::alloc::{AllocError, Global};
 use ver_frames::declared;
 
-// The method as checking sees it: `None` where it has no code.
+// The method as checking sees it: `None` if it has no code.
 #[tactic(auto, unfolding(crate::specs::Acceptance::subject_of))]
 fn view_of<'a>(classes: &'a ClassSet, method: &'a LinkedMethod) -> Option<MethodView<'a>>
     ensures { result ≡ subject_of classes.now method.now }

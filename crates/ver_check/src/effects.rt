@@ -14,7 +14,7 @@ use super::{
 };
 use ver_rules::{Want, is_reference};
 
-// The type of a method's result, where that is a reference.
+// The type of a method's result, if that is a reference.
 fn reference_result(kind: Option<VType>) -> Option<VType>
     ensures { result ≡ reference_result kind }
 {
@@ -35,7 +35,7 @@ fn cast_vtype(kind: CastType) -> VType
 }
 
 impl BodyView<'_> {
-    // The type of the method's result, where there is one.
+    // The type of the method's result, if there is one.
     fn result_type(&self) -> Option<VType>
         ensures { result ≡ self.now.result }
     {

@@ -43,7 +43,8 @@ impl BodyView<'_> {
         method.linked.insns.as_slice().len()
     }
 
-    // The index of the frame that is declared at the instruction at an index, past the last where none is.
+    // The index of the frame that is declared at the instruction at an index, past the last if none
+    // is.
     #[tactic(auto, unfolding(crate::specs::Bodies::declared_at))]
     fn index_at(&self, index: usize) -> usize
         ensures { frame_of self.now.declared result ≡ declared_at self.now index }
@@ -65,7 +66,7 @@ impl BodyView<'_> {
         declared.get(self.index_at(index))
     }
 
-    // A frame comes in at an index, and becomes the one that is declared there, where one is.
+    // A frame comes in at an index, and becomes the one that is declared there, if one is.
     pub(crate) fn enter(&self, frame: &mut TypeFrame, index: usize) -> Result<(), Stop>
         ensures { (from : ℕ) → Settles from result (ComesIn self.now index frame.old frame.new) (IsWrongEntry self.now index frame.old from) }
     {
@@ -80,7 +81,7 @@ impl BodyView<'_> {
         Ok(())
     }
 
-    // A frame comes in at the target of a branch, where one has to be declared.
+    // A frame comes in at the target of a branch. A frame has to be declared there.
     fn land(&self, frame: &TypeFrame, target: u16) -> Result<(), Stop>
         ensures { (from : ℕ) → Settles from result (Lands self.now frame.now target) (IsWrongTarget self.now from frame.now target) }
     {
@@ -152,7 +153,7 @@ impl BodyView<'_> {
         }
     }
 
-    // The pass goes on behind an instruction, whose effect gave this frame.
+    // The pass goes on after an instruction, whose effect gave this frame.
     fn go_on(&self, frame: &mut TypeFrame, index: usize, insn: LinkedInsn) -> Result<(), Stop>
         requires { index < length self.now.insns }
         ensures { Settles index result (GoesTo self.now index insn frame.old frame.new) (IsWrongNext self.now index insn frame.old) }

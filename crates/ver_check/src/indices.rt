@@ -21,9 +21,8 @@ fn is_at(declared: &DeclaredFrames, index: usize, offset: u16) -> bool
     }
 }
 
-// For each instruction, by its offset, the index of the frame that is declared there, which is past the
-// last if none is: one pass over the instructions and the frames, each of which stands at one of
-// them.
+// For each instruction, by its offset, the index of the frame that is declared there, past the last
+// if none is. Each frame stands at an instruction, so one pass over both finds all.
 pub(crate) fn find_frames(
     alloc: Global,
     offsets: &[u16],

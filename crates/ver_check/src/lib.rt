@@ -1,4 +1,4 @@
-//! The type checker (JVMS 4.10.1): it accepts a class set exactly where every method is type safe.
+//! The type checker (JVMS 4.10.1): it accepts a class set exactly if every method is type safe.
 #![tactic(auto)]
 
 pub use accepted::{Accepted, accept};

@@ -217,7 +217,7 @@ impl BodyView<'_> {
         self.give_result(frame, callee)
     }
 
-    // Whether the current class may stand for the class that is named.
+    // Whether the current class may stand for the named class.
     fn may_stand_for(&self, class: ClassId) -> bool
         ensures { result ≡ is_assignable self.now.classes (Object self.now.class_id) (Object class) }
     {

@@ -29,7 +29,7 @@ impl BodyView<'_> {
         usize::from(method.code.max_stack)
     }
 
-    // Takes the operand off the top, where it is what is asked.
+    // Takes the operand off the top, if it is what is asked.
     #[tactic(auto, unfolding(crate::specs::Steps::taken))]
     pub(crate) fn taken(&self, frame: &mut TypeFrame, want: Want) -> Result<VType, Stop>
         ensures taken { Makes (λ top. (top, frame.new)) result (taken self.now want frame.old) }
@@ -52,7 +52,7 @@ impl BodyView<'_> {
         Ok(())
     }
 
-    // Puts an operand on top, where there is room.
+    // Puts an operand on top, if there is room.
     #[tactic(auto, unfolding(crate::specs::Steps::give))]
     pub(crate) fn give(&self, frame: &mut TypeFrame, kind: VType) -> Result<(), Stop>
         ensures { Makes (λ _. frame.new) result (give self.now kind frame.old) }
@@ -75,7 +75,7 @@ impl BodyView<'_> {
         Ok(())
     }
 
-    // The type of a local variable, where it is what is asked.
+    // The type of a local variable, if it is what is asked.
     #[tactic(auto, unfolding(crate::specs::Steps::local_type))]
     pub(crate) fn local_type(
         &self,
@@ -145,7 +145,7 @@ impl BodyView<'_> {
         self.take(frame, want)
     }
 
-    // Puts an operand in the place of the one on top.
+    // Puts an operand on top instead of the one there.
     pub(crate) fn replace(&self, frame: &mut TypeFrame, want: Want, kind: VType) -> Result<(), Stop>
         ensures { Makes (λ _. frame.new) result (replaced self.now want kind frame.old) }
     {
@@ -153,7 +153,7 @@ impl BodyView<'_> {
         self.give(frame, kind)
     }
 
-    // Puts an int in the place of two.
+    // Puts an int on top instead of two.
     pub(crate) fn combine(&self, frame: &mut TypeFrame) -> Result<(), Stop>
         ensures { Makes (λ _. frame.new) result (combined self.now frame.old) }
     {

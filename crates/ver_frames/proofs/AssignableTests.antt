@@ -1,4 +1,4 @@
--- The test of assignability passes where types are assignable.
+-- The test of assignability passes exactly if types are assignable.
 use Rattle.std.proofs.Common.{◌≡◌, ◌≢◌, ◌↔◌, ◌⊎◌, inl, inr, ℕ, zero, suc, ◌<◌, ◌≤◌, Bool, true, false, not, Option, Some, None, List, IsTrue, length, refl, sym, ap, subst, ◌∙◌, arith}
 use Rattle.std.specs.Prelude.{◌||◌, ◌==◌, nat_eq, IsSomeAnd, bit_and, bytes_eq, codes, slice_get, option_and_then}
 use Rattle.std.specs.Option.{option_map_or}
@@ -74,7 +74,7 @@ module _ (classes : List Class) where
       higher go None is up = absurd (true_false (sym up))
       higher go (Some m) is up = through a m b (superclass a m (extends a m is)) (go m b up)
 
-  -- and for each of them, where so many may stand above a class
+  -- the test finds each superclass, if at most n stand above the class
   below_whole : (rank : ClassId → ℕ) → IsRanking classes rank → (n : ℕ) (a b : ClassId) → rank a ≤ n → IsSubclass classes a b → is_below n classes a b ≡ true
   unfolding is_below
   below_whole rank ranking zero a b low below =

@@ -62,7 +62,7 @@ one_more_read m count i old new fs last before bytes rest f total lt keeps stand
 
 -- ---- one frame, from its parts
 
--- what is read behind a front
+-- what is read after a front
 from_front : (front : List VType) (o : Option (List VType × List ℕ)) (types : List VType) (rest : List ℕ) → with_front front o ≡ Some (types, rest)
     → (found : List VType × List ℕ) × (o ≡ Some found) × (front ++ found.0 ≡ types) × (found.1 ≡ rest)
 from_front front None types rest e = absurd (cc)

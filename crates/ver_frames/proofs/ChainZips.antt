@@ -33,7 +33,7 @@ join_last R (a ∷ xs) (b ∷ ys) x y h last = (h.0, join_last R xs ys x y h.1 l
 
 -- ---- the loop
 
--- the first types are assignable to those of a chain of so many
+-- the first types are assignable to those of a chain of n types
 abbrev pub AreFirst : List Class → List VType → List TypeNode → ℕ → ℕ → Type 0
 AreFirst classes given nodes n last = AllZip (IsAssignable classes) (take n given) (types_to nodes n last)
 

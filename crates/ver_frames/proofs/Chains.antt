@@ -111,7 +111,7 @@ appended nodes chain kind stands =
       last_types (nodes ++ more ∷ []) chain.count (length nodes) more at ∙ ap (λ (ts : List VType). ts ++ kind ∷ []) old.1,
     )
 
--- the same, where the index of the end and the number of types are told
+-- the same, if the index of the end and the number of types are given
 pub appended_at : (nodes : List TypeNode) (chain : TypeChain) (kind : VType) (end count : ℕ) → Stands nodes chain → end ≡ length nodes → count ≡ suc chain.count
     → StandTo (nodes ++ record { kind = kind; before = chain.last } ∷ []) count end
     × (types_to (nodes ++ record { kind = kind; before = chain.last } ∷ []) count end ≡ types_of nodes chain ++ kind ∷ [])
@@ -149,7 +149,7 @@ shortened nodes n last keeps node stands at le =
 
 -- ---- the types of a chain are written
 
--- so many types are still to be written, and those after them are
+-- n types are still to be written, and those after them are written
 pub written : (nodes : List TypeNode) (n last : ℕ) (node : TypeNode) (written_types all : List VType) → StandTo nodes (suc n) last → slice_get nodes last ≡ Some node → n < length written_types
     → types_to nodes (suc n) last ++ drop (suc n) written_types ≡ all
     → types_to nodes n node.before ++ drop n (slice_set written_types n node.kind) ≡ all

@@ -80,7 +80,7 @@ filled_set n types k kind lt =
     let long : length (slice_set types k kind) ≡ length types = length-set types k kind in
     rw long (sym (set-append_left types (replicate (n - length types) Top) k kind lt))
 
--- after those that are stored, of which more are stored then
+-- a type that is set after those stored; more are stored then
 pub filled_set_after : (n : ℕ) (types : List VType) (k index stored : ℕ) (kind : VType) (resized : List VType) → index ≡ k → stored ≡ length types → length types ≤ k → k < n
     → resized ≡ take (index + 1) types ++ replicate (index + 1 - stored) Top
     → filled n (slice_set resized index kind) ≡ slice_set (filled n types) k kind
@@ -106,7 +106,7 @@ first_filled n m types le =
     let all = filled_count m types in
     first_from n types (m - length types) (omega (arith, all, le))
 
--- as many as there are
+-- the first n of n types are all of them
 pub first_all : (types : List VType) (n : ℕ) → length types ≡ n → first_types n types ≡ types
 first_all types n long =
     let none : n - length types ≡ 0 = omega (arith, long) in

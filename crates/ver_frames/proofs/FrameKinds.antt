@@ -96,7 +96,7 @@ split_by n k false e below above = above (grind (arith, nat_tests, e))
 split : {P : Type 0} (n k : ℕ) → (n ≤ k → P) → (suc k ≤ n → P) → P
 split n k below above = split_by n k (nat_le n k) refl below above
 
--- a frame as it is spelled, with the bytes behind it
+-- a frame as it is spelled, with the bytes after it
 abbrev spelled_so : ℕ → List VType → List VType → List ℕ → Spelled × List ℕ
 spelled_so offset locals stack end = (record { offset = offset; locals = locals; stack = stack }, end)
 
@@ -141,13 +141,13 @@ module _ (m : Subject) (last : Option ℕ) (before : List VType) where
   number_is : (o : Option ℕ) (p q : ℕ) → o ≡ Some p → o ≡ Some q → p ≡ q
   number_is o p q e f = same_some p q (sym e ∙ f)
 
-  -- no type is said where there is no item
+  -- without items no type is said
   nothing : (part : ℕ × List ℕ) (rest : List ℕ) (types : List VType × List ℕ) → part ≡ (0, rest) → SayMany m part.0 part.1 types → (types.0 ≡ []) × (types.1 ≡ rest)
   nothing part rest types e say =
       let none_say = say_none m part.1 types.1 types.0 say.0 (say.1 ∙ ap (λ (p : ℕ × List ℕ). p.0) e) in
       (none_say.0, none_say.1 ∙ ap (λ (p : ℕ × List ℕ). p.1) e)
 
-  -- one type is said where there is one item
+  -- one item says one type
   single : (part : ℕ × List ℕ) (rest : List ℕ) (types : List VType × List ℕ) → part ≡ (1, rest) → SayMany m part.0 part.1 types
       → (type : VType) × (types.0 ≡ type ∷ []) × SaysType m rest type types.1
   single part rest types e say =
@@ -276,7 +276,7 @@ module _ (m : Subject) (last : Option ℕ) (before : List VType) where
       (so_same _ _ _ _ _ _ _ _ (ap (λ (n : ℕ). next_offset last n) two.delta_is) kept_is refl refl ∙ p.read_is)
       (full_frame two.high two.low adds.0 adds.1 pushes.0 pushes.1 p.adds.1 p.pushes.1 p.stack.1 p.locals.0 p.stack.0 (p.locals_are.1 ∙ adds.3) locals (p.stack_is.1 ∙ pushes.3) p.stack_is.0)
 
-  -- a fact of the frames of a tag is one of this tag, where it is that
+  -- a fact of the frames of a number as tag is one of this tag, if the tag is that number
   at_tag : (tag number : ℕ) (rest : List ℕ) (read : Spelled × List ℕ) → number ≤ tag → tag ≤ number → (Parts m last before number rest read → Spells (number ∷ rest) read)
       → Parts m last before tag rest read → Spells (tag ∷ rest) read
   at_tag tag number rest read ge le of p =

@@ -43,7 +43,7 @@ long first found n (Some others) h e =
     let same : ◌≡◌ {A = List VType × List ℕ} (first ∷ others.0, others.1) found = cc in
     subst (λ (p : List VType × List ℕ). length p.0 ≡ suc n) same (ap suc (h others refl))
 
--- there are as many types as items
+-- n items say n types
 items_long : (m : Subject) (n : ℕ) (bytes : List ℕ) (found : List VType × List ℕ) → items m n bytes ≡ Some found → length found.0 ≡ n
 unfolding items
 items_long m zero bytes found e =
@@ -147,7 +147,7 @@ frames_fit m (suc n) last before bytes ds e =
     subst (λ (fs : List (ℕ × Frame)). RiseAndFit m last fs) same
     (fits.after, omega arith, omega (arith, fits.stack), frames_fit m n (Some first.0.0.offset) first.0.0.locals first.0.1 others.0 others.1.0)
 
--- there are as many declared frames as were read
+-- a reading of n frames gives n declared frames
 pub frames_long : (m : Subject) (n : ℕ) (last : Option ℕ) (before : List VType) (bytes : List ℕ) (ds : List (ℕ × Frame)) → frames m n last before bytes ≡ Ok ds → length ds ≡ n
 unfolding frames
 frames_long m zero last before [] ds e =

@@ -14,7 +14,7 @@ use Rattle.ver_frames.specs.declared.vtype.VType.{VType}
 use Rattle.ver_frames.proofs.FrameLimits.{at_most, both, passed, same_read, there}
 use Rattle.ver_frames.proofs.StackMapItems.{SayMany, by_test, items_say, none_some, same_some, types_after, types_again}
 
--- the parts of a frame of this tag, with the bytes behind each
+-- the parts of a frame of this tag, with the bytes after each
 pub record Parts (m : Subject) (last : Option ℕ) (before : List VType) (tag : ℕ) (rest : List ℕ) (read : Spelled × List ℕ) : Type 0 where
   pub distance : ℕ × List ℕ
   pub keeps : ℕ

@@ -1,4 +1,4 @@
--- Reading so many items one after the other, as a loop does.
+-- Reading n items one after the other, as a loop does.
 use Rattle.std.proofs.Common.{◌≡◌, ℕ, suc, ◌-◌, ◌+◌, ◌<◌, ◌≤◌, List, [], ◌∷◌, ◌++◌, Option, Some, None, option_and_then, option_map, refl, ap, append_assoc, arith}
 use Rattle.std.proofs.lemmas.List.{append-nil}
 use Rattle.ver_frames.specs.Method.{Subject}
@@ -25,7 +25,7 @@ items_left m count i front bytes first rest lt here =
     regroup front first None = refl
     regroup front first (Some found) = ap (λ (types : List VType). Some (types, found.1)) (simp append_assoc)
 
--- nothing is read where the next item says no type
+-- nothing is read if the next item says no type
 pub items_end : (m : Subject) (count i : ℕ) (front : List VType) (bytes : List ℕ) → i < count → item m bytes ≡ None
     → with_front front (items m (count - i) bytes) ≡ None
 unfolding items
@@ -33,7 +33,7 @@ items_end m count i front bytes lt here =
     let e : count - i ≡ suc (count - (i + 1)) = omega arith in
     rw (e, here)
 
--- nothing is read with something in front where nothing is read
+-- if nothing is read, nothing is read with something in front either
 pub none_behind_front : (front : List VType) (read : Option (List VType × List ℕ)) → with_front front read ≡ None → read ≡ None
 none_behind_front front None h = refl
 none_behind_front front (Some found) h = cc

@@ -107,13 +107,13 @@ says_after m (uninitialized_this rest) = refl
 says_after m (object high low rest type named) = refl
 says_after m (uninitialized high low rest type made) = refl
 
--- ---- so many
+-- ---- n items
 
--- the items say these types, of which there are so many
+-- n items say these types
 abbrev pub SayMany : Subject → ℕ → List ℕ → List VType × List ℕ → Type 0
 SayMany m n bytes found = SayTypes m bytes found.0 found.1 × (length found.0 ≡ n)
 
--- what is read of so many items they say
+-- what is read of n items they say
 pub items_say : (m : Subject) (n : ℕ) (bytes : List ℕ) (found : List VType × List ℕ) → items m n bytes ≡ Some found → SayMany m n bytes found
 unfolding items
 items_say m zero bytes found e = subst (λ (p : List VType × List ℕ). SayMany m 0 bytes p) (same_some ([], bytes) found e) (none bytes, refl)
@@ -124,13 +124,13 @@ items_say m (suc n) bytes found e =
     subst (λ (p : List VType × List ℕ). SayMany m (suc n) bytes p) others.2
     (one_more bytes first.0.1 others.0.1 first.0.0 others.0.0 (item_says m bytes first.0 first.1.0) say.0, ap suc say.1)
 
--- what so many items say is read of them
+-- what n items say is read of them
 pub types_again : (m : Subject) {bytes rest : List ℕ} {types : List VType} → SayTypes m bytes types rest → items m (length types) bytes ≡ Some (types, rest)
 unfolding items
 types_again m (none rest) = refl
 types_again m (one_more bytes between rest type types first others) = rw (says_again m first, types_again m others) refl
 
--- the bytes after so many items are found without their types
+-- the bytes after n items are found without their types
 pub types_after : (m : Subject) {bytes rest : List ℕ} {types : List VType} → SayTypes m bytes types rest → after_items (length types) bytes ≡ Some rest
 unfolding after_items
 types_after m (none rest) = refl

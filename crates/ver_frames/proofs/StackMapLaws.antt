@@ -34,9 +34,9 @@ frame_again m last before bytes end spelled spells suited =
     let t = spelled_parts m last before spells in
     subst (λ (b : List ℕ). frame m last before b ≡ Ok (spelled, end)) (sym t.bytes_are) (parts_frame m last before t.tag t.rest (spelled, end) t.parts suited)
 
--- ---- so many frames
+-- ---- n frames
 
--- the frames that bytes spell, of which there are so many, and each of which is one of the method
+-- the n frames that bytes spell; each is one of the method
 record Spelling (m : Subject) (n : ℕ) (last : Option ℕ) (before : List VType) (bytes : List ℕ) (declared : List (ℕ × Frame)) : Type 0 where
   spelled : List Spelled
   spells : SpellFrames m last before bytes spelled

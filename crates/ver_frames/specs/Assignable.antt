@@ -1,3 +1,4 @@
+-- Which types and frames may stand for which (JVMS 4.10.1.2, 4.10.1.4).
 use Rattle.std.specs.Prelude.{◌≡◌, ◌⊎◌, Some, List, IsTrue, IsSomeAnd, slice_get, codes, ⊤}
 use Rattle.cls_set.specs.declared.class.Class.{Class}
 use Rattle.space_ids.specs.declared.ids.ClassId.{ClassId}
@@ -8,10 +9,10 @@ use Rattle.cls_set.specs.Subtypes.{IsSubclass}
 use Rattle.ver_frames.specs.declared.vtype.VType.{VType}
 use Rattle.ver_frames.specs.declared.vtype.VType.TheVariants.{Top, Int, Null, Object, IntArray, Uninitialized, UninitializedThis}
 
--- Which types and frames may stand for which (JVMS 4.10.1.2, 4.10.1.4).
+-- ---- types
 
--- an object of the first class may stand where one of the second is asked: the second is an
--- interface, which is treated like java/lang/Object, or a superclass of the first or the first itself
+-- an object of the first class may stand where one of the second is asked: the second is an interface, a superclass of the first, or the
+-- first itself; an interface is treated like java/lang/Object
 abbrev pub IsObjectAssignable : List Class → ClassId → ClassId → Type 0
 IsObjectAssignable classes given asked =
     IsSomeAnd (slice_get classes asked.0) IsInterface ⊎ IsSubclass classes given asked
@@ -32,12 +33,12 @@ IsAssignable classes (Uninitialized made) (Uninitialized asked) = made ≡ asked
 IsAssignable classes UninitializedThis UninitializedThis = ⊤
 IsAssignable classes _ _ = ⊥
 
--- there are as many types as asked, each assignable to the one in its place
+-- the two lists have one length, and each type is assignable to the one asked at its index
 abbrev pub AreAssignable : List Class → List VType → List VType → Type 0
 AreAssignable classes = AllZip (IsAssignable classes)
 
--- a frame may stand where another is asked (JVMS 4.10.1.4): it has as many local variables and
--- operands, each type may stand where the other's is asked, and its flag is set only if the other's is
+-- a frame may stand where another is asked (JVMS 4.10.1.4): both have the same number of local variables and of operands; each type may
+-- stand where the other's is asked; its flag is set only if the other's is
 pub record IsFrameAssignable (classes : List Class) (given asked : Frame) : Type 0 where
   pub locals : AreAssignable classes given.locals asked.locals
   pub stack : AreAssignable classes given.stack asked.stack

@@ -1,5 +1,5 @@
--- Lists of types that share what they begin with, as the frames of one method do. Each type stands at a node of one row,
--- which names the node of the type before it; a list is told by the node of its last type and by how many types it has.
+-- Lists of types that share their fronts, as the frames of one method do. Each type stands at a node of one row, which names the node of
+-- the type before it. A list is given by the node of its last type and by its length.
 use Rattle.std.specs.Prelude.{◌≡◌, ℕ, zero, suc, List, [], ◌∷◌, ◌++◌, slice_get, IsSomeAnd}
 use Rattle.std.specs.List.{AllByRecursion}
 use Rattle.std.specs.Option.{option_map_or}
@@ -10,13 +10,13 @@ use Rattle.ver_frames.specs.declared.chain.TypeNode.{TypeNode}
 use Rattle.ver_frames.specs.declared.raw_frame.RawFrame.{RawFrame}
 use Rattle.ver_frames.specs.declared.vtype.VType.{VType}
 
--- so many types, the last of which stands at this node
+-- `count` types, the last of which stands at this node
 unfoldable pub types_to : List TypeNode → ℕ → ℕ → List VType
 types_to nodes zero last = []
 types_to nodes (suc n) last =
     option_map_or (λ (node : TypeNode). types_to nodes n node.before ++ node.kind ∷ []) (slice_get nodes last) []
 
--- so many types stand in the row, the last of them at this node
+-- `count` types stand in the row, the last of them at this node
 unfoldable pub StandTo : List TypeNode → ℕ → ℕ → Type 0
 StandTo nodes zero last = Unit {0}
 StandTo nodes (suc n) last = IsSomeAnd (slice_get nodes last) (λ (node : TypeNode). StandTo nodes n node.before)

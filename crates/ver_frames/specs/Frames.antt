@@ -1,3 +1,4 @@
+-- Type frames: the types of a method's local variables and operands at an instruction (JVMS 4.10.1.4).
 use Rattle.std.specs.Prelude.{ℕ, ◌-◌, Bool, List, ◌++◌, length, replicate, take}
 use Rattle.ver_frames.specs.declared.vtype.VType.{VType}
 use Rattle.ver_frames.specs.declared.vtype.VType.TheVariants.{Top}
@@ -9,10 +10,10 @@ pub record Frame : Type 0 where
   pub stack : List VType
   pub flag_this_uninit : Bool
 
--- the types, and top up to so many
+-- the types, and top up to n of them
 abbrev pub filled : ℕ → List VType → List VType
 filled n types = types ++ replicate (n - length types) Top
 
--- the first n types, top where there are no more
+-- the first n types, top after the last
 abbrev pub first_types : ℕ → List VType → List VType
 first_types n types = take n (filled n types)

@@ -1,3 +1,4 @@
+-- What the answer of reading a StackMapTable says: what its definition reads, or the first fault, unless memory ran out.
 use Rattle.std.specs.Prelude.{◌≡◌, Option, Some, None, Result, Ok, Err}
 use Rattle.ver_frames.specs.declared.fault.StackMapFault.{StackMapFault}
 use Rattle.ver_frames.specs.declared.fault.StackMapFault.TheVariants as fault
@@ -7,7 +8,7 @@ abbrev pub Finds : {X Y : Type 0} → (X → Y) → Option X → Option Y → Ty
 Finds view (Some x) read = read ≡ Some (view x)
 Finds view None read = read ≡ None
 
--- a function fails as reading does, or for want of memory
+-- a function fails as reading does, or is out of memory
 abbrev pub Fails : {Y : Type 0} → StackMapFault → Result Y StackMapFault → Type 0
 Fails fault.Memory read = Unit {0}
 Fails (fault.Broken rule at) read = read ≡ Err (fault.Broken rule at)

@@ -1,8 +1,9 @@
+-- Frames keep to max_locals and max_stack of their method (JVMS 4.7.3, 4.7.4).
 use Rattle.std.specs.Prelude.{ℕ, ◌≤◌, length}
 use Rattle.ver_frames.specs.Frames.{Frame}
 use Rattle.ver_frames.specs.Method.{Subject}
 
--- Frames keep to max_locals and max_stack of their method (JVMS 4.7.3, 4.7.4).
+-- ---- declared frames
 
 -- a declared frame has no more local variables and operands than the method
 pub record FitsMethod (m : Subject) (declared : ℕ × Frame) : Type 0 where

@@ -1,3 +1,4 @@
+-- A method whose frames are declared (JVMS 4.6, 4.7.3).
 use Rattle.std.specs.Prelude.{Bool, not, ◌==◌, ◌&&◌, if◌then◌else◌, Option, List, [], ◌∷◌, ◌++◌, map, bit_and, bytes_eq, codes, option_map}
 use Rattle.cf_reader.specs.declared.class_file.Method.{Method}
 use Rattle.cf_reader.specs.declared.class_file.Code.{Code}
@@ -9,10 +10,9 @@ use Rattle.ver_frames.specs.Types.{field_vtype}
 use Rattle.ver_frames.specs.declared.vtype.VType.{VType}
 use Rattle.ver_frames.specs.declared.vtype.VType.TheVariants.{Object, UninitializedThis}
 
--- A method whose frames are declared (JVMS 4.6, 4.7.3).
+-- ---- methods with code
 
--- a method with code: the set that it is linked in, its class and that class's number, its
--- declaration, and its code as read and as linked
+-- a method with code: its linked set, its class and that class's number, its declaration, and its code as read and as linked
 pub record Subject : Type 0 where
   pub classes : List Class
   pub class_id : ClassId
@@ -25,13 +25,13 @@ pub record Subject : Type 0 where
 abbrev pub is_static : Method → Bool
 is_static method = not (bit_and method.flags.bits 0x0008 == 0)
 
--- whether its receiver is not initialized as it begins: an <init>, but not that of a built-in class,
--- which calls no other <init> (a rule of this project; java/lang/Object is one of them)
+-- whether its receiver is not initialized as it begins: it is an <init>, but not that of a built-in class such as java/lang/Object, which
+-- calls no other <init> (a rule of this project)
 unfoldable pub begins_uninit : Subject → Bool
 begins_uninit m =
     not (is_static m.method) && (not m.class.is_built_in && bytes_eq m.method.name (codes "<init>"))
 
--- the type of the receiver, where there is one
+-- the type of the receiver, if there is one
 unfoldable pub receiver_types : Subject → List VType
 receiver_types m =
     if is_static m.method then []
@@ -49,6 +49,6 @@ opening m = record {
   flag_this_uninit = begins_uninit m;
 }
 
--- the type of the result, where there is one
+-- the type of the result, if there is one
 unfoldable pub result_type : Subject → Option VType
 result_type m = option_map (field_vtype m.classes) m.method.types.result

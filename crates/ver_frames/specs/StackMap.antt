@@ -1,3 +1,4 @@
+-- How the frames of a StackMapTable (JVMS 4.7.4) are read, from left to right, up to the first fault.
 use Rattle.std.specs.Prelude.{ℕ, zero, suc, ◌+◌, ◌-◌, ◌*◌, Bool, true, ◌&&◌, ◌||◌, ◌==◌, nat_lt, nat_le, if◌then◌else◌, Option, Some, None, option_and_then, option_map, Result, Ok, Err, List, [], ◌∷◌, ◌++◌, length, take, unwrap_or}
 use Rattle.std.specs.List.{list_any}
 use Rattle.std.specs.Option.{option_map_or}
@@ -11,8 +12,7 @@ use Rattle.ver_frames.specs.declared.fault.StackMapRule.TheVariants.{Reserved, C
 use Rattle.ver_frames.specs.declared.vtype.VType.{VType}
 use Rattle.ver_frames.specs.declared.vtype.VType.TheVariants.{Top, Int, Null, UninitializedThis}
 
--- How the frames that a StackMapTable declares (JVMS 4.7.4) are read, from left to right, with the first
--- fault that is met. What is read is a value and the bytes after it.
+-- What is read is a value and the bytes after it.
 
 infixl 10 ◌>>=◌
 abbrev pub ◌>>=◌ : {A B : Type 0} → Result A StackMapFault → (A → Result B StackMapFault) → Result B StackMapFault
@@ -46,7 +46,7 @@ item m (tag ∷ rest) =
     else (if tag == 8 then option_and_then (λ offset. option_map (λ t. (t, offset.1)) (made_type m offset.0)) (u2 rest)
     else None)))))
 
--- the types that so many items say
+-- the types that n items say
 unfoldable pub items : Subject → ℕ → List ℕ → Option (List VType × List ℕ)
 items m zero bytes = Some ([], bytes)
 items m (suc n) bytes =
@@ -56,26 +56,26 @@ items m (suc n) bytes =
 abbrev pub with_front : List VType → Option (List VType × List ℕ) → Option (List VType × List ℕ)
 with_front front read = option_map (λ found. (front ++ found.0, found.1)) read
 
--- the bytes after an item, where its tag is one of the format's
+-- the bytes after an item, if its tag is one of the format's
 unfoldable pub after_item : List ℕ → Option (List ℕ)
 after_item [] = None
 after_item (tag ∷ rest) =
     if nat_lt tag 7 then Some rest
     else (if nat_lt tag 9 then option_map (λ index. index.1) (u2 rest) else None)
 
--- the bytes after so many items
+-- the bytes after n items
 unfoldable pub after_items : ℕ → List ℕ → Option (List ℕ)
 after_items zero bytes = Some bytes
 after_items (suc n) bytes = option_and_then (after_items n) (after_item bytes)
 
--- how far a frame is from the one before it, by its tag: none where the tag is reserved, or no byte
+-- how far a frame is from the one before it, by its tag: none if the tag is reserved, or no byte
 unfoldable pub delta : ℕ → List ℕ → Option (ℕ × List ℕ)
 delta tag rest =
     if nat_lt tag 64 then Some (tag, rest)
     else (if nat_lt tag 128 then Some (tag - 64, rest)
     else (if nat_lt tag 247 || nat_lt 255 tag then None else u2 rest))
 
--- of so many local variables of the frame before, how many a frame keeps
+-- how many of the `count` local variables of the frame before a frame keeps
 unfoldable pub kept : ℕ → ℕ → Option ℕ
 kept tag count =
     if tag == 255 then Some 0
@@ -88,7 +88,7 @@ added tag rest =
     if tag == 255 then u2 rest
     else (if nat_lt 251 tag then Some (tag - 251, rest) else Some (0, rest))
 
--- how many operands a frame has, behind its further local variables
+-- how many operands a frame has, after its further local variables
 unfoldable pub operands : ℕ → List ℕ → Option (ℕ × List ℕ)
 operands tag rest =
     if tag == 255 then u2 rest
@@ -119,7 +119,7 @@ frame m last before (tag ∷ rest) = do
   distance ← or_broken Reserved (unwrap_or last 0) (delta tag rest)
   frame_behind m (next_offset last distance.0) before tag distance.1
 
--- so many frames, each with its offset, and no byte after them
+-- n frames, each with its offset, and no byte after them
 unfoldable pub frames : Subject → ℕ → Option ℕ → List VType → List ℕ → Result (List (ℕ × Frame)) StackMapFault
 frames m zero last before [] = Ok []
 frames m zero last before (byte ∷ rest) = Err (Broken Reserved (unwrap_or last 0))
@@ -128,17 +128,17 @@ frames m (suc n) last before bytes = do
   others ← frames m n (Some first.0.offset) first.0.locals first.1
   Ok (declared_by m first.0 ∷ others)
 
--- the frames of a StackMapTable behind its length
+-- the frames of a StackMapTable after its length
 unfoldable pub frames_of_table : Subject → List ℕ → Result (List (ℕ × Frame)) StackMapFault
 frames_of_table m bytes = do
   count ← or_broken Reserved 0 (u2 bytes)
   frames m count.0 None (argument_types m) count.1
 
--- the frames of a StackMapTable, where there is one
+-- the frames of a StackMapTable, if there is one
 abbrev pub frames_of : Subject → Option (List ℕ) → Result (List (ℕ × Frame)) StackMapFault
 frames_of m None = Ok []
 frames_of m (Some bytes) = frames_of_table m bytes
 
--- the frames that a method declares, in the order of their offsets: none where it has no table
+-- the frames that a method declares, in the order of their offsets: none if it has no table
 unfoldable pub declared_frames : Subject → Result (List (ℕ × Frame)) StackMapFault
 declared_frames m = frames_of m m.code.stack_map_table

@@ -27,7 +27,7 @@ object_type m index = option_and_then named (class_at m.class.file.pool index)
 unfoldable pub made_type : Subject → ℕ → Option VType
 made_type m offset = option_map (λ class. Uninitialized offset) (made_at m.linked.insns m.linked.offsets offset)
 
--- The bytes begin with an item that says the type, and these bytes are behind it. An item of a long, a float or a double
+-- The bytes begin with an item that says the type, and these bytes are after it. An item of a long, a float or a double
 -- says no type of this project's profile.
 pub data SaysType (m : Subject) : List ℕ → VType → List ℕ → Type 0 where
   -- Top_variable_info
@@ -38,14 +38,14 @@ pub data SaysType (m : Subject) : List ℕ → VType → List ℕ → Type 0 whe
   null : (rest : List ℕ) → SaysType m (5 ∷ rest) Null rest
   -- UninitializedThis_variable_info
   uninitialized_this : (rest : List ℕ) → SaysType m (6 ∷ rest) UninitializedThis rest
-  -- Object_variable_info: behind the tag the index of a Class entry
+  -- Object_variable_info: after the tag the index of a Class entry
   object : (high low : ℕ) (rest : List ℕ) (type : VType) → object_type m (two_bytes high low) ≡ Some type
       → SaysType m (7 ∷ high ∷ low ∷ rest) type rest
-  -- Uninitialized_variable_info: behind the tag the offset of a `new`
+  -- Uninitialized_variable_info: after the tag the offset of a `new`
   uninitialized : (high low : ℕ) (rest : List ℕ) (type : VType) → made_type m (two_bytes high low) ≡ Some type
       → SaysType m (8 ∷ high ∷ low ∷ rest) type rest
 
--- the bytes begin with items that say the types, one behind the other, and these bytes are behind them
+-- the bytes begin with items that say the types, one after the other, and these bytes are after them
 pub data SayTypes (m : Subject) : List ℕ → List VType → List ℕ → Type 0 where
   none : (rest : List ℕ) → SayTypes m rest [] rest
   one_more : (bytes between rest : List ℕ) (type : VType) (types : List VType) → SaysType m bytes type between → SayTypes m between types rest
@@ -66,11 +66,11 @@ abbrev pub next_offset : Option ℕ → ℕ → ℕ
 next_offset None delta = delta
 next_offset (Some last) delta = last + delta + 1
 
--- the frame with this offset_delta behind the last one, with these local variables and operands
+-- the frame with this offset_delta after the last one, with these local variables and operands
 abbrev pub spelled_frame : Option ℕ → ℕ → List VType → List VType → Spelled
 spelled_frame last delta locals stack = record { offset = next_offset last delta; locals = locals; stack = stack }
 
--- The bytes begin with a frame behind one at this last offset with these local variables, and these bytes are behind it.
+-- The bytes begin with a frame after one at this last offset with these local variables, and these bytes are after it.
 -- Before the first frame there is no last offset, and the local variables are those of the method's arguments. Each kind
 -- of frame has its tags; a tag of none of them (128 to 246) is reserved, and spells no frame.
 pub data SpellsFrame (m : Subject) (last : Option ℕ) (before : List VType) : List ℕ → Spelled → List ℕ → Type 0 where
@@ -91,16 +91,16 @@ pub data SpellsFrame (m : Subject) (last : Option ℕ) (before : List VType) : L
   -- Tag 251: the same local variables, and no operand. The offset_delta is given.
   same_frame_extended : (high low : ℕ) (rest : List ℕ)
       → SpellsFrame m last before (251 ∷ high ∷ low ∷ rest) (spelled_frame last (two_bytes high low) before []) rest
-  -- Tags 252 to 254: the same local variables, and k additional ones behind them, and no operand. k is the tag less 251.
+  -- Tags 252 to 254: the same local variables, and k additional ones after them, and no operand. k is the tag less 251.
   append_frame : (high low : ℕ) (bytes rest : List ℕ) (additional : List VType) → 1 ≤ length additional → length additional ≤ 3 → SayTypes m bytes additional rest
       → SpellsFrame m last before ((251 + length additional) ∷ high ∷ low ∷ bytes) (spelled_frame last (two_bytes high low) (before ++ additional) []) rest
-  -- Tag 255: all local variables behind their number, and all operands behind theirs, the one on top last.
+  -- Tag 255: all local variables after their number, and all operands after theirs, the one on top last.
   full_frame : (high low locals_high locals_low stack_high stack_low : ℕ) (bytes between rest : List ℕ) (locals stack : List VType)
       → length locals ≡ two_bytes locals_high locals_low → SayTypes m bytes locals (stack_high ∷ stack_low ∷ between)
       → length stack ≡ two_bytes stack_high stack_low → SayTypes m between stack rest
       → SpellsFrame m last before (255 ∷ high ∷ low ∷ locals_high ∷ locals_low ∷ bytes) (spelled_frame last (two_bytes high low) locals stack) rest
 
--- the bytes are frames, each behind the one before it, and no byte is behind the last
+-- the bytes are frames, each after the one before it, and no byte is after the last
 pub data SpellFrames (m : Subject) : Option ℕ → List VType → List ℕ → List Spelled → Type 0 where
   none : (last : Option ℕ) (before : List VType) → SpellFrames m last before [] []
   one_more : (last : Option ℕ) (before : List VType) (bytes rest : List ℕ) (first : Spelled) (others : List Spelled)
@@ -109,7 +109,7 @@ pub data SpellFrames (m : Subject) : Option ℕ → List VType → List ℕ → 
 
 -- ---- the table
 
--- a table behind its length: the number of its frames, and so many frames
+-- a table after its length: the number of its frames, and that many frames
 pub record SpellsTable (m : Subject) (bytes : List ℕ) (spelled : List Spelled) : Type 0 where
   pub high : ℕ
   pub low : ℕ
@@ -131,7 +131,7 @@ is_uninit_this UninitializedThis = true
 is_uninit_this _ = false
 
 -- the frame that is declared by one with these local variables and operands, the one on top last:
--- its flag is set exactly where a local variable is uninitializedThis
+-- its flag is set exactly if a local variable is uninitializedThis
 abbrev pub declared_frame : ℕ → List VType → List VType → Frame
 declared_frame max_locals locals stack = record {
   locals = filled max_locals locals;

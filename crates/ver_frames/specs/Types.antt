@@ -1,3 +1,4 @@
+-- The verification type of a field type (JVMS 4.10.1.2).
 use Rattle.std.specs.Prelude.{Bool, true, false, ◌==◌, ◌&&◌, if◌then◌else◌, List}
 use Rattle.std.specs.Option.{option_map_or}
 use Rattle.cf_text.specs.declared.types.ElementType.{ElementType}

@@ -13,7 +13,8 @@ use super::chain::{TypeChain, TypeNodes};
 use super::{DeclaredFrame, TypeFrame, VType};
 use cls_set::{ClassId, ClassSet};
 
-/// Whether a value of the first type may stand where the second is asked. It takes no memory.
+/// Returns whether a value of the first type may stand where the second is asked. It takes no
+/// memory.
 #[tactic(auto, unfolding(crate::specs::Assignable::IsAssignable, crate::specs::AssignableTest::is_assignable))]
 pub fn assignable(classes: &ClassSet, given: VType, asked: VType) -> bool
     ensures decides { IsTrue result ↔ IsAssignable classes.now given asked }
@@ -77,8 +78,8 @@ fn type_at(types: &[VType], index: usize) -> VType
     }
 }
 
-// Whether each type of a chain is one that the type in its place may stand for, which is top after
-// the last.
+// Whether the type at each index may stand where the chain's type is asked; after the last type
+// stands top.
 fn chain_assignable(
     classes: &ClassSet,
     given: &[VType],
@@ -101,7 +102,7 @@ fn chain_assignable(
     true
 }
 
-// Whether there are as many local variables as asked, each assignable to the one of its number.
+// Whether both frames have the same number of local variables, each assignable to the one asked.
 fn locals_assignable(classes: &ClassSet, given: &TypeFrame, asked: &DeclaredFrame) -> bool
     ensures { IsTrue result ↔ AreAssignable classes.now given.now.locals asked.now.locals }
 {
@@ -112,7 +113,8 @@ fn locals_assignable(classes: &ClassSet, given: &TypeFrame, asked: &DeclaredFram
     chain_assignable(classes, given.stored_locals(), nodes, asked.locals)
 }
 
-// Whether there are as many operands as asked, each assignable to the one in its place.
+// Whether both frames have the same number of operands, each assignable to the one asked at its
+// index.
 fn stack_assignable(classes: &ClassSet, given: &TypeFrame, asked: &DeclaredFrame) -> bool
     ensures { IsTrue result ↔ AreAssignable classes.now given.now.stack asked.now.stack }
 {
@@ -124,7 +126,7 @@ fn stack_assignable(classes: &ClassSet, given: &TypeFrame, asked: &DeclaredFrame
     chain_assignable(classes, stack, nodes, asked.stack)
 }
 
-/// Whether a frame may stand where the declared one is asked. It takes no memory.
+/// Returns whether a frame may stand where the declared one is asked. It takes no memory.
 pub fn frame_assignable(classes: &ClassSet, given: &TypeFrame, asked: &DeclaredFrame) -> bool
     ensures { IsTrue result ↔ IsFrameAssignable classes.now given.now asked.now }
 {

@@ -1,7 +1,8 @@
-//! Lists of types that share what they begin with.
+//! Lists of types that share their fronts.
 //!
-//! The frames of a StackMapTable mostly repeat the local variables of the frame before. So the types
-//! of a method's frames stand in one row of nodes, and a list is told by the node of its last type.
+//! The frames of a StackMapTable mostly repeat the local variables of the frame before. So the
+//! types of a method's frames stand in one row of nodes, and a list is given by the node of its
+//! last type.
 
 ghost use Rattle.std.specs.Prelude.{◌≡◌};
 ghost use Rattle.ver_frames.specs.StackMapFormat.{is_uninit_this};
@@ -98,7 +99,7 @@ impl TypeNodes {
         })
     }
 
-    // A chain of these types. If memory runs out, what stood stands.
+    // A chain of these types. If memory runs out, the nodes before it stay.
     pub(crate) fn append_all(&mut self, types: &[VType]) -> Result<TypeChain, AllocError>
         ensures types { IfOk result (λ chain. types_of self.new chain ≡ types.now) }
         ensures stands { IfOk result (Stands self.new) }
@@ -127,7 +128,7 @@ impl TypeNodes {
         TypeChain { last, count }
     }
 
-    // Writes the types of a chain over others, as many.
+    // Writes the types of a chain over `types`, which has the chain's length.
     pub(crate) fn write(&self, chain: TypeChain, types: &mut Vec<VType>)
         requires stands { Stands self.now chain }
         requires long { length types.old.items ≡ chain.count }

@@ -7,8 +7,8 @@ use std::marker::Model;
 /// The frames that a method declares, each with its offset. A contract sees them as the list of
 /// these pairs, in the order of the offsets.
 ///
-/// They take memory for what the StackMapTable spells, and not for the local variables that a frame
-/// keeps of the one before it or that are top up to `max_locals`.
+/// They take memory for what the StackMapTable spells. Local variables that a frame keeps of the
+/// one before it, or that are top up to `max_locals`, take none.
 #[derive(Debug, Drop)]
 pub struct DeclaredFrames {
     pub(crate) nodes: TypeNodes,
@@ -54,21 +54,21 @@ impl<'a> Model for DeclaredFrame<'a> {
 impl DeclaredFrames {
     ghost use Rattle.std.specs.Prelude.{◌≡◌, ◌==◌, length, option_map, slice_get};
 
-    /// How many there are.
+    /// Returns how many frames there are.
     pub fn len(&self) -> usize
         ensures { result ≡ length self.now }
     {
         self.frames.len()
     }
 
-    /// Whether there are none.
+    /// Returns whether there are no frames.
     pub fn is_empty(&self) -> bool
         ensures { result ≡ (length self.now == 0) }
     {
         self.frames.len() == 0
     }
 
-    /// The offset of the frame at an index: `None` past the last.
+    /// Returns the offset of the frame at an index: `None` past the last.
     pub fn offset(&self, index: usize) -> Option<u16>
         ensures { result ≡ option_map (λ frame. frame.0) (slice_get self.now index) }
     {
@@ -76,7 +76,7 @@ impl DeclaredFrames {
         Some(frame.offset)
     }
 
-    /// The frame at an index: `None` past the last. It takes no memory.
+    /// Returns the frame at an index: `None` past the last. It takes no memory.
     pub fn get(&self, index: usize) -> Option<DeclaredFrame<'_>>
         ensures { result ≡ option_map (λ frame. frame.1) (slice_get self.now index) }
     {
@@ -93,7 +93,7 @@ impl DeclaredFrames {
 impl DeclaredFrame<'_> {
     ghost use Rattle.std.specs.Prelude.{◌≡◌, length};
 
-    /// How many local variables there are.
+    /// Returns how many local variables there are.
     pub fn local_count(&self) -> usize
         ensures { result ≡ length self.now.locals }
     {
@@ -102,7 +102,8 @@ impl DeclaredFrame<'_> {
         if spelled < all { all } else { spelled }
     }
 
-    /// Whether a local variable is the receiver of an `<init>` that has called no other `<init>` yet.
+    /// Returns whether a local variable is the receiver of an `<init>` that has called no other
+    /// `<init>` yet.
     pub fn flag_this_uninit(&self) -> bool
         ensures { result ≡ self.now.flag_this_uninit }
     {

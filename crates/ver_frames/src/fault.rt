@@ -1,4 +1,4 @@
-//! Faults of a StackMapTable: the rule that is broken, and where.
+//! Faults of a StackMapTable: the broken rule, and the offset.
 
 ghost use Rattle.std.specs.Prelude.{◌≡◌, Some};
 ghost use Rattle.ver_frames.specs.declared.fault.StackMapFault.TheVariants.{Memory};
@@ -18,10 +18,10 @@ pub enum StackMapRule {
     Chop = 51,
     /// A frame has more local variables or operands than the method.
     Locals = 52,
-    /// A frame stands at no instruction.
+    /// The offset of a frame is not the start of an instruction.
     Offset = 53,
-    /// The type of a local variable or operand is none of this project's profile, names no class of
-    /// the class set, or no `new`.
+    /// The type of a local variable or operand is not of this project's profile, or names no class
+    /// of the class set, or no `new`.
     Kind = 54,
 }
 
@@ -50,8 +50,8 @@ impl Numbered for StackMapRule {
 /// Why a StackMapTable declares no frames.
 #[derive(Clone, Copy, Debug, PartialEq, Eq, Error)]
 pub enum StackMapFault {
-    /// The rule is broken by the frame at this offset of the code. Where the frame's own offset
-    /// cannot be known, it is that of the frame before, or 0 for the first.
+    /// The rule is broken by the frame at this offset of the code. If the frame's own offset cannot
+    /// be known, it is that of the frame before, or 0 for the first.
     #[error("{rule}")]
     Broken { rule: StackMapRule, at: usize },
     /// Memory ran out.

@@ -35,8 +35,8 @@ impl TypeFrame {
     ghost use Rattle.ver_frames.specs.Changes.{changed, is_made_at, map_locals, map_types};
     ghost use Rattle.ver_frames.specs.Frames.{filled};
 
-    /// The frame of these local variables by number, those after them up to `max_locals` being top,
-    /// and of these operands, the one on top last. It takes no memory.
+    /// Returns the frame of these local variables by number, and of these operands, the one on top
+    /// last. Local variables after them, up to `max_locals`, are top. It takes no memory.
     pub fn new(
         max_locals: u16,
         locals: Vec<VType>,
@@ -53,7 +53,7 @@ impl TypeFrame {
         }
     }
 
-    /// How many local variables there are.
+    /// Returns how many local variables there are.
     pub fn local_count(&self) -> usize
         ensures { result ≡ length self.now.locals }
     {
@@ -62,7 +62,7 @@ impl TypeFrame {
         if stored < all { all } else { stored }
     }
 
-    /// The type of a local variable: `None` if there is none of this number.
+    /// Returns the type of a local variable: `None` if there is none of this number.
     pub fn local(&self, number: u16) -> Option<VType>
         ensures { result ≡ slice_get self.now.locals number }
     {
@@ -80,21 +80,21 @@ impl TypeFrame {
         &self.locals
     }
 
-    /// The types of the operands, the one on top last.
+    /// Returns the types of the operands, the one on top last.
     pub fn stack(&self) -> &[VType]
         ensures { reverse result.now ≡ self.now.stack }
     {
         &self.stack
     }
 
-    /// How many operands there are.
+    /// Returns how many operands there are.
     pub fn depth(&self) -> usize
         ensures { result ≡ length self.now.stack }
     {
         self.stack.len()
     }
 
-    /// Whether this is an `<init>` that has called no other `<init>` yet.
+    /// Returns whether this is an `<init>` that has called no other `<init>` yet.
     pub fn flag_this_uninit(&self) -> bool
         ensures { result ≡ self.now.flag_this_uninit }
     {
@@ -110,7 +110,7 @@ impl TypeFrame {
         Ok(())
     }
 
-    /// Takes the operand off the top: `None` if there is no operand.
+    /// Takes the operand on top off, and returns it: `None` if there is no operand.
     pub fn pop(&mut self) -> Option<VType>
         ensures { MatchOption result
             ((self.old.stack ≡ []) × (self.new ≡ self.old))
@@ -157,14 +157,14 @@ impl TypeFrame {
         self.flag_this_uninit = false;
     }
 
-    /// Whether an operand is what the `new` at this offset made.
+    /// Returns whether an operand is what the `new` at this offset made.
     pub fn has_made_at(&self, offset: u16) -> bool
         ensures { result ≡ list_any (is_made_at offset) self.now.stack }
     {
         any_made_at(offset, &self.stack)
     }
 
-    /// Becomes the frame that is declared. If memory runs out, nothing changes.
+    /// Becomes the declared frame. If memory runs out, nothing changes.
     pub fn copy_from(&mut self, declared: &DeclaredFrame) -> Result<(), AllocError>
         ensures ok { OnOk result (self.new ≡ declared.now) }
         ensures err { OnErr result (self.new ≡ self.old) }

@@ -61,8 +61,8 @@ fn item<'a>(method: &MethodView, bytes: &'a [u8]) -> Option<(VType, &'a [u8])>
     }
 }
 
-// The chain with the types that so many items say at its end, and the bytes after them: `None` if an
-// item says none.
+// The chain with the types that `count` items say at its end, and the bytes after them: `None` if
+// an item says none.
 pub(crate) fn append_items<'a>(
     nodes: &mut TypeNodes,
     chain: TypeChain,

@@ -17,7 +17,7 @@ pub(crate) fn u2(bytes: &[u8]) -> Option<(u16, &[u8])>
     }
 }
 
-// The bytes after an item, where its tag is one of the format's.
+// The bytes after an item, if its tag is one of the format's.
 #[tactic(auto, unfolding(crate::specs::StackMap::after_item))]
 fn after_item(bytes: &[u8]) -> Option<&[u8]>
     ensures { Finds (λ x. x.now) result (after_item bytes.now) }
@@ -35,7 +35,7 @@ fn after_item(bytes: &[u8]) -> Option<&[u8]>
     }
 }
 
-// The bytes after so many items.
+// The bytes after `count` items.
 #[tactic(auto, using(crate::proofs::Loops::after_items_left), unfolding(crate::specs::StackMap::after_items))]
 fn after_items(count: u16, bytes: &[u8]) -> Option<&[u8]>
     ensures { Finds (λ x. x.now) result (after_items count bytes.now) }
@@ -64,8 +64,8 @@ pub(crate) fn delta(tag: u8, rest: &[u8]) -> Option<(u16, &[u8])>
     u2(rest)
 }
 
-// Of so many local variables of the frame before, how many a frame of this tag keeps: none where it
-// takes away more than there are.
+// How many of the `count` local variables of the frame before a frame of this tag keeps: `None` if
+// it takes away more than there are.
 #[tactic(auto, unfolding(crate::specs::StackMap::kept))]
 pub(crate) fn kept(tag: u8, count: usize) -> Option<usize>
     ensures kept { result ≡ kept tag count }
@@ -94,7 +94,7 @@ pub(crate) fn added(tag: u8, rest: &[u8]) -> Option<(u16, &[u8])>
     Some((0, rest))
 }
 
-// How many operands a frame of this tag has, and the bytes of their items, behind those of its
+// How many operands a frame of this tag has, and the bytes of their items, after those of its
 // further local variables.
 #[tactic(auto, unfolding(crate::specs::StackMap::operands))]
 fn operands(tag: u8, rest: &[u8]) -> Option<(u16, &[u8])>
@@ -109,8 +109,8 @@ fn operands(tag: u8, rest: &[u8]) -> Option<(u16, &[u8])>
     Some((0, rest))
 }
 
-// How many operands a frame of this tag has, and the bytes of their items, which follow those of so
-// many further local variables.
+// How many operands a frame of this tag has, and the bytes of their items, which follow those of
+// `adds` further local variables.
 pub(crate) fn operands_after(tag: u8, adds: u16, added: &[u8]) -> Option<(u16, &[u8])>
     ensures { Finds (λ x. (x.0, x.1.now)) result (option_and_then (operands tag) (after_items adds added.now)) }
 {

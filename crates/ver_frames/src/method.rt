@@ -45,7 +45,7 @@ impl MethodView<'_> {
     ghost use Rattle.ver_frames.specs.Made.{made_at};
     ghost use Rattle.ver_frames.specs.Method.{begins_uninit, argument_types, opening, result_type};
 
-    /// Whether its receiver is not initialized as it begins.
+    /// Returns whether its receiver is not initialized as it begins.
     #[tactic(auto, unfolding(crate::specs::Method::begins_uninit))]
     pub fn begins_uninit(&self) -> bool
         ensures { result ≡ begins_uninit self.now }
@@ -55,7 +55,7 @@ impl MethodView<'_> {
             && self.method.name.is(b"<init>")
     }
 
-    /// The types of the receiver and the parameters, which are the first local variables.
+    /// Returns the types of the receiver and the parameters, which are the first local variables.
     #[tactic(auto, unfolding(crate::specs::Method::receiver_types, crate::specs::Method::argument_types))]
     pub fn argument_types(&self, alloc: Global) -> Result<Vec<VType>, AllocError>
         ensures { IfOk result (λ types. types.items ≡ argument_types self.now) }
@@ -74,7 +74,7 @@ impl MethodView<'_> {
         Ok(types)
     }
 
-    /// The frame in which it begins.
+    /// Returns the frame in which it begins.
     #[tactic(auto, unfolding(crate::specs::Method::opening))]
     pub fn opening(&self, alloc: Global) -> Result<TypeFrame, AllocError>
         ensures { IfOk result (λ frame. frame ≡ opening self.now) }
@@ -88,8 +88,8 @@ impl MethodView<'_> {
         ))
     }
 
-    /// The class that the `new` at an offset makes an object of: `None` if no `new` stands there. It
-    /// takes time by the logarithm of the number of instructions.
+    /// Returns the class of which the `new` at an offset makes an object: `None` if no `new` stands
+    /// there. Its time grows with the logarithm of the number of instructions.
     #[tactic(auto, unfolding(crate::specs::Made::made_at))]
     pub fn made_at(&self, offset: u16) -> Option<ClassId>
         // The offsets of the method's instructions rise.
@@ -101,7 +101,7 @@ impl MethodView<'_> {
         new_class(*insn)
     }
 
-    /// The type of its result, where there is one.
+    /// Returns the type of its result, if there is one.
     #[tactic(auto, unfolding(crate::specs::Method::result_type))]
     pub fn result_type(&self) -> Option<VType>
         ensures { result ≡ result_type self.now }
@@ -134,7 +134,8 @@ fn new_class(insn: LinkedInsn) -> Option<ClassId>
     }
 }
 
-/// The verification type of a field type (JVMS 4.10.1.2); one out of this project's profile is top.
+/// Returns the verification type of a field type (JVMS 4.10.1.2); one out of this project's profile
+/// is top.
 #[tactic(auto, unfolding(crate::specs::Types::field_vtype))]
 pub fn field_vtype(classes: &ClassSet, kind: &FieldType) -> VType
     ensures { result ≡ field_vtype classes.now kind.now }

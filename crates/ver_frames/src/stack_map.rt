@@ -26,7 +26,7 @@ fn broken<T>(rule: StackMapRule, at: usize) -> Result<T, StackMapFault>
     Err(StackMapFault::Broken { rule, at })
 }
 
-// The offset, where it is among these.
+// The offset, if it is among these.
 fn find_offset(offsets: &[u16], at: usize) -> Option<u16>
     requires { IsStrictlyIncreasing offsets.now }
     ensures { result ≡ (if list_any (λ start. start == at) offsets.now then Some at else None) }
@@ -41,7 +41,7 @@ fn find_offset(offsets: &[u16], at: usize) -> Option<u16>
     }
 }
 
-// The offset, where an instruction stands at it.
+// The offset, if an instruction stands at it.
 fn start_at(method: &MethodView, at: usize) -> Option<u16>
     requires { IsStrictlyIncreasing method.now.linked.offsets }
     ensures { result ≡ (if is_start method.now at then Some at else None) }
@@ -145,7 +145,7 @@ fn argument_chain(
     nodes.append_all(&types)
 }
 
-// So many frames, each with its offset, and no byte after them.
+// `count` frames, each with its offset, and no byte after them.
 fn frames(
     alloc: Global,
     method: &MethodView,
@@ -199,13 +199,14 @@ fn declared_or_none(alloc: Global, method: &MethodView) -> Result<DeclaredFrames
     frames(alloc, method, count, rest)
 }
 
-/// The frames that a method declares, each with its offset, in the order of the offsets: none if it
-/// has no StackMapTable. The first fault counts; of several in one frame, the lowest number.
+/// Returns the frames that a method declares, each with its offset, in the order of the offsets:
+/// none if it has no StackMapTable. The first fault counts; of several in one frame, the lowest
+/// number.
 #[tactic(auto, using(crate::proofs::FrameLimits::declared_rise, crate::proofs::FrameLimits::declared_within))]
 pub fn declared(alloc: Global, method: &MethodView) -> Result<DeclaredFrames, StackMapFault>
     // The offsets of the method's instructions rise.
     requires { IsStrictlyIncreasing method.now.linked.offsets }
-    // What is answered the method declares.
+    // The method declares what is answered.
     ensures found { IfOk result (DeclaresFrames method.now) }
     // What the method declares is answered, unless memory runs out.
     ensures only { (ds : List (ℕ × Frame)) → DeclaresFrames method.now ds → Gives (λ v. v) result (Ok ds) }

@@ -64,6 +64,7 @@ wants_object want.Initialized = true
 wants_object (want.Fits asked) = is_object asked
 wants_object (want.FitsOrThis class) = true
 
--- the rule that an operand breaks which is not what is asked: that objects are initialized, where one is asked and it is not
+-- the broken rule if an operand is not what is asked: Uninitialized if an initialized object is asked and the operand is not initialized,
+-- else Mismatch
 abbrev pub operand_fault : Want → VType → CheckRule
 operand_fault asked t = if wants_object asked && is_uninitialized t then rule.Uninitialized else rule.Mismatch

@@ -1,4 +1,4 @@
-//! Faults of checking: the rule that is broken, and the instruction that breaks it.
+//! Faults of checking: the broken rule, and the instruction that breaks it.
 
 ghost use Rattle.std.specs.Prelude.{◌≡◌, Some};
 ghost use Rattle.ver_rules.specs.declared.fault.CheckFault.TheVariants.{Memory};
@@ -20,14 +20,15 @@ pub enum CheckRule {
     Overflow,
     /// An operand is of another type.
     Mismatch,
-    /// An object is used that is not initialized, or an `<init>` returns that has called no other `<init>`.
+    /// An object is used before it is initialized, or an `<init>` returns without having called
+    /// another `<init>`.
     Uninitialized,
-    /// No frame is declared where a branch goes, or behind an instruction that the next one does not
-    /// follow.
+    /// No frame is declared at the target of a branch, or after an instruction that does not fall
+    /// through to the next.
     NoFrame,
     /// What comes in at a declared frame is not assignable to it.
     NotAssignable,
-    /// The code ends with an instruction that goes on to the next, or has none.
+    /// The code ends after an instruction that falls through to the next, or has no instruction.
     FallsOff,
     /// A local variable is of another type, or there is none of this number.
     Local,

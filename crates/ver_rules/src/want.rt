@@ -36,7 +36,7 @@ fn is_word(kind: VType) -> bool
     !matches!(kind, VType::Top)
 }
 
-/// Whether a type is that of a reference: null, a class, an array, or an object that is not
+/// Returns whether a type is that of a reference: null, a class, an array, or an object that is not
 /// initialized.
 pub fn is_reference(kind: VType) -> bool
     ensures { result ≡ is_reference kind }
@@ -69,7 +69,7 @@ fn fits_or_this(classes: &ClassSet, class: ClassId, kind: VType) -> bool
     }
 }
 
-/// Whether a type is what is asked.
+/// Returns whether a type is what is asked.
 #[tactic(auto, unfolding(crate::specs::Wants::is_wanted))]
 pub fn is_wanted(classes: &ClassSet, want: Want, kind: VType) -> bool
     ensures { result ≡ is_wanted classes.now want kind }
@@ -84,7 +84,7 @@ pub fn is_wanted(classes: &ClassSet, want: Want, kind: VType) -> bool
     }
 }
 
-/// What a load, a store or a return of a kind asks.
+/// Returns what a load, a store or a return of a kind asks.
 pub fn kind_wanted(kind: ValueKind) -> Want
     ensures { result ≡ kind_wanted kind }
 {
@@ -105,7 +105,7 @@ fn wants_object(want: Want) -> bool
     }
 }
 
-/// The rule that an operand breaks which is not what is asked: `Uninitialized` if an initialized
+/// Returns the broken rule if the operand is not what is asked: `Uninitialized` if an initialized
 /// reference is asked and the operand is an object that is not, else `Mismatch`.
 pub fn operand_fault(want: Want, kind: VType) -> CheckRule
     ensures { result ≡ operand_fault want kind }

@@ -34,7 +34,8 @@ pub enum Selected {
 }
 
 impl Machine {
-    /// Calls a method on the operands on top: invokestatic, and the others once the method is selected.
+    /// Calls a method on the operands on top: executes invokestatic, and the other calls once the
+    /// method is selected.
     #[inline(always)]
     pub fn call(&mut self, callee: Callee) -> Flow
         requires index { self.old.stack.frame.index + 1 < 2 ^ 64 }
@@ -55,7 +56,8 @@ impl Machine {
         }
     }
 
-    /// invokespecial of an `<init>`. To turn the object into an initialised one costs nothing.
+    /// Executes invokespecial of an `<init>`. Turning the object into an initialised one costs
+    /// nothing.
     #[inline(always)]
     pub fn construct(&mut self, callee: Callee) -> Flow
         requires index { self.old.stack.frame.index + 1 < 2 ^ 64 }
@@ -97,7 +99,7 @@ impl Machine {
         }
     }
 
-    /// ireturn.
+    /// Executes ireturn.
     #[inline(always)]
     pub fn return_int(&mut self) -> Flow
         requires fits { NotStuck (return_int self.old) }
@@ -114,7 +116,7 @@ impl Machine {
         }
     }
 
-    /// areturn. The heap stays, where a task that ends leaves what it returns.
+    /// Executes areturn. The heap stays: a task that ends leaves there what it returns.
     #[inline(always)]
     pub fn return_reference(&mut self) -> Flow
         requires fits { NotStuck (return_reference self.old) }
@@ -132,7 +134,7 @@ impl Machine {
         }
     }
 
-    /// return.
+    /// Executes return.
     #[inline(always)]
     pub fn return_nothing(&mut self) -> Flow
         requires fits { NotStuck (return_nothing self.old) }

@@ -17,7 +17,7 @@ pub enum Thrown {
     IncompatibleClassChangeError,
 }
 
-/// How a task ends. There are no exception handlers, so that what is thrown ends it.
+/// How a task ends. There are no exception handlers, so what is thrown ends it.
 #[derive(Clone, Copy, Debug, PartialEq, Eq)]
 pub enum Ending {
     ReturnedNothing,
@@ -40,7 +40,7 @@ pub enum Flow {
 impl Flow {
     ghost use Rattle.std.specs.Prelude.{◌≡◌};
 
-    /// The task ends, as an object of this class is thrown.
+    /// Returns the flow of a task that ends, since an object of this class is thrown.
     #[inline(always)]
     pub fn throws(thrown: Thrown) -> Flow
         ensures { result ≡ Flow.Ends (Ending.Threw thrown) }

@@ -1,9 +1,9 @@
 //! The machine of a task (JVMS 6.5): frames and a heap of bare words, and what instructions do to them,
 //! each by a function of its own whose definition is over tagged values.
 //!
-//! A method, a class, a field's slot and what a class selects are given to it: it is no matter how they
-//! were found. What an instruction demands (operands of a kind, a local variable, a field that is
-//! there) is proved by its caller, and tested nowhere.
+//! The caller gives it methods, classes, slots of fields and what a class selects, however it finds
+//! them. The caller also proves what an instruction demands (operands of a kind, a local variable,
+//! a field that is there); nothing tests it.
 #![tactic(auto)]
 
 pub use calls::{Callee, Selected};

@@ -9,7 +9,8 @@ use crate::ending::Flow;
 use vm_heap::{Heap, Word};
 use vm_stack::Stack;
 
-/// The frames and the heap of a task.
+/// The frames and the heap of a task. The method of an instruction executes it (JVMS 6.5), and
+/// returns what it did: that the task goes on in the same method, or in another, or how it ends.
 #[derive(Drop)]
 pub struct Machine {
     pub stack: Stack,
@@ -17,7 +18,7 @@ pub struct Machine {
 }
 
 impl Machine {
-    /// Takes the int on top off.
+    /// Takes the int on top off, and returns it.
     #[inline(always)]
     pub fn pop_int(&mut self) -> i32
         requires { IsIntOnTop self.old.stack.frame.operands }

@@ -18,7 +18,7 @@ pub enum Referent {
 }
 
 impl Machine {
-    /// new, of a class whose objects have fields of these kinds.
+    /// Executes new, of a class whose objects have fields of these kinds.
     #[inline(always)]
     pub fn new_object(&mut self, class: ClassId, fields: &[WordKind]) -> Flow
         requires index { self.old.stack.frame.index + 1 < 2 ^ 64 }
@@ -36,7 +36,7 @@ impl Machine {
         }
     }
 
-    /// getfield.
+    /// Executes getfield.
     #[inline(always)]
     pub fn get_field(&mut self, slot: u32) -> Flow
         requires index { self.old.stack.frame.index + 1 < 2 ^ 64 }
@@ -54,7 +54,7 @@ impl Machine {
         }
     }
 
-    /// putfield.
+    /// Executes putfield.
     #[inline(always)]
     pub fn put_field(&mut self, slot: u32) -> Flow
         requires index { self.old.stack.frame.index + 1 < 2 ^ 64 }
@@ -91,7 +91,7 @@ impl Machine {
         self.go_on()
     }
 
-    /// What the operand with `depth` others above it stands for: an initialised reference.
+    /// Returns what the operand with `depth` others above it stands for: an initialised reference.
     #[inline(always)]
     pub fn referent(&self, depth: usize) -> Referent
         requires { IsSome (referent_at depth self.now) }
@@ -115,7 +115,7 @@ impl Machine {
         }
     }
 
-    /// checkcast, where it is known whether what is on top passes.
+    /// Executes checkcast, once it is known whether what is on top passes.
     #[inline(always)]
     pub fn cast(&mut self, passes: bool) -> Flow
         requires index { self.old.stack.frame.index + 1 < 2 ^ 64 }
@@ -130,7 +130,7 @@ impl Machine {
         }
     }
 
-    /// instanceof, where it is known whether what is on top is an instance.
+    /// Executes instanceof, once it is known whether what is on top is an instance.
     #[inline(always)]
     pub fn answer(&mut self, is: bool) -> Flow
         requires index { self.old.stack.frame.index + 1 < 2 ^ 64 }
@@ -143,7 +143,7 @@ impl Machine {
         self.go_on()
     }
 
-    /// athrow, where it is known what is on top.
+    /// Executes athrow, once it is known what is on top.
     #[inline(always)]
     pub fn throw(&mut self, referent: Referent) -> Flow
         requires fits { NotStuck (throw referent self.old) }

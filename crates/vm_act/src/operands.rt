@@ -8,7 +8,7 @@ use crate::machine::Machine;
 use vm_heap::{Word, WordKind};
 
 impl Machine {
-    /// Pushes an int.
+    /// Executes the instructions that push a constant int: pushes it.
     #[inline(always)]
     pub fn constant(&mut self, n: i32) -> Flow
         requires index { self.old.stack.frame.index + 1 < 2 ^ 64 }
@@ -20,7 +20,7 @@ impl Machine {
         self.go_on()
     }
 
-    /// aconst_null.
+    /// Executes aconst_null.
     #[inline(always)]
     pub fn null(&mut self) -> Flow
         requires index { self.old.stack.frame.index + 1 < 2 ^ 64 }
@@ -32,7 +32,7 @@ impl Machine {
         self.go_on()
     }
 
-    /// iload, aload: pushes the value of a local variable, which is of this kind.
+    /// Executes iload and aload: pushes the value of a local variable, which is of this kind.
     #[inline(always)]
     pub fn load(&mut self, kind: WordKind, local: u16) -> Flow
         requires index { self.old.stack.frame.index + 1 < 2 ^ 64 }
@@ -46,7 +46,8 @@ impl Machine {
         self.go_on()
     }
 
-    /// istore, astore: writes what is on top, which is of this kind, into a local variable.
+    /// Executes istore and astore: writes what is on top, which is of this kind, into a local
+    /// variable.
     #[inline(always)]
     pub fn store(&mut self, kind: WordKind, local: u16) -> Flow
         requires index { self.old.stack.frame.index + 1 < 2 ^ 64 }
@@ -60,7 +61,7 @@ impl Machine {
         self.go_on()
     }
 
-    /// iinc: adds to the int of a local variable.
+    /// Executes iinc: adds to the int of a local variable.
     #[inline(always)]
     pub fn increment(&mut self, local: u16, by: i16) -> Flow
         requires index { self.old.stack.frame.index + 1 < 2 ^ 64 }
@@ -74,7 +75,7 @@ impl Machine {
         self.go_on()
     }
 
-    /// pop: takes one operand off.
+    /// Executes pop: takes one operand off.
     #[inline(always)]
     pub fn pop_one(&mut self) -> Flow
         requires index { self.old.stack.frame.index + 1 < 2 ^ 64 }
@@ -86,7 +87,7 @@ impl Machine {
         self.go_on()
     }
 
-    /// pop2: takes two operands off.
+    /// Executes pop2: takes two operands off.
     #[inline(always)]
     pub fn pop_two(&mut self) -> Flow
         requires index { self.old.stack.frame.index + 1 < 2 ^ 64 }
@@ -98,7 +99,7 @@ impl Machine {
         self.go_on()
     }
 
-    /// dup.
+    /// Executes dup.
     #[inline(always)]
     pub fn dup(&mut self) -> Flow
         requires index { self.old.stack.frame.index + 1 < 2 ^ 64 }
@@ -112,7 +113,7 @@ impl Machine {
         self.go_on()
     }
 
-    /// dup_x1.
+    /// Executes dup_x1.
     #[inline(always)]
     pub fn dup_x1(&mut self) -> Flow
         requires index { self.old.stack.frame.index + 1 < 2 ^ 64 }
@@ -128,7 +129,7 @@ impl Machine {
         self.go_on()
     }
 
-    /// dup_x2.
+    /// Executes dup_x2.
     #[inline(always)]
     pub fn dup_x2(&mut self) -> Flow
         requires index { self.old.stack.frame.index + 1 < 2 ^ 64 }
@@ -146,7 +147,7 @@ impl Machine {
         self.go_on()
     }
 
-    /// dup2.
+    /// Executes dup2.
     #[inline(always)]
     pub fn dup2(&mut self) -> Flow
         requires index { self.old.stack.frame.index + 1 < 2 ^ 64 }
@@ -163,7 +164,7 @@ impl Machine {
         self.go_on()
     }
 
-    /// dup2_x1.
+    /// Executes dup2_x1.
     #[inline(always)]
     pub fn dup2_x1(&mut self) -> Flow
         requires index { self.old.stack.frame.index + 1 < 2 ^ 64 }
@@ -182,7 +183,7 @@ impl Machine {
         self.go_on()
     }
 
-    /// dup2_x2.
+    /// Executes dup2_x2.
     #[inline(always)]
     pub fn dup2_x2(&mut self) -> Flow
         requires index { self.old.stack.frame.index + 1 < 2 ^ 64 }
@@ -203,7 +204,7 @@ impl Machine {
         self.go_on()
     }
 
-    /// swap.
+    /// Executes swap.
     #[inline(always)]
     pub fn swap(&mut self) -> Flow
         requires index { self.old.stack.frame.index + 1 < 2 ^ 64 }
@@ -218,7 +219,7 @@ impl Machine {
         self.go_on()
     }
 
-    /// if_acmpeq, or if not `equal` if_acmpne: whether two references are the same object.
+    /// Executes if_acmpeq, or if not `equal` if_acmpne: whether two references are the same object.
     #[inline(always)]
     pub fn if_same(&mut self, equal: bool, target: u16) -> Flow
         requires index { self.old.stack.frame.index + 1 < 2 ^ 64 }
@@ -231,7 +232,7 @@ impl Machine {
         self.branch(same(left, right) == equal, target)
     }
 
-    /// ifnull, or if not `null` ifnonnull.
+    /// Executes ifnull, or if not `null` ifnonnull.
     #[inline(always)]
     pub fn if_null(&mut self, null: bool, target: u16) -> Flow
         requires index { self.old.stack.frame.index + 1 < 2 ^ 64 }

@@ -7,8 +7,8 @@ use crate::ending::Flow;
 use crate::machine::Machine;
 
 impl Machine {
-    /// tableswitch: goes on at the target of the int on top, of which `low` has the first, or at the
-    /// default one.
+    /// Executes tableswitch: goes on at the target of the int on top, or at the default one. The
+    /// first target is that of `low`.
     #[inline(always)]
     pub fn table_switch(&mut self, default: u16, low: i32, targets: &[u16]) -> Flow
         requires fits { NotStuck (table_switch default low targets.now self.old) }
@@ -21,8 +21,8 @@ impl Machine {
         Flow::Goes
     }
 
-    /// lookupswitch: goes on at the target of the case whose key is the int on top, or at the default
-    /// one. The keys and the targets of the cases are a slice each.
+    /// Executes lookupswitch: goes on at the target of the case whose key is the int on top, or at
+    /// the default one. The keys and the targets of the cases are a slice each.
     #[inline(always)]
     pub fn lookup_switch(&mut self, default: u16, keys: &[i32], targets: &[u16]) -> Flow
         requires fits { NotStuck (lookup_switch default keys.now targets.now self.old) }

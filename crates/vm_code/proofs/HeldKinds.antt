@@ -1,65 +1,53 @@
 -- What the fields of objects hold, one class after the other.
-use Rattle.std.proofs.Common.{◌≡◌, inl, inr, ℕ, zero, suc, ◌+◌, ◌<◌, ◌≤◌, ◌++◌, Bool, true, false, Option, Some, None, List, [], ◌∷◌, length, take, get_or, refl, sym, subst, ap, ◌∙◌, arith, append_assoc, append-nil}
-use Rattle.std.specs.Prelude.{if◌then◌else◌, IsSome, slice_get}
+use Rattle.std.proofs.Common.{◌≡◌, inl, inr, ℕ, zero, suc, ◌<◌, ◌≤◌, ◌++◌, Bool, true, false, Option, Some, None, List, [], ◌∷◌, length, refl, sym, subst, ap, ◌∙◌, arith}
+use Rattle.std.specs.Prelude.{◌==◌, if◌then◌else◌, IsSome, slice_get}
 use Rattle.std.specs.Option.{option_map_or}
-use Rattle.std.proofs.lemmas.List.{take_more}
 use Rattle.std.proofs.lemmas.Option.{slice_get_past, slice_get_cases}
 use Rattle.cf_reader.specs.declared.class_file.Field.{Field}
 use Rattle.cls_search.proofs.Heights.{low_ranks}
 use Rattle.cls_search.specs.Searches.{IsRanking}
 use Rattle.cls_set.proofs.Hierarchy.{some_and}
-use Rattle.cls_set.proofs.Walks.{before}
 use Rattle.cls_set.specs.Sets.{IsClassSet}
 use Rattle.cls_set.specs.declared.class.Class.{Class}
 use Rattle.space_ids.specs.declared.ids.ClassId.{ClassId}
 use Rattle.cls_link.specs.Fields.{is_instance}
 use Rattle.vm_heap.specs.declared.heap.WordKind.{WordKind}
-use Rattle.vm_code.specs.Fields.{kind_of, own_kinds, kinds_up, kinds_of, AreKinds}
+use Rattle.cf_text.specs.declared.types.ElementType.{ElementType}
+use Rattle.cf_text.specs.declared.types.ElementType.TheVariants as elements
+use Rattle.vm_heap.specs.declared.heap.WordKind.TheVariants as kind
+use Rattle.cls_tables.specs.Kinds as tables
+use Rattle.vm_code.specs.Fields.{element_kind, kind_of, own_kinds, kinds_up, kinds_of}
 
-own_append : (fs gs : List Field) → own_kinds (fs ++ gs) ≡ own_kinds fs ++ own_kinds gs
-unfolding own_kinds
-own_append [] gs = refl
-own_append (f ∷ fs) gs = on (is_instance f) (own_append fs gs)
+-- the kinds of the tables are those of the definitions
+own_same : (fs : List Field) → tables.own_kinds fs ≡ own_kinds fs
+unfolding tables.own_kinds own_kinds
+own_same [] = refl
+own_same (f ∷ fs) = on (is_instance f) (own_same fs)
   where
-    on : (b : Bool) → own_kinds (fs ++ gs) ≡ own_kinds fs ++ own_kinds gs
-        → (if b then kind_of f.kind ∷ own_kinds (fs ++ gs) else own_kinds (fs ++ gs)) ≡ (if b then kind_of f.kind ∷ own_kinds fs else own_kinds fs) ++ own_kinds gs
-    on true e = ap (λ ks. kind_of f.kind ∷ ks) e
+    element : (e : ElementType) → tables.element_kind e ≡ element_kind e
+    element elements.Int = refl
+    element elements.Boolean = refl
+    element elements.Byte = refl
+    element elements.Char = refl
+    element elements.Double = refl
+    element elements.Float = refl
+    element elements.Long = refl
+    element elements.Short = refl
+    element (elements.Class name) = refl
+
+    one : tables.kind_of f.kind ≡ kind_of f.kind
+    one = ap (λ k. if f.kind.dimensions == 0 then k else kind.Reference) (element f.kind.element)
+
+    on : (b : Bool) → tables.own_kinds fs ≡ own_kinds fs
+        → (if b then tables.kind_of f.kind ∷ tables.own_kinds fs else tables.own_kinds fs) ≡ (if b then kind_of f.kind ∷ own_kinds fs else own_kinds fs)
+    on true e = ap (λ k. k ∷ tables.own_kinds fs) one ∙ ap (λ ks. kind_of f.kind ∷ ks) e
     on false e = e
-
-pub one_kind : (f : Field) (now : List WordKind) → is_instance f ≡ true → now ++ kind_of f.kind ∷ [] ≡ now ++ own_kinds (f ∷ [])
-unfolding own_kinds
-one_kind f now is = rw is refl
-
-pub static_kind : (f : Field) (now : List WordKind) → is_instance f ≡ false → now ≡ now ++ own_kinds (f ∷ [])
-unfolding own_kinds
-static_kind f now is = rw is (sym (append-nil now))
-
-pub no_kinds : (now : List WordKind) → now ≡ now ++ own_kinds []
-unfolding own_kinds
-no_kinds now = sym (append-nil now)
-
--- one field more
-pub own_more : (fs : List Field) (i : ℕ) (d : Field) → i < length fs → own_kinds (take (i + 1) fs) ≡ own_kinds (take i fs) ++ own_kinds (get_or fs i d ∷ [])
-own_more fs i d inside = ap own_kinds (take_more fs i d inside) ∙ own_append (take i fs) (get_or fs i d ∷ [])
-
-pub field_added : (start now new : List WordKind) (fs : List Field) (i : ℕ) (f : Field) → i < length fs → f ≡ get_or fs i f → now ≡ start ++ own_kinds (take i fs)
-    → new ≡ now ++ own_kinds (f ∷ []) → new ≡ start ++ own_kinds (take (i + 1) fs)
-field_added start now new fs i f inside is so_far added =
-    added
-    ∙ (ap (λ ks. ks ++ own_kinds (f ∷ [])) so_far
-    ∙ (append_assoc start (own_kinds (take i fs)) (own_kinds (f ∷ []))
-    ∙ ap (λ ks. start ++ ks) (ap (λ g. own_kinds (take i fs) ++ own_kinds (g ∷ [])) is ∙ sym (own_more fs i f inside))))
-
--- what is added twice is added at once
-pub added_both : (start mid new first second all : List WordKind) → new ≡ mid ++ second → mid ≡ start ++ first → all ≡ first ++ second → new ≡ start ++ all
-added_both start mid new first second all last earlier both =
-    last ∙ (ap (λ ks. ks ++ second) earlier ∙ (append_assoc start first second ∙ ap (λ ks. start ++ ks) (sym both)))
 
 module _ (classes : List Class) (rank : ClassId → ℕ) (ranking : IsRanking classes rank) where
   lower : (class s : ClassId) (c : Class) → slice_get classes class.0 ≡ Some c → c.superclass ≡ Some s → rank s < rank class
   lower class s c at up = ranking class s (inl (some_and (slice_get classes class.0) (λ c. c.superclass ≡ Some s) c at up))
 
-  -- as many classes up as there may be, it is no matter how many
+  -- at most n classes up, whatever n is if it is above the rank of the class
   stable : (n m : ℕ) (class : ClassId) → rank class < n → rank class < m → kinds_up n classes class ≡ kinds_up m classes class
   unfolding kinds_up
   stable zero m class low high = absurd (omega (arith, low))
@@ -106,47 +94,27 @@ pub kinds_past : (classes : List Class) (class : ClassId) → length classes ≤
 unfolding kinds_of
 kinds_past classes class past = rw (slice_get_past classes class.0 past) refl
 
--- a class of which it is known what its objects hold is in the table
-pub known : (classes : List Class) (rows : List (List WordKind)) → AreKinds classes rows → (class : ClassId) → IsSome (kinds_of classes class) → IsSome (slice_get rows class.0)
-known classes rows kinds class is = subst IsSome (sym (kinds class)) is
+no_kinds : (o : Option (List WordKind)) → o ≡ None → IsSome o → ⊥
+no_kinds o e h = let n : false ≡ true = subst IsSome e h in cc
 
-get_pushed : {X : Type 0} (xs : List X) (x : X) (i : ℕ) → i < length xs → slice_get (xs ++ x ∷ []) i ≡ slice_get xs i
-get_pushed [] x i inside = absurd (omega (arith, inside))
-get_pushed (y ∷ ys) x zero inside = refl
-get_pushed (y ∷ ys) x (suc i) inside = get_pushed ys x i (omega (arith, inside))
-
-get_last : {X : Type 0} (xs : List X) (x : X) → slice_get (xs ++ x ∷ []) (length xs) ≡ Some x
-get_last [] x = refl
-get_last (y ∷ ys) x = get_last ys x
-
-kinds_inside : (classes : List Class) (class : ClassId) → class.0 < length classes → kinds_of classes class ≡ Some (kinds_in classes class)
-kinds_inside classes class inside =
+-- a class of which it is known what its objects hold is one of the set
+pub in_set : (classes : List Class) (class : ClassId) → IsSome (kinds_of classes class) → class.0 < length classes
+in_set classes class is =
     elim (slice_get_cases classes class.0).1 [
-      | inl r ↦ kinds_here classes class r.0 r.2
-      | inr r ↦ absurd (omega (arith, r.0, inside))
+      | inl r ↦ r.1
+      | inr r ↦ absurd (no_kinds (kinds_of classes class) (kinds_past classes class r.0) is)
     ]
 
--- one class more
-pub kinds_pushed : (classes : List Class) (rows : List (List WordKind)) (k : ℕ) (row : List WordKind) → length rows ≡ k → k < length classes
-    → ((class : ClassId) → class.0 < k → slice_get rows class.0 ≡ kinds_of classes class) → row ≡ kinds_in classes (record { 0 = k })
-    → (class : ClassId) → class.0 < k + 1 → slice_get (rows ++ row ∷ []) class.0 ≡ kinds_of classes class
-kinds_pushed classes rows k row long inside so_far is class low =
-    elim (before class.0 k) [
-      | inl less ↦ get_pushed rows row class.0 (omega (arith, less, long)) ∙ so_far class less
-      | inr more ↦
-          let same : class.0 ≡ k = omega (arith, more, low) in
-          let last : class.0 ≡ length rows = omega (arith, same, long) in
-          ap (slice_get (rows ++ row ∷ [])) last
-          ∙ (get_last rows row
-          ∙ (ap (λ ks. Some ks) (is ∙ ap (λ (n : ℕ). kinds_in classes (record { 0 = n })) (sym same))
-          ∙ sym (kinds_inside classes class (omega (arith, same, inside)))))
-    ]
+-- what the tables have of a class is what its objects hold
+kinds_are : (classes : List Class) → IsClassSet classes → {class : ClassId} {ks : List WordKind} → tables.HoldsKinds classes class ks → kinds_in classes class ≡ ks
+kinds_are classes set (tables.HoldsKinds.of_root class c at root) = kinds_root classes class c at root ∙ sym (own_same c.file.fields)
+kinds_are classes set (tables.HoldsKinds.of_subclass class s c inherited at up has) =
+    kinds_below classes set class s c at up
+    ∙ (ap (λ ks. ks ++ own_kinds c.file.fields) (kinds_are classes set has) ∙ ap (λ ks. inherited ++ ks) (sym (own_same c.file.fields)))
 
--- all classes
-pub kinds_all : (classes : List Class) (rows : List (List WordKind)) (k : ℕ) → length rows ≡ k → length classes ≤ k
-    → ((class : ClassId) → class.0 < k → slice_get rows class.0 ≡ kinds_of classes class) → k ≤ length classes → AreKinds classes rows
-kinds_all classes rows k long all so_far within class =
-    elim (before class.0 k) [
-      | inl less ↦ so_far class less
-      | inr more ↦ slice_get_past rows class.0 (omega (arith, more, long)) ∙ sym (kinds_past classes class (omega (arith, more, within)))
+pub kinds_held : (classes : List Class) → IsClassSet classes → (class : ClassId) (ks : List WordKind) → class.0 < length classes → tables.HoldsKinds classes class ks → kinds_of classes class ≡ Some ks
+kinds_held classes set class ks inside has =
+    elim (slice_get_cases classes class.0).1 [
+      | inl r ↦ kinds_here classes class r.0 r.2 ∙ ap (λ ks. Some ks) (kinds_are classes set has)
+      | inr r ↦ absurd (let over = r.0 in omega (arith, over, inside))
     ]

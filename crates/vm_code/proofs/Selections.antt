@@ -1,9 +1,8 @@
--- What the linker's search finds is what the definitions select.
+-- What the tables have of a class is what the definitions select.
 use Rattle.std.proofs.Common.{◌≡◌, inl, ℕ, zero, suc, ◌<◌, ◌++◌, Option, Some, None, List, [], ◌∷◌, length, refl, subst, ap, ◌∙◌, arith, append-nil}
-use Rattle.std.specs.Prelude.{IsSomeAnd, IfSome, option_to_list, slice_get, option_and_then, option_map}
+use Rattle.std.specs.Prelude.{IsSomeAnd, option_to_list, slice_get, option_and_then}
 use Rattle.std.specs.Option.{option_map_or}
 use Rattle.cf_reader.specs.declared.class_file.Method.{Method}
-use Rattle.std.proofs.lemmas.Option.{slice_get_within}
 use Rattle.cls_search.proofs.Heights.{low_ranks}
 use Rattle.cls_search.specs.Searches as searches
 use Rattle.cls_search.specs.Searches.{Finds, IsRanking, superclass_of}
@@ -11,20 +10,10 @@ use Rattle.cls_set.specs.Sets.{IsClassSet}
 use Rattle.cls_set.specs.Subtypes.{Extends}
 use Rattle.cls_set.specs.declared.class.Class.{Class}
 use Rattle.space_ids.specs.declared.ids.ClassId.{ClassId}
-use Rattle.cls_link.proofs.MethodNumbers.{zip_length}
-use Rattle.cls_link.specs.Links.{Links, AreLinks, Declared, declared_methods, method_at}
-use Rattle.cls_link.specs.Selections as selections
-use Rattle.cls_link.specs.Selections.{instance_method, IsSelection, Selects}
+use Rattle.cls_link.specs.Selections.{instance_method}
 use Rattle.cls_link.specs.declared.linked_code.MethodId.{MethodId}
-use Rattle.cls_link.specs.declared.linked_code.Selection.{Selection}
-use Rattle.cls_link.specs.declared.linked_code.Selection.TheVariants as selection
+use Rattle.cls_tables.specs.Choices.{IsSelected}
 use Rattle.vm_code.specs.Methods.{superclass_at, or_else, first_up, selection_of}
-
--- what is found, by what running it comes to
-abbrev pub found_in : Selection → Option MethodId
-found_in (selection.Runs id) = Some id
-found_in (selection.Abstract id) = Some id
-found_in selection.Absent = None
 
 module _ (classes : List Class) where
   above_is : (c : ClassId) → superclass_of classes c ≡ option_to_list (superclass_at classes c)
@@ -82,34 +71,10 @@ module _ (classes : List Class) where
     first_found zero c answer low finds = absurd (omega (arith, low))
     first_found (suc n) c answer low finds = at_first n (first_found n) c low finds refl
 
-  found_is : {found : Option MethodId} {s : Selection} → IsSelection classes found s → found ≡ found_in s
-  found_is (selections.IsSelection.runs id m is code) = refl
-  found_is (selections.IsSelection.abstract id m is code) = refl
-  found_is selections.IsSelection.absent = refl
-
-  pub selection_is : IsClassSet classes → (class : ClassId) (named : MethodId) (s : Selection) → Selects classes class named s → selection_of classes class named ≡ found_in s
+  pub selection_is : IsClassSet classes → (class : ClassId) (named : MethodId) (found : Option MethodId) → IsSelected classes class named found → selection_of classes class named ≡ found
   unfolding selection_of
-  selection_is set class named s selects =
+  selection_is set class named found selects =
       let ranks = low_ranks classes set in
       let low = ranks.low class in
       ap (option_and_then (λ (m : Method). first_up (suc (length classes)) classes (instance_method classes m.name m.descriptor) class)) selects.declared
-      ∙ (first_found (instance_method classes selects.method.name selects.method.descriptor) ranks.rank ranks.ranking (suc (length classes)) class selects.found (omega (arith, low)) selects.search
-      ∙ found_is selects.selected)
-
-within : (links : Links) → AreLinks links → (id : MethodId) (m : Method) → method_at links.classes id ≡ Some m → id.0 < length links.methods
-within links are id m is = on (slice_get (declared_methods links.classes) id.0) refl is
-  where
-    on : (o : Option Declared) → slice_get (declared_methods links.classes) id.0 ≡ o → option_map (λ (d : Declared). d.method) o ≡ Some m → id.0 < length links.methods
-    on None e some = absurd (cc)
-    on (Some d) e some =
-        subst (λ n. id.0 < n) (zip_length links.classes (declared_methods links.classes) links.methods are.methods) (slice_get_within (declared_methods links.classes) id.0 d e)
-
--- what is found is a method of the set
-pub found_within : (links : Links) → AreLinks links → (class : ClassId) (named : MethodId) (s : Selection) → Selects links.classes class named s
-    → IfSome (found_in s) (λ id. id.0 < length links.methods)
-found_within links are class named s selects = on selects.selected
-  where
-    on : {found : Option MethodId} {s : Selection} → IsSelection links.classes found s → IfSome (found_in s) (λ id. id.0 < length links.methods)
-    on (selections.IsSelection.runs id m is code) = within links are id m is
-    on (selections.IsSelection.abstract id m is code) = within links are id m is
-    on selections.IsSelection.absent = tt
+      ∙ first_found (instance_method classes selects.method.name selects.method.descriptor) ranks.rank ranks.ranking (suc (length classes)) class found (omega (arith, low)) selects.search

@@ -20,7 +20,7 @@ abbrev IsAmongNone : FieldIndex → List FieldIndex → Type 0
 IsAmongNone field [] = Unit {0}
 IsAmongNone field (f ∷ fs) = (is_place field f ≡ false) × IsAmongNone field fs
 
--- behind others that are not it, its index is counted on
+-- after others that are not it, its index is counted on
 index_behind : (field : FieldIndex) (k : ℕ) (fs gs : List FieldIndex) → IsAmongNone field fs → index_of field k (fs ++ gs) ≡ index_of field (k + length fs) gs
 index_behind field k [] gs none = ap (λ n. index_of field n gs) (omega arith)
 index_behind field k (f ∷ fs) gs none =
@@ -29,7 +29,7 @@ index_behind field k (f ∷ fs) gs none =
 same_place : (f g : FieldIndex) → f ≡ g → is_place f g ≡ true
 same_place f g e = rw (eq-eqb f.class.0 g.class.0 (ap (λ (p : FieldIndex). p.class.0) e), eq-eqb f.index g.index (ap (λ (p : FieldIndex). p.index) e)) refl
 
--- it stands behind others that are not it
+-- it stands after others that are not it
 found_behind : (field : FieldIndex) (xs ys : List FieldIndex) (s : ℕ) → IsAmongNone field xs → slice_get (xs ++ ys) s ≡ Some field
     → (i : ℕ) × (s ≡ length xs + i) × (slice_get ys i ≡ Some field)
 found_behind field [] ys s none e = (s, omega arith, e)

@@ -7,7 +7,7 @@ ghost use Rattle.vm_code.specs.Classes.{is_subtype, is_object, is_instance, pass
 use cls_link::{CastType, ClassId, ClassSet};
 use vm_act::{Flow, Machine, Referent};
 
-/// Whether a class of the set is a subtype of another.
+/// Returns whether a class of the set is a subtype of another.
 #[inline(always)]
 #[tactic(auto, using(crate::proofs::Subtypes::no_subtype))]
 pub fn is_subtype(set: &ClassSet, class: ClassId, asked: ClassId) -> bool
@@ -29,7 +29,8 @@ fn is_object(set: &ClassSet, class: ClassId) -> bool
     set.name(class).as_bytes() == b"java/lang/Object".as_slice()
 }
 
-/// Whether what a reference stands for is an instance of a type. Null is an instance of none.
+/// Returns whether what a reference stands for is an instance of a type. Null is an instance of
+/// none.
 #[inline(always)]
 pub fn is_instance(set: &ClassSet, asked: CastType, referent: Referent) -> bool
     ensures { result ≡ is_instance set.now asked referent }
@@ -43,7 +44,7 @@ pub fn is_instance(set: &ClassSet, asked: CastType, referent: Referent) -> bool
     }
 }
 
-/// Whether what a reference stands for may be cast to a type. Null may be cast to each.
+/// Returns whether what a reference stands for may be cast to a type. Null may be cast to each.
 #[inline(always)]
 pub fn passes(set: &ClassSet, asked: CastType, referent: Referent) -> bool
     ensures { result ≡ passes set.now asked referent }
@@ -54,7 +55,7 @@ pub fn passes(set: &ClassSet, asked: CastType, referent: Referent) -> bool
     }
 }
 
-/// checkcast.
+/// Executes checkcast.
 #[inline(always)]
 pub fn check_cast(machine: &mut Machine, set: &ClassSet, asked: CastType) -> Flow
     requires index { machine.old.stack.frame.index + 1 < 2 ^ 64 }
@@ -67,7 +68,7 @@ pub fn check_cast(machine: &mut Machine, set: &ClassSet, asked: CastType) -> Flo
     machine.cast(passes)
 }
 
-/// instanceof.
+/// Executes instanceof.
 #[inline(always)]
 pub fn instance_of(machine: &mut Machine, set: &ClassSet, asked: CastType) -> Flow
     requires index { machine.old.stack.frame.index + 1 < 2 ^ 64 }
@@ -80,7 +81,7 @@ pub fn instance_of(machine: &mut Machine, set: &ClassSet, asked: CastType) -> Fl
     machine.answer(is)
 }
 
-/// athrow.
+/// Executes athrow.
 #[inline(always)]
 pub fn throw_top(machine: &mut Machine) -> Flow
     requires fits { NotStuck (throw_top machine.old) }

@@ -7,7 +7,7 @@ use crate::operators;
 use cls_link::{BinaryOperator, Condition, UnaryOperator};
 use vm_act::{Flow, Machine, Thrown, Word};
 
-/// ineg, i2b, i2c, i2s.
+/// Executes ineg, i2b, i2c or i2s.
 #[inline(always)]
 pub fn unary(machine: &mut Machine, operator: UnaryOperator) -> Flow
     requires index { machine.old.stack.frame.index + 1 < 2 ^ 64 }
@@ -20,7 +20,7 @@ pub fn unary(machine: &mut Machine, operator: UnaryOperator) -> Flow
     machine.go_on()
 }
 
-/// iadd to ixor.
+/// Executes an instruction from Executes an instruction from iadd to ixor.
 #[inline(always)]
 pub fn binary(machine: &mut Machine, operator: BinaryOperator) -> Flow
     requires index { machine.old.stack.frame.index + 1 < 2 ^ 64 }
@@ -39,7 +39,8 @@ pub fn binary(machine: &mut Machine, operator: BinaryOperator) -> Flow
     }
 }
 
-/// ifeq to ifle: goes on at the target where the condition holds between the int on top and 0.
+/// Executes an instruction from ifeq to ifle: goes on at the target if the condition holds between
+/// the int on top and 0.
 #[inline(always)]
 pub fn if_zero(machine: &mut Machine, condition: Condition, target: u16) -> Flow
     requires index { machine.old.stack.frame.index + 1 < 2 ^ 64 }
@@ -51,7 +52,8 @@ pub fn if_zero(machine: &mut Machine, condition: Condition, target: u16) -> Flow
     machine.branch(operators::holds(condition, n, 0), target)
 }
 
-/// if_icmpeq to if_icmple: the same between two ints, the one on top on the right.
+/// Executes an instruction from Executes an instruction from if_icmpeq to if_icmple: the same
+/// between two ints, the one on top on the right.
 #[inline(always)]
 pub fn if_compare(machine: &mut Machine, condition: Condition, target: u16) -> Flow
     requires index { machine.old.stack.frame.index + 1 < 2 ^ 64 }

@@ -1,12 +1,14 @@
-//! The instructions of linked code on the machine of a task (JVMS 6.5): what they name is looked for in
-//! the class set, and the step is made by the function of vm_act for it. `act` takes no memory.
+//! The instructions of linked code on the machine of a task (JVMS 6.5): what they name is looked up in
+//! the tables of the class set, and the step is made by the function of vm_act for it. `act` takes no
+//! memory.
 //!
-//! What an instruction demands (operands of a kind, a field, a method) is proved by its caller, and
-//! tested nowhere.
+//! The caller proves what an instruction demands (operands of a kind, a field, a method); nothing
+//! tests it.
 #![tactic(auto)]
 
+pub use casts::is_subtype;
 pub use cls_link::{Linked, LinkedInsn, MemberIndex, MethodId};
-pub use kinds::FieldKinds;
+pub use cls_tables::Tables;
 pub use step::act;
 pub use vm_act::{Callee, Ending, Flow, Machine, Referent, Selected, Thrown, WordKind};
 
@@ -14,7 +16,6 @@ mod calls;
 mod casts;
 mod fields;
 mod ints;
-mod kinds;
 mod methods;
 mod operands;
 mod operators;

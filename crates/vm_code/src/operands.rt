@@ -9,7 +9,7 @@ use cls_link::{
 };
 use vm_act::{Flow, Machine, WordKind};
 
-/// What a load or a store of a kind moves.
+/// Returns what a load or a store of a kind moves.
 #[inline(always)]
 pub fn word_kind(kind: ValueKind) -> WordKind
     ensures { result ≡ word_kind kind }
@@ -20,7 +20,7 @@ pub fn word_kind(kind: ValueKind) -> WordKind
     }
 }
 
-/// Whether a comparison asks that both are the same.
+/// Returns whether a comparison asks that both are the same.
 #[inline(always)]
 pub fn is_equal(equality: Equality) -> bool
     ensures { result ≡ is_equal equality }
@@ -31,7 +31,7 @@ pub fn is_equal(equality: Equality) -> bool
     }
 }
 
-/// if_acmpeq, if_acmpne.
+/// Executes if_acmpeq or if_acmpne.
 #[inline(always)]
 pub fn compare(machine: &mut Machine, equality: Equality, target: u16) -> Flow
     requires index { machine.old.stack.frame.index + 1 < 2 ^ 64 }
@@ -45,7 +45,7 @@ pub fn compare(machine: &mut Machine, equality: Equality, target: u16) -> Flow
     }
 }
 
-/// pop to swap.
+/// Executes an instruction from pop to swap.
 #[inline(always)]
 pub fn rearrange(machine: &mut Machine, operation: StackOperation) -> Flow
     requires index { machine.old.stack.frame.index + 1 < 2 ^ 64 }
@@ -66,7 +66,7 @@ pub fn rearrange(machine: &mut Machine, operation: StackOperation) -> Flow
     }
 }
 
-/// newarray of int, iaload, iastore, arraylength.
+/// Executes newarray of int, iaload, iastore or arraylength.
 #[inline(always)]
 pub fn act_on_array(machine: &mut Machine, operation: ArrayOperation) -> Flow
     requires index { machine.old.stack.frame.index + 1 < 2 ^ 64 }
@@ -82,11 +82,13 @@ pub fn act_on_array(machine: &mut Machine, operation: ArrayOperation) -> Flow
     }
 }
 
-/// ireturn, areturn.
+/// Executes ireturn or areturn. The heap stays with areturn, where a task that ends leaves what it
+/// returns.
 #[inline(always)]
 pub fn return_value(machine: &mut Machine, kind: ValueKind) -> Flow
     requires fits { NotStuck (return_value kind machine.old) }
     ensures does { Does (return_value kind machine.old) result machine.new }
+    ensures heap { kind ≡ ValueKind.Reference → machine.new.heap ≡ machine.old.heap }
     ensures method { result ≢ Flow.Goes }
 {
     match kind {
@@ -95,7 +97,7 @@ pub fn return_value(machine: &mut Machine, kind: ValueKind) -> Flow
     }
 }
 
-/// tableswitch, lookupswitch: by the switch of an index of the running method.
+/// Executes tableswitch or lookupswitch, by the switch of an index of the running method.
 #[inline(always)]
 pub fn switch(machine: &mut Machine, linked: &Linked, index: u16) -> Flow
     requires fits { NotStuck (switch_of linked.now index machine.old) }

@@ -2,26 +2,27 @@
 ghost use Rattle.std.specs.Prelude.{◌≡◌, ◌+◌, ◌<◌, ◌^◌};
 ghost use Rattle.vm_act.specs.Next.{NotStuck, Does};
 ghost use Rattle.vm_code.specs.Act.{act};
-ghost use Rattle.vm_code.specs.Fields.{AreKinds};
 
 use crate::calls::{call, call_interface};
 use crate::casts::{check_cast, instance_of, throw_top};
 use crate::fields::{get_field, new_object, put_field};
 use crate::ints::{binary, if_compare, if_zero, unary};
-use crate::kinds::FieldKinds;
 use crate::operands::{
     act_on_array, compare, is_equal, rearrange, return_value, switch, word_kind,
 };
-use cls_link::{Linked, LinkedInsn};
+use cls_link::{Linked, LinkedInsn, ValueKind};
+use cls_tables::Tables;
 use vm_act::{Flow, Machine};
 
-/// Makes the step of an instruction of the running method.
+/// Executes an instruction of the running method, and returns what it did. The heap stays with
+/// areturn, where a task that ends leaves what it returns.
 #[inline(always)]
-pub fn act(machine: &mut Machine, linked: &Linked, kinds: &FieldKinds, insn: LinkedInsn) -> Flow
+pub fn act(machine: &mut Machine, linked: &Linked, tables: &Tables, insn: LinkedInsn) -> Flow
     requires index { machine.old.stack.frame.index + 1 < 2 ^ 64 }
-    requires kinds { AreKinds linked.now.classes kinds.now }
+    requires tables { tables.now ≡ linked.now }
     requires fits { NotStuck (act linked.now insn machine.old) }
     ensures does { Does (act linked.now insn machine.old) result machine.new }
+    ensures heap { insn ≡ LinkedInsn.ReturnValue ValueKind.Reference → machine.new.heap ≡ machine.old.heap }
     ensures method { result ≡ Flow.Goes → machine.new.stack.frame.method ≡ machine.old.stack.frame.method }
 {
     let set = linked.set();
@@ -45,17 +46,17 @@ pub fn act(machine: &mut Machine, linked: &Linked, kinds: &FieldKinds, insn: Lin
         LinkedInsn::ReturnValue(kind) => return_value(machine, kind),
         LinkedInsn::Return => machine.return_nothing(),
         LinkedInsn::Throw => throw_top(machine),
-        LinkedInsn::GetField { field, .. } => get_field(machine, linked, field),
-        LinkedInsn::PutField { field, .. } => put_field(machine, linked, field),
+        LinkedInsn::GetField { field, .. } => get_field(machine, linked, tables, field),
+        LinkedInsn::PutField { field, .. } => put_field(machine, linked, tables, field),
         LinkedInsn::Invoke {
             kind,
             class,
             method,
-        } => call(machine, linked, kind, class, method),
+        } => call(machine, linked, tables, kind, class, method),
         LinkedInsn::InvokeInterface { class, method, .. } => {
-            call_interface(machine, linked, class, method)
+            call_interface(machine, linked, tables, class, method)
         }
-        LinkedInsn::New(class) => new_object(machine, linked, kinds, class),
+        LinkedInsn::New(class) => new_object(machine, linked, tables, class),
         LinkedInsn::CheckCast(asked) => check_cast(machine, set, asked),
         LinkedInsn::InstanceOf(asked) => instance_of(machine, set, asked),
     }

@@ -1,4 +1,4 @@
--- Where the words of an object or an array lie in the heap's row.
+-- The indices at which the words of an object or an array lie in the heap's row.
 use Rattle.std.proofs.Common.{◌≡◌, ℕ, zero, suc, ◌+◌, ◌-◌, ◌<◌, ◌≤◌, List, [], ◌∷◌, ◌++◌, length, map, refl, ap, sym, ◌∙◌, arith, append_assoc, length-append, Option, Some, None, slice_get, slice_set, Bool, true, false, nat_eq, nat_lt}
 use Rattle.std.specs.Prelude.{ℤ, pos, replicate, if◌then◌else◌, IsSome, option_and_then}
 use Rattle.space_ids.specs.declared.ids.ClassId.{ClassId}
@@ -203,7 +203,7 @@ pub some : {A : Type 0} (o : Option A) → IsSome o → (x : A) × (o ≡ Some x
 some None h = absurd (cc)
 some (Some x) h = (x, refl)
 
--- what was read at a place
+-- what was read at an index
 pub read_is : (values : List Tagged) (cells : List Cell) (address k place : ℕ) (v r : Tagged) → values ≡ spelled cells → Stands cells address k v
     → place ≡ address + k → slice_get values place ≡ Some r → r ≡ v
 read_is values cells address k place v r row there where_is is =
@@ -211,7 +211,7 @@ read_is values cells address k place v r row there where_is is =
     let both : Path (Option Tagged) (Some r) (Some v) = sym is ∙ read in
     cc
 
--- that place lies in the row
+-- that index lies in the row
 pub read_in : (values : List Tagged) (cells : List Cell) (address k : ℕ) (v : Tagged) → values ≡ spelled cells → Stands cells address k v → address + k < length values
 read_in values cells address k v row there = rw row there.inside
 

@@ -19,7 +19,7 @@ each-get (y ∷ values) [] at v w each h = absurd each
 each-get (y ∷ values) (x ∷ words) zero v w each h = each.0
 each-get (y ∷ values) (x ∷ words) (suc at) v w each h = each-get values words at v w each.1 (omega arith)
 
--- the word at a place is that of the value there
+-- the word at an index is that of the value there
 pub is_word-get : (values : List Tagged) (words : List ℕ) (at : ℕ) (v : Tagged) (w : ℕ) → AreWords values words → at < length words → IsWord (get_or values at v) (get_or words at w)
 is_word-get values words at v w are h = each-get values words at v w are.each h
 
@@ -35,7 +35,7 @@ length-set [] at x = refl
 length-set (y ∷ xs) zero x = refl
 length-set (y ∷ xs) (suc at) x = ap suc (length-set xs at x)
 
--- a value and its word written to the same place
+-- a value and its word written to the same index
 pub are_words-set : (values : List Tagged) (words : List ℕ) (at : ℕ) (v : Tagged) (w : ℕ) → AreWords values words → IsWord v w → AreWords (slice_set values at v) (slice_set words at w)
 are_words-set values words at v w are is = record {
   len = omega (arith, are.len, length-set values at v, length-set words at w);
@@ -59,7 +59,7 @@ are_words-add values words v w are is = record {
   each = each-add values words v w are.each is;
 }
 
--- where no word changes: the value at a place says of its word what another one said
+-- if no word changes, the value at an index says of its word what another one said
 each-same : (values : List Tagged) (words : List ℕ) (at : ℕ) (v : Tagged) → AllZip IsWord values words
     → ((w : ℕ) → IsWord (get_or values at v) w → IsWord v w) → AllZip IsWord (slice_set values at v) words
 each-same [] [] at v each is = tt

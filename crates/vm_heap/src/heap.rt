@@ -53,7 +53,7 @@ impl Model for Cells {
 impl Heap {
     ghost use Rattle.vm_heap.specs.Heap.{field_at, element_at, length_at, with_field, with_element};
 
-    /// A heap with a budget of `words` words, all of them reserved, and nothing in it.
+    /// Returns a heap with a budget of `words` words, all of them reserved, and nothing in it.
     pub fn with_words(alloc: Global, words: u32) -> Result<Heap, AllocError>
         ensures { IfOk result (λ heap. heap ≡ record { cells = []; free = words }) }
     {
@@ -63,8 +63,8 @@ impl Heap {
         })
     }
 
-    /// A new object of a class with fields of these kinds, each with its default value, at the next
-    /// address. `None` where it does not fit, and nothing changes. It takes no memory.
+    /// Returns a new object of a class with fields of these kinds, each with its default value, at
+    /// the next address. `None` if it does not fit, and then nothing changes. It takes no memory.
     #[inline(always)]
     pub fn new_object(&mut self, class: ClassId, fields: &[WordKind]) -> Option<Word>
         ensures made { IfSome
@@ -90,8 +90,8 @@ impl Heap {
         Some(Word::local(address))
     }
 
-    /// A new array of `count` zeros, at the next address. `None` where it does not fit, and nothing
-    /// changes. It takes no memory.
+    /// Returns a new array of `count` zeros, at the next address. `None` if it does not fit, and
+    /// then nothing changes. It takes no memory.
     #[inline(always)]
     pub fn new_ints(&mut self, count: u32) -> Option<Word>
         requires { count < 2 ^ 31 }
@@ -118,8 +118,8 @@ impl Heap {
         Some(Word::local(address))
     }
 
-    /// The class of an object: `None` for an array. That one of them is there is proved, and not
-    /// tested.
+    /// Returns the class of an object: `None` for an array. The caller owes that one of them stands
+    /// there; nothing tests it.
     #[inline(always)]
     pub fn class_of(&self, address: usize) -> Option<ClassId>
         requires { IsSome (cell_at self.now.cells address) }
@@ -128,7 +128,7 @@ impl Heap {
         self.words.get(address).class()
     }
 
-    /// The value of a field. That there is such a field is proved, and not tested.
+    /// Returns the value of a field. The caller owes that there is such a field; nothing tests it.
     #[inline(always)]
     pub fn get(&self, address: usize, slot: usize) -> Word
         requires { IsSome (field_at address slot self.now.cells) }
@@ -137,7 +137,7 @@ impl Heap {
         self.words.get(address + 1 + slot)
     }
 
-    /// Writes a field. That there is such a field is proved, and not tested.
+    /// Writes a field. The caller owes that there is such a field; nothing tests it.
     #[inline(always)]
     pub fn put(&mut self, address: usize, slot: usize, word: Word)
         requires { IsSome (field_at address slot self.old.cells) }
@@ -155,7 +155,8 @@ impl Heap {
         self.words.set(address + 1 + slot, word);
     }
 
-    /// How many elements an array has. That it is an array is proved, and not tested.
+    /// Returns how many elements an array has. The caller owes that it is an array; nothing tests
+    /// it.
     #[inline(always)]
     pub fn length(&self, address: usize) -> u32
         requires { IsSome (length_at address self.now.cells) }
@@ -165,7 +166,8 @@ impl Heap {
         self.words.get(address + 1).as_length()
     }
 
-    /// An element of an array. That there is such an element is proved, and not tested.
+    /// Returns an element of an array. The caller owes that there is such an element; nothing tests
+    /// it.
     #[inline(always)]
     pub fn element(&self, address: usize, index: usize) -> Word
         requires { IsSome (element_at address index self.now.cells) }
@@ -174,7 +176,8 @@ impl Heap {
         self.words.get(address + 2 + index)
     }
 
-    /// Writes an element of an array. That there is such an element is proved, and not tested.
+    /// Writes an element of an array. The caller owes that there is such an element; nothing tests
+    /// it.
     #[inline(always)]
     pub fn put_element(&mut self, address: usize, index: usize, word: Word)
         requires element { IsSome (element_at address index self.old.cells) }

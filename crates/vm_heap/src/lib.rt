@@ -1,5 +1,5 @@
-//! Words, rows of words, the heap of a task, and the values that cross between tasks and spaces, which
-//! are ints, int arrays by copy and remote references.
+//! Words, rows of words, the heap of a task, and the values that cross between tasks and spaces
+//! (ints, int arrays by copy and remote references).
 #![tactic(auto)]
 
 pub use heap::{Heap, WordKind};

@@ -37,7 +37,7 @@ impl Model for Tag {
 const INTS: u32 = 65_536;
 
 impl Word {
-    /// The word of an int: its 32 bits.
+    /// Returns the word of an int: its 32 bits.
     #[inline(always)]
     pub fn int(n: i32) -> Word
         ensures { result ≡ Int n }
@@ -48,7 +48,7 @@ impl Word {
         }
     }
 
-    /// The word of null.
+    /// Returns the word of null.
     #[inline(always)]
     pub fn null() -> Word
         ensures { result ≡ Null }
@@ -59,7 +59,7 @@ impl Word {
         }
     }
 
-    /// A word of no value: what a local variable holds before it is written.
+    /// Returns a word of no value: what a local variable holds before it is written.
     #[inline(always)]
     pub fn unset() -> Word
         ensures { result ≡ Unset }
@@ -70,7 +70,7 @@ impl Word {
         }
     }
 
-    /// The word of an initialised object, or an array, at an address of the heap.
+    /// Returns the word of an initialised object, or an array, at an address of the heap.
     #[inline(always)]
     pub fn local(address: usize) -> Word
         requires { address + 1 < 2 ^ 32 }
@@ -82,7 +82,8 @@ impl Word {
         }
     }
 
-    /// The int that it stands for. That it stands for one is proved, and not tested.
+    /// Returns the int that the word stands for. The caller owes that it stands for one; nothing
+    /// tests it.
     #[inline(always)]
     pub fn as_int(&self) -> i32
         requires { IsInt self.now }
@@ -91,8 +92,8 @@ impl Word {
         self.bits.cast_signed()
     }
 
-    /// The heap's address of the object or array that it stands for, or `None` for null. That it
-    /// stands for one of them is proved, and not tested.
+    /// Returns the heap's address of the object or array that the word stands for, or `None` for
+    /// null. The caller owes that it stands for one of them; nothing tests it.
     #[inline(always)]
     pub fn as_address(&self) -> Option<usize>
         requires { IsPointer self.now }
@@ -105,8 +106,8 @@ impl Word {
         }
     }
 
-    /// The word of a new object as that of the object which the `new` instruction of this index made,
-    /// on which no `<init>` was called yet. It does nothing when it runs.
+    /// Returns the word of a new object as one that the `new` instruction of this index made. No
+    /// `<init>` was called on it yet. It does nothing when it runs.
     #[inline(always)]
     pub fn fresh(self, index: usize) -> Word
         ensures { result ≡ as_fresh index self }
@@ -118,7 +119,7 @@ impl Word {
         }
     }
 
-    /// A second word of the same value.
+    /// Returns a second word of the same value.
     #[inline(always)]
     pub fn copy(&self) -> Word
         ensures { result ≡ self.now }
@@ -140,7 +141,7 @@ impl Word {
         }
     }
 
-    /// The word in which the heap keeps that something is an int array.
+    /// The word that the heap keeps of an int array first.
     #[inline(always)]
     pub(crate) fn of_ints() -> Word
         ensures { result ≡ Head OfInts }

@@ -9,7 +9,7 @@ use std::alloc::{AllocError, Global};
 use std::marker::Model;
 
 /// Words in a row, with room for more. One token says what all of them stand for, so that this can
-/// change where no word does.
+/// change although no word does.
 #[derive(Drop)]
 pub struct Words {
     bits: Vec<u32>,
@@ -40,7 +40,7 @@ impl Model for Tags {
 }
 
 impl Words {
-    /// No word, and room for `room` of them, which is reserved and not written.
+    /// Returns a row without words, and room for `room` of them, which is reserved and not written.
     pub fn with_room(alloc: Global, room: usize) -> Result<Words, AllocError>
         ensures { IfOk result (λ words. words ≡ record { values = []; room = room }) }
     {
@@ -50,7 +50,7 @@ impl Words {
         })
     }
 
-    /// How many words there are.
+    /// Returns how many words there are.
     #[inline(always)]
     pub fn len(&self) -> usize
         ensures { result ≡ length self.now.values }
@@ -58,7 +58,7 @@ impl Words {
         self.bits.len()
     }
 
-    /// For how many words there is room.
+    /// Returns for how many words there is room.
     #[inline(always)]
     pub fn room(&self) -> usize
         ensures { result ≡ self.now.room }
@@ -66,7 +66,7 @@ impl Words {
         self.bits.capacity()
     }
 
-    /// The word at an index. That there is one is proved, and not tested.
+    /// Returns the word at an index. The caller owes that there is one; nothing tests it.
     #[inline(always)]
     pub fn get(&self, index: usize) -> Word
         requires { index < length self.now.values }
@@ -81,7 +81,7 @@ impl Words {
         }
     }
 
-    /// Writes the word at an index. That there is one is proved, and not tested.
+    /// Writes the word at an index. The caller owes that there is one; nothing tests it.
     #[inline(always)]
     pub fn set(&mut self, index: usize, word: Word)
         requires { index < length self.old.values }
@@ -95,7 +95,7 @@ impl Words {
         });
     }
 
-    /// Adds a word, for which there is room.
+    /// Adds a word. The caller owes room for it.
     #[inline(always)]
     pub fn push_reserved(&mut self, word: Word)
         requires { length self.old.values < self.old.room }
@@ -108,7 +108,8 @@ impl Words {
         });
     }
 
-    /// Adds words that stand for nothing, up to `count` words in all, for which there is room.
+    /// Adds words that stand for nothing, up to `count` words in all. The caller owes room for
+    /// them.
     pub fn grow_to(&mut self, count: usize)
         requires { count ≤ self.old.room }
         ensures { self.new
@@ -123,7 +124,7 @@ impl Words {
         }
     }
 
-    /// Lets the words from an index up to another stand for nothing. It does nothing when it runs.
+    /// Makes the words from an index up to another stand for nothing. It does nothing when it runs.
     #[inline(always)]
     pub fn forget(&mut self, start: usize, end: usize)
         requires order { start ≤ end }
@@ -137,8 +138,8 @@ impl Words {
         });
     }
 
-    /// Lets each copy of a value, from an index on, stand for the object that it is once its `<init>`
-    /// is called. It does nothing when it runs.
+    /// Makes each copy of a value, from an index on, stand for the initialised object, once its
+    /// `<init>` is called. It does nothing when it runs.
     #[inline(always)]
     pub fn initialise(&mut self, start: usize, word: &Word)
         ensures { self.new
@@ -153,7 +154,7 @@ impl Words {
         });
     }
 
-    /// Lets the value at an index be the receiver of its `<init>`. It does nothing when it runs.
+    /// Makes the value at an index the receiver of its `<init>`. It does nothing when it runs.
     #[inline(always)]
     pub fn begin_init(&mut self, index: usize, word: &Word)
         requires { slice_get self.old.values index ≡ Some word.now }

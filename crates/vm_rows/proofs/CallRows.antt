@@ -193,7 +193,7 @@ module _ (links : Links) (w : World) (owed : Owed w) (set : IsClassSet w.classes
   unfolding arguments_of
   arguments_are same method = ap (λ (classes : List Class). reverse (map (field_vtype classes) method.types.parameters)) same
 
-  -- the result of a method is put on, where there is room
+  -- the result of a method is put on, if there is room
   gives_result : (o : Option FieldType) (g after : Frame) → option_map_or (λ (type : FieldType). give body (field_vtype body.classes type) g) o (Ok g) ≡ Ok after
       → HasRoom body.max_stack (option_map (field_vtype body.classes) o) g × (with_result (option_map (field_vtype body.classes) o) g ≡ after)
   gives_result None g after e = (tt, same_ok e)

@@ -1,10 +1,8 @@
 -- What calls run agrees with the types of what is named.
-use Rattle.std.proofs.Common.{◌≡◌, ◌⊎◌, inl, inr, ℕ, zero, suc, ◌<◌, ◌++◌, Bool, true, false, not, List, [], ◌∷◌, length, map, refl, sym, subst, ap, ◌∙◌, Option, Some, None}
-use Rattle.std.specs.Prelude.{◌==◌, ◌&&◌, if◌then◌else◌, bytes_eq, codes, nat_lt, option_and_then, option_map, slice_get, IsSomeAnd}
+use Rattle.std.proofs.Common.{◌≡◌, inr, ℕ, zero, suc, Bool, true, false, not, List, ◌∷◌, length, map, refl, sym, subst, ap, ◌∙◌, Option, Some, None}
+use Rattle.std.specs.Prelude.{◌&&◌, if◌then◌else◌, bytes_eq, codes, nat_lt, option_and_then, option_map, slice_get, IsSomeAnd}
 use Rattle.std.specs.Option.{option_map_or}
-use Rattle.cf_reader.specs.declared.class_file.Code.{Code}
 use Rattle.cf_reader.specs.declared.class_file.Method.{Method}
-use Rattle.cf_text.specs.declared.types.FieldType.{FieldType}
 use Rattle.cf_text.specs.declared.types.MethodDescriptor.{MethodDescriptor}
 use Rattle.cls_link.proofs.MethodNumbers.{number_found}
 use Rattle.cls_link.specs.Links.{Links, AreLinks, Declared, declared_methods, method_at, number_of}
@@ -16,7 +14,7 @@ use Rattle.cls_resolve.specs.Meanings.{method_of}
 use Rattle.cls_resolve.specs.declared.named.MemberIndex.{MemberIndex}
 use Rattle.cls_search.specs.MethodSearches.{own_method}
 use Rattle.cls_search.specs.declared.methods.MethodIndex.{MethodIndex}
-use Rattle.cls_set.proofs.Hierarchy.{none_some, same_some, some_and, true_false}
+use Rattle.cls_set.proofs.Hierarchy.{none_some, same_some}
 use Rattle.cls_set.specs.Subtypes.{Extends, IsSubclass}
 use Rattle.cls_set.specs.Subtypes.IsSubclass.{itself, superclass, through}
 use Rattle.cls_set.specs.declared.class.Class.{Class}
@@ -33,7 +31,7 @@ use Rattle.vm_act.specs.declared.calls.Selected.TheVariants as selected
 use Rattle.vm_code.specs.Methods.{callee_of, chosen, first_up, init_begins_uninit, interface_selected, is_init, is_public_at, or_else, public_one, selected_of, selection_of, superclass_at}
 use Rattle.vm_code.specs.Classes.{is_subtype}
 use Rattle.vm_typing.specs.Fits.{no_method}
-use Rattle.vm_typing.specs.Owed.{IsCallee, Selects, SelectsMethod}
+use Rattle.vm_typing.specs.Owed.{Selects, SelectsMethod}
 use Rattle.vm_typing.specs.World.{World, MethodType}
 use Rattle.vm_world.proofs.Callees.{callee_agrees, plain_callee_agrees}
 use Rattle.vm_world.proofs.Methods.{begins_not}
@@ -41,20 +39,19 @@ use Rattle.vm_world.proofs.Subjects.{passes_both, stands}
 use Rattle.vm_world.specs.Files.{AreAsRead, Declares}
 use Rattle.vm_world.specs.Worlds as worlds
 use Rattle.vm_world.specs.Worlds.{method_type, subject_at, world_of}
-use Rattle.vm_rows.specs.Steps.{AreDeclared}
 use Rattle.vm_rows.specs.Rows.{Constructs, RunsAs, arguments_in, result_in}
-use Rattle.vm_rows.proofs.Declared.{IsNumbered, IsOwn, numbered, own_is}
+use Rattle.vm_rows.proofs.Declared.{IsNumbered, numbered, own_is}
 use Rattle.vm_rows.proofs.Entries.{callee_number, declared_is, found}
 
 -- the types of a method with code, by its name and its flags
 init_types : (s : Subject) (frames : ℕ → Frame) → worlds.is_init s ≡ true → (method_type s frames).arguments ≡ map (field_vtype s.classes) s.method.types.parameters
 init_types s frames e = rw e refl
 
-static_types : (s : Subject) (frames : ℕ → Frame) → worlds.is_init s ≡ false → is_static s.method ≡ true → (method_type s frames).arguments ≡ map (field_vtype s.classes) s.method.types.parameters
+pub static_types : (s : Subject) (frames : ℕ → Frame) → worlds.is_init s ≡ false → is_static s.method ≡ true → (method_type s frames).arguments ≡ map (field_vtype s.classes) s.method.types.parameters
 unfolding argument_types receiver_types
 static_types s frames e static = rw (e, static) refl
 
-instance_types : (s : Subject) (frames : ℕ → Frame) → worlds.is_init s ≡ false → is_static s.method ≡ false
+pub instance_types : (s : Subject) (frames : ℕ → Frame) → worlds.is_init s ≡ false → is_static s.method ≡ false
     → (method_type s frames).arguments ≡ vtype.Object s.class_id ∷ map (field_vtype s.classes) s.method.types.parameters
 unfolding argument_types receiver_types
 instance_types s frames e static = rw (e, static, begins_not s e) refl
@@ -74,16 +71,16 @@ module _ (links : Links) (frames : ℕ → ℕ → Frame) (are : AreLinks links)
   abbrev type_in : ℕ → Option Subject → MethodType
   type_in number o = option_map_or (λ (s : Subject). method_type s (frames number)) o no_method
 
-  -- what a call runs, where it is told of a method that a class declares
-  record IsRun (begins : Bool) (callee : Callee) (d : Declared) : Type 0 where
-    s : Subject
-    at : subject_at links callee.method ≡ Some s
-    classes : s.classes ≡ links.classes
-    owner : s.class_id ≡ d.class
-    method : s.method ≡ d.method
-    type : world.method callee.method ≡ method_type s (frames callee.method)
+  -- what a call runs, if it is given a method that a class declares
+  pub record IsRun (begins : Bool) (callee : Callee) (d : Declared) : Type 0 where
+    pub s : Subject
+    pub at : subject_at links callee.method ≡ Some s
+    pub classes : s.classes ≡ links.classes
+    pub owner : s.class_id ≡ d.class
+    pub method : s.method ≡ d.method
+    pub type : world.method callee.method ≡ method_type s (frames callee.method)
 
-  is_run : (begins : Bool) (id : MethodId) (callee : Callee) (d : Declared) → slice_get (declared_methods links.classes) id.0 ≡ Some d → callee_of links.classes begins id ≡ Some callee → IsRun begins callee d
+  pub is_run : (begins : Bool) (id : MethodId) (callee : Callee) (d : Declared) → slice_get (declared_methods links.classes) id.0 ≡ Some d → callee_of links.classes begins id ≡ Some callee → IsRun begins callee d
   unfolding callee_of
   is_run begins id callee d there e =
       let method = passes_both (method_at links.classes id) _ callee e in
@@ -95,12 +92,12 @@ module _ (links : Links) (frames : ℕ → ℕ → Frame) (are : AreLinks links)
       record { s = f.m; at = at; classes = f.classes; owner = is.0; method = is.1; type = ap (type_in callee.method) at }
 
   -- the types of parameters, of the classes of the set
-  parameters_same : (s : Subject) (d : Declared) (method : Method) → s.classes ≡ links.classes → s.method ≡ d.method → d.method ≡ method
+  pub parameters_same : (s : Subject) (d : Declared) (method : Method) → s.classes ≡ links.classes → s.method ≡ d.method → d.method ≡ method
       → map (field_vtype s.classes) s.method.types.parameters ≡ arguments_in world method
   parameters_same s d method classes declared same =
       ap (λ (cs : List Class). map (field_vtype cs) s.method.types.parameters) classes ∙ ap (λ (n : Method). map (field_vtype links.classes) n.types.parameters) (declared ∙ same)
 
-  result_same : (s : Subject) (d : Declared) (method : Method) → s.classes ≡ links.classes → s.method ≡ d.method → d.method ≡ method → result_type s ≡ result_in world method
+  pub result_same : (s : Subject) (d : Declared) (method : Method) → s.classes ≡ links.classes → s.method ≡ d.method → d.method ≡ method → result_type s ≡ result_in world method
   unfolding result_type
   result_same s d method classes declared same =
       ap (λ (cs : List Class). option_map (field_vtype cs) s.method.types.result) classes ∙ ap (λ (n : Method). option_map (field_vtype links.classes) n.types.result) (declared ∙ same)
@@ -155,7 +152,7 @@ module _ (links : Links) (frames : ℕ → ℕ → Frame) (are : AreLinks links)
 
   -- ---- what selection finds
 
-  extends : (a up : ClassId) → superclass_at links.classes a ≡ Some up → Extends links.classes a up
+  pub extends : (a up : ClassId) → superclass_at links.classes a ≡ Some up → Extends links.classes a up
   extends a up e = on (slice_get links.classes a.0) e
     where
       on : (o : Option Class) → option_and_then (λ (c : Class). c.superclass) o ≡ Some up → IsSomeAnd o (λ c. c.superclass ≡ Some up)
@@ -216,12 +213,12 @@ module _ (links : Links) (frames : ℕ → ℕ → Frame) (are : AreLinks links)
         declares = subst (Declares links.classes) (sym s.method) (record { class = class; c = own.c; index = by.0.index; at = own.at; is = own.there });
       }
 
-  -- a method that a class selects for one that is named
-  selected_runs : AreDeclared links.classes → (member : MemberIndex) (method : Method) → checked.method_at links.classes member ≡ Some method → is_init method ≡ false → (class : ClassId) (id : MethodId)
+  -- a method that a class selects for a named one
+  selected_runs : (member : MemberIndex) (method : Method) → checked.method_at links.classes member ≡ Some method → is_init method ≡ false → (class : ClassId) (id : MethodId)
       → selection_of links.classes class (number_in links.classes (method_of member)) ≡ Some id → (callee : Callee) → callee_of links.classes false id ≡ Some callee
       → SelectsMethod world class (arguments_in world method) (result_in world method) callee
   unfolding selection_of
-  selected_runs declared member method e other class id selection callee is =
+  selected_runs member method e other class id selection callee is =
       let n = named_number member method e in
       let c = passes_both (slice_get links.classes member.class.0) _ method e in
       let named = passes_both (method_at links.classes (number_in links.classes (method_of member))) _ id selection in
@@ -233,7 +230,7 @@ module _ (links : Links) (frames : ℕ → ℕ → Frame) (are : AreLinks links)
       let normal : worlds.is_init r.s ≡ false = ap (λ (m : Method). bytes_eq m.name (codes "<init>")) r.method ∙ not_init in
       let of : is_static r.s.method ≡ false = ap is_static r.method ∙ i.of_instances in
       let types : i.d.method.types ≡ method.types =
-      declared.described i.d.method method i.declares (record { class = member.class; c = c.0; index = member.index; at = c.1.0; is = c.1.1 }) (i.descriptor ∙ ap (λ (m : Method). m.descriptor) one) in
+      read.described i.d.method method i.declares (record { class = member.class; c = c.0; index = member.index; at = c.1.0; is = c.1.1 }) (i.descriptor ∙ ap (λ (m : Method). m.descriptor) one) in
       let owner : (world.method callee.method).owner ≡ r.s.class_id = ap (λ (t : MethodType). t.owner) r.type in
       let arguments : map (field_vtype r.s.classes) r.s.method.types.parameters ≡ arguments_in world method =
       parameters_same r.s i.d i.d.method r.classes r.method refl ∙ ap (λ (ts : MethodDescriptor). map (field_vtype links.classes) ts.parameters) types in
@@ -249,7 +246,7 @@ module _ (links : Links) (frames : ℕ → ℕ → Frame) (are : AreLinks links)
         above = inr (subst (λ (o : ClassId). IsSubclass links.classes class o) (sym (owner ∙ (r.owner ∙ i.class))) first.1);
       }
 
-  module _ (declared : AreDeclared links.classes) (member : MemberIndex) (method : Method) (e : checked.method_at links.classes member ≡ Some method) (other : is_init method ≡ false) (class : ClassId) where
+  module _ (member : MemberIndex) (method : Method) (e : checked.method_at links.classes member ≡ Some method) (other : is_init method ≡ false) (class : ClassId) where
     abbrev id : MethodId
     id = number_in links.classes (method_of member)
 
@@ -258,7 +255,7 @@ module _ (links : Links) (frames : ℕ → ℕ → Frame) (are : AreLinks links)
 
     callee_found : (found : MethodId) → selection_of links.classes class id ≡ Some found → (o : Option Callee) → callee_of links.classes false found ≡ o → Finds (chosen o)
     callee_found found selection None is = tt
-    callee_found found selection (Some callee) is = selected_runs declared member method e other class found selection callee is
+    callee_found found selection (Some callee) is = selected_runs member method e other class found selection callee is
 
     selection_found : (o : Option MethodId) → selection_of links.classes class id ≡ o → Finds (chosen (option_and_then (callee_of links.classes false) o))
     selection_found None selection = tt

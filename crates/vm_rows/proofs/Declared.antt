@@ -1,6 +1,6 @@
--- Where the methods that classes declare stand among all methods, by their numbers.
-use Rattle.std.proofs.Common.{◌≡◌, ℕ, zero, suc, ◌+◌, ◌++◌, Bool, true, false, List, [], ◌∷◌, length, take, refl, sym, subst, ap, ◌∙◌, Option, Some, None, arith, add-zero, zero-add}
-use Rattle.std.specs.Prelude.{◌&&◌, bytes_eq, if◌then◌else◌, option_and_then, option_map, slice_get}
+-- The numbers, among all methods, of the methods that classes declare.
+use Rattle.std.proofs.Common.{◌≡◌, ℕ, zero, suc, ◌+◌, ◌++◌, Bool, true, false, List, [], ◌∷◌, length, take, refl, sym, ap, ◌∙◌, Option, Some, None, arith, add-zero, zero-add}
+use Rattle.std.specs.Prelude.{◌&&◌, bytes_eq, if◌then◌else◌, option_map, slice_get}
 use Rattle.std.proofs.lemmas.List.{length-append}
 use Rattle.std.proofs.lemmas.Slice.Eq.{bytes_eq-Decides}
 use Rattle.cf_reader.specs.declared.class_file.Method.{Method}
@@ -14,7 +14,7 @@ use Rattle.cls_set.specs.declared.class.Class.{Class}
 use Rattle.space_ids.specs.declared.ids.ClassId.{ClassId}
 use Rattle.vm_world.proofs.Subjects.{passes_both}
 
-behind : {X : Type 0} (xs ys : List X) (j : ℕ) → slice_get (xs ++ ys) (length xs + j) ≡ slice_get ys j
+pub behind : {X : Type 0} (xs ys : List X) (j : ℕ) → slice_get (xs ++ ys) (length xs + j) ≡ slice_get ys j
 behind [] ys j = ap (slice_get ys) (zero-add j)
 behind (x ∷ xs) ys j = ap (slice_get (x ∷ (xs ++ ys))) (moved (length xs) j) ∙ behind xs ys j
   where

@@ -1,8 +1,6 @@
 -- Methods with code, among the linked methods and among those that classes declare.
-use Rattle.std.proofs.Common.{◌≡◌, ℕ, zero, suc, ◌+◌, ◌++◌, Bool, true, false, List, [], ◌∷◌, length, take, get_or, refl, sym, subst, ap, ◌∙◌, Option, Some, None, arith, add-zero, zero-add}
-use Rattle.std.specs.Prelude.{if◌then◌else◌, nat_le, option_and_then, option_map, slice_get, MatchOption, IsSomeAnd}
-use Rattle.std.specs.List.{AllZip}
-use Rattle.std.proofs.lemmas.List.{length-append}
+use Rattle.std.proofs.Common.{◌≡◌, ℕ, Bool, true, false, List, refl, sym, subst, ap, ◌∙◌, Option, Some, None}
+use Rattle.std.specs.Prelude.{if◌then◌else◌, nat_le, option_map, slice_get, MatchOption, IsSomeAnd}
 use Rattle.std.proofs.lemmas.Option.{slice_get_within, get_or_from_slice_get}
 use Rattle.cf_reader.specs.declared.class_file.Code.{Code}
 use Rattle.cf_reader.specs.declared.class_file.Method.{Method}
@@ -16,7 +14,7 @@ use Rattle.cls_set.specs.declared.class.Class.{Class}
 use Rattle.ver_check.specs.Acceptance.{subject_of}
 use Rattle.ver_frames.specs.Method.{Subject}
 use Rattle.vm_act.specs.declared.calls.Callee.{Callee}
-use Rattle.vm_code.specs.Methods.{callee_of, callee_with, words_passed}
+use Rattle.vm_code.specs.Methods.{callee_of, words_passed}
 use Rattle.vm_typing.proofs.Leads.{AllZip-get}
 use Rattle.vm_world.proofs.Subjects.{passes_both}
 use Rattle.vm_world.specs.Worlds.{subject_at}
@@ -55,7 +53,7 @@ declared_is links are number s e d at =
     let declared : d.method ≡ there.method = same_some (ap (option_map (λ (d : Declared). d.method)) (sym at) ∙ there.declared) in
     (sym entry.class ∙ (ap (λ (l : LinkedMethod). l.class) (sym same) ∙ r.1.1.class), sym (declared ∙ method))
 
--- what a call is told of a method is of its number
+-- what a call is given of a method is of its number
 pub callee_number : (classes : List Class) (begins : Bool) (id : MethodId) (callee : Callee) → callee_of classes begins id ≡ Some callee → callee.method ≡ id.0
 unfolding callee_of
 callee_number classes begins id callee e =

@@ -1,6 +1,6 @@
 -- What each instruction of a linked set names.
-use Rattle.std.proofs.Common.{◌≡◌, ℕ, List, refl, sym, subst, Option, Some, None}
-use Rattle.std.specs.Prelude.{IsSome, codes, option_map, slice_get}
+use Rattle.std.proofs.Common.{◌≡◌, ℕ, List, refl, subst, Option, Some, None}
+use Rattle.std.specs.Prelude.{IsSome, option_map, slice_get}
 use Rattle.cf_insns.specs.declared.insn.Insn.{Insn}
 use Rattle.cf_insns.specs.declared.insn.Insn.TheVariants as read
 use Rattle.cls_link.specs.LinkedForms as forms
@@ -11,26 +11,24 @@ use Rattle.cls_link.specs.declared.linked_code.LinkedInsn.{LinkedInsn}
 use Rattle.cls_link.specs.declared.linked_code.LinkedInsn.TheVariants as linked
 use Rattle.cls_link.specs.declared.linked_code.LinkedSwitch.{LinkedSwitch}
 use Rattle.cls_set.proofs.Hierarchy.{none_some, same_some}
-use Rattle.cls_set.specs.Classes.{name_at, number_of}
 use Rattle.space_ids.specs.declared.ids.ClassId.{ClassId}
 use Rattle.ver_frames.specs.Frames.{Frame}
-use Rattle.ver_frames.specs.Method.{Subject}
 use Rattle.vm_typing.specs.World.{World}
 use Rattle.vm_world.proofs.Owing.{owed}
 use Rattle.vm_world.specs.Files.{AreAsRead}
 use Rattle.vm_world.specs.Worlds.{AreTyped, world_of}
 use Rattle.vm_rows.specs.Rows.{HasThrowable, Names}
-use Rattle.vm_rows.specs.Steps.{AreDeclared, AreMembersNamed, AreNamed, NamesMember}
+use Rattle.vm_rows.specs.Steps.{AreMembersNamed, AreNamed, NamesMember}
 use Rattle.vm_rows.proofs.Readings.{linked_at}
 use Rattle.vm_rows.proofs.Sets.{object_named, casts_to, has_throwable, makes_objects}
 
-module _ (links : Links) (frames : ℕ → ℕ → Frame) (are : AreLinks links) (typed : AreTyped links frames) (files : AreAsRead links.classes) (declared : AreDeclared links.classes) where
+module _ (links : Links) (frames : ℕ → ℕ → Frame) (are : AreLinks links) (typed : AreTyped links frames) (files : AreAsRead links.classes) where
   abbrev world : World
   world = world_of links frames
 
   throwable : HasThrowable world
   throwable =
-      has_throwable world (owed links frames are typed files) are.set files declared
+      has_throwable world (owed links frames are typed files) are.set files
       (object_named links.classes are.set)
 
   module _ (current : ClassId) (switches : List LinkedSwitch) where
@@ -41,7 +39,7 @@ module _ (links : Links) (frames : ℕ → ℕ → Frame) (are : AreLinks links)
     mapped None f i names e = absurd (none_some e)
     mapped (Some target) f i names e = subst Named (same_some e) (names target)
 
-    nameless : (all : List ℕ) (at : ℕ) (insn : Insn) (i : LinkedInsn) → linked_insn all at insn ≡ Some i → Named i
+    pub nameless : (all : List ℕ) (at : ℕ) (insn : Insn) (i : LinkedInsn) → linked_insn all at insn ≡ Some i → Named i
     nameless all at read.Nop i e = subst Named (same_some e) tt
     nameless all at read.Null i e = subst Named (same_some e) tt
     nameless all at (read.Constant value) i e = subst Named (same_some e) tt
@@ -69,8 +67,8 @@ module _ (links : Links) (frames : ℕ → ℕ → Frame) (are : AreLinks links)
     by_name (forms.IsLinkedName.put_field index class m f is) member = member
     by_name (forms.IsLinkedName.invoke how index class m method is) member = member
     by_name (forms.IsLinkedName.invoke_interface index count class m method is) member = member
-    by_name (forms.IsLinkedName.new index class is) member = makes_objects world (owed links frames are typed files) are.set files declared (λ c. refl) is.text class is.number
-    by_name (forms.IsLinkedName.check_cast index type is) member = casts_to world (owed links frames are typed files) are.set files declared type
+    by_name (forms.IsLinkedName.new index class is) member = makes_objects world (owed links frames are typed files) are.set files (λ c. refl) is.text class is.number
+    by_name (forms.IsLinkedName.check_cast index type is) member = casts_to world (owed links frames are typed files) are.set files type
     by_name (forms.IsLinkedName.instance_of index type is) member = tt
 
     some_there : (o : Option LinkedSwitch) (s : LinkedSwitch) → o ≡ Some s → IsSome o

@@ -9,10 +9,8 @@ use Rattle.cls_link.specs.Links.{Links, AreLinks}
 use Rattle.cls_link.specs.Targets.{index_from}
 use Rattle.cls_link.specs.declared.linked_code.LinkedInsn.{LinkedInsn}
 use Rattle.cls_link.specs.declared.linked_code.LinkedInsn.TheVariants as insn
-use Rattle.cls_link.specs.declared.linked_code.LinkedMethod.{LinkedMethod}
-use Rattle.cls_set.proofs.Hierarchy.{same_some, some_of, true_false}
+use Rattle.cls_set.proofs.Hierarchy.{some_of, true_false}
 use Rattle.cls_set.specs.declared.class.Class.{Class}
-use Rattle.ver_check.specs.Acceptance.{subject_of}
 use Rattle.ver_check.specs.Bodies.{Body, body_of, declared_at, frame_at_offset, offset_at}
 use Rattle.ver_check.specs.Effects.{effect, falls_through, targets}
 use Rattle.ver_check.specs.Listed.{IsListed}
@@ -188,7 +186,7 @@ module _ (links : Links) (frames : ℕ → ℕ → Frame) (are : AreLinks links)
         subst (λ (o : Option LinkedInsn). Leads world asked m.heap.cells (on_some (λ i. act links i m) o)) (sym (insn_is m.stack.frame.method s e m.stack.frame.index one.0 one.1))
         (row (body_of s by.declared) one.0 asked at.fresh at.receiver ((world.method m.stack.frame.method).frames m.stack.frame.index) fine.after m (stands_at s e by one.0 one.1 fine) at.at)
 
-    steps_typed : Leads world asked m.heap.cells (step links m)
+    pub steps_typed : Leads world asked m.heap.cells (step links m)
     steps_typed = steps_at (subject_at links m.stack.frame.method) refl at.at.frame.known
 
   pub never_stuck : AreNamed links frames → AreNeverStuck links frames

@@ -1,5 +1,5 @@
 -- What every class set gives of what instructions name: classes of which objects are made, casts, and what athrow throws.
-use Rattle.std.proofs.Common.{◌≡◌, ◌⊎◌, inl, inr, ℕ, zero, suc, ◌<◌, ◌++◌, Bool, true, false, List, [], ◌∷◌, length, map, refl, sym, subst, ap, ◌∙◌, Option, Some, None, arith, lit<}
+use Rattle.std.proofs.Common.{◌≡◌, ◌⊎◌, inl, inr, ℕ, zero, suc, ◌<◌, ◌++◌, Bool, true, false, List, [], ◌∷◌, length, refl, sym, subst, ap, ◌∙◌, Option, Some, None, arith, lit<}
 use Rattle.std.specs.Prelude.{nat_eq, nat_lt, ◌||◌, ◌&&◌, Contains, IsSome, IsSomeAnd, codes, option_map, option_to_list, slice_get}
 use Rattle.std.specs.List.{AllZip, list_any}
 use Rattle.std.specs.Option.{option_map_or, unwrap_or}
@@ -7,13 +7,13 @@ use Rattle.std.proofs.lemmas.List.{length-map}
 use Rattle.std.proofs.lemmas.List.Elements.{Contains-append_cases, Contains-append_right}
 use Rattle.std.proofs.lemmas.Option.{slice_get-map, slice_get_within}
 use Rattle.cls_search.specs.Searches.{supertypes_of}
-use Rattle.cls_set.proofs.Hierarchy.{equal, none_some, same_some, some_and, some_of, subclass_first, true_false}
+use Rattle.cls_set.proofs.Hierarchy.{equal, none_some, same_some, some_of, subclass_first, true_false}
 use Rattle.cls_set.proofs.Names.{name_at_number}
 use Rattle.cls_set.proofs.Supertypes.{direct_in_set}
-use Rattle.cls_set.specs.BuiltIn.{BuiltIn, built_in, built_ins}
+use Rattle.cls_set.specs.BuiltIn.{built_in, built_ins}
 use Rattle.cls_set.specs.Classes.{IsInterface, name_at, names, number_of}
 use Rattle.cls_set.specs.Sets.{IsClassSet}
-use Rattle.cls_set.specs.Subtypes.{Declares, Extends, IsSubclass}
+use Rattle.cls_set.specs.Subtypes.{IsSubclass}
 use Rattle.cls_set.specs.Subtypes.IsSubclass.{itself, superclass}
 use Rattle.cls_set.specs.declared.class.Class.{Class}
 use Rattle.cls_resolve.specs.declared.named.CastType.{CastType}
@@ -27,10 +27,9 @@ use Rattle.vm_typing.specs.Owed.{HasKind, Owed}
 use Rattle.vm_typing.specs.World.{World, IsKnown}
 use Rattle.vm_world.proofs.LookUps.{held}
 use Rattle.vm_world.specs.Files.{AreAsRead, types_of}
-use Rattle.vm_rows.specs.Steps.{AreDeclared}
 use Rattle.vm_rows.specs.Rows.{CastsTo, HasThrowable, MakesObjects}
 
-object_stands : (classes : List Class) → IsClassSet classes → IsSome (number_of classes (codes "java/lang/Object"))
+pub object_stands : (classes : List Class) → IsClassSet classes → IsSome (number_of classes (codes "java/lang/Object"))
 unfolding built_ins
 object_stands classes set = set.built_in 0 (built_in [] []) (lit< tt)
 
@@ -74,7 +73,7 @@ superclass_among None s (i, h, e) = absurd (omega (arith, h))
 superclass_among (Some t) s (zero, h, e) = ap (λ x. Some x) e
 superclass_among (Some t) s (suc i, h, e) = absurd (omega (arith, h))
 
-direct_in : (o : Option Class) (s : ClassId) → Contains (option_map_or (λ (c : Class). c.interfaces ++ option_to_list c.superclass) o []) s
+pub direct_in : (o : Option Class) (s : ClassId) → Contains (option_map_or (λ (c : Class). c.interfaces ++ option_to_list c.superclass) o []) s
     → IsSomeAnd o (λ c. c.superclass ≡ Some s) ⊎ IsSomeAnd o (λ c. Contains c.interfaces s)
 direct_in None s (i, h, e) = absurd (omega (arith, h))
 direct_in (Some c) s among =
@@ -83,7 +82,7 @@ direct_in (Some c) s among =
       | inr up ↦ inl (superclass_among c.superclass s up)
     ]
 
-module _ (w : World) (owed : Owed w) (set : IsClassSet w.classes) (read : AreAsRead w.classes) (declared : AreDeclared w.classes) where
+module _ (w : World) (owed : Owed w) (set : IsClassSet w.classes) (read : AreAsRead w.classes) where
   -- what is a subtype of a class may stand for it
   under_stands : (n : ℕ) (a b : ClassId) → IsKnown w a → is_under n w.classes a b ≡ true → IsObjectAssignable w.classes a b
   unfolding is_under
@@ -99,7 +98,7 @@ module _ (w : World) (owed : Owed w) (set : IsClassSet w.classes) (read : AreAsR
       higher go (x, among, rest) =
           elim (direct_in (slice_get w.classes a.0) x among) [
             | inl extends ↦ owed.further a x b known (inr (superclass a x extends)) (go x b (direct_in_set w.classes set a x (inl extends)) rest)
-            | inr declares ↦ owed.further a x b known (inl (declared.superinterfaces a x declares)) (go x b (direct_in_set w.classes set a x (inr declares)) rest)
+            | inr declares ↦ owed.further a x b known (inl (read.superinterfaces a x declares)) (go x b (direct_in_set w.classes set a x (inr declares)) rest)
           ]
 
   pub casts_to : (type : CastType) → CastsTo w type
@@ -136,7 +135,7 @@ module _ (w : World) (owed : Owed w) (set : IsClassSet w.classes) (read : AreAsR
       apart class throwable (inl interface) =
           let i = some_of (slice_get w.classes class.0) IsInterface interface in
           let c = class_at_number w.classes class (codes "java/lang/Throwable") throwable in
-          declared.throwable class c.0 c.1 c.2 (subst IsInterface (same_some (sym i.1 ∙ c.1)) i.2)
+          read.throwable class c.0 c.1 c.2 (subst IsInterface (same_some (sym i.1 ∙ c.1)) i.2)
       apart class throwable (inr below) =
           let o = class_at_number w.classes w.object (codes "java/lang/Object") named in
           let c = class_at_number w.classes class (codes "java/lang/Throwable") throwable in

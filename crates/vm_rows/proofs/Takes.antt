@@ -1,4 +1,4 @@
--- What an effect of the checker says where it passes: what it takes off the operands and what it puts on.
+-- What an effect of the checker says if it passes: what it takes off the operands and what it puts on.
 use Rattle.std.proofs.Common.{◌≡◌, ℕ, ◌+◌, ◌<◌, Bool, true, false, Option, Some, None, Result, Ok, Err, List, [], ◌∷◌, length, refl, sym, subst, ◌∙◌, arith}
 use Rattle.std.specs.Prelude.{nat_lt, if◌then◌else◌, slice_get}
 use Rattle.std.proofs.lemmas.Bool.Decides.{nat_tests}
@@ -20,7 +20,7 @@ same_ok e = cc
 pub no_error : {A : Type 0} {a : A} {broken : CheckRule} → ◌≡◌ {A = Checked A} (Err broken) (Ok a) → ⊥
 no_error e = cc
 
--- one after the other
+-- two steps, one after the other
 pub passes_then : {A B : Type 0} (r : Checked A) (k : A → Checked B) (y : B) → (r >>= k) ≡ Ok y → (x : A) × ((r ≡ Ok x) × (k x ≡ Ok y))
 passes_then (Ok x) k y e = (x, (refl, e))
 passes_then (Err broken) k y e = absurd (no_error e)
@@ -74,7 +74,7 @@ module _ (body : Body) where
   pub take_last : (asked : Want) (f y : Frame) → take body asked f ≡ Ok y → TakesOne body asked f (λ top. Ok top.1) y
   take_last asked f y e = taken_then asked f (λ top. Ok top.1) y e
 
-  -- a type is put on, where there is room
+  -- a type is put on, if there is room
   pub gives : (t : VType) (f y : Frame) → give body t f ≡ Ok y → (length f.stack < body.max_stack) × (record f { stack = t ∷ f.stack } ≡ y)
   unfolding give
   gives t f y e =

@@ -94,7 +94,7 @@ module _ (classes : List Class) where
           | inr is ↦ inr ((below_decides classes set given asked).0 is)
         ]
 
-    -- a type that may stand where another is asked, by the test
+    -- a type that may stand for another, by the test
     pub assignable_by : (s t : VType) → is_assignable classes s t ≡ true → IsAssignable classes s t
     unfolding IsAssignable is_assignable
     assignable_by vtype.Top vtype.Top e = tt

@@ -1,4 +1,4 @@
--- "Instructions are type safe" (JVMS 4.10.1.9): where the checker's effect of an instruction takes the type frame of a method, the act of the
+-- "Instructions are type safe" (JVMS 4.10.1.9): if the checker's effect of an instruction takes the type frame of a method, the act of the
 -- instruction takes a machine that fits the frame.
 use Rattle.std.specs.Prelude.{◌≡◌, ℕ, ◌+◌, ◌<◌, true, ℤ, Option, Some, Ok, List, length, slice_get, IsSome, codes, false, map, option_map}
 use Rattle.std.specs.List.{AllByRecursion, AllZip}
@@ -47,7 +47,7 @@ use Rattle.vm_act.specs.declared.calls.Selected.{Selected}
 use Rattle.vm_code.specs.Calls.{id_of}
 use Rattle.vm_code.specs.Methods.{callee_of, init_begins_uninit, interface_selected, is_init, object_of, selected_of, special_start}
 
--- A field that an instruction names, and the slot where objects of the class that is named keep it, and of the class that declares it.
+-- A field that an instruction names, and its slot in objects of the named class, and of the class that declares it.
 pub record NamesField (w : World) (class : ClassId) (member : MemberIndex) : Type 0 where
   pub field : Field
   pub declared : field_at w.classes member ≡ Some field
@@ -90,7 +90,7 @@ pub record RunsAs (w : World) (callee : Callee) (arguments : List VType) (result
   pub passed : (w.method callee.method).arguments ≡ arguments
   pub gives : (w.method callee.method).result ≡ result
 
--- invokestatic: the method that is named, where it has code
+-- invokestatic: the named method, if it has code
 pub record NamesStatic (w : World) (member : MemberIndex) : Type 0 where
   pub method : Method
   pub declared : method_at w.classes member ≡ Some method
@@ -120,8 +120,8 @@ pub record Constructs (w : World) (class : ClassId) (callee : Callee) (arguments
   pub passed : (w.method callee.method).arguments ≡ arguments
   pub owner : (w.method callee.method).owner ≡ class
 
--- invokespecial, in a method of the current class: an `<init>` of the class that is named, or what the current class and those below it
--- select above it, where the current class may stand for the one that is named
+-- invokespecial, in a method of the current class: an `<init>` of the named class, or what the current class and those below it select
+-- above it, if the current class may stand for the one that is named
 pub record NamesSpecial (w : World) (current class : ClassId) (member : MemberIndex) : Type 0 where
   pub method : Method
   pub declared : method_at w.classes member ≡ Some method
@@ -163,8 +163,8 @@ pub record IsBodyOf (links : Links) (w : World) (number : ℕ) (body : Body) : T
   pub declared_by : option_map (λ (entry : LinkedMethod). entry.class) (slice_get links.methods number) ≡ Some body.class_id
   pub switches : (index : ℕ) → switch_at links number index ≡ slice_get body.switches index
 
--- A machine stands at an instruction of a method, whose effect on the frame there gives a frame that comes in wherever the instruction
--- leads.
+-- A machine stands at an instruction of a method. The instruction's effect on the frame there gives a frame that comes in at each index to
+-- which the instruction leads.
 pub record StandsAt (links : Links) (w : World) (body : Body) (insn : LinkedInsn) (f after : Frame) (m : Machine) : Type 0 where
   pub body_of : IsBodyOf links w m.stack.frame.method body
   pub is : slice_get body.insns m.stack.frame.index ≡ Some insn

@@ -15,10 +15,9 @@ ghost use Rattle.vm_code.specs.Calls.{id_of};
 ghost use Rattle.vm_code.specs.Methods.{callee_of, init_begins_uninit, interface_selected, is_init, selected_of};
 ghost use Rattle.vm_typing.specs.Owed.{Owed, Selects};
 ghost use Rattle.vm_typing.specs.World.{World};
-ghost use Rattle.vm_world.specs.Files.{AreAsRead};
 ghost use Rattle.vm_world.specs.Worlds.{AreTyped, world_of};
 ghost use Rattle.vm_rows.specs.Rows.{Constructs, RunsAs, arguments_in, result_in, WordRows, IntRows, ReturnRows, ObjectRows, CallRows};
-ghost use Rattle.vm_rows.specs.Steps.{AreDeclared, AreNamed, AreMembersNamed, AreNeverStuck};
+ghost use Rattle.vm_rows.specs.Steps.{AreNamed, AreMembersNamed, AreNeverStuck};
 
 /// At a checked instruction on constants, local variables or operands as such, a machine that fits the
 /// frame there is not stuck, and goes on typed.
@@ -41,41 +40,41 @@ pub fn objects_are_let_through()
     ensures { (links : Links) (w : World) → Owed w → IsClassSet w.classes → (body : Body) → ObjectRows links w body }
 {}
 
-/// The same at calls: where a method is found, it may be run on what the operands are, and the caller
+/// The same at calls: if a method is found, it may be run on what the operands are, and the caller
 /// waits for its result.
 pub fn calls_are_let_through()
     ensures { (links : Links) (w : World) → Owed w → IsClassSet w.classes → (body : Body) → CallRows links w body }
 {}
 
-/// A set that is linked and checked, of classes that are as files of the profile are, is never stuck:
-/// however many steps a typed machine makes by its instructions, there is a next one, or its task has
-/// ended with what it may give. What each instruction names has to be as linking says.
+/// A set that is linked and checked is never stuck: however many steps a typed machine makes by its
+/// instructions, there is a next one, or its task has ended with what it may give. What each instruction
+/// names has to be as linking says.
 pub fn named_sets_are_never_stuck()
-    ensures { (links : Links) (frames : ℕ → ℕ → Frame) → AreLinks links → AreTyped links frames → AreAsRead links.classes → AreNamed links frames → AreNeverStuck links frames }
+    ensures { (links : Links) (frames : ℕ → ℕ → Frame) → AreLinks links → AreTyped links frames → AreNamed links frames → AreNeverStuck links frames }
 {}
 
 /// What the instructions of a linked set name is as linking says: the switches, the classes of which
 /// objects are made, what casts ask, and what athrow throws. That the fields and the methods are is
 /// asked here.
 pub fn linked_sets_are_named()
-    ensures { (links : Links) (frames : ℕ → ℕ → Frame) → AreLinks links → AreTyped links frames → AreAsRead links.classes → AreDeclared links.classes → AreMembersNamed links frames → AreNamed links frames }
+    ensures { (links : Links) (frames : ℕ → ℕ → Frame) → AreLinks links → AreTyped links frames → AreMembersNamed links frames → AreNamed links frames }
 {}
 
-/// An `<init>` that is called begins as its class says: what the call is told of it agrees with its
-/// types.
+/// An `<init>` that is called begins as its class says: what the call is given of it agrees with
+/// its types.
 pub fn inits_are_of_their_types()
-    ensures { (links : Links) (frames : ℕ → ℕ → Frame) → AreLinks links → AreAsRead links.classes → (member : MemberIndex) (method : Method) (callee : Callee) → method_at links.classes member ≡ Some method → is_init method ≡ true → callee_of links.classes (init_begins_uninit links.classes member.class) (id_of links.classes member) ≡ Some callee → Constructs (world_of links frames) member.class callee (arguments_in (world_of links frames) method) }
+    ensures { (links : Links) (frames : ℕ → ℕ → Frame) → AreLinks links → (member : MemberIndex) (method : Method) (callee : Callee) → method_at links.classes member ≡ Some method → is_init method ≡ true → callee_of links.classes (init_begins_uninit links.classes member.class) (id_of links.classes member) ≡ Some callee → Constructs (world_of links frames) member.class callee (arguments_in (world_of links frames) method) }
 {}
 
-/// A static method that is called is passed the arguments, and gives the result, of the one that is
+/// A static method that is called takes the arguments, and gives the result, of the one that is
 /// named.
 pub fn static_methods_are_of_their_types()
-    ensures { (links : Links) (frames : ℕ → ℕ → Frame) → AreLinks links → AreAsRead links.classes → (member : MemberIndex) (method : Method) (callee : Callee) → method_at links.classes member ≡ Some method → is_init method ≡ false → is_static method ≡ true → callee_of links.classes false (id_of links.classes member) ≡ Some callee → RunsAs (world_of links frames) callee (arguments_in (world_of links frames) method) (result_in (world_of links frames) method) }
+    ensures { (links : Links) (frames : ℕ → ℕ → Frame) → AreLinks links → (member : MemberIndex) (method : Method) (callee : Callee) → method_at links.classes member ≡ Some method → is_init method ≡ false → is_static method ≡ true → callee_of links.classes false (id_of links.classes member) ≡ Some callee → RunsAs (world_of links frames) callee (arguments_in (world_of links frames) method) (result_in (world_of links frames) method) }
 {}
 
-/// What selection finds for invokevirtual and for invokeinterface is passed the arguments, and gives
-/// the result, of the method that is named, and is declared by the class or above it.
+/// What selection finds for invokevirtual and for invokeinterface takes the arguments, and gives
+/// the result, of the named method; the class or one above it declares it.
 pub fn selected_methods_are_of_their_types()
-    ensures classes { (links : Links) (frames : ℕ → ℕ → Frame) → AreLinks links → AreAsRead links.classes → AreDeclared links.classes → (member : MemberIndex) (method : Method) → method_at links.classes member ≡ Some method → is_init method ≡ false → (class : ClassId) → Selects (world_of links frames) class (arguments_in (world_of links frames) method) (result_in (world_of links frames) method) (selected_of links.classes class (id_of links.classes member)) }
-    ensures interfaces { (links : Links) (frames : ℕ → ℕ → Frame) → AreLinks links → AreAsRead links.classes → AreDeclared links.classes → (member : MemberIndex) (method : Method) → method_at links.classes member ≡ Some method → is_init method ≡ false → (class interface : ClassId) → Selects (world_of links frames) class (arguments_in (world_of links frames) method) (result_in (world_of links frames) method) (interface_selected links.classes class interface (id_of links.classes member)) }
+    ensures classes { (links : Links) (frames : ℕ → ℕ → Frame) → AreLinks links → (member : MemberIndex) (method : Method) → method_at links.classes member ≡ Some method → is_init method ≡ false → (class : ClassId) → Selects (world_of links frames) class (arguments_in (world_of links frames) method) (result_in (world_of links frames) method) (selected_of links.classes class (id_of links.classes member)) }
+    ensures interfaces { (links : Links) (frames : ℕ → ℕ → Frame) → AreLinks links → (member : MemberIndex) (method : Method) → method_at links.classes member ≡ Some method → is_init method ≡ false → (class interface : ClassId) → Selects (world_of links frames) class (arguments_in (world_of links frames) method) (result_in (world_of links frames) method) (interface_selected links.classes class interface (id_of links.classes member)) }
 {}

@@ -40,7 +40,7 @@ pub length-replicate : {A : Type 0} (n : ℕ) (x : A) → length (replicate n x)
 length-replicate zero x = refl
 length-replicate (suc n) x = ap suc (length-replicate n x)
 
--- the last so many, and what is before them
+-- the last n, and what is before them
 reversed : {A : Type 0} (n : ℕ) (ys : List A) → n ≤ length ys → reverse ys ≡ reverse (drop (length ys - n) ys) ++ reverse (take (length ys - n) ys)
 reversed n ys h = ap reverse (sym (take-append-drop (length ys - n) ys)) ∙ reverse-append (take (length ys - n) ys) (drop (length ys - n) ys)
 
@@ -116,7 +116,7 @@ count_locals words top arguments max_locals few locals within =
       length-drop base words,
     )
 
--- a call leads to the callee's frame also where words were added before
+-- a call leads to the callee's frame also if words were added before
 pub frames_of-called : (words more grown : List Tagged) (link : Link) (top : ℕ) (links : List Link) (free method arguments max_locals max_stack : ℕ)
     → grown ≡ words ++ more → IsPlaced link.bottom link.base link.limit top → top ≤ length words → top - arguments + max_locals ≤ length grown → arguments ≤ max_locals
     → arguments ≤ length (frame_of (take top words) link).operands
@@ -132,7 +132,7 @@ frames_of-called words more grown link top links free method arguments max_local
     frames_of-entered grown link top links free method arguments max_locals max_stack placed within locals few'
     ∙ ap (entered method arguments max_locals max_stack) before
 
--- as many words as there are asked for
+-- the words grow to `count`
 pub length-grown : (words grown : List Tagged) (count : ℕ) → grown ≡ words ++ replicate (count - length words) Unset → count ≤ length grown
 length-grown words grown count is =
     rw is (omega (arith, length-append words (replicate (count - length words) Unset), length-replicate (count - length words) Unset))

@@ -112,7 +112,7 @@ reverse-map f (x ∷ xs) =
     reverse-append (f x ∷ []) (map f xs)
     ∙ (ap (λ (zs : _). zs ++ f x ∷ []) (reverse-map f xs) ∙ (sym (map-append f (reverse xs) (x ∷ [])) ∙ ap (map f) (sym (reverse-append (x ∷ []) xs))))
 
--- where all copies of a value turn from the frame's bottom on, they turn in the running method's frame, and nowhere else
+-- if all copies of a value turn from the frame's bottom on, they turn in the running method's frame, and nowhere else
 pub frames_of-initialised : (words : List Tagged) (link : Link) (top : ℕ) (links : List Link) (free : ℕ) (of : Tagged) → IsPlaced link.bottom link.base link.limit top
     → frames_of (after_init_from link.bottom of words) link top links free ≡ initialised of (frames_of words link top links free)
 frames_of-initialised words link top links free of placed =
@@ -128,7 +128,7 @@ frames_of-initialised words link top links free of placed =
     drop_all : (n : ℕ) (xs : List Tagged) → drop n (after_init_from n of xs) ≡ map (after_init of) (drop n xs)
     drop_all n xs = drop-after_init n n of xs (omega arith)
 
--- where there is an operand, the frame reaches past its base
+-- if there is an operand, the frame reaches past its base
 pub has_operand : (words : List Tagged) (link : Link) (top : ℕ) → 0 < length (frame_of (take top words) link).operands → link.base < top
 has_operand words link top h =
     omega (arith, length-reverse (drop link.base (take top words)), length-drop link.base (take top words), length-take top words)
@@ -137,7 +137,7 @@ first_set : (xs : List Tagged) (v : Tagged) → slice_get xs 0 ≡ Some v → sl
 first_set [] v e = absurd (cc)
 first_set (x ∷ xs) v e = let same : x ≡ v = cc in rw same refl
 
--- where the first word of the frame becomes the receiver of its `<init>`
+-- the first word of the frame becomes the receiver of its `<init>`
 pub frames_of-begun : (words : List Tagged) (link : Link) (top : ℕ) (links : List Link) (free : ℕ) (v : Tagged) → IsPlaced link.bottom link.base link.limit top
     → 0 < length (frame_of (take top words) link).locals → slice_get words link.bottom ≡ Some v
     → frames_of (slice_set words link.bottom (as_this v)) link top links free ≡ begun (frames_of words link top links free)

@@ -1,6 +1,6 @@
--- How frames (JVMS 2.6) lie in one row of words: each from its `bottom` on, first the local variables, from `base` on the operands,
--- which end where the frame above begins. A frame's first local variables are the operands that its caller passed, so it begins
--- before the caller's operands end: nothing is copied.
+-- How frames (JVMS 2.6) lie in one row of words: each from its `bottom` on, first the local variables, from `base` on the operands, up to
+-- the frame above. A frame's first local variables are the operands that its caller passed, so it begins before the caller's operands end:
+-- nothing is copied.
 use Rattle.std.specs.Prelude.{ℕ, ◌+◌, ◌-◌, ◌*◌, ◌≤◌, List, [], ◌∷◌, length, take, drop, reverse}
 use Rattle.vm_heap.specs.Tagged.{Tagged}
 use Rattle.vm_stack.specs.Frames.{Frame, Frames}

@@ -1,4 +1,4 @@
-//! Where a frame lies in the row of words, and where its method stands.
+//! The bounds of a frame in the row of words, and the state of its method.
 
 /// A frame: its method and the next instruction, and its part of the row of words.
 #[derive(Clone, Copy)]
@@ -7,9 +7,9 @@ pub struct Link {
     pub method: u32,
     /// The index of the instruction that comes next.
     pub index: usize,
-    /// Where its local variables begin.
+    /// The index of the first word of its local variables.
     pub bottom: usize,
-    /// Where they end, and its operands begin.
+    /// The index after them, at which its operands begin.
     pub base: usize,
     /// How far its operands may reach.
     pub limit: usize,

@@ -13,10 +13,10 @@ use vm_heap::{Word, Words};
 #[derive(Drop)]
 pub struct Stack {
     words: Words,
-    // Where the running method's frame lies, and where its operands end.
+    // The bounds of the running method's frame, and the index after its operands.
     link: Link,
     top: usize,
-    // Where its callers' frames lie, the nearest last.
+    // The bounds of its callers' frames, the nearest last.
     links: Vec<Link>,
     // How many words are left for frames.
     free: usize,
@@ -36,7 +36,7 @@ impl Model for Stack {
 }
 
 impl Stack {
-    /// A stack with a budget of `words` words, all of them reserved, and no frame.
+    /// Returns a stack with a budget of `words` words, all of them reserved, and no frame.
     pub fn with_words(alloc: Global, words: usize) -> Result<Stack, AllocError>
         ensures { IfOk result (λ stack. stack ≡ record { frame = empty_frame; callers = []; free = words }) }
     {
@@ -56,7 +56,7 @@ impl Stack {
         })
     }
 
-    /// The number of the running method.
+    /// Returns the number of the running method.
     #[inline(always)]
     pub fn method(&self) -> u32
         ensures { result ≡ self.now.frame.method }
@@ -64,7 +64,7 @@ impl Stack {
         self.link.method
     }
 
-    /// The index of the instruction that comes next in it.
+    /// Returns the index of the running method's next instruction.
     #[inline(always)]
     pub fn index(&self) -> usize
         ensures { result ≡ self.now.frame.index }
@@ -72,7 +72,7 @@ impl Stack {
         self.link.index
     }
 
-    /// Lets the instruction of an index come next.
+    /// Sets the index of the next instruction.
     #[inline(always)]
     pub fn go_to(&mut self, index: usize)
         ensures { self.new ≡ at_index index self.old }
@@ -81,7 +81,7 @@ impl Stack {
         link.index = index;
     }
 
-    /// Pushes an operand. That there is room is proved, and not tested.
+    /// Pushes an operand. The caller owes that there is room; nothing tests it.
     #[inline(always)]
     pub fn push(&mut self, word: Word)
         requires { length self.old.frame.operands < self.old.frame.room }
@@ -91,7 +91,8 @@ impl Stack {
         self.top += 1;
     }
 
-    /// Takes the operand on top off. That there is one is proved, and not tested.
+    /// Takes the operand on top off, and returns it. The caller owes that there is one; nothing
+    /// tests it.
     #[inline(always)]
     pub fn pop(&mut self) -> Word
         requires { 0 < length self.old.frame.operands }
@@ -101,7 +102,8 @@ impl Stack {
         self.words.get(self.top)
     }
 
-    /// The operand with `depth` others above it. That there is one is proved, and not tested.
+    /// Returns the operand with `depth` others above it. The caller owes that there is one; nothing
+    /// tests it.
     #[inline(always)]
     pub fn operand(&self, depth: usize) -> Word
         requires { depth < length self.now.frame.operands }
@@ -110,7 +112,7 @@ impl Stack {
         self.words.get(self.top - 1 - depth)
     }
 
-    /// The value of a local variable. That there is one is proved, and not tested.
+    /// Returns the value of a local variable. The caller owes that there is one; nothing tests it.
     #[inline(always)]
     pub fn local(&self, local: usize) -> Word
         requires { local < length self.now.frame.locals }
@@ -120,7 +122,7 @@ impl Stack {
         self.words.get(self.link.bottom + local)
     }
 
-    /// Writes a local variable. That there is one is proved, and not tested.
+    /// Writes a local variable. The caller owes that there is one; nothing tests it.
     #[inline(always)]
     pub fn set_local(&mut self, local: usize, word: Word)
         requires { local < length self.old.frame.locals }
@@ -129,8 +131,8 @@ impl Stack {
         self.words.set(self.link.bottom + local, word);
     }
 
-    /// Lets all copies of an uninitialised object, in the running method's frame, be the object. It
-    /// does nothing when it runs.
+    /// Turns all copies of an uninitialised object, in the running method's frame, into the
+    /// initialised object. It does nothing when it runs.
     #[inline(always)]
     pub fn initialise(&mut self, word: &Word)
         ensures { self.new ≡ initialised word.now self.old }
@@ -138,8 +140,8 @@ impl Stack {
         self.words.initialise(self.link.bottom, word);
     }
 
-    /// Lets the first local variable be the receiver of the running `<init>`. It does nothing when it
-    /// runs.
+    /// Turns the first local variable into the receiver of the running `<init>`. It does nothing
+    /// when it runs.
     #[inline(always)]
     pub fn begin_init(&mut self)
         requires { 0 < length self.old.frame.locals }
@@ -149,9 +151,9 @@ impl Stack {
         self.words.begin_init(self.link.bottom, &word);
     }
 
-    /// Pushes a frame whose first local variables are the operands on top, where the budget has its
-    /// words: as many as local variables and operands, and four more. Else `false`, and nothing
-    /// changes. It takes no memory, and no word is copied or cleared.
+    /// Pushes a frame whose first local variables are the operands on top, and returns `true`, if
+    /// the budget has its words: one for each local variable and operand, and four more. Else it
+    /// returns `false`, and nothing changes. It takes no memory, and no word is copied or cleared.
     #[inline(always)]
     pub fn push_frame(
         &mut self,
@@ -189,8 +191,8 @@ impl Stack {
         true
     }
 
-    /// Takes the running method's frame off: its words are left for others again. That there is one
-    /// below is proved, and not tested.
+    /// Takes the running method's frame off: its words are free again. The caller owes that there
+    /// is one below; nothing tests it.
     #[inline(always)]
     pub fn pop_frame(&mut self)
         requires { 0 < length self.old.callers }
@@ -206,7 +208,7 @@ impl Stack {
         self.link = link;
     }
 
-    /// Whether a method called the running one: below all frames lies the empty one.
+    /// Returns whether a method called the running one: below all frames lies the empty one.
     #[inline(always)]
     pub fn has_caller(&self) -> bool
         ensures { result ≡ nat_lt 1 (length self.now.callers) }

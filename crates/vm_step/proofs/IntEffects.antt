@@ -1,4 +1,4 @@
--- The effects of the instructions that the machine makes, of ints alone: what the type checker's effects come to where they break no rule.
+-- The effects of the instructions that the machine makes, of ints alone: what the type checker's effects give if they break no rule.
 use Rattle.std.proofs.Common.{◌≡◌, ◌∙◌, ℕ, Bool, true, false, Option, Some, None, Result, Ok, Err, List, [], ◌∷◌, length, refl, ap, sym}
 use Rattle.std.specs.Prelude.{if◌then◌else◌, nat_lt, option_and_then, option_map, slice_get, slice_set}
 use Rattle.std.specs.Option.{option_map_or}
@@ -27,7 +27,7 @@ is_int = wants.is_int
 abbrev pub is_word : VType → Bool
 is_word = wants.is_word
 
--- the operand on top, where it passes the test, and the frame without it
+-- the operand on top, if it passes the test, and the frame without it
 unfoldable pub taken : (VType → Bool) → Frame → Option (VType × Frame)
 taken test f = taken_from f.stack
   where
@@ -77,7 +77,7 @@ effect body _ f = None
 
 -- ---- that these are the checker's
 
--- what came, where no rule is broken
+-- what comes, if no rule is broken
 abbrev made : {A : Type 0} → Result A CheckRule → Option A
 made (Ok x) = Some x
 made (Err e) = None

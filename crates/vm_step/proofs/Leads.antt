@@ -1,5 +1,5 @@
--- Where each instruction's effect on a type frame exists, and a machine fits the frame, what the instruction leads to is not stuck, and
--- fits the frame after it. Each lemma on one small step takes what is to hold in the end, and how it follows from the step's result.
+-- If an instruction has an effect on a type frame, and a machine fits the frame, what the instruction leads to is not stuck, and fits the
+-- frame after it. Each lemma on one small step takes what has to hold in the end, and how it follows from the step's result.
 use Rattle.std.proofs.Common.{◌≡◌, ℕ, zero, suc, ◌<◌, Bool, true, false, List, [], ◌∷◌, length, refl, ap, sym, subst, Option, Some, None}
 use Rattle.std.specs.Prelude.{ℤ, nat_lt, slice_get, slice_set, option_and_then, option_map, if◌then◌else◌}
 use Rattle.std.proofs.lemmas.Bool.{lt-ltb}

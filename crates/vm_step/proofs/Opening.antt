@@ -68,7 +68,7 @@ code_of-subject links id m e =
     let same : linked.0.insns ≡ m.linked.insns = insns_of _ m code.1.1 in
     rw (entry.1.0, linked.1.0) same
 
--- where all instructions of a class set are run, those of each method are
+-- if all instructions of a class set are run, those of each method are
 method_is_run : (links : Links) (id : MethodId) (m : Subject) → subject_at links id ≡ Some m → are_run links ≡ true → list_all is_run m.linked.insns ≡ true
 unfolding subject_at subject_of are_run
 method_is_run links id m e all =
@@ -146,7 +146,7 @@ startable-insns m e = some (length m.insns) (both_true (not (bytes_eq m.method.n
     some zero e = absurd (cc)
     some (suc n) e = omega arith
 
--- what a method takes and is given, where it is not refused
+-- what a method takes and is given, if it is not refused
 record Accepts (method : Method) (arguments : List Value) : Type 0 where
   static : is_static method ≡ true
   parameters : list_all is_int_type method.types.parameters ≡ true
@@ -184,7 +184,7 @@ module _ (links : Links) (id : MethodId) (m : Subject) (arguments : List Value) 
   abbrev body : Body
   body = body_of m safe.declared
 
-  -- there are as many local variables as arguments at least
+  -- there are no more arguments than local variables
   few : length arguments ≤ m.code.max_locals
   unfolding opening
   few =

@@ -5,7 +5,7 @@ use Rattle.vm_heap.specs.Tagged.{Tagged}
 use Rattle.space_ids.specs.declared.value.Value.{Value}
 use Rattle.vm_step.specs.Start.{passed}
 
--- the variable behind those that hold the arguments so far gets the next one
+-- the variable after those that hold the arguments so far gets the next one
 passed_suc : (arguments : List Value) (locals : List Tagged) (index : ℕ) (d : Value) → index < length arguments → index < length locals
     → set (map passed (take index arguments) ++ drop index locals) index (passed (get_or arguments index d)) ≡ map passed (take (suc index) arguments) ++ drop (suc index) locals
 passed_suc [] locals index d within room = absurd (omega arith)

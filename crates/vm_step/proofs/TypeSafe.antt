@@ -37,7 +37,7 @@ both_true true true e = (refl, refl)
 both_true true false e = absurd (cc)
 both_true false b e = absurd (cc)
 
--- a value of a type is of each type to which that is assignable
+-- a value of a type is of each type to which the type is assignable
 Fits-assignable : (classes : List Class) (s t : VType) (value : Tagged) → IsAssignable classes s t → Fits s value → Fits t value
 unfolding IsAssignable
 Fits-assignable classes s vtype.Top value to fits = tt

@@ -1,4 +1,4 @@
--- When a machine fits the type frames of a method (JVMS 4.10.1): each value is of the type in its place.
+-- When a machine fits the type frames of a method (JVMS 4.10.1): each value is of the type at its index.
 use Rattle.std.specs.Prelude.{◌≡◌, ℕ, List}
 use Rattle.std.specs.List.{AllZip}
 use Rattle.ver_check.specs.Bodies.{Body}
@@ -28,7 +28,7 @@ Fits vtype.IntArray value = IsNull value
 Fits (vtype.Uninitialized offset) value = ⊥
 Fits vtype.UninitializedThis value = ⊥
 
--- as many values as types, each of the type in its place
+-- the values and the types have one length, and each value is of the type at its index
 abbrev pub AllFit : List VType → List Tagged → Type 0
 AllFit types values = AllZip Fits types values
 

@@ -28,7 +28,7 @@ use Rattle.vm_step.specs.declared.fault.StartFault.{StartFault}
 use Rattle.vm_step.specs.declared.fault.StartFault.TheVariants as fault
 use Rattle.vm_step.specs.declared.limits.Limits.{Limits}
 
--- whether a task may start at a method with code: not at an <init>, nor where there is no instruction
+-- whether a task may start at a method with code: not at an <init>, nor if there is no instruction
 abbrev pub is_startable : Declared → Bool
 is_startable m = not (bytes_eq m.method.name (codes "<init>")) && not (length m.insns == 0)
 
@@ -86,7 +86,7 @@ opening_frame id code arguments = record {
   room = code.max_stack;
 }
 
--- the state in which a task begins. Where the budget has no room for the first frame, it throws
+-- the state in which a task begins. If the budget has no room for the first frame, it throws
 abbrev pub opening_state : MethodId → Code → List Value → Limits → State
 opening_state id code arguments limits =
     let cost = frame_cost code.max_locals code.max_stack in
@@ -97,7 +97,7 @@ opening_state id code arguments limits =
     }) limits.fuel
     else Over (Threw StackOverflowError) limits.fuel)
 
--- what starting a method gives, where memory does not run out
+-- what starting a method gives, if memory does not run out
 abbrev pub started : Links → Uuid → MethodId → List Value → Limits → Result Tasked StartFault
 started links own id arguments limits =
     start_at (startable links id)

@@ -8,7 +8,7 @@ use Rattle.cls_link.specs.declared.linked_code.MethodId.{MethodId}
 use Rattle.ver_check.specs.Acceptance.{subject_of}
 use Rattle.ver_frames.specs.Method.{Subject}
 
--- a method with code, by its number: none where there is no such method, or it has no code
+-- a method with code, by its number: none if there is no such method, or it has no code
 unfoldable pub subject_at : Links → MethodId → Option Subject
 subject_at links id = option_and_then (subject_of links.classes) (slice_get links.methods id.0)
 

@@ -29,13 +29,13 @@ abbrev pub phase_state : Phase → State
 phase_state (phase.Running machine fuel) = Running machine fuel
 phase_state (phase.Over ending fuel) = Over ending fuel
 
--- what a run tells of the state that it led to
+-- what a run answers of the state to which it led
 abbrev pub pause_at : State → Pause
 pause_at (Running machine fuel) = Turn
 pause_at (Over ending fuel) = Ended
 pause_at Lost = Ended
 
--- the fuel that is left
+-- the fuel left
 abbrev pub fuel_left : State → ℕ
 fuel_left (Running machine fuel) = fuel
 fuel_left (Over ending fuel) = fuel
@@ -63,14 +63,14 @@ outcome_at classes (Running machine fuel) = None
 outcome_at classes (Over ending fuel) = outcome_of classes ending
 outcome_at classes Lost = None
 
--- an outcome tells of an ending: a class of which an object was thrown stands in the set under its name
+-- an outcome is that of an ending: a class of which an object was thrown stands in the set under its name
 abbrev pub Tells : List Class → Ending → Outcome → Type 0
 Tells classes ReturnedNothing told = told ≡ outcome.Returned None
 Tells classes (ReturnedInt n) told = told ≡ outcome.Returned (Some (value.Int n))
 Tells classes (Threw thrown) told = (class : ClassId) × (told ≡ outcome.Threw class) × (name_at classes class ≡ Some (thrown_name thrown))
 Tells classes Spent told = told ≡ outcome.Spent
 
--- a task is over in this state, and the outcome tells of its ending
+-- a task is over in this state, and the outcome is that of its ending
 pub record IsOutcome (classes : List Class) (state : State) (told : Outcome) : Type 0 where
   pub ending : Ending
   pub left : ℕ

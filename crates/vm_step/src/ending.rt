@@ -7,7 +7,7 @@ pub enum Thrown {
     StackOverflowError,
 }
 
-/// How a task ends. There are no exception handlers, so that what is thrown ends it.
+/// How a task ends. There are no exception handlers, so what is thrown ends it.
 #[derive(Clone, Copy, Debug, PartialEq, Eq)]
 pub enum Ending {
     ReturnedNothing,

@@ -9,8 +9,8 @@ use std::alloc::AllocError;
 use std::fmt;
 use thiserror::Error;
 
-/// Why a task does not start (rules of this project). Of several the first is told, in the order in
-/// which they stand here; out of memory may come in place of any.
+/// Why a task does not start (rules of this project). Of several the first counts, in the order in
+/// which they stand here. It may be out of memory instead of any.
 #[derive(Clone, Copy, Debug, PartialEq, Eq, Error)]
 pub enum StartFault {
     /// There is no such method, or one without code, or it is an `<init>`.

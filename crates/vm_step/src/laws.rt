@@ -5,8 +5,8 @@ ghost use Rattle.cls_link.specs.Links.{Links};
 ghost use Rattle.vm_step.specs.Run.{State, run, IsOver};
 ghost use Rattle.vm_step.specs.Task.{pause_at};
 
-/// A run may be made in pieces: some steps and then others lead where all of them at once lead, to
-/// the same answer. Where the first ones end the task, the others change nothing.
+/// A run may be made in pieces: some steps and then others lead to the state and the answer to
+/// which all of them at once lead. If the first ones end the task, the others change nothing.
 pub fn pieces_make_a_run()
     ensures state { (links : Links) (some others : ℕ) (state : State)
         → run links others (run links some state) ≡ run links (some + others) state }

@@ -1,8 +1,8 @@
 //! Tasks: methods that run on the interpreter (JVMS 6.5), each with its own stack, limits and fuel.
 //!
-//! The interpreter has bare words and makes no test of a kind, an index or a depth. That it makes
-//! exactly the steps of the machine over tagged values, and that this machine is never stuck in
-//! accepted code, is what the contracts of `Task` say.
+//! The interpreter has bare words and makes no test of a kind, an index or a depth. The contracts
+//! of `Task` say that it makes exactly the steps of the machine over tagged values, and that this
+//! machine is never stuck in accepted code.
 #![tactic(auto)]
 
 pub use fault::StartFault;

@@ -9,7 +9,7 @@ pub struct Limits {
     pub heap_words: u32,
     /// Words for frames: each takes as many as its local variables and operands, and four more.
     pub stack_words: u32,
-    /// How many distinct references to remote objects it may come by.
+    /// How many distinct references to remote objects it may get.
     pub references: u32,
     /// How many instructions it may make.
     pub fuel: u64,

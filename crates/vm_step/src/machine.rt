@@ -1,4 +1,4 @@
-//! The machine: what a task runs on.
+//! The machine on which a task runs.
 
 use crate::arithmetic;
 use crate::ending::{Ending, Flow, Thrown};
@@ -222,8 +222,8 @@ impl Machine {
         Flow::Ends(Ending::ReturnedInt(self.pop_int()))
     }
 
-    /// Makes one instruction, which does not get stuck. It is read where it lies: an arm takes no more
-    /// of it than it uses.
+    /// Executes one instruction, which does not get stuck, and returns what it did. The instruction
+    /// is not copied: an arm reads no more of it than it uses.
     #[inline(always)]
     pub fn act(&mut self, insn: &LinkedInsn) -> Flow
         requires index { self.old.stack.frame.index + 1 < 2 ^ 64 }

@@ -5,7 +5,7 @@ use vm_heap::{ClassId, Value};
 /// What a run of a task came to.
 #[derive(Clone, Copy, Debug, PartialEq, Eq)]
 pub enum Pause {
-    /// As many instructions were made as asked, and the task has not ended.
+    /// All the instructions asked were made, and the task has not ended.
     Turn,
     /// The task has ended.
     Ended,

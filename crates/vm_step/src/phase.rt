@@ -5,7 +5,7 @@ use crate::machine::Machine;
 use crate::outcome::Pause;
 use cls_link::Linked;
 
-/// A task runs on its machine with so much fuel left, or it is over with so much left.
+/// A task runs on its machine with this much fuel left, or it is over with this much left.
 #[derive(Drop)]
 pub enum Phase {
     Running(Machine, u64),
@@ -17,7 +17,7 @@ impl Phase {
     ghost use Rattle.vm_step.specs.Run.{run, IsOver, IsNeverStuck};
     ghost use Rattle.vm_step.specs.Task.{phase_state, fuel_left, pause_at, final_state};
 
-    /// The phase after at most `k` instructions, fewer where the task ends.
+    /// Returns the phase after at most `k` instructions, fewer if the task ends.
     pub fn run(self, linked: &Linked, k: u64) -> Phase
         requires { IsNeverStuck linked.now (phase_state self) }
         ensures state { phase_state result ≡ run linked.now k (phase_state self) }

@@ -26,7 +26,7 @@ pub struct Found<'a> {
     pub insns: &'a [LinkedInsn],
 }
 
-/// The method at which a task may start: one with code, and no `<init>`.
+/// Returns the method at which a task may start: one with code, and no `<init>`.
 pub fn find(linked: &Linked, id: MethodId) -> Option<Found<'_>>
     ensures found { option_map shown result ≡ startable linked.now id }
     ensures links { AreLinks linked.now }
@@ -67,7 +67,7 @@ fn look_up(linked: &Linked, id: MethodId) -> Option<Found<'_>>
     })
 }
 
-/// Why the method is not started with these arguments: the lowest fault that fits.
+/// Returns why the method is not started with these arguments: the lowest fault that applies.
 pub fn refuses(method: &Method, arguments: &[Value]) -> Option<StartFault>
     ensures { result ≡ refusal method.now arguments.now }
 {
@@ -150,7 +150,8 @@ fn int_of(value: &Value) -> i32
     }
 }
 
-/// Whether the machine runs each instruction of a class set, also of methods that are never called.
+/// Returns whether the machine runs each instruction of a class set, also of methods that are never
+/// called.
 #[tactic(auto, unfolding(crate::specs::Start::are_run))]
 pub fn runs_all(linked: &Linked) -> bool
     ensures { result ≡ are_run linked.now }

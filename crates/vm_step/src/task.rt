@@ -52,9 +52,10 @@ impl Model for Task {
 }
 
 impl Task {
-    /// A task of the space `own` that runs a method on these arguments. It does not start where there
-    /// is no such method, where its values do not fit, or where the class set has an instruction that
-    /// the machine does not run yet: the first fault that fits is told, in the order of `StartFault`.
+    /// Returns a task of the space `own` that runs a method on these arguments. It does not start
+    /// if there is no such method, if the values do not fit, or if the class set has an instruction
+    /// that the machine does not run yet: the first fault that applies counts, in the order of
+    /// `StartFault`.
     pub fn start(
         alloc: Global,
         program: &Accepted,
@@ -96,18 +97,20 @@ impl Task {
         })
     }
 
-    /// Makes at most `k` instructions, fewer where the task ends. It takes no memory.
+    /// Makes at most `k` instructions, fewer if the task ends, and returns why it paused. It takes
+    /// no memory.
     pub fn run(&mut self, program: &Accepted, k: u64) -> Pause
         requires { self.old.program ≡ program.now }
         ensures task { self.new ≡ record self.old { state = run program.now k self.old.state } }
         ensures pause { result ≡ pause_at self.new.state }
 
-        // However many instructions more, they lead where all of them at once would have led.
+        // However many instructions more, they lead to the state to which all of them at once would
+        // have led.
         ensures further { (more : ℕ)
             → run program.now more self.new.state
             ≡ run program.now (k + more) self.old.state }
 
-        // The fuel goes down by at most `k`, and by `k` where the task has not ended.
+        // The fuel goes down by at most `k`, and by `k` if the task has not ended.
         ensures fuel { fuel_left self.new.state ≤ fuel_left self.old.state }
         ensures most { fuel_left self.old.state ≤ fuel_left self.new.state + k }
         ensures turn { result ≡ Pause.Turn → fuel_left self.new.state + k ≡ fuel_left self.old.state }
@@ -125,7 +128,7 @@ impl Task {
         }
     }
 
-    /// How the task ended: `None` where it has not.
+    /// Returns how the task ended: `None` if it has not.
     pub fn outcome(&self) -> Option<Outcome>
         ensures value { result ≡ outcome_at self.now.program.classes self.now.state }
         ensures over { IsOver self.now.state → IsSome result }

@@ -246,7 +246,7 @@ module _ (w : World) (owed : Owed w) (asked : Option VType) where
         enters = enters;
       }
 
-      -- a call of a method that is named: invokestatic, and invokespecial of what is no `<init>`
+      -- a call of a named method: invokestatic, and invokespecial of what is no `<init>`
       pub call-leads : (callee : Callee) (f : Frame) (below : List VType) (m : Machine) → IsCallee w callee → (w.method callee.method).is_init ≡ false
           → Passes w (reverse (w.method callee.method).arguments) f.stack below
           → HasRoom (w.method m.stack.frame.method).max_stack (w.method callee.method).result (record f { stack = below })
@@ -277,7 +277,7 @@ module _ (w : World) (owed : Owed w) (asked : Option VType) where
         enters = enters;
       }
 
-      -- invokespecial of an `<init>` on an object that the `new` at an offset made, which names the class of the `<init>`
+      -- invokespecial of an `<init>` on an object that the `new` at an offset made; that `new` names the class of the `<init>`
       pub construct_new-leads : (callee : Callee) (offset : ℕ) (flag : Bool) (f : Frame) (below : List VType) (m : Machine) → IsCallee w callee → (w.method callee.method).is_init ≡ true
           → Passes w (reverse (w.method callee.method).arguments) f.stack (vtype.Uninitialized offset ∷ below)
           → (w.method m.stack.frame.method).made_at offset ≡ Some (w.method callee.method).owner
@@ -303,7 +303,7 @@ module _ (w : World) (owed : Owed w) (asked : Option VType) where
           (reversed w m.heap.cells k method.arguments off.passed off.fit) there at.heap
           (turned_waits m f below top.1.0 v (made_is offset method.owner) flag at top.1.1.1.1 (λ t u. turned_new w m.heap.cells k offset method.owner t u there made.at) enters) at.callers
 
-      -- the same on the receiver of a running `<init>`, whose class is that of the one that is called or below it
+      -- the same on the receiver of a running `<init>`; its class is that of the `<init>` called, or below it
       pub construct_this-leads : (callee : Callee) (flag : Bool) (f : Frame) (below : List VType) (m : Machine) → IsCallee w callee → (w.method callee.method).is_init ≡ true
           → Passes w (reverse (w.method callee.method).arguments) f.stack (vtype.UninitializedThis ∷ below)
           → IsObjectAssignable w.classes (w.method m.stack.frame.method).owner (w.method callee.method).owner

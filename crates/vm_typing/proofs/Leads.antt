@@ -1,4 +1,4 @@
--- Where a machine fits a type frame and an operand or a local variable has a type, a small step is not stuck, and fits the frame after it.
+-- If a machine fits a type frame and an operand or a local variable has a type, a small step is not stuck, and fits the frame after it.
 use Rattle.std.proofs.Common.{◌≡◌, ℕ, zero, suc, ◌+◌, ◌<◌, Bool, true, false, List, [], ◌∷◌, length, refl, ap, sym, subst, Option, Some, None, inr}
 use Rattle.std.specs.Prelude.{ℤ, nat_lt, slice_get, slice_set, if◌then◌else◌}
 use Rattle.std.specs.List.{AllZip}
@@ -106,7 +106,7 @@ AllZip-set R (z ∷ xs) [] n x y all fit = absurd all
 AllZip-set R (z ∷ xs) (w ∷ ys) zero x y all fit = (fit, all.1)
 AllZip-set R (z ∷ xs) (w ∷ ys) (suc n) x y all fit = (all.0, AllZip-set R xs ys n x y all.1 fit)
 
--- a value written where one of that type stands
+-- a value written over one of the same type
 pub AllZip-keep : {A B : Type 0} (R : A → B → Type 0) (xs : List A) (ys : List B) (n : ℕ) (x : A) (y : B) → AllZip R xs ys → slice_get xs n ≡ Some x → R x y
     → AllZip R xs (slice_set ys n y)
 AllZip-keep R [] ys n x y all e fit = absurd (cc)
@@ -122,7 +122,7 @@ module _ (w : World) (owed : Owed w) where
   Ints-are (Object d fs) is = absurd is
   Ints-are (Ints is) is' = (owed.object, inr (itself w.object))
 
-  -- a value of a type is of each type to which that is assignable
+  -- a value of a type is of each type to which the type is assignable
   pub Fits-assignable : (cells : List Cell) (k : Marks) (s t : VType) (v : Tagged) → IsAssignable w.classes s t → Fits w cells k s v → Fits w cells k t v
   unfolding IsAssignable
   Fits-assignable cells k s vtype.Top v to fits = tt
@@ -157,7 +157,7 @@ module _ (w : World) (owed : Owed w) where
     room = fits.room;
   }
 
-  -- what is of a type that a kind of instruction moves is of that kind
+  -- a value of a type that a kind of instruction moves is of that kind
   pub kind_value : (cells : List Cell) (k : Marks) (moved : WordKind) (t : VType) (v : Tagged) → Moves moved t → Fits w cells k t v → is_kind moved v ≡ true
   kind_value cells k kind.Int vtype.Int (Int n) moves fits = refl
   kind_value cells k kind.Reference vtype.Null Null moves fits = refl
@@ -206,7 +206,7 @@ module _ (w : World) (owed : Owed w) where
           callers = at.callers;
         })
 
-    -- the operand on top, where one of a type is asked
+    -- the operand on top, if one of a type is asked
     pub pop_typed-leads : (P : Machine → Type 0) (next : Tagged → Machine → Next) (f : Frame) (s t : VType) (types : List VType) (m : Machine) → f.stack ≡ s ∷ types
         → IsAssignable w.classes s t → At f m
         → ((value : Tagged) (below : List Tagged) → FitsIn m t value → At (record f { stack = types }) (with_operands below m) → Leads P (next value (with_operands below m)))

@@ -164,7 +164,7 @@ module _ (w : World) (owed : Owed w) where
         made true = go
         made false = tt
 
-    -- new, of a class of the set whose fields have these kinds, by the instruction at an offset of which no object is on the stack
+    -- new, of a class of the set whose fields have these kinds; no object of the instruction at this offset is on the stack
     pub new_object-leads : (class : ClassId) (kinds : List WordKind) (offset : ℕ) (f : Frame) (m : Machine) → IsKnown w class → AllZip HasKind (w.fields class) kinds
         → m.stack.frame.index < (w.method m.stack.frame.method).count
         → (w.method m.stack.frame.method).offset_at m.stack.frame.index ≡ offset → (w.method m.stack.frame.method).made_at offset ≡ Some class
@@ -205,7 +205,7 @@ module _ (w : World) (owed : Owed w) where
         (record f { locals = map (cleared offset) f.locals }) (record m { heap = with_new cell m.heap }) room renew made
         (λ all. go_on-leads w owed asked heap (renewed offset a fresh) receiver _ _ enters all))
 
-    -- getfield, of a field of a class, where an object of the class is on top
+    -- getfield, of a field of a class, if an object of the class is on top
     pub get_field-leads : (class : ClassId) (slot : ℕ) (t s : VType) (types : List VType) (f : Frame) (m : Machine) → slice_get (w.fields class) slot ≡ Some t
         → f.stack ≡ s ∷ types → IsAssignable w.classes s (vtype.Object class) → length types < (w.method m.stack.frame.method).max_stack
         → Enters w m.stack.frame.method (m.stack.frame.index + 1) (record f { stack = t ∷ types }) → Here f m → Leads (get_field slot m)
@@ -300,7 +300,7 @@ module _ (w : World) (owed : Owed w) where
         tested true is = go n (ltb-true n (length elements) is)
         tested false is = tt
 
-    -- iaload, where the array's type may stand for that of an int array
+    -- iaload, if the array's type may stand for that of an int array
     pub array_load-leads : (s : VType) (types : List VType) (f : Frame) (m : Machine) → f.stack ≡ vtype.Int ∷ s ∷ types → IsAssignable w.classes s vtype.IntArray
         → length types < (w.method m.stack.frame.method).max_stack
         → Enters w m.stack.frame.method (m.stack.frame.index + 1) (record f { stack = vtype.Int ∷ types }) → Here f m → Leads (array_load m)

@@ -113,9 +113,9 @@ module _ (w : World) (owed : Owed w) (asked : Option VType) (heap : List Cell) w
     get_at : (n : ℕ) (operands passed left : List Tagged) (v : Tagged) → operands ≡ passed ++ v ∷ left → length passed ≡ n → slice_get operands n ≡ Some v
     get_at n operands passed left v whole long = rw (whole, ← long) (get_front passed left v)
 
-    -- A call on a receiver that stands for a class, which lies below the arguments: invokevirtual, invokeinterface, and invokespecial of
-    -- what is no `<init>`. What comes of null is the caller's own; of an object it is what its class selects, of an array what
-    -- java/lang/Object selects.
+    -- A call on a receiver that stands for a class and lies below the arguments: invokevirtual, invokeinterface, and invokespecial of what
+    -- is no `<init>`. An object runs the method that its class selects, an array the one that java/lang/Object selects; what null leads to,
+    -- the caller says.
     pub receiver-leads : (class : ClassId) (arguments : List VType) (result : Option VType) (next : Referent → Machine → Next) (f : Frame) (below : List VType) (m : Machine)
         → Passes w (reverse arguments) f.stack (vtype.Object class ∷ below)
         → Leads (next referent.Null m)
@@ -196,7 +196,7 @@ module _ (w : World) (owed : Owed w) (asked : Option VType) (heap : List Cell) w
         (λ value below fit all. push-leads w owed asked heap fresh receiver Typed (Int (if is one.stands then pos 1 else pos 0)) go_on vtype.Int (record f { stack = types }) (with_operands below m) room all tt
         (λ last. go_on-leads w owed asked heap fresh receiver _ _ enters last)))
 
-    -- athrow, of what may stand for a class that java/lang/Object may not stand for, as java/lang/Throwable
+    -- athrow, of what may stand for a class for which java/lang/Object may not stand, such as java/lang/Throwable
     pub throw-leads : (class : ClassId) (s : VType) (types : List VType) (f : Frame) (m : Machine) → f.stack ≡ s ∷ types → Refers s → IsAssignable w.classes s (vtype.Object class)
         → ¬ IsObjectAssignable w.classes w.object class → Here f m → Leads (on_referent 0 throw m)
     throw-leads class s types f m e refers to none at =

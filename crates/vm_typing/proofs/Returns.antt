@@ -31,7 +31,7 @@ module _ (w : World) (owed : Owed w) (asked : Option VType) where
   back_in frame below callers m =
       record m { stack = record { frame = frame; callers = below ∷ callers; free = m.stack.free + frame_cost (length m.stack.frame.locals) m.stack.frame.room } }
 
-  -- the frame of a caller stands where its call went on
+  -- the frame of a caller stands at the instruction after its call
   stands : (m : Machine) (after : Frame) (fresh : ℕ → ℕ) (receiver : ℕ) → Enters w m.stack.frame.method m.stack.frame.index after → IsAt w asked fresh receiver after m → Typed m
   stands m after fresh receiver enters at = record {
     fresh = fresh;
@@ -108,7 +108,7 @@ module _ (w : World) (owed : Owed w) (asked : Option VType) where
     value-leads (vtype.Uninitialized o) m v plain moves fit go = absurd plain
     value-leads vtype.UninitializedThis m v plain moves fit go = absurd plain
 
-    -- areturn, where what is on top may stand for the result that the method gives, a reference
+    -- areturn, if what is on top may stand for the result that the method gives, a reference
     pub return_reference-leads : (s t : VType) (types : List VType) (f : Frame) (m : Machine) → f.stack ≡ s ∷ types → IsAssignable w.classes s t
         → (w.method m.stack.frame.method).result ≡ Some t → Moves kind.Reference t → Here f m → LeadsTo w asked m.heap.cells Typed (return_reference m)
     return_reference-leads s t types f m e to result moves at =

@@ -137,7 +137,7 @@ pub ArePlain-reverse : (xs : List VType) → ArePlain xs → ArePlain (reverse x
 ArePlain-reverse [] plain = tt
 ArePlain-reverse (x ∷ xs) plain = rw (reverse-append (x ∷ []) xs) (ArePlain-append (reverse xs) (x ∷ []) (ArePlain-reverse xs plain.1) (plain.0, tt))
 
--- the operands that a call takes, of the types that it asks, and what lies under them
+-- the operands that a call takes, of the types asked, and what lies under them
 pub record Popped (w : World) (cells : List Cell) (k : Marks) (asked below : List VType) (operands : List Tagged) : Type 0 where
   pub passed : List Tagged
   pub left : List Tagged

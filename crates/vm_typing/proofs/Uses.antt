@@ -1,4 +1,4 @@
--- What a function of vm_act asks, and what it makes of a machine, where its step leads typed.
+-- What a function of vm_act asks, and what it makes of a machine, if its step leads to typed machines.
 use Rattle.std.proofs.Common.{◌≡◌, ℕ, ◌<◌, List, [], ◌∷◌, refl, sym, subst, Option, Some, None, inr}
 use Rattle.cls_set.specs.declared.class.Class.{Class}
 use Rattle.cls_set.specs.Subtypes.IsSubclass.{itself}
@@ -36,7 +36,7 @@ AreAssignable-itself classes (t ∷ types) = (IsAssignable-itself classes t, Are
 pub IsFrameAssignable-itself : (classes : List Class) (f : Frame) → IsFrameAssignable classes f f
 IsFrameAssignable-itself classes f = record { locals = AreAssignable-itself classes f.locals; stack = AreAssignable-itself classes f.stack; flag = λ is. is }
 
--- a frame comes in where it is the frame that stands there
+-- a frame comes in if it is the frame that stands there
 pub same_enters : (w : World) (number index : ℕ) (f : Frame) → index < (w.method number).count → (w.method number).frames index ≡ f → Enters w number index f
 same_enters w number index f inside is =
     record { inside = inside; to = subst (λ (g : Frame). IsFrameAssignable w.classes f g) (sym is) (IsFrameAssignable-itself w.classes f) }

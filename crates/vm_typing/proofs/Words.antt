@@ -46,7 +46,7 @@ module _ (w : World) (owed : Owed w) (asked : Option VType) (heap : List Cell) (
   abbrev Here : Frame → Machine → Type 0
   Here = IsAt w asked fresh receiver
 
-  -- the next instruction is one that a frame with these operands comes in at
+  -- the next instruction is one at which a frame with these operands comes in
   abbrev GoesOn : Machine → Frame → List VType → Type 0
   GoesOn m f types = Enters w m.stack.frame.method (m.stack.frame.index + 1) (record f { stack = types })
 
@@ -189,7 +189,7 @@ module _ (w : World) (owed : Owed w) (asked : Option VType) (heap : List Cell) (
       (λ right below1 all1. pop_int-leads w owed asked heap fresh receiver Typed (λ left. next right left) (record f { stack = vtype.Int ∷ types }) types (with_operands below1 m) refl all1
       (λ left below all. go right left below all))
 
-  -- an int is pushed in place of what was taken
+  -- an int is pushed instead of what was taken
   pub int_pushed-leads : (n : ℤ) (types : List VType) (f : Frame) (m : Machine) → length types < (w.method m.stack.frame.method).max_stack → GoesOn m f (vtype.Int ∷ types)
       → Here (record f { stack = types }) m → Leads (push (Int n) go_on m)
   int_pushed-leads n types f m room enters at =

@@ -14,7 +14,7 @@ abbrev pub class_in : World → Cell → ClassId
 class_in w (Object class fields) = class
 class_in w (Ints elements) = w.object
 
--- what may stand where an object of a class is asked
+-- what may stand for an object of a class
 abbrev pub IsA : World → ClassId → Cell → Type 0
 IsA w class cell = IsKnown w (class_in w cell) × IsObjectAssignable w.classes (class_in w cell) class
 
@@ -81,7 +81,7 @@ Fits w cells k vtype.IntArray value = Points IsInts cells value
 Fits w cells k (vtype.Uninitialized offset) value = IsMade w cells k offset value
 Fits w cells k vtype.UninitializedThis value = IsReceiver w cells k value
 
--- as many values as types, each of the type in its place
+-- the values and the types have one length, and each value is of the type at its index
 abbrev pub AllFit : World → List Cell → Marks → List VType → List Tagged → Type 0
 AllFit w cells k = AllZip (Fits w cells k)
 

@@ -1,5 +1,5 @@
--- What a step of a typed machine leads to, for each instruction on which frames, heap or callers depend: laws that rows of an
--- interpreter are put together of. `asked` is what the task gives, `heap` what an ending is told over.
+-- What a step of a typed machine leads to, for each instruction on which frames, heap or callers depend: the laws from which the rows of an
+-- interpreter follow. `asked` is the type of the task's result, `heap` the heap over which an ending is told.
 use Rattle.std.specs.Prelude.{◌≡◌, ℕ, ◌+◌, ◌<◌, Bool, true, false, not, ℤ, Option, Some, None, List, ◌∷◌, length, map, reverse, slice_get, slice_set}
 use Rattle.std.specs.List.{AllZip, AllByRecursion, list_all}
 use Rattle.space_ids.specs.declared.ids.ClassId.{ClassId}
@@ -44,8 +44,8 @@ GoesOn w m f types = Enters w m.stack.frame.method (m.stack.frame.index + 1) (re
 abbrev pub HasRoomFor : World → Machine → List VType → Type 0
 HasRoomFor w m types = length types < (w.method m.stack.frame.method).max_stack
 
--- The instructions on local variables and operands, branches on references, and switches: where the operands and the local variables have
--- the types that an instruction asks, and the frame after it comes in where the instruction leads
+-- The instructions on local variables and operands, branches on references, and switches. The operands and the local variables have the
+-- types that an instruction asks, and the frame after it comes in at the index to which the instruction leads
 pub record WordsLead (w : World) (asked : Option VType) (heap : List Cell) (fresh : ℕ → ℕ) (receiver : ℕ) : Type 0 where
   pub constant : (n : ℤ) (f : Frame) (m : Machine) → HasRoomFor w m f.stack → GoesOn w m f (vtype.Int ∷ f.stack)
       → IsAt w asked fresh receiver f m → Leads w asked heap (constant n m)
@@ -121,7 +121,7 @@ pub record WordsLead (w : World) (asked : Option VType) (heap : List Cell) (fres
 
 -- The instructions on objects and arrays
 pub record ObjectsLead (w : World) (asked : Option VType) (heap : List Cell) (fresh : ℕ → ℕ) (receiver : ℕ) : Type 0 where
-  -- new, of a class of the set whose fields have these kinds, by the instruction at an offset of which no object is on the stack
+  -- new, of a class of the set whose fields have these kinds; no object of the instruction at this offset is on the stack
   pub new_object : (class : ClassId) (kinds : List WordKind) (offset : ℕ) (f : Frame) (m : Machine) → IsKnown w class
       → AllZip HasKind (w.fields class) kinds
       → m.stack.frame.index < (w.method m.stack.frame.method).count
@@ -129,7 +129,7 @@ pub record ObjectsLead (w : World) (asked : Option VType) (heap : List Cell) (fr
       → list_all (λ t. not (is_made_at offset t)) f.stack ≡ true → HasRoomFor w m f.stack
       → Enters w m.stack.frame.method (m.stack.frame.index + 1) (record f { locals = map (cleared offset) f.locals; stack = vtype.Uninitialized offset ∷ f.stack })
       → IsAt w asked fresh receiver f m → Leads w asked heap (new_object class kinds m)
-  -- getfield, of a field of a class, where an object of the class is on top
+  -- getfield, of a field of a class, if an object of the class is on top
   pub get_field : (class : ClassId) (slot : ℕ) (t s : VType) (types : List VType) (f : Frame) (m : Machine)
       → slice_get (w.fields class) slot ≡ Some t
       → f.stack ≡ s ∷ types → IsAssignable w.classes s (vtype.Object class) → HasRoomFor w m types
@@ -145,7 +145,7 @@ pub record ObjectsLead (w : World) (asked : Option VType) (heap : List Cell) (fr
   pub new_array : (types : List VType) (f : Frame) (m : Machine) → f.stack ≡ vtype.Int ∷ types → HasRoomFor w m types
       → Enters w m.stack.frame.method (m.stack.frame.index + 1) (record f { stack = vtype.IntArray ∷ types })
       → IsAt w asked fresh receiver f m → Leads w asked heap (new_array m)
-  -- iaload, where the array's type may stand for that of an int array
+  -- iaload, if the array's type may stand for that of an int array
   pub array_load : (s : VType) (types : List VType) (f : Frame) (m : Machine) → f.stack ≡ vtype.Int ∷ s ∷ types
       → IsAssignable w.classes s vtype.IntArray
       → HasRoomFor w m types
@@ -165,13 +165,13 @@ pub record ObjectsLead (w : World) (asked : Option VType) (heap : List Cell) (fr
 
 -- Calls of methods that are named
 pub record CallsLead (w : World) (asked : Option VType) (heap : List Cell) (fresh : ℕ → ℕ) (receiver : ℕ) : Type 0 where
-  -- a call of a method that is named: invokestatic, and invokespecial of what is no `<init>`
+  -- a call of a named method: invokestatic, and invokespecial of what is no `<init>`
   pub call : (callee : Callee) (f : Frame) (below : List VType) (m : Machine) → IsCallee w callee → (w.method callee.method).is_init ≡ false
       → Passes w (reverse (w.method callee.method).arguments) f.stack below
       → HasRoom (w.method m.stack.frame.method).max_stack (w.method callee.method).result (record f { stack = below })
       → Enters w m.stack.frame.method (m.stack.frame.index + 1) (with_result (w.method callee.method).result (record f { stack = below }))
       → IsAt w asked fresh receiver f m → Leads w asked heap (call callee m)
-  -- invokespecial of an `<init>` on an object that the `new` at an offset made, which names the class of the `<init>`
+  -- invokespecial of an `<init>` on an object that the `new` at an offset made; that `new` names the class of the `<init>`
   pub construct_new : (callee : Callee) (offset : ℕ) (flag : Bool) (f : Frame) (below : List VType) (m : Machine) → IsCallee w callee
       → (w.method callee.method).is_init ≡ true
       → Passes w (reverse (w.method callee.method).arguments) f.stack (vtype.Uninitialized offset ∷ below)
@@ -182,7 +182,7 @@ pub record CallsLead (w : World) (asked : Option VType) (heap : List Cell) (fres
         flag_this_uninit = flag;
       })
       → IsAt w asked fresh receiver f m → Leads w asked heap (construct callee m)
-  -- the same on the receiver of a running `<init>`, whose class is that of the one that is called or below it
+  -- the same on the receiver of a running `<init>`; its class is that of the `<init>` called, or below it
   pub construct_this : (callee : Callee) (flag : Bool) (f : Frame) (below : List VType) (m : Machine) → IsCallee w callee
       → (w.method callee.method).is_init ≡ true
       → Passes w (reverse (w.method callee.method).arguments) f.stack (vtype.UninitializedThis ∷ below)
@@ -196,9 +196,9 @@ pub record CallsLead (w : World) (asked : Option VType) (heap : List Cell) (fres
 
 -- What is asked of the object on top or below the arguments
 pub record ReferentsLead (w : World) (asked : Option VType) (heap : List Cell) (fresh : ℕ → ℕ) (receiver : ℕ) : Type 0 where
-  -- A call on a receiver that stands for a class, which lies below the arguments: invokevirtual, invokeinterface, and invokespecial
-  -- of what is no `<init>`. What comes of null is the caller's own; of an object it is what its class selects, of an array what
-  -- java/lang/Object selects.
+  -- A call on a receiver that stands for a class and lies below the arguments: invokevirtual, invokeinterface, and invokespecial of what is
+  -- no `<init>`. An object runs the method that its class selects, an array the one that java/lang/Object selects; what null leads to, the
+  -- caller says.
   pub on_receiver : (class : ClassId) (arguments : List VType) (result : Option VType) (next : Referent → Machine → Next) (f : Frame) (below : List VType) (m : Machine)
       → Passes w (reverse arguments) f.stack (vtype.Object class ∷ below)
       → Leads w asked heap (next referent.Null m)
@@ -218,7 +218,7 @@ pub record ReferentsLead (w : World) (asked : Option VType) (heap : List Cell) (
       → HasRoomFor w m types
       → Enters w m.stack.frame.method (m.stack.frame.index + 1) (record f { stack = vtype.Int ∷ types }) → IsAt w asked fresh receiver f m
       → Leads w asked heap (on_referent 0 (λ r. answer (is r)) m)
-  -- athrow, of what may stand for a class that java/lang/Object may not stand for, as java/lang/Throwable
+  -- athrow, of what may stand for a class for which java/lang/Object may not stand, such as java/lang/Throwable
   pub throw : (class : ClassId) (s : VType) (types : List VType) (f : Frame) (m : Machine) → f.stack ≡ s ∷ types → Refers s
       → IsAssignable w.classes s (vtype.Object class)
       → ¬ IsObjectAssignable w.classes w.object class → IsAt w asked fresh receiver f m → Leads w asked heap (on_referent 0 throw m)
@@ -229,7 +229,7 @@ pub record ReturnsLead (w : World) (asked : Option VType) (fresh : ℕ → ℕ) 
   pub return_int : (types : List VType) (f : Frame) (m : Machine) → f.stack ≡ vtype.Int ∷ types
       → (w.method m.stack.frame.method).result ≡ Some vtype.Int
       → IsAt w asked fresh receiver f m → LeadsTo w asked m.heap.cells (IsTyped w asked) (return_int m)
-  -- areturn, where what is on top may stand for the result that the method gives, a reference
+  -- areturn, if what is on top may stand for the result that the method gives, a reference
   pub return_reference : (s t : VType) (types : List VType) (f : Frame) (m : Machine) → f.stack ≡ s ∷ types → IsAssignable w.classes s t
       → (w.method m.stack.frame.method).result ≡ Some t → Moves kind.Reference t → IsAt w asked fresh receiver f m
       → LeadsTo w asked m.heap.cells (IsTyped w asked) (return_reference m)
@@ -237,8 +237,8 @@ pub record ReturnsLead (w : World) (asked : Option VType) (fresh : ℕ → ℕ) 
   pub return_nothing : (f : Frame) (m : Machine) → (w.method m.stack.frame.method).result ≡ None → IsAt w asked fresh receiver f m
       → LeadsTo w asked m.heap.cells (IsTyped w asked) (return_nothing m)
 
--- What a function of vm_act asks and makes, where its step leads to typed machines: it may be called, the machine after it is typed where
--- the task goes on, what the task ends with may be given, and there is the object of which an instruction asks
+-- What a function of vm_act asks and makes, if its step leads to typed machines: it may be called; if the task goes on, the machine after
+-- it is typed; what the task ends with may be given; and the object on which an instruction works is there
 pub record StepsAreMade (w : World) (asked : Option VType) (heap : List Cell) : Type 0 where
   pub may_be_made : (next : Next) → Leads w asked heap next → NotStuck next
   pub goes_on : (next : Next) (did : Flow) (after : Machine) → Leads w asked heap next → Does next did after → act.GoesOn did

@@ -30,7 +30,7 @@ pub record Owed (w : World) : Type 0 where
   -- java/lang/Object is the one class of this name
   pub object : IsKnown w w.object
   pub object_named : (class : ClassId) → name_at w.classes class ≡ Some (codes "java/lang/Object") → w.object ≡ class
-  -- what may stand for a class may stand for what that may stand for
+  -- standing for a class is transitive
   pub further : (a b c : ClassId) → IsKnown w a → IsObjectAssignable w.classes a b → IsObjectAssignable w.classes b c
       → IsObjectAssignable w.classes a c
   -- a field keeps its slot and its type in what may stand for its class
@@ -48,7 +48,7 @@ HasKind (vtype.Object class) kind.Reference = Unit {0}
 HasKind vtype.IntArray kind.Reference = Unit {0}
 HasKind t k = ⊥
 
--- what a machine is told of a method agrees with its types
+-- what a machine is given of a method agrees with its types
 pub record IsCallee (w : World) (callee : Callee) : Type 0 where
   pub known : w.has_code callee.method ≡ true
   pub arguments : callee.arguments ≡ length (parameters (w.method callee.method))
@@ -64,14 +64,14 @@ pub record SelectsMethod (w : World) (class : ClassId) (arguments : List VType) 
   pub gives : (w.method callee.method).result ≡ result
   pub above : IsObjectAssignable w.classes class (w.method callee.method).owner
 
--- what the linker owes of a selection: where it finds a method, that one may be run
+-- what the linker owes of a selection: if it finds a method, that one may be run
 abbrev pub Selects : World → ClassId → List VType → Option VType → Selected → Type 0
 Selects w class arguments result (selected.Method callee) = SelectsMethod w class arguments result callee
 Selects w class arguments result selected.Abstract = Unit {0}
 Selects w class arguments result selected.NotPublic = Unit {0}
 Selects w class arguments result selected.NotImplemented = Unit {0}
 
--- the operands on top may be passed where these types are asked, the last one on top, and `below` is what lies under them
+-- the operands on top may be passed if these types are asked, the last one on top, and `below` is what lies under them
 pub record Passes (w : World) (asked stack below : List VType) : Type 0 where
   pub given : List VType
   pub whole : stack ≡ given ++ below
@@ -116,7 +116,7 @@ IsOne w (vtype.Object class) referent.Ints = IsKnown w w.object × IsObjectAssig
 IsOne w vtype.IntArray referent.Ints = Unit {0}
 IsOne w t r = ⊥
 
--- the same, where a cast asks a type: null is of each
+-- the same of the type that a cast asks: null is of each
 abbrev pub CastFits : World → VType → Referent → Type 0
 CastFits w (vtype.Object class) referent.Null = Unit {0}
 CastFits w (vtype.Object class) (referent.Object b) = IsKnown w b × IsObjectAssignable w.classes b class
@@ -126,8 +126,7 @@ CastFits w vtype.IntArray (referent.Object b) = ⊥
 CastFits w vtype.IntArray referent.Ints = Unit {0}
 CastFits w t r = ⊥
 
--- what every class set gives of it: java/lang/Object is above each class, and so what may stand for a class may stand for what that may
--- stand for
+-- what every class set gives of it: java/lang/Object is above each class, and standing for a class is transitive
 pub record SetsGive (w : World) : Type 0 where
   pub object : IsKnown w w.object
   pub object_named : (class : ClassId) → name_at w.classes class ≡ Some (codes "java/lang/Object") → w.object ≡ class

@@ -48,7 +48,7 @@ IsSound w asked (On m) = IsTyped w asked m
 IsSound w asked (Ends ending) = (heap : List Cell) × IsGiven w asked heap ending
 IsSound w asked Stuck = ⊥
 
--- a method that is started on values of its parameters' types, with a heap that fits, is typed
+-- a method is typed if it is started on values of its parameters' types, with a heap that fits
 abbrev pub StartsTyped : World → Type 0
 StartsTyped w = (callee : Callee) (values : List Tagged) (lowest : frames.Frame) (free : ℕ) (heap : Store) → IsCallee w callee
     → AllFit w heap.cells no_marks (parameters (w.method callee.method)) values → HeapFits w heap.cells

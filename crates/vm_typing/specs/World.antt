@@ -1,4 +1,4 @@
--- What is known of the classes and methods of a program as types (JVMS 4.10.1), where a machine runs it.
+-- What is known of the classes and methods of a program as types (JVMS 4.10.1), when a machine runs it.
 use Rattle.std.specs.Prelude.{ℕ, ◌-◌, ◌<◌, Bool, true, false, nat_eq, if◌then◌else◌, Option, List, [], ◌∷◌, ◌++◌, length, map, replicate}
 use Rattle.space_ids.specs.declared.ids.ClassId.{ClassId}
 use Rattle.cls_set.specs.declared.class.Class.{Class}
@@ -80,7 +80,7 @@ opening m = record {
   flag_this_uninit = m.begins_uninit;
 }
 
--- a frame comes in at an index of a method, which has an instruction of that index
+-- a frame comes in at an index of a method, and there is an instruction at that index
 pub record Enters (w : World) (number index : ℕ) (given : Frame) : Type 0 where
   pub inside : index < (w.method number).count
   pub to : IsFrameAssignable w.classes given ((w.method number).frames index)
@@ -99,11 +99,11 @@ is_made_at offset vtype.UninitializedThis = false
 abbrev pub cleared : ℕ → VType → VType
 cleared offset t = if is_made_at offset t then vtype.Top else t
 
--- what a type becomes where an `<init>` is called on an object that the `new` at an offset made: a class (JVMS 4.10.1.9, invokespecial)
+-- what a type becomes when an `<init>` is called on an object that the `new` at an offset made: a class (JVMS 4.10.1.9, invokespecial)
 abbrev pub made_is : ℕ → ClassId → VType → VType
 made_is offset class t = if is_made_at offset t then vtype.Object class else t
 
--- the same where an `<init>` calls another one on its own receiver
+-- the same when an `<init>` calls another one on its own receiver
 abbrev pub this_is : ClassId → VType → VType
 this_is class vtype.Top = vtype.Top
 this_is class vtype.Int = vtype.Int

@@ -11,48 +11,52 @@ ghost use Rattle.vm_typing.specs.Laws.{WordsLead, ObjectsLead, CallsLead, Refere
 ghost use Rattle.vm_typing.specs.Runs.{StartsTyped, RunsSound};
 ghost use Rattle.vm_typing.specs.Example.{world, ExampleIsSound};
 
-/// Loads, stores, constants, pops and copies of operands, operators on ints, branches and switches.
+/// Loads, stores, constants, pops and copies of operands, operators on ints, branches and switches
+/// lead a typed machine to a typed one, or end the task.
 pub fn words_lead()
     ensures { (w : World) → Owed w → (asked : Option VType) (heap : List Cell) (fresh : ℕ → ℕ) (receiver : ℕ) → WordsLead w asked heap fresh receiver }
 {}
 
-/// New objects, their fields, and int arrays.
+/// The instructions that make objects and int arrays, and use them, lead a typed machine to a typed
+/// one, or end the task.
 pub fn objects_lead()
     ensures { (w : World) → Owed w → (asked : Option VType) (heap : List Cell) (fresh : ℕ → ℕ) (receiver : ℕ) → ObjectsLead w asked heap fresh receiver }
 {}
 
-/// Calls of methods that are named: static ones, and an `<init>` on a new object or on the receiver of
-/// a running `<init>`.
+/// Calls of methods that are named (static ones, and an `<init>` on a new object or on the receiver
+/// of a running `<init>`) lead a typed machine to a typed one, or end the task.
 pub fn calls_lead()
     ensures { (w : World) → Owed w → (asked : Option VType) (heap : List Cell) (fresh : ℕ → ℕ) (receiver : ℕ) → CallsLead w asked heap fresh receiver }
 {}
 
-/// Calls of the method that a receiver's class selects, casts, instanceof and athrow.
+/// Calls of the method that a receiver's class selects, casts, instanceof and athrow lead a typed
+/// machine to a typed one, or end the task.
 pub fn referents_lead()
     ensures { (w : World) → Owed w → (asked : Option VType) (heap : List Cell) (fresh : ℕ → ℕ) (receiver : ℕ) → ReferentsLead w asked heap fresh receiver }
 {}
 
-/// Returns to a caller that waits, and the end of a task.
+/// A return leads to the typed machine of a caller that waits, or ends the task with a result of
+/// its type.
 pub fn returns_lead()
     ensures { (w : World) → Owed w → (asked : Option VType) (fresh : ℕ → ℕ) (receiver : ℕ) → ReturnsLead w asked fresh receiver }
 {}
 
-/// Where a step leads to typed machines, the function of vm_act that makes it may be called, a machine
+/// If a step leads to typed machines, the function of vm_act that makes it may be called, a machine
 /// with which the task goes on is typed, and what ends the task may be given.
 pub fn steps_are_made()
     ensures { (w : World) (asked : Option VType) (heap : List Cell) → StepsAreMade w asked heap }
 {}
 
-/// A method that is started on values of its parameters' types is typed. However many steps a typed
-/// machine makes, if each leads a typed machine as the laws here say, it is never stuck, and its task
-/// ends as thrown, or with a result of the type that its method declares.
+/// A method that is started on values of its parameters' types is typed. If each step leads a typed
+/// machine as the laws here say, the machine is never stuck, however many steps it makes, and its
+/// task ends as thrown, or with a result of the type that its method declares.
 pub fn typed_machines_are_never_stuck()
     ensures start { (w : World) → Owed w → StartsTyped w }
     ensures run { (w : World) → RunsSound w }
 {}
 
-/// Every class set gives what is owed of subclasses: java/lang/Object is above all others, and so what
-/// may stand for a class may stand for what that may stand for.
+/// Every class set gives what is owed of subclasses: java/lang/Object is above all others, and
+/// standing for a class is transitive.
 pub fn class_sets_give_what_is_owed()
     ensures { (w : World) → IsClassSet w.classes → name_at w.classes w.object ≡ Some (codes "java/lang/Object") → SetsGive w }
 {}

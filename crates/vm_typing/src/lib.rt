@@ -1,5 +1,5 @@
-//! When a machine fits the type frames of the methods that it runs, and that it is then never stuck:
-//! definitions and laws, each the contract of a function. There is no other code here.
+//! When a machine fits the type frames of its methods, and that it is then never stuck: definitions
+//! and laws, each the contract of a function. There is no other code here.
 #![tactic(auto)]
 
 pub use cls_set::Class;

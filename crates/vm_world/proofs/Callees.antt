@@ -1,4 +1,4 @@
--- What a call is told of a method agrees with the method's types.
+-- What a call is given of a method agrees with the method's types.
 use Rattle.std.proofs.Common.{◌≡◌, ℕ, suc, ◌++◌, Bool, true, false, Option, Some, None, [], ◌∷◌, length, refl, sym, subst, ap, ◌∙◌}
 use Rattle.std.specs.Prelude.{if◌then◌else◌, bytes_eq, codes, map, nat_le, MatchOption, IsSomeAnd, option_map, slice_get}
 use Rattle.std.specs.Option.{option_map_or}

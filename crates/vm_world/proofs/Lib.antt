@@ -4,3 +4,4 @@ pub mod Methods
 pub mod Owing
 pub mod LookUps
 pub mod Callees
+pub mod AsRead

@@ -1,4 +1,4 @@
--- What is looked for in a set is of the types of its world: what fields hold, and where they are kept.
+-- What is looked for in a set is of the types of its world: what fields hold, and their slots.
 use Rattle.std.proofs.Common.{◌≡◌, ℕ, zero, suc, ◌+◌, ◌++◌, Bool, true, false, Option, Some, None, List, [], ◌∷◌, length, refl, sym, subst, ap, ◌∙◌, arith, append_assoc}
 use Rattle.std.specs.Prelude.{◌==◌, ◌&&◌, nat_eq, if◌then◌else◌, map, option_map, option_and_then, slice_get}
 use Rattle.std.specs.List.{AllZip}
@@ -94,7 +94,7 @@ module _ (classes : List Class) where
       on None e = absurd (none_some e)
       on (Some c) e = subst (AllZip HasKind (types_of classes class)) (same_some e) (held_up read (suc (length classes)) class)
 
-  -- ---- where fields are kept
+  -- ---- the slots of fields
 
   abbrev type_at : FieldIndex → VType
   type_at index = option_map_or (λ (f : Field). field_vtype classes f.kind) (field_at classes index) vtype.Top

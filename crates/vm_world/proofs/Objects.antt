@@ -39,7 +39,7 @@ module _ (classes : List Class) (rank : ClassId → ℕ) (ranking : IsRanking cl
   lower : (class s : ClassId) (c : Class) → slice_get classes class.0 ≡ Some c → c.superclass ≡ Some s → rank s < rank class
   lower class s c at up = ranking class s (inl (some_and (slice_get classes class.0) (λ c. c.superclass ≡ Some s) c at up))
 
-  -- as many classes up as there may be, it is no matter how many
+  -- at most n classes up, whatever n is if it is above the rank of the class
   stable : (n m : ℕ) (class : ClassId) → rank class < n → rank class < m → types_up n classes class ≡ types_up m classes class
   unfolding types_up
   stable zero m class low high = absurd (omega (arith, low))

@@ -1,4 +1,4 @@
--- Methods with code, by their numbers: where they stand, and that checking types them.
+-- Methods with code, by their numbers: their classes and indices, and that checking types them.
 use Rattle.std.proofs.Common.{◌≡◌, ℕ, ◌<◌, false, Option, Some, None, [], length, refl, subst}
 use Rattle.std.specs.Prelude.{IfSome, MatchOption, option_and_then, slice_get}
 use Rattle.std.proofs.lemmas.Option.{slice_get_within}

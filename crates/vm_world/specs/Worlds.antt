@@ -39,7 +39,7 @@ method_type m frames = record {
   made_at = made_at m.linked.insns m.linked.offsets;
 }
 
--- the world of a linked set, where its methods are typed by these frames, by method and index
+-- the world of a linked set whose methods are typed by these frames, by method and index
 abbrev pub world_of : Links → (ℕ → ℕ → Frame) → World
 world_of links frames = record {
   classes = links.classes;

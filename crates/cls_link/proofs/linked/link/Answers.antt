@@ -55,4 +55,5 @@ loop-number-preserved c =
       subst (All (IsSoundMethod classes)) (sym (declared_class classes n c.class.result.now within))
           (subst (λ (k : Class). All (IsSoundMethod classes) (before ++ declared_in (record { 0 = n }) k.file.name 0 k.file.methods)) (sym here)
           (All-append (IsSoundMethod classes) before (declared_in (record { 0 = n }) c.class.result.now.file.name 0 c.class.result.now.file.methods) c.loop-number.invariant.4 c.in_ok-link_class.ensures.sound)),
+      c.in_ok-link_class.ensures.known,
     )

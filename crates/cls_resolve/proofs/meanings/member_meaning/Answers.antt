@@ -1,8 +1,8 @@
-use Rattle.std.proofs.Common.{◌≡◌, Some, refl, sym, subst, ap, ◌∙◌}
+use Rattle.std.proofs.Common.{refl, sym, subst, ap, ◌∙◌}
 use Rattle.cf_pool.specs.Pools.{NamedMember, member_at}
 use Rattle.cf_pool.specs.PoolRefs.{named_member}
 use Rattle.cls_set.specs.Classes.{number_of}
-use Rattle.cls_resolve.specs.LinkRules.{pool_of, IsArray}
+use Rattle.cls_resolve.specs.LinkRules.{IsArray}
 use Rattle.cls_search.specs.MethodSearches.{is_initializer}
 use Rattle.cls_search.proofs.Interfaces.{not_true}
 use Rattle.cls_resolve.proofs.Used.{member_of_entry}

@@ -5,7 +5,7 @@ use Rattle.dgc_client.specs.Table.{leases_of}
 use Rattle.dgc_client.specs.Touched.{call_of_entry, IsDueAt, HasAll}
 use Rattle.dgc_client.proofs.due_now.due_now.Given as goal
 
--- the calls and their indexes up to the index that was passed, the candidates so far, which are below it, and the room
+-- the calls and their indexes up to the passed index, the candidates so far, which are below it, and the room
 abbrev pub invariant-loop-at : goal.invariant-loop-at
 invariant-loop-at l =
     (l.passed ≤ length (leases_of l.leases))

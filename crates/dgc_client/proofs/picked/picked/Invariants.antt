@@ -4,7 +4,7 @@ use Rattle.dgc_client.specs.Table.{leases_of}
 use Rattle.dgc_client.specs.Touched.{reference_of, HasAllOf}
 use Rattle.dgc_client.proofs.picked.picked.Given as goal
 
--- the references up to the index that was passed, and the candidates so far, which are not behind it
+-- the references up to the index `passed`; the candidates so far are below it
 abbrev pub invariant-loop-at : goal.invariant-loop-at
 invariant-loop-at l =
     (l.passed ≤ length (leases_of l.leases))

@@ -3,7 +3,7 @@ use Rattle.dgc_list.specs.Remembered.{after_clean}
 use Rattle.dgc_list.specs.Objects.{AreKnown, IsCovered, Tells}
 use Rattle.dgc_list.proofs.calls.tell_clean.Given as goal
 
--- the objects so far are told, and the client keeps its room if the call is strong
+-- the call was made on the objects so far, and the client keeps its room if the call is strong
 abbrev pub invariant-loop-id : goal.invariant-loop-id
 invariant-loop-id l = record {
   told : Tells (after_clean l.number l.strong) l.client (take l.id-index l.ids) l.initial.objects l.objects;

@@ -3,7 +3,7 @@ use Rattle.dgc_list.specs.Remembered.{after_dirty}
 use Rattle.dgc_list.specs.Objects.{AreKnown, ArePlanned, IsCovered, Tells}
 use Rattle.dgc_list.proofs.calls.tell_dirty.Given as goal
 
--- the objects so far are told, and the client keeps its room and its expiries
+-- the call was made on the objects so far, and the client keeps its room and its expiries
 abbrev pub invariant-loop-id : goal.invariant-loop-id
 invariant-loop-id l = record {
   told : Tells (after_dirty l.number l.expires) l.client (take l.id-index l.ids) l.initial.objects l.objects;

@@ -2,7 +2,7 @@ use Rattle.std.proofs.Common.{sym, subst}
 use Rattle.cls_set.specs.Sets.{HasClasses}
 use Rattle.sp_main.specs.Runs.{IsNoProgram, unread, no_set, not_linked, not_safe}
 use Rattle.sp_main.specs.declared.refusal.Refusal.TheVariants.{Set, Link, Check}
-use Rattle.sp_main.proofs.Files.{known_error}
+use Rattle.sp_main.proofs.Files.{files_well, known_error}
 use Rattle.sp_main.proofs.running.accepted_of.Goals as goal
 
 pub returns-in_err-classes-clause-refused : goal.returns-in_err-classes-clause-refused
@@ -25,3 +25,6 @@ returns-in_err-accept-clause-refused c =
     let has = subst (HasClasses c.in_ok-classes.classes.items) (sym (c.in_ok-linked.ensures).classes) (c.in_ok-set.ensures).classes in
     known_error c.from_residual-in_err-accept.result (Check c.in_err-accept.field-0.0) (IsNoProgram c.args.files.now) c.from_residual-in_err-accept.ensures.1
     (not_safe c.in_ok-classes.classes.items c.in_ok-linked.linked c.in_err-accept.field-0.0 (c.in_ok-classes.ensures).read has (c.in_ok-linked.ensures).links (c.in_err-accept.ensures).fault)
+
+pub build-requires : goal.build-requires
+build-requires c = files_well c.args.files.now c.in_ok-classes.classes.items (c.in_ok-classes.ensures).read

@@ -1,5 +1,6 @@
-use Rattle.vm_rows.proofs.NeverStuck
+use Rattle.vm_world.proofs.AsRead.{as_read}
+use Rattle.vm_rows.proofs.NeverStuck.{never_stuck}
 use Rattle.vm_rows.proofs.laws.named_sets_are_never_stuck.Goals as goal
 
 pub returns : goal.returns
-returns c = NeverStuck.never_stuck
+returns c = λ links frames are typed. never_stuck links frames are typed (as_read links.classes are.set)

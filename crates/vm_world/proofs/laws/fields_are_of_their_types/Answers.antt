@@ -1,5 +1,6 @@
-use Rattle.vm_world.proofs.LookUps
+use Rattle.vm_world.proofs.AsRead.{as_read}
+use Rattle.vm_world.proofs.LookUps.{held, kept_at}
 use Rattle.vm_world.proofs.laws.fields_are_of_their_types.Goals as goal
 
 pub returns : goal.returns
-returns c = record { held = LookUps.held; kept = LookUps.kept_at }
+returns c = record { held = λ classes set. held classes (as_read classes set); kept = kept_at }

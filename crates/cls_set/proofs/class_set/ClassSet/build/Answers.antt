@@ -24,10 +24,10 @@ returns-in_err-refuse_broken-clause-fault c =
     rw (p.1, p.2) (rule_fault c.args.files.items c.in_ok-arranged.arranged c.in_ok-arranged.ensures.classes c.in_err-refuse_broken.field-0.0 (subst (λ ms. IsFirstRuleFault (origins_of ms) c.in_err-refuse_broken.field-0.0) c.as_slice.ensures.value c.in_err-refuse_broken.ensures.fault))
 
 pub invariant_of-result : goal.invariant_of-result
-invariant_of-result c = are_members c.args.files.items c.in_ok-arranged.arranged c.in_ok-arranged.ensures.classes (subst (λ ms. KeepAll (origins_of ms)) c.as_slice.ensures.value c.in_ok-refuse_broken.ensures.ok)
+invariant_of-result c = are_members c.args.files.items c.in_ok-arranged.arranged c.in_ok-arranged.ensures.classes c.requires (subst (λ ms. KeepAll (origins_of ms)) c.as_slice.ensures.value c.in_ok-refuse_broken.ensures.ok)
 
 pub returns-clause-set : goal.returns-clause-set
-returns-clause-set c = (are_members c.args.files.items c.in_ok-arranged.arranged c.in_ok-arranged.ensures.classes (subst (λ ms. KeepAll (origins_of ms)) c.as_slice.ensures.value c.in_ok-refuse_broken.ensures.ok)).set
+returns-clause-set c = (are_members c.args.files.items c.in_ok-arranged.arranged c.in_ok-arranged.ensures.classes c.requires (subst (λ ms. KeepAll (origins_of ms)) c.as_slice.ensures.value c.in_ok-refuse_broken.ensures.ok)).set
 
 pub returns-clause-classes : goal.returns-clause-classes
 returns-clause-classes c = has_classes c.args.files.items c.in_ok-arranged.arranged c.in_ok-arranged.ensures.classes

@@ -1,0 +1,15 @@
+-- How a refused event is answered, and the number of each fault. (This project's own.)
+use Rattle.std.specs.Prelude.{◌≡◌, ℕ, Option, Some, None}
+use Rattle.sp_rules.specs.Refusals.{Refusal, refusal_number}
+use Rattle.sp_core.specs.declared.fault.CoreFault.{CoreFault}
+use Rattle.sp_core.specs.declared.fault.CoreFault.TheVariants as fault
+
+-- the number of a fault, if it is a refusal
+abbrev pub core_fault_number : CoreFault → Option ℕ
+core_fault_number fault.WornOut = Some 98
+core_fault_number fault.Memory = None
+
+-- A refused event has this fault: that of the refusal's number, or out of memory if the rules do not refuse it.
+abbrev pub Refuses : Option Refusal → CoreFault → Type 0
+Refuses None refused = refused ≡ fault.Memory
+Refuses (Some refusal) refused = core_fault_number refused ≡ Some (refusal_number refusal)

@@ -1,0 +1,15 @@
+//! The core of one space, as a state machine: each event is one change of its state, and is answered
+//! with its outputs or refused.
+//!
+//! A contract names the state that the rules of spaces give: the core is in the state that the event
+//! leaves, and answers what the rules say.
+#![tactic(auto)]
+
+pub use event::{Event, Output};
+pub use fault::CoreFault;
+pub use space::SpaceCore;
+
+mod event;
+mod fault;
+mod living;
+mod space;

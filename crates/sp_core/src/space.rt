@@ -1,0 +1,218 @@
+//! The core of a space.
+
+ghost use Rattle.std.specs.Prelude.{◌≡◌, ◌<◌, ◌+◌, ◌^◌, nat_le, ℕ, List, [], false, None, Some, IfOk, IfErr, OnOk, OnErr, IsTrue, map, if◌then◌else◌};
+ghost use Rattle.sp_registry.specs.declared.fault.BindFault.TheVariants.{Denied as Denies};
+ghost use Rattle.sp_rules.specs.Classes.{Setting};
+ghost use Rattle.sp_rules.specs.Holders.{is_own_standing, own_object};
+ghost use Rattle.sp_rules.specs.Refusals.{WornOut, is_worn, refusal};
+ghost use Rattle.sp_rules.specs.Space.{on as after_event};
+ghost use Rattle.sp_rules.specs.State.{State, opening};
+ghost use Rattle.sp_core.specs.Cores.{IsCore};
+ghost use Rattle.sp_rules.specs.Events.{Moment, Bind, Rebind, Unbind};
+ghost use Rattle.sp_core.specs.Events.{event_of, is_late, output_of, told};
+ghost use Rattle.sp_core.specs.FaultNames.{Refuses};
+
+use crate::living::{LivingTask, RootResult};
+use crate::{CoreFault, Event, Output};
+use dgc_client::Clients;
+use dgc_list::RefList;
+use indexmap::IndexMap;
+use sp_registry::{BindFault, Registry, RegistryFault};
+use sp_store::Store;
+use space_ids::{ObjId, Ref, Uuid, Value};
+use std::alloc::{AllocError, Global};
+
+// Numbers and moments stay below this one.
+const END: u64 = 1 << 63;
+
+/// The core of one space.
+///
+/// A contract names the states of the rules that the value may stand for.
+#[derive(Debug, Drop)]
+pub struct SpaceCore {
+    alloc: Global,
+    id: Uuid,
+    moment: u64,
+    store: Store,
+    names: Registry,
+    entries: RefList,
+    leases: Clients,
+    tasks_made: u64,
+    tasks: IndexMap<u64, LivingTask>,
+    calls_made: u64,
+    results: IndexMap<u64, RootResult>,
+}
+
+impl SpaceCore {
+    /// The core of the space of this id, to which nothing has happened.
+    pub fn new(alloc: Global, id: Uuid) -> SpaceCore
+        ensures { (g : Setting) → g.id ≡ id → IsCore g opening result }
+    {
+        SpaceCore {
+            alloc,
+            id,
+            moment: 0,
+            store: Store::new(alloc, id),
+            names: Registry::new(alloc),
+            entries: RefList::new(alloc),
+            leases: Clients::new(alloc),
+            tasks_made: 0,
+            tasks: IndexMap::new(alloc),
+            calls_made: 0,
+            results: IndexMap::new(alloc),
+        }
+    }
+
+    /// Lets an event happen, and answers its outputs. A refused event changes nothing; the refusal with
+    /// the lowest number counts, but 98 before all others.
+    pub fn on(&mut self, event: &Event) -> Result<Vec<Output>, CoreFault>
+        ensures accepted { OnOk result ((g : Setting) (s : State) (lent : List ℕ) → IsCore g s self.old → refusal g lent s (event_of event.now) ≡ None) }
+        ensures outputs { IfOk result (λ outputs. (g : Setting) (s : State) → IsCore g s self.old → map output_of outputs.items ≡ (after_event g (event_of event.now) s).1) }
+        ensures state { OnOk result ((g : Setting) (s : State) → IsCore g s self.old → IsCore g (after_event g (event_of event.now) s).0 self.new) }
+        ensures refused { IfErr result (λ fault. (g : Setting) (s : State) (lent : List ℕ) → IsCore g s self.old → Refuses (refusal g lent s (event_of event.now)) fault) }
+        ensures unchanged { OnErr result ((g : Setting) (s : State) → IsCore g s self.old → IsCore g s self.new) }
+    {
+        if self.is_refused(event) {
+            return Err(CoreFault::WornOut);
+        }
+        let mut outputs = Vec::with_capacity(self.alloc, 1)?;
+        if let Some(fault) = self.happen(event)? {
+            outputs.push_reserved(Output::Denied(fault));
+        }
+        Ok(outputs)
+    }
+
+    // Lets an event happen that is not refused. Returns what the registry denies of it.
+    fn happen(&mut self, event: &Event) -> Result<Option<RegistryFault>, AllocError>
+        requires in_time { is_late (event_of event.now) ≡ false }
+        ensures outputs { IfOk result (λ denied. (g : Setting) (s : State) → IsCore g s self.old → (after_event g (event_of event.now) s).1 ≡ told denied) }
+        ensures state { OnOk result ((g : Setting) (s : State) → IsCore g s self.old → IsCore g (after_event g (event_of event.now) s).0 self.new) }
+        ensures unchanged { OnErr result ((g : Setting) (s : State) → IsCore g s self.old → IsCore g s self.new) }
+    {
+        match event {
+            Event::Moment(moment) => {
+                self.on_moment(*moment);
+                Ok(None)
+            }
+            Event::Bind { name, value } => self.on_bind(name.as_slice(), value),
+            Event::Rebind { name, value } => self.on_rebind(name.as_slice(), value),
+            Event::Unbind { name } => Ok(self.on_unbind(name.as_slice())),
+        }
+    }
+
+    // The moment is now. A moment below the last changes nothing.
+    fn on_moment(&mut self, moment: u64)
+        requires { moment < 2 ^ 63 }
+        ensures outputs { (g : Setting) (s : State) → IsCore g s self.old → (after_event g (Moment moment) s).1 ≡ [] }
+        ensures state { (g : Setting) (s : State) → IsCore g s self.old → IsCore g (after_event g (Moment moment) s).0 self.new }
+    {
+        if moment < self.moment {
+            return;
+        }
+        self.moment = moment;
+        self.entries.moment(moment);
+        self.leases.moment(moment);
+    }
+
+    // Binds the name to the own object that the value names.
+    fn on_bind(&mut self, name: &[u8], value: &Value) -> Result<Option<RegistryFault>, AllocError>
+        ensures outputs { IfOk result (λ denied. (g : Setting) (s : State) → IsCore g s self.old → (after_event g (Bind name.now value.now) s).1 ≡ told denied) }
+        ensures state { OnOk result ((g : Setting) (s : State) → IsCore g s self.old → IsCore g (after_event g (Bind name.now value.now) s).0 self.new) }
+        ensures unchanged { OnErr result ((g : Setting) (s : State) → IsCore g s self.old → IsCore g s self.new) }
+    {
+        let own = self.own_object(value);
+        match self.names.bind(name, own) {
+            Ok(()) => Ok(None),
+            Err(fault) => Ok(Some(denial(fault)?)),
+        }
+    }
+
+    // Binds the name anew to the own object that the value names.
+    fn on_rebind(&mut self, name: &[u8], value: &Value) -> Result<Option<RegistryFault>, AllocError>
+        ensures outputs { IfOk result (λ denied. (g : Setting) (s : State) → IsCore g s self.old → (after_event g (Rebind name.now value.now) s).1 ≡ told denied) }
+        ensures state { OnOk result ((g : Setting) (s : State) → IsCore g s self.old → IsCore g (after_event g (Rebind name.now value.now) s).0 self.new) }
+        ensures unchanged { OnErr result ((g : Setting) (s : State) → IsCore g s self.old → IsCore g s self.new) }
+    {
+        let own = self.own_object(value);
+        match self.names.rebind(name, own) {
+            Ok(()) => Ok(None),
+            Err(fault) => Ok(Some(denial(fault)?)),
+        }
+    }
+
+    // Takes the name away.
+    fn on_unbind(&mut self, name: &[u8]) -> Option<RegistryFault>
+        ensures outputs { (g : Setting) (s : State) → IsCore g s self.old → (after_event g (Unbind name.now) s).1 ≡ told result }
+        ensures state { (g : Setting) (s : State) → IsCore g s self.old → IsCore g (after_event g (Unbind name.now) s).0 self.new }
+    {
+        match self.names.unbind(name) {
+            Ok(()) => None,
+            Err(fault) => Some(fault),
+        }
+    }
+
+    // Whether the event is refused: it is a moment from 2^63 on, or the space is worn out.
+    fn is_refused(&self, event: &Event) -> bool
+        ensures refused { (g : Setting) (s : State) (lent : List ℕ) → IsCore g s self.now → refusal g lent s (event_of event.now) ≡ (if result then Some WornOut else None) }
+        ensures late { IsTrue (is_late (event_of event.now)) → IsTrue result }
+    {
+        self.is_worn() || is_too_late(event)
+    }
+
+    // Whether the next number of an object, a task, a call, or a dirty or clean call would be 2^63.
+    fn is_worn(&self) -> bool
+        ensures { (g : Setting) (s : State) → IsCore g s self.now → result ≡ is_worn s }
+    {
+        is_last(self.store.made())
+            || (is_last(self.tasks_made)
+                || (is_last(self.calls_made) || is_last(self.leases.last_number())))
+    }
+
+    // Whether the reference is of a standing own object, of its class.
+    fn is_own_standing(&self, reference: &Ref) -> bool
+        ensures { (g : Setting) (s : State) → IsCore g s self.now → result ≡ is_own_standing g s reference.now }
+    {
+        reference.space == self.id
+            && match self.store.class_of(reference.id) {
+                Some(class) => class == reference.class,
+                None => false,
+            }
+    }
+
+    // The own object that the value names, if it stands and is of that class.
+    fn own_object(&self, value: &Value) -> Option<ObjId>
+        ensures { (g : Setting) (s : State) → IsCore g s self.now → result ≡ own_object g s value.now }
+    {
+        match value {
+            Value::Ref(reference) if self.is_own_standing(reference) => Some(reference.id),
+            _ => None,
+        }
+    }
+}
+
+// Whether the event is a moment from 2^63 on.
+fn is_too_late(event: &Event) -> bool
+    ensures { result ≡ is_late (event_of event.now) }
+{
+    match event {
+        Event::Moment(moment) => *moment >= END,
+        _ => false,
+    }
+}
+
+// What the registry denies, if it is not out of memory.
+fn denial(fault: BindFault) -> Result<RegistryFault, AllocError>
+    ensures { IfOk result (λ denied. fault ≡ Denies denied) }
+{
+    match fault {
+        BindFault::Denied(denied) => Ok(denied),
+        BindFault::Memory => Err(AllocError),
+    }
+}
+
+// Whether the number after this one would be 2^63 or more.
+fn is_last(number: u64) -> bool
+    ensures { result ≡ nat_le (2 ^ 63) (number + 1) }
+{
+    number >= END - 1
+}

@@ -1,0 +1,3 @@
+mod GuardLemmas
+mod ResultLemmas
+mod GoingLemmas

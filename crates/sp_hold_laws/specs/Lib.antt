@@ -1,0 +1,4 @@
+pub mod OneObject
+pub mod Guards
+pub mod HeldResults
+pub mod Going

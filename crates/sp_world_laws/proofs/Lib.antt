@@ -1,0 +1,4 @@
+mod ListLemmas
+mod DeliveryLemmas
+mod CameLemmas
+mod EndLemmas

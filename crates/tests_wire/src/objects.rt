@@ -1,0 +1,56 @@
+//! The remote objects of a space.
+
+use sp_store::Store;
+use space_ids::{ClassId, ObjId, Ref, Value};
+use std::alloc::Global;
+use std::test::Fail;
+use uuid::Uuid;
+
+fn own() -> Uuid {
+    Uuid::from_u64_pair(0, 1)
+}
+
+fn reference(id: u64) -> Value {
+    Value::Ref(Ref {
+        space: own(),
+        id: ObjId(id),
+        class: ClassId(7),
+    })
+}
+
+// A store in which object 1, that one holds, has object 2 in its second field, and nobody needs
+// object 3.
+fn three_objects(alloc: Global) -> Result<Store, Fail> {
+    let mut store = Store::new(alloc, own());
+    store.create(ClassId(7), vec![in alloc; Value::Int(0), Value::Null]?)?;
+    store.create(ClassId(7), vec![in alloc; Value::Int(0), Value::Null]?)?;
+    store.create(ClassId(8), Vec::new(alloc))?;
+    store.put_field(ObjId(1), 1, reference(2));
+    store.hold(ObjId(1));
+    Ok(store)
+}
+
+#[test]
+fn objects_are_made_and_keep_what_is_put(rt: HostRuntime) -> Result<(), Fail> {
+    let mut store = three_objects(rt.alloc())?;
+    assert_eq!(rt; store.len(), 3);
+    assert_eq!(rt; store.object(2), Some((ObjId(3), ClassId(8))));
+    assert!(rt; matches!(store.get_field(ObjId(1), 0), Some(Value::Int(0))));
+    store.put_field(ObjId(1), 0, Value::Int(5));
+    assert!(rt; matches!(store.get_field(ObjId(1), 0), Some(Value::Int(5))));
+    assert!(rt; store.get_field(ObjId(3), 0).is_none());
+    Ok(())
+}
+
+#[test]
+fn a_sweep_withdraws_what_nothing_needs(rt: HostRuntime) -> Result<(), Fail> {
+    let mut store = three_objects(rt.alloc())?;
+    assert_eq!(rt; store.idle(rt.alloc())?.as_slice(), [ObjId(3)].as_slice());
+    assert_eq!(rt; store.sweep(rt.alloc())?.as_slice(), [ObjId(3)].as_slice());
+    assert_eq!(rt; store.len(), 2);
+    store.release(ObjId(1));
+    assert_eq!(rt; store.sweep(rt.alloc())?.as_slice(), [ObjId(1)].as_slice());
+    assert_eq!(rt; store.sweep(rt.alloc())?.as_slice(), [ObjId(2)].as_slice());
+    assert_eq!(rt; store.made(), 3);
+    Ok(())
+}

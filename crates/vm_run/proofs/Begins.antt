@@ -1,0 +1,364 @@
+-- A task begins in a state that is never stuck: its first frame fits the one in which its method begins.
+use Rattle.std.proofs.Common.{◌≡◌, ℕ, zero, suc, ◌+◌, ◌-◌, ◌<◌, ◌≤◌, Bool, true, false, List, [], ◌∷◌, ◌++◌, length, map, refl, ap, sym, subst, ◌∙◌, arith, append_assoc, Option, Some, None, ◌⊎◌, inl, inr, eqb-true, drop, le-leb}
+use Rattle.std.proofs.lemmas.List.{length-map}
+use Rattle.std.specs.Prelude.{not, ◌&&◌, ◌||◌, ◌==◌, nat_le, bytes_eq, codes, option_map, replicate, if◌then◌else◌}
+use Rattle.std.specs.List.{list_all}
+use Rattle.std.specs.Option.{option_map_or}
+use Rattle.cf_text.specs.declared.types.ElementType.{ElementType}
+use Rattle.cf_text.specs.declared.types.ElementType.TheVariants as element
+use Rattle.cf_text.specs.declared.types.FieldType.{FieldType}
+use Rattle.cf_reader.specs.declared.class_file.Code.{Code}
+use Rattle.cf_reader.specs.declared.class_file.Method.{Method}
+use Rattle.cls_link.specs.Links.{Links, AreLinks}
+use Rattle.cls_link.specs.declared.linked_code.MethodId.{MethodId}
+use Rattle.cls_set.specs.Classes.{number_of}
+use Rattle.cls_set.specs.declared.class.Class.{Class}
+use Rattle.space_ids.specs.declared.ids.ClassId.{ClassId}
+use Rattle.space_ids.specs.declared.value.Value.{Value}
+use Rattle.space_ids.specs.declared.value.Value.TheVariants as value
+use Rattle.ver_frames.specs.Method.{Subject, is_static, argument_types, begins_uninit, receiver_types}
+use Rattle.ver_frames.specs.Types.{field_vtype, element_type, is_int}
+use Rattle.ver_frames.specs.declared.vtype.VType.{VType}
+use Rattle.ver_frames.specs.declared.vtype.VType.TheVariants as vtype
+use Rattle.vm_act.specs.declared.calls.Callee.{Callee}
+use Rattle.vm_act.specs.declared.ending.Thrown.{Thrown}
+use Rattle.vm_act.specs.declared.ending.Thrown.TheVariants.{OutOfMemoryError, StackOverflowError}
+use Rattle.vm_act.specs.declared.machine.Machine.{Machine}
+use Rattle.vm_heap.specs.Heap.{Cell, Ints, Store, all_cost, cell_at, cost}
+use Rattle.vm_heap.specs.Tagged.{Tagged, Null, Unset}
+use Rattle.vm_stack.specs.Frames.{Frames, empty_frame, entered, frame_cost}
+use Rattle.vm_typing.specs.Fits.{There, IsInts, Fits, AllFit, CellFits, AllCells, HeapFits, no_marks, no_method}
+use Rattle.vm_typing.specs.Owed.{Owed, IsCallee}
+use Rattle.vm_typing.specs.Typed.{IsTyped}
+use Rattle.vm_typing.specs.World.{World, MethodType, IsPlain, parameters}
+use Rattle.vm_typing.proofs.Runs.{starts_typed}
+use Rattle.vm_world.proofs.Owing.{owed}
+use Rattle.vm_world.proofs.Subjects.{passes_both, stands}
+use Rattle.vm_world.specs.Worlds.{subject_at, is_init, method_type, world_of}
+use Rattle.vm_run.specs.Ends.{Threw}
+use Rattle.vm_run.specs.Limited.{KeepsWithin}
+use Rattle.vm_run.specs.Run.{Running, Over, run, IsNeverStuck}
+use Rattle.vm_run.specs.Sound.{IsSoundSet}
+use Rattle.vm_run.specs.Start.{crosses, copies, copy_of, fill, have_room, is_startable, is_array_element, is_array_type, is_int_element, is_int_type, is_of_type, is_remote_element, is_remote_interface, is_remote_type, opening_frame, opening_state, passed_at, passed_from, refusal, startable, takes_crossing}
+use Rattle.vm_run.specs.Subjects.{Declared, declared_at, declared_of, shown}
+use Rattle.vm_run.specs.declared.fault.StartFault.{StartFault}
+use Rattle.vm_run.specs.declared.fault.StartFault.TheVariants as fault
+use Rattle.vm_run.specs.declared.found.Found.{Found}
+use Rattle.vm_run.specs.declared.limits.Limits.{Limits}
+use Rattle.vm_run.proofs.Copying.{all_cost-append, cell_between}
+use Rattle.vm_run.proofs.Limited.{stays_within}
+use Rattle.vm_run.proofs.Runs.{run_over}
+use Rattle.vm_run.proofs.Safe.{typed-IsNeverStuck, over-IsNeverStuck}
+
+both : (a b : Bool) → (a && b) ≡ true → (a ≡ true) × (b ≡ true)
+both true b e = (refl, e)
+both false b e = absurd (cc)
+
+element-int : (classes : List Class) (e : ElementType) → is_int_element e ≡ true → element_type classes e ≡ vtype.Int
+unfolding element_type
+element-int classes element.Int is = refl
+element-int classes element.Boolean is = refl
+element-int classes e is = absurd (cc)
+
+-- the types of ints and booleans, of int[], and of remote interfaces
+int_vtype : (classes : List Class) (kind : FieldType) → is_int_type kind ≡ true → field_vtype classes kind ≡ vtype.Int
+unfolding field_vtype
+int_vtype classes kind e =
+    let parts = both (kind.dimensions == 0) (is_int_element kind.element) e in
+    rw parts.0 (element-int classes kind.element parts.1)
+
+array_int : (e : ElementType) → is_array_element e ≡ true → is_int e ≡ true
+array_int element.Int is = refl
+array_int e is = absurd (cc)
+
+array_vtype : (classes : List Class) (kind : FieldType) → is_array_type kind ≡ true → field_vtype classes kind ≡ vtype.IntArray
+unfolding field_vtype
+array_vtype classes kind e =
+    let parts = both (kind.dimensions == 1) (is_array_element kind.element) e in
+    let one : kind.dimensions ≡ 1 = eqb-true kind.dimensions 1 parts.0 in
+    rw (one, array_int kind.element parts.1) refl
+
+module _ (w : World) (cells : List Cell) where
+  remote_null : (classes : List Class) (e : ElementType) → is_remote_element classes e ≡ true → Fits w cells no_marks (element_type classes e) Null
+  unfolding element_type
+  remote_null classes (element.Class name) is = by (number_of classes name) is
+    where
+      by : (o : Option ClassId) → option_map_or (is_remote_interface classes) o false ≡ true → Fits w cells no_marks (option_map_or vtype.Object o vtype.Top) Null
+      by None e = absurd (cc)
+      by (Some class) e = tt
+  remote_null classes e is = absurd (cc)
+
+  remote_fits : (classes : List Class) (kind : FieldType) → is_remote_type classes kind ≡ true → Fits w cells no_marks (field_vtype classes kind) Null
+  unfolding field_vtype
+  remote_fits classes kind e =
+      let parts = both (kind.dimensions == 0) (is_remote_element classes kind.element) e in
+      let none : kind.dimensions ≡ 0 = eqb-true kind.dimensions 0 parts.0 in
+      rw none (remote_null classes kind.element parts.1)
+
+  -- null fits each type that crosses and is no int
+  null_fits : (classes : List Class) (kind : FieldType) (b : Bool) → is_array_type kind ≡ b → is_remote_type classes kind ≡ true ⊎ (b ≡ true) → Fits w cells no_marks (field_vtype classes kind) Null
+  null_fits classes kind true is some = rw (array_vtype classes kind is) tt
+  null_fits classes kind false is some = elim some [ inl remote ↦ remote_fits classes kind remote | inr never ↦ absurd (cc) ]
+
+  -- an argument fits the type of its parameter, where its copy comes next
+  value_fits : (classes : List Class) (kind : FieldType) (v : Value) (before behind : List Cell) → crosses classes kind ≡ true → is_of_type kind v ≡ true
+      → cells ≡ before ++ (copy_of v ++ behind) → Fits w cells no_marks (field_vtype classes kind) (passed_at (all_cost before) v)
+  value_fits classes kind value.Null before behind cross is are = by (is_int_type kind) refl is (is_array_type kind) refl cross
+    where
+      by : (b : Bool) → is_int_type kind ≡ b → not b ≡ true → (c : Bool) → is_array_type kind ≡ c → (b || (c || is_remote_type classes kind)) ≡ true → Fits w cells no_marks (field_vtype classes kind) Null
+      by true int other c array cross = absurd (cc)
+      by false int other true array cross = null_fits classes kind true array (inr refl)
+      by false int other false array cross = null_fits classes kind false array (inl cross)
+  value_fits classes kind (value.Int n) before behind cross is are = rw (int_vtype classes kind is) tt
+  value_fits classes kind (value.Ints elements) before behind cross is are =
+      rw (array_vtype classes kind is) (subst (There IsInts) (sym (ap (λ cs. cell_at cs (all_cost before)) are ∙ cell_between before (Ints elements) behind)) tt)
+  value_fits classes kind (value.Ref reference) before behind cross is are = absurd (cc)
+
+  all_fit : (classes : List Class) (kinds : List FieldType) (values : List Value) (before : List Cell) → list_all (crosses classes) kinds ≡ true → fill kinds values ≡ true
+      → cells ≡ before ++ copies values → AllFit w cells no_marks (map (field_vtype classes) kinds) (passed_from (all_cost before) values)
+  unfolding fill copies passed_from
+  all_fit classes [] [] before cross filled are = tt
+  all_fit classes [] (v ∷ values) before cross filled are = absurd (cc)
+  all_fit classes (kind ∷ kinds) [] before cross filled are = absurd (cc)
+  all_fit classes (kind ∷ kinds) (v ∷ values) before cross filled are =
+      let first = both (crosses classes kind) (list_all (crosses classes) kinds) cross in
+      let given = both (is_of_type kind v) (fill kinds values) filled in
+      let later : cells ≡ (before ++ copy_of v) ++ copies values = are ∙ sym (append_assoc before (copy_of v) (copies values)) in (
+        value_fits classes kind v before (copies values) first.0 given.0 are,
+        subst (λ address. AllFit w cells no_marks (map (field_vtype classes) kinds) (passed_from address values)) (all_cost-append before (copy_of v))
+            (all_fit classes kinds values (before ++ copy_of v) first.1 given.1 later),
+      )
+
+length-fill : (kinds : List FieldType) (values : List Value) → fill kinds values ≡ true → length values ≡ length kinds
+unfolding fill
+length-fill [] [] e = refl
+length-fill [] (v ∷ values) e = absurd (cc)
+length-fill (kind ∷ kinds) [] e = absurd (cc)
+length-fill (kind ∷ kinds) (v ∷ values) e = ap (λ (n : ℕ). suc n) (length-fill kinds values (both (is_of_type kind v) (fill kinds values) e).1)
+
+-- copies of arrays are of no types that have to be met
+copies_fit : (w : World) (cells : List Cell) (values : List Value) → AllCells (CellFits w cells) (copies values)
+unfolding copies
+copies_fit w cells [] = tt
+copies_fit w cells (value.Null ∷ values) = copies_fit w cells values
+copies_fit w cells (value.Int n ∷ values) = copies_fit w cells values
+copies_fit w cells (value.Ints elements ∷ values) = (tt, copies_fit w cells values)
+copies_fit w cells (value.Ref reference ∷ values) = copies_fit w cells values
+
+-- what a method takes and is given, where it is not refused
+pub record Accepts (classes : List Class) (method : Method) (arguments : List Value) : Type 0 where
+  pub static : is_static method ≡ true
+  pub crossing : list_all (crosses classes) method.types.parameters ≡ true
+  pub filled : fill method.types.parameters arguments ≡ true
+
+argument_types-static : (m : Subject) → is_static m.method ≡ true → argument_types m ≡ map (field_vtype m.classes) m.method.types.parameters
+unfolding argument_types receiver_types
+argument_types-static m static = rw static refl
+
+begins-static : (m : Subject) → is_static m.method ≡ true → begins_uninit m ≡ false
+unfolding begins_uninit
+begins-static m static = rw static refl
+
+module _ (links : Links) (id : MethodId) (m : Subject) (arguments : List Value) (limits : Limits) (are : AreLinks links) (sound : IsSoundSet links)
+    (found : subject_at links id.0 ≡ Some m) (classes : m.classes ≡ links.classes) (normal : is_init m ≡ false) (given : Accepts links.classes m.method arguments) where
+  abbrev world : World
+  world = world_of links sound.frames
+
+  owes : Owed world
+  owes = owed links sound.frames are sound.typed sound.read
+
+  abbrev callee : Callee
+  callee = record { method = id.0; arguments = length arguments; max_locals = m.code.max_locals; max_stack = m.code.max_stack; begins_uninit = false }
+
+  abbrev type_in : Option Subject → MethodType
+  type_in o = option_map_or (λ (s : Subject). method_type s (sound.frames id.0)) o no_method
+
+  type_is : world.method id.0 ≡ method_type m (sound.frames id.0)
+  type_is = ap type_in found
+
+  known : world.has_code id.0 ≡ true
+  known = ap (λ (o : Option Subject). option_map_or (λ (s : Subject). true) o false) found
+
+  passed_is : parameters (world.method id.0) ≡ map (field_vtype links.classes) m.method.types.parameters
+  passed_is = rw (type_is, normal, argument_types-static m given.static, classes) refl
+
+  count : length arguments ≡ length (parameters (world.method id.0))
+  count = rw passed_is (length-fill m.method.types.parameters arguments given.filled ∙ sym (length-map m.method.types.parameters (field_vtype links.classes)))
+
+  agrees : IsCallee world callee
+  agrees = record {
+    known = known;
+    arguments = count;
+    max_locals = ap (λ (t : MethodType). t.max_locals) (sym type_is);
+    max_stack = ap (λ (t : MethodType). t.max_stack) (sym type_is);
+    begins_uninit = sym (ap (λ (t : MethodType). t.begins_uninit) type_is ∙ begins-static m given.static);
+  }
+
+  -- there are as many local variables as arguments at least
+  pub few : length arguments ≤ m.code.max_locals
+  few =
+      let locals = (owes.methods id.0 known).locals in
+      let same : (world.method id.0).max_locals ≡ m.code.max_locals = ap (λ (t : MethodType). t.max_locals) type_is in
+      omega (arith, locals, count, same)
+
+  machine : Machine
+  machine = record {
+    stack = record { frame = opening_frame id m.code arguments; callers = empty_frame ∷ []; free = limits.stack_words - frame_cost m.code.max_locals m.code.max_stack };
+    heap = record { cells = copies arguments; free = limits.heap_words - all_cost (copies arguments) };
+  }
+
+  typed : IsTyped world (world.method id.0).result machine
+  unfolding machine all_cost
+  typed =
+      starts_typed world owes callee (passed_from 0 arguments) empty_frame (limits.stack_words - frame_cost m.code.max_locals m.code.max_stack)
+      (record { cells = copies arguments; free = limits.heap_words - all_cost (copies arguments) }) agrees
+      (subst (λ ts. AllFit world (copies arguments) no_marks ts (passed_from 0 arguments)) (sym passed_is) fits)
+      (copies_fit world (copies arguments) arguments)
+      (ap (λ (t : MethodType). t.is_init) type_is ∙ normal)
+    where
+      fits : AllFit world (copies arguments) no_marks (map (field_vtype links.classes) m.method.types.parameters) (passed_from 0 arguments)
+      fits = all_fit world (copies arguments) links.classes m.method.types.parameters arguments [] given.crossing given.filled refl
+
+  running : IsNeverStuck links (Running machine limits.fuel)
+  running = typed-IsNeverStuck links sound.frames (world.method id.0).result (owes.methods id.0 known).result (sound.keeps (world.method id.0).result) machine limits.fuel typed
+
+  begins : (b : Bool) → IsNeverStuck links (if b then Running machine limits.fuel else Over (Threw StackOverflowError) limits.fuel)
+  begins true = running
+  begins false = over-IsNeverStuck links (Threw StackOverflowError) limits.fuel tt
+
+  opens : (a b : Bool) → IsNeverStuck links (if a then (if b then Running machine limits.fuel else Over (Threw StackOverflowError) limits.fuel) else Over (Threw OutOfMemoryError) limits.fuel)
+  opens true b = begins b
+  opens false b = over-IsNeverStuck links (Threw OutOfMemoryError) limits.fuel tt
+
+  pub opening-IsNeverStuck : IsNeverStuck links (opening_state id m.code arguments limits)
+  unfolding machine
+  opening-IsNeverStuck = opens (have_room arguments limits.heap_words) (nat_le (frame_cost m.code.max_locals m.code.max_stack) limits.stack_words)
+
+  throws_within : (thrown : Thrown) (k : ℕ) → KeepsWithin links (run links k (Over (Threw thrown) limits.fuel))
+  throws_within thrown k = subst (KeepsWithin links) (sym (run_over links k (Threw thrown) limits.fuel)) tt
+
+  opens_within : (k : ℕ) (a b : Bool) → KeepsWithin links (run links k (if a then (if b then Running machine limits.fuel else Over (Threw StackOverflowError) limits.fuel) else Over (Threw OutOfMemoryError) limits.fuel))
+  opens_within k true true = stays_within links sound.frames sound.typed (world.method id.0).result (sound.keeps (world.method id.0).result) k machine limits.fuel typed
+  opens_within k true false = throws_within StackOverflowError k
+  opens_within k false b = throws_within OutOfMemoryError k
+
+  -- all frames of its runs are within the limits of their methods
+  pub opening-KeepsWithin : (k : ℕ) → KeepsWithin links (run links k (opening_state id m.code arguments limits))
+  unfolding machine
+  opening-KeepsWithin k = opens_within k (have_room arguments limits.heap_words) (nat_le (frame_cost m.code.max_locals m.code.max_stack) limits.stack_words)
+
+drop-replicate : (n m : ℕ) (x : Tagged) → drop n (replicate m x) ≡ replicate (m - n) x
+drop-replicate zero m x = let e : m - zero ≡ m = omega arith in rw e refl
+drop-replicate (suc n) zero x = let e : zero - suc n ≡ zero = omega arith in rw e refl
+drop-replicate (suc n) (suc m) x = let e : suc m - suc n ≡ m - n = omega arith in rw e (drop-replicate n m x)
+
+same_frames : (a b : Frames) → a.frame ≡ b.frame → a.callers ≡ b.callers → a.free ≡ b.free → a ≡ b
+same_frames a b frame callers free = λ i. record { frame = frame i; callers = callers i; free = free i }
+
+same_store : (a b : Store) → a.cells ≡ b.cells → a.free ≡ b.free → a ≡ b
+same_store a b cells free = λ i. record { cells = cells i; free = free i }
+
+-- a new stack with the first frame, to which the arguments were passed, and a new heap with their copies, are the opening state's
+pub opening_runs : (id : MethodId) (code : Code) (arguments : List Value) (limits : Limits) (fresh entry s : Frames) (empty heap : Store)
+    → fresh ≡ record { frame = empty_frame; callers = []; free = limits.stack_words } → frame_cost code.max_locals code.max_stack ≤ fresh.free
+    → entry ≡ entered id.0 0 code.max_locals code.max_stack fresh
+    → s.frame ≡ record entry.frame { locals = passed_from 0 arguments ++ drop (length arguments) entry.frame.locals } → s.callers ≡ entry.callers → s.free ≡ entry.free
+    → empty ≡ record { cells = []; free = limits.heap_words } → true ≡ have_room arguments empty.free → heap.cells ≡ empty.cells ++ copies arguments
+    → heap.free + all_cost (copies arguments) ≡ empty.free
+    → Running (record { stack = s; heap = heap }) limits.fuel ≡ opening_state id code arguments limits
+unfolding entered
+opening_runs id code arguments limits fresh entry s empty heap new enough pushed frame callers free none room cells left =
+    let all : code.max_locals - 0 ≡ code.max_locals = omega arith in
+    let cost : ℕ = frame_cost code.max_locals code.max_stack in
+    let stack : Frames = record { frame = opening_frame id code arguments; callers = empty_frame ∷ []; free = limits.stack_words - cost } in
+    let frames : s.frame ≡ opening_frame id code arguments = frame ∙ rw (pushed, all, drop-replicate (length arguments) code.max_locals Unset) refl in
+    let same : s ≡ stack = same_frames s stack frames (callers ∙ rw (pushed, new) refl) (free ∙ rw (pushed, new) refl) in
+    let within : cost ≤ limits.stack_words = subst (λ f. cost ≤ f) (ap (λ (f : Frames). f.free) new) enough in
+    let words : empty.free ≡ limits.heap_words = ap (λ (e : Store). e.free) none in
+    let rest : heap.free ≡ limits.heap_words - all_cost (copies arguments) = omega (arith, left, words) in
+    let store : Store = record { cells = copies arguments; free = limits.heap_words - all_cost (copies arguments) } in
+    let same_heap : heap ≡ store = same_store heap store (cells ∙ ap (λ (e : Store). e.cells ++ copies arguments) none) rest in
+    let has : have_room arguments limits.heap_words ≡ true = sym (room ∙ ap (have_room arguments) words) in
+    rw (same, same_heap, has, le-leb cost limits.stack_words within) refl
+
+-- nothing is started where the copies or the first frame have no room
+pub opening_throws : (id : MethodId) (code : Code) (arguments : List Value) (limits : Limits) (empty : Store) → empty ≡ record { cells = []; free = limits.heap_words }
+    → false ≡ have_room arguments empty.free → Over (Threw OutOfMemoryError) limits.fuel ≡ opening_state id code arguments limits
+opening_throws id code arguments limits empty none room =
+    let has : have_room arguments limits.heap_words ≡ false = sym (room ∙ ap (λ (e : Store). have_room arguments e.free) none) in
+    rw has refl
+
+pub opening_overflows : (id : MethodId) (code : Code) (arguments : List Value) (limits : Limits) (empty : Store) → empty ≡ record { cells = []; free = limits.heap_words }
+    → true ≡ have_room arguments empty.free → nat_le (frame_cost code.max_locals code.max_stack) limits.stack_words ≡ false
+    → Over (Threw StackOverflowError) limits.fuel ≡ opening_state id code arguments limits
+opening_overflows id code arguments limits empty none room full =
+    let has : have_room arguments limits.heap_words ≡ true = sym (room ∙ ap (λ (e : Store). have_room arguments e.free) none) in
+    rw (has, full) refl
+
+-- what is known of the task that a method's start gives
+pub record Begins (links : Links) (id : MethodId) (m : Declared) (arguments : List Value) (limits : Limits) : Type 0 where
+  pub few : length arguments ≤ m.code.max_locals
+  pub never_stuck : IsNeverStuck links (opening_state id m.code arguments limits)
+  pub within : (k : ℕ) → KeepsWithin links (run links k (opening_state id m.code arguments limits))
+
+accepts : (classes : List Class) (method : Method) (arguments : List Value) → refusal classes method arguments ≡ None → Accepts classes method arguments
+accepts classes method arguments e = taken (takes_crossing classes method.types) refl e
+  where
+    given : (b : Bool) → (is_static method && fill method.types.parameters arguments) ≡ b → takes_crossing classes method.types ≡ true
+        → (if b then None else Some fault.BadArgument) ≡ None → Accepts classes method arguments
+    given false is takes e = absurd (cc)
+    given true is takes e =
+        let parts = both (is_static method) (fill method.types.parameters arguments) is in
+        record {
+          static = parts.0;
+          crossing = (both (list_all (crosses classes) method.types.parameters) (option_map_or (crosses classes) method.types.result true) takes).0;
+          filled = parts.1;
+        }
+
+    taken : (b : Bool) → takes_crossing classes method.types ≡ b
+        → (if not b then Some fault.BadSignature else (if is_static method && fill method.types.parameters arguments then None else Some fault.BadArgument)) ≡ None → Accepts classes method arguments
+    taken false is e = absurd (cc)
+    taken true is e = given (is_static method && fill method.types.parameters arguments) refl is e
+
+maps_some : {A B : Type 0} (o : Option A) (f : A → B) (b : B) → option_map f o ≡ Some b → (a : A) × ((o ≡ Some a) × (f a ≡ b))
+maps_some None f b e = absurd (cc)
+maps_some (Some a) f b e = (a, (refl, cc))
+
+normal : (m : Declared) → is_startable m ≡ true → bytes_eq m.method.name (codes "<init>") ≡ false
+normal m e = is_not (bytes_eq m.method.name (codes "<init>")) (both (not (bytes_eq m.method.name (codes "<init>"))) (not (length m.insns == 0)) e).0
+  where
+    is_not : (b : Bool) → not b ≡ true → b ≡ false
+    is_not true e = absurd (cc)
+    is_not false e = refl
+
+pub startable-begins : (links : Links) (id : MethodId) (m : Declared) (arguments : List Value) (limits : Limits) → AreLinks links → IsSoundSet links → startable links id ≡ Some m
+    → refusal links.classes m.method arguments ≡ None → Begins links id m arguments limits
+unfolding declared_at
+startable-begins links id m arguments limits are sound found taken =
+    let at = passes_both (declared_at links id) (λ d. if is_startable d then Some d else None) m found in
+    let passed = tested at.0 (is_startable at.0) refl at.1.1 in
+    let subject = maps_some (subject_at links id.0) declared_of at.0 at.1.0 in
+    let given : Accepts links.classes subject.0.method arguments =
+    subst (λ (d : Declared). Accepts links.classes d.method arguments) (sym (subject.1.1 ∙ passed.0)) (accepts links.classes m.method arguments taken) in
+    let no_init : is_init subject.0 ≡ false = normal (declared_of subject.0) (subst (λ (d : Declared). is_startable d ≡ true) (sym subject.1.1) passed.1) in
+    let same = (stands links id.0 subject.0 subject.1.0).classes in
+    let begins : Begins links id (declared_of subject.0) arguments limits = record {
+      few = few links id subject.0 arguments limits are sound subject.1.0 same no_init given;
+      never_stuck = opening-IsNeverStuck links id subject.0 arguments limits are sound subject.1.0 same no_init given;
+      within = opening-KeepsWithin links id subject.0 arguments limits are sound subject.1.0 same no_init given;
+    } in
+    subst (λ (d : Declared). Begins links id d arguments limits) (subject.1.1 ∙ passed.0) begins
+  where
+    tested : (d : Declared) (b : Bool) → is_startable d ≡ b → (if b then Some d else None) ≡ Some m → (d ≡ m) × (is_startable d ≡ true)
+    tested d false is e = absurd (cc)
+    tested d true is e = (cc, is)
+
+-- the same, of what a start found and did not refuse
+pub found_begins : (links program : Links) (id : MethodId) (r : Option Found) (found : Found) (classes : List Class) (why : Option StartFault) (given arguments : List Value) (limits : Limits)
+    → links ≡ program → AreLinks links → IsSoundSet program → option_map shown r ≡ startable links id → r ≡ Some found → classes ≡ links.classes
+    → why ≡ refusal classes found.method.now given → why ≡ None → given ≡ arguments → Begins program id (shown found) arguments limits
+found_begins links program id r found classes why given arguments limits same are sound is was set refuses none args =
+    let at : startable program id ≡ Some (shown found) = subst (λ (l : Links). startable l id ≡ Some (shown found)) same (sym is ∙ ap (option_map shown) was) in
+    let here : classes ≡ program.classes = set ∙ ap (λ (l : Links). l.classes) same in
+    let accepted : refusal program.classes found.method.now arguments ≡ None = rw (← here, ← args) (sym refuses ∙ none) in
+    startable-begins program id (shown found) arguments limits (subst AreLinks same are) sound at accepted

@@ -1,0 +1,10 @@
+pub mod Runs
+pub mod Areturns
+pub mod Safe
+pub mod Throws
+pub mod Outcomes
+pub mod Copying
+pub mod Passing
+pub mod Begins
+pub mod Sound
+pub mod Limited

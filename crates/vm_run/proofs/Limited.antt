@@ -1,0 +1,121 @@
+-- The frames of a typed machine are within the limits of their methods.
+use Rattle.std.proofs.Common.{◌≡◌, ℕ, zero, suc, ◌<◌, ◌≤◌, Bool, true, false, List, [], ◌∷◌, length, refl, ap, sym, subst, ◌∙◌, arith, Option, Some, None}
+use Rattle.std.specs.Option.{option_map_or}
+use Rattle.std.specs.Prelude.{option_map}
+use Rattle.cls_link.specs.Links.{Links}
+use Rattle.ver_frames.specs.Assignable.{IsAssignable}
+use Rattle.ver_frames.specs.Frames as types
+use Rattle.ver_frames.specs.Method.{Subject}
+use Rattle.ver_frames.specs.declared.vtype.VType.{VType}
+use Rattle.vm_heap.specs.Heap.{Cell}
+use Rattle.vm_act.specs.Next.{Next, On, Ends, Stuck}
+use Rattle.vm_act.specs.declared.machine.Machine.{Machine}
+use Rattle.vm_stack.specs.Frames.{Frame}
+use Rattle.vm_typing.proofs.Leads.{length-AllZip}
+use Rattle.vm_typing.specs.Fits.{Fits, no_method}
+use Rattle.vm_typing.specs.Leads.{LeadsTo}
+use Rattle.vm_typing.specs.Runs.{KeepsTyped}
+use Rattle.vm_typing.specs.Typed.{CallersWait, FitsFrame, IsTyped, Waits, marks_of, with_result}
+use Rattle.vm_typing.specs.World.{World, MethodType}
+use Rattle.vm_world.specs.Worlds.{AreTyped, method_type, subject_at, world_of}
+use Rattle.vm_rows.specs.Steps as insns
+use Rattle.vm_run.specs.Ends.{End, Spent, end_of}
+use Rattle.vm_run.specs.Limited.{IsWithinCode, AreWithinCode, KeepsWithin}
+use Rattle.vm_run.specs.Run.{State, Running, Over, Lost, over, after, step, run}
+use Rattle.vm_run.specs.Subjects.{declared_at, declared_of}
+use Rattle.vm_run.proofs.Runs.{run_done}
+
+-- a frame below the one with a result has no more operands
+more_with : (r : Option VType) (f : types.Frame) (count : ℕ) → length (with_result r f).stack ≤ count → length f.stack ≤ count
+more_with None f count few = few
+more_with (Some t) f count few = omega (arith, few)
+
+locals_with : (r : Option VType) (f : types.Frame) → (with_result r f).locals ≡ f.locals
+locals_with None f = refl
+locals_with (Some t) f = refl
+
+module _ (links : Links) (frames : ℕ → ℕ → types.Frame) (typed : AreTyped links frames) where
+  abbrev world : World
+  world = world_of links frames
+
+  has_subject : (number : ℕ) → world.has_code number ≡ true → (m : Subject) × (subject_at links number ≡ Some m)
+  has_subject number e = on (subject_at links number) refl e
+    where
+      on : (o : Option Subject) → subject_at links number ≡ o → option_map_or (λ (m : Subject). true) o false ≡ true → (m : Subject) × (subject_at links number ≡ Some m)
+      on None is known = absurd (cc)
+      on (Some m) is known = (m, is)
+
+  -- what has as few local variables and operands as a type frame of its method has
+  few_within : (frame : Frame) (index : ℕ) → world.has_code frame.method ≡ true → index < (world.method frame.method).count
+      → length frame.locals ≡ length ((world.method frame.method).frames index).locals
+      → length frame.operands ≤ length ((world.method frame.method).frames index).stack → IsWithinCode links frame
+  unfolding declared_at
+  few_within frame index known inside locals operands =
+      let at = has_subject frame.method known in
+      let type : world.method frame.method ≡ method_type at.0 (frames frame.method) =
+      ap (λ (o : Option Subject). option_map_or (λ (m : Subject). method_type m (frames frame.method)) o no_method) at.1 in
+      let count : (world.method frame.method).count ≡ length at.0.linked.insns = ap (λ (t : MethodType). t.count) type in
+      let here : (world.method frame.method).frames index ≡ frames frame.method index = ap (λ (t : MethodType). t.frames index) type in
+      let within = (typed frame.method at.0 at.1).typing.within index (subst (λ (n : ℕ). index < n) count inside) in
+      let fewer_locals : length (frames frame.method index).locals ≤ at.0.code.max_locals = within.locals in
+      let fewer_operands : length (frames frame.method index).stack ≤ at.0.code.max_stack = within.stack in
+      let some_locals : length ((world.method frame.method).frames index).locals ≡ length (frames frame.method index).locals = ap (λ (f : types.Frame). length f.locals) here in
+      let some_operands : length ((world.method frame.method).frames index).stack ≡ length (frames frame.method index).stack = ap (λ (f : types.Frame). length f.stack) here in
+      record {
+        declared = declared_of at.0;
+        is = ap (option_map declared_of) at.1;
+        locals = omega (arith, locals, some_locals, fewer_locals);
+        operands = omega (arith, operands, some_operands, fewer_operands);
+      }
+
+  waiting_within : (cells : List Cell) (result : Option VType) (frame : Frame) → Waits world cells result frame → IsWithinCode links frame
+  waiting_within cells result frame waits =
+      let enters = waits.enters in
+      let given_locals : length frame.locals ≡ length waits.given.locals =
+      length-AllZip (Fits world cells (marks_of world frame.method waits.fresh waits.receiver)) waits.given.locals frame.locals waits.fits.locals in
+      let given_operands : length frame.operands ≡ length waits.given.stack =
+      length-AllZip (Fits world cells (marks_of world frame.method waits.fresh waits.receiver)) waits.given.stack frame.operands waits.fits.operands in
+      let there_locals : length ((world.method frame.method).frames frame.index).locals ≡ length (with_result result waits.given).locals =
+      length-AllZip (IsAssignable links.classes) (with_result result waits.given).locals ((world.method frame.method).frames frame.index).locals enters.to.locals in
+      let there_operands : length ((world.method frame.method).frames frame.index).stack ≡ length (with_result result waits.given).stack =
+      length-AllZip (IsAssignable links.classes) (with_result result waits.given).stack ((world.method frame.method).frames frame.index).stack enters.to.stack in
+      let same_locals : length (with_result result waits.given).locals ≡ length waits.given.locals = ap length (locals_with result waits.given) in
+      let same : length (with_result result waits.given).stack ≤ length ((world.method frame.method).frames frame.index).stack = omega (arith, there_operands) in
+      let fewer : length waits.given.stack ≤ length ((world.method frame.method).frames frame.index).stack = more_with result waits.given _ same in
+      few_within frame frame.index waits.fits.known enters.inside (given_locals ∙ sym (there_locals ∙ same_locals)) (omega (arith, given_operands, fewer))
+
+  callers_within : (asked : Option VType) (cells : List Cell) (result : Option VType) (callers : List Frame) → CallersWait world asked cells result callers → AreWithinCode links callers
+  callers_within asked cells result [] waits = tt
+  callers_within asked cells result (frame ∷ []) waits = tt
+  callers_within asked cells result (frame ∷ below ∷ callers) waits =
+      (waiting_within cells result frame waits.0, callers_within asked cells (world.method frame.method).result (below ∷ callers) waits.1)
+
+  typed_within : (asked : Option VType) (m : Machine) (fuel : ℕ) → IsTyped world asked m → KeepsWithin links (Running m fuel)
+  typed_within asked m fuel is =
+      let fits = is.at.frame in
+      let here : types.Frame = (world.method m.stack.frame.method).frames m.stack.frame.index in
+      let locals : length m.stack.frame.locals ≡ length here.locals =
+      length-AllZip (Fits world m.heap.cells (marks_of world m.stack.frame.method is.fresh is.receiver)) here.locals m.stack.frame.locals fits.locals in
+      let operands : length m.stack.frame.operands ≡ length here.stack =
+      length-AllZip (Fits world m.heap.cells (marks_of world m.stack.frame.method is.fresh is.receiver)) here.stack m.stack.frame.operands fits.operands in (
+        few_within m.stack.frame m.stack.frame.index fits.known is.inside locals (omega (arith, operands)),
+        callers_within asked m.heap.cells (world.method m.stack.frame.method).result m.stack.callers is.at.callers,
+      )
+
+  over_within : (o : Option End) (fuel : ℕ) → KeepsWithin links (over o fuel)
+  over_within None fuel = tt
+  over_within (Some end) fuel = tt
+
+  -- so are those of all machines to which it leads
+  pub stays_within : (asked : Option VType) → KeepsTyped world asked (insns.step links) → (k : ℕ) (m : Machine) (fuel : ℕ) → IsTyped world asked m
+      → KeepsWithin links (run links k (Running m fuel))
+  unfolding run step
+  stays_within asked keeps zero m fuel is = typed_within asked m fuel is
+  stays_within asked keeps (suc k) m zero is = subst (KeepsWithin links) (sym (run_done links k (Some Spent) zero)) tt
+  stays_within asked keeps (suc k) m (suc fuel) is = on (λ m1 t. stays_within asked keeps k m1 fuel t) (insns.step links m) (keeps m is)
+    where
+      on : ((m1 : Machine) → IsTyped world asked m1 → KeepsWithin links (run links k (Running m1 fuel))) → (next : Next)
+          → LeadsTo world asked m.heap.cells (IsTyped world asked) next → KeepsWithin links (run links k (after m.heap.cells next fuel))
+      on go (On m1) leads = go m1 leads
+      on go (Ends e) leads = subst (KeepsWithin links) (sym (run_done links k (end_of m.heap.cells e) fuel)) (over_within (end_of m.heap.cells e) fuel)
+      on go Stuck leads = absurd leads

@@ -1,0 +1,12 @@
+use Rattle.std.proofs.Common.{◌≡◌, ◌<◌, ◌+◌, subst, ap, length, arith, [], ◌∷◌}
+use Rattle.std.specs.Prelude.{◌^◌}
+use Rattle.vm_heap.specs.Heap.{Ints, all_cost, cost}
+use Rattle.vm_run.specs.Start.{copy_of}
+use Rattle.vm_run.proofs.opening.word.Goals as goal
+
+pub local-requires : goal.local-requires
+unfolding all_cost cost
+local-requires c =
+    let whole : c.args.address + all_cost (copy_of c.args.argument.now) < 4294967296 = c.requires in
+    let size = ap (λ v. all_cost (copy_of v)) c.in-Ints.is in
+    omega (arith, whole, size)

@@ -1,0 +1,6 @@
+use Rattle.std.proofs.Common.{◌≡◌, drop, length}
+use Rattle.vm_run.specs.Start.{fill}
+use Rattle.vm_run.proofs.start.are_filled.Given as goal
+
+abbrev pub invariant-loop-index : goal.invariant-loop-index
+invariant-loop-index l = fill (drop l.index l.kinds) (drop l.index l.arguments) ≡ fill l.kinds l.arguments

@@ -1,0 +1,21 @@
+use Rattle.std.proofs.Common.{◌≡◌, ◌∙◌, ap, sym, subst}
+use Rattle.vm_run.specs.Run.{over, IsNeverStuck}
+use Rattle.vm_run.specs.Task.{Tasked, last_end, phase_state}
+use Rattle.vm_run.proofs.Outcomes.{Outcomes, end_there, is_outcome}
+use Rattle.vm_run.proofs.task.Task.outcome.Goals as goal
+
+pub told_last-requires : goal.told_last-requires
+told_last-requires c =
+    end_there c.self.inside.program.value (phase_state c.self.inside.phase) _ _ c.self.invariant.never_stuck (ap phase_state c.in-Over.is)
+
+pub returns-in_ok-told_last-in-Over-clause-ending : goal.returns-in_ok-told_last-in-Over-clause-ending
+returns-in_ok-told_last-in-Over-clause-ending c =
+    let safe : IsNeverStuck c.args.self.now.program c.args.self.now.state = subst (λ (t : Tasked). IsNeverStuck t.program t.state) c.self.view_is c.self.invariant.never_stuck in
+    let is : c.args.self.now.state ≡ over (last_end c.in-Over.last) c.in-Over.field-1 = sym (ap (λ (t : Tasked). t.state) c.self.view_is) ∙ ap phase_state c.in-Over.is in
+    (is_outcome c.args.self.now.program c.args.self.now.state (last_end c.in-Over.last) c.in-Over.field-1 c.in_ok-told_last-in-Over.field-0 safe is c.in_ok-told_last-in-Over.ensures).ending
+
+pub returns-in_ok-told_last-in-Over-clause-of_set : goal.returns-in_ok-told_last-in-Over-clause-of_set
+returns-in_ok-told_last-in-Over-clause-of_set c =
+    let safe : IsNeverStuck c.args.self.now.program c.args.self.now.state = subst (λ (t : Tasked). IsNeverStuck t.program t.state) c.self.view_is c.self.invariant.never_stuck in
+    let is : c.args.self.now.state ≡ over (last_end c.in-Over.last) c.in-Over.field-1 = sym (ap (λ (t : Tasked). t.state) c.self.view_is) ∙ ap phase_state c.in-Over.is in
+    (is_outcome c.args.self.now.program c.args.self.now.state (last_end c.in-Over.last) c.in-Over.field-1 c.in_ok-told_last-in-Over.field-0 safe is c.in_ok-told_last-in-Over.ensures).of_set

@@ -1,0 +1,11 @@
+pub mod Ends
+pub mod Run
+pub mod Reached
+pub mod Sound
+pub mod Limited
+pub mod Subjects
+pub mod Task
+pub mod Thrown
+pub mod Program
+pub mod Start
+pub mod FaultNames

@@ -1,0 +1,26 @@
+-- What the frames of a task may hold: "the maximum depth of the operand stack of this method", and "the number of local variables" (JVMS
+-- 4.7.3).
+use Rattle.std.specs.Prelude.{◌≡◌, ◌≤◌, Some, List, [], ◌∷◌, length}
+use Rattle.cls_link.specs.Links.{Links}
+use Rattle.vm_stack.specs.Frames.{Frame}
+use Rattle.vm_run.specs.Run.{State, Running, Over, Lost}
+use Rattle.vm_run.specs.Subjects.{Declared, declared_at}
+
+-- a frame is one of a method with code, and has no more local variables and operands than that allows
+pub record IsWithinCode (links : Links) (frame : Frame) : Type 0 where
+  pub declared : Declared
+  pub is : declared_at links (record { 0 = frame.method }) ≡ Some declared
+  pub locals : length frame.locals ≤ declared.code.max_locals
+  pub operands : length frame.operands ≤ declared.code.max_stack
+
+-- so is the frame of each caller; below all of them lies one of no method
+abbrev pub AreWithinCode : Links → List Frame → Type 0
+AreWithinCode links [] = Unit {0}
+AreWithinCode links (frame ∷ []) = Unit {0}
+AreWithinCode links (frame ∷ below ∷ callers) = IsWithinCode links frame × AreWithinCode links (below ∷ callers)
+
+-- the frame of the running method of a task and those of all its callers are within max_locals and max_stack
+abbrev pub KeepsWithin : Links → State → Type 0
+KeepsWithin links (Running m fuel) = IsWithinCode links m.stack.frame × AreWithinCode links m.stack.callers
+KeepsWithin links (Over end fuel) = Unit {0}
+KeepsWithin links Lost = Unit {0}

@@ -1,0 +1,17 @@
+-- What is known of a program: its set is sound, and what running it looks up is of the set.
+use Rattle.std.specs.Prelude.{◌≡◌}
+use Rattle.cls_link.specs.Links.{Links}
+use Rattle.vm_run.specs.Run.{State, IsNeverStuck}
+use Rattle.vm_run.specs.Sound.{IsSoundSet}
+use Rattle.vm_run.specs.Thrown.{AreThrown}
+use Rattle.vm_run.specs.declared.thrown.ThrownClasses.{ThrownClasses}
+
+pub record IsProgram (links : Links) (looked_up : Links) (numbers : ThrownClasses) : Type 0 where
+  pub sound : IsSoundSet links
+  pub tables : looked_up ≡ links
+  pub thrown : AreThrown links.classes numbers
+
+-- and of a task: its machine is never stuck
+pub record IsTask (links : Links) (numbers : ThrownClasses) (state : State) : Type 0 where
+  pub thrown : AreThrown links.classes numbers
+  pub never_stuck : IsNeverStuck links state

@@ -1,0 +1,178 @@
+-- How tasks start (JVMS 5.2 for the command line's class; the rest are rules of this project).
+use Rattle.std.specs.Prelude.{ℕ, ◌+◌, ◌-◌, ◌^◌, Bool, true, false, not, ◌&&◌, ◌||◌, ◌==◌, nat_le, nat_lt, if◌then◌else◌, Option, Some, None, Result, Ok, Err, List, [], ◌∷◌, ◌++◌, length, replicate, bytes_eq, codes, option_and_then}
+use Rattle.std.specs.List.{list_all}
+use Rattle.std.specs.Option.{option_map_or}
+use Rattle.cf_text.specs.declared.types.ElementType.{ElementType}
+use Rattle.cf_text.specs.declared.types.ElementType.TheVariants as element
+use Rattle.cf_text.specs.declared.types.FieldType.{FieldType}
+use Rattle.cf_text.specs.declared.types.MethodDescriptor.{MethodDescriptor}
+use Rattle.cf_reader.specs.declared.class_file.Code.{Code}
+use Rattle.cf_reader.specs.declared.class_file.Method.{Method}
+use Rattle.cls_link.specs.Links.{Links}
+use Rattle.cls_link.specs.declared.linked_code.MethodId.{MethodId}
+use Rattle.cls_search.specs.MethodSearches.{is_interface}
+use Rattle.cls_set.specs.Classes.{number_of}
+use Rattle.cls_set.specs.declared.class.Class.{Class}
+use Rattle.space_ids.specs.declared.ids.ClassId.{ClassId}
+use Rattle.space_ids.specs.declared.value.Value.{Value}
+use Rattle.space_ids.specs.declared.value.Value.TheVariants as value
+use Rattle.uuid.specs.declared.Uuid.{Uuid}
+use Rattle.ver_frames.specs.Method.{is_static}
+use Rattle.vm_code.specs.Classes.{is_subtype}
+use Rattle.vm_heap.specs.Heap.{Cell, Ints, all_cost, cost}
+use Rattle.vm_heap.specs.Tagged.{Tagged, Int, Null, Local, Unset}
+use Rattle.vm_stack.specs.Frames.{Frame, empty_frame, frame_cost}
+use Rattle.vm_act.specs.declared.ending.Thrown.TheVariants.{OutOfMemoryError, StackOverflowError}
+use Rattle.vm_run.specs.Ends.{Threw}
+use Rattle.vm_run.specs.Run.{State, Running, Over}
+use Rattle.vm_run.specs.Subjects.{Declared, declared_at}
+use Rattle.vm_run.specs.Task.{Tasked}
+use Rattle.vm_run.specs.declared.fault.StartFault.{StartFault}
+use Rattle.vm_run.specs.declared.fault.StartFault.TheVariants as fault
+use Rattle.vm_run.specs.declared.limits.Limits.{Limits}
+
+-- whether a task may start at a method with code: not at an <init>, nor where there is no instruction
+abbrev pub is_startable : Declared → Bool
+is_startable m = not (bytes_eq m.method.name (codes "<init>")) && not (length m.insns == 0)
+
+-- the method at which a task may start
+abbrev pub startable : Links → MethodId → Option Declared
+startable links id = option_and_then (λ m. if is_startable m then Some m else None) (declared_at links id)
+
+-- whether a class is java/rmi/Remote, or that is among its supertypes
+abbrev pub is_below_remote : List Class → ClassId → Bool
+is_below_remote classes class = option_map_or (λ remote. is_subtype classes class remote) (number_of classes (codes "java/rmi/Remote")) false
+
+-- whether a class is a remote interface (Java RMI specification, 2.4)
+abbrev pub is_remote_interface : List Class → ClassId → Bool
+is_remote_interface classes class = is_interface classes class && is_below_remote classes class
+
+abbrev pub is_int_element : ElementType → Bool
+is_int_element element.Int = true
+is_int_element element.Boolean = true
+is_int_element _ = false
+
+-- whether an element that is no array is a remote interface
+abbrev pub is_remote_element : List Class → ElementType → Bool
+is_remote_element classes (element.Class name) = option_map_or (is_remote_interface classes) (number_of classes name) false
+is_remote_element classes _ = false
+
+abbrev pub is_array_element : ElementType → Bool
+is_array_element element.Int = true
+is_array_element _ = false
+
+-- int and boolean
+abbrev pub is_int_type : FieldType → Bool
+is_int_type kind = (kind.dimensions == 0) && is_int_element kind.element
+
+-- int[]
+abbrev pub is_array_type : FieldType → Bool
+is_array_type kind = (kind.dimensions == 1) && is_array_element kind.element
+
+-- a remote interface
+abbrev pub is_remote_type : List Class → FieldType → Bool
+is_remote_type classes kind = (kind.dimensions == 0) && is_remote_element classes kind.element
+
+-- whether values of a type may be passed and returned: int, boolean, int[] and remote interfaces
+abbrev pub crosses : List Class → FieldType → Bool
+crosses classes kind = is_int_type kind || (is_array_type kind || is_remote_type classes kind)
+
+-- whether all that a method takes and gives may
+abbrev pub takes_crossing : List Class → MethodDescriptor → Bool
+takes_crossing classes types = list_all (crosses classes) types.parameters && option_map_or (crosses classes) types.result true
+
+-- whether a value may be passed where a type that crosses is asked: null may for each class and int[]. References to remote objects
+-- may not yet
+abbrev pub is_of_type : FieldType → Value → Bool
+is_of_type kind value.Null = not (is_int_type kind)
+is_of_type kind (value.Int n) = is_int_type kind
+is_of_type kind (value.Ints elements) = is_array_type kind
+is_of_type kind (value.Ref reference) = false
+
+-- whether the values are one for each parameter, of its type
+unfoldable pub fill : List FieldType → List Value → Bool
+fill [] [] = true
+fill [] (v ∷ values) = false
+fill (kind ∷ kinds) [] = false
+fill (kind ∷ kinds) (v ∷ values) = is_of_type kind v && fill kinds values
+
+-- why a method is not started with these arguments
+abbrev pub refusal : List Class → Method → List Value → Option StartFault
+refusal classes method arguments =
+    if not (takes_crossing classes method.types) then Some fault.BadSignature
+    else (if is_static method && fill method.types.parameters arguments then None else Some fault.BadArgument)
+
+-- what an argument puts into the heap: an array is passed by copy
+abbrev pub copy_of : Value → List Cell
+copy_of value.Null = []
+copy_of (value.Int n) = []
+copy_of (value.Ints elements) = Ints elements ∷ []
+copy_of (value.Ref reference) = []
+
+-- the heap with which a task begins: a copy of each array
+unfoldable pub copies : List Value → List Cell
+copies [] = []
+copies (v ∷ values) = copy_of v ++ copies values
+
+-- an argument as a local variable holds it, where the next copy comes to an address
+abbrev pub passed_at : ℕ → Value → Tagged
+passed_at address value.Null = Null
+passed_at address (value.Int n) = Int n
+passed_at address (value.Ints elements) = Local address
+passed_at address (value.Ref reference) = Unset
+
+unfoldable pub passed_from : ℕ → List Value → List Tagged
+passed_from address [] = []
+passed_from address (v ∷ values) = passed_at address v ∷ passed_from (address + all_cost (copy_of v)) values
+
+-- arrays have fewer than 2^31 elements (JVMS 6.5, arraylength)
+abbrev pub is_short : Value → Bool
+is_short value.Null = true
+is_short (value.Int n) = true
+is_short (value.Ints elements) = nat_lt (length elements) (2 ^ 31)
+is_short (value.Ref reference) = true
+
+-- whether the copy of an argument fits in a budget of words
+abbrev pub has_room_for : Value → ℕ → Bool
+has_room_for v words = is_short v && nat_le (all_cost (copy_of v)) words
+
+-- whether the copy of each argument fits in what is left after those before it
+unfoldable pub have_room : List Value → ℕ → Bool
+have_room [] words = true
+have_room (v ∷ values) words = has_room_for v words && have_room values (words - all_cost (copy_of v))
+
+-- the frame of a method as it begins: the arguments are its first local variables
+abbrev pub opening_frame : MethodId → Code → List Value → Frame
+opening_frame id code arguments = record {
+  method = id.0;
+  index = 0;
+  locals = passed_from 0 arguments ++ replicate (code.max_locals - length arguments) Unset;
+  operands = [];
+  room = code.max_stack;
+}
+
+-- the state in which a task begins. It throws if the heap's budget has no room for the arguments, or else the stack's for the first
+-- frame
+abbrev pub opening_state : MethodId → Code → List Value → Limits → State
+opening_state id code arguments limits =
+    if have_room arguments limits.heap_words
+    then (if nat_le (frame_cost code.max_locals code.max_stack) limits.stack_words
+    then Running (record {
+      stack = record { frame = opening_frame id code arguments; callers = empty_frame ∷ []; free = limits.stack_words - frame_cost code.max_locals code.max_stack };
+      heap = record { cells = copies arguments; free = limits.heap_words - all_cost (copies arguments) };
+    }) limits.fuel
+    else Over (Threw StackOverflowError) limits.fuel)
+    else Over (Threw OutOfMemoryError) limits.fuel
+
+-- what starting a method gives, where memory does not run out
+abbrev pub started : Links → Uuid → MethodId → List Value → Limits → Result Tasked StartFault
+started links own id arguments limits =
+    start_at (startable links id)
+  where
+    begin : Declared → Option StartFault → Result Tasked StartFault
+    begin m (Some why) = Err why
+    begin m None = Ok (record { program = links; own = own; state = opening_state id m.code arguments limits })
+
+    start_at : Option Declared → Result Tasked StartFault
+    start_at None = Err fault.AbsentMethod
+    start_at (Some m) = begin m (refusal links.classes m.method arguments)

@@ -1,0 +1,130 @@
+-- Tasks: a program, the space that the task belongs to, and the state of its machine.
+use Rattle.std.specs.Prelude.{◌≡◌, ℕ, ◌+◌, ◌<◌, ℤ, nat_le, if◌then◌else◌, List, [], length, Option, Some, None, codes, option_map, MatchBool}
+use Rattle.cls_link.specs.Links.{Links}
+use Rattle.cls_set.specs.Classes.{name_at, number_of}
+use Rattle.cls_set.specs.declared.class.Class.{Class}
+use Rattle.space_ids.specs.declared.ids.ClassId.{ClassId}
+use Rattle.uuid.specs.declared.Uuid.{Uuid}
+use Rattle.space_ids.specs.declared.value.Value.TheVariants as value
+use Rattle.vm_act.specs.declared.ending.Ending.TheVariants.{ReturnedReference}
+use Rattle.vm_act.specs.declared.ending.Thrown.{Thrown}
+use Rattle.vm_act.specs.declared.ending.Thrown.TheVariants as thrown
+use Rattle.vm_run.specs.Ends.{End, ReturnedNothing, ReturnedInt, ReturnedNull, ReturnedInts, ReturnedObject, Threw, ThrewObject, Spent, end_of}
+use Rattle.vm_run.specs.Run.{State, Running, Over, Lost, over, run}
+use Rattle.vm_run.specs.declared.outcome.Outcome.{Outcome}
+use Rattle.vm_run.specs.declared.outcome.Outcome.TheVariants as outcome
+use Rattle.vm_run.specs.declared.outcome.Pause.{Pause}
+use Rattle.vm_run.specs.declared.outcome.Pause.TheVariants.{Turn, Ended}
+use Rattle.vm_run.specs.declared.phase.Last.{Last}
+use Rattle.vm_run.specs.declared.phase.Last.TheVariants as last
+use Rattle.vm_run.specs.declared.phase.Phase.{Phase}
+use Rattle.vm_run.specs.declared.phase.Phase.TheVariants as phase
+
+pub record Tasked : Type 0 where
+  pub program : Links
+  pub own : Uuid
+  pub state : State
+
+-- the end of a task as the task keeps it: the heap stays where an address in it is returned
+abbrev pub last_end : Last → Option End
+last_end (last.Ended ending) = end_of [] ending
+last_end (last.Kept heap address) = end_of heap.cells (ReturnedReference (Some address))
+last_end last.Spent = Some Spent
+
+-- the state that a phase is
+abbrev pub phase_state : Phase → State
+phase_state (phase.Running machine fuel) = Running machine fuel
+phase_state (phase.Over end fuel) = over (last_end end) fuel
+
+-- what a run tells of the state that it led to
+abbrev pub pause_at : State → Pause
+pause_at (Running machine fuel) = Turn
+pause_at (Over end fuel) = Ended
+pause_at Lost = Ended
+
+-- the fuel that is left
+abbrev pub fuel_left : State → ℕ
+fuel_left (Running machine fuel) = fuel
+fuel_left (Over end fuel) = fuel
+fuel_left Lost = 0
+
+-- the state in which a task ends: one step more than it has fuel for finds it spent, if nothing ended it before
+abbrev pub final_state : Links → State → State
+final_state links state = run links (fuel_left state + 1) state
+
+-- the name of a class of which the machine throws objects
+abbrev pub thrown_name : Thrown → List ℕ
+thrown_name thrown.ArithmeticException = codes "java/lang/ArithmeticException"
+thrown_name thrown.NullPointerException = codes "java/lang/NullPointerException"
+thrown_name thrown.ClassCastException = codes "java/lang/ClassCastException"
+thrown_name thrown.NegativeArraySizeException = codes "java/lang/NegativeArraySizeException"
+thrown_name thrown.ArrayIndexOutOfBoundsException = codes "java/lang/ArrayIndexOutOfBoundsException"
+thrown_name thrown.OutOfMemoryError = codes "java/lang/OutOfMemoryError"
+thrown_name thrown.StackOverflowError = codes "java/lang/StackOverflowError"
+thrown_name thrown.AbstractMethodError = codes "java/lang/AbstractMethodError"
+thrown_name thrown.IllegalAccessError = codes "java/lang/IllegalAccessError"
+thrown_name thrown.IncompatibleClassChangeError = codes "java/lang/IncompatibleClassChangeError"
+
+-- the name of the class that is thrown where a result cannot cross (Java RMI specification, A.2)
+abbrev pub unmarshalled : List ℕ
+unmarshalled = codes "java/rmi/MarshalException"
+
+-- how many elements an array may have that crosses (a rule of this project)
+abbrev pub most_elements : ℕ
+most_elements = 8000
+
+-- a thrown class by its number in the set
+abbrev pub threw_named : List Class → List ℕ → Option Outcome
+threw_named classes name = option_map (λ class. outcome.Threw class) (number_of classes name)
+
+-- What an end is to callers. An array with too many elements, and an object of the task's own heap, cannot cross: the task throws in
+-- place of returning it
+abbrev pub outcome_of : List Class → End → Option Outcome
+outcome_of classes ReturnedNothing = Some (outcome.Returned None)
+outcome_of classes (ReturnedInt n) = Some (outcome.Returned (Some (value.Int n)))
+outcome_of classes ReturnedNull = Some (outcome.Returned (Some value.Null))
+outcome_of classes (ReturnedInts elements) =
+    if nat_le (length elements) most_elements then Some (outcome.Returned (Some (value.Ints elements))) else threw_named classes unmarshalled
+outcome_of classes (ReturnedObject class) = threw_named classes unmarshalled
+outcome_of classes (Threw thrown) = threw_named classes (thrown_name thrown)
+outcome_of classes (ThrewObject class) = Some (outcome.Threw class)
+outcome_of classes Spent = Some outcome.Spent
+
+-- the outcome of a task that is over
+abbrev pub outcome_at : List Class → State → Option Outcome
+outcome_at classes (Running machine fuel) = None
+outcome_at classes (Over end fuel) = outcome_of classes end
+outcome_at classes Lost = None
+
+-- a class of this name was thrown, and stands in the set under it
+abbrev pub TellsThrown : List Class → List ℕ → Outcome → Type 0
+TellsThrown classes name told = (class : ClassId) × (told ≡ outcome.Threw class) × (name_at classes class ≡ Some name)
+
+-- an array is told by its elements, if there are not too many
+abbrev pub TellsInts : List Class → List ℤ → Outcome → Type 0
+TellsInts classes elements told =
+    MatchBool (nat_le (length elements) most_elements) (told ≡ outcome.Returned (Some (value.Ints elements))) (TellsThrown classes unmarshalled told)
+
+-- an outcome tells of an end
+abbrev pub Tells : List Class → End → Outcome → Type 0
+Tells classes ReturnedNothing told = told ≡ outcome.Returned None
+Tells classes (ReturnedInt n) told = told ≡ outcome.Returned (Some (value.Int n))
+Tells classes ReturnedNull told = told ≡ outcome.Returned (Some value.Null)
+Tells classes (ReturnedInts elements) told = TellsInts classes elements told
+Tells classes (ReturnedObject class) told = TellsThrown classes unmarshalled told
+Tells classes (Threw thrown) told = TellsThrown classes (thrown_name thrown) told
+Tells classes (ThrewObject class) told = told ≡ outcome.Threw class
+Tells classes Spent told = told ≡ outcome.Spent
+
+-- a task is over in this state, and the outcome tells of its end
+pub record IsOutcome (classes : List Class) (state : State) (told : Outcome) : Type 0 where
+  pub end : End
+  pub left : ℕ
+  pub over : state ≡ Over end left
+  pub tells : Tells classes end told
+
+-- a class of which an object was thrown is one of the set
+abbrev pub IsOfSet : List Class → Outcome → Type 0
+IsOfSet classes (outcome.Returned result) = Unit {0}
+IsOfSet classes (outcome.Threw class) = class.0 < length classes
+IsOfSet classes outcome.Spent = Unit {0}

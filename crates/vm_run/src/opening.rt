@@ -1,0 +1,135 @@
+//! The machine with which a task begins: its arguments and its first frame.
+ghost use Rattle.std.specs.Prelude.{◌≡◌, ◌+◌, ◌-◌, ◌≤◌, ◌<◌, ◌^◌, ◌↔◌, ◌++◌, IsTrue, IfOk, length, drop};
+ghost use Rattle.std.specs.Bool.{OnTrue};
+ghost use Rattle.vm_heap.specs.Heap.{Ints, all_cost, cost, with_new};
+ghost use Rattle.vm_run.specs.Start.{copies, copy_of, has_room_for, have_room, opening_state, passed_at, passed_from};
+ghost use Rattle.vm_run.specs.Task.{phase_state, fuel_left};
+
+use crate::limits::Limits;
+use crate::phase::{Last, Phase};
+use cls_link::{Code, MethodId};
+use std::alloc::{AllocError, Global};
+use vm_code::{Ending, Machine, Thrown};
+use vm_heap::{Heap, Value, Word};
+use vm_stack::Stack;
+
+/// The phase in which a method begins.
+pub fn opening(
+    alloc: Global,
+    method: MethodId,
+    code: &Code,
+    arguments: &[Value],
+    limits: Limits,
+) -> Result<Phase, AllocError>
+    requires few { length arguments.now ≤ code.now.max_locals }
+    ensures opens { IfOk result (λ phase. phase_state phase ≡ opening_state method code.now arguments.now limits) }
+    ensures fuel { IfOk result (λ phase. fuel_left (phase_state phase) ≡ limits.fuel) }
+{
+    let mut stack = Stack::with_words(alloc, limits.stack_words as usize)?;
+    let mut heap = Heap::with_words(alloc, limits.heap_words)?;
+    if !copy_in(&mut heap, arguments) {
+        return Ok(thrown(Thrown::OutOfMemoryError, limits.fuel));
+    }
+    if !stack.push_frame(method.0, 0, code.max_locals, code.max_stack) {
+        return Ok(thrown(Thrown::StackOverflowError, limits.fuel));
+    }
+    pass(&mut stack, arguments);
+    Ok(Phase::Running(Machine { stack, heap }, limits.fuel))
+}
+
+// The phase of a task that throws before its first instruction.
+fn thrown(thrown: Thrown, fuel: u64) -> Phase
+    ensures { result ≡ Phase.Over (Last.Ended (Ending.Threw thrown)) fuel }
+{
+    Phase::Over(Last::Ended(Ending::Threw(thrown)), fuel)
+}
+
+// Copies the arguments that are arrays into the heap, if each fits.
+fn copy_in(heap: &mut Heap, arguments: &[Value]) -> bool
+    ensures fits { result ≡ have_room arguments.now heap.old.free }
+    ensures cells { OnTrue result (heap.new.cells ≡ heap.old.cells ++ copies arguments.now) }
+    ensures free { OnTrue result (heap.new.free + all_cost (copies arguments.now) ≡ heap.old.free) }
+{
+    for argument in arguments {
+        if !copy_one(heap, argument) {
+            return false;
+        }
+    }
+    true
+}
+
+fn copy_one(heap: &mut Heap, argument: &Value) -> bool
+    ensures fits { result ≡ has_room_for argument.now heap.old.free }
+    ensures cells { OnTrue result (heap.new.cells ≡ heap.old.cells ++ copy_of argument.now) }
+    ensures free { OnTrue result (heap.new.free + all_cost (copy_of argument.now) ≡ heap.old.free) }
+{
+    match argument {
+        Value::Ints(elements) => copy_ints(heap, elements.as_slice()),
+        _ => true,
+    }
+}
+
+// Copies an array into the heap, if it fits.
+fn copy_ints(heap: &mut Heap, elements: &[i32]) -> bool
+    ensures fits { IsTrue result ↔ (length elements.now < 2 ^ 31) × (cost (Ints elements.now) ≤ heap.old.free) }
+    ensures copied { OnTrue result (heap.new ≡ with_new (Ints elements.now) heap.old) }
+{
+    if elements.len() >= 0x8000_0000 {
+        return false;
+    }
+    let Some(word) = heap.new_ints(elements.len() as u32) else {
+        return false;
+    };
+    let Some(address) = word.as_address() else {
+        unreachable!()
+    };
+    for index in 0..elements.len() {
+        heap.put_element(address, index, Word::int(elements[index]));
+    }
+    true
+}
+
+// Writes the arguments into the first local variables: each array is the address of its copy.
+fn pass(stack: &mut Stack, arguments: &[Value])
+    requires room { length arguments.now ≤ length stack.old.frame.locals }
+    requires small { all_cost (copies arguments.now) < 2 ^ 32 }
+    ensures frame { stack.new.frame
+        ≡ record stack.old.frame {
+          locals =
+              passed_from 0 arguments.now
+              ++ drop (length arguments.now) stack.old.frame.locals;
+        } }
+    ensures callers { stack.new.callers ≡ stack.old.callers }
+    ensures free { stack.new.free ≡ stack.old.free }
+{
+    let mut address = 0;
+    for index in 0..arguments.len() {
+        let argument = &arguments[index];
+        stack.set_local(index, word(address, argument));
+        address += words(argument);
+    }
+}
+
+// An argument as a local variable holds it, where the next copy comes to an address.
+fn word(address: usize, argument: &Value) -> Word
+    requires { address + all_cost (copy_of argument.now) < 2 ^ 32 }
+    ensures { result ≡ passed_at address argument.now }
+{
+    match argument {
+        Value::Null => Word::null(),
+        Value::Int(n) => Word::int(*n),
+        Value::Ints(_) => Word::local(address),
+        Value::Ref(_) => Word::unset(),
+    }
+}
+
+// How many words of the heap the copy of an argument takes.
+fn words(argument: &Value) -> usize
+    requires { all_cost (copy_of argument.now) < 2 ^ 32 }
+    ensures { result ≡ all_cost (copy_of argument.now) }
+{
+    match argument {
+        Value::Ints(elements) => elements.as_slice().len() + 2,
+        _ => 0,
+    }
+}

@@ -1,0 +1,146 @@
+//! Starting a task: whether its method and its arguments fit.
+ghost use Rattle.std.specs.Prelude.{◌≡◌, drop, length, option_map, true};
+ghost use Rattle.std.specs.Option.{option_map_or};
+ghost use Rattle.std.specs.List.{list_all};
+ghost use Rattle.cls_search.specs.MethodSearches.{is_interface};
+ghost use Rattle.ver_frames.specs.Method.{is_static};
+ghost use Rattle.vm_run.specs.Start.{is_below_remote, is_remote_interface, is_int_element, is_remote_element, is_array_element, is_int_type, is_array_type, is_remote_type, crosses, takes_crossing, is_of_type, fill, refusal};
+
+use crate::fault::StartFault;
+use cls_link::{ClassId, ClassSet, ElementType, FieldType, Flags, Method, MethodDescriptor};
+use vm_code::is_subtype;
+use vm_heap::Value;
+
+/// Why the method is not started with these arguments: the lowest fault that fits.
+pub fn refuses(set: &ClassSet, method: &Method, arguments: &[Value]) -> Option<StartFault>
+    ensures { result ≡ refusal set.now method.now arguments.now }
+{
+    if !may_take(set, &method.types) {
+        return Some(StartFault::BadSignature);
+    }
+    if is_class_method(method) && are_filled(method.types.parameters.as_slice(), arguments) {
+        None
+    } else {
+        Some(StartFault::BadArgument)
+    }
+}
+
+fn is_class_method(method: &Method) -> bool
+    ensures { result ≡ is_static method.now }
+{
+    method.flags.has(Flags::STATIC)
+}
+
+fn may_take(set: &ClassSet, types: &MethodDescriptor) -> bool
+    ensures { result ≡ takes_crossing set.now types.now }
+{
+    all_cross(set, types.parameters.as_slice()) && result_crosses(set, &types.result)
+}
+
+fn all_cross(set: &ClassSet, kinds: &[FieldType]) -> bool
+    ensures { result ≡ list_all (crosses set.now) kinds.now }
+{
+    kinds.iter().all(|kind| crosses(set, kind))
+}
+
+fn result_crosses(set: &ClassSet, result_type: &Option<FieldType>) -> bool
+    ensures { result ≡ option_map_or (crosses set.now) result_type.now true }
+{
+    match result_type {
+        Some(kind) => crosses(set, kind),
+        None => true,
+    }
+}
+
+fn crosses(set: &ClassSet, kind: &FieldType) -> bool
+    ensures { result ≡ crosses set.now kind.now }
+{
+    is_int(kind) || (is_array(kind) || is_remote(set, kind))
+}
+
+fn is_int(kind: &FieldType) -> bool
+    ensures { result ≡ is_int_type kind.now }
+{
+    let is_element = match kind.element {
+        ElementType::Int | ElementType::Boolean => true,
+        _ => false,
+    };
+    kind.dimensions == 0 && is_element
+}
+
+fn is_array(kind: &FieldType) -> bool
+    ensures { result ≡ is_array_type kind.now }
+{
+    let is_element = match kind.element {
+        ElementType::Int => true,
+        _ => false,
+    };
+    kind.dimensions == 1 && is_element
+}
+
+fn is_remote(set: &ClassSet, kind: &FieldType) -> bool
+    ensures { result ≡ is_remote_type set.now kind.now }
+{
+    kind.dimensions == 0 && is_remote_element(set, &kind.element)
+}
+
+fn is_remote_element(set: &ClassSet, element: &ElementType) -> bool
+    ensures { result ≡ is_remote_element set.now element.now }
+{
+    match element {
+        ElementType::Class(name) => match set.number(name.as_bytes()) {
+            Some(class) => is_remote_interface(set, class),
+            None => false,
+        },
+        _ => false,
+    }
+}
+
+fn is_remote_interface(set: &ClassSet, class: ClassId) -> bool
+    ensures { result ≡ is_remote_interface set.now class }
+{
+    is_interface(set, class) && is_below_remote(set, class)
+}
+
+fn is_interface(set: &ClassSet, class: ClassId) -> bool
+    ensures { result ≡ is_interface set.now class }
+{
+    if class.0 as usize >= set.len() {
+        return false;
+    }
+    set.class(class).file.flags.has(Flags::INTERFACE)
+}
+
+fn is_below_remote(set: &ClassSet, class: ClassId) -> bool
+    ensures { result ≡ is_below_remote set.now class }
+{
+    match set.number(b"java/rmi/Remote") {
+        Some(remote) => is_subtype(set, class, remote),
+        None => false,
+    }
+}
+
+fn are_filled(kinds: &[FieldType], arguments: &[Value]) -> bool
+    ensures { result ≡ fill kinds.now arguments.now }
+{
+    if kinds.len() != arguments.len() {
+        return false;
+    }
+    for index in 0..arguments.len() {
+        if !is_of_type(&kinds[index], &arguments[index]) {
+            return false;
+        }
+    }
+    true
+}
+
+fn is_of_type(kind: &FieldType, value: &Value) -> bool
+    ensures { result ≡ is_of_type kind.now value.now }
+{
+    match value {
+        Value::Null => !is_int(kind),
+        Value::Int(_) => is_int(kind),
+        Value::Ints(_) => is_array(kind),
+        Value::Ref(_) => false,
+    }
+}

@@ -1,0 +1,195 @@
+//! Tasks.
+ghost use Rattle.std.specs.Prelude.{◌≡◌, ◌≢◌, ℕ, ◌+◌, ◌^◌, ◌<◌, ◌≤◌, [], IsSome, IfSome, IfOk, IfErr, option_and_then};
+ghost use Rattle.vm_heap.specs.Heap.{Ints, cell_at, length_at};
+ghost use Rattle.vm_run.specs.Ends.{end_of, returned_at};
+ghost use Rattle.vm_run.specs.Start.{opening_state, started};
+ghost use Rattle.vm_run.specs.Run.{run, IsOver, IsNeverStuck};
+ghost use Rattle.vm_run.specs.Task.{pause_at, fuel_left, final_state, last_end, outcome_of, outcome_at, phase_state, threw_named, unmarshalled, IsOutcome, IsOfSet};
+
+use crate::fault::StartFault;
+use crate::found::find;
+use crate::limits::Limits;
+use crate::opening::opening;
+use crate::outcome::{Outcome, Pause};
+use crate::phase::{Last, Phase};
+use crate::program::Program;
+use crate::start::refuses;
+use crate::thrown::ThrownClasses;
+use cls_link::MethodId;
+use std::alloc::{AllocError, Global};
+use std::marker::Model;
+use std::mem;
+use std::snapshot::Snapshot;
+use vm_code::Ending;
+use vm_heap::{Heap, Row, Uuid, Value};
+
+/// A method that runs on a machine of its own.
+#[derive(Drop)]
+pub struct Task {
+    program: Snapshot<Program>,
+    own: Uuid,
+    thrown: ThrownClasses,
+    phase: Phase,
+}
+
+impl Model for Task {
+    ghost use Rattle.vm_run.specs.Task.{Tasked, phase_state};
+    ghost use Rattle.vm_run.specs.Program.{IsTask};
+
+    ghost Value = { Tasked };
+
+    ghost view = { λ task. record { program = task.program.value; own = task.own; state = phase_state task.phase } };
+
+    ghost invariant = { λ task. IsTask task.program.value task.thrown (phase_state task.phase) };
+}
+
+impl Task {
+    /// A task of the space `own` that runs a method on these arguments, or why it does not start: the
+    /// first fault that fits is told, in the order of `StartFault`.
+    pub fn start(
+        alloc: Global,
+        program: &Program,
+        own: Uuid,
+        method: MethodId,
+        arguments: Vec<Value>,
+        limits: Limits,
+    ) -> Result<Task, StartFault>
+        requires { limits.heap_words + limits.references < 2 ^ 32 }
+        ensures started { IfOk result (λ task. started program.now own method arguments.items limits ≡ Ok task) }
+        ensures refused { IfErr
+            result
+            (λ fault.
+            fault ≢ StartFault.Memory
+            → started program.now own method arguments.items limits ≡ Err fault) }
+
+        // It has all its fuel, and however many instructions it makes, its machine is not stuck.
+        ensures program { IfOk result (λ task. task.program ≡ program.now) }
+        ensures fuel { IfOk result (λ task. fuel_left task.state ≡ limits.fuel) }
+        ensures never_stuck { IfOk result (λ task. IsNeverStuck program.now task.state) }
+    {
+        let linked = program.linked();
+        let Some(found) = find(linked, method) else {
+            return Err(StartFault::AbsentMethod);
+        };
+        match refuses(linked.set(), found.method, &arguments) {
+            Some(fault) => return Err(fault),
+            None => {}
+        }
+        let phase = opening(alloc, method, found.code, &arguments, limits)?;
+        Ok(Task {
+            program: Snapshot::of(program),
+            own,
+            thrown: program.thrown(),
+            phase,
+        })
+    }
+
+    /// Makes at most `k` instructions, fewer if the task ends. It takes no memory.
+    pub fn run(&mut self, program: &Program, k: u64) -> Pause
+        requires { self.old.program ≡ program.now }
+        ensures task { self.new ≡ record self.old { state = run program.now k self.old.state } }
+        ensures pause { result ≡ pause_at self.new.state }
+
+        // However many instructions more, they lead where all of them at once would have led.
+        ensures further { (more : ℕ)
+            → run program.now more self.new.state
+            ≡ run program.now (k + more) self.old.state }
+
+        // The fuel goes down by at most `k`, and by `k` if the task has not ended.
+        ensures fuel { fuel_left self.new.state ≤ fuel_left self.old.state }
+        ensures most { fuel_left self.old.state ≤ fuel_left self.new.state + k }
+        ensures turn { result ≡ Pause.Turn → fuel_left self.new.state + k ≡ fuel_left self.old.state }
+        ensures never_stuck { IsNeverStuck program.now self.new.state }
+
+        // With more instructions than it has fuel for it ends.
+        ensures over { fuel_left self.old.state < k → IsOver self.new.state }
+        ensures finished { fuel_left self.old.state < k → self.new.state ≡ final_state program.now self.old.state }
+    {
+        let phase = mem::replace(&mut self.phase, Phase::Over(Last::Spent, 0));
+        self.phase = phase.run(program, k);
+        match self.phase {
+            Phase::Running(..) => Pause::Turn,
+            Phase::Over(..) => Pause::Ended,
+        }
+    }
+
+    /// How the task ended: `None` if it has not. An array is copied. One of more than 8,000 elements,
+    /// and an object of the task's heap, cannot cross: a MarshalException is thrown in their place.
+    pub fn outcome(&self, alloc: Global) -> Result<Option<Outcome>, AllocError>
+        ensures value { IfOk result (λ told. told ≡ outcome_at self.now.program.classes self.now.state) }
+        ensures over { IfOk result (λ told. IsOver self.now.state → IsSome told) }
+        ensures ending { IfOk result (λ told. IfSome told (IsOutcome self.now.program.classes self.now.state)) }
+        ensures of_set { IfOk result (λ told. IfSome told (IsOfSet self.now.program.classes)) }
+    {
+        match &self.phase {
+            Phase::Running(..) => Ok(None),
+            Phase::Over(last, _) => Ok(Some(self.told_last(alloc, last)?)),
+        }
+    }
+
+    // What the end of a task is to callers.
+    fn told_last(&self, alloc: Global, last: &Last) -> Result<Outcome, AllocError>
+        requires { IsSome (last_end last.now) }
+        ensures { IfOk result (λ told. option_and_then (outcome_of self.now.program.classes) (last_end last.now) ≡ Some told) }
+    {
+        match last {
+            Last::Ended(ending) => Ok(self.told(*ending)),
+            Last::Kept(heap, address) => self.crossing(alloc, heap, *address),
+            Last::Spent => Ok(Outcome::Spent),
+        }
+    }
+
+    // What an ending is to callers of which nothing lies in the heap.
+    fn told(&self, ending: Ending) -> Outcome
+        requires { IsSome (end_of [] ending) }
+        ensures { option_and_then (outcome_of self.now.program.classes) (end_of [] ending) ≡ Some result }
+    {
+        match ending {
+            Ending::ReturnedNothing => Outcome::Returned(None),
+            Ending::ReturnedInt(n) => Outcome::Returned(Some(Value::Int(n))),
+            Ending::ReturnedReference(address) => match address {
+                None => Outcome::Returned(Some(Value::Null)),
+                Some(_) => unreachable!(),
+            },
+            Ending::Threw(thrown) => Outcome::Threw(self.thrown.number(thrown)),
+            Ending::ThrewObject(class) => Outcome::Threw(class),
+        }
+    }
+
+    // What is returned that lies in the heap: an array that can cross, or else a MarshalException.
+    fn crossing(&self, alloc: Global, heap: &Heap, address: usize) -> Result<Outcome, AllocError>
+        requires { IsSome (cell_at heap.now.cells address) }
+        ensures { IfOk result (λ told. option_and_then (outcome_of self.now.program.classes) (returned_at heap.now.cells (Some address)) ≡ Some told) }
+    {
+        if heap.class_of(address).is_some() {
+            return Ok(self.not_crossing());
+        }
+        if heap.length(address) > MOST_ELEMENTS {
+            return Ok(self.not_crossing());
+        }
+        let elements = elements_at(alloc, heap, address)?;
+        Ok(Outcome::Returned(Some(Value::Ints(Row::new(elements)))))
+    }
+
+    fn not_crossing(&self) -> Outcome
+        ensures { threw_named self.now.program.classes unmarshalled ≡ Some result }
+    {
+        Outcome::Threw(self.thrown.marshal_exception)
+    }
+}
+
+// How many elements an array may have that crosses.
+const MOST_ELEMENTS: u32 = 8_000;
+
+// The elements of an array of the heap.
+fn elements_at(alloc: Global, heap: &Heap, address: usize) -> Result<Vec<i32>, AllocError>
+    requires { IsSome (length_at address heap.now.cells) }
+    ensures { IfOk result (λ elements. cell_at heap.now.cells address ≡ Some (Ints elements.items)) }
+{
+    let count = heap.length(address) as usize;
+    let mut elements = Vec::with_capacity(alloc, count)?;
+    for index in 0..count {
+        elements.push(heap.element(address, index).as_int())?;
+    }
+    Ok(elements)
+}
