@@ -33,8 +33,8 @@ taken (takes insn count spells within) = (spells, within)
 front_listed : (offset opcode k : ℕ) (bytes : List ℕ) (insn : Insn) (tail : Listing) → Spells offset (opcode ∷ take k bytes) insn → k ≤ length bytes
     → Lists (offset + 1 + k) (drop k bytes) tail → Lists offset (opcode ∷ bytes) ((offset, insn) ∷ tail)
 front_listed offset opcode k bytes insn tail spells within rest =
-    let behind : offset + 1 + k ≡ offset + length (opcode ∷ take k bytes) = omega (arith, length-take k bytes) in
-    let joined : Lists offset ((opcode ∷ take k bytes) ++ drop k bytes) ((offset, insn) ∷ tail) = instruction spells (subst (λ at. Lists at (drop k bytes) tail) behind rest) in
+    let following : offset + 1 + k ≡ offset + length (opcode ∷ take k bytes) = omega (arith, length-take k bytes) in
+    let joined : Lists offset ((opcode ∷ take k bytes) ++ drop k bytes) ((offset, insn) ∷ tail) = instruction spells (subst (λ at. Lists at (drop k bytes) tail) following rest) in
     subst (λ all. Lists offset (opcode ∷ all) ((offset, insn) ∷ tail)) (take-append-drop k bytes) joined
 
 lists : (k offset : ℕ) (bytes : List ℕ) (listing : Listing) → listing_from k offset bytes ≡ Ok listing → k ≤ length bytes → Lists (offset + k) (drop k bytes) listing
@@ -79,7 +79,7 @@ listed_again (instruction spells rest) = front_again _ _ _ _ _ (again spells) (l
 broken : {offset opcode : ℕ} {operands : List ℕ} {rule : CodeRule} → Tells offset opcode operands (Err rule) → Breaks offset rule (opcode ∷ operands)
 broken (breaks rule bad) = bad
 
-record BreaksBehind (offset : ℕ) (bytes : List ℕ) (rule : CodeRule) (at : ℕ) : Type 0 where
+record BreaksAfter (offset : ℕ) (bytes : List ℕ) (rule : CodeRule) (at : ℕ) : Type 0 where
   before : List ℕ
   rest : List ℕ
   listing : Listing
@@ -103,25 +103,25 @@ listed_err offset (Err other) rest rule at is = here (cc) (cc)
 
 -- an instruction in front of what is listed before the fault
 later_breaks : (offset opcode k : ℕ) (bytes : List ℕ) (insn : Insn) (rule : CodeRule) (at : ℕ) → Spells offset (opcode ∷ take k bytes) insn → k ≤ length bytes
-    → BreaksBehind (offset + 1 + k) (drop k bytes) rule at → BreaksBehind offset (opcode ∷ bytes) rule at
-later_breaks offset opcode k bytes insn rule at spells within behind =
+    → BreaksAfter (offset + 1 + k) (drop k bytes) rule at → BreaksAfter offset (opcode ∷ bytes) rule at
+later_breaks offset opcode k bytes insn rule at spells within following =
     let front = opcode ∷ take k bytes in
     let moved : offset + 1 + k ≡ offset + length front = omega (arith, length-take k bytes) in
     record {
-      before = front ++ behind.before;
-      rest = behind.rest;
-      listing = (offset, insn) ∷ behind.listing;
-      bytes_are = ap (λ all. opcode ∷ all) (sym (take-append-drop k bytes) ∙ ap (λ d. take k bytes ++ d) behind.bytes_are ∙ sym (append_assoc (take k bytes) behind.before behind.rest));
-      listed = instruction spells (subst (λ o. Lists o behind.before behind.listing) moved behind.listed);
-      bad = behind.bad;
-      at_is = omega (arith, behind.at_is, length-take k bytes, length-append (take k bytes) behind.before);
+      before = front ++ following.before;
+      rest = following.rest;
+      listing = (offset, insn) ∷ following.listing;
+      bytes_are = ap (λ all. opcode ∷ all) (sym (take-append-drop k bytes) ∙ ap (λ d. take k bytes ++ d) following.bytes_are ∙ sym (append_assoc (take k bytes) following.before following.rest));
+      listed = instruction spells (subst (λ o. Lists o following.before following.listing) moved following.listed);
+      bad = following.bad;
+      at_is = omega (arith, following.at_is, length-take k bytes, length-append (take k bytes) following.before);
     }
 
-breaks_behind : (k offset : ℕ) (bytes : List ℕ) (rule : CodeRule) (at : ℕ) → listing_from k offset bytes ≡ Err (Broken rule at) → k ≤ length bytes → BreaksBehind (offset + k) (drop k bytes) rule at
+breaks_after : (k offset : ℕ) (bytes : List ℕ) (rule : CodeRule) (at : ℕ) → listing_from k offset bytes ≡ Err (Broken rule at) → k ≤ length bytes → BreaksAfter (offset + k) (drop k bytes) rule at
 unfolding listing_from
-breaks_behind zero offset [] rule at is within = absurd (cc)
-breaks_behind (suc k) offset [] rule at is within = absurd (cc)
-breaks_behind zero offset (opcode ∷ bytes) rule at is within =
+breaks_after zero offset [] rule at is within = absurd (cc)
+breaks_after (suc k) offset [] rule at is within = absurd (cc)
+breaks_after zero offset (opcode ∷ bytes) rule at is within =
     elim (listed_err offset (reading.instruction offset opcode bytes) (λ operands. listing_from operands (offset + 1) bytes) rule at is) [
       | here failed at_is ↦ record {
         before = [];
@@ -134,12 +134,12 @@ breaks_behind zero offset (opcode ∷ bytes) rule at is within =
       }
       | later s read rest_is ↦
           let told = taken (subst (Tells offset opcode bytes) read (tells offset opcode bytes)) in
-          let behind = breaks_behind s.operands (offset + 1) bytes rule at rest_is told.1 in
-          rw (add-zero offset) (later_breaks offset opcode s.operands bytes s.insn rule at told.0 told.1 behind)
+          let following = breaks_after s.operands (offset + 1) bytes rule at rest_is told.1 in
+          rw (add-zero offset) (later_breaks offset opcode s.operands bytes s.insn rule at told.0 told.1 following)
     ]
-breaks_behind (suc k) offset (operand ∷ bytes) rule at is within =
+breaks_after (suc k) offset (operand ∷ bytes) rule at is within =
     let moved : offset + 1 + k ≡ offset + suc k = omega arith in
-    subst (λ o. BreaksBehind o (drop k bytes) rule at) moved (breaks_behind k (offset + 1) bytes rule at is (omega arith))
+    subst (λ o. BreaksAfter o (drop k bytes) rule at) moved (breaks_after k (offset + 1) bytes rule at is (omega arith))
 
 -- The targets of branches.
 
@@ -262,10 +262,10 @@ stray_broken code listing before after at insn listing_is =
     let P : Listing → Type 0 = λ l. Lists 0 code l → AllByRecursion (Lands (offsets l)) before → (Lands (offsets l) (at, insn) → ⊥) → IsBroken code Target at in
     subst P (sym listing_is) (λ listed land strays. astray before after at insn listed land strays)
 
-behind_broken : (code : List ℕ) (rule : CodeRule) (at : ℕ) → BreaksBehind 0 code rule at → IsBroken code rule at
-behind_broken code rule at behind =
-    let at_is : at ≡ length behind.before = omega (arith, behind.at_is) in
-    rw (behind.bytes_are, at_is) (unlisted behind.listed (subst (λ offset. Breaks offset rule behind.rest) at_is behind.bad))
+after_broken : (code : List ℕ) (rule : CodeRule) (at : ℕ) → BreaksAfter 0 code rule at → IsBroken code rule at
+after_broken code rule at following =
+    let at_is : at ≡ length following.before = omega (arith, following.at_is) in
+    rw (following.bytes_are, at_is) (unlisted following.listed (subst (λ offset. Breaks offset rule following.rest) at_is following.bad))
 
 checked_breaks : (code : List ℕ) (read : Result Listing CodeFault) (rule : CodeRule) (at : ℕ) → listing_from 0 0 code ≡ read → checked read ≡ Err (Broken rule at) → IsBroken code rule at
 checked_breaks code (Ok listing) rule at read is =
@@ -275,7 +275,7 @@ checked_breaks code (Ok listing) rule at read is =
     rw (← rule_is) (stray_broken code listing first.before first.after at first.insn first.listing_is all first.lands_before first.strays)
 checked_breaks code (Err fault) rule at read is =
     let fault_is : fault ≡ Broken rule at = cc in
-    behind_broken code rule at (breaks_behind 0 0 code rule at (read ∙ ap Err fault_is) (omega arith))
+    after_broken code rule at (breaks_after 0 0 code rule at (read ∙ ap Err fault_is) (omega arith))
 
 -- a fault that is read is one of the code
 pub reading_breaks : (code : List ℕ) (rule : CodeRule) (at : ℕ) → listings.reading code ≡ Err (Broken rule at) → IsBroken code rule at

@@ -24,8 +24,8 @@ listing_from-skipped (suc k) offset (byte ∷ bytes) =
     listing_from-skipped k (offset + 1) bytes ∙ ap (λ at. listing_from 0 at (drop k bytes)) moved
 
 -- the listing of what stands after an instruction and its operands
-abbrev pub behind : List ℕ → ℕ → ℕ → Result Listing CodeFault
-behind code at operands = listing_from 0 (at + (1 + operands)) (drop (at + (1 + operands)) code)
+abbrev pub following : List ℕ → ℕ → ℕ → Result Listing CodeFault
+following code at operands = listing_from 0 (at + (1 + operands)) (drop (at + (1 + operands)) code)
 
 pub listing_from-front : (opcode : ℕ) (bytes : List ℕ) (at : ℕ) → listing_from 0 at (opcode ∷ bytes) ≡ listed at (instruction at opcode bytes) (λ k. listing_from k (at + 1) bytes)
 unfolding listing_from
@@ -37,7 +37,7 @@ listed_same offset (Err rule) f g same = refl
 
 -- the listing from an offset on is its instruction, and what is listed after the operands
 pub listing_from-at : (code : List ℕ) (at : ℕ) → at < length code
-    → listing_from 0 at (drop at code) ≡ listed at (instruction at (get_or code at 0) (drop (at + 1) code)) (behind code at)
+    → listing_from 0 at (drop at code) ≡ listed at (instruction at (get_or code at 0) (drop (at + 1) code)) (following code at)
 listing_from-at code at within =
     ap (listing_from 0 at) (drop-cons code at 0 within ∙ ap (λ n. get_or code at 0 ∷ drop n code) (sym (add-one at)))
     ∙ listing_from-front (get_or code at 0) (drop (at + 1) code) at
@@ -53,20 +53,20 @@ with_front-append front back (Err fault) = refl
 
 module _ (code : List ℕ) (at : ℕ) (operands : List ℕ) (within : at < length code) (operands_are : operands ≡ drop (at + 1) code) (front : Listing) where
   -- what is read after the front begins with what the opcode and the operands say
-  read_here : with_front front (listing_from 0 at (drop at code)) ≡ with_front front (listed at (instruction at (get_or code at 0) operands) (behind code at))
-  read_here = ap (with_front front) (listing_from-at code at within ∙ ap (λ bytes. listed at (instruction at (get_or code at 0) bytes) (behind code at)) (sym operands_are))
+  read_here : with_front front (listing_from 0 at (drop at code)) ≡ with_front front (listed at (instruction at (get_or code at 0) operands) (following code at))
+  read_here = ap (with_front front) (listing_from-at code at within ∙ ap (λ bytes. listed at (instruction at (get_or code at 0) bytes) (following code at)) (sym operands_are))
 
   -- an instruction that is read goes to the front
   pub with_front-more : (s : Spelled) → Ok s ≡ instruction at (get_or code at 0) operands
-      → with_front (front ++ (at, s.insn) ∷ []) (behind code at s.operands) ≡ with_front front (listing_from 0 at (drop at code))
+      → with_front (front ++ (at, s.insn) ∷ []) (following code at s.operands) ≡ with_front front (listing_from 0 at (drop at code))
   with_front-more s read =
-      with_front-append front ((at, s.insn) ∷ []) (behind code at s.operands)
-      ∙ sym (read_here ∙ ap (λ found. with_front front (listed at found (behind code at))) (sym read))
+      with_front-append front ((at, s.insn) ∷ []) (following code at s.operands)
+      ∙ sym (read_here ∙ ap (λ found. with_front front (listed at found (following code at))) (sym read))
 
   -- a rule that it breaks is what is read
   pub with_front-fault : (rule : CodeRule) → Err rule ≡ instruction at (get_or code at 0) operands
       → with_front front (listing_from 0 at (drop at code)) ≡ Err (Broken rule at)
-  with_front-fault rule read = read_here ∙ ap (λ found. with_front front (listed at found (behind code at))) (sym read)
+  with_front-fault rule read = read_here ∙ ap (λ found. with_front front (listed at found (following code at))) (sym read)
 
   -- why reading stops is the fault of all
   pub with_front-stop : (why : Stop) → Stops why (instruction at (get_or code at 0) operands) → (all : Result Listing CodeFault)

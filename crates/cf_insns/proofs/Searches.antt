@@ -54,5 +54,5 @@ module _ (listing : Listing) (rises : Rises (offsets listing)) (target : ℕ) wh
       let here : get_or (offsets listing) k d ≡ (get_or listing k (0, Nop)).0 = get_or_default (offsets listing) k d 0 within ∙ offsets-at listing k in
       let inside : k < length listing = omega (arith, length-offsets listing) in
       let smaller : k < at → (get_or listing k (0, Nop)).0 < target = λ before. ranked _ target _ (sym (parts.0 k (0, Nop) (omega arith) before)) in
-      let greater : at ≤ k → target < (get_or listing k (0, Nop)).0 = λ behind. ranked _ target _ (sym (parts.1 k (0, Nop) behind inside)) in
+      let greater : at ≤ k → target < (get_or listing k (0, Nop)).0 = λ following. ranked _ target _ (sym (parts.1 k (0, Nop) following inside)) in
       ne_eqb _ _ (λ same. grind (arith, smaller, greater, here, same))))

@@ -74,11 +74,11 @@ signed_int_of-cut (a ∷ b ∷ c ∷ d ∷ bytes) h = absurd (omega arith)
 
 -- what is cut after a number is cut
 through : {A : Type 0} (bytes : List ℕ) (f : ℤ → Result A CodeRule) → ((n : ℤ) → f n ≡ Err Cut) → (signed_int_of bytes >>= f) ≡ Err Cut
-through [] f behind = refl
-through (a ∷ []) f behind = refl
-through (a ∷ b ∷ []) f behind = refl
-through (a ∷ b ∷ c ∷ []) f behind = refl
-through (a ∷ b ∷ c ∷ d ∷ rest) f behind = behind (signed_int a b c d)
+through [] f following = refl
+through (a ∷ []) f following = refl
+through (a ∷ b ∷ []) f following = refl
+through (a ∷ b ∷ c ∷ []) f following = refl
+through (a ∷ b ∷ c ∷ d ∷ rest) f following = following (signed_int a b c d)
 
 after_cut : {A : Type 0} (read : Result ℤ CodeRule) (f : ℤ → Result A CodeRule) → read ≡ Err Cut → (read >>= f) ≡ Err Cut
 after_cut read f is = rw is refl
@@ -125,11 +125,11 @@ module _ (offset : ℕ) (operands : List ℕ) (t : Table offset operands) where
   table_default : drop (padding_length offset) operands ≡ t.default ++ (t.low ++ (t.high ++ t.rest))
   table_default = ap (drop (padding_length offset)) t.operands_are ∙ ap (λ n. drop n (t.padding ++ (t.default ++ (t.low ++ (t.high ++ t.rest))))) (sym table_padding) ∙ drop-append_seam t.padding (t.default ++ (t.low ++ (t.high ++ t.rest)))
 
-  table_behind : (n : ℕ) → drop (padding_length offset + n) operands ≡ drop n (t.default ++ (t.low ++ (t.high ++ t.rest)))
-  table_behind n = ap (drop (padding_length offset + n)) t.operands_are ∙ ap (λ k. drop (k + n) (t.padding ++ (t.default ++ (t.low ++ (t.high ++ t.rest))))) (sym table_padding) ∙ drop-append-add t.padding (t.default ++ (t.low ++ (t.high ++ t.rest))) n
+  table_after : (n : ℕ) → drop (padding_length offset + n) operands ≡ drop n (t.default ++ (t.low ++ (t.high ++ t.rest)))
+  table_after n = ap (drop (padding_length offset + n)) t.operands_are ∙ ap (λ k. drop (k + n) (t.padding ++ (t.default ++ (t.low ++ (t.high ++ t.rest))))) (sym table_padding) ∙ drop-append-add t.padding (t.default ++ (t.low ++ (t.high ++ t.rest))) n
 
   pub table_rest : drop (padding_length offset + 12) operands ≡ t.rest
-  table_rest = table_behind 12 ∙ three_passed t.default_is t.low_is t.high_is t.rest
+  table_rest = table_after 12 ∙ three_passed t.default_is t.low_is t.high_is t.rest
 
   pub table_length : length operands ≡ padding_length offset + 12 + length t.rest
   table_length =
@@ -142,8 +142,8 @@ module _ (offset : ℕ) (operands : List ℕ) (t : Table offset operands) where
       after_three (signed_int_of (drop (padding_length offset) operands)) (signed_int_of (drop (padding_length offset + 4) operands)) (signed_int_of (drop (padding_length offset + 8) operands)) t.d t.l t.h
       (λ default low high. table_rows (padding_length offset + 12) default low (counted (high -ℤ low)) operands)
       (ap signed_int_of table_default ∙ int_read t.default_is (t.low ++ (t.high ++ t.rest)))
-      (ap signed_int_of (table_behind 4 ∙ int_passed t.default_is (t.low ++ (t.high ++ t.rest))) ∙ int_read t.low_is (t.high ++ t.rest))
-      (ap signed_int_of (table_behind 8 ∙ two_passed t.default_is t.low_is (t.high ++ t.rest)) ∙ int_read t.high_is t.rest)
+      (ap signed_int_of (table_after 4 ∙ int_passed t.default_is (t.low ++ (t.high ++ t.rest))) ∙ int_read t.low_is (t.high ++ t.rest))
+      (ap signed_int_of (table_after 8 ∙ two_passed t.default_is t.low_is (t.high ++ t.rest)) ∙ int_read t.high_is t.rest)
 
   -- with the rows that it lacks it is laid out
   pub table_laid : (fill : List ℕ) → length t.rest + length fill ≡ 4 * counted (t.h -ℤ t.l) → IsLaidOut offset (op.TABLESWITCH ∷ operands ++ fill)
@@ -211,11 +211,11 @@ module _ (offset : ℕ) (operands : List ℕ) (t : Lookup offset operands) where
   lookup_default : drop (padding_length offset) operands ≡ t.default ++ (t.npairs ++ t.rest)
   lookup_default = ap (drop (padding_length offset)) t.operands_are ∙ ap (λ n. drop n (t.padding ++ (t.default ++ (t.npairs ++ t.rest)))) (sym lookup_padding) ∙ drop-append_seam t.padding (t.default ++ (t.npairs ++ t.rest))
 
-  lookup_behind : (n : ℕ) → drop (padding_length offset + n) operands ≡ drop n (t.default ++ (t.npairs ++ t.rest))
-  lookup_behind n = ap (drop (padding_length offset + n)) t.operands_are ∙ ap (λ k. drop (k + n) (t.padding ++ (t.default ++ (t.npairs ++ t.rest)))) (sym lookup_padding) ∙ drop-append-add t.padding (t.default ++ (t.npairs ++ t.rest)) n
+  lookup_after : (n : ℕ) → drop (padding_length offset + n) operands ≡ drop n (t.default ++ (t.npairs ++ t.rest))
+  lookup_after n = ap (drop (padding_length offset + n)) t.operands_are ∙ ap (λ k. drop (k + n) (t.padding ++ (t.default ++ (t.npairs ++ t.rest)))) (sym lookup_padding) ∙ drop-append-add t.padding (t.default ++ (t.npairs ++ t.rest)) n
 
   pub lookup_rest : drop (padding_length offset + 8) operands ≡ t.rest
-  lookup_rest = lookup_behind 8 ∙ two_passed t.default_is t.npairs_is t.rest
+  lookup_rest = lookup_after 8 ∙ two_passed t.default_is t.npairs_is t.rest
 
   pub lookup_length : length operands ≡ padding_length offset + 8 + length t.rest
   lookup_length =
@@ -228,7 +228,7 @@ module _ (offset : ℕ) (operands : List ℕ) (t : Lookup offset operands) where
       after_two (signed_int_of (drop (padding_length offset) operands)) (signed_int_of (drop (padding_length offset + 4) operands)) t.d t.n
       (λ default count. lookup_rows (padding_length offset + 8) default count operands)
       (ap signed_int_of lookup_default ∙ int_read t.default_is (t.npairs ++ t.rest))
-      (ap signed_int_of (lookup_behind 4 ∙ int_passed t.default_is (t.npairs ++ t.rest)) ∙ int_read t.npairs_is t.rest)
+      (ap signed_int_of (lookup_after 4 ∙ int_passed t.default_is (t.npairs ++ t.rest)) ∙ int_read t.npairs_is t.rest)
 
   pub lookup_laid : (fill : List ℕ) → length t.rest + length fill ≡ 8 * count_of t.n → IsLaidOut offset (op.LOOKUPSWITCH ∷ operands ++ fill)
   lookup_laid fill many =

@@ -16,8 +16,8 @@ with_front front (Err fault) = Err fault
 
 -- the listing of an instruction at an offset and of what comes after its operands
 abbrev pub listed : ℕ → Result Spelled CodeRule → (ℕ → Result Listing CodeFault) → Result Listing CodeFault
-listed offset (Ok s) behind = with_front ((offset, s.insn) ∷ []) (behind s.operands)
-listed offset (Err rule) behind = Err (Broken rule offset)
+listed offset (Ok s) following = with_front ((offset, s.insn) ∷ []) (following s.operands)
+listed offset (Err rule) following = Err (Broken rule offset)
 
 -- the listing of the bytes from an offset on, of which the first `skipped` are operands of the instruction before
 unfoldable pub listing_from : ℕ → ℕ → List ℕ → Result Listing CodeFault

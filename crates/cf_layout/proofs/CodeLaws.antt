@@ -13,7 +13,7 @@ use Rattle.cf_text.proofs.LookLaws.{choosing_tells, found_by, keeping_tells, kno
 use Rattle.cf_layout.specs.declared.items.Attribute.{Attribute}
 use Rattle.cf_layout.specs.declared.items.CodeHead.{CodeHead}
 use Rattle.cf_layout.specs.Codes.{and_then, blamed, code_filling, code_head_at, code_of, code_rest_at, constant_filling, constant_of, skim_frame, skim_item, skim_list, skim_lists, skim_many, skim_table, skim_tagged, table_of}
-use Rattle.cf_layout.specs.CodeFormat.{AreInsides, Insides, MissesBy, behind_some, code_head_look, code_inside, code_look, code_rest_look, constant_inside, constant_look, filling, frame_look, going_on, item_look, items_look, lists_look, many_looks, reaches, table_inside, table_look, tagged_look}
+use Rattle.cf_layout.specs.CodeFormat.{AreInsides, Insides, MissesBy, after_some, code_head_look, code_inside, code_look, code_rest_look, constant_inside, constant_look, filling, frame_look, going_on, item_look, items_look, lists_look, many_looks, reaches, table_inside, table_look, tagged_look}
 use Rattle.cf_layout.specs.ReadInsides.{insides_of}
 use Rattle.cf_layout.proofs.FileLaws.{attributes_read, item_reads}
 
@@ -84,16 +84,16 @@ code_tells bytes attribute =
 -- ---- StackMapTable
 
 -- what follows if the look has not ended
-abbrev behind : (ℕ → Result (Option ℕ) ReadFault) → Option ℕ → Result (Option ℕ) ReadFault
-behind next None = Ok None
-behind next (Some at) = next at
+abbrev following : (ℕ → Result (Option ℕ) ReadFault) → Option ℕ → Result (Option ℕ) ReadFault
+following next None = Ok None
+following next (Some at) = next at
 
-behind_tells : (next : ℕ → Result (Option ℕ) ReadFault) (look : ℕ → Look (Option ℕ)) → ((at : ℕ) → Tells (next at) (look at)) → (reach : Option ℕ)
-    → Tells (behind next reach) (behind_some look reach)
-behind_tells next look tells None = known_tells None
-behind_tells next look tells (Some at) = tells at
+after_tells : (next : ℕ → Result (Option ℕ) ReadFault) (look : ℕ → Look (Option ℕ)) → ((at : ℕ) → Tells (next at) (look at)) → (reach : Option ℕ)
+    → Tells (following next reach) (after_some look reach)
+after_tells next look tells None = known_tells None
+after_tells next look tells (Some at) = tells at
 
-and_then-is : (r : Result (Option ℕ) ReadFault) (next : ℕ → Result (Option ℕ) ReadFault) → and_then r next ≡ (r then behind next)
+and_then-is : (r : Result (Option ℕ) ReadFault) (next : ℕ → Result (Option ℕ) ReadFault) → and_then r next ≡ (r then following next)
 and_then-is (Ok (Some at)) next = refl
 and_then-is (Ok None) next = refl
 and_then-is (Err fault) next = refl
@@ -101,7 +101,7 @@ and_then-is (Err fault) next = refl
 going_on_tells : {reading : Result (Option ℕ) ReadFault} {one : Look (Option ℕ)} (next : ℕ → Result (Option ℕ) ReadFault) (look : ℕ → Look (Option ℕ)) → Tells reading one
     → ((at : ℕ) → Tells (next at) (look at)) → Tells (and_then reading next) (going_on one look)
 going_on_tells {reading} next look first second =
-    tells_along (and_then-is reading next) (then_tells {next = behind next} first (behind_tells next look second))
+    tells_along (and_then-is reading next) (then_tells {next = following next} first (after_tells next look second))
 
 item_tells : (bytes : List ℕ) (at : ℕ) → Tells (skim_item bytes at) (item_look bytes at)
 unfolding skim_item item_look

@@ -77,12 +77,12 @@ item_look bytes at = do
     known (Some to)) (known None))
 
 -- one part, and if it has an end, a second one after it
-abbrev pub behind_some : (ℕ → Look (Option ℕ)) → Option ℕ → Look (Option ℕ)
-behind_some next None = known None
-behind_some next (Some at) = next at
+abbrev pub after_some : (ℕ → Look (Option ℕ)) → Option ℕ → Look (Option ℕ)
+after_some next None = known None
+after_some next (Some at) = next at
 
 abbrev pub going_on : Look (Option ℕ) → (ℕ → Look (Option ℕ)) → Look (Option ℕ)
-going_on one next = one >>= behind_some next
+going_on one next = one >>= after_some next
 
 -- n of one look, one after the other
 unfoldable pub many_looks : (ℕ → Look (Option ℕ)) → ℕ → ℕ → Look (Option ℕ)

@@ -57,9 +57,9 @@ pub record IsPlacedMember (bytes : List ℕ) (at to : ℕ) (member : Member) : T
   pub flags_at : member.flags.at ≡ at
   pub name_at : member.name.at ≡ at + 2
   pub descriptor_at : member.descriptor.at ≡ at + 4
-  pub behind : ℕ
-  pub behind_is : behind ≡ at + 6
-  pub attributes : (attributes_format bytes behind).Stands behind member.attributes to
+  pub following : ℕ
+  pub following_is : following ≡ at + 6
+  pub attributes : (attributes_format bytes following).Stands following member.attributes to
 
 member_placed : (bytes : List ℕ) (at to : ℕ) (member : Member) → (member_format bytes at).Stands at member to → IsPlacedMember bytes at to member
 unfolding member_format
@@ -78,8 +78,8 @@ member_placed bytes at to member stands =
       flags_at = ap (λ (m : Member). m.flags.at) same ∙ flags_is.at_is;
       name_at = ap (λ (m : Member). m.name.at) same ∙ omega (arith, name_is.at_is, flags_is.to_is);
       descriptor_at = ap (λ (m : Member). m.descriptor.at) same ∙ omega (arith, descriptor_is.at_is, name_is.to_is, flags_is.to_is);
-      behind = descriptor.1;
-      behind_is = omega (arith, descriptor_is.to_is, name_is.to_is, flags_is.to_is);
+      following = descriptor.1;
+      following_is = omega (arith, descriptor_is.to_is, name_is.to_is, flags_is.to_is);
       attributes = subst (λ (l : List Attribute). (attributes_format bytes descriptor.1).Stands descriptor.1 l to) (sym (ap (λ (m : Member). m.attributes) same))
           (subst (λ (e : ℕ). (attributes_format bytes descriptor.1).Stands descriptor.1 attributes.0 e) (sym end) attributes_is);
     }
@@ -129,7 +129,7 @@ member_span bytes at to member placed flags name descriptor attributes one two t
     let a = span_low (16 * at) (16 * member.flags.at) (16 * member.flags.at + 13) flags (omega (arith, placed.flags_at)) one in
     let b = span_low (16 * member.flags.at + 13) (16 * member.name.at) (16 * member.name.at + 13) name (omega (arith, placed.flags_at, placed.name_at)) two in
     let c = span_low (16 * member.name.at + 13) (16 * member.descriptor.at) (16 * member.descriptor.at + 13) descriptor (omega (arith, placed.name_at, placed.descriptor_at)) three in
-    let d = span_low (16 * member.descriptor.at + 13) (16 * placed.behind) (16 * to) attributes (omega (arith, placed.descriptor_at, placed.behind_is)) (four placed.behind placed.attributes) in
+    let d = span_low (16 * member.descriptor.at + 13) (16 * placed.following) (16 * to) attributes (omega (arith, placed.descriptor_at, placed.following_is)) (four placed.following placed.attributes) in
     span_append (16 * at) (16 * member.descriptor.at + 13) (16 * to) ((flags ++ name) ++ descriptor) attributes
     (span_append (16 * at) (16 * member.name.at + 13) (16 * member.descriptor.at + 13) (flags ++ name) descriptor
     (span_append (16 * at) (16 * member.flags.at + 13) (16 * member.name.at + 13) flags name a b) c) d
@@ -176,7 +176,7 @@ class_flags_span item = (omega arith, (omega arith, omega arith))
 
 -- a number of items, and the items
 counted_span : (at from to : ℕ) (ds : List Demand) → from ≡ at + 2 → Span (16 * from) (16 * to) ds → Span (16 * at) (16 * to) ds
-counted_span at from to ds behind span = span_low (16 * at) (16 * from) (16 * to) ds (omega (arith, behind)) span
+counted_span at from to ds following span = span_low (16 * at) (16 * from) (16 * to) ds (omega (arith, following)) span
 
 body_span : (bytes : List ℕ) (insides : Insides) → AreInsides bytes insides → (at to : ℕ) (layout : Layout) → (body_format bytes at).Stands at layout to
     → Span (16 * at) (16 * to) (demands insides layout)
@@ -216,9 +216,9 @@ body_span bytes insides are at to layout stands =
     (span_append (16 * at) (16 * pool.1 + 6) (16 * flags.0.at + 13) (pool_demands pool.0) (class_flag_demands flags.0) a1 a2) a3) a4 in
     let i = counted_span interface_count.0.at interface_count.1 interfaces.1 (of_each (λ index interface. class_index_demands entries interface) 0 interfaces.0)
     (omega (arith, ic.at_is, ic.to_is))
-    (many_span _ (λ index interface. class_index_demands entries interface) (λ index from behind item there. let placed = item_placed bytes from behind item there in
-    span_low (16 * from) (16 * item.at) (16 * behind) (class_index_demands entries item) (omega (arith, placed.at_is))
-    (span_high (16 * item.at) (16 * item.at + 6) (16 * behind) (class_index_demands entries item) (omega (arith, placed.at_is, placed.to_is)) (class_index_span entries item)))
+    (many_span _ (λ index interface. class_index_demands entries interface) (λ index from following item there. let placed = item_placed bytes from following item there in
+    span_low (16 * from) (16 * item.at) (16 * following) (class_index_demands entries item) (omega (arith, placed.at_is))
+    (span_high (16 * item.at) (16 * item.at + 6) (16 * following) (class_index_demands entries item) (omega (arith, placed.at_is, placed.to_is)) (class_index_span entries item)))
     interface_count.0.value interface_count.1 interfaces.1 0 interfaces.0 interfaces_are) in
     let fs = counted_span field_count.0.at field_count.1 fields.1 (of_each (field_demands insides entries class fields.0) 0 fields.0) (omega (arith, fc.at_is, fc.to_is))
     (many_span _ (field_demands insides entries class fields.0) (field_span bytes entries insides are class fields.0) field_count.0.value field_count.1 fields.1 0 fields.0 fields_are) in

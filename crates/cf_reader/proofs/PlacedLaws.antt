@@ -159,7 +159,7 @@ head_ends bytes at head is =
 pub record IsPlacedCode (bytes : List ℕ) (from end : ℕ) (code : CodeLayout) : Type 0 where
   pub attributes_at : ℕ
   pub count_at : from ≤ code.handler_count.at
-  pub behind : code.handler_count.at + 2 ≤ attributes_at
+  pub following : code.handler_count.at + 2 ≤ attributes_at
   pub attributes : (attributes_format bytes attributes_at).Stands attributes_at code.attributes end
 
 code_placed : (bytes : List ℕ) (head : CodeHead) (end : ℕ) (code : CodeLayout) → (code_inside bytes head end).Is code → IsPlacedCode bytes head.code end code
@@ -182,7 +182,7 @@ code_placed bytes head end code is =
     record {
       attributes_at = after;
       count_at = omega (arith, count_at, code_end_is.end);
-      behind = omega (arith, count_at, count_is.to_is, after_is.end);
+      following = omega (arith, count_at, count_is.to_is, after_is.end);
       attributes = subst (λ (l : List Attribute). (attributes_format bytes after).Stands after l end) (sym (ap (λ (c : CodeLayout). c.attributes) whole))
           (subst (λ (e : ℕ). (attributes_format bytes after).Stands after attributes.0 e) at_end attributes_is);
     }
@@ -210,7 +210,7 @@ module _ (whole : List ℕ) (pool : List Entry) (insides : Insides) (are : AreIn
       let attributes = attributes_span (take a.end whole) pool (is_known pool known.StackMapTable) (known_demands insides pool known.StackMapTable)
       (known_span (take a.end whole) known.StackMapTable (inr refl)) inside.attributes_at a.end code.attributes inside.attributes in (
         omega (arith, placed.body_is, ends.1, inside.count_at),
-        span_low (16 * code.handler_count.at + 13) (16 * inside.attributes_at) (16 * to) (attribute_demands pool (is_known pool known.StackMapTable) (known_demands insides pool known.StackMapTable) false code.attributes) (omega (arith, inside.behind))
+        span_low (16 * code.handler_count.at + 13) (16 * inside.attributes_at) (16 * to) (attribute_demands pool (is_known pool known.StackMapTable) (known_demands insides pool known.StackMapTable) false code.attributes) (omega (arith, inside.following))
             (subst (λ (e : ℕ). Span (16 * inside.attributes_at) (16 * e) (attribute_demands pool (is_known pool known.StackMapTable) (known_demands insides pool known.StackMapTable) false code.attributes)) placed.end_is attributes),
       )
   code_by at to a placed (Err (Broken rule position)) finds =
@@ -221,7 +221,7 @@ module _ (whole : List ℕ) (pool : List Entry) (insides : Insides) (are : AreIn
               let is_rule : number_of rule ≡ 9 = ap number_of wrong.1 in
               let is_position : position ≡ a.body + 4 = wrong.2 ∙ ends.0 in
               (omega (arith, is_rule, is_position, placed.body_is), omega (arith, is_rule, is_position, placed.body_is, placed.end_is, ends.2, length-take a.end whole)))
-          | inr behind ↦ filling_span whole at to a placed rule position behind.2.0 behind.2.1
+          | inr following ↦ filling_span whole at to a placed rule position following.2.0 following.2.1
         ]
       ]
   code_by at to a placed (Err Memory) finds = absurd finds

@@ -74,10 +74,10 @@ unfolding class_type_of
 class_again at name rest h =
     let ends : name_length (name ++ 59 ∷ rest) ≡ length name = name_ends true name rest h in
     let front : take (length name) (name ++ 59 ∷ rest) ≡ name = take_at name (59 ∷ rest) (length name) refl in
-    let behind : drop (length name + 1) (name ++ 59 ∷ rest) ≡ rest =
+    let following : drop (length name + 1) (name ++ 59 ∷ rest) ≡ rest =
     ap (drop (length name + 1)) (sym (append_assoc name (59 ∷ []) rest)) ∙ drop_at (name ++ 59 ∷ []) rest (length name + 1) (length-append name (59 ∷ [])) in
     let long : ltb (length name) (length (name ++ 59 ∷ rest)) ≡ true = lt-ltb _ _ (omega (arith, length-append name (59 ∷ rest))) in
-    rw (ends, front, behind, long, h) refl
+    rw (ends, front, following, long, h) refl
 
 -- ---- elements
 
@@ -202,8 +202,8 @@ field_again at front type rest is =
     ap (λ (l : List ℕ). l ++ rest) is.spelled ∙ append_assoc (replicate n 91) is.element rest in
     let dimensions : dimensions_of (replicate n 91 ++ (is.element ++ rest)) ≡ n = dimensions_again n (is.element ++ rest) (element_begins is.element type.element rest is.is) in
     let few : ltb 255 n ≡ false = le-ltb _ _ is.few in
-    let behind : drop n (replicate n 91 ++ (is.element ++ rest)) ≡ is.element ++ rest = drop_brackets n (is.element ++ rest) in
-    rw (text, dimensions, few, behind, element_again at is.element type.element rest is.is) refl
+    let following : drop n (replicate n 91 ++ (is.element ++ rest)) ≡ is.element ++ rest = drop_brackets n (is.element ++ rest) in
+    rw (text, dimensions, few, following, element_again at is.element type.element rest is.is) refl
 
 -- ---- parameters
 
@@ -272,19 +272,19 @@ parameters_again [] (suc n) at front rest are fits = rw are refl
 parameters_again (type ∷ types) (suc n) at front rest are fits =
     let one = are.0 in
     let others = are.1 in
-    let behind = others ++ (41 ∷ rest) in
-    let text : front ++ (41 ∷ rest) ≡ one ++ behind = ap (λ (l : List ℕ). l ++ (41 ∷ rest)) are.2 ∙ append_assoc one others (41 ∷ rest) in
-    let byte = field_byte one type behind are.3 in
-    let first : field_type_of at (one ++ behind) ≡ Ok (type, behind) = field_again at one type behind are.3 in
+    let following = others ++ (41 ∷ rest) in
+    let text : front ++ (41 ∷ rest) ≡ one ++ following = ap (λ (l : List ℕ). l ++ (41 ∷ rest)) are.2 ∙ append_assoc one others (41 ∷ rest) in
+    let byte = field_byte one type following are.3 in
+    let first : field_type_of at (one ++ following) ≡ Ok (type, following) = field_again at one type following are.3 in
     let longer : length front ≡ length one + length others = ap (λ (l : List ℕ). length l) are.2 ∙ length-append one others in
     let later : parameters_of n at (others ++ (41 ∷ rest)) ≡ Ok (types, rest) = parameters_again types n at others rest are.4 (omega (arith, byte.3)) in
     rw (text, byte.0, first, later) refl
 
 -- ---- whole texts
 
-nothing_behind : (rest : List ℕ) → length rest ≡ 0 → rest ≡ []
-nothing_behind [] h = refl
-nothing_behind (b ∷ rest) h = absurd (omega arith)
+nothing_after : (rest : List ℕ) → length rest ≡ 0 → rest ≡ []
+nothing_after [] h = refl
+nothing_after (b ∷ rest) h = absurd (omega arith)
 
 field_whole_by : (text : List ℕ) (at : ℕ) (r : Result (FieldType × List ℕ) ReadFault) → field_type_of at text ≡ r → (type : FieldType)
     → (r >>= λ type. cond (eqb (length type.1) 0) (Ok type.0) (malformed at)) ≡ Ok type → IsFieldType text type
@@ -295,7 +295,7 @@ field_whole_by text at (Ok x) read type e = by (eqb (length x.1) 0) refl e
     by true none e =
         let h = field_takes at text x read in
         let same : x.0 ≡ type = cc in
-        let all : text ≡ h.0 = h.2 ∙ ap (λ (l : List ℕ). h.0 ++ l) (nothing_behind x.1 (eqb-true _ _ none)) ∙ append-nil h.0 in
+        let all : text ≡ h.0 = h.2 ∙ ap (λ (l : List ℕ). h.0 ++ l) (nothing_after x.1 (eqb-true _ _ none)) ∙ append-nil h.0 in
         subst (λ (t : FieldType). IsFieldType text t) same (subst (λ (l : List ℕ). IsFieldType l x.0) (sym all) h.1)
     by false none e = absurd cc
 
@@ -324,7 +324,7 @@ result_takes_by at text true void r read x e = by (eqb (length text) 1) refl e
     by true one e =
         let same : None ≡ x = cc in
         let begins : text ≡ 86 ∷ drop 1 text = begins_is 86 text void in
-        let none : drop 1 text ≡ [] = nothing_behind (drop 1 text) (omega (arith, eqb-true _ _ one, ap (λ (l : List ℕ). length l) begins)) in
+        let none : drop 1 text ≡ [] = nothing_after (drop 1 text) (omega (arith, eqb-true _ _ one, ap (λ (l : List ℕ). length l) begins)) in
         subst (λ (y : Option FieldType). IsResultType text y) same (begins ∙ ap (λ (l : List ℕ). 86 ∷ l) none)
     by false one e = absurd cc
 
@@ -369,9 +369,9 @@ method_descriptor_takes at text type e = method_takes_by at text (begins_with 40
 pub method_descriptor_again : (at : ℕ) (text : List ℕ) (type : MethodDescriptor) → IsMethodType text type → method_descriptor_of at text ≡ Ok type
 unfolding method_descriptor_of
 method_descriptor_again at text type is =
-    let behind = is.parameters ++ (41 ∷ is.result) in
-    let read : parameters_of (length (40 ∷ behind)) at behind ≡ Ok (type.parameters, is.result) =
-    parameters_again type.parameters (length (40 ∷ behind)) at is.parameters is.result is.are (omega (arith, length-append is.parameters (41 ∷ is.result))) in
+    let following = is.parameters ++ (41 ∷ is.result) in
+    let read : parameters_of (length (40 ∷ following)) at following ≡ Ok (type.parameters, is.result) =
+    parameters_again type.parameters (length (40 ∷ following)) at is.parameters is.result is.are (omega (arith, length-append is.parameters (41 ∷ is.result))) in
     rw (is.spelled, read, result_again at is.result type.result is.is) refl
 
 -- ---- faults: a text that spells nothing is malformed, and no memory is asked for

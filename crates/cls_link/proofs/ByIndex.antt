@@ -24,9 +24,9 @@ same_some e = cc
 none_some : {X : Type 0} {x : X} → None ≡ Some x → ⊥
 none_some e = cc
 
-behind : {X : Type 0} (xs ys : List X) (j : ℕ) → slice_get (xs ++ ys) (length xs + j) ≡ slice_get ys j
-behind [] ys j = ap (slice_get ys) (zero-add j)
-behind (x ∷ xs) ys j = ap (slice_get (x ∷ (xs ++ ys))) (suc_plus (length xs) j) ∙ behind xs ys j
+following : {X : Type 0} (xs ys : List X) (j : ℕ) → slice_get (xs ++ ys) (length xs + j) ≡ slice_get ys j
+following [] ys j = ap (slice_get ys) (zero-add j)
+following (x ∷ xs) ys j = ap (slice_get (x ∷ (xs ++ ys))) (suc_plus (length xs) j) ∙ following xs ys j
 
 before : {X : Type 0} (xs ys : List X) (i : ℕ) (x : X) → slice_get xs i ≡ Some x → slice_get (xs ++ ys) i ≡ Some x
 before [] ys i x e = absurd (none_some e)
@@ -52,7 +52,7 @@ declared_at k (x ∷ cs) (suc n) i c m at here =
     let own = declared_in (record { 0 = k }) x.file.name 0 x.file.methods in
     let rest = declared_from (suc k) (take n cs) in
     ap (λ j. option_map (λ (d : Declared). d.method) (slice_get (own ++ declared_from (suc k) cs) j)) (ap (λ j. j + i) (length-append own rest) ∙ added (length own) (length rest) i)
-    ∙ (ap (option_map (λ (d : Declared). d.method)) (behind own (declared_from (suc k) cs) (length rest + i)) ∙ declared_at (suc k) cs n i c m at here)
+    ∙ (ap (option_map (λ (d : Declared). d.method)) (following own (declared_from (suc k) cs) (length rest + i)) ∙ declared_at (suc k) cs n i c m at here)
 
 false_is : (o : Option Method) → IsSome o → (d : Method) × (o ≡ Some d)
 false_is None h = cc

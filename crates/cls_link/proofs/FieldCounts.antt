@@ -46,17 +46,17 @@ counted : (f : Field) (fs : List Field) → count_by is_instance (f ∷ fs) ≡ 
 counted f fs = sum_by-cons (λ (x : Field). cond (is_instance x) 1 0) f fs
 
 module _ (class : ClassId) (k : ℕ) (f : Field) (fs : List Field) where
-  abbrev listed_place : FieldIndex
-  listed_place = record { class = class; index = k }
+  abbrev listed_index : FieldIndex
+  listed_index = record { class = class; index = k }
 
   abbrev rest : List FieldIndex
   rest = instance_fields class (suc k) fs
 
-  listed : is_instance f ≡ true → instance_fields class k (f ∷ fs) ≡ listed_place ∷ rest
-  listed t = ap (λ b. if b then listed_place ∷ rest else rest) t
+  listed : is_instance f ≡ true → instance_fields class k (f ∷ fs) ≡ listed_index ∷ rest
+  listed t = ap (λ b. if b then listed_index ∷ rest else rest) t
 
   left_out : is_instance f ≡ false → instance_fields class k (f ∷ fs) ≡ rest
-  left_out u = ap (λ b. if b then listed_place ∷ rest else rest) u
+  left_out u = ap (λ b. if b then listed_index ∷ rest else rest) u
 
 -- how many fields a class adds
 added : (class : ClassId) (k : ℕ) (fs : List Field) → length (instance_fields class k fs) ≡ count_by is_instance fs

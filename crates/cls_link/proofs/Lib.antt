@@ -6,6 +6,6 @@ pub mod Growing
 pub mod Indices
 pub mod Landing
 pub mod MethodNumbers
-pub mod Places
+pub mod DeclaredIndexes
 pub mod Sound
 pub mod NotedCounts

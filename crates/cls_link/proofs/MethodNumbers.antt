@@ -82,21 +82,21 @@ declared_around k (c ∷ cs) (suc n) d h =
     ap (λ ds. first ++ ds) (declared_around (suc k) cs n d (omega arith) ∙ ap (λ i. declared_from (suc k) (take n cs) ++ last i) (suc_moves k n)) ∙ sym (append_assoc first (declared_from (suc k) (take n cs)) (last (k + suc n)))
 
 -- the number of a method of a class is the number of the class's first and its index
-pub number_by_place : (cs : List Class) (class : ClassId) (c : Class) (n t : List ℕ) → class.0 < length cs → c ≡ get_or cs class.0 c → number_of cs class n t ≡ option_map (λ i. record { 0 = length (declared_from 0 (take class.0 cs)) + i }) (first_from 0 c.file.methods n t)
-number_by_place cs class c n t h is =
+pub number_by_index : (cs : List Class) (class : ClassId) (c : Class) (n t : List ℕ) → class.0 < length cs → c ≡ get_or cs class.0 c → number_of cs class n t ≡ option_map (λ i. record { 0 = length (declared_from 0 (take class.0 cs)) + i }) (first_from 0 c.file.methods n t)
+number_by_index cs class c n t h is =
     let pre = declared_from 0 (take class.0 cs) in
     let post = declared_from (suc (0 + class.0)) (drop (suc class.0) cs) in
     let own = λ (k : Class). declared_in (record { 0 = 0 + class.0 }) k.file.name 0 k.file.methods in
     let whole : declared_from 0 cs ≡ pre ++ (own c ++ post) = declared_around 0 cs class.0 c h ∙ ap (λ k. pre ++ (own k ++ post)) (sym is) in
     let before : All (λ d. d.class.0 ≢ class.0) pre =
     All-weaker (Between 0 (0 + length (take class.0 cs))) (λ d. d.class.0 ≢ class.0) (λ d b. let high = b.1 in let few = length-take-le class.0 cs (omega arith) in omega (arith, high, few)) pre (classes_between 0 (take class.0 cs)) in
-    let behind : All (λ d. d.class.0 ≢ class.0) post =
+    let following : All (λ d. d.class.0 ≢ class.0) post =
     All-weaker (Between (suc (0 + class.0)) (suc (0 + class.0) + length (drop (suc class.0) cs))) (λ d. d.class.0 ≢ class.0) (λ d b. let low = b.0 in omega (arith, low)) post (classes_between (suc (0 + class.0)) (drop (suc class.0) cs)) in
     ap (λ ds. number_from 0 ds class n t) whole
     ∙ (number_passed 0 pre (own c ++ post) class n t before
     ∙ (ap (λ i. number_from i (own c ++ post) class n t) (start (length pre))
     ∙ (ap (λ i. number_from (length pre + 0) (declared_in (record { 0 = i }) c.file.name 0 c.file.methods ++ post) class n t) (zero-add class.0)
-    ∙ number_among (length pre) 0 0 class c.file.name c.file.methods post n t behind)))
+    ∙ number_among (length pre) 0 0 class c.file.name c.file.methods post n t following)))
 
 -- the number at which the methods of a class start
 starts_at : (s k : ℕ) (cs : List Class) (n : ℕ) → n < length cs → get_or (starts s cs) n 0 ≡ s + length (declared_from k (take n cs))
@@ -167,7 +167,7 @@ pub number_found : (cs : List Class) (class : ClassId) (n t : List ℕ) → numb
 number_found cs class n t =
     elim (slice_get_cases cs class.0).1 [
       | inl r ↦
-          number_by_place cs class r.0 n t r.1 (sym r.3)
+          number_by_index cs class r.0 n t r.1 (sym r.3)
           ∙ (numbers cs class (first_from 0 r.0.file.methods n t) ∙ ap (λ o. option_map (number_in cs) (option_and_then (own_of class n t) o)) (sym r.2))
       | inr r ↦ number_absent cs class n t r.0 ∙ ap (λ o. option_map (number_in cs) (option_and_then (own_of class n t) o)) (sym r.1)
     ]

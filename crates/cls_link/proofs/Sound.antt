@@ -26,9 +26,9 @@ use Rattle.cls_resolve.specs.LinkRules.{order, Breaks, Check, IsFirstBroken, IsS
 use Rattle.cls_link.specs.Links.{Declared, IsSoundAt}
 use Rattle.cls_resolve.specs.References.{asked_of}
 
-all_behind : {X : Type 0} (P : X → Type 0) (xs ys : List X) → All P (xs ++ ys) → All P ys
-all_behind P [] ys all = all
-all_behind P (x ∷ xs) ys all = all_behind P xs ys (All-tail P x (xs ++ ys) all)
+all_following : {X : Type 0} (P : X → Type 0) (xs ys : List X) → All P (xs ++ ys) → All P ys
+all_following P [] ys all = all
+all_following P (x ∷ xs) ys all = all_following P xs ys (All-tail P x (xs ++ ys) all)
 
 -- ---- at one instruction
 
@@ -140,7 +140,7 @@ module _ (classes : List Class) (class : ClassId) (method : Method) where
       let same : s.listing ≡ u.before ++ (at, u.insn) ∷ u.after = one_listing bytes s.listing listing s.read read ∙ u.whole in
       let all = subst (All (IsSoundAt classes class method)) same s.sound in
       broken_site (asked_of u.insn) (u.asked, u.index) rule u.asks u.broken
-      (All-head (IsSoundAt classes class method) (at, u.insn) u.after (all_behind (IsSoundAt classes class method) u.before ((at, u.insn) ∷ u.after) all))
+      (All-head (IsSoundAt classes class method) (at, u.insn) u.after (all_following (IsSoundAt classes class method) u.before ((at, u.insn) ∷ u.after) all))
 
 -- ---- methods
 
@@ -158,4 +158,4 @@ only_memory classes (Broken rule class method descriptor at) f sound =
     let all = subst (All (IsSoundMethod classes)) f.whole sound in
     absurd
     (fault_not_sound classes f.faulty rule at f.wrong.3
-    (All-head (IsSoundMethod classes) f.faulty f.after (all_behind (IsSoundMethod classes) f.before (f.faulty ∷ f.after) all)))
+    (All-head (IsSoundMethod classes) f.faulty f.after (all_following (IsSoundMethod classes) f.before (f.faulty ∷ f.after) all)))

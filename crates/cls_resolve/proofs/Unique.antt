@@ -71,8 +71,8 @@ pub record IsSameMember (owner other : ClassId) (flags bits : ℕ) : Type 0 wher
   pub flags_of : flags ≡ bits
 
 module _ (classes : List Class) (named : NamedMember) (class : ClassId) where
-  same_place : {p q : FieldIndex} → Some p ≡ Some q → p ≡ q
-  same_place e = cc
+  same_field_index : {p q : FieldIndex} → Some p ≡ Some q → p ≡ q
+  same_field_index e = cc
 
   same_index : {p q : MethodIndex} → Some p ≡ Some q → p ≡ q
   same_index e = cc
@@ -85,7 +85,7 @@ module _ (classes : List Class) (named : NamedMember) (class : ClassId) where
 
   pub one_meant : {owner other : ClassId} {flags bits : ℕ} → Means classes named class owner flags → Means classes named class other bits → IsSameMember owner other flags bits
   one_meant (rules.Means.field p f k r at is fl) (rules.Means.field q g l s too also gl) =
-      let same = same_place (one_found (supertypes_of classes) (own_field classes named.name named.descriptor) r s) in
+      let same = same_field_index (one_found (supertypes_of classes) (own_field classes named.name named.descriptor) r s) in
       record {
         owners = sym is ∙ (ap (λ (x : FieldIndex). x.class) same ∙ also);
         flags_of = sym fl ∙ (ap (λ (x : Field). x.flags.bits) (same_field (sym at ∙ (ap (field_at classes) same ∙ too))) ∙ gl);

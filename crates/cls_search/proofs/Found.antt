@@ -55,23 +55,23 @@ module _ {A : Type 0} (classes : List Class) (own : ClassId → Option A) (class
   abbrev Through : List ClassId → Option A → Type 0
   Through xs r = Finds (supertypes_of classes) own xs r
 
-  abbrev behind : List ClassId
-  behind = option_to_list c.superclass
+  abbrev following : List ClassId
+  following = option_to_list c.superclass
 
-  above_all : supertypes_of classes class ≡ items ++ behind
-  above_all = ap (λ x. option_map_or (λ (c : Class). c.interfaces ++ option_to_list c.superclass) x []) at ∙ ap (λ is. is ++ behind) (sym same)
+  above_all : supertypes_of classes class ≡ items ++ following
+  above_all = ap (λ x. option_map_or (λ (c : Class). c.interfaces ++ option_to_list c.superclass) x []) at ∙ ap (λ is. is ++ following) (sym same)
 
-  split : (i : ℕ) (d : ClassId) → i < length items → take i items ++ (get_or items i d ∷ (drop (i + 1) items ++ behind)) ≡ items ++ behind
+  split : (i : ℕ) (d : ClassId) → i < length items → take i items ++ (get_or items i d ∷ (drop (i + 1) items ++ following)) ≡ items ++ following
   split i d h =
-      ap (λ zs. take i items ++ (zs ++ behind)) (sym (drop_more items i d h))
-      ∙ (sym (append_assoc (take i items) (drop i items) behind) ∙ ap (λ zs. zs ++ behind) (take-append-drop i items))
+      ap (λ zs. take i items ++ (zs ++ following)) (sym (drop_more items i d h))
+      ∙ (sym (append_assoc (take i items) (drop i items) following) ∙ ap (λ zs. zs ++ following) (take-append-drop i items))
 
   pub through_interface : (i : ℕ) (d : ClassId) (x : A) → i < length items → own class ≡ None → Through (take i items) None → Through (get_or items i d ∷ []) (Some x) → Through (class ∷ []) (Some x)
   through_interface i d x h none before f =
-      goes_on (supertypes_of classes) own class (items ++ behind) (Some x) none above_all
+      goes_on (supertypes_of classes) own class (items ++ following) (Some x) none above_all
       (subst (λ zs. Through zs (Some x)) (split i d h)
-      (none_before (supertypes_of classes) own before refl (get_or items i d ∷ (drop (i + 1) items ++ behind)) (Some x)
-      (found_first (supertypes_of classes) own f x refl (drop (i + 1) items ++ behind))))
+      (none_before (supertypes_of classes) own before refl (get_or items i d ∷ (drop (i + 1) items ++ following)) (Some x)
+      (found_first (supertypes_of classes) own f x refl (drop (i + 1) items ++ following))))
 
   pub interface_passed : (i : ℕ) (d : ClassId) → i < length items → Through (take i items) None → Through (get_or items i d ∷ []) None → Through (take (i + 1) items) None
   interface_passed i d h before f =
@@ -79,12 +79,12 @@ module _ {A : Type 0} (classes : List Class) (own : ClassId → Option A) (class
 
   pub through_superclass : (i : ℕ) (s : ClassId) (answer : Option A) → length items ≤ i → own class ≡ None → c.superclass ≡ Some s → Through (take i items) None → Through (s ∷ []) answer → Through (class ∷ []) answer
   through_superclass i s answer h none is before f =
-      goes_on (supertypes_of classes) own class (items ++ behind) answer none above_all
-      (none_before (supertypes_of classes) own (subst (λ zs. Through zs None) (take_all i items h) before) refl behind answer
+      goes_on (supertypes_of classes) own class (items ++ following) answer none above_all
+      (none_before (supertypes_of classes) own (subst (λ zs. Through zs None) (take_all i items h) before) refl following answer
       (subst (λ o. Through (option_to_list o) answer) (sym is) f))
 
   pub through_none : (i : ℕ) → length items ≤ i → own class ≡ None → c.superclass ≡ None → Through (take i items) None → Through (class ∷ []) None
   through_none i h none is before =
-      goes_on (supertypes_of classes) own class (items ++ behind) None none above_all
-      (none_before (supertypes_of classes) own (subst (λ zs. Through zs None) (take_all i items h) before) refl behind None
+      goes_on (supertypes_of classes) own class (items ++ following) None none above_all
+      (none_before (supertypes_of classes) own (subst (λ zs. Through zs None) (take_all i items h) before) refl following None
       (subst (λ o. Through (option_to_list o) None) (sym is) searches.Finds.nothing))

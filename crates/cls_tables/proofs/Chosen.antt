@@ -5,7 +5,7 @@ use Rattle.std.specs.Option.{option_map_or}
 use Rattle.std.proofs.lemmas.Bool.Decides.{nat_tests}
 use Rattle.std.proofs.lemmas.List.{drop_more}
 use Rattle.std.proofs.lemmas.Option.{get_or_from_slice_get, slice_get_cases, slice_get_within}
-use Rattle.cls_link.proofs.MethodNumbers.{number_by_place}
+use Rattle.cls_link.proofs.MethodNumbers.{number_by_index}
 use Rattle.cls_link.specs.Links.{declared_from, method_at, number_of}
 use Rattle.cls_link.specs.Selections.{instance_method, is_static}
 use Rattle.cls_link.specs.declared.linked_code.MethodId.{MethodId}
@@ -150,7 +150,7 @@ pub so_at_last : (classes : List Class) (levels : ℕ) (keys : List ℕ) (class 
     → find nodes levels root (get_or keys id.0 0) ≡ code_or (instance_method classes m.name m.descriptor class) (find old levels above (get_or keys id.0 0))
 so_at_last classes levels keys class c old nodes above root n at none so id m there =
     let inherited = find old levels above (get_or keys id.0 0) in
-    let here = number_by_place classes class c m.name m.descriptor (slice_get_within classes class.0 c at) (sym (get_or_from_slice_get classes class.0 c c at)) in
+    let here = number_by_index classes class c m.name m.descriptor (slice_get_within classes class.0 c at) (sym (get_or_from_slice_get classes class.0 c c at)) in
     so id m there
     ∙ (ap (λ k. first_code classes (number_first classes class (methods_in classes class) k m) inherited) none
     ∙ (ap (λ ms. first_code classes (number_first classes class ms 0 m) inherited) (methods_are classes class c at)

@@ -168,10 +168,10 @@ holds_below classes class superclass c inherited at up holds =
     some_and (slice_get classes class.0) (λ c. HoldsKinds classes class (inherited ++ own_kinds c.file.fields)) c at (kinds.HoldsKinds.of_subclass class superclass c inherited at up holds)
 
 -- what a class was laid out as, after what it inherits
-pub laid_behind : (classes : List Class) (class : ClassId) (c : Class) (inherited row : List WordKind) (fs : List Field) (span : Span)
+pub laid_after : (classes : List Class) (class : ClassId) (c : Class) (inherited row : List WordKind) (fs : List Field) (span : Span)
     → IsSomeAnd (slice_get classes class.0) (λ c. HoldsKinds classes class (inherited ++ own_kinds c.file.fields)) → slice_get classes class.0 ≡ Some c → fs ≡ c.file.fields
     → span.start ≤ span.end → span.end ≤ length row → part row span.start span.end ≡ inherited ++ own_kinds fs → IsLaid classes class row span
-laid_behind classes class c inherited row fs span holds at same rising within is =
+laid_after classes class c inherited row fs span holds at same rising within is =
     let here = at_some (slice_get classes class.0) (λ c. HoldsKinds classes class (inherited ++ own_kinds c.file.fields)) c at holds in
     record {
       rising = rising;

@@ -75,7 +75,7 @@ fn choose_own(
 }
 
 // Notes the tree of a class.
-fn choose_behind(
+fn choose_after(
     linked: &Linked,
     keys: &Keys,
     class: ClassId,
@@ -122,11 +122,11 @@ fn choose(
     match linked.set().class(class).superclass {
         Some(superclass) => {
             let above = choose(linked, keys, superclass, nodes, memo)?;
-            let root = choose_behind(linked, keys, class, above, nodes, memo)?;
+            let root = choose_after(linked, keys, class, above, nodes, memo)?;
             Ok(root)
         }
         None => {
-            let root = choose_behind(linked, keys, class, 0, nodes, memo)?;
+            let root = choose_after(linked, keys, class, 0, nodes, memo)?;
             Ok(root)
         }
     }

@@ -74,7 +74,7 @@ fn add_part(row: &mut Vec<WordKind>, span: Span) -> Result<(), AllocError>
 
 // What the inherited fields hold, and then the own ones: if the inherited ones end the row, or no
 // own ones follow, they are not written again.
-fn add_behind(row: &mut Vec<WordKind>, above: Span, fields: &[Field]) -> Result<Span, AllocError>
+fn add_after(row: &mut Vec<WordKind>, above: Span, fields: &[Field]) -> Result<Span, AllocError>
     requires rising { above.start ≤ above.end }
     requires within { above.end ≤ length row.old.items }
     ensures starts { OnOk result (Starts row.old.items row.new.items) }
@@ -102,7 +102,7 @@ fn add_behind(row: &mut Vec<WordKind>, above: Span, fields: &[Field]) -> Result<
 }
 
 // Lays out a class after what it inherits.
-fn lay_behind(
+fn lay_after(
     set: &ClassSet,
     class: ClassId,
     above: Span,
@@ -119,7 +119,7 @@ fn lay_behind(
     ensures span { IfOk result (IsLaid set.now class row.new.items) }
 {
     let fields = set.class(class).file.fields.as_slice();
-    let span = add_behind(row, above, fields)?;
+    let span = add_after(row, above, fields)?;
     memo[usize::from(class.0)] = Some(span);
     Ok(span)
 }
@@ -145,7 +145,7 @@ fn lay(
     match entry.superclass {
         Some(superclass) => {
             let above = lay(set, superclass, row, memo)?;
-            let span = lay_behind(set, class, above, row, memo)?;
+            let span = lay_after(set, class, above, row, memo)?;
             Ok(span)
         }
         None => {
@@ -153,7 +153,7 @@ fn lay(
                 start: row.len(),
                 end: row.len(),
             };
-            let span = lay_behind(set, class, nothing, row, memo)?;
+            let span = lay_after(set, class, nothing, row, memo)?;
             Ok(span)
         }
     }

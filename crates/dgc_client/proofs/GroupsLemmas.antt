@@ -190,9 +190,9 @@ pub next-part : (group : Group) (most : ℕ) (done : List Group) (rest ids more 
     → parts_of most group ≡ done ++ map (part_of group) (pieces most rest) → parts_of most group ≡ (done ++ part_of group ids ∷ []) ++ map (part_of group) (pieces most more)
 next-part group most done rest ids more some left is_ids is_more so_far =
     let first : ids ≡ take most rest = is_ids ∙ take_min most rest in
-    let behind : more ≡ drop most rest = is_more ∙ drop_min most rest in
+    let following : more ≡ drop most rest = is_more ∙ drop_min most rest in
     so_far ∙ ap (λ (ps : List (List ObjId)). done ++ map (part_of group) ps) (next-pieces most rest some left)
-    ∙ (λ j. done ++ part_of group (sym first j) ∷ map (part_of group) (pieces most (sym behind j)))
+    ∙ (λ j. done ++ part_of group (sym first j) ∷ map (part_of group) (pieces most (sym following j)))
     ∙ sym (append_assoc done (part_of group ids ∷ []) (map (part_of group) (pieces most more)))
 
 -- the pieces, joined, are the row

@@ -86,7 +86,7 @@ module _ {X : Type 0} (f : ForeignId × ClientLease → Option X) where
         let mine : get_or candidates there.0 0 ≡ i = sym (get_or_default_zero candidates there.0 i there.1) ∙ there.2 in
         elim (cases_lt there.0 index) [
           | inl before ↦ let no : get_or candidates there.0 0 < passed = looked there.0 before (omega arith) in absurd (omega arith)
-          | inr behind ↦ let no : get_or candidates index 0 ≤ get_or candidates there.0 0 = rises index there.0 behind there.1 in absurd (omega arith)
+          | inr following ↦ let no : get_or candidates index 0 ≤ get_or candidates there.0 0 = rises index there.0 following there.1 in absurd (omega arith)
         ]
 
     none-left : HasAllOf f es candidates → length candidates ≤ index → (i : ℕ) → passed ≤ i → IsAnswered f es i → ⊥

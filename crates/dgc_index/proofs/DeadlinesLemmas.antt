@@ -66,19 +66,19 @@ in-range m d early small = ap not (not-above m d.moment 18446744073709551615 d.i
         by true false = refl
         by false t = refl
 
-one-behind : {X : Type 0} (x y : X) (xs : List X) → Contains xs x → Contains (y ∷ xs) x
-one-behind x y xs h = (suc h.0, omega (arith, h.1), h.2)
+one-following : {X : Type 0} (x y : X) (xs : List X) → Contains xs x → Contains (y ∷ xs) x
+one-following x y xs h = (suc h.0, omega (arith, h.1), h.2)
 
 contains-kept : (p : Deadline → Bool) (d : Deadline) → p d ≡ true → (ds : List Deadline) (k : ℕ) → k < length ds → get_or ds k d ≡ d → Contains (filter p ds) d
 contains-kept p d passes [] k below is = absurd (omega arith)
 contains-kept p d passes (e ∷ ds) zero below is = rw (subst (λ (x : Deadline). p x ≡ true) (sym is) passes) (0, omega arith, is)
 contains-kept p d passes (e ∷ ds) (suc k) below is = elim (p e) as (λ t. Contains (cond t (e ∷ filter p ds) (filter p ds)) d)
-    [ true ↦ one-behind d e (filter p ds) (contains-kept p d passes ds k (omega arith) is) | false ↦ contains-kept p d passes ds k (omega arith) is ]
+    [ true ↦ one-following d e (filter p ds) (contains-kept p d passes ds k (omega arith) is) | false ↦ contains-kept p d passes ds k (omega arith) is ]
 
 contains-index : (d : Deadline) (ds : List Deadline) (k : ℕ) → k < length ds → get_or ds k d ≡ d → Contains (map (λ (x : Deadline). x.index) ds) d.index
 contains-index d [] k below is = absurd (omega arith)
 contains-index d (e ∷ ds) zero below is = (0, omega arith, ap (λ (x : Deadline). x.index) is)
-contains-index d (e ∷ ds) (suc k) below is = one-behind d.index e.index (map (λ (x : Deadline). x.index) ds) (contains-index d ds k (omega arith) is)
+contains-index d (e ∷ ds) (suc k) below is = one-following d.index e.index (map (λ (x : Deadline). x.index) ds) (contains-index d ds k (omega arith) is)
 
 -- a deadline up to the moment is among those up to it
 pub found-up_to : (m : ℕ) (row : BTreeSet Deadline) (d : Deadline) → d.moment ≤ m → d.index ≤ 18446744073709551615 → Contains row.keys d → Contains (indexes_up_to m row) d.index

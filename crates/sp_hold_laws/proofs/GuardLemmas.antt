@@ -33,7 +33,7 @@ use Rattle.sp_hold_laws.specs.Guards.{IsOwnOrLeased, RootsNameWhatIsLeased, own_
 
 -- ---- roots
 
--- behind the test of the start
+-- after the test of the start
 started : (why : Option StartRefusal) (rest : List Check) → first_refusal (refuse_start why ++ rest) ≡ None → first_refusal rest ≡ None
 started None rest e = e
 started (Some why) rest e = absurd (some-none (Refusals.CannotStart why) e)

@@ -52,17 +52,17 @@ module _ (s : Shape) (none : arg_by_index s.rules 1 ≡ None) (asks : (p : Rule 
       (or_else (react_fault s.rules s.args_override_self a [] nothing_held) (next (reacted s.rules a [] nothing_held))) ≡ []) asks.0 e))
 
   -- what is wrong with an argument after its flags
-  abbrev behind : Text → Held × Outcome → Kinds
-  behind word met = step_fault s 1 (after_flag s.rules idle word met.0 met.1).0 (after_flag s.rules idle word met.0 met.1).1
+  abbrev following : Text → Held × Outcome → Kinds
+  following word met = step_fault s 1 (after_flag s.rules idle word met.0 met.1).0 (after_flag s.rules idle word met.0 met.1).1
 
   -- `-abc`
-  bundled : (k : ℕ) (flags word : Text) → or_else (flags_fault s.rules s.args_override_self k flags 0 nothing_held) (behind word (bundle_met s.rules k flags 0 plain nothing_held)) ≡ [] → ⊥
+  bundled : (k : ℕ) (flags word : Text) → or_else (flags_fault s.rules s.args_override_self k flags 0 nothing_held) (following word (bundle_met s.rules k flags 0 plain nothing_held)) ≡ [] → ⊥
   unfolding flags_fault bundle_met
   bundled zero flags word e = stray nothing_held e
   bundled (suc k) flags word e = on (slice_get (chars flags) 0) e
     where
       on : (o : Option ℕ) → or_else (bundle_step_fault s.rules s.args_override_self o flags 0 nothing_held (flags_fault s.rules s.args_override_self k))
-          (behind word (bundle_step s.rules o flags 0 plain nothing_held (bundle_met s.rules k))) ≡ [] → ⊥
+          (following word (bundle_step s.rules o flags 0 plain nothing_held (bundle_met s.rules k))) ≡ [] → ⊥
       on None e = stray nothing_held e
       on (Some x) e = short (arg_by_short s.rules x) _ _ (asks _) (first_passes _ _ e)
 

@@ -54,20 +54,20 @@ words_of_list [] ns long is = absurd (omega (arith, long))
 words_of_list (c ∷ cs) ns long is = is
 
 -- the words of a text are its first one and those after the comma
-pub first_word : (text item behind : List ℕ) → position_or_len is_comma text < length text
-    → item ≡ before_first is_comma text → behind ≡ after_first is_comma text
-    → slice_split is_comma text ≡ item ∷ slice_split is_comma behind
-first_word text item behind small is after = let parts = slice_split_first is_comma text 0 small in cc (parts, is, after)
+pub first_word : (text item following : List ℕ) → position_or_len is_comma text < length text
+    → item ≡ before_first is_comma text → following ≡ after_first is_comma text
+    → slice_split is_comma text ≡ item ∷ slice_split is_comma following
+first_word text item following small is after = let parts = slice_split_first is_comma text 0 small in cc (parts, is, after)
 
 -- a text with no comma is its one word
 pub last_word : (text : List ℕ) → position_or_len is_comma text ≡ length text → slice_split is_comma text ≡ text ∷ []
 last_word text none = slice_split_none is_comma text (λ k d small. fails_before_first is_comma text k d (omega (arith, none, small)))
 
 -- a word moves from those that are left to those that are done
-pub word_done : (all done words behind : List (List ℕ)) (item : List ℕ) → all ≡ done ++ words → words ≡ item ∷ behind
-    → all ≡ (done ++ (item ∷ [])) ++ behind
-word_done all done words behind item is first =
-    is ∙ ap (λ l. done ++ l) first ∙ sym (append_assoc done (item ∷ []) behind)
+pub word_done : (all done words following : List (List ℕ)) (item : List ℕ) → all ≡ done ++ words → words ≡ item ∷ following
+    → all ≡ (done ++ (item ∷ [])) ++ following
+word_done all done words following item is first =
+    is ∙ ap (λ l. done ++ l) first ∙ sym (append_assoc done (item ∷ []) following)
 
 -- a list in which one word is no number
 pub no_list : (inside : List ℕ) (done after : List (List ℕ)) (word : List ℕ) → 0 < length inside

@@ -58,9 +58,9 @@ IsContent gives (Bytes bytes) = (known : Option (List ℕ)) × gives known × If
 IsContent gives Unreadable = ⊤
 
 -- the files after one: none if its device failed
-abbrev pub BehindFile : Content → (rest : Type 0) → List ClassBytes → Type 0
-BehindFile (Bytes bytes) rest files = rest
-BehindFile Unreadable rest files = files ≡ []
+abbrev pub AfterFile : Content → (rest : Type 0) → List ClassBytes → Type 0
+AfterFile (Bytes bytes) rest files = rest
+AfterFile Unreadable rest files = files ≡ []
 
 -- the files of these paths are read in their order, up to the first whose device fails
 abbrev pub AreRead : (gives : List ℕ → Option (List ℕ) → Type 0) → List (String Global) → List ClassBytes → Type 0
@@ -68,7 +68,7 @@ AreRead gives [] [] = ⊤
 AreRead gives [] (file ∷ files) = ⊥
 AreRead gives (path ∷ paths) [] = ⊥
 AreRead gives (path ∷ paths) (file ∷ files) =
-    (file.path ≡ path) × IsContent (gives (string_bytes path)) file.content × BehindFile file.content (AreRead gives paths files) files
+    (file.path ≡ path) × IsContent (gives (string_bytes path)) file.content × AfterFile file.content (AreRead gives paths files) files
 
 -- what a folder tells: of a listing by the folder's path, and of the bytes of the file at a path
 pub record Telling : Type 1 where

@@ -7,14 +7,14 @@ use Rattle.space_ids.specs.declared.value.Value.{Value}
 use Rattle.space_ids.specs.declared.value.Value.TheVariants.{Null, Int, Ints, Ref}
 
 -- numbers, each after a comma
-abbrev pub behind_commas : List ℤ → List ℕ
-behind_commas [] = []
-behind_commas (n ∷ ns) = 44 ∷ (signed_decimal n ++ behind_commas ns)
+abbrev pub after_commas : List ℤ → List ℕ
+after_commas [] = []
+after_commas (n ∷ ns) = 44 ∷ (signed_decimal n ++ after_commas ns)
 
 -- numbers, with commas between them
 abbrev pub between_commas : List ℤ → List ℕ
 between_commas [] = []
-between_commas (n ∷ ns) = signed_decimal n ++ behind_commas ns
+between_commas (n ∷ ns) = signed_decimal n ++ after_commas ns
 
 -- numbers between brackets, with commas between them
 abbrev pub ints_text : List ℤ → List ℕ

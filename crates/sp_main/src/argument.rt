@@ -46,12 +46,12 @@ fn ints_of(alloc: Global, items: &str) -> Result<Option<Row<i32>>, AllocError>
         return Ok(Some(Row::new(ints)));
     }
     let mut rest = items;
-    while let Some((item, behind)) = rest.split_once(',') {
+    while let Some((item, following)) = rest.split_once(',') {
         match number_of(item) {
             Some(int) => ints.push(int)?,
             None => return Ok(None),
         }
-        rest = behind;
+        rest = following;
     }
     match number_of(rest) {
         Some(int) => ints.push(int)?,

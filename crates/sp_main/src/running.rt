@@ -123,12 +123,12 @@ fn find_method(accepted: &Accepted, class: &[u8], method: &[u8]) -> Option<Metho
 {
     let linked = accepted.linked();
     let class = linked.set().number(class)?;
-    let (name, descriptor) = method.split_at(descriptor_place(method)?);
+    let (name, descriptor) = method.split_at(descriptor_index(method)?);
     linked.declared_method(class, name, descriptor)
 }
 
 // The index of the descriptor's first byte.
-fn descriptor_place(method: &[u8]) -> Option<usize>
+fn descriptor_index(method: &[u8]) -> Option<usize>
     ensures index { result ≡ position is_parenthesis method.now }
     ensures within { IfSome result (λ index. index ≤ length method.now) }
 {

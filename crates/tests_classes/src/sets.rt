@@ -76,7 +76,7 @@ fn the_built_in_classes_stand_in_every_set(rt: HostRuntime) -> Result<(), Fail> 
 }
 
 #[test]
-fn a_file_moves_the_numbers_behind_it(rt: HostRuntime) -> Result<(), Fail> {
+fn a_file_moves_the_numbers_after_it(rt: HostRuntime) -> Result<(), Fail> {
     let set = set_of(rt.alloc(), &[(PUBLIC, "T", OBJECT, &[])])??;
     assert_eq!(rt; set.len(), 30);
     assert_eq!(rt; set.number(b"T"), Some(ClassId(0)));

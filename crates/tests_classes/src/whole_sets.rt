@@ -1,6 +1,9 @@
 //! Sets of several classes, made of the bytes of their files.
 
-use cf_reader::read_class;
+ghost use Rattle.std.specs.Prelude.{All, IfOk};
+ghost use Rattle.cf_reader.specs.WellFormed.{IsWellFormed};
+
+use cf_reader::{ClassFile, read_class};
 use class_builder::{ClassParts, FieldParts, class_bytes};
 use cls_link::{ClassId, ClassSet, FieldSlot, link};
 use std::alloc::Global;
@@ -32,6 +35,22 @@ fn bytes_of(alloc: Global, name: &str) -> Result<Vec<u8>, Fail> {
     Ok(class_bytes(alloc, &class)?)
 }
 
+// The files of three of these classes, read.
+fn three_files(
+    alloc: Global,
+    first: &str,
+    second: &str,
+    third: &str,
+) -> Result<Vec<ClassFile>, Fail>
+    ensures { IfOk result (λ files. All IsWellFormed files.items) }
+{
+    let mut files = Vec::new(alloc);
+    files.push(read_class(alloc, &bytes_of(alloc, first)?)?)?;
+    files.push(read_class(alloc, &bytes_of(alloc, second)?)?)?;
+    files.push(read_class(alloc, &bytes_of(alloc, third)?)?)?;
+    Ok(files)
+}
+
 #[test]
 fn files_in_any_order_make_one_set(rt: HostRuntime) -> Result<(), Fail> {
     let alloc = rt.alloc();
@@ -41,10 +60,7 @@ fn files_in_any_order_make_one_set(rt: HostRuntime) -> Result<(), Fail> {
         ("B", "C", "A"),
         ("C", "B", "A"),
     ] {
-        let mut files = Vec::new(alloc);
-        files.push(read_class(alloc, &bytes_of(alloc, first)?)?)?;
-        files.push(read_class(alloc, &bytes_of(alloc, second)?)?)?;
-        files.push(read_class(alloc, &bytes_of(alloc, third)?)?)?;
+        let files = three_files(alloc, first, second, third)?;
         let linked = link(alloc, ClassSet::build(alloc, files)?)?;
         let set = linked.set();
         assert_eq!(rt; set.len(), 32);

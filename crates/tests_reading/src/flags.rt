@@ -40,8 +40,8 @@ fn flags_of_fields_go_together(rt: HostRuntime) -> Result<(), Fail> {
                 attributes: &[],
             },
         )?;
-        let behind = if constant.is_some() { 20 } else { 12 };
-        let at = file.len().saturating_sub(behind);
+        let following = if constant.is_some() { 20 } else { 12 };
+        let at = file.len().saturating_sub(following);
         assert_eq!(rt;
             read_class(rt.alloc(), &file).err(),
             Some(ReadFault::Broken { rule, at })

@@ -5,7 +5,7 @@ use Rattle.std.specs.List.{AllByRecursion, list_any}
 use Rattle.std.specs.Option.{option_map_or}
 use Rattle.ver_frames.specs.Frames.{Frame}
 use Rattle.ver_frames.specs.Method.{Subject, argument_types}
-use Rattle.ver_frames.specs.StackMap.{◌>>=◌, or_broken, demand, kept, added, operands, after_items, delta, is_start, items, frame_behind, frame, frames, declared_frames, frames_of, frames_of_table, u2}
+use Rattle.ver_frames.specs.StackMap.{◌>>=◌, or_broken, demand, kept, added, operands, after_items, delta, is_start, items, frame_after, frame, frames, declared_frames, frames_of, frames_of_table, u2}
 use Rattle.ver_frames.specs.StackMapFormat.{Spelled, next_offset, declared_frame}
 use Rattle.ver_frames.specs.declared.fault.StackMapFault.{StackMapFault}
 use Rattle.ver_frames.specs.declared.fault.StackMapRule.{StackMapRule}
@@ -27,9 +27,9 @@ same_read p q e = cc
 same_frames : (p q : List (ℕ × Frame)) → ◌≡◌ {A = Result (List (ℕ × Frame)) StackMapFault} (Ok p) (Ok q) → p ≡ q
 same_frames p q e = cc
 
-behind_starts : (m : Subject) (at : ℕ) (before : List VType) (tag : ℕ) (rest : List ℕ) (read : Spelled × List ℕ) → frame_behind m at before tag rest ≡ Ok read → is_start m read.0.offset ≡ true
-unfolding frame_behind
-behind_starts m at before tag rest read e =
+after_starts : (m : Subject) (at : ℕ) (before : List VType) (tag : ℕ) (rest : List ℕ) (read : Spelled × List ℕ) → frame_after m at before tag rest ≡ Ok read → is_start m read.0.offset ≡ true
+unfolding frame_after
+after_starts m at before tag rest read e =
     let keeps = both (or_broken Chop at (kept tag (length before))) _ read e in
     let adds = both (or_broken Reserved at (added tag rest)) _ read keeps.1.1 in
     let holds : Option (ℕ × List ℕ) = option_and_then (operands tag) (after_items adds.0.0 adds.0.1) in
@@ -48,7 +48,7 @@ unfolding frame
 frame_starts m last before [] read e = absurd (cc)
 frame_starts m last before (tag ∷ rest) read e =
     let distance = both (or_broken Reserved (unwrap_or last 0) (delta tag rest)) _ read e in
-    behind_starts m (next_offset last distance.0.0) before tag distance.0.1 read distance.1.1
+    after_starts m (next_offset last distance.0.0) before tag distance.0.1 read distance.1.1
 
 abbrev Stand : Subject → List (ℕ × Frame) → Type 0
 Stand m ds = AllByRecursion (λ (d : ℕ × Frame). list_any (λ start. start == d.0) m.linked.offsets ≡ true) ds

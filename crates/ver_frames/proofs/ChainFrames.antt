@@ -9,7 +9,7 @@ use Rattle.ver_frames.specs.Chains.{FrameStands, Keeps, Stands, declared_in, spe
 use Rattle.ver_frames.specs.Frames.{Frame}
 use Rattle.ver_frames.specs.Method.{Subject}
 use Rattle.ver_frames.proofs.StackMapItems.{same_some}
-use Rattle.ver_frames.specs.StackMap.{added, after_items, frame, frame_behind, frames, is_start, items, kept, operands, with_front}
+use Rattle.ver_frames.specs.StackMap.{added, after_items, frame, frame_after, frames, is_start, items, kept, operands, with_front}
 use Rattle.ver_frames.specs.StackMapFormat.{Spelled, declared_by, declared_frame}
 use Rattle.ver_frames.specs.declared.chain.TypeChain.{TypeChain}
 use Rattle.ver_frames.specs.declared.chain.TypeNode.{TypeNode}
@@ -78,8 +78,8 @@ pub frame_read : (m : Subject) (at : ℕ) (before : List VType) (tag : ℕ) (res
     → kept tag (length before) ≡ Some keeps → added tag rest ≡ Some adds → option_and_then (operands tag) (after_items adds.0 adds.1) ≡ Some pushes
     → keeps + adds.0 ≤ m.code.max_locals → pushes.0 ≤ m.code.max_stack → is_start m at ≡ true
     → with_front (take keeps before) (items m adds.0 adds.1) ≡ Some (locals, middle) → with_front [] (items m pushes.0 pushes.1) ≡ Some (stack, end)
-    → frame_behind m at before tag rest ≡ Ok (record { offset = at; locals = locals; stack = stack }, end)
-unfolding frame_behind
+    → frame_after m at before tag rest ≡ Ok (record { offset = at; locals = locals; stack = stack }, end)
+unfolding frame_after
 frame_read m at before tag rest keeps adds pushes locals stack middle end keeps_is adds_are pushes_are few fits starts locals_read stack_read =
     let enough : nat_le (keeps + adds.0) m.code.max_locals ≡ true = grind (arith, nat_tests, few) in
     let room : nat_le pushes.0 m.code.max_stack ≡ true = grind (arith, nat_tests, fits) in

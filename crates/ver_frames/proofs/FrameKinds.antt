@@ -177,8 +177,8 @@ module _ (m : Subject) (last : Option ℕ) (before : List VType) where
       let locals = nothing p.adds p.distance.1 p.locals adds p.locals_are in
       let pushes : p.pushes ≡ (1, p.locals.1) = first_is _ p.pushes _ p.pushes_are (pushes_one tag p.locals.1 ge le) in
       let stack = single p.pushes p.locals.1 p.stack pushes p.stack_is in
-      let behind : p.locals.1 ≡ rest = locals.1 ∙ ap (λ (d : ℕ × List ℕ). d.1) distance in
-      let says : SaysType m rest stack.0 p.stack.1 = subst (λ (b : List ℕ). SaysType m b stack.0 p.stack.1) behind stack.2 in
+      let following : p.locals.1 ≡ rest = locals.1 ∙ ap (λ (d : ℕ × List ℕ). d.1) distance in
+      let says : SaysType m rest stack.0 p.stack.1 = subst (λ (b : List ℕ). SaysType m b stack.0 p.stack.1) following stack.2 in
       let tag_is : 64 + (tag - 64) ≡ tag = omega (arith, ge) in
       spells_as ((64 + (tag - 64)) ∷ rest) (tag ∷ rest) (spelled_so (next_offset last (tag - 64)) before (stack.0 ∷ []) p.stack.1) read (ap (λ (n : ℕ). n ∷ rest) tag_is)
       (so_same _ _ _ _ _ _ _ _ (ap (λ (d : ℕ × List ℕ). next_offset last d.0) (sym distance)) (kept_all p.keeps p.locals.0 keeps locals.0) (sym stack.1) refl ∙ p.read_is)

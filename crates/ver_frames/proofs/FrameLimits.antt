@@ -11,7 +11,7 @@ use Rattle.ver_frames.proofs.Fillings.{filled_long}
 use Rattle.ver_frames.specs.Frames.{Frame, filled}
 use Rattle.ver_frames.specs.Limits.{FitsMethod}
 use Rattle.ver_frames.specs.Method.{Subject, argument_types}
-use Rattle.ver_frames.specs.StackMap.{◌>>=◌, or_broken, demand, kept, added, operands, after_items, delta, is_start, items, item, frame_behind, frame, frames, declared_frames, frames_of, frames_of_table, u2}
+use Rattle.ver_frames.specs.StackMap.{◌>>=◌, or_broken, demand, kept, added, operands, after_items, delta, is_start, items, item, frame_after, frame, frames, declared_frames, frames_of, frames_of_table, u2}
 use Rattle.ver_frames.specs.StackMapFormat.{Spelled, next_offset, declared_frame}
 use Rattle.ver_frames.specs.declared.fault.StackMapFault.{StackMapFault}
 use Rattle.ver_frames.specs.declared.fault.StackMapRule.{StackMapRule}
@@ -79,9 +79,9 @@ short zero before = omega arith
 short (suc n) [] = omega arith
 short (suc n) (t ∷ before) = omega (arith, short n before)
 
-behind_fits : (m : Subject) (at : ℕ) (before : List VType) (tag : ℕ) (rest : List ℕ) (read : Spelled × List ℕ) → frame_behind m at before tag rest ≡ Ok read → Fits m at read.0
-unfolding frame_behind
-behind_fits m at before tag rest read e =
+after_fits : (m : Subject) (at : ℕ) (before : List VType) (tag : ℕ) (rest : List ℕ) (read : Spelled × List ℕ) → frame_after m at before tag rest ≡ Ok read → Fits m at read.0
+unfolding frame_after
+after_fits m at before tag rest read e =
     let keeps = both (or_broken Chop at (kept tag (length before))) _ read e in
     let adds = both (or_broken Reserved at (added tag rest)) _ read keeps.1.1 in
     let holds : Option (ℕ × List ℕ) = option_and_then (operands tag) (after_items adds.0.0 adds.0.1) in
@@ -126,7 +126,7 @@ unfolding frame
 frame_fits m last before [] read e = absurd (cc)
 frame_fits m last before (tag ∷ rest) read e =
     let distance = both (or_broken Reserved (unwrap_or last 0) (delta tag rest)) _ read e in
-    let fits = behind_fits m (next_offset last distance.0.0) before tag distance.0.1 read distance.1.1 in
+    let fits = after_fits m (next_offset last distance.0.0) before tag distance.0.1 read distance.1.1 in
     record { after = subst (λ (n : ℕ). IsAfter last n) (sym fits.offset) (after_last last distance.0.0); locals = fits.locals; stack = fits.stack }
 
 -- the declared frames rise and fit

@@ -7,7 +7,7 @@ use Rattle.std.proofs.lemmas.Bool.{eqb-true, eq-eqb}
 use Rattle.std.proofs.lemmas.Bool.Decides.{nat_tests}
 use Rattle.std.proofs.lemmas.List.{length-append, length-take-le}
 use Rattle.ver_frames.specs.Method.{Subject}
-use Rattle.ver_frames.specs.StackMap.{or_broken, demand, kept, added, operands, after_items, delta, is_start, items, frame_behind, frame}
+use Rattle.ver_frames.specs.StackMap.{or_broken, demand, kept, added, operands, after_items, delta, is_start, items, frame_after, frame}
 use Rattle.ver_frames.specs.StackMapFormat.{IsFrameOf, Spelled, next_offset}
 use Rattle.ver_frames.specs.declared.fault.StackMapRule.TheVariants.{Reserved, Chop, Locals, Offset, Kind}
 use Rattle.ver_frames.specs.declared.vtype.VType.{VType}
@@ -82,7 +82,7 @@ few_pushes most o p is e = at_most p.0 most (subst (λ (q : Option (ℕ × List 
 -- what is read of a frame has parts, and is a frame of the method
 pub frame_parts : (m : Subject) (last : Option ℕ) (before : List VType) (tag : ℕ) (rest : List ℕ) (read : Spelled × List ℕ) → frame m last before (tag ∷ rest) ≡ Ok read
     → Parts m last before tag rest read × IsFrameOf m read.0
-unfolding frame frame_behind
+unfolding frame frame_after
 frame_parts m last before tag rest read e =
     let distance = both (or_broken Reserved (unwrap_or last 0) (delta tag rest)) _ read e in
     let at : ℕ = next_offset last distance.0.0 in
@@ -134,7 +134,7 @@ frame_parts m last before tag rest read e =
 -- a frame of the method that has parts is read
 pub parts_frame : (m : Subject) (last : Option ℕ) (before : List VType) (tag : ℕ) (rest : List ℕ) (read : Spelled × List ℕ) → Parts m last before tag rest read → IsFrameOf m read.0
     → frame m last before (tag ∷ rest) ≡ Ok read
-unfolding frame frame_behind
+unfolding frame frame_after
 parts_frame m last before tag rest read p suited =
     let at : ℕ = next_offset last p.distance.0 in
     let spelled : Spelled = record { offset = at; locals = take p.keeps before ++ p.locals.0; stack = p.stack.0 } in

@@ -34,9 +34,9 @@ items_end m count i front bytes lt here =
     rw (e, here)
 
 -- if nothing is read, nothing is read with something in front either
-pub none_behind_front : (front : List VType) (read : Option (List VType × List ℕ)) → with_front front read ≡ None → read ≡ None
-none_behind_front front None h = refl
-none_behind_front front (Some found) h = cc
+pub none_after_front : (front : List VType) (read : Option (List VType × List ℕ)) → with_front front read ≡ None → read ≡ None
+none_after_front front None h = refl
+none_after_front front (Some found) h = cc
 
 -- all items are read
 pub items_done : (m : Subject) (count i : ℕ) (front : List VType) (bytes : List ℕ) → count ≤ i → with_front front (items m (count - i) bytes) ≡ Some (front, bytes)

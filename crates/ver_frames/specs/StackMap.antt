@@ -99,8 +99,8 @@ abbrev pub is_start : Subject → ℕ → Bool
 is_start m offset = list_any (λ start. start == offset) m.linked.offsets
 
 -- the frame at an offset, of this tag, after a frame with these local variables
-unfoldable pub frame_behind : Subject → ℕ → List VType → ℕ → List ℕ → Result (Spelled × List ℕ) StackMapFault
-frame_behind m at before tag rest = do
+unfoldable pub frame_after : Subject → ℕ → List VType → ℕ → List ℕ → Result (Spelled × List ℕ) StackMapFault
+frame_after m at before tag rest = do
   keeps ← or_broken Chop at (kept tag (length before))
   adds ← or_broken Reserved at (added tag rest)
   let holds = option_and_then (operands tag) (after_items adds.0 adds.1)
@@ -117,7 +117,7 @@ unfoldable pub frame : Subject → Option ℕ → List VType → List ℕ → Re
 frame m last before [] = Err (Broken Reserved (unwrap_or last 0))
 frame m last before (tag ∷ rest) = do
   distance ← or_broken Reserved (unwrap_or last 0) (delta tag rest)
-  frame_behind m (next_offset last distance.0) before tag distance.1
+  frame_after m (next_offset last distance.0) before tag distance.1
 
 -- n frames, each with its offset, and no byte after them
 unfoldable pub frames : Subject → ℕ → Option ℕ → List VType → List ℕ → Result (List (ℕ × Frame)) StackMapFault

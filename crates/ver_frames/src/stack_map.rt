@@ -9,7 +9,7 @@ ghost use Rattle.ver_frames.specs.Gives.{Gives};
 ghost use Rattle.ver_frames.specs.Limits.{FitsMethod};
 ghost use Rattle.ver_frames.specs.Method.{argument_types};
 ghost use Rattle.ver_frames.specs.declared.fault.StackMapFault.TheVariants.{Broken};
-ghost use Rattle.ver_frames.specs.StackMap.{declared_frames, frame, frame_behind, frames, frames_of_table, is_start};
+ghost use Rattle.ver_frames.specs.StackMap.{declared_frames, frame, frame_after, frames, frames_of_table, is_start};
 ghost use Rattle.ver_frames.specs.StackMapFormat.{DeclaresFrames};
 
 use super::chain::{TypeChain, TypeNodes};
@@ -50,8 +50,8 @@ fn start_at(method: &MethodView, at: usize) -> Option<u16>
 }
 
 // The frame at an offset, of this tag, after a frame with these local variables.
-#[tactic(auto, using(crate::proofs::Chains::keeps_all), unfolding(crate::specs::StackMap::frame_behind))]
-fn frame_behind<'a>(
+#[tactic(auto, using(crate::proofs::Chains::keeps_all), unfolding(crate::specs::StackMap::frame_after))]
+fn frame_after<'a>(
     nodes: &mut TypeNodes,
     method: &MethodView,
     at: usize,
@@ -61,7 +61,7 @@ fn frame_behind<'a>(
 ) -> Result<(RawFrame, &'a [u8]), StackMapFault>
     requires rising { IsStrictlyIncreasing method.now.linked.offsets }
     requires stands { Stands nodes.old before }
-    ensures gives { Gives (λ x. (spelled_in nodes.new x.0, x.1.now)) result (frame_behind method.now at (types_of nodes.old before) tag rest.now) }
+    ensures gives { Gives (λ x. (spelled_in nodes.new x.0, x.1.now)) result (frame_after method.now at (types_of nodes.old before) tag rest.now) }
     ensures stands { IfOk result (λ x. FrameStands nodes.new x.0) }
     ensures kept { Keeps nodes.old nodes.new }
 {
@@ -129,7 +129,7 @@ fn frame<'a>(
         None => usize::from(distance),
         Some(last) => usize::from(last) + usize::from(distance) + 1,
     };
-    frame_behind(nodes, method, at, before, *tag, rest)
+    frame_after(nodes, method, at, before, *tag, rest)
 }
 
 // The types of a method's arguments, which stand in the nodes then.

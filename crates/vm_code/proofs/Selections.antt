@@ -33,8 +33,8 @@ module _ (classes : List Class) where
   first_of_one : (d c : ClassId) (rest : List ClassId) → ◌≡◌ {A = List ClassId} (d ∷ rest) (c ∷ []) → d ≡ c
   first_of_one d c rest e = cc
 
-  none_behind : (d c : ClassId) (rest : List ClassId) → ◌≡◌ {A = List ClassId} (d ∷ rest) (c ∷ []) → rest ≡ []
-  none_behind d c rest e = cc
+  none_after : (d c : ClassId) (rest : List ClassId) → ◌≡◌ {A = List ClassId} (d ∷ rest) (c ∷ []) → rest ≡ []
+  none_after d c rest e = cc
 
   above_one : (d c : ClassId) (rest : List ClassId) → d ≡ c → rest ≡ [] → (superclass_of classes d ++ rest) ≡ option_to_list (superclass_at classes c)
   above_one d c rest same none =
@@ -64,7 +64,7 @@ module _ (classes : List Class) where
     at_first n go c low (searches.Finds.further d rest answer is finds) e =
         let same = first_of_one d c rest e in
         ap (λ o. or_else o (option_and_then (λ up. first_up n classes own up) (superclass_at classes c))) (subst (λ b. own b ≡ None) same is)
-        ∙ on_up n c go low (superclass_at classes c) refl answer (superclass_of classes d ++ rest) (above_one d c rest same (none_behind d c rest e)) finds
+        ∙ on_up n c go low (superclass_at classes c) refl answer (superclass_of classes d ++ rest) (above_one d c rest same (none_after d c rest e)) finds
 
     first_found : (n : ℕ) → Answers n
     unfolding first_up

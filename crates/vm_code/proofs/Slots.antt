@@ -13,29 +13,29 @@ use Rattle.space_ids.specs.declared.ids.ClassId.{ClassId}
 use Rattle.cls_link.specs.Fields as fields
 use Rattle.cls_link.specs.Fields.{is_instance, instance_fields, HasFields, IsFieldSlot}
 use Rattle.cls_link.specs.declared.linked_code.FieldSlot.{FieldSlot}
-use Rattle.vm_code.specs.Fields.{fields_up, is_place, index_of, slot_of}
+use Rattle.vm_code.specs.Fields.{fields_up, is_field_index, index_of, slot_of}
 
 -- no field among some is this one
 abbrev IsAmongNone : FieldIndex → List FieldIndex → Type 0
 IsAmongNone field [] = Unit {0}
-IsAmongNone field (f ∷ fs) = (is_place field f ≡ false) × IsAmongNone field fs
+IsAmongNone field (f ∷ fs) = (is_field_index field f ≡ false) × IsAmongNone field fs
 
 -- after others that are not it, its index is counted on
-index_behind : (field : FieldIndex) (k : ℕ) (fs gs : List FieldIndex) → IsAmongNone field fs → index_of field k (fs ++ gs) ≡ index_of field (k + length fs) gs
-index_behind field k [] gs none = ap (λ n. index_of field n gs) (omega arith)
-index_behind field k (f ∷ fs) gs none =
-    rw (none.0) (index_behind field (suc k) fs gs none.1 ∙ ap (λ n. index_of field n gs) (omega arith))
+index_following : (field : FieldIndex) (k : ℕ) (fs gs : List FieldIndex) → IsAmongNone field fs → index_of field k (fs ++ gs) ≡ index_of field (k + length fs) gs
+index_following field k [] gs none = ap (λ n. index_of field n gs) (omega arith)
+index_following field k (f ∷ fs) gs none =
+    rw (none.0) (index_following field (suc k) fs gs none.1 ∙ ap (λ n. index_of field n gs) (omega arith))
 
-same_place : (f g : FieldIndex) → f ≡ g → is_place f g ≡ true
-same_place f g e = rw (eq-eqb f.class.0 g.class.0 (ap (λ (p : FieldIndex). p.class.0) e), eq-eqb f.index g.index (ap (λ (p : FieldIndex). p.index) e)) refl
+same_field_index : (f g : FieldIndex) → f ≡ g → is_field_index f g ≡ true
+same_field_index f g e = rw (eq-eqb f.class.0 g.class.0 (ap (λ (p : FieldIndex). p.class.0) e), eq-eqb f.index g.index (ap (λ (p : FieldIndex). p.index) e)) refl
 
 -- it stands after others that are not it
-found_behind : (field : FieldIndex) (xs ys : List FieldIndex) (s : ℕ) → IsAmongNone field xs → slice_get (xs ++ ys) s ≡ Some field
+found_after : (field : FieldIndex) (xs ys : List FieldIndex) (s : ℕ) → IsAmongNone field xs → slice_get (xs ++ ys) s ≡ Some field
     → (i : ℕ) × (s ≡ length xs + i) × (slice_get ys i ≡ Some field)
-found_behind field [] ys s none e = (s, omega arith, e)
-found_behind field (x ∷ xs) ys zero none e = absurd (true_false (sym (same_place field x (sym (same_some e))) ∙ none.0))
-found_behind field (x ∷ xs) ys (suc s) none e =
-    let r = found_behind field xs ys s none.1 e in
+found_after field [] ys s none e = (s, omega arith, e)
+found_after field (x ∷ xs) ys zero none e = absurd (true_false (sym (same_field_index field x (sym (same_some e))) ∙ none.0))
+found_after field (x ∷ xs) ys (suc s) none e =
+    let r = found_after field xs ys s none.1 e in
     let later = r.1 in
     (r.0, omega (arith, later), r.2)
 
@@ -63,21 +63,21 @@ module _ (field : FieldIndex) (class : ClassId) where
   chosen k rest b = if b then record { class = class; index = k } ∷ rest else rest
 
   -- the indices of the fields of a class rise
-  place_at : (k : ℕ) (rest : List FieldIndex) → ((i : ℕ) → slice_get rest i ≡ Some field → suc k ≤ field.index) → (b : Bool) (i : ℕ)
+  field_index_at : (k : ℕ) (rest : List FieldIndex) → ((i : ℕ) → slice_get rest i ≡ Some field → suc k ≤ field.index) → (b : Bool) (i : ℕ)
       → slice_get (chosen k rest b) i ≡ Some field → k ≤ field.index
-  place_at k rest go true zero e = let same = ap (λ (p : FieldIndex). p.index) (same_some e) in omega (arith, same)
-  place_at k rest go true (suc i) e = let later = go i e in omega (arith, later)
-  place_at k rest go false i e = let later = go i e in omega (arith, later)
+  field_index_at k rest go true zero e = let same = ap (λ (p : FieldIndex). p.index) (same_some e) in omega (arith, same)
+  field_index_at k rest go true (suc i) e = let later = go i e in omega (arith, later)
+  field_index_at k rest go false i e = let later = go i e in omega (arith, later)
 
   first_from : (k : ℕ) (fs : List Field) (i : ℕ) → slice_get (instance_fields class k fs) i ≡ Some field → k ≤ field.index
   first_from k [] i e = absurd (none_some e)
-  first_from k (f ∷ fs) i e = place_at k (instance_fields class (suc k) fs) (first_from (suc k) fs) (is_instance f) i e
+  first_from k (f ∷ fs) i e = field_index_at k (instance_fields class (suc k) fs) (first_from (suc k) fs) (is_instance f) i e
 
   index_at : (k j : ℕ) (rest : List FieldIndex) → ((i : ℕ) → slice_get rest i ≡ Some field → suc k ≤ field.index)
       → ((j i : ℕ) → slice_get rest i ≡ Some field → index_of field j rest ≡ Some (j + i)) → (b : Bool) (i : ℕ) → slice_get (chosen k rest b) i ≡ Some field
       → index_of field j (chosen k rest b) ≡ Some (j + i)
   index_at k j rest far go true zero e =
-      rw (same_place field (record { class = class; index = k }) (sym (same_some e))) (ap (λ n. Some n) (omega arith))
+      rw (same_field_index field (record { class = class; index = k }) (sym (same_some e))) (ap (λ n. Some n) (omega arith))
   index_at k j rest far go true (suc i) e =
       let later = far i e in
       rw (and_false (nat_eq field.class.0 class.0) (nat_eq field.index k) (differs field.index k (λ same. omega (arith, later, same))))
@@ -131,9 +131,9 @@ module _ (classes : List Class) (rank : ClassId → ℕ) (ranking : IsRanking cl
   index_is field slot same (fields.HasFields.of_subclass class s c inherited at up has) there =
       let none = inherited_none field (subst (λ (d : ClassId). rank s < rank d) same (lower class s c at up)) has in
       let own = instance_fields class 0 c.file.fields in
-      let r = found_behind field inherited own slot none there in
+      let r = found_after field inherited own slot none there in
       let far = r.1 in
-      index_behind field 0 inherited own none
+      index_following field 0 inherited own none
       ∙ (own_index field class 0 (0 + length inherited) c.file.fields r.0 r.2 ∙ ap (λ n. Some n) (omega (arith, far)))
 
 is_false : (b : Bool) → ¬ IsTrue b → b ≡ false

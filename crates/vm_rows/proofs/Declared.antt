@@ -14,9 +14,9 @@ use Rattle.cls_set.specs.declared.class.Class.{Class}
 use Rattle.space_ids.specs.declared.ids.ClassId.{ClassId}
 use Rattle.vm_world.proofs.Subjects.{passes_both}
 
-pub behind : {X : Type 0} (xs ys : List X) (j : ℕ) → slice_get (xs ++ ys) (length xs + j) ≡ slice_get ys j
-behind [] ys j = ap (slice_get ys) (zero-add j)
-behind (x ∷ xs) ys j = ap (slice_get (x ∷ (xs ++ ys))) (moved (length xs) j) ∙ behind xs ys j
+pub following : {X : Type 0} (xs ys : List X) (j : ℕ) → slice_get (xs ++ ys) (length xs + j) ≡ slice_get ys j
+following [] ys j = ap (slice_get ys) (zero-add j)
+following (x ∷ xs) ys j = ap (slice_get (x ∷ (xs ++ ys))) (moved (length xs) j) ∙ following xs ys j
   where
     moved : (n j : ℕ) → suc n + j ≡ suc (n + j)
     moved n j = omega arith
@@ -62,7 +62,7 @@ from_class k (x ∷ cs) (suc n) i c m at here =
     record {
       d = r.d;
       there = ap (λ j. slice_get (own ++ declared_from (suc k) cs) j) (ap (λ j. j + i) (length-append own rest) ∙ added (length own) (length rest) i)
-          ∙ (behind own (declared_from (suc k) cs) (length rest + i) ∙ r.there);
+          ∙ (following own (declared_from (suc k) cs) (length rest + i) ∙ r.there);
       class = r.class ∙ moved k n;
       method = r.method;
     }

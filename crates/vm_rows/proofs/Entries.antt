@@ -4,7 +4,7 @@ use Rattle.std.specs.Prelude.{if◌then◌else◌, nat_le, option_map, slice_get
 use Rattle.std.proofs.lemmas.Option.{slice_get_within, get_or_from_slice_get}
 use Rattle.cf_reader.specs.declared.class_file.Code.{Code}
 use Rattle.cf_reader.specs.declared.class_file.Method.{Method}
-use Rattle.cls_link.proofs.Places.{at_number}
+use Rattle.cls_link.proofs.DeclaredIndexes.{at_number}
 use Rattle.cls_link.specs.Links.{Links, AreLinks, Declared, IsLinked, IsLinkedCode, declared_methods, method_at}
 use Rattle.cls_link.specs.declared.linked_code.LinkedCode.{LinkedCode}
 use Rattle.cls_link.specs.declared.linked_code.LinkedMethod.{LinkedMethod}

@@ -101,18 +101,18 @@ module _ (w : World) (cells : List Cell) where
   null_fits classes kind false is some = elim some [ inl remote ↦ remote_fits classes kind remote | inr never ↦ absurd (cc) ]
 
   -- an argument fits the type of its parameter, where its copy comes next
-  value_fits : (classes : List Class) (kind : FieldType) (v : Value) (before behind : List Cell) → crosses classes kind ≡ true → is_of_type kind v ≡ true
-      → cells ≡ before ++ (copy_of v ++ behind) → Fits w cells no_marks (field_vtype classes kind) (passed_at (all_cost before) v)
-  value_fits classes kind value.Null before behind cross is are = by (is_int_type kind) refl is (is_array_type kind) refl cross
+  value_fits : (classes : List Class) (kind : FieldType) (v : Value) (before following : List Cell) → crosses classes kind ≡ true → is_of_type kind v ≡ true
+      → cells ≡ before ++ (copy_of v ++ following) → Fits w cells no_marks (field_vtype classes kind) (passed_at (all_cost before) v)
+  value_fits classes kind value.Null before following cross is are = by (is_int_type kind) refl is (is_array_type kind) refl cross
     where
       by : (b : Bool) → is_int_type kind ≡ b → not b ≡ true → (c : Bool) → is_array_type kind ≡ c → (b || (c || is_remote_type classes kind)) ≡ true → Fits w cells no_marks (field_vtype classes kind) Null
       by true int other c array cross = absurd (cc)
       by false int other true array cross = null_fits classes kind true array (inr refl)
       by false int other false array cross = null_fits classes kind false array (inl cross)
-  value_fits classes kind (value.Int n) before behind cross is are = rw (int_vtype classes kind is) tt
-  value_fits classes kind (value.Ints elements) before behind cross is are =
-      rw (array_vtype classes kind is) (subst (There IsInts) (sym (ap (λ cs. cell_at cs (all_cost before)) are ∙ cell_between before (Ints elements) behind)) tt)
-  value_fits classes kind (value.Ref reference) before behind cross is are = absurd (cc)
+  value_fits classes kind (value.Int n) before following cross is are = rw (int_vtype classes kind is) tt
+  value_fits classes kind (value.Ints elements) before following cross is are =
+      rw (array_vtype classes kind is) (subst (There IsInts) (sym (ap (λ cs. cell_at cs (all_cost before)) are ∙ cell_between before (Ints elements) following)) tt)
+  value_fits classes kind (value.Ref reference) before following cross is are = absurd (cc)
 
   all_fit : (classes : List Class) (kinds : List FieldType) (values : List Value) (before : List Cell) → list_all (crosses classes) kinds ≡ true → fill kinds values ≡ true
       → cells ≡ before ++ copies values → AllFit w cells no_marks (map (field_vtype classes) kinds) (passed_from (all_cost before) values)

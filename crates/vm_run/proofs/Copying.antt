@@ -27,26 +27,26 @@ changed_new change (c ∷ cs) new = at_first (changed_new change cs new) (nat_eq
     at_first go true eq = let none : cost c + all_cost cs ≡ 0 = eqb-true (cost c + all_cost cs) 0 eq in absurd (omega (arith, cost_some c))
     at_first go false eq = let same : cost c + all_cost cs - cost c ≡ all_cost cs = omega arith in rw same (ap (λ (rest : List Cell). c ∷ rest) go)
 
--- and a cell with others behind it stands at its address
-pub cell_between : (before : List Cell) (cell : Cell) (behind : List Cell) → cell_at (before ++ cell ∷ behind) (all_cost before) ≡ Some cell
+-- and a cell with others after it stands at its address
+pub cell_between : (before : List Cell) (cell : Cell) (following : List Cell) → cell_at (before ++ cell ∷ following) (all_cost before) ≡ Some cell
 unfolding cell_at all_cost
-cell_between [] cell behind = refl
-cell_between (c ∷ cs) cell behind = at_first (cell_between cs cell behind) (nat_eq (cost c + all_cost cs) 0) refl
+cell_between [] cell following = refl
+cell_between (c ∷ cs) cell following = at_first (cell_between cs cell following) (nat_eq (cost c + all_cost cs) 0) refl
   where
-    at_next : cell_at (cs ++ cell ∷ behind) (all_cost cs) ≡ Some cell → (b : Bool) → nat_lt (cost c + all_cost cs) (cost c) ≡ b
-        → (if b then None else cell_at (cs ++ cell ∷ behind) (cost c + all_cost cs - cost c)) ≡ Some cell
+    at_next : cell_at (cs ++ cell ∷ following) (all_cost cs) ≡ Some cell → (b : Bool) → nat_lt (cost c + all_cost cs) (cost c) ≡ b
+        → (if b then None else cell_at (cs ++ cell ∷ following) (cost c + all_cost cs - cost c)) ≡ Some cell
     at_next go true lt = let less : cost c + all_cost cs < cost c = ltb-true (cost c + all_cost cs) (cost c) lt in absurd (omega arith)
     at_next go false lt = let same : cost c + all_cost cs - cost c ≡ all_cost cs = omega arith in rw same go
 
-    at_first : cell_at (cs ++ cell ∷ behind) (all_cost cs) ≡ Some cell → (b : Bool) → nat_eq (cost c + all_cost cs) 0 ≡ b
-        → (if b then Some c else (if nat_lt (cost c + all_cost cs) (cost c) then None else cell_at (cs ++ cell ∷ behind) (cost c + all_cost cs - cost c))) ≡ Some cell
+    at_first : cell_at (cs ++ cell ∷ following) (all_cost cs) ≡ Some cell → (b : Bool) → nat_eq (cost c + all_cost cs) 0 ≡ b
+        → (if b then Some c else (if nat_lt (cost c + all_cost cs) (cost c) then None else cell_at (cs ++ cell ∷ following) (cost c + all_cost cs - cost c))) ≡ Some cell
     at_first go true eq = let none : cost c + all_cost cs ≡ 0 = eqb-true (cost c + all_cost cs) 0 eq in absurd (omega (arith, cost_some c))
     at_first go false eq = at_next go (nat_lt (cost c + all_cost cs) (cost c)) refl
 
-pub all_cost-append : (before behind : List Cell) → all_cost (before ++ behind) ≡ all_cost before + all_cost behind
+pub all_cost-append : (before following : List Cell) → all_cost (before ++ following) ≡ all_cost before + all_cost following
 unfolding all_cost
-all_cost-append [] behind = let e : 0 + all_cost behind ≡ all_cost behind = omega arith in sym e
-all_cost-append (c ∷ cs) behind = let so : all_cost (cs ++ behind) ≡ all_cost cs + all_cost behind = all_cost-append cs behind in rw so (omega arith)
+all_cost-append [] following = let e : 0 + all_cost following ≡ all_cost following = omega arith in sym e
+all_cost-append (c ∷ cs) following = let so : all_cost (cs ++ following) ≡ all_cost cs + all_cost following = all_cost-append cs following in rw so (omega arith)
 
 -- the elements that are written so far, and zeros
 abbrev pub mixed : ℕ → List ℤ → List ℤ → List ℤ

@@ -38,7 +38,7 @@ copied_within (a ∷ arguments) (suc index) =
     let other = all_cost-append (copy_of a) (copies arguments) in
     omega (arith, rest, one, other)
 
--- the variable behind those that hold the arguments so far gets the next one
+-- the variable after those that hold the arguments so far gets the next one
 passed_suc : (address : ℕ) (arguments : List Value) (locals : List Tagged) (index : ℕ) (v d : Value) → v ≡ get_or arguments index d → index < length arguments → index < length locals
     → set (passed_from address (take index arguments) ++ drop index locals) index (passed_at (address + all_cost (copies (take index arguments))) v)
     ≡ passed_from address (take (suc index) arguments) ++ drop (suc index) locals

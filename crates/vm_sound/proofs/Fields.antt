@@ -19,27 +19,27 @@ use Rattle.cls_set.proofs.Hierarchy.{by_contradiction, none_some, same_some, tru
 use Rattle.cls_set.specs.declared.class.Class.{Class}
 use Rattle.space_ids.specs.declared.ids.ClassId.{ClassId}
 use Rattle.ver_frames.specs.Types.{field_vtype}
-use Rattle.vm_code.specs.Fields.{fields_of, fields_up, index_of, is_place, slot_of}
+use Rattle.vm_code.specs.Fields.{fields_of, fields_up, index_of, is_field_index, slot_of}
 use Rattle.vm_typing.specs.Owed.{Owed}
 use Rattle.vm_typing.specs.World.{World}
 use Rattle.vm_world.proofs.LookUps.{kept_at}
 use Rattle.vm_world.proofs.Subjects.{passes_both}
 use Rattle.vm_world.specs.Files.{AreAsRead, types_of}
-use Rattle.vm_rows.proofs.Declared.{behind}
+use Rattle.vm_rows.proofs.Declared.{following}
 use Rattle.vm_rows.proofs.Sets.{number_known}
 use Rattle.vm_rows.specs.Rows.{NamesField}
 use Rattle.vm_sound.proofs.Searches.{found_above}
 
 -- ---- slots
 
-same_place : (f g : FieldIndex) → f ≡ g → is_place f g ≡ true
-same_place f g e = rw (eq-eqb f.class.0 g.class.0 (ap (λ (p : FieldIndex). p.class.0) e), eq-eqb f.index g.index (ap (λ (p : FieldIndex). p.index) e)) refl
+same_field_index : (f g : FieldIndex) → f ≡ g → is_field_index f g ≡ true
+same_field_index f g e = rw (eq-eqb f.class.0 g.class.0 (ap (λ (p : FieldIndex). p.class.0) e), eq-eqb f.index g.index (ap (λ (p : FieldIndex). p.index) e)) refl
 
 -- a field that stands among others has an index there
 index_there : (field : FieldIndex) (k : ℕ) (fs : List FieldIndex) (i : ℕ) → slice_get fs i ≡ Some field → (slot : ℕ) × (index_of field k fs ≡ Some slot)
 index_there field k [] i e = absurd (none_some e)
-index_there field k (f ∷ fs) zero e = (k, rw (same_place field f (sym (same_some e))) refl)
-index_there field k (f ∷ fs) (suc i) e = on (is_place field f) (index_there field (suc k) fs i e)
+index_there field k (f ∷ fs) zero e = (k, rw (same_field_index field f (sym (same_some e))) refl)
+index_there field k (f ∷ fs) (suc i) e = on (is_field_index field f) (index_there field (suc k) fs i e)
   where
     on : (b : Bool) → (slot : ℕ) × (index_of field (suc k) fs ≡ Some slot) → (slot : ℕ) × ((if b then Some k else index_of field (suc k) fs) ≡ Some slot)
     on true go = (k, refl)
@@ -69,7 +69,7 @@ among_fields classes field c f at there is =
     let above = option_map_or (fields_up (length classes) classes) c.superclass [] in
     let own = instance_fields field.class 0 c.file.fields in
     let r = instance_there field.class 0 c.file.fields field.index f there is in
-    (length above + r.0, rw at (behind above own r.0 ∙ (r.1 ∙ ap (λ (n : ℕ). Some (record { class = field.class; index = n })) (zero-add field.index))))
+    (length above + r.0, rw at (following above own r.0 ∙ (r.1 ∙ ap (λ (n : ℕ). Some (record { class = field.class; index = n })) (zero-add field.index))))
 
 -- an instance field has a slot
 pub slot_there : (classes : List Class) (field : FieldIndex) (f : Field) → field_at classes field ≡ Some f → is_instance f ≡ true → (slot : ℕ) × (slot_of classes field ≡ Some slot)

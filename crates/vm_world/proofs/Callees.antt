@@ -6,7 +6,7 @@ use Rattle.std.proofs.lemmas.List.{length-map}
 use Rattle.std.proofs.lemmas.Option.{get_or_from_slice_get, slice_get_within}
 use Rattle.cf_reader.specs.declared.class_file.Code.{Code}
 use Rattle.cf_reader.specs.declared.class_file.Method.{Method}
-use Rattle.cls_link.proofs.Places.{at_number}
+use Rattle.cls_link.proofs.DeclaredIndexes.{at_number}
 use Rattle.cls_link.specs.Links.{Links, AreLinks, Declared, IsLinked, IsLinkedCode, declared_methods, method_at}
 use Rattle.cls_link.specs.declared.linked_code.LinkedCode.{LinkedCode}
 use Rattle.cls_link.specs.declared.linked_code.LinkedMethod.{LinkedMethod}

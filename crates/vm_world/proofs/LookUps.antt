@@ -23,7 +23,7 @@ use Rattle.vm_heap.specs.declared.heap.WordKind.{WordKind}
 use Rattle.vm_heap.specs.declared.heap.WordKind.TheVariants as kind
 use Rattle.vm_typing.specs.Owed.{HasKind}
 use Rattle.vm_typing.specs.World.{IsPlain, ArePlain}
-use Rattle.vm_code.specs.Fields.{element_kind, fields_up, fields_of, index_of, is_place, kind_of, kinds_of, kinds_up, own_kinds, slot_of}
+use Rattle.vm_code.specs.Fields.{element_kind, fields_up, fields_of, index_of, is_field_index, kind_of, kinds_of, kinds_up, own_kinds, slot_of}
 use Rattle.vm_world.specs.Files.{own_types, types_of, types_up, AreAsRead}
 
 module _ (classes : List Class) where
@@ -157,8 +157,8 @@ module _ (classes : List Class) where
   both_true true b e = (refl, e)
   both_true false b e = absurd (true_false (sym e))
 
-  same_place : (f g : FieldIndex) → is_place f g ≡ true → f ≡ g
-  same_place f g e =
+  same_field_index : (f g : FieldIndex) → is_field_index f g ≡ true → f ≡ g
+  same_field_index f g e =
       let both = both_true (nat_eq f.class.0 g.class.0) (nat_eq f.index g.index) e in
       let class = equal f.class g.class both.0 in
       let index = eqb-true f.index g.index both.1 in
@@ -166,11 +166,11 @@ module _ (classes : List Class) where
 
   found_at : (field : FieldIndex) (fs : List FieldIndex) (k slot : ℕ) → index_of field k fs ≡ Some slot → (i : ℕ) × (slot ≡ k + i) × (slice_get fs i ≡ Some field)
   found_at field [] k slot e = absurd (none_some e)
-  found_at field (f ∷ fs) k slot e = on (is_place field f) refl (found_at field fs (suc k) slot) e
+  found_at field (f ∷ fs) k slot e = on (is_field_index field f) refl (found_at field fs (suc k) slot) e
     where
-      on : (b : Bool) → is_place field f ≡ b → (index_of field (suc k) fs ≡ Some slot → (i : ℕ) × (slot ≡ suc k + i) × (slice_get fs i ≡ Some field))
+      on : (b : Bool) → is_field_index field f ≡ b → (index_of field (suc k) fs ≡ Some slot → (i : ℕ) × (slot ≡ suc k + i) × (slice_get fs i ≡ Some field))
           → (if b then Some k else index_of field (suc k) fs) ≡ Some slot → (i : ℕ) × (slot ≡ k + i) × (slice_get (f ∷ fs) i ≡ Some field)
-      on true is go e = let here = same_some e in (0, omega (arith, here), ap (λ (p : FieldIndex). Some p) (sym (same_place field f is)))
+      on true is go e = let here = same_some e in (0, omega (arith, here), ap (λ (p : FieldIndex). Some p) (sym (same_field_index field f is)))
       on false is go e = let r = go e in let later = r.1 in (suc r.0, omega (arith, later), r.2)
 
   pub kept_at : (field : FieldIndex) (f : Field) (slot : ℕ) → field_at classes field ≡ Some f → slot_of classes field ≡ Some slot

@@ -13,14 +13,14 @@ lay-requires t c =
     let up = superclass_above c.args.set.now c.requires.set c.args.class c.in-Some-superclass.superclass c.class-entry.result.now c.class-entry.ensures c.in-Some-superclass.is in
     (omega (arith, up.lower, c.decreases), (c.requires.set, (up.in_set, c.requires.laid)))
 
-pub lay_behind-requires-clause-holds : goal.lay_behind-requires-clause-holds
-lay_behind-requires-clause-holds t c =
+pub lay_after-requires-clause-holds : goal.lay_after-requires-clause-holds
+lay_after-requires-clause-holds t c =
     let above = c.in_ok-above-in-Some-superclass.above in
     holds_below c.args.set.now c.args.class c.in-Some-superclass.superclass c.class-entry.result.now (part c.lay.new.row.items above.start above.end) c.class-entry.ensures c.in-Some-superclass.is
     c.in_ok-above-in-Some-superclass.ensures.span.holds
 
-pub lay_behind-requires-in-None-clause-holds : goal.lay_behind-requires-in-None-clause-holds
-lay_behind-requires-in-None-clause-holds t c =
+pub lay_after-requires-in-None-clause-holds : goal.lay_after-requires-in-None-clause-holds
+lay_after-requires-in-None-clause-holds t c =
     let row = c.args.row.now.items in
     holds_root c.args.set.now c.args.class c.class-entry.result.now (part row c.len.result c.len-in-None.result) c.class-entry.ensures c.in-None.is
     (nothing_between row c.len.result c.len-in-None.result (c.len-in-None.ensures ∙ sym c.len.ensures))

@@ -7,15 +7,15 @@ use Rattle.sp_main.proofs.argument.ints_of.Goals as goal
 pub returns-in-None : goal.returns-in-None
 returns-in-None c =
     let kept = c.loop-item.invariant.1 in
-    let cut = split_once_first 44 c.loop-item.rest.now (Some (c.in-Some.item, c.in-Some.behind)) c.in-Some.ensures.cases (lit< tt) in
-    let first = first_word _ c.in-Some.item.now c.in-Some.behind.now cut.0 cut.1 cut.2 in
+    let cut = split_once_first 44 c.loop-item.rest.now (Some (c.in-Some.item, c.in-Some.following)) c.in-Some.ensures.cases (lit< tt) in
+    let first = first_word _ c.in-Some.item.now c.in-Some.following.now cut.0 cut.1 cut.2 in
     no_list c.args.items.now kept.0 _ _ (nonempty _ _ c.is_empty.ensures c.if-is_empty.false) (kept.1 ∙ ap (λ l. kept.0 ++ l) first) c.in-None.ensures
 
 pub loop-item-preserved : goal.loop-item-preserved
 loop-item-preserved c =
     let kept = c.loop-item.invariant.1 in
-    let cut = split_once_first 44 c.loop-item.rest.now (Some (c.in-Some.item, c.in-Some.behind)) c.in-Some.ensures.cases (lit< tt) in
-    let first = first_word _ c.in-Some.item.now c.in-Some.behind.now cut.0 cut.1 cut.2 in
+    let cut = split_once_first 44 c.loop-item.rest.now (Some (c.in-Some.item, c.in-Some.following)) c.in-Some.ensures.cases (lit< tt) in
+    let first = first_word _ c.in-Some.item.now c.in-Some.following.now cut.0 cut.1 cut.2 in
     let number = c.in-Some-number_of.ensures in
     let now = pushed _ _ c.in-Some.item.now _ number c.in_ok-push-in-Some-number_of.ensures.items in
     let are = more_numbers kept.0 _ c.in-Some.item.now _ kept.2 number in (

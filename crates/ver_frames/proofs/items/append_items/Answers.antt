@@ -2,7 +2,7 @@ use Rattle.std.proofs.Common.{sym, ◌∙◌, ◌≡◌, ◌-◌, refl, ap, arit
 use Rattle.ver_frames.specs.Chains.{types_of}
 use Rattle.ver_frames.specs.StackMap.{items, with_front}
 use Rattle.ver_frames.proofs.Chains.{keeps_all, keeps_on}
-use Rattle.ver_frames.proofs.Loops.{items_left, items_end, items_done, none_behind_front}
+use Rattle.ver_frames.proofs.Loops.{items_left, items_end, items_done, none_after_front}
 use Rattle.ver_frames.proofs.items.append_items.Goals as goal
 
 pub loop-init : goal.loop-init
@@ -17,7 +17,7 @@ loop-init c =
 
 pub returns-in_default-clause-items : goal.returns-in_default-clause-items
 returns-in_default-clause-items c =
-    none_behind_front (types_of c.args.nodes.now c.args.chain) (items c.args.method.now c.args.count c.args.bytes.now)
+    none_after_front (types_of c.args.nodes.now c.args.chain) (items c.args.method.now c.args.count c.args.bytes.now)
     (sym c.loop.invariant.read ∙ items_end c.args.method.now c.args.count c.loop.counter (types_of c.loop.nodes c.loop.longer) c.loop.rest.now c.loop-test.true c.in_default.ensures)
 
 pub returns-in_err-longer-clause-kept : goal.returns-in_err-longer-clause-kept

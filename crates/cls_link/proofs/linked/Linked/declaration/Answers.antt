@@ -4,7 +4,7 @@ use Rattle.cls_set.proofs.Hierarchy.{same_some}
 use Rattle.cls_set.specs.declared.class.Class.{Class}
 use Rattle.cls_link.specs.Links.{Links, declared_methods, method_at}
 use Rattle.cls_link.proofs.MethodNumbers.{zip_length}
-use Rattle.cls_link.proofs.Places.{at_number}
+use Rattle.cls_link.proofs.DeclaredIndexes.{at_number}
 use Rattle.cls_link.proofs.linked.Linked.declaration.Goals as goal
 
 pub class-class-requires : goal.class-class-requires

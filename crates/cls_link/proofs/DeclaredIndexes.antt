@@ -13,7 +13,7 @@ use Rattle.cls_link.specs.Links.{Declared, IsLinked, declared_in, declared_from,
 
 -- its class is one of these, the first of which has the number k, and it stands at its index there
 pub record IsPlaced (k : ℕ) (cs : List Class) (d : Declared) : Type 0 where
-  pub behind : k ≤ d.class.0
+  pub following : k ≤ d.class.0
   pub at : IsSomeAnd (slice_get cs (d.class.0 - k)) (λ c. slice_get c.file.methods d.index ≡ Some d.method)
 
 zero_from : (k : ℕ) → k - k ≡ 0
@@ -42,7 +42,7 @@ placed_in k c cs p [] e = All-nil (IsPlaced k (c ∷ cs))
 placed_in k c cs p (m ∷ ms) e =
     All-cons (IsPlaced k (c ∷ cs)) (record { class = record { 0 = k }; class_name = c.file.name; index = p; method = m }) (declared_in (record { 0 = k }) c.file.name (suc p) ms)
     (record {
-      behind = omega arith;
+      following = omega arith;
       at = subst (λ n. IsSomeAnd (slice_get (c ∷ cs) n) (λ (c : Class). slice_get c.file.methods p ≡ Some m)) (sym (zero_from k)) (read_at c.file.methods p 0 m ms e);
     })
     (placed_in k c cs (suc p) ms (drop_one c.file.methods p m ms e))
@@ -50,8 +50,8 @@ placed_in k c cs p (m ∷ ms) e =
 deeper : (k : ℕ) (c : Class) (cs : List Class) (d : Declared) → IsPlaced (suc k) cs d → IsPlaced k (c ∷ cs) d
 deeper k c cs d h =
     record {
-      behind = omega (arith, h.behind);
-      at = subst (λ n. IsSomeAnd (slice_get (c ∷ cs) n) (λ (c : Class). slice_get c.file.methods d.index ≡ Some d.method)) (sym (one_less d.class.0 k h.behind)) h.at;
+      following = omega (arith, h.following);
+      at = subst (λ n. IsSomeAnd (slice_get (c ∷ cs) n) (λ (c : Class). slice_get c.file.methods d.index ≡ Some d.method)) (sym (one_less d.class.0 k h.following)) h.at;
     }
 
 placed : (k : ℕ) (cs : List Class) → All (IsPlaced k cs) (declared_from k cs)

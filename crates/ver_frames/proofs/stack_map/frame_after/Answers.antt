@@ -7,7 +7,7 @@ use Rattle.ver_frames.specs.Method.{Subject}
 use Rattle.ver_frames.specs.StackMap.{is_start, items, kept, with_front}
 use Rattle.ver_frames.specs.declared.chain.TypeNode.{TypeNode}
 use Rattle.ver_frames.specs.declared.vtype.VType.{VType}
-use Rattle.ver_frames.proofs.stack_map.frame_behind.Goals as goal
+use Rattle.ver_frames.proofs.stack_map.frame_after.Goals as goal
 
 start_found : (test : Bool) (at offset : ℕ) → (if test then Some at else None) ≡ Some offset → test ≡ true
 start_found true at offset e = refl

@@ -1,5 +1,5 @@
 use Rattle.cls_tables.proofs.ClassTrees.{choices_made, noted}
-use Rattle.cls_tables.proofs.choices.choose_behind.Goals as goal
+use Rattle.cls_tables.proofs.choices.choose_after.Goals as goal
 
 pub returns-clause-some : goal.returns-clause-some
 returns-clause-some c =

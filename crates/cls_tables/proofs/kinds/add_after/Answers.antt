@@ -1,5 +1,5 @@
 use Rattle.cls_tables.proofs.KindRows.{held_again}
-use Rattle.cls_tables.proofs.kinds.add_behind.Goals as goal
+use Rattle.cls_tables.proofs.kinds.add_after.Goals as goal
 
 pub returns-then-count_instance_fields-eq0-clause-part : goal.returns-then-count_instance_fields-eq0-clause-part
 returns-then-count_instance_fields-eq0-clause-part c =
