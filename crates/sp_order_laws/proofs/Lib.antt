@@ -1,0 +1,9 @@
+mod WalkRules
+mod NoteLemmas
+mod RisingMoves
+mod GroupOrder
+mod RisingRules
+mod RisingHistories
+mod RisingLaws
+mod WorldFacts
+mod RisingWorlds
