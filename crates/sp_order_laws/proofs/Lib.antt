@@ -7,3 +7,6 @@ mod RisingHistories
 mod RisingLaws
 mod WorldFacts
 mod RisingWorlds
+mod AnsweringMoves
+mod AnsweringLaws
+mod PlaceWorlds

@@ -14,7 +14,7 @@ use Rattle.sp_rules.specs.Classes.{Setting}
 use Rattle.sp_rules.specs.Endings.{call_number_in}
 use Rattle.sp_rules.specs.Events.{Turn, in_order, Output, Event, Opened, Started, Ended, Withdrawn, Denied, Send, Dial, Close, Ready}
 use Rattle.sp_rules.specs.Laws.{AllOf, RisesWithin}
-use Rattle.sp_rules.specs.Lists.{with_some}
+use Rattle.sp_rules.specs.Lists.{each, with_some}
 use Rattle.sp_rules.specs.Origins.{IsTaken}
 use Rattle.sp_rules.specs.Refusals
 use Rattle.sp_rules.specs.Refusals.{refusal, first_refusal}
@@ -59,7 +59,28 @@ ask_fresh s q e = by (Requests.hello_came (connection_to s q.peer))
     by None = if_fresh _ _ (is_some (connection_to s q.peer) || state.is_dialling s q.peer) e e
     by (Some conn) = goes (Requests.turn_asked q.asked) conn q.asked
 
-settle_fresh : (s : State) → (Requests.settle s).fresh ≡ []
+pub group_fresh : (s : State) (b : Group) → (Requests.make_group s b).fresh ≡ s.fresh
+unfolding Requests.make_group Requests.ask Requests.dial Requests.go_out Requests.part_goes_out state.send
+group_fresh s b = by (Requests.hello_came (connection_to made b.peer))
+  where
+    made : State
+    made = record s { groups_made = s.groups_made + 1; leases = Rattle.dgc_client.specs.Table.made b (s.groups_made + 1) s.leases }
+
+    q : Request
+    q = record { peer = b.peer; asked = Tells (s.groups_made + 1) b; stage = state.Waits }
+
+    either : (t u : State) (x : Bool) → t.fresh ≡ s.fresh → u.fresh ≡ s.fresh → (if x then t else u).fresh ≡ s.fresh
+    either t u true e f = e
+    either t u false e f = f
+
+    part : (turn : Turn) (conn call : ℕ) (t : State) (p : Group) → t.fresh ≡ s.fresh → (Requests.part_goes_out turn conn call t p).fresh ≡ s.fresh
+    part turn conn call t p e = either _ _ (is_open t conn) e e
+
+    by : (o : Option ℕ) → (with_some o (Requests.dial b.peer (Requests.add_request q made)) (λ conn. each (Requests.part_goes_out (Requests.turn_of b.kind) conn (s.groups_made + 1)) (groups.parts_of 1024 b) made)).fresh ≡ s.fresh
+    by None = either _ _ (is_some (connection_to made b.peer) || state.is_dialling made b.peer) refl refl
+    by (Some conn) = keep_each (λ t. t.fresh ≡ s.fresh) (Requests.part_goes_out (Requests.turn_of b.kind) conn (s.groups_made + 1)) (groups.parts_of 1024 b) (λ t p k. part (Requests.turn_of b.kind) conn (s.groups_made + 1) t p k) refl
+
+pub settle_fresh : (s : State) → (Requests.settle s).fresh ≡ []
 unfolding Requests.settle Requests.ask_fresh
 settle_fresh s = keep_each (λ t. t.fresh ≡ []) Requests.ask (Requests.make_due s).fresh (λ t q k. ask_fresh t q k) refl
 
@@ -72,7 +93,7 @@ settled {outs} {top} {r} s none h = subst (λ n. Rising outs n r [] (line_parts 
     made : s.calls_made ≡ top
     made = subst (IsFresh top s.calls_made) none h.fresh
 
-sent_rested : (s : State) (o : Output) → Rested s → Rested (Space.record_sent s o)
+pub sent_rested : (s : State) (o : Output) → Rested s → Rested (Space.record_sent s o)
 sent_rested s (Started task) h = h
 sent_rested s (Ended task outcome) h = h
 sent_rested s (Withdrawn ids) h = h
@@ -83,9 +104,9 @@ sent_rested s (Close conn) h = h
 sent_rested s (Ready task) h = h
 
 -- What was sent rises, and nothing is under way.
-record Risen (outs : List Output) (s : State) : Type 0 where
-  rising : Rising outs s.calls_made 6 [] (line_parts s)
-  rested : Rested s
+pub record Risen (outs : List Output) (s : State) : Type 0 where
+  pub rising : Rising outs s.calls_made 6 [] (line_parts s)
+  pub rested : Rested s
 
 finish_risen : {outs : List Output} {top : ℕ} (s : State) (answers : Bool) → (answers ≡ false → Rested s) → Rising outs top 6 [] (line_parts s) → Risen (outs ++ (Space.finish_event answers s).1) (Space.finish_event answers s).0
 finish_risen {outs} {top} s true rests h = record { rising = settled done rested.fresh rises; rested = rested }
@@ -113,7 +134,7 @@ shut-before g lent s conn dialled e = (or-none (is_open s conn) (not (Refusals.w
     first-false true f = absurd (some-none Refusals.Strange f)
     first-false false f = refl
 
-rising_begins : (g : Setting) (lent : List ℕ) (outs : List Output) (s : State) (e : Event) → refusal g lent s e ≡ None → Rested s → ((conn : ℕ) → opens conn e ≡ true → flat_map (calls_at conn) outs ≡ []) → Begins g (Rises outs s.calls_made) s e
+pub rising_begins : (g : Setting) (lent : List ℕ) (outs : List Output) (s : State) (e : Event) → refusal g lent s e ≡ None → Rested s → ((conn : ℕ) → opens conn e ≡ true → flat_map (calls_at conn) outs ≡ []) → Begins g (Rises outs s.calls_made) s e
 rising_begins g lent outs s e taken rested none = record {
   opens = λ conn dialled is h. opens_rising (record { number = conn; dialled = dialled; peer = None; last = 0; sent = [] })
       (new-numbers s.connections (record { number = conn; dialled = dialled; peer = None; last = 0; sent = [] }) h.rows (none-found (λ (c : Connection). c.number == conn) s.connections (none-of _ (shut-before g lent s conn dialled (subst (λ d. refusal g lent s d ≡ None) is taken)))))
@@ -187,7 +208,7 @@ no-calls h conn (o ∷ os) never a = ap (λ (l : List ℕ). l ++ flat_map (calls
     one (Close c) k = refl
     one (Ready task) k = refl
 
-never-opened : FramesGoTheirWay → (g : Setting) (h : List Event) (conn : ℕ) → opened conn h ≡ false → flat_map (calls_at conn) (Space.all_outputs g h) ≡ []
+pub never-opened : FramesGoTheirWay → (g : Setting) (h : List Event) (conn : ℕ) → opened conn h ≡ false → flat_map (calls_at conn) (Space.all_outputs g h) ≡ []
 never-opened ways g [] conn shut = refl
 never-opened ways g (e ∷ h) conn shut = flat-append (calls_at conn) (Space.all_outputs g h) (Space.outputs_of g h e)
     ∙ (ap (λ (l : List ℕ). l ++ flat_map (calls_at conn) (Space.outputs_of g h e)) (never-opened ways g h conn (or-none (opens conn e) (opened conn h) shut).1)
@@ -195,7 +216,7 @@ never-opened ways g (e ∷ h) conn shut = flat-append (calls_at conn) (Space.all
 
 -- ---- histories
 
-risen-of : FramesGoTheirWay → (g : Setting) (h : List Event) → IsTaken g h → OpensOnce h → Risen (Space.all_outputs g h) (Space.state_of g h)
+pub risen-of : FramesGoTheirWay → (g : Setting) (h : List Event) → IsTaken g h → OpensOnce h → Risen (Space.all_outputs g h) (Space.state_of g h)
 unfolding Space.state_of Space.outputs_of opening
 risen-of ways g [] taken once = record {
   rising = record {

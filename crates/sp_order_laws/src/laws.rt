@@ -1,5 +1,7 @@
 //! The laws of the order in which spaces send and answer.
 
+ghost use Rattle.sp_order_laws.specs.Answering.{FramesAreAnsweredOnce};
+ghost use Rattle.sp_order_laws.specs.Places.{CallsGoOutOnce, EachCallStandsOnce};
 ghost use Rattle.sp_order_laws.specs.Rising.{CallNumbersRise, NumbersRise, SequenceNumbersRise};
 
 use sp_call_laws::laws::frames_go_their_way;
@@ -27,6 +29,36 @@ pub fn sequence_numbers_rise()
 /// what came at the other end, and then what is on its way there.
 pub fn numbers_rise()
     ensures { NumbersRise }
+{
+    frames_go_their_way();
+    what_comes_was_sent();
+}
+
+/// After every history that a space took, in which no number of a connection comes again, a call or lookup
+/// of a number waits to be sent, or was sent once, on whatever connection, or neither.
+pub fn calls_go_out_once()
+    ensures { CallsGoOutOnce }
+{
+    frames_go_their_way();
+}
+
+/// After every history that a space took, in which no number of a connection comes again, it has answered
+/// no more than it was asked. Of the calls and lookups that came on a connection under a number, those
+/// that are parked, those that are living tasks and those that were answered are together no more than
+/// came; likewise of dirty and clean calls and their answers, and of results that are parked or
+/// acknowledged.
+pub fn frames_are_answered_once()
+    ensures { FramesAreAnsweredOnce }
+{
+    frames_go_their_way();
+}
+
+/// In every run of every world, whatever is lost or fails, a call or lookup of a space stands in one part
+/// of the world at most. It waits to be sent, or stands once, on one connection: as its frame on its way,
+/// as a parked call or a living task where it came, as its answer on its way, or as a result that came
+/// back and waits for leases.
+pub fn each_call_stands_once()
+    ensures { EachCallStandsOnce }
 {
     frames_go_their_way();
     what_comes_was_sent();
