@@ -1,7 +1,7 @@
 //! The laws of the order in which spaces send and answer.
 
 ghost use Rattle.sp_order_laws.specs.Answering.{FramesAreAnsweredOnce};
-ghost use Rattle.sp_order_laws.specs.Places.{CallsGoOutOnce, EachCallStandsOnce};
+ghost use Rattle.sp_order_laws.specs.Places.{CallsGoOutOnce, EachCallStandsOnce, EachGroupIsAnsweredOnce};
 ghost use Rattle.sp_order_laws.specs.Rising.{CallNumbersRise, NumbersRise, SequenceNumbersRise};
 
 use sp_call_laws::laws::frames_go_their_way;
@@ -59,6 +59,16 @@ pub fn frames_are_answered_once()
 /// back and waits for leases.
 pub fn each_call_stands_once()
     ensures { EachCallStandsOnce }
+{
+    frames_go_their_way();
+    what_comes_was_sent();
+}
+
+/// In every run of every world, whatever is lost or fails, a dirty or clean call of a space is answered
+/// once: its frame is on its way, or the Lease or Cleaned that answers it, or neither, and on one
+/// connection.
+pub fn each_group_is_answered_once()
+    ensures { EachGroupIsAnsweredOnce }
 {
     frames_go_their_way();
     what_comes_was_sent();
