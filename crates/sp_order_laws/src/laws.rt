@@ -1,7 +1,7 @@
 //! The laws of the order in which spaces send and answer.
 
 ghost use Rattle.sp_order_laws.specs.Answering.{FramesAreAnsweredOnce};
-ghost use Rattle.sp_order_laws.specs.Places.{CallsGoOutOnce, EachCallStandsOnce, EachGroupIsAnsweredOnce};
+ghost use Rattle.sp_order_laws.specs.Places.{CallsGoOutOnce, EachCallStandsOnce, EachGroupIsAnsweredOnce, EachResultIsAcknowledgedOnce};
 ghost use Rattle.sp_order_laws.specs.Rising.{CallNumbersRise, NumbersRise, SequenceNumbersRise};
 
 use sp_call_laws::laws::frames_go_their_way;
@@ -69,6 +69,16 @@ pub fn each_call_stands_once()
 /// connection.
 pub fn each_group_is_answered_once()
     ensures { EachGroupIsAnsweredOnce }
+{
+    frames_go_their_way();
+    what_comes_was_sent();
+}
+
+/// In every run of every world, whatever is lost or fails, a result that answers a call on a connection is
+/// acknowledged once. It is on its way, or waits for leases where it came, or has one Ack, which is on its
+/// way or came; and an Ack on its way names a result that its receiver sent on the connection.
+pub fn each_result_is_acknowledged_once()
+    ensures { EachResultIsAcknowledgedOnce }
 {
     frames_go_their_way();
     what_comes_was_sent();
