@@ -1,0 +1,12 @@
+mod WalkRules
+mod NoteLemmas
+mod RisingMoves
+mod GroupOrder
+mod RisingRules
+mod RisingHistories
+mod RisingLaws
+mod WorldFacts
+mod RisingWorlds
+mod AnsweringMoves
+mod AnsweringLaws
+mod PlaceWorlds

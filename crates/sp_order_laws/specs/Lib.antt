@@ -1,0 +1,3 @@
+pub mod Answering
+pub mod Rising
+pub mod Places
