@@ -1,0 +1,5 @@
+pub mod ShutLemmas
+pub mod FrameFlows
+pub mod FrameSteps
+pub mod FrameEvents
+pub mod OpenLemmas
