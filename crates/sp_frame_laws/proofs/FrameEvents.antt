@@ -35,7 +35,7 @@ use Rattle.sp_rules.specs.State.{State, Object, Living, Origin, OfRoot, OfCall, 
 use Rattle.sp_rules.proofs.AllLemmas.{found-is, all-found}
 use Rattle.sp_rules.proofs.OwnLemmas.{some-same, and-left}
 use Rattle.sp_laws.proofs.FlowRules.{Owed, Removed, Inbound}
-use Rattle.sp_frame_laws.proofs.FrameFlows.{View, IsReleased, is_finish, is_ending, is_unreached, is_unwritten, Flows, IsWhoWasDialled, Begins, if_flow, some_flow, each_flow, send_flow, drop_flow}
+use Rattle.sp_frame_laws.proofs.FrameFlows.{HasComeOn, View, IsReleased, is_finish, is_ending, is_unreached, is_unwritten, Flows, IsWhoWasDialled, Begins, if_flow, some_flow, each_flow, send_flow, drop_flow}
 use Rattle.sp_frame_laws.proofs.FrameSteps.{flush_flow, settle_flow, add_task_flow, keep_flow, keep-held, reply_to_flow, commit_flow, give_back_flow, park_flow, finish_flow, both-right, go_all_flow, park_call_flow, park_result_flow, end_requests_flow, end_connection_flow, close_flow}
 
 -- ---- frames that come
@@ -57,15 +57,15 @@ first_flow {V} F {s} c (message.Hello version space digest) same B row none h = 
       where
         pick : (b : Bool) → bytes_eq digest V.setting.digest ≡ b → V.Keeps [] (if b then Frames.greeted space c.number s else Endings.close V.setting V.setting.classes.unmarshal c.number s)
         pick true d = (welcome None e d tt).0
-        pick false d = close_flow F _ c.number may may h
+        pick false d = close_flow F _ c.number (message.Hello version space digest, same) may may h
     by (Some peer) e = pick (bytes_eq digest V.setting.digest && bytes_eq space peer) refl
       where
         pick : (b : Bool) → bytes_eq digest V.setting.digest && bytes_eq space peer ≡ b → V.Keeps [] (if b then Requests.flush_waiting peer c.number (Frames.greeted space c.number s) else Endings.close V.setting V.setting.classes.connect c.number s)
         pick true d =
             let x = welcome (Some peer) e (and-left (bytes_eq digest V.setting.digest) (bytes_eq space peer) d) (both-right (bytes_eq digest V.setting.digest) (bytes_eq space peer) d) in
             flush_flow F peer c.number (subst (V.Dialled c.number) (ap is_some e) x.1) x.0
-        pick false d = close_flow F _ c.number may (B.connect (ap is_unreached same)) h
-first_flow F c _ same B row none h = close_flow F _ c.number (B.unmarshal (ap is_ending same)) (B.unmarshal (ap is_ending same)) h
+        pick false d = close_flow F _ c.number (message.Hello version space digest, same) may (B.connect (ap is_unreached same)) h
+first_flow F c m same B row none h = close_flow F _ c.number (m, same) (B.unmarshal (ap is_ending same)) (B.unmarshal (ap is_ending same)) h
 
 pub call_of_flow : {V : View} (F : Flows V) {l : List Owed} {s : State} (conn number : ℕ) (o : Object) (method fuel : ℕ) (arguments : List Value) → is_ending V.event ≡ true → ((p : ParkedFrame) → Frames.is_call_frame p.frame ≡ true → V.Dialled p.conn false → V.Known p) → V.Dialled conn false → V.Keeps (Inbound conn number ∷ l) s → V.Keeps l (Frames.call_of V.setting conn number o method fuel arguments s)
 call_of_flow {V} F {l} {s} conn number o method fuel arguments going comes there h =
@@ -77,16 +77,16 @@ found_flow F {l} {s} conn number name None same there h = send_flow F _ conn _ (
 found_flow {V} F {l} {s} conn number name (Some o) same there h = send_flow F _ conn _ (there, F.finds conn number name (record { space = V.setting.id; id = o.id; class = o.class }) same refl)
     (keep-held V.setting conn number (Some (values.Ref (record { space = V.setting.id; id = o.id; class = o.class }))) s) (keep_flow F (state.Acked conn number) (Some (values.Ref (record { space = V.setting.id; id = o.id; class = o.class }))) h)
 
-pub got_call_flow : {V : View} (F : Flows V) {l : List Owed} {s : State} (c : Connection) (number : ℕ) (target : ObjId) (method fuel : ℕ) (arguments : List Value) → is_ending V.event ≡ true → ((p : ParkedFrame) → Frames.is_call_frame p.frame ≡ true → V.Dialled p.conn false → V.Known p) → V.Fails V.setting.classes.unmarshal → V.Dialled c.number false → connection_at s c.number ≡ Some c → V.Keeps l s → V.Keeps l (Frames.got_call V.setting c number target method fuel arguments s)
+pub got_call_flow : {V : View} (F : Flows V) {l : List Owed} {s : State} (c : Connection) (number : ℕ) (target : ObjId) (method fuel : ℕ) (arguments : List Value) → HasComeOn V c.number → is_ending V.event ≡ true → ((p : ParkedFrame) → Frames.is_call_frame p.frame ≡ true → V.Dialled p.conn false → V.Known p) → V.Fails V.setting.classes.unmarshal → V.Dialled c.number false → connection_at s c.number ≡ Some c → V.Keeps l s → V.Keeps l (Frames.got_call V.setting c number target method fuel arguments s)
 unfolding Frames.got_call
-got_call_flow {V} F {l} {s} c number target method fuel arguments going comes may there is h = pick (nat_le number c.last) refl
+got_call_flow {V} F {l} {s} c number target method fuel arguments came going comes may there is h = pick (nat_le number c.last) refl
   where
     on : nat_le number c.last ≡ false → (o : Option Object) → V.Keeps l (Frames.call_on V.setting c.number number o method fuel arguments (Frames.counted c.number number s))
     on e None = send_flow F Replies c.number (message.Threw number V.setting.classes.no_such_object) (there, F.refuses c.number number _ (inl refl)) tt (F.falls l _ c.number number (F.counts l s c.number number c there is e h))
     on e (Some o) = call_of_flow F c.number number o method fuel arguments going comes there (F.counts l s c.number number c there is e h)
 
     pick : (b : Bool) → nat_le number c.last ≡ b → V.Keeps l (if b then Endings.close V.setting V.setting.classes.unmarshal c.number s else Frames.call_on V.setting c.number number (object_at s target) method fuel arguments (Frames.counted c.number number s))
-    pick true e = close_flow F _ c.number may may h
+    pick true e = close_flow F _ c.number came may may h
     pick false e = on e (object_at s target)
 
 pub got_lookup_flow : {V : View} (F : Flows V) {l : List Owed} {s : State} (c : Connection) (number : ℕ) (name : List ℕ) → V.event ≡ Received c.number (message.Lookup number name) → V.Fails V.setting.classes.unmarshal → V.Dialled c.number false → connection_at s c.number ≡ Some c → V.Keeps l s → V.Keeps l (Frames.got_lookup V.setting c number name s)
@@ -94,7 +94,7 @@ unfolding Frames.got_lookup
 got_lookup_flow {V} F {l} {s} c number name same may there is h = pick (nat_le number c.last) refl
   where
     pick : (b : Bool) → nat_le number c.last ≡ b → V.Keeps l (if b then Endings.close V.setting V.setting.classes.unmarshal c.number s else Frames.found V.setting c.number number (Frames.object_of s (registry.lookup s.owner.names name)) (Frames.counted c.number number s))
-    pick true e = close_flow F _ c.number may may h
+    pick true e = close_flow F _ c.number (message.Lookup number name, same) may may h
     pick false e = found_flow F c.number number name (Frames.object_of s (registry.lookup s.owner.names name)) same there (F.counts l s c.number number c there is e h)
 
 pub release_flow : {V : View} (F : Flows V) {l : List Owed} {s : State} (is : KeptResult → Bool) → ((k : KeptResult) → is k ≡ true → IsReleased V.event k.until) → V.Keeps l s → V.Keeps l (Frames.release V.setting is s)
@@ -123,7 +123,7 @@ moment-goes e moment same (state.Passed until) value f = (moment, (same, f))
 
 pub got_ack_flow : {V : View} (F : Flows V) {l : List Owed} {s : State} (c : Connection) (number : ℕ) → V.event ≡ Received c.number (message.Ack number) → V.Fails V.setting.classes.unmarshal → V.Keeps l s → V.Keeps l (Frames.got_ack V.setting c number s)
 unfolding Frames.got_ack
-got_ack_flow {V} F {s = s} c number same may h = if_flow F (list_any (Frames.is_acked_by c.number number) s.results) (release_flow F _ (λ k f. acked-goes V.event c.number number same k.until k.value f) h) (close_flow F _ c.number may may h)
+got_ack_flow {V} F {s = s} c number same may h = if_flow F (list_any (Frames.is_acked_by c.number number) s.results) (release_flow F _ (λ k f. acked-goes V.event c.number number same k.until k.value f) h) (close_flow F _ c.number (message.Ack number, same) may may h)
 
 -- a call that has no answer is out
 pub asked-out : (conn number : ℕ) (q : Request) → ParkedFrames.is_asked_on conn number q ≡ true → ParkedFrames.is_call_on conn number q ≡ true
@@ -143,16 +143,16 @@ pub returned_flow : {V : View} (F : Flows V) {l : List Owed} {s : State} (c : Co
 returned_flow {V} F {l} {s} c number fuel value q going may there known is h = if_flow F _ (reply_to_flow F q.asked (Throws V.setting.classes.unmarshal) (F.fails q.asked V.setting.classes.unmarshal may) (send_flow F Acks c.number (message.Ack number) there tt (answered_flow F c.number number q is h)))
     (park_result_flow F c.number number value fuel (foreign_ids V.setting.id (references_in value)) going (known (foreign_ids V.setting.id (references_in value))) (F.answers l s c.number number h))
 
-pub answered_by_flow : {V : View} (F : Flows V) {l : List Owed} {s : State} (c : Connection) (number : ℕ) (next : Asked → State → State) → ((q : Request) → find (ParkedFrames.is_asked_on c.number number) s.requests ≡ Some q → V.Keeps l (next q.asked s)) → V.Fails V.setting.classes.unmarshal → V.Keeps l s → V.Keeps l (Frames.answered_by V.setting c number next s)
+pub answered_by_flow : {V : View} (F : Flows V) {l : List Owed} {s : State} (c : Connection) (number : ℕ) (next : Asked → State → State) → HasComeOn V c.number → ((q : Request) → find (ParkedFrames.is_asked_on c.number number) s.requests ≡ Some q → V.Keeps l (next q.asked s)) → V.Fails V.setting.classes.unmarshal → V.Keeps l s → V.Keeps l (Frames.answered_by V.setting c number next s)
 unfolding Frames.answered_by
-answered_by_flow {V} F {s = s} c number next k may h = some_flow F (find (ParkedFrames.is_asked_on c.number number) s.requests) _ (close_flow F _ c.number may may h) (λ q is. k q is)
+answered_by_flow {V} F {s = s} c number next came k may h = some_flow F (find (ParkedFrames.is_asked_on c.number number) s.requests) _ (close_flow F _ c.number came may may h) (λ q is. k q is)
 
 pub ends_as_flow : {V : View} (F : Flows V) {l : List Owed} {s : State} (c : Connection) (number : ℕ) (reply : Asked → Reply) (q : Request) → (ParkedFrames.has_number number q.asked ≡ true → V.Ends q.asked (reply q.asked)) → find (ParkedFrames.is_asked_on c.number number) s.requests ≡ Some q → V.Keeps l s → V.Keeps l (Frames.ends_as V.setting c number reply q.asked s)
 ends_as_flow F {s = s} c number reply q may is h = reply_to_flow F q.asked (reply q.asked) (may (both-right (ParkedFrames.is_unanswered_on c.number q.stage) _ (found-is (ParkedFrames.is_asked_on c.number number) s.requests q is))) (answered_flow F c.number number q is h)
 
-pub told_by_flow : {V : View} (F : Flows V) {l : List Owed} {s : State} (c : Connection) (dirty : Bool) (sequence : ℕ) (event : ℕ → lease_events.Event) → is_ending V.event ≡ true → V.Fails V.setting.classes.unmarshal → V.Keeps l s → V.Keeps l (Frames.told_by V.setting c dirty sequence event s)
+pub told_by_flow : {V : View} (F : Flows V) {l : List Owed} {s : State} (c : Connection) (dirty : Bool) (sequence : ℕ) (event : ℕ → lease_events.Event) → HasComeOn V c.number → is_ending V.event ≡ true → V.Fails V.setting.classes.unmarshal → V.Keeps l s → V.Keeps l (Frames.told_by V.setting c dirty sequence event s)
 unfolding Frames.told_by
-told_by_flow {V} F {l} {s} c dirty sequence event going may h = some_flow F (find (Frames.tells_on dirty c.number sequence) s.requests) _ (close_flow F _ c.number may may h) (λ q is. go_all_flow F going (tells q.asked (F.removes_told l s dirty c.number sequence h)))
+told_by_flow {V} F {l} {s} c dirty sequence event came going may h = some_flow F (find (Frames.tells_on dirty c.number sequence) s.requests) _ (close_flow F _ c.number came may may h) (λ q is. go_all_flow F going (tells q.asked (F.removes_told l s dirty c.number sequence h)))
   where
     tells : (asked : Asked) {t : State} → V.Keeps l t → V.Keeps l (Frames.group_told event asked t)
     tells (Calls number task lent kind m) k = k
@@ -183,16 +183,16 @@ got_flow {V} F {s} c m same B is hello way h = by m same way
     answers e = subst (V.Dialled c.number) (is-true (is_some c.dialled) e) row
 
     by : (m : Message) → V.event ≡ Received c.number m → Frames.is_wrong_way (Frames.is_asking m) (is_some c.dialled) ≡ false → V.Keeps [] (Frames.got V.setting c m s)
-    by (message.Hello version space digest) e w = close_flow F _ c.number may may h
-    by (message.Call number object method fuel arguments) e w = got_call_flow F c number object method fuel arguments going B.call_came may (asks w) is h
-    by (message.Returned number fuel value) e w = answered_by_flow F c number _ (λ q asked. returned_flow F c number fuel value q going may (answers w) (λ references. B.result_came (record { conn = c.number; number = number; frame = ReturnedFrame value fuel; references = references }) value fuel e refl (answers w) q asked) asked h) may h
-    by (message.Threw number class) e w = answered_by_flow F c number _ (λ q asked. ends_as_flow F c number (λ a. Frames.thrown_reply V.setting class) q (B.threw c.number number class e q asked) asked h) may h
-    by (message.Spent number) e w = answered_by_flow F c number _ (λ q asked. ends_as_flow F c number (Frames.spent_reply V.setting) q (B.spent c.number number e q asked) asked h) may h
+    by (message.Hello version space digest) e w = close_flow F _ c.number (message.Hello version space digest, e) may may h
+    by (message.Call number object method fuel arguments) e w = got_call_flow F c number object method fuel arguments (message.Call number object method fuel arguments, e) going B.call_came may (asks w) is h
+    by (message.Returned number fuel value) e w = answered_by_flow F c number _ (message.Returned number fuel value, e) (λ q asked. returned_flow F c number fuel value q going may (answers w) (λ references. B.result_came (record { conn = c.number; number = number; frame = ReturnedFrame value fuel; references = references }) value fuel e refl (answers w) q asked) asked h) may h
+    by (message.Threw number class) e w = answered_by_flow F c number _ (message.Threw number class, e) (λ q asked. ends_as_flow F c number (λ a. Frames.thrown_reply V.setting class) q (B.threw c.number number class e q asked) asked h) may h
+    by (message.Spent number) e w = answered_by_flow F c number _ (message.Spent number, e) (λ q asked. ends_as_flow F c number (Frames.spent_reply V.setting) q (B.spent c.number number e q asked) asked h) may h
     by (message.Ack number) e w = got_ack_flow F c number e may h
     by (message.Dirty sequence period objects) e w = send_flow F _ c.number _ (asks w) tt (F.quiet [] s _ refl h)
-    by (message.Lease sequence period) e w = told_by_flow F c true sequence (λ call. lease_events.DirtyAnswered call period) going may h
+    by (message.Lease sequence period) e w = told_by_flow F c true sequence (λ call. lease_events.DirtyAnswered call period) (message.Lease sequence period, e) going may h
     by (message.Clean sequence strong objects) e w = send_flow F _ c.number _ (asks w) tt (F.quiet [] s _ refl h)
-    by (message.Cleaned sequence) e w = told_by_flow F c false sequence lease_events.CleanAnswered going may h
+    by (message.Cleaned sequence) e w = told_by_flow F c false sequence lease_events.CleanAnswered (message.Cleaned sequence, e) going may h
     by (message.Lookup number name) e w = got_lookup_flow F c number name e may (asks w) is h
 
 pub has-peer : (o : Option Uuid) → is_none o ≡ false → is_some o ≡ true
@@ -214,7 +214,7 @@ received_flow {V} F {s = s} conn (Some c) m same B e h = by (is_none c.peer) ref
     came = subst (λ n. V.event ≡ Received n m) (sym number) same
 
     way : is_some c.peer ≡ true → (b : Bool) → Frames.is_wrong_way (Frames.is_asking m) (is_some c.dialled) ≡ b → V.Keeps [] (if b then Endings.close V.setting V.setting.classes.unmarshal c.number s else Frames.got V.setting c m s)
-    way hello true w = close_flow F _ c.number (B.unmarshal (ap is_ending same)) (B.unmarshal (ap is_ending same)) h
+    way hello true w = close_flow F _ c.number (m, came) (B.unmarshal (ap is_ending same)) (B.unmarshal (ap is_ending same)) h
     way hello false w = got_flow F c m came B row hello w h
 
     by : (b : Bool) → is_none c.peer ≡ b → V.Keeps [] (if b then Frames.first_frame V.setting c m s else (if Frames.is_wrong_way (Frames.is_asking m) (is_some c.dialled) then Endings.close V.setting V.setting.classes.unmarshal c.number s else Frames.got V.setting c m s))

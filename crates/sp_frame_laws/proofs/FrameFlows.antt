@@ -101,9 +101,13 @@ abbrev pub IsSaid : View → Output → Type 0
 IsSaid V (Ended task outcome) = (made : ℕ) × (V.event ≡ Finished task made)
 IsSaid V _ = Unit {0}
 
--- what is known of an output as it is said: of a connection that is closed, that it is not open
+-- a frame came with the event on this connection
+abbrev pub HasComeOn : View → ℕ → Type 0
+HasComeOn V conn = (m : Message) × (V.event ≡ Received conn m)
+
+-- what is known of an output as it is said: of a connection that is closed, that a frame came there, and that it is not open
 abbrev pub MaySay : View → State → Output → Type 0
-MaySay V s (Close conn) = is_open s conn ≡ false
+MaySay V s (Close conn) = HasComeOn V conn × (is_open s conn ≡ false)
 MaySay V s (Started task) = Unit {0}
 MaySay V s (Ended task outcome) = IsSaid V (Ended task outcome)
 MaySay V s (Withdrawn ids) = Unit {0}

@@ -38,7 +38,7 @@ use Rattle.sp_rules.proofs.OwnLemmas.{some-same}
 use Rattle.sp_rules.proofs.ReadyLemmas.{ready-is}
 use Rattle.sp_laws.proofs.FlowRules.{Owed, Removed, Inbound, of_origin, of_until}
 use Rattle.sp_frame_laws.proofs.ShutLemmas.{connection-ends}
-use Rattle.sp_frame_laws.proofs.FrameFlows.{View, IsFrom, CanSend, IsKeptIn, IsHeldFor, is_finish, is_ending, ending-goes, out, Flows, Begins, if_flow, some_flow, each_flow, each_removed, send_flow, hold_flow, drop_flow, let_go_flow}
+use Rattle.sp_frame_laws.proofs.FrameFlows.{HasComeOn, View, IsFrom, CanSend, IsKeptIn, IsHeldFor, is_finish, is_ending, ending-goes, out, Flows, Begins, if_flow, some_flow, each_flow, each_removed, send_flow, hold_flow, drop_flow, let_go_flow}
 
 -- ---- requests
 
@@ -323,6 +323,6 @@ pub end_connection_flow : {V : View} (F : Flows V) {l : List Owed} {s : State} (
 unfolding Endings.end_connection
 end_connection_flow {V} F {l} {s} why conn may all h = some_flow F (connection_at s conn) _ h (λ c is. end_requests_flow F _ why may all (each_flow F _ _ (λ t p k. let_go_flow F p t.parked (F.takes l t p k)) (F.closes l s conn c is may h)))
 
-pub close_flow : {V : View} (F : Flows V) {l : List Owed} {s : State} (class : ClassId) (conn : ℕ) → V.Fails V.setting.classes.unmarshal → V.Fails class → V.Keeps l s → V.Keeps l (Endings.close V.setting class conn s)
+pub close_flow : {V : View} (F : Flows V) {l : List Owed} {s : State} (class : ClassId) (conn : ℕ) → HasComeOn V conn → V.Fails V.setting.classes.unmarshal → V.Fails class → V.Keeps l s → V.Keeps l (Endings.close V.setting class conn s)
 unfolding Endings.close
-close_flow {V} F {l} {s} class conn may why h = F.says l _ (Close conn) refl (connection-ends V.setting (λ asked. class) conn s) (end_connection_flow F _ conn may (λ asked. why) h)
+close_flow {V} F {l} {s} class conn came may why h = F.says l _ (Close conn) refl (came, connection-ends V.setting (λ asked. class) conn s) (end_connection_flow F _ conn may (λ asked. why) h)

@@ -3,3 +3,4 @@ pub mod FrameFlows
 pub mod FrameSteps
 pub mod FrameEvents
 pub mod OpenLemmas
+pub mod SilentLemmas

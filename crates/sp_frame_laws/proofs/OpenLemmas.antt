@@ -3,10 +3,11 @@ use mathlib.Core.Path.{sym, subst, ◌∙◌}
 use Rattle.std.proofs.Common.{inl, inr}
 use Rattle.std.proofs.lemmas.Bool.{true≢false, eqb-true}
 use Rattle.std.specs.Prelude.{◌≡◌, refl, ℕ, ◌+◌, ◌==◌, not, is_some, Bool, true, false, List, [], ◌∷◌, ◌++◌, Option, None, Some, find, if◌then◌else◌}
+use Rattle.net_message.specs.declared.message.Message.{Message}
 use Rattle.space_ids.specs.declared.ids.ForeignId.{ForeignId}
 use Rattle.sp_rules.specs.Behaviours.{Op, Create, Get, Put, Call}
 use Rattle.sp_rules.specs.Classes.{Setting}
-use Rattle.sp_rules.specs.Events.{Event, Committed, GivenBack, Output, Started, Ended, Withdrawn, Denied, Send, Dial, Close, Ready, Note, Says, Sends, output_of, in_order, ranks}
+use Rattle.sp_rules.specs.Events.{Event, Received, Committed, GivenBack, Output, Started, Ended, Withdrawn, Denied, Send, Dial, Close, Ready, Note, Says, Sends, output_of, in_order, ranks}
 use Rattle.sp_rules.specs.Holders
 use Rattle.sp_rules.specs.Holders.{hold_ids, drop_ids}
 use Rattle.sp_rules.specs.Laws.{AllOf}
@@ -93,7 +94,7 @@ nothing-noted g (e ∷ h) = on-notes g e (Space.state_of g h) (nothing-noted g h
 
 abbrev Goes : State → Event → List Connection → Output → Type 0
 Goes s e rows (Send conn m) = IsOpenAt s e conn
-Goes s e rows (Close conn) = has_row conn rows ≡ false
+Goes s e rows (Close conn) = ((m : Message) × (e ≡ Received conn m)) × (has_row conn rows ≡ false)
 Goes s e rows (Started task) = Unit {0}
 Goes s e rows (Ended task outcome) = Unit {0}
 Goes s e rows (Withdrawn ids) = Unit {0}
@@ -110,7 +111,7 @@ record Placed (s : State) (e : Event) (p : EventParts) : Type 0 where
 
 goes-on : (s : State) (e : Event) (rows now : List Connection) → ((conn : ℕ) → has_row conn rows ≡ false → has_row conn now ≡ false) → (o : Output) → Goes s e rows o → Goes s e now o
 goes-on s e rows now k (Send conn m) a = a
-goes-on s e rows now k (Close conn) a = k conn a
+goes-on s e rows now k (Close conn) a = (a.0, k conn a.1)
 goes-on s e rows now k (Started task) a = tt
 goes-on s e rows now k (Ended task outcome) a = tt
 goes-on s e rows now k (Withdrawn ids) a = tt
@@ -154,11 +155,11 @@ view g e s = record {
   Keeps = λ l t. Placed s e (event_parts t);
 }
 
-all-unit : {A : Type 0} (xs : List A) → AllOf (λ (x : A). Unit {0}) xs
+pub all-unit : {A : Type 0} (xs : List A) → AllOf (λ (x : A). Unit {0}) xs
 all-unit [] = tt
 all-unit (x ∷ xs) = (tt, all-unit xs)
 
-all-dialled : (xs : List Connection) → AllOf (λ (c : Connection). is_some c.peer ≡ true → Unit {0}) xs
+pub all-dialled : (xs : List Connection) → AllOf (λ (c : Connection). is_some c.peer ≡ true → Unit {0}) xs
 all-dialled [] = tt
 all-dialled (x ∷ xs) = ((λ e. tt), all-dialled xs)
 
@@ -277,7 +278,7 @@ answered g e s none = by (Space.answers_outputs e)
 
     one : (final : State) → ((conn : ℕ) → has_row conn t.connections ≡ false → is_open final conn ≡ false) → (o : Output) → Goes s e t.connections o → GoesWhereOpen s e final o
     one final k (Send conn m) a = a
-    one final k (Close conn) a = k conn a
+    one final k (Close conn) a = (a.0, k conn a.1)
     one final k (Started task) a = tt
     one final k (Ended task outcome) a = tt
     one final k (Withdrawn ids) a = tt
