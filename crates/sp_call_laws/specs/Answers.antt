@@ -12,6 +12,7 @@ use Rattle.sp_rules.specs.Laws.{AllOf}
 use Rattle.sp_rules.specs.LivingTasks.{reply_frame}
 use Rattle.sp_rules.specs.Space.{state_of, outputs_of}
 use Rattle.sp_rules.specs.State.{State, Living, OfCall, task_at}
+pub use Rattle.sp_frame_laws.specs.Sent.{IsRefusal}
 use Rattle.sp_rules.specs.Tasks.{HasEnded, stand, steps}
 
 -- The event ends the task that the call of a number on this connection started, and the frame says how it ended, with the fuel that it left.
@@ -26,10 +27,6 @@ pub record IsOutcome (g : Setting) (s : State) (e : Event) (conn : ℕ) (m : Mes
   pub origin : row.origin ≡ OfCall conn number
   pub ended : stand (steps made row.task) ≡ HasEnded outcome
   pub says : m ≡ reply_frame g number (steps made row.task).fuel outcome
-
--- the exceptions that answer a call or lookup which starts no task
-abbrev pub IsRefusal : Setting → ClassId → Type 0
-IsRefusal g class = (class ≡ g.classes.no_such_object) ⊎ ((class ≡ g.classes.unmarshal) ⊎ ((class ≡ g.classes.server_error) ⊎ (class ≡ g.classes.not_bound)))
 
 -- The frame is such an exception.
 pub record IsRefused (g : Setting) (m : Message) : Type 0 where

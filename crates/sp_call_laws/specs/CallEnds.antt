@@ -1,6 +1,6 @@
 -- How a call ends: with its callee's answer, as the frame says it, or with an exception of a failure, and with nothing else (Java RMI specification, A.2: ConnectException, MarshalException, UnmarshalException; 3.2 on results).
 use Rattle.std.specs.List.{list_any}
-use Rattle.std.specs.Prelude.{◌≡◌, ◌⊎◌, ℕ, true, false, List, [], ◌∷◌, Option, Some, Bool, find, if◌then◌else◌}
+use Rattle.std.specs.Prelude.{◌≡◌, ◌⊎◌, ℕ, true, false, List, [], ◌∷◌, Option, Some, find, if◌then◌else◌}
 use Rattle.net_message.specs.declared.message.Message.{Message}
 use Rattle.net_message.specs.declared.message.Message.TheVariants as message
 use Rattle.space_ids.specs.declared.ids.ClassId.{ClassId}
@@ -10,13 +10,10 @@ use Rattle.sp_rules.specs.Classes.{Setting, Kind}
 use Rattle.sp_rules.specs.Events.{Event, Refused, Received, Closed, ReadFailed, Bad, WriteFailed}
 use Rattle.sp_rules.specs.ParkedFrames.{has_number, is_asked_on}
 use Rattle.sp_rules.specs.Space.{state_of, on}
+pub use Rattle.sp_frame_laws.specs.Sent.{is_hello}
 use Rattle.sp_rules.specs.State.{State, Living, Request, Calls, ReturnedFrame, ParkedFrame, task_at}
 
 -- ---- what ends calls
-
-abbrev pub is_hello : Message → Bool
-is_hello (message.Hello version space digest) = true
-is_hello _ = false
 
 -- The exceptions of failures: ConnectException if no peer is reached, by a Dial that is refused or a Hello that is wrong; MarshalException
 -- if a frame was not written whole; and UnmarshalException with each end of a connection, and each dirty call that fails.

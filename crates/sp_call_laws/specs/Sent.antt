@@ -2,11 +2,7 @@
 use Rattle.std.specs.Prelude.{◌⊎◌, ℕ, Bool, true, false}
 use Rattle.net_message.specs.declared.message.Message.{Message}
 use Rattle.net_message.specs.declared.message.Message.TheVariants as message
-use Rattle.sp_rules.specs.Events.{Output, Send}
-
-abbrev pub is_send : Output → Bool
-is_send (Send conn m) = true
-is_send _ = false
+pub use Rattle.sp_frame_laws.specs.Sent.{is_send}
 
 -- A frame that asks goes out on a connection that was dialled, one that answers on one that was not, a Hello on either.
 abbrev pub MaySend : (ℕ → Bool → Type 0) → ℕ → Message → Type 0

@@ -152,7 +152,7 @@ drop_flow : {g : Setting} {P : List Owed → State → Type 0} (F : Flows g P) {
 unfolding drop_ids
 drop_flow {P = P} F {l} ids h = each_flow F Holders.holder_goes ids (λ t x k. F.quiet l t _ refl k) h
 
-let_go_flow : {g : Setting} {P : List Owed → State → Type 0} (F : Flows g P) {l : List Owed} {s : State} (p : ParkedFrame) (parked : List ParkedFrame) → P l s → P l (ParkedFrames.let_go_parked p parked s)
+pub let_go_flow : {g : Setting} {P : List Owed → State → Type 0} (F : Flows g P) {l : List Owed} {s : State} (p : ParkedFrame) (parked : List ParkedFrame) → P l s → P l (ParkedFrames.let_go_parked p parked s)
 let_go_flow {P = P} F p parked h = each_flow F _ (filter (ParkedFrames.is_parked_at p.conn p.number) parked) (λ t q k. drop_flow F q.references k) h
 
 -- ---- requests
@@ -195,7 +195,7 @@ make_group_flow {g} {P} F {l} {s} b h = some_flow F (Requests.hello_came (connec
     outs : (conn : ℕ) → P l (Requests.go_out (Requests.turn_of b.kind) conn (record { peer = b.peer; asked = Tells (s.groups_made + 1) b; stage = state.Waits }) made)
     outs conn = each_flow F _ _ (λ t part j. part_flow F _ conn (s.groups_made + 1) part j) kept
 
-settle_flow : {g : Setting} {P : List Owed → State → Type 0} (F : Flows g P) {s : State} → P [] s → P [] (Requests.settle s)
+pub settle_flow : {g : Setting} {P : List Owed → State → Type 0} (F : Flows g P) {s : State} → P [] s → P [] (Requests.settle s)
 unfolding Requests.settle Requests.make_due Requests.ask_fresh
 settle_flow {g} {P} F {s} h = asks (Requests.make_due s) (each_flow F _ _ (λ t b k. make_group_flow F b k) h)
   where
@@ -346,7 +346,7 @@ end_asked_flow F class (Calls number task lent kind m) h = reply_to_flow F (Call
 end_asked_flow F class (LooksUp number task name) h = reply_to_flow F (LooksUp number task name) (Throws class) h
 end_asked_flow F {l} {s} {peer} class (Tells call group) h = fail_group_flow F group.kind group call (F.told l s peer call group h)
 
-end_requests_flow : {g : Setting} {P : List Owed → State → Type 0} (F : Flows g P) {l : List Owed} {s : State} (is : Request → Bool) (why : Asked → ClassId) → P l s → P l (Endings.end_requests g is why s)
+pub end_requests_flow : {g : Setting} {P : List Owed → State → Type 0} (F : Flows g P) {l : List Owed} {s : State} (is : Request → Bool) (why : Asked → ClassId) → P l s → P l (Endings.end_requests g is why s)
 unfolding Endings.end_requests
 end_requests_flow {P = P} F {l} {s} is why h =
     each_removed F _ (filter (λ (q : Request). Endings.is_group q.asked) (filter is s.requests)) (λ m t q k. end_asked_flow F (why q.asked) q.asked k)
@@ -528,7 +528,7 @@ sent_flow F (Dial peer) h = h
 sent_flow F (Close conn) h = h
 sent_flow F (Ready task) h = h
 
-finish_event_flow : {g : Setting} {P : List Owed → State → Type 0} (F : Flows g P) {s : State} (answers : Bool) → P [] s → P [] (Space.finish_event answers s).0
+pub finish_event_flow : {g : Setting} {P : List Owed → State → Type 0} (F : Flows g P) {s : State} (answers : Bool) → P [] s → P [] (Space.finish_event answers s).0
 finish_event_flow {P = P} F true h = each_flow F _ _ (λ u o j. sent_flow F o j) (F.quiet [] _ _ refl (settle_flow F h))
 finish_event_flow F false h = h
 

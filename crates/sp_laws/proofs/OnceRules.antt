@@ -75,7 +75,7 @@ position-passes {A} is xs j x e at = pick (nat_lt (prefix_len (λ y. not (is y))
 -- ---- ends of connections
 
 -- A space is an end of a connection that was opened there.
-abbrev HasEnd : ℕ → Option Pipe → Type 0
+abbrev pub HasEnd : ℕ → Option Pipe → Type 0
 HasEnd i None = ⊥
 HasEnd i (Some p) = (p.dialler.space ≡ i) ⊎ ((p.accepter.space ≡ i) × (Worlds.is_unopened p.accepter.phase ≡ false))
 
@@ -108,24 +108,24 @@ ends-more i (suc n) (p ∷ ps) q h = ends-more i n ps q h
 
 -- ---- what is kept
 
-abbrev Apart : ℕ × ℕ → Type 0
+abbrev pub Apart : ℕ × ℕ → Type 0
 Apart p = p.0 ≡ p.1 → ⊥
 
-abbrev Opening : Space → Type 0
+abbrev pub Opening : Space → Type 0
 Opening s = OpensOnce s.history
 
-abbrev SpaceAway : Space → Type 0
+abbrev pub SpaceAway : Space → Type 0
 SpaceAway s = Away s.setting s.state
 
-record OnceFor (all : List Space) (w : World) : Type 0 where
-  same : w.spaces ≡ all
-  asked : AllOf Apart w.asked
-  pipes : AllOf HasTwoEnds w.pipes
-  ends : (i n : ℕ) (s : Space) → slice_get all i ≡ Some s → opened n s.history ≡ true → HasEnd i (slice_get w.pipes n)
-  once : AllOf Opening all
-  away : AllOf SpaceAway all
+pub record OnceFor (all : List Space) (w : World) : Type 0 where
+  pub same : w.spaces ≡ all
+  pub asked : AllOf Apart w.asked
+  pub pipes : AllOf HasTwoEnds w.pipes
+  pub ends : (i n : ℕ) (s : Space) → slice_get all i ≡ Some s → opened n s.history ≡ true → HasEnd i (slice_get w.pipes n)
+  pub once : AllOf Opening all
+  pub away : AllOf SpaceAway all
 
-abbrev Once : World → Type 0
+abbrev pub Once : World → Type 0
 Once w = OnceFor w.spaces w
 
 once-for : (all : List Space) (w : World) → OnceFor all w → Once w
@@ -335,7 +335,7 @@ unfolding Worlds.step_task
 step-once i task w h = some-once (slice_get w.spaces i) _ h (λ s is. some-once (task_at s.state task) _ (why-once _ h)
     (λ t found. if-once t.waits (λ e. why-once _ h) (acts-once w i (Worlds.step_events task t.task) w (silent-new w i _ (lent-silent task t.task)) h h)))
 
-pair-apart : (a b : ℕ) (ps : List (ℕ × ℕ)) → AllOf Apart ps → list_any (Worlds.is_pair a b) ps ≡ true → a ≡ b → ⊥
+pub pair-apart : (a b : ℕ) (ps : List (ℕ × ℕ)) → AllOf Apart ps → list_any (Worlds.is_pair a b) ps ≡ true → a ≡ b → ⊥
 pair-apart a b [] k e same = true≢false (sym e)
 pair-apart a b (p ∷ ps) k e same = pick (Worlds.is_pair a b p) refl e (pair-apart a b ps k.1)
   where
@@ -452,16 +452,19 @@ not-opened [] i n s is o = some-none s (sym is)
 not-opened (g ∷ gs) zero n s is o = true≢false (sym o ∙ sym (ap (λ (u : Space). opened n u.history) (some-same is)))
 not-opened (g ∷ gs) (suc i) n s is o = not-opened gs i n s is o
 
-pub connections_are_opened_once : ConnectionsAreOpenedOnce
+pub once_run : (settings : List Setting) (events : List WorldEvent) → Once (run (new_world settings) events)
 unfolding new_world
-connections_are_opened_once settings events = ends (run (new_world settings) events) (states_are_histories settings events) (run-once events (new_world settings) (record {
+once_run settings events = run-once events (new_world settings) (record {
   same = refl;
   asked = tt;
   pipes = tt;
   ends = λ i n s is o. absurd (not-opened settings i n s is o);
   once = (news settings).0;
   away = (news settings).1;
-}))
+})
+
+pub connections_are_opened_once : ConnectionsAreOpenedOnce
+connections_are_opened_once settings events = ends (run (new_world settings) events) (states_are_histories settings events) (once_run settings events)
   where
     came : (s : Space) → HasHistory s → Opening s → IsOpenedOnce s
     came s e o = (o, subst Rattle.sp_laws.specs.Inbound.CallsCameOnce (sym e) (calls_that_come_are_once s.setting s.history o))

@@ -1,270 +1,72 @@
--- What comes was sent, through every event of a world.
+-- What comes was sent, and nothing comes after what was lost, through every event of a world.
 use mathlib.Core.Path.{sym, ap, subst, ◌∙◌}
 use Rattle.std.proofs.Common.{inl, inr}
 use Rattle.std.proofs.lemmas.Bool.{true≢false, eqb-true, eq-eqb}
-use Rattle.std.specs.Prelude.{if◌then◌else◌, ◌≡◌, ◌⊎◌, refl, ℕ, zero, suc, ◌-◌, ◌==◌, ◌||◌, length, Bool, true, false, List, [], ◌∷◌, ◌++◌, Option, None, Some, slice_get, map}
+use Rattle.std.specs.Prelude.{if◌then◌else◌, ◌≡◌, ◌⊎◌, refl, ℕ, zero, suc, ◌==◌, ◌||◌, length, Bool, true, false, List, [], ◌∷◌, ◌++◌, Option, None, Some, slice_get, map}
 use Rattle.net_message.specs.declared.message.Message.{Message}
 use Rattle.net_message.specs.declared.message.Message.TheVariants as message
 use Rattle.uuid.specs.declared.Uuid.{Uuid}
 use Rattle.sp_rules.specs.Behaviours.{Op, Create, Get, Put, Call}
 use Rattle.sp_rules.specs.Classes.{Setting}
-use Rattle.sp_rules.specs.Events.{Event, Moment, Sweep, Root, RootAck, Bind, Rebind, Unbind, Lookup, Opened, Refused, Received, Closed, ReadFailed, Bad, WriteFailed, Committed, Parked, GivenBack, Finished, Output, Started, Ended, Withdrawn, Denied, Send, Dial, Close, Ready}
+use Rattle.sp_rules.specs.Events.{Event, Opened, Refused, Received, Closed, ReadFailed, WriteFailed, Output, Started, Ended, Withdrawn, Denied, Send, Dial, Close, Ready}
 use Rattle.sp_rules.specs.Laws.{AllOf, HasHistory}
-use Rattle.sp_rules.specs.Lists.{each, with_some, at_index}
+use Rattle.sp_rules.specs.Lists.{with_some, at_index}
 use Rattle.sp_rules.specs.Refusals.{Refusal, refusal}
 use Rattle.sp_rules.specs.Space
-use Rattle.sp_rules.specs.State.{task_at}
+use Rattle.sp_rules.specs.State.{State, task_at, is_open}
 use Rattle.sp_rules.specs.Tasks.{Task, Stand, Runs, AsksFor, HasEnded, stand, step}
 use Rattle.sp_rules.specs.Worlds
 use Rattle.sp_rules.specs.Worlds.{World, Space, End, Dialler, Accepter, Side, Pipe, Phase, Unopened, Live, Over, side, other, grown, put, acts, take_event, after, happens, run, new_space, new_world, WorldEvent, Own, Step, Open, Refuse, Accept, Deliver, ReadFails, WriteFails}
-use Rattle.sp_rules.proofs.AllLemmas.{some-none, or-left, or-right, all-weaken}
+use Rattle.sp_rules.proofs.AllLemmas.{some-none, or-left, or-right, all-with}
 use Rattle.sp_rules.proofs.OwnLemmas.{some-same, and-left}
+use Rattle.sp_laws.specs.Inbound.{opens}
 use Rattle.sp_laws.specs.Others.{HasTwoEnds}
-use Rattle.sp_laws.proofs.OnceRules.{connections_are_opened_once}
-use Rattle.sp_call_laws.specs.Directions.{opens_end, was_opened, HasOpened, GoesItsWay}
+use Rattle.sp_laws.proofs.OnceRules.{Apart, pair-apart, once_run}
+use Rattle.sp_frame_laws.specs.Open.{ends_on, is_sent_on, IsSilent, GoesWhereOpen}
+use Rattle.sp_frame_laws.proofs.OpenLemmas.{frames_go_where_open}
+use Rattle.sp_frame_laws.proofs.ShutLemmas.{connections_end}
+use Rattle.sp_frame_laws.proofs.SilentLemmas.{ended_connections_are_silent}
+use Rattle.sp_call_laws.specs.Directions.{opens_end, was_opened, HasOpened, GoesItsWay, HasDirections}
 use Rattle.sp_call_laws.specs.Sent.{MaySend}
-use Rattle.sp_call_laws.proofs.DirectionLemmas.{frames_go_their_way}
-use Rattle.sp_world_laws.specs.Delivered.{frame_of, came_on, frame_in, sent_on, outputs_at, AreSomeOf, is_event_on, has_event_on, IsEnd, BringsWhatWasSent, Delivers, WhatComesWasSent}
-use Rattle.sp_world_laws.proofs.ListLemmas.{WasRow, row-of, row-more, row-last, row-past, some-more, some-last, some-fewer, append-after, append-none, first-of}
-
--- ---- what is sent
-
-pub sent-append : (conn : ℕ) (xs ys : List Output) → sent_on conn (xs ++ ys) ≡ sent_on conn xs ++ sent_on conn ys
-sent-append conn [] ys = refl
-sent-append conn (x ∷ xs) ys = ap (λ (l : List Message). frame_in conn x ++ l) (sent-append conn xs ys) ∙ sym (append-after (frame_in conn x) (sent_on conn xs) (sent_on conn ys))
-
--- the frames that a space has still to put on a connection
-abbrev still : ℕ → List Output → ℕ → ℕ → List Message
-still i os j conn = if i == j then sent_on conn os else []
-
-still-none : (i j conn : ℕ) → still i [] j conn ≡ []
-still-none i j conn = by (i == j)
-  where
-    by : (b : Bool) → if◌then◌else◌ {A = List Message} b [] [] ≡ []
-    by true = refl
-    by false = refl
-
--- an event of a connection is of a space that is an end of it, and so is a frame that is sent
-IsEndOf : ℕ → List Pipe → Output → Type 0
-IsEndOf i pipes (Send conn m) = IsEnd i (slice_get pipes conn)
-IsEndOf i pipes _ = Unit {0}
-
--- ---- what is kept
-
--- Toward an end what came and what is on its way is some of what the other end sent and is not still to be put.
-record Brings (all : List Space) (i : ℕ) (os : List Output) (conn : ℕ) (p : Pipe) (to : End) : Type 0 where
-  toward : (s : Space) → slice_get all (side to p).space ≡ Some s
-      → (done : List Message) × ((done ++ still i os (side (other to) p).space conn ≡ sent_on conn (outputs_at all (side (other to) p).space)) × AreSomeOf (came_on conn s.history ++ (side to p).queue) done)
-
-record Carries (all : List Space) (i : ℕ) (os : List Output) (w : World) : Type 0 where
-  same : w.spaces ≡ all
-  brings : (conn : ℕ) (p : Pipe) (to : End) → slice_get w.pipes conn ≡ Some p → Brings all i os conn p to
-  ends : (j conn : ℕ) (s : Space) → slice_get all j ≡ Some s → has_event_on conn s.history ≡ true → IsEnd j (slice_get w.pipes conn)
-
--- ---- pipes
-
--- the spaces of a pipe stay as they are
-record KeepsSpaces (f : Pipe → Pipe) : Type 0 where
-  dialler : (p : Pipe) → (f p).dialler.space ≡ p.dialler.space
-  accepter : (p : Pipe) → (f p).accepter.space ≡ p.accepter.space
-
-keeps-side : {f : Pipe → Pipe} → KeepsSpaces f → (e : End) (p : Pipe) → (side e (f p)).space ≡ (side e p).space
-keeps-side k Dialler p = k.dialler p
-keeps-side k Accepter p = k.accepter p
-
-set-keeps : (f : Side → Side) → ((s : Side) → (f s).space ≡ s.space) → (e : End) → KeepsSpaces (Worlds.set_side f e)
-set-keeps f k Dialler = record { dialler = λ p. k p.dialler; accepter = λ p. refl }
-set-keeps f k Accepter = record { dialler = λ p. refl; accepter = λ p. k p.accepter }
-
-ends-index : (f : Pipe → Pipe) → KeepsSpaces f → (i n conn : ℕ) (ps : List Pipe) → IsEnd i (slice_get ps n) → IsEnd i (slice_get (at_index f conn ps) n)
-ends-index f k i n conn [] h = h
-ends-index f k i zero zero (p ∷ ps) (inl d) = inl (k.dialler p ∙ d)
-ends-index f k i zero zero (p ∷ ps) (inr a) = inr (k.accepter p ∙ a)
-ends-index f k i zero (suc conn) (p ∷ ps) h = h
-ends-index f k i (suc n) zero (p ∷ ps) h = h
-ends-index f k i (suc n) (suc conn) (p ∷ ps) h = ends-index f k i n conn ps h
-
-ends-more : (i n : ℕ) (ps : List Pipe) (q : Pipe) → IsEnd i (slice_get ps n) → IsEnd i (slice_get (ps ++ q ∷ []) n)
-ends-more i n [] q h = absurd h
-ends-more i zero (p ∷ ps) q h = h
-ends-more i (suc n) (p ∷ ps) q h = ends-more i n ps q h
-
--- a pipe is changed, and what it brings with it
-pipes-carry : {all : List Space} {i : ℕ} {os ps : List Output} {w : World} (n : ℕ) (f : Pipe → Pipe) → KeepsSpaces f
-    → ((conn : ℕ) (p : Pipe) (to : End) → (n ≡ conn → ⊥) → Brings all i os conn p to → Brings all i ps conn p to)
-    → ((p : Pipe) → slice_get w.pipes n ≡ Some p → (to : End) → Brings all i os n p to → Brings all i ps n (f p) to)
-    → Carries all i os w → Carries all i ps (Worlds.on_pipe f n w)
-pipes-carry {all} {i} {os} {ps} {w} n f keeps others this h = record {
-  same = h.same;
-  brings = λ conn p to is. at conn p to (row-of f n conn w.pipes p is);
-  ends = λ j conn s is has. ends-index f keeps j conn n w.pipes (h.ends j conn s is has);
-}
-  where
-    at : (conn : ℕ) (p : Pipe) (to : End) → WasRow f n conn w.pipes p → Brings all i ps conn p to
-    at conn p to r = by r.1.1
-      where
-        by : ((n ≡ conn → ⊥) × (p ≡ r.0)) ⊎ ((n ≡ conn) × (p ≡ f r.0)) → Brings all i ps conn p to
-        by (inl x) = subst (λ q. Brings all i ps conn q to) (sym x.1) (others conn r.0 to x.0 (h.brings conn r.0 to r.1.0))
-        by (inr x) = subst (λ q. Brings all i ps conn q to) (sym x.1) (subst (λ m. Brings all i ps m (f r.0) to) x.0
-            (this r.0 (subst (λ m. slice_get w.pipes m ≡ Some r.0) (sym x.0) r.1.0) to (subst (λ m. Brings all i os m r.0 to) (sym x.0) (h.brings conn r.0 to r.1.0))))
-
--- ---- what a space answers goes into the world
-
--- an output that is no frame puts nothing
-unsent : {all : List Space} {i : ℕ} {os : List Output} {conn : ℕ} {p : Pipe} {to : End} (o : Output) → ((c : ℕ) → frame_in c o ≡ []) → Brings all i (o ∷ os) conn p to → Brings all i os conn p to
-unsent {all} {i} {os} {conn} {p} {to} o none b = record {
-  toward = λ s is.
-      let x = b.toward s is in
-      (x.0, (subst (λ (l : List Message). x.0 ++ (if i == (side (other to) p).space then l ++ sent_on conn os else []) ≡ sent_on conn (outputs_at all (side (other to) p).space)) (none conn) x.1.0, x.1.1));
-}
-
--- a frame of another connection puts nothing here
-elsewhere : {all : List Space} {i : ℕ} {os : List Output} {conn : ℕ} {p : Pipe} {to : End} (n : ℕ) (m : Message) → (n ≡ conn → ⊥) → Brings all i (Send n m ∷ os) conn p to → Brings all i os conn p to
-elsewhere {all} {i} {os} {conn} {p} {to} n m apart b = record {
-  toward = λ s is.
-      let x = b.toward s is in
-      (x.0, (subst (λ (c : Bool). x.0 ++ (if i == (side (other to) p).space then (if c then m ∷ [] else []) ++ sent_on conn os else []) ≡ sent_on conn (outputs_at all (side (other to) p).space)) (differs (n == conn) refl) x.1.0, x.1.1));
-}
-  where
-    differs : (c : Bool) → (n == conn) ≡ c → (n == conn) ≡ false
-    differs true e = absurd (apart (eqb-true n conn e))
-    differs false e = e
-
--- what a space has put is no longer still to be put
-counted : (i j n : ℕ) (m : Message) (os : List Output) (done all : List Message) → done ++ still i (Send n m ∷ os) j n ≡ all
-    → ((i ≡ j) × ((done ++ m ∷ []) ++ still i os j n ≡ all)) ⊎ (done ++ still i os j n ≡ all)
-counted i j n m os done all e = by (i == j) refl e
-  where
-    here : (if n == n then m ∷ [] else []) ≡ m ∷ []
-    here = ap (λ (b : Bool). if b then m ∷ [] else []) (eq-eqb n n refl)
-
-    by : (b : Bool) → (i == j) ≡ b → done ++ (if b then (if n == n then m ∷ [] else []) ++ sent_on n os else []) ≡ all
-        → ((i ≡ j) × ((done ++ m ∷ []) ++ (if b then sent_on n os else []) ≡ all)) ⊎ (done ++ (if b then sent_on n os else []) ≡ all)
-    by true is f = inl (eqb-true i j is, append-after done (m ∷ []) (sent_on n os) ∙ subst (λ (l : List Message). done ++ (l ++ sent_on n os) ≡ all) here f)
-    by false is f = inr f
-
--- the frame is on its way toward one end
-pushed : {all : List Space} {i : ℕ} {os : List Output} {n : ℕ} (m : Message) (p : Pipe) → IsEnd i (Some p) → (to : End) → Brings all i (Send n m ∷ os) n p to → Brings all i os n (Worlds.set_side (Worlds.queue_up m) (other (Worlds.end_of i p)) p) to
-pushed {all} {i} {os} {n} m p end to b = by (p.dialler.space == i) refl to b
-  where
-    -- toward this end it is on its way, and the other end is the space's
-    comes : (s : Space) (queue : List Message) (j : ℕ) → i ≡ j → (sent : List Message)
-        → (done : List Message) × ((done ++ still i (Send n m ∷ os) j n ≡ sent) × AreSomeOf (came_on n s.history ++ queue) done)
-        → (done : List Message) × ((done ++ still i os j n ≡ sent) × AreSomeOf (came_on n s.history ++ (queue ++ m ∷ [])) done)
-    comes s queue j same sent x = (x.0 ++ m ∷ [], (put-now, subst (λ (l : List Message). AreSomeOf l (x.0 ++ m ∷ [])) (append-after (came_on n s.history) queue (m ∷ [])) (some-last (came_on n s.history ++ queue) x.0 m x.1.1)))
-      where
-        now : (c : ℕ) → i ≡ c → x.0 ++ still i (Send n m ∷ os) c n ≡ sent → (x.0 ++ m ∷ []) ++ still i os c n ≡ sent
-        now c eq f = pick (i == c) (eq-eqb i c eq) f
-          where
-            here : (if n == n then m ∷ [] else []) ≡ m ∷ []
-            here = ap (λ (b : Bool). if b then m ∷ [] else []) (eq-eqb n n refl)
-
-            pick : (d : Bool) → d ≡ true → x.0 ++ (if d then (if n == n then m ∷ [] else []) ++ sent_on n os else []) ≡ sent → (x.0 ++ m ∷ []) ++ (if d then sent_on n os else []) ≡ sent
-            pick true e g = append-after x.0 (m ∷ []) (sent_on n os) ∙ subst (λ (l : List Message). x.0 ++ (l ++ sent_on n os) ≡ sent) here g
-            pick false e g = absurd (true≢false (sym e))
-
-        put-now : (x.0 ++ m ∷ []) ++ still i os j n ≡ sent
-        put-now = now j same x.1.0
-
-    -- toward the other end nothing is put, whoever sent it
-    passes : (s : Space) (queue : List Message) (j : ℕ) (sent : List Message)
-        → (done : List Message) × ((done ++ still i (Send n m ∷ os) j n ≡ sent) × AreSomeOf (came_on n s.history ++ queue) done)
-        → (done : List Message) × ((done ++ still i os j n ≡ sent) × AreSomeOf (came_on n s.history ++ queue) done)
-    passes s queue j sent x = pick (counted i j n m os x.0 sent x.1.0)
-      where
-        pick : ((i ≡ j) × ((x.0 ++ m ∷ []) ++ still i os j n ≡ sent)) ⊎ (x.0 ++ still i os j n ≡ sent) → (done : List Message) × ((done ++ still i os j n ≡ sent) × AreSomeOf (came_on n s.history ++ queue) done)
-        pick (inl y) = (x.0 ++ m ∷ [], (y.1, some-more (came_on n s.history ++ queue) x.0 (m ∷ []) x.1.1))
-        pick (inr y) = (x.0, (y, x.1.1))
-
-    accepts : (d : Bool) → (p.dialler.space == i) ≡ d → d ≡ false → IsEnd i (Some p) → i ≡ p.accepter.space
-    accepts d is not (inl e) = absurd (true≢false (sym (eq-eqb p.dialler.space i e) ∙ (is ∙ not)))
-    accepts d is not (inr e) = sym e
-
-    by : (d : Bool) → (p.dialler.space == i) ≡ d → (to : End) → Brings all i (Send n m ∷ os) n p to → Brings all i os n (Worlds.set_side (Worlds.queue_up m) (other (if d then Dialler else Accepter)) p) to
-    by true is Accepter b = record { toward = λ s at. comes s p.accepter.queue p.dialler.space (sym (eqb-true p.dialler.space i is)) (sent_on n (outputs_at all p.dialler.space)) (b.toward s at) }
-    by true is Dialler b = record { toward = λ s at. passes s p.dialler.queue p.accepter.space (sent_on n (outputs_at all p.accepter.space)) (b.toward s at) }
-    by false is Dialler b = record { toward = λ s at. comes s p.dialler.queue p.accepter.space (accepts false is refl end) (sent_on n (outputs_at all p.accepter.space)) (b.toward s at) }
-    by false is Accepter b = record { toward = λ s at. passes s p.accepter.queue p.dialler.space (sent_on n (outputs_at all p.dialler.space)) (b.toward s at) }
-
-same-carries : {all : List Space} {i : ℕ} {os ps : List Output} {w : World} (v : World) → v.spaces ≡ w.spaces → v.pipes ≡ w.pipes → ((conn : ℕ) (p : Pipe) (to : End) → Brings all i os conn p to → Brings all i ps conn p to) → Carries all i os w → Carries all i ps v
-same-carries {all} {i} {os} {ps} {w} v e q f h = record {
-  same = e ∙ h.same;
-  brings = λ conn p to is. f conn p to (h.brings conn p to (subst (λ rows. slice_get rows conn ≡ Some p) q is));
-  ends = λ j conn s is has. subst (λ rows. IsEnd j (slice_get rows conn)) (sym q) (h.ends j conn s is has);
-}
-
-put-carries : {all : List Space} {i : ℕ} {os : List Output} {w : World} (o : Output) → IsEndOf i w.pipes o → Carries all i (o ∷ os) w → Carries all i os (put i w o)
-unfolding IsEndOf
-put-carries {w = w} (Started task) a h = same-carries w refl refl (λ conn p to b. unsent (Started task) (λ c. refl) b) h
-put-carries {w = w} (Ended task outcome) a h = same-carries w refl refl (λ conn p to b. unsent (Ended task outcome) (λ c. refl) b) h
-put-carries {w = w} (Withdrawn ids) a h = same-carries w refl refl (λ conn p to b. unsent (Withdrawn ids) (λ c. refl) b) h
-put-carries {w = w} (Denied why) a h = same-carries w refl refl (λ conn p to b. unsent (Denied why) (λ c. refl) b) h
-put-carries {w = w} (Ready task) a h = same-carries w refl refl (λ conn p to b. unsent (Ready task) (λ c. refl) b) h
-put-carries {all} {i} {os} {w} (Dial peer) a h = asks (Worlds.number_of w.spaces peer)
-  where
-    asks : (j : Option ℕ) → Carries all i os (Worlds.asks_for i j w)
-    asks None = same-carries w refl refl (λ conn p to b. unsent (Dial peer) (λ c. refl) b) h
-    asks (Some j) = same-carries (record w { asked = w.asked ++ (i, j) ∷ [] }) refl refl (λ conn p to b. unsent (Dial peer) (λ c. refl) b) h
-put-carries {all} {i} {os} {w} (Close n) a h = pipes-carry n (λ p. Worlds.set_side Worlds.ends (Worlds.end_of i p) p)
-    (record { dialler = λ p. (set-keeps Worlds.ends (λ s. refl) (Worlds.end_of i p)).dialler p; accepter = λ p. (set-keeps Worlds.ends (λ s. refl) (Worlds.end_of i p)).accepter p })
-    (λ conn p to apart b. unsent (Close n) (λ c. refl) b) (λ p is to b. shut (Worlds.end_of i p) p to (unsent (Close n) (λ c. refl) b)) h
-  where
-    shut : (e : End) (p : Pipe) (to : End) → Brings all i os n p to → Brings all i os n (Worlds.set_side Worlds.ends e p) to
-    shut Dialler p Dialler b = record { toward = b.toward }
-    shut Dialler p Accepter b = record { toward = b.toward }
-    shut Accepter p Dialler b = record { toward = b.toward }
-    shut Accepter p Accepter b = record { toward = b.toward }
-put-carries {all} {i} {os} {w} (Send n m) a h = pipes-carry n (λ p. Worlds.set_side (Worlds.queue_up m) (other (Worlds.end_of i p)) p)
-    (record { dialler = λ p. (set-keeps (Worlds.queue_up m) (λ s. refl) (other (Worlds.end_of i p))).dialler p; accepter = λ p. (set-keeps (Worlds.queue_up m) (λ s. refl) (other (Worlds.end_of i p))).accepter p })
-    (λ conn p to apart b. elsewhere n m apart b) (λ p is to b. pushed m p (subst (IsEnd i) is a) to b) h
-
--- the ends of connections stay as outputs are put
-put-ends : (i j : ℕ) (conn : ℕ) (o : Output) (w : World) → IsEnd j (slice_get w.pipes conn) → IsEnd j (slice_get (put i w o).pipes conn)
-put-ends i j conn (Started task) w h = h
-put-ends i j conn (Ended task outcome) w h = h
-put-ends i j conn (Withdrawn ids) w h = h
-put-ends i j conn (Denied why) w h = h
-put-ends i j conn (Ready task) w h = h
-put-ends i j conn (Dial peer) w h = asks (Worlds.number_of w.spaces peer)
-  where
-    asks : (k : Option ℕ) → IsEnd j (slice_get (Worlds.asks_for i k w).pipes conn)
-    asks None = h
-    asks (Some k) = h
-put-ends i j conn (Close n) w h = ends-index (λ p. Worlds.set_side Worlds.ends (Worlds.end_of i p) p)
-    (record { dialler = λ p. (set-keeps Worlds.ends (λ s. refl) (Worlds.end_of i p)).dialler p; accepter = λ p. (set-keeps Worlds.ends (λ s. refl) (Worlds.end_of i p)).accepter p }) j conn n w.pipes h
-put-ends i j conn (Send n m) w h = ends-index (λ p. Worlds.set_side (Worlds.queue_up m) (other (Worlds.end_of i p)) p)
-    (record { dialler = λ p. (set-keeps (Worlds.queue_up m) (λ s. refl) (other (Worlds.end_of i p))).dialler p; accepter = λ p. (set-keeps (Worlds.queue_up m) (λ s. refl) (other (Worlds.end_of i p))).accepter p }) j conn n w.pipes h
-
-still-end : (i j : ℕ) (o p : Output) (w : World) → IsEndOf j w.pipes p → IsEndOf j (put i w o).pipes p
-unfolding IsEndOf
-still-end i j o (Send conn m) w h = put-ends i j conn o w h
-still-end i j o (Started task) w h = tt
-still-end i j o (Ended task outcome) w h = tt
-still-end i j o (Withdrawn ids) w h = tt
-still-end i j o (Denied why) w h = tt
-still-end i j o (Dial peer) w h = tt
-still-end i j o (Close conn) w h = tt
-still-end i j o (Ready task) w h = tt
-
-puts-carry : {all : List Space} (i : ℕ) (os : List Output) (w : World) → AllOf (IsEndOf i w.pipes) os → Carries all i os w → Carries all i [] (each (put i) os w)
-unfolding each
-puts-carry i [] w a h = h
-puts-carry i (o ∷ os) w a h = puts-carry i os (put i w o) (all-weaken (IsEndOf i w.pipes) (IsEndOf i (put i w o).pipes) os (λ p k. still-end i i o p w k) a.1) (put-carries o a.0 h)
+use Rattle.sp_call_laws.proofs.DirectionLemmas.{frames_go_their_way, spaces_have_directions}
+use Rattle.sp_world_laws.specs.Delivered.{frame_of, came_on, frame_in, sent_on, outputs_in, outputs_at, AreSomeOf, is_event_on, has_event_on, IsEnd, WhatComesWasSent}
+use Rattle.sp_world_laws.specs.InOrder.{AreInOrder, LostFramesComeLast}
+use Rattle.sp_world_laws.proofs.ListLemmas.{WasRow, row-of, row-more, row-last, row-past, some-all, some-more, append-after, append-none}
+use Rattle.sp_world_laws.proofs.QueueLemmas.{sent-append, still, still-none, IsEndOf, Brought, Carries, KeepsSpaces, keeps-side, set-keeps, set-phase, two-row, ends-index, ends-more, puts-carry, KeepsOrder, ends-order, cut, cut-order, cut-keeps, at-twice, ends-phases, cut-phases}
+pub use Rattle.sp_world_laws.proofs.QueueLemmas.{sent-append}
 
 -- ---- an event comes to a space
 
--- a world in which what comes was sent
-record Sound (w : World) : Type 0 where
-  delivers : Delivers w
+-- a world in which what comes was sent, in its order
+record Held (w : World) : Type 0 where
+  comes : (conn : ℕ) (p : Pipe) (to : End) → slice_get w.pipes conn ≡ Some p → (s : Space) → slice_get w.spaces (side to p).space ≡ Some s
+      → AreInOrder (came_on conn s.history) (side to p).queue (sent_on conn (outputs_at w.spaces (side (other to) p).space)) (side (other to) p).phase
+  ends : (i conn : ℕ) (s : Space) → slice_get w.spaces i ≡ Some s → has_event_on conn s.history ≡ true → IsEnd i (slice_get w.pipes conn)
+  two : (conn : ℕ) (p : Pipe) → slice_get w.pipes conn ≡ Some p → HasTwoEnds p
   histories : AllOf HasHistory w.spaces
 
--- A world is made ready for an event that comes to a space: with it what came is still some of what was sent.
+-- at an end that is over the connection is not open
+abbrev IsShut : World → Type 0
+IsShut w = (conn : ℕ) (p : Pipe) (end : End) → slice_get w.pipes conn ≡ Some p → (side end p).phase ≡ Over → (s : Space) → slice_get w.spaces (side end p).space ≡ Some s → is_open s.state conn ≡ false
+
+record Sound (w : World) : Type 0 where
+  held : Held w
+  over : IsShut w
+
+-- In a world that is made ready for an event, an end that is over is one that the event ends, or the connection is not open there and the event does not open it.
+abbrev ShutFor : World → ℕ → Event → Type 0
+ShutFor r i e = (conn : ℕ) (p : Pipe) (end : End) → slice_get r.pipes conn ≡ Some p → (side end p).phase ≡ Over → (s : Space) → slice_get r.spaces (side end p).space ≡ Some s
+    → ((is_open s.state conn ≡ false) × (i ≡ (side end p).space → opens conn e ≡ false)) ⊎ ((i ≡ (side end p).space) × (ends_on conn e ≡ true))
+
+-- A world is made ready for an event that comes to a space: with it what came is still the first of what was sent.
 record IsReady (r : World) (i : ℕ) (e : Event) : Type 0 where
   came : (conn : ℕ) (p : Pipe) (to : End) → slice_get r.pipes conn ≡ Some p → (s : Space) → slice_get r.spaces (side to p).space ≡ Some s
-      → ((i ≡ (side to p).space → ⊥) × AreSomeOf (came_on conn s.history ++ (side to p).queue) (sent_on conn (outputs_at r.spaces (side (other to) p).space)))
-      ⊎ ((i ≡ (side to p).space) × AreSomeOf (came_on conn (e ∷ s.history) ++ (side to p).queue) (sent_on conn (outputs_at r.spaces (side (other to) p).space)))
+      → ((i ≡ (side to p).space → ⊥) × AreInOrder (came_on conn s.history) (side to p).queue (sent_on conn (outputs_at r.spaces (side (other to) p).space)) (side (other to) p).phase)
+      ⊎ ((i ≡ (side to p).space) × AreInOrder (came_on conn (e ∷ s.history)) (side to p).queue (sent_on conn (outputs_at r.spaces (side (other to) p).space)) (side (other to) p).phase)
   ends : (j conn : ℕ) (s : Space) → slice_get r.spaces j ≡ Some s → has_event_on conn s.history ≡ true → IsEnd j (slice_get r.pipes conn)
   there : (conn : ℕ) → is_event_on conn e ≡ true → IsEnd i (slice_get r.pipes conn)
+  two : (conn : ℕ) (p : Pipe) → slice_get r.pipes conn ≡ Some p → HasTwoEnds p
+  over : ShutFor r i e
   histories : AllOf HasHistory r.spaces
 
 -- a connection that was opened has an event on it
@@ -296,20 +98,52 @@ sends-on h conn (message.Spent number) a = opened-on conn false h a
 sends-on h conn (message.Lease sequence period) a = opened-on conn false h a
 sends-on h conn (message.Cleaned sequence) a = opened-on conn false h a
 
-output-end : (i : ℕ) (pipes : List Pipe) (h : List Event) → ((conn : ℕ) → has_event_on conn h ≡ true → IsEnd i (slice_get pipes conn)) → (o : Output) → GoesItsWay h o → IsEndOf i pipes o
+-- what is known of outputs says where they go
+output-end : (all : List Space) (i : ℕ) (pipes : List Pipe) (s : Space) (e : Event) (t : State) → ((conn : ℕ) → has_event_on conn (e ∷ s.history) ≡ true → IsEnd i (slice_get pipes conn)) → ((conn : ℕ) → is_event_on conn e ≡ true → IsEnd i (slice_get pipes conn))
+    → ((u : Space) → slice_get all i ≡ Some u → u.state ≡ t) → (o : Output) → GoesItsWay (e ∷ s.history) o → GoesWhereOpen s.state e t o → IsEndOf all i pipes o
 unfolding IsEndOf
-output-end i pipes h ends (Send conn m) a = ends conn (sends-on h conn m a)
-output-end i pipes h ends (Started task) a = tt
-output-end i pipes h ends (Ended task outcome) a = tt
-output-end i pipes h ends (Withdrawn ids) a = tt
-output-end i pipes h ends (Denied why) a = tt
-output-end i pipes h ends (Dial peer) a = tt
-output-end i pipes h ends (Close conn) a = tt
-output-end i pipes h ends (Ready task) a = tt
+output-end all i pipes s e t ends there now (Send conn m) a b = ends conn (sends-on (e ∷ s.history) conn m a)
+output-end all i pipes s e t ends there now (Close conn) a b = (
+  there conn (subst (λ d. is_event_on conn d ≡ true) (sym b.0.1) (eq-eqb conn conn refl)),
+  λ u at. ap (λ (v : State). is_open v conn) (now u at) ∙ b.1,
+)
+output-end all i pipes s e t ends there now (Started task) a b = tt
+output-end all i pipes s e t ends there now (Ended task outcome) a b = tt
+output-end all i pipes s e t ends there now (Withdrawn ids) a b = tt
+output-end all i pipes s e t ends there now (Denied why) a b = tt
+output-end all i pipes s e t ends there now (Dial peer) a b = tt
+output-end all i pipes s e t ends there now (Ready task) a b = tt
 
 ways : (e : Event) (s : Space) → HasHistory s → AllOf (GoesItsWay (e ∷ s.history)) (Space.on s.setting e s.state).1
 unfolding Space.outputs_of
 ways e s eq = subst (λ t. AllOf (GoesItsWay (e ∷ s.history)) (Space.on s.setting e t).1) (sym eq) (frames_go_their_way s.setting s.history e)
+
+places : (e : Event) (s : Space) → HasHistory s → AllOf (GoesWhereOpen s.state e (Space.on s.setting e s.state).0) (Space.on s.setting e s.state).1
+unfolding Space.outputs_of
+places e s eq = subst (λ t. AllOf (GoesWhereOpen t e (Space.on s.setting e t).0) (Space.on s.setting e t).1) (sym eq) (frames_go_where_open s.setting s.history e)
+
+-- nothing is sent where it was not open, nor where the event ends it
+silent-sent : (conn : ℕ) (os : List Output) → IsSilent conn os → sent_on conn os ≡ []
+silent-sent conn [] a = refl
+silent-sent conn (o ∷ os) a = ap (λ (l : List Message). l ++ sent_on conn os) (one o a.0) ∙ silent-sent conn os a.1
+  where
+    one : (o : Output) → is_sent_on conn o ≡ false → frame_in conn o ≡ []
+    one (Send c m) e = ap (λ (b : Bool). if b then m ∷ [] else []) e
+    one (Started task) e = refl
+    one (Ended task outcome) e = refl
+    one (Withdrawn ids) e = refl
+    one (Denied why) e = refl
+    one (Dial peer) e = refl
+    one (Close c) e = refl
+    one (Ready task) e = refl
+
+silences : (e : Event) (conn : ℕ) (s : Space) → HasHistory s → ((is_open s.state conn ≡ false) × (opens conn e ≡ false)) ⊎ (ends_on conn e ≡ true) → sent_on conn (Space.on s.setting e s.state).1 ≡ []
+unfolding Space.outputs_of
+silences e conn s eq = subst (λ (t : State). ((is_open t conn ≡ false) × (opens conn e ≡ false)) ⊎ (ends_on conn e ≡ true) → sent_on conn (Space.on s.setting e t).1 ≡ []) (sym eq) by
+  where
+    by : ((is_open (Space.state_of s.setting s.history) conn ≡ false) × (opens conn e ≡ false)) ⊎ (ends_on conn e ≡ true) → sent_on conn (Space.on s.setting e (Space.state_of s.setting s.history)).1 ≡ []
+    by (inl x) = silent-sent conn (Space.on s.setting e (Space.state_of s.setting s.history)).1 ((ended_connections_are_silent s.setting s.history e conn).shut x.0 x.1)
+    by (inr x) = silent-sent conn (Space.on s.setting e (Space.state_of s.setting s.history)).1 ((ended_connections_are_silent s.setting s.history e conn).ended x)
 
 history-at : (n : ℕ) (xs : List Space) (x : Space) → slice_get xs n ≡ Some x → AllOf HasHistory xs → HasHistory x
 history-at n [] x e a = absurd (some-none x (sym e))
@@ -321,26 +155,6 @@ unfolding Space.state_of
 histories-grow e i [] a = tt
 histories-grow e zero (s ∷ xs) a = (ap (λ t. (Space.on s.setting e t).0) a.0, a.1)
 histories-grow e (suc i) (s ∷ xs) a = (a.0, histories-grow e i xs a.1)
-
--- the spaces of the world after an event are those before, and the one to which it came
-taken-spaces : (i : ℕ) (os : List Output) (w : World) → (each (put i) os w).spaces ≡ w.spaces
-unfolding each
-taken-spaces i [] w = refl
-taken-spaces i (o ∷ os) w = taken-spaces i os (put i w o) ∙ one o
-  where
-    one : (o : Output) → (put i w o).spaces ≡ w.spaces
-    one (Started task) = refl
-    one (Ended task outcome) = refl
-    one (Withdrawn ids) = refl
-    one (Denied why) = refl
-    one (Send conn m) = refl
-    one (Dial peer) = asks (Worlds.number_of w.spaces peer)
-      where
-        asks : (j : Option ℕ) → (Worlds.asks_for i j w).spaces ≡ w.spaces
-        asks None = refl
-        asks (Some j) = refl
-    one (Close conn) = refl
-    one (Ready task) = refl
 
 -- what the space to which an event comes has answered
 outputs-grow : (e : Event) (i j : ℕ) (xs : List Space) (s : Space) → i ≡ j → slice_get xs i ≡ Some s → outputs_at (at_index (grown e) i xs) j ≡ outputs_at xs j ++ (Space.on s.setting e s.state).1
@@ -364,6 +178,8 @@ grows-carries i e s r at h = record {
   same = refl;
   brings = λ conn p to is. record { toward = λ u to-u. toward conn p to is u (row-of (grown e) i (side to p).space r.spaces u to-u) };
   ends = λ j conn u is has. ends j conn u has (row-of (grown e) i j r.spaces u is);
+  two = h.two;
+  over = λ conn p end is phase u at-u. shut conn p end is phase u (row-of (grown e) i (side end p).space r.spaces u at-u);
 }
   where
     os : List Output
@@ -380,6 +196,17 @@ grows-carries i e s r at h = record {
         by (inl y) = h.ends j conn x.0 x.1.0 (subst (λ (v : Space). has_event_on conn v.history ≡ true) y.1 has)
         by (inr y) = now y.0 (is_event_on conn e) refl (subst (λ (v : Space). has_event_on conn v.history ≡ true) y.1 has)
 
+    -- an end that is over has the connection no longer open
+    shut : (conn : ℕ) (p : Pipe) (end : End) → slice_get r.pipes conn ≡ Some p → (side end p).phase ≡ Over → (u : Space) → WasRow (grown e) i (side end p).space r.spaces u → is_open u.state conn ≡ false
+    shut conn p end is phase u x = by x.1.1 (h.over conn p end is phase x.0 x.1.0)
+      where
+        by : ((i ≡ (side end p).space → ⊥) × (u ≡ x.0)) ⊎ ((i ≡ (side end p).space) × (u ≡ grown e x.0))
+            → ((is_open x.0.state conn ≡ false) × (i ≡ (side end p).space → opens conn e ≡ false)) ⊎ ((i ≡ (side end p).space) × (ends_on conn e ≡ true)) → is_open u.state conn ≡ false
+        by (inl a) (inl b) = ap (λ (v : Space). is_open v.state conn) a.1 ∙ b.0
+        by (inl a) (inr b) = absurd (a.0 b.0)
+        by (inr a) (inl b) = ap (λ (v : Space). is_open v.state conn) a.1 ∙ (connections_end x.0.setting x.0.state e conn).stays b.0 (b.1 a.0)
+        by (inr a) (inr b) = ap (λ (v : Space). is_open v.state conn) a.1 ∙ (connections_end x.0.setting x.0.state e conn).ends b.1
+
     -- what the other end has put, and has still to put, is what it sent
     sends : (conn j : ℕ) → sent_on conn (outputs_at r.spaces j) ++ still i os j conn ≡ sent_on conn (outputs_at (at_index (grown e) i r.spaces) j)
     sends conn j = by (i == j) refl
@@ -388,38 +215,71 @@ grows-carries i e s r at h = record {
         by true f = sym (ap (sent_on conn) (outputs-grow e i j r.spaces s (eqb-true i j f) at) ∙ sent-append conn (outputs_at r.spaces j) os)
         by false f = append-none (sent_on conn (outputs_at r.spaces j)) ∙ ap (sent_on conn) (sym (outputs-stay e i j r.spaces (λ q. true≢false (sym (eq-eqb i j q) ∙ f))))
 
+    -- an end that is over has nothing to put
+    nothing : (conn : ℕ) (p : Pipe) (end : End) → slice_get r.pipes conn ≡ Some p → (side end p).phase ≡ Over → still i os (side end p).space conn ≡ []
+    nothing conn p end is phase = by (i == (side end p).space) refl
+      where
+        here : i ≡ (side end p).space → sent_on conn os ≡ []
+        here same = pick (h.over conn p end is phase s (subst (λ j. slice_get r.spaces j ≡ Some s) same at))
+          where
+            pick : ((is_open s.state conn ≡ false) × (i ≡ (side end p).space → opens conn e ≡ false)) ⊎ ((i ≡ (side end p).space) × (ends_on conn e ≡ true)) → sent_on conn os ≡ []
+            pick (inl x) = silences e conn s (history-at i r.spaces s at h.histories) (inl (x.0, x.1 same))
+            pick (inr x) = silences e conn s (history-at i r.spaces s at h.histories) (inr x.1)
+
+        by : (b : Bool) → (i == (side end p).space) ≡ b → (if b then sent_on conn os else []) ≡ []
+        by true f = here (eqb-true i (side end p).space f)
+        by false f = refl
+
     toward : (conn : ℕ) (p : Pipe) (to : End) → slice_get r.pipes conn ≡ Some p → (u : Space) → WasRow (grown e) i (side to p).space r.spaces u
-        → (done : List Message) × ((done ++ still i os (side (other to) p).space conn ≡ sent_on conn (outputs_at (at_index (grown e) i r.spaces) (side (other to) p).space)) × AreSomeOf (came_on conn u.history ++ (side to p).queue) done)
-    toward conn p to is u x = (sent, (sends conn (side (other to) p).space, some x.1.1 (h.came conn p to is x.0 x.1.0)))
+        → (done : List Message) × ((done ++ still i os (side (other to) p).space conn ≡ sent_on conn (outputs_at (at_index (grown e) i r.spaces) (side (other to) p).space))
+        × Brought (came_on conn u.history) (side to p).queue done (still i os (side (other to) p).space conn) (side (other to) p).phase)
+    toward conn p to is u x = (sent, (sends conn (side (other to) p).space, brought (some x.1.1 (h.came conn p to is x.0 x.1.0))))
       where
         sent : List Message
         sent = sent_on conn (outputs_at r.spaces (side (other to) p).space)
 
+        brought : AreInOrder (came_on conn u.history) (side to p).queue sent (side (other to) p).phase → Brought (came_on conn u.history) (side to p).queue sent (still i os (side (other to) p).space conn) (side (other to) p).phase
+        brought a = record { lost = a.lost; all = a.all; ended = by a.ended }
+          where
+            by : (a.lost ≡ []) ⊎ ((side (other to) p).phase ≡ Over) → (a.lost ≡ []) ⊎ (((side (other to) p).phase ≡ Over) × (still i os (side (other to) p).space conn ≡ []))
+            by (inl none) = inl none
+            by (inr over) = inr (over, nothing conn p (other to) is over)
+
         some : ((i ≡ (side to p).space → ⊥) × (u ≡ x.0)) ⊎ ((i ≡ (side to p).space) × (u ≡ grown e x.0))
-            → ((i ≡ (side to p).space → ⊥) × AreSomeOf (came_on conn x.0.history ++ (side to p).queue) sent) ⊎ ((i ≡ (side to p).space) × AreSomeOf (came_on conn (e ∷ x.0.history) ++ (side to p).queue) sent)
-            → AreSomeOf (came_on conn u.history ++ (side to p).queue) sent
-        some (inl a) (inl b) = subst (λ (z : Space). AreSomeOf (came_on conn z.history ++ (side to p).queue) sent) (sym a.1) b.1
+            → ((i ≡ (side to p).space → ⊥) × AreInOrder (came_on conn x.0.history) (side to p).queue sent (side (other to) p).phase) ⊎ ((i ≡ (side to p).space) × AreInOrder (came_on conn (e ∷ x.0.history)) (side to p).queue sent (side (other to) p).phase)
+            → AreInOrder (came_on conn u.history) (side to p).queue sent (side (other to) p).phase
+        some (inl a) (inl b) = subst (λ (z : Space). AreInOrder (came_on conn z.history) (side to p).queue sent (side (other to) p).phase) (sym a.1) b.1
         some (inl a) (inr b) = absurd (a.0 b.0)
         some (inr a) (inl b) = absurd (b.0 a.0)
-        some (inr a) (inr b) = subst (λ (z : Space). AreSomeOf (came_on conn z.history ++ (side to p).queue) sent) (sym a.1) b.1
+        some (inr a) (inr b) = subst (λ (z : Space). AreInOrder (came_on conn z.history) (side to p).queue sent (side (other to) p).phase) (sym a.1) b.1
 
 -- all is put
 settled : {all : List Space} {i : ℕ} {w : World} → AllOf HasHistory all → Carries all i [] w → Sound w
 settled {all} {i} {w} hs h = record {
-  delivers = record {
-    brings = λ conn p to is s at.
-        let x = (h.brings conn p to is).toward s (subst (λ (ss : List Space). slice_get ss (side to p).space ≡ Some s) h.same at) in
-        subst (AreSomeOf (came_on conn s.history ++ (side to p).queue)) (sym (append-none x.0) ∙ (ap (λ (l : List Message). x.0 ++ l) (sym (still-none i (side (other to) p).space conn))
-        ∙ (x.1.0 ∙ ap (λ (ss : List Space). sent_on conn (outputs_at ss (side (other to) p).space)) (sym h.same)))) x.1.1;
+  held = record {
+    comes = λ conn p to is s at. whole conn p to s ((h.brings conn p to is).toward s (subst (λ (ss : List Space). slice_get ss (side to p).space ≡ Some s) h.same at));
     ends = λ j conn s is has. h.ends j conn s (subst (λ (ss : List Space). slice_get ss j ≡ Some s) h.same is) has;
+    two = h.two;
+    histories = subst (AllOf HasHistory) (sym h.same) hs;
   };
-  histories = subst (AllOf HasHistory) (sym h.same) hs;
+  over = λ conn p end is phase s at. h.over conn p end is phase s (subst (λ (ss : List Space). slice_get ss (side end p).space ≡ Some s) h.same at);
 }
+  where
+    whole : (conn : ℕ) (p : Pipe) (to : End) (s : Space) → (done : List Message) × ((done ++ still i [] (side (other to) p).space conn ≡ sent_on conn (outputs_at all (side (other to) p).space)) × Brought (came_on conn s.history) (side to p).queue done (still i [] (side (other to) p).space conn) (side (other to) p).phase)
+        → AreInOrder (came_on conn s.history) (side to p).queue (sent_on conn (outputs_at w.spaces (side (other to) p).space)) (side (other to) p).phase
+    whole conn p to s x = subst (λ (l : List Message). AreInOrder (came_on conn s.history) (side to p).queue l (side (other to) p).phase)
+        (sym (append-none x.0) ∙ (ap (λ (l : List Message). x.0 ++ l) (sym (still-none i (side (other to) p).space conn)) ∙ (x.1.0 ∙ ap (λ (ss : List Space). sent_on conn (outputs_at ss (side (other to) p).space)) (sym h.same))))
+        (record { lost = x.1.1.lost; all = x.1.1.all; ended = by x.1.1.ended })
+      where
+        by : (x.1.1.lost ≡ []) ⊎ (((side (other to) p).phase ≡ Over) × (still i [] (side (other to) p).space conn ≡ [])) → (x.1.1.lost ≡ []) ⊎ ((side (other to) p).phase ≡ Over)
+        by (inl none) = inl none
+        by (inr y) = inr y.0
 
 take-sound : (i : ℕ) (e : Event) (s : Space) (r : World) → slice_get r.spaces i ≡ Some s → IsReady r i e → Sound (take_event i e s r)
 unfolding take_event
 take-sound i e s r at h = settled (histories-grow e i r.spaces h.histories) (puts-carry i (Space.on s.setting e s.state).1 (record r { spaces = at_index (grown e) i r.spaces })
-    (all-weaken (GoesItsWay (e ∷ s.history)) (IsEndOf i r.pipes) (Space.on s.setting e s.state).1 (λ o a. output-end i r.pipes (e ∷ s.history) there o a) (ways e s (history-at i r.spaces s at h.histories))) (grows-carries i e s r at h))
+    (all-with (GoesItsWay (e ∷ s.history)) (GoesWhereOpen s.state e (Space.on s.setting e s.state).0) (IsEndOf (at_index (grown e) i r.spaces) i r.pipes) (Space.on s.setting e s.state).1
+    (λ o a b. output-end (at_index (grown e) i r.spaces) i r.pipes s e (Space.on s.setting e s.state).0 there h.there now o a b) (ways e s (history-at i r.spaces s at h.histories)) (places e s (history-at i r.spaces s at h.histories))) (grows-carries i e s r at h))
   where
     there : (conn : ℕ) → is_event_on conn e || has_event_on conn s.history ≡ true → IsEnd i (slice_get r.pipes conn)
     there conn f = by (is_event_on conn e) refl f
@@ -428,33 +288,50 @@ take-sound i e s r at h = settled (histories-grow e i r.spaces h.histories) (put
         by true f g = h.there conn f
         by false f g = h.ends i conn s at g
 
+    now : (u : Space) → slice_get (at_index (grown e) i r.spaces) i ≡ Some u → u.state ≡ (Space.on s.setting e s.state).0
+    now u found = let x = row-of (grown e) i i r.spaces u found in by x.0 x.1.0 x.1.1
+      where
+        by : (v : Space) → slice_get r.spaces i ≡ Some v → ((i ≡ i → ⊥) × (u ≡ v)) ⊎ ((i ≡ i) × (u ≡ grown e v)) → u.state ≡ (Space.on s.setting e s.state).0
+        by v is (inl a) = absurd (a.0 refl)
+        by v is (inr a) = ap (λ (z : Space). z.state) a.1 ∙ ap (λ (z : Space). (Space.on z.setting e z.state).0) (some-same (sym is ∙ at))
+
 -- ---- events of a world
 
 -- nothing comes with an event
 abbrev Plain : Event → Type 0
 Plain e = (conn : ℕ) → (frame_of conn e ≡ []) × (is_event_on conn e ≡ false)
 
+opens-on : (conn : ℕ) (e : Event) → is_event_on conn e ≡ false → opens conn e ≡ false
+opens-on conn (Opened c dialled) is = is
+opens-on conn _ is = refl
+
+apart-of : (a b : ℕ) → (a == b) ≡ false → a ≡ b → ⊥
+apart-of a b f e = true≢false (sym (eq-eqb a b e) ∙ f)
+
 -- no frame comes with it
-plain-ready : (i : ℕ) (e : Event) (w : World) → ((conn : ℕ) → frame_of conn e ≡ []) → ((conn : ℕ) → is_event_on conn e ≡ true → IsEnd i (slice_get w.pipes conn)) → Sound w → IsReady w i e
-plain-ready i e w none there h = record {
-  came = λ conn p to is s at. by conn p to s (sent_on conn (outputs_at w.spaces (side (other to) p).space)) (h.delivers.brings conn p to is s at) (i == (side to p).space) refl;
-  ends = h.delivers.ends;
+plain-ready : (i : ℕ) (e : Event) (w : World) → ((conn : ℕ) → frame_of conn e ≡ []) → ((conn : ℕ) → is_event_on conn e ≡ true → IsEnd i (slice_get w.pipes conn)) → ShutFor w i e → Held w → IsReady w i e
+plain-ready i e w none there over h = record {
+  came = λ conn p to is s at. by conn p to s (sent_on conn (outputs_at w.spaces (side (other to) p).space)) (h.comes conn p to is s at) (i == (side to p).space) refl;
+  ends = h.ends;
   there = there;
+  two = h.two;
+  over = over;
   histories = h.histories;
 }
   where
-    apart : (a b : ℕ) → (a == b) ≡ false → a ≡ b → ⊥
-    apart a b f e = true≢false (sym (eq-eqb a b e) ∙ f)
-
-    by : (conn : ℕ) (p : Pipe) (to : End) (s : Space) (sent : List Message) → AreSomeOf (came_on conn s.history ++ (side to p).queue) sent → (b : Bool) → (i == (side to p).space) ≡ b
-        → ((i ≡ (side to p).space → ⊥) × AreSomeOf (came_on conn s.history ++ (side to p).queue) sent)
-        ⊎ ((i ≡ (side to p).space) × AreSomeOf (came_on conn (e ∷ s.history) ++ (side to p).queue) sent)
+    by : (conn : ℕ) (p : Pipe) (to : End) (s : Space) (sent : List Message) → AreInOrder (came_on conn s.history) (side to p).queue sent (side (other to) p).phase → (b : Bool) → (i == (side to p).space) ≡ b
+        → ((i ≡ (side to p).space → ⊥) × AreInOrder (came_on conn s.history) (side to p).queue sent (side (other to) p).phase)
+        ⊎ ((i ≡ (side to p).space) × AreInOrder (came_on conn (e ∷ s.history)) (side to p).queue sent (side (other to) p).phase)
     by conn p to s sent a true f = inr (
       eqb-true i (side to p).space f,
-      subst (λ (l : List Message). AreSomeOf ((came_on conn s.history ++ l) ++ (side to p).queue) sent) (sym (none conn))
-          (subst (λ (l : List Message). AreSomeOf (l ++ (side to p).queue) sent) (sym (append-none (came_on conn s.history))) a),
+      subst (λ (l : List Message). AreInOrder (came_on conn s.history ++ l) (side to p).queue sent (side (other to) p).phase) (sym (none conn))
+          (subst (λ (l : List Message). AreInOrder l (side to p).queue sent (side (other to) p).phase) (sym (append-none (came_on conn s.history))) a),
     )
-    by conn p to s sent a false f = inl (apart i (side to p).space f, a)
+    by conn p to s sent a false f = inl (apart-of i (side to p).space f, a)
+
+-- what was shut before stays so
+still-shut : (w : World) (i : ℕ) (e : Event) → IsShut w → ((conn : ℕ) → opens conn e ≡ false) → ShutFor w i e
+still-shut w i e over apart = λ conn p end is phase s at. inl (over conn p end is phase s at, λ same. apart conn)
 
 some-sound : {A : Type 0} {t : World} (x : Option A) (f : A → World) → Sound t → ((a : A) → x ≡ Some a → Sound (f a)) → Sound (with_some x t f)
 some-sound None f e h = e
@@ -468,8 +345,17 @@ if-sound : {t u : World} (b : Bool) → Sound t → Sound u → Sound (if b then
 if-sound true h k = h
 if-sound false h k = k
 
+asked-held : {w : World} (v : World) → v.spaces ≡ w.spaces → v.pipes ≡ w.pipes → Held w → Held v
+asked-held {w} v e q h = record {
+  comes = λ conn p to is s at. subst (λ (ss : List Space). AreInOrder (came_on conn s.history) (side to p).queue (sent_on conn (outputs_at ss (side (other to) p).space)) (side (other to) p).phase) (sym e)
+      (h.comes conn p to (subst (λ rows. slice_get rows conn ≡ Some p) q is) s (subst (λ (ss : List Space). slice_get ss (side to p).space ≡ Some s) e at));
+  ends = λ j conn s is has. subst (λ rows. IsEnd j (slice_get rows conn)) (sym q) (h.ends j conn s (subst (λ (ss : List Space). slice_get ss j ≡ Some s) e is) has);
+  two = λ conn p is. h.two conn p (subst (λ rows. slice_get rows conn ≡ Some p) q is);
+  histories = subst (AllOf HasHistory) (sym e) h.histories;
+}
+
 why-sound : (w : World) (why : Option Refusal) → Sound w → Sound (record w { refused = why })
-why-sound w why h = record { delivers = record { brings = h.delivers.brings; ends = h.delivers.ends }; histories = h.histories }
+why-sound w why h = record { held = asked-held (record w { refused = why }) refl refl h.held; over = λ conn p end is phase s at. h.over conn p end is phase s at }
 
 one-sound : (before : World) (i : ℕ) (e : Event) (r : World) → Sound before → IsReady r i e → Sound (acts before i (e ∷ []) r)
 unfolding acts
@@ -479,7 +365,7 @@ plain-sound : (before : World) (i : ℕ) (es : List Event) (w : World) → AllOf
 unfolding acts
 plain-sound before i [] w a old now = now
 plain-sound before i (e ∷ es) w a old now = some-sound (slice_get w.spaces i) _ old (λ s at. taken-sound (refusal s.setting (Worlds.lent_for e) s.state e) _
-    (plain-sound before i es (take_event i e s w) a.1 old (take-sound i e s w at (plain-ready i e w (λ conn. (a.0 conn).0) (λ conn f. absurd (true≢false (sym f ∙ (a.0 conn).1))) now))) (λ why. why-sound before (Some why) old))
+    (plain-sound before i es (take_event i e s w) a.1 old (take-sound i e s w at (plain-ready i e w (λ conn. (a.0 conn).0) (λ conn f. absurd (true≢false (sym f ∙ (a.0 conn).1))) (still-shut w i e now.over (λ conn. opens-on conn e (a.0 conn).1)) now.held))) (λ why. why-sound before (Some why) old))
 
 lent-plain : (id : ℕ) (task : Task) → AllOf Plain (Worlds.step_events id task)
 lent-plain id task = at (stand task)
@@ -502,97 +388,85 @@ lent-plain id task = at (stand task)
 own-plain : (e : Event) → Worlds.is_own e ≡ true → Plain e
 own-plain (Opened conn dialled) own = absurd (true≢false (sym own))
 own-plain (Received conn m) own = absurd (true≢false (sym own))
-own-plain (Moment moment) own = λ n. (refl, refl)
-own-plain Sweep own = λ n. (refl, refl)
-own-plain (Root method arguments fuel) own = λ n. (refl, refl)
-own-plain (RootAck task) own = λ n. (refl, refl)
-own-plain (Bind name value) own = λ n. (refl, refl)
-own-plain (Rebind name value) own = λ n. (refl, refl)
-own-plain (Unbind name) own = λ n. (refl, refl)
-own-plain (Lookup peer name) own = λ n. (refl, refl)
-own-plain (Refused peer) own = λ n. (refl, refl)
-own-plain (Closed conn) own = λ n. (refl, refl)
-own-plain (ReadFailed conn) own = λ n. (refl, refl)
-own-plain (Bad conn) own = λ n. (refl, refl)
-own-plain (WriteFailed conn lost) own = λ n. (refl, refl)
-own-plain (Committed task k op) own = λ n. (refl, refl)
-own-plain (Parked task k) own = λ n. (refl, refl)
-own-plain (GivenBack task k) own = λ n. (refl, refl)
-own-plain (Finished task k) own = λ n. (refl, refl)
-
-act-plain : (before : World) (i : ℕ) (e : Event) (w : World) → Plain e → Sound before → Sound w → Sound (acts before i (e ∷ []) w)
-act-plain before i e w a old now = plain-sound before i (e ∷ []) w (a, tt) old now
+own-plain _ own = λ n. (refl, refl)
 
 -- ---- a pipe is changed as no frame comes
 
--- A side stays its space's, and its queue loses at most its last frames.
-record IsCut (f : Side → Side) : Type 0 where
-  space : (s : Side) → (f s).space ≡ s.space
-  queue : (s : Side) → (rest : List Message) × ((f s).queue ++ rest ≡ s.queue)
-
-same-queue : (f : Side → Side) → ((s : Side) → (f s).space ≡ s.space) → ((s : Side) → (f s).queue ≡ s.queue) → IsCut f
-same-queue f space queue = record { space = space; queue = λ s. ([], append-none (f s).queue ∙ queue s) }
-
-pipes-sound : {w : World} (n : ℕ) (f : Pipe → Pipe) → KeepsSpaces f
-    → ((spaces : List Space) (p : Pipe) (to : End) → BringsWhatWasSent spaces n p to → BringsWhatWasSent spaces n (f p) to) → Sound w → Sound (Worlds.on_pipe f n w)
-pipes-sound {w} n f keeps k h = record {
-  delivers = record {
-    brings = λ conn p to is. at conn p to (row-of f n conn w.pipes p is);
-    ends = λ j conn s is has. ends-index f keeps j conn n w.pipes (h.delivers.ends j conn s is has);
-  };
+pipes-held : {w : World} (n : ℕ) (f : Pipe → Pipe) → KeepsSpaces f → ((p : Pipe) → slice_get w.pipes n ≡ Some p → KeepsOrder p (f p)) → Held w → Held (Worlds.on_pipe f n w)
+pipes-held {w} n f keeps k h = record {
+  comes = λ conn p to is s found. comes conn p to s found (row-of f n conn w.pipes p is);
+  ends = λ j conn s is has. ends-index f keeps j conn n w.pipes (h.ends j conn s is has);
+  two = λ conn p is. two-row keeps n conn w.pipes p h.two (row-of f n conn w.pipes p is);
   histories = h.histories;
 }
   where
-    at : (conn : ℕ) (p : Pipe) (to : End) → WasRow f n conn w.pipes p → BringsWhatWasSent w.spaces conn p to
-    at conn p to r = by r.1.1
+    Order : Pipe → End → Space → ℕ → Type 0
+    Order q to s conn = AreInOrder (came_on conn s.history) (side to q).queue (sent_on conn (outputs_at w.spaces (side (other to) q).space)) (side (other to) q).phase
+
+    changed : (conn : ℕ) (p : Pipe) (to : End) (s : Space) → slice_get w.spaces (side to (f p)).space ≡ Some s → slice_get w.pipes conn ≡ Some p → n ≡ conn
+        → AreInOrder (came_on conn s.history) (side to (f p)).queue (sent_on conn (outputs_at w.spaces (side (other to) (f p)).space)) (side (other to) (f p)).phase
+    changed conn p to s found is same = subst (λ j. AreInOrder (came_on conn s.history) (side to (f p)).queue (sent_on conn (outputs_at w.spaces j)) (side (other to) (f p)).phase) (sym (keeps-side keeps (other to) p))
+        (k p (subst (λ m. slice_get w.pipes m ≡ Some p) (sym same) is) to (came_on conn s.history) (sent_on conn (outputs_at w.spaces (side (other to) p).space)) (h.comes conn p to is s (subst (λ j. slice_get w.spaces j ≡ Some s) (keeps-side keeps to p) found)))
+
+    comes : (conn : ℕ) (p : Pipe) (to : End) (s : Space) → slice_get w.spaces (side to p).space ≡ Some s → WasRow f n conn w.pipes p
+        → AreInOrder (came_on conn s.history) (side to p).queue (sent_on conn (outputs_at w.spaces (side (other to) p).space)) (side (other to) p).phase
+    comes conn p to s found r = by r.1.1
       where
-        by : ((n ≡ conn → ⊥) × (p ≡ r.0)) ⊎ ((n ≡ conn) × (p ≡ f r.0)) → BringsWhatWasSent w.spaces conn p to
-        by (inl x) = subst (λ q. BringsWhatWasSent w.spaces conn q to) (sym x.1) (h.delivers.brings conn r.0 to r.1.0)
-        by (inr x) = subst (λ q. BringsWhatWasSent w.spaces conn q to) (sym x.1) (subst (λ m. BringsWhatWasSent w.spaces m (f r.0) to) x.0
-            (k w.spaces r.0 to (subst (λ m. BringsWhatWasSent w.spaces m r.0 to) (sym x.0) (h.delivers.brings conn r.0 to r.1.0))))
+        by : ((n ≡ conn → ⊥) × (p ≡ r.0)) ⊎ ((n ≡ conn) × (p ≡ f r.0)) → AreInOrder (came_on conn s.history) (side to p).queue (sent_on conn (outputs_at w.spaces (side (other to) p).space)) (side (other to) p).phase
+        by (inl x) = subst (λ q. AreInOrder (came_on conn s.history) (side to q).queue (sent_on conn (outputs_at w.spaces (side (other to) q).space)) (side (other to) q).phase) (sym x.1)
+            (h.comes conn r.0 to r.1.0 s (subst (λ q. slice_get w.spaces (side to q).space ≡ Some s) x.1 found))
+        by (inr x) = subst (λ q. AreInOrder (came_on conn s.history) (side to q).queue (sent_on conn (outputs_at w.spaces (side (other to) q).space)) (side (other to) q).phase) (sym x.1)
+            (changed conn r.0 to s (subst (λ q. slice_get w.spaces (side to q).space ≡ Some s) x.1 found) r.1.0 x.0)
 
-cut-brings : (f : Side → Side) → IsCut f → (n : ℕ) (e : End) (spaces : List Space) (p : Pipe) (to : End) → BringsWhatWasSent spaces n p to → BringsWhatWasSent spaces n (Worlds.set_side f e p) to
-cut-brings f k n e spaces p to b = by e to b
+-- Which ends are over after one was ended.
+ended-row : (conn : ℕ) (end : End) (f : Pipe → Pipe) → KeepsSpaces f → ((p : Pipe) (e : End) → (side e (f p)).phase ≡ Over → ((side e p).phase ≡ Over) ⊎ (e ≡ end)) → (e : Event) (p : Pipe) (w : World) → slice_get w.pipes conn ≡ Some p
+    → ends_on conn e ≡ true → ((n : ℕ) → opens n e ≡ false) → IsShut w → ShutFor (Worlds.on_pipe f conn w) (side end p).space e
+ended-row conn end f keeps phases e p w at ends apart over = λ n q x is phase s found. by n q x phase s found (row-of f conn n w.pipes q is)
   where
-    same : (sp : ℕ) (old : ℕ) → sp ≡ old → (s : Space) → slice_get spaces sp ≡ Some s → slice_get spaces old ≡ Some s
-    same sp old eq s at = subst (λ n. slice_get spaces n ≡ Some s) eq at
+    by : (n : ℕ) (q : Pipe) (x : End) → (side x q).phase ≡ Over → (s : Space) → slice_get w.spaces (side x q).space ≡ Some s → WasRow f conn n w.pipes q
+        → ((is_open s.state n ≡ false) × ((side end p).space ≡ (side x q).space → opens n e ≡ false)) ⊎ (((side end p).space ≡ (side x q).space) × (ends_on n e ≡ true))
+    by n q x phase s found r = pick r.1.1
+      where
+        now : (conn ≡ n) → (q ≡ f r.0) → ((side x r.0).phase ≡ Over) ⊎ (x ≡ end) → ((is_open s.state n ≡ false) × ((side end p).space ≡ (side x q).space → opens n e ≡ false)) ⊎ (((side end p).space ≡ (side x q).space) × (ends_on n e ≡ true))
+        now same eq (inl was) = inl (over n r.0 x r.1.0 was s (subst (λ j. slice_get w.spaces j ≡ Some s) (keeps-side keeps x r.0) (subst (λ y. slice_get w.spaces (side x y).space ≡ Some s) eq found)), λ own. apart n)
+        now same eq (inr is) =
+            let row : r.0 ≡ p = some-same (sym r.1.0 ∙ subst (λ m. slice_get w.pipes m ≡ Some p) same at) in
+            inr (sym (ap (λ y. (side x y).space) eq ∙ (keeps-side keeps x r.0 ∙ (ap (λ y. (side x y).space) row ∙ ap (λ y. (side y p).space) is))), subst (λ m. ends_on m e ≡ true) same ends)
 
-    shorter : (s : Space) (sent : List Message) (x : Side) → ((rest : List Message) × ((f x).queue ++ rest ≡ x.queue)) → AreSomeOf (came_on n s.history ++ x.queue) sent → AreSomeOf (came_on n s.history ++ (f x).queue) sent
-    shorter s sent x r a = some-fewer (came_on n s.history ++ (f x).queue) r.0 sent
-        (subst (λ (l : List Message). AreSomeOf l sent) (ap (λ (l : List Message). came_on n s.history ++ l) (sym r.1) ∙ sym (append-after (came_on n s.history) (f x).queue r.0)) a)
+        pick : ((conn ≡ n → ⊥) × (q ≡ r.0)) ⊎ ((conn ≡ n) × (q ≡ f r.0)) → ((is_open s.state n ≡ false) × ((side end p).space ≡ (side x q).space → opens n e ≡ false)) ⊎ (((side end p).space ≡ (side x q).space) × (ends_on n e ≡ true))
+        pick (inl y) = inl (over n r.0 x r.1.0 (subst (λ z. (side x z).phase ≡ Over) y.1 phase) s (subst (λ z. slice_get w.spaces (side x z).space ≡ Some s) y.1 found), λ own. apart n)
+        pick (inr y) = now y.0 y.1 (phases r.0 x (subst (λ z. (side x z).phase ≡ Over) y.1 phase))
 
-    from : (s : Space) (j k : ℕ) (xs : List Message) → j ≡ k → AreSomeOf xs (sent_on n (outputs_at spaces k)) → AreSomeOf xs (sent_on n (outputs_at spaces j))
-    from s j k xs eq a = subst (λ i. AreSomeOf xs (sent_on n (outputs_at spaces i))) (sym eq) a
-
-    by : (e to : End) → BringsWhatWasSent spaces n p to → BringsWhatWasSent spaces n (Worlds.set_side f e p) to
-    by Dialler Dialler b = λ s at. shorter s (sent_on n (outputs_at spaces p.accepter.space)) p.dialler (k.queue p.dialler) (b s (same (f p.dialler).space p.dialler.space (k.space p.dialler) s at))
-    by Dialler Accepter b = λ s at. from s (f p.dialler).space p.dialler.space (came_on n s.history ++ p.accepter.queue) (k.space p.dialler) (b s at)
-    by Accepter Accepter b = λ s at. shorter s (sent_on n (outputs_at spaces p.dialler.space)) p.accepter (k.queue p.accepter) (b s (same (f p.accepter).space p.accepter.space (k.space p.accepter) s at))
-    by Accepter Dialler b = λ s at. from s (f p.accepter).space p.accepter.space (came_on n s.history ++ p.dialler.queue) (k.space p.accepter) (b s at)
-
-side-sound : {w : World} (f : Side → Side) (conn : ℕ) (end : End) → IsCut f → Sound w → Sound (Worlds.on_side f conn end w)
-side-sound f conn end k h = pipes-sound conn (Worlds.set_side f end) (set-keeps f k.space end) (λ spaces p to b. cut-brings f k conn end spaces p to b) h
-
-ends-cut : IsCut Worlds.ends
-ends-cut = same-queue Worlds.ends (λ s. refl) (λ s. refl)
-
-begin-cut : IsCut Worlds.begin_side
-begin-cut = same-queue Worlds.begin_side (λ s. refl) (λ s. refl)
-
-lost-cut : (n : ℕ) → IsCut (Worlds.cut_end n)
-lost-cut n = record { space = λ s. refl; queue = λ s. first-of (length s.queue - n) s.queue }
+-- an event that ends a connection comes to the space of the end
+end-sound : (before : World) (conn : ℕ) (end : End) (f : Pipe → Pipe) → KeepsSpaces f → ((p : Pipe) (e : End) → (side e (f p)).phase ≡ Over → ((side e p).phase ≡ Over) ⊎ (e ≡ end)) → ((p : Pipe) → KeepsOrder p (f p)) → (e : Event) (p : Pipe)
+    → slice_get before.pipes conn ≡ Some p → Plain e → ends_on conn e ≡ true → Sound before → Sound (Worlds.act before (side end p).space e (Worlds.on_pipe f conn before))
+end-sound before conn end f keeps phases order e p at plain ends h = one-sound before (side end p).space e (Worlds.on_pipe f conn before) h
+    (plain-ready (side end p).space e (Worlds.on_pipe f conn before) (λ n. (plain n).0) (λ n is. absurd (true≢false (sym is ∙ (plain n).1))) (ended-row conn end f keeps phases e p before at ends (λ n. opens-on n e (plain n).1) h.over) (pipes-held conn f keeps (λ q is. order q) h.held))
 
 -- ---- the front of a queue is handed over
 
-front-ready : (conn : ℕ) (to : End) (w : World) (p : Pipe) (m : Message) (ms : List Message) → slice_get w.pipes conn ≡ Some p → HasTwoEnds p → (side to p).queue ≡ m ∷ ms → Sound w
+-- the frame moves from the front of the queue to the end of what came
+moved : {came queue sent ms : List Message} {phase : Phase} (m : Message) → queue ≡ m ∷ ms → AreInOrder came queue sent phase → AreInOrder (came ++ m ∷ []) (Worlds.without_front queue) sent phase
+moved {came} {queue} {sent} {ms} {phase} m eq a = record {
+  lost = a.lost;
+  all = ap (λ (l : List Message). (came ++ m ∷ []) ++ (Worlds.without_front l ++ a.lost)) eq ∙ (append-after came (m ∷ []) (ms ++ a.lost) ∙ (ap (λ (l : List Message). came ++ (l ++ a.lost)) (sym eq) ∙ a.all));
+  ended = a.ended;
+}
+
+front-ready : (conn : ℕ) (to : End) (w : World) (p : Pipe) (m : Message) (ms : List Message) → slice_get w.pipes conn ≡ Some p → (side to p).queue ≡ m ∷ ms → Sound w
     → IsReady (Worlds.on_side Worlds.take_front conn to w) (side to p).space (Received conn m)
-front-ready conn to w p m ms at two queue h = record {
+front-ready conn to w p m ms at queue sound = record {
   came = λ n q end is s here. came n q end s here (row-of (Worlds.set_side Worlds.take_front to) conn n w.pipes q is);
-  ends = λ j n s is has. ends-index (Worlds.set_side Worlds.take_front to) keeps j n conn w.pipes (h.delivers.ends j n s is has);
+  ends = λ j n s is has. ends-index (Worlds.set_side Worlds.take_front to) keeps j n conn w.pipes (h.ends j n s is has);
   there = λ n is. ends-index (Worlds.set_side Worlds.take_front to) keeps (side to p).space n conn w.pipes (subst (λ k. IsEnd (side to p).space (slice_get w.pipes k)) (eqb-true conn n is) (subst (IsEnd (side to p).space) (sym at) (an-end to)));
+  two = λ n q is. two-row keeps conn n w.pipes q h.two (row-of (Worlds.set_side Worlds.take_front to) conn n w.pipes q is);
+  over = λ n q end is phase s found. inl (shut n q end phase s found (row-of (Worlds.set_side Worlds.take_front to) conn n w.pipes q is), λ own. refl);
   histories = h.histories;
 }
   where
+    h : Held w
+    h = sound.held
+
     keeps : KeepsSpaces (Worlds.set_side Worlds.take_front to)
     keeps = set-keeps Worlds.take_front (λ s. refl) to
 
@@ -600,52 +474,58 @@ front-ready conn to w p m ms at two queue h = record {
     an-end Dialler = inl refl
     an-end Accepter = inr refl
 
+    shut : (n : ℕ) (q : Pipe) (end : End) → (side end q).phase ≡ Over → (s : Space) → slice_get w.spaces (side end q).space ≡ Some s → WasRow (Worlds.set_side Worlds.take_front to) conn n w.pipes q → is_open s.state n ≡ false
+    shut n q end phase s found r = by r.1.1
+      where
+        by : ((conn ≡ n → ⊥) × (q ≡ r.0)) ⊎ ((conn ≡ n) × (q ≡ Worlds.set_side Worlds.take_front to r.0)) → is_open s.state n ≡ false
+        by (inl x) = sound.over n r.0 end r.1.0 (subst (λ z. (side end z).phase ≡ Over) x.1 phase) s (subst (λ z. slice_get w.spaces (side end z).space ≡ Some s) x.1 found)
+        by (inr x) = sound.over n r.0 end r.1.0 (sym (set-phase Worlds.take_front (λ s. refl) to end r.0) ∙ subst (λ z. (side end z).phase ≡ Over) x.1 phase) s
+            (subst (λ j. slice_get w.spaces j ≡ Some s) (keeps-side keeps end r.0) (subst (λ z. slice_get w.spaces (side end z).space ≡ Some s) x.1 found))
+
     Came : ℕ → Pipe → End → Space → Type 0
-    Came n q end s = (((side to p).space ≡ (side end q).space → ⊥) × AreSomeOf (came_on n s.history ++ (side end q).queue) (sent_on n (outputs_at w.spaces (side (other end) q).space)))
-        ⊎ (((side to p).space ≡ (side end q).space) × AreSomeOf (came_on n (Received conn m ∷ s.history) ++ (side end q).queue) (sent_on n (outputs_at w.spaces (side (other end) q).space)))
+    Came n q end s = (((side to p).space ≡ (side end q).space → ⊥) × AreInOrder (came_on n s.history) (side end q).queue (sent_on n (outputs_at w.spaces (side (other end) q).space)) (side (other end) q).phase)
+        ⊎ (((side to p).space ≡ (side end q).space) × AreInOrder (came_on n (Received conn m ∷ s.history)) (side end q).queue (sent_on n (outputs_at w.spaces (side (other end) q).space)) (side (other end) q).phase)
 
     -- on another connection no frame comes
-    elsewhere-came : (n : ℕ) (q : Pipe) (end : End) (s : Space) (all : List Message) → (conn ≡ n → ⊥) → AreSomeOf (came_on n s.history ++ (side end q).queue) all
-        → (((side to p).space ≡ (side end q).space → ⊥) × AreSomeOf (came_on n s.history ++ (side end q).queue) all) ⊎ (((side to p).space ≡ (side end q).space) × AreSomeOf (came_on n (Received conn m ∷ s.history) ++ (side end q).queue) all)
-    elsewhere-came n q end s all apart a = by ((side to p).space == (side end q).space) refl
+    elsewhere : (n : ℕ) (q : Pipe) (end : End) (s : Space) (all : List Message) → (conn ≡ n → ⊥) → AreInOrder (came_on n s.history) (side end q).queue all (side (other end) q).phase
+        → (((side to p).space ≡ (side end q).space → ⊥) × AreInOrder (came_on n s.history) (side end q).queue all (side (other end) q).phase) ⊎ (((side to p).space ≡ (side end q).space) × AreInOrder (came_on n (Received conn m ∷ s.history)) (side end q).queue all (side (other end) q).phase)
+    elsewhere n q end s all apart a = by ((side to p).space == (side end q).space) refl
       where
         none : (b : Bool) → (conn == n) ≡ b → (if b then m ∷ [] else []) ≡ []
         none true f = absurd (apart (eqb-true conn n f))
         none false f = refl
 
         by : (b : Bool) → ((side to p).space == (side end q).space) ≡ b
-            → (((side to p).space ≡ (side end q).space → ⊥) × AreSomeOf (came_on n s.history ++ (side end q).queue) all) ⊎ (((side to p).space ≡ (side end q).space) × AreSomeOf (came_on n (Received conn m ∷ s.history) ++ (side end q).queue) all)
+            → (((side to p).space ≡ (side end q).space → ⊥) × AreInOrder (came_on n s.history) (side end q).queue all (side (other end) q).phase) ⊎ (((side to p).space ≡ (side end q).space) × AreInOrder (came_on n (Received conn m ∷ s.history)) (side end q).queue all (side (other end) q).phase)
         by true f = inr (
           eqb-true (side to p).space (side end q).space f,
-          subst (λ (l : List Message). AreSomeOf ((came_on n s.history ++ l) ++ (side end q).queue) all) (sym (none (conn == n) refl))
-              (subst (λ (l : List Message). AreSomeOf (l ++ (side end q).queue) all) (sym (append-none (came_on n s.history))) a),
+          subst (λ (l : List Message). AreInOrder (came_on n s.history ++ l) (side end q).queue all (side (other end) q).phase) (sym (none (conn == n) refl))
+              (subst (λ (l : List Message). AreInOrder l (side end q).queue all (side (other end) q).phase) (sym (append-none (came_on n s.history))) a),
         )
-        by false f = inl ((λ e. true≢false (sym (eq-eqb (side to p).space (side end q).space e) ∙ f)), a)
+        by false f = inl (apart-of (side to p).space (side end q).space f, a)
 
-    -- the frame moves from the front of the queue to the end of what came
-    moved : (s : Space) (all front : List Message) → front ≡ m ∷ ms → AreSomeOf (came_on conn s.history ++ front) all → AreSomeOf (came_on conn (Received conn m ∷ s.history) ++ Worlds.without_front front) all
-    moved s all front eq a = subst (λ (l : List Message). AreSomeOf (came_on conn (Received conn m ∷ s.history) ++ Worlds.without_front l) all) (sym eq)
-        (subst (λ (b : Bool). AreSomeOf ((came_on conn s.history ++ (if b then m ∷ [] else [])) ++ ms) all) (sym (eq-eqb conn conn refl))
-        (subst (λ (l : List Message). AreSomeOf l all) (sym (append-after (came_on conn s.history) (m ∷ []) ms)) (subst (λ (l : List Message). AreSomeOf (came_on conn s.history ++ l) all) eq a)))
+    arrives : (s : Space) (all queue : List Message) (phase : Phase) → queue ≡ m ∷ ms → AreInOrder (came_on conn s.history) queue all phase → AreInOrder (came_on conn (Received conn m ∷ s.history)) (Worlds.without_front queue) all phase
+    arrives s all queue phase eq a = subst (λ (b : Bool). AreInOrder (came_on conn s.history ++ (if b then m ∷ [] else [])) (Worlds.without_front queue) all phase) (sym (eq-eqb conn conn refl)) (moved m eq a)
 
     -- on this one it comes to this end alone
-    this-came : (to end : End) → (side to p).queue ≡ m ∷ ms → (s : Space) → BringsWhatWasSent w.spaces conn p end → slice_get w.spaces (side end (Worlds.set_side Worlds.take_front to p)).space ≡ Some s
-        → (((side to p).space ≡ (side end (Worlds.set_side Worlds.take_front to p)).space → ⊥) × AreSomeOf (came_on conn s.history ++ (side end (Worlds.set_side Worlds.take_front to p)).queue) (sent_on conn (outputs_at w.spaces (side (other end) (Worlds.set_side Worlds.take_front to p)).space)))
-        ⊎ (((side to p).space ≡ (side end (Worlds.set_side Worlds.take_front to p)).space) × AreSomeOf (came_on conn (Received conn m ∷ s.history) ++ (side end (Worlds.set_side Worlds.take_front to p)).queue) (sent_on conn (outputs_at w.spaces (side (other end) (Worlds.set_side Worlds.take_front to p)).space)))
-    this-came Dialler Dialler eq s b here = inr (refl, moved s (sent_on conn (outputs_at w.spaces p.accepter.space)) p.dialler.queue eq (b s here))
-    this-came Accepter Accepter eq s b here = inr (refl, moved s (sent_on conn (outputs_at w.spaces p.dialler.space)) p.accepter.queue eq (b s here))
-    this-came Dialler Accepter eq s b here = inl ((λ e. two e), b s here)
-    this-came Accepter Dialler eq s b here = inl ((λ e. two (sym e)), b s here)
+    this-came : (to end : End) → (side to p).queue ≡ m ∷ ms → (s : Space) → slice_get w.spaces (side end (Worlds.set_side Worlds.take_front to p)).space ≡ Some s
+        → (((side to p).space ≡ (side end (Worlds.set_side Worlds.take_front to p)).space → ⊥) × AreInOrder (came_on conn s.history) (side end (Worlds.set_side Worlds.take_front to p)).queue (sent_on conn (outputs_at w.spaces (side (other end) (Worlds.set_side Worlds.take_front to p)).space)) (side (other end) (Worlds.set_side Worlds.take_front to p)).phase)
+        ⊎ (((side to p).space ≡ (side end (Worlds.set_side Worlds.take_front to p)).space) × AreInOrder (came_on conn (Received conn m ∷ s.history)) (side end (Worlds.set_side Worlds.take_front to p)).queue (sent_on conn (outputs_at w.spaces (side (other end) (Worlds.set_side Worlds.take_front to p)).space)) (side (other end) (Worlds.set_side Worlds.take_front to p)).phase)
+    this-came Dialler Dialler eq s here = inr (refl, arrives s (sent_on conn (outputs_at w.spaces p.accepter.space)) p.dialler.queue p.accepter.phase eq (h.comes conn p Dialler at s here))
+    this-came Accepter Accepter eq s here = inr (refl, arrives s (sent_on conn (outputs_at w.spaces p.dialler.space)) p.accepter.queue p.dialler.phase eq (h.comes conn p Accepter at s here))
+    this-came Dialler Accepter eq s here = inl ((λ e. h.two conn p at e), h.comes conn p Accepter at s here)
+    this-came Accepter Dialler eq s here = inl ((λ e. h.two conn p at (sym e)), h.comes conn p Dialler at s here)
 
     came : (n : ℕ) (q : Pipe) (end : End) (s : Space) → slice_get w.spaces (side end q).space ≡ Some s → WasRow (Worlds.set_side Worlds.take_front to) conn n w.pipes q → Came n q end s
     came n q end s here r = by r.1.1
       where
         by : ((conn ≡ n → ⊥) × (q ≡ r.0)) ⊎ ((conn ≡ n) × (q ≡ Worlds.set_side Worlds.take_front to r.0)) → Came n q end s
-        by (inl x) = elsewhere-came n q end s (sent_on n (outputs_at w.spaces (side (other end) q).space)) x.0 (subst (λ z. BringsWhatWasSent w.spaces n z end) (sym x.1) (h.delivers.brings n r.0 end r.1.0) s here)
+        by (inl x) = elsewhere n q end s (sent_on n (outputs_at w.spaces (side (other end) q).space)) x.0 (subst (λ z. AreInOrder (came_on n s.history) (side end z).queue (sent_on n (outputs_at w.spaces (side (other end) z).space)) (side (other end) z).phase) (sym x.1)
+            (h.comes n r.0 end r.1.0 s (subst (λ z. slice_get w.spaces (side end z).space ≡ Some s) x.1 here)))
         by (inr x) =
             let same : r.0 ≡ p = some-same (sym r.1.0 ∙ subst (λ k. slice_get w.pipes k ≡ Some p) x.0 at) in
             let row : q ≡ Worlds.set_side Worlds.take_front to p = x.1 ∙ ap (Worlds.set_side Worlds.take_front to) same in
-            subst (λ k. Came k q end s) x.0 (subst (λ z. Came conn z end s) (sym row) (this-came to end queue s (h.delivers.brings conn p end at) (subst (λ z. slice_get w.spaces (side end z).space ≡ Some s) row here)))
+            subst (λ k. Came k q end s) x.0 (subst (λ z. Came conn z end s) (sym row) (this-came to end queue s (subst (λ z. slice_get w.spaces (side end z).space ≡ Some s) row here)))
 
 -- ---- all events
 
@@ -667,85 +547,183 @@ none-came conn (e ∷ h) never = ap (λ (l : List Message). l ++ frame_of conn e
         by false n = refl
     of-event _ n = refl
 
+-- and none was sent
+none-sent : (conn : ℕ) (h : List Event) (os : List Output) → AllOf (GoesItsWay h) os → (has_event_on conn h ≡ true → ⊥) → sent_on conn os ≡ []
+none-sent conn h [] a never = refl
+none-sent conn h (o ∷ os) a never = ap (λ (l : List Message). l ++ sent_on conn os) (one o a.0) ∙ none-sent conn h os a.1 never
+  where
+    one : (o : Output) → GoesItsWay h o → frame_in conn o ≡ []
+    one (Send c m) a = by (c == conn) refl
+      where
+        by : (b : Bool) → (c == conn) ≡ b → (if b then m ∷ [] else []) ≡ []
+        by true e = absurd (never (subst (λ n. has_event_on n h ≡ true) (eqb-true c conn e) (sends-on h c m a)))
+        by false e = refl
+    one (Started task) a = refl
+    one (Ended task outcome) a = refl
+    one (Withdrawn ids) a = refl
+    one (Denied why) a = refl
+    one (Dial peer) a = refl
+    one (Close c) a = refl
+    one (Ready task) a = refl
+
+direct-at : (n : ℕ) (xs : List Space) (x : Space) → slice_get xs n ≡ Some x → AllOf HasDirections xs → HasDirections x
+direct-at n [] x e a = absurd (some-none x (sym e))
+direct-at zero (y ∷ xs) x e a = subst HasDirections (some-same e) a.0
+direct-at (suc n) (y ∷ xs) x e a = direct-at n xs x e a.1
+
 -- a connection is new
-open-sound : (a b : ℕ) (w : World) → Sound w → Sound (Worlds.open_pipe a b w)
+open-sound : (a b : ℕ) (w : World) → (Worlds.is_asked a b w ≡ true → a ≡ b → ⊥) → AllOf HasDirections w.spaces → Sound w → Sound (Worlds.open_pipe a b w)
 unfolding Worlds.open_pipe
-open-sound a b w h = if-sound (Worlds.is_asked a b w) (one-sound w a (Opened (length w.pipes) (Worlds.id_at b w)) ready h
-    (plain-ready a (Opened (length w.pipes) (Worlds.id_at b w)) ready (λ conn. refl) (λ conn is. subst (λ n. IsEnd a (slice_get (w.pipes ++ Worlds.new_pipe a b ∷ []) n)) (eqb-true (length w.pipes) conn is) (subst (IsEnd a) (sym (row-last w.pipes (Worlds.new_pipe a b))) (inl refl))) sound)) h
+open-sound a b w apart ways h = asked (Worlds.is_asked a b w) refl
   where
     ready : World
     ready = record w { asked = Worlds.without_pair a b w.asked; pipes = w.pipes ++ Worlds.new_pipe a b ∷ [] }
 
+    new : ℕ → Event
+    new n = Opened n (Worlds.id_at b w)
+
     never : (conn j : ℕ) (s : Space) → length w.pipes ≡ conn → slice_get w.spaces j ≡ Some s → has_event_on conn s.history ≡ true → ⊥
-    never conn j s eq is has = subst (IsEnd j) (row-past w.pipes) (subst (λ n. IsEnd j (slice_get w.pipes n)) (sym eq) (h.delivers.ends j conn s is has))
+    never conn j s eq is has = subst (IsEnd j) (row-past w.pipes) (subst (λ n. IsEnd j (slice_get w.pipes n)) (sym eq) (h.held.ends j conn s is has))
 
-    brings : (conn : ℕ) (p : Pipe) (to : End) → (slice_get w.pipes conn ≡ Some p) ⊎ ((length w.pipes ≡ conn) × (p ≡ Worlds.new_pipe a b)) → BringsWhatWasSent w.spaces conn p to
-    brings conn p to (inl is) = h.delivers.brings conn p to is
-    brings conn p to (inr x) = subst (λ q. BringsWhatWasSent w.spaces conn q to) (sym x.1) (λ s at. nothing s (side to (Worlds.new_pipe a b)).space (sent_on conn (outputs_at w.spaces (side (other to) (Worlds.new_pipe a b)).space)) at (empty to))
+    unsent : (conn j : ℕ) → length w.pipes ≡ conn → sent_on conn (outputs_at w.spaces j) ≡ []
+    unsent conn j eq = by (slice_get w.spaces j) refl
       where
-        empty : (to : End) → (side to (Worlds.new_pipe a b)).queue ≡ []
-        empty Dialler = refl
-        empty Accepter = refl
+        by : (o : Option Space) → slice_get w.spaces j ≡ o → sent_on conn (outputs_in o) ≡ []
+        by None is = refl
+        by (Some s) is = none-sent conn s.history s.outputs (direct-at j w.spaces s is ways).sent (never conn j s eq is)
 
-        nothing : (s : Space) (j : ℕ) (all : List Message) → slice_get w.spaces j ≡ Some s → (side to (Worlds.new_pipe a b)).queue ≡ [] → AreSomeOf (came_on conn s.history ++ (side to (Worlds.new_pipe a b)).queue) all
-        nothing s j all at none = subst (λ (l : List Message). AreSomeOf (came_on conn s.history ++ l) all) (sym none) (subst (λ (l : List Message). AreSomeOf (l ++ []) all) (sym (none-came conn s.history (never conn j s x.0 at))) tt)
+    empty : (to : End) → (side to (Worlds.new_pipe a b)).queue ≡ []
+    empty Dialler = refl
+    empty Accepter = refl
 
-    sound : Sound ready
-    sound = record {
-      delivers = record {
-        brings = λ conn p to is. brings conn p to (row-more conn w.pipes (Worlds.new_pipe a b) p is);
-        ends = λ j conn s is has. ends-more j conn w.pipes (Worlds.new_pipe a b) (h.delivers.ends j conn s is has);
-      };
-      histories = h.histories;
+    comes : (conn : ℕ) (p : Pipe) (to : End) (s : Space) → slice_get w.spaces (side to p).space ≡ Some s → (slice_get w.pipes conn ≡ Some p) ⊎ ((length w.pipes ≡ conn) × (p ≡ Worlds.new_pipe a b))
+        → AreInOrder (came_on conn s.history) (side to p).queue (sent_on conn (outputs_at w.spaces (side (other to) p).space)) (side (other to) p).phase
+    comes conn p to s at (inl is) = h.held.comes conn p to is s at
+    comes conn p to s at (inr x) = record {
+      lost = [];
+      all = ap (λ (l : List Message). l ++ ((side to p).queue ++ [])) (none-came conn s.history (never conn (side to p).space s x.0 at)) ∙ (ap (λ (q : Pipe). (side to q).queue ++ []) x.1 ∙ (ap (λ (l : List Message). l ++ []) (empty to) ∙ sym (unsent conn (side (other to) p).space x.0)));
+      ended = inl refl;
     }
 
+    -- of the new pipe no end is over
+    begins : (end : End) → (side end (Worlds.new_pipe a b)).phase ≡ Over → ⊥
+    begins Dialler e = true≢false (sym (ap Worlds.is_live (sym e)) ∙ refl)
+    begins Accepter e = true≢false (ap Worlds.is_ended (sym e))
+
+    shut : (conn : ℕ) (p : Pipe) (end : End) → (side end p).phase ≡ Over → (s : Space) → slice_get w.spaces (side end p).space ≡ Some s → (slice_get w.pipes conn ≡ Some p) ⊎ ((length w.pipes ≡ conn) × (p ≡ Worlds.new_pipe a b))
+        → ((is_open s.state conn ≡ false) × (a ≡ (side end p).space → opens conn (new (length w.pipes)) ≡ false)) ⊎ ((a ≡ (side end p).space) × (ends_on conn (new (length w.pipes)) ≡ true))
+    shut conn p end phase s at (inl is) = inl (h.over conn p end is phase s at, λ own. old (length w.pipes == conn) refl)
+      where
+        old : (d : Bool) → (length w.pipes == conn) ≡ d → d ≡ false
+        old true e = absurd (some-none p (sym (subst (λ n. slice_get w.pipes n ≡ Some p) (sym (eqb-true (length w.pipes) conn e)) is) ∙ row-past w.pipes))
+        old false e = refl
+    shut conn p end phase s at (inr x) = absurd (begins end (subst (λ q. (side end q).phase ≡ Over) x.1 phase))
+
+    two : (conn : ℕ) (p : Pipe) → (a ≡ b → ⊥) → (slice_get w.pipes conn ≡ Some p) ⊎ ((length w.pipes ≡ conn) × (p ≡ Worlds.new_pipe a b)) → HasTwoEnds p
+    two conn p others (inl is) = h.held.two conn p is
+    two conn p others (inr x) = subst HasTwoEnds (sym x.1) others
+
+    held : (a ≡ b → ⊥) → Held ready
+    held others = record {
+      comes = λ conn p to is s at. comes conn p to s at (row-more conn w.pipes (Worlds.new_pipe a b) p is);
+      ends = λ j conn s is has. ends-more j conn w.pipes (Worlds.new_pipe a b) (h.held.ends j conn s is has);
+      two = λ conn p is. two conn p others (row-more conn w.pipes (Worlds.new_pipe a b) p is);
+      histories = h.held.histories;
+    }
+
+    opened : (a ≡ b → ⊥) → Sound (Worlds.act w a (new (length w.pipes)) ready)
+    opened others = one-sound w a (new (length w.pipes)) ready h
+        (plain-ready a (new (length w.pipes)) ready (λ conn. refl) (λ conn is. subst (λ n. IsEnd a (slice_get (w.pipes ++ Worlds.new_pipe a b ∷ []) n)) (eqb-true (length w.pipes) conn is) (subst (IsEnd a) (sym (row-last w.pipes (Worlds.new_pipe a b))) (inl refl)))
+        (λ conn p end is phase s at. shut conn p end phase s at (row-more conn w.pipes (Worlds.new_pipe a b) p is)) (held others))
+
+    asked : (d : Bool) → Worlds.is_asked a b w ≡ d → Sound (if d then Worlds.act w a (new (length w.pipes)) ready else w)
+    asked true is = opened (apart is)
+    asked false is = h
+
+-- the end that was dialled begins
 accept-sound : (conn : ℕ) (w : World) → Sound w → Sound (Worlds.accept conn w)
 unfolding Worlds.accept
-accept-sound conn w h = some-sound (slice_get w.pipes conn) _ h (λ p is. at p is p.accepter.phase)
+accept-sound conn w h = some-sound (slice_get w.pipes conn) _ h (λ p is. at p is p.accepter.phase refl)
   where
-    at : (p : Pipe) → slice_get w.pipes conn ≡ Some p → (phase : Phase) → Sound (Worlds.accept_at conn w p.accepter.space phase)
-    at p is Live = h
-    at p is Over = h
-    at p is Unopened = one-sound w p.accepter.space (Opened conn None) (Worlds.on_side Worlds.begin_side conn Accepter w) h (plain-ready p.accepter.space (Opened conn None) (Worlds.on_side Worlds.begin_side conn Accepter w) (λ n. refl)
-        (λ n same. ends-index (Worlds.set_side Worlds.begin_side Accepter) (set-keeps Worlds.begin_side (λ s. refl) Accepter) p.accepter.space n conn w.pipes (subst (λ k. IsEnd p.accepter.space (slice_get w.pipes k)) (eqb-true conn n same) (subst (IsEnd p.accepter.space) (sym is) (inr refl))))
-        (side-sound Worlds.begin_side conn Accepter begin-cut h))
+    keeps : KeepsSpaces (Worlds.set_side Worlds.begin_side Accepter)
+    keeps = set-keeps Worlds.begin_side (λ s. refl) Accepter
 
-two-at : (n : ℕ) (ps : List Pipe) (p : Pipe) → slice_get ps n ≡ Some p → AllOf HasTwoEnds ps → HasTwoEnds p
-two-at n [] p e a = absurd (some-none p (sym e))
-two-at zero (q ∷ ps) p e a = subst HasTwoEnds (some-same e) a.0
-two-at (suc n) (q ∷ ps) p e a = two-at n ps p e a.1
+    at : (p : Pipe) → slice_get w.pipes conn ≡ Some p → (phase : Phase) → p.accepter.phase ≡ phase → Sound (Worlds.accept_at conn w p.accepter.space phase)
+    at p is Live e = h
+    at p is Over e = h
+    at p is Unopened e = one-sound w p.accepter.space (Opened conn None) (Worlds.on_side Worlds.begin_side conn Accepter w) h (plain-ready p.accepter.space (Opened conn None) (Worlds.on_side Worlds.begin_side conn Accepter w) (λ n. refl)
+        (λ n same. ends-index (Worlds.set_side Worlds.begin_side Accepter) keeps p.accepter.space n conn w.pipes (subst (λ k. IsEnd p.accepter.space (slice_get w.pipes k)) (eqb-true conn n same) (subst (IsEnd p.accepter.space) (sym is) (inr refl))))
+        (λ n q end row phase s found. shut n q end phase s found (row-of (Worlds.set_side Worlds.begin_side Accepter) conn n w.pipes q row)) (pipes-held conn (Worlds.set_side Worlds.begin_side Accepter) keeps (λ q row. order q (some-same (sym is ∙ row))) h.held))
+      where
+        -- no end is over that was not yet open
+        fresh : p.accepter.phase ≡ Over → ⊥
+        fresh over = true≢false (ap Worlds.is_ended (sym over) ∙ ap Worlds.is_ended e)
 
-happens-sound : (e : WorldEvent) (w : World) → AllOf HasTwoEnds w.pipes → Sound w → Sound (happens e w)
+        begun : {came queue sent : List Message} → AreInOrder came queue sent p.accepter.phase → AreInOrder came queue sent Live
+        begun a = record { lost = a.lost; all = a.all; ended = by a.ended }
+          where
+            by : (a.lost ≡ []) ⊎ (p.accepter.phase ≡ Over) → (a.lost ≡ []) ⊎ (Live ≡ Over)
+            by (inl none) = inl none
+            by (inr over) = absurd (fresh over)
+
+        order : (q : Pipe) → p ≡ q → KeepsOrder q (Worlds.set_side Worlds.begin_side Accepter q)
+        order q same = subst (λ r. KeepsOrder r (Worlds.set_side Worlds.begin_side Accepter r)) same here
+          where
+            here : KeepsOrder p (Worlds.set_side Worlds.begin_side Accepter p)
+            here Dialler came sent a = begun a
+            here Accepter came sent a = a
+
+        shut : (n : ℕ) (q : Pipe) (end : End) → (side end q).phase ≡ Over → (s : Space) → slice_get w.spaces (side end q).space ≡ Some s → WasRow (Worlds.set_side Worlds.begin_side Accepter) conn n w.pipes q
+            → ((is_open s.state n ≡ false) × (p.accepter.space ≡ (side end q).space → opens n (Opened conn None) ≡ false)) ⊎ ((p.accepter.space ≡ (side end q).space) × (ends_on n (Opened conn None) ≡ true))
+        shut n q end phase s found r = by r.1.1
+          where
+            apart : (conn ≡ n → ⊥) → (d : Bool) → (conn == n) ≡ d → d ≡ false
+            apart others true f = absurd (others (eqb-true conn n f))
+            apart others false f = refl
+
+            this : conn ≡ n → r.0 ≡ p → (end : End) → (side end (Worlds.set_side Worlds.begin_side Accepter r.0)).phase ≡ Over → slice_get w.spaces (side end (Worlds.set_side Worlds.begin_side Accepter r.0)).space ≡ Some s
+                → ((is_open s.state n ≡ false) × (p.accepter.space ≡ (side end (Worlds.set_side Worlds.begin_side Accepter r.0)).space → opens n (Opened conn None) ≡ false)) ⊎ ((p.accepter.space ≡ (side end (Worlds.set_side Worlds.begin_side Accepter r.0)).space) × (ends_on n (Opened conn None) ≡ true))
+            this same row Dialler over there = inl (h.over n r.0 Dialler r.1.0 over s there, λ own. absurd (h.held.two conn p is (ap (λ (z : Pipe). z.dialler.space) (sym row) ∙ sym own)))
+            this same row Accepter over there = absurd (true≢false (ap Worlds.is_ended (sym over)))
+
+            by : ((conn ≡ n → ⊥) × (q ≡ r.0)) ⊎ ((conn ≡ n) × (q ≡ Worlds.set_side Worlds.begin_side Accepter r.0))
+                → ((is_open s.state n ≡ false) × (p.accepter.space ≡ (side end q).space → opens n (Opened conn None) ≡ false)) ⊎ ((p.accepter.space ≡ (side end q).space) × (ends_on n (Opened conn None) ≡ true))
+            by (inl x) = inl (h.over n r.0 end r.1.0 (subst (λ z. (side end z).phase ≡ Over) x.1 phase) s (subst (λ z. slice_get w.spaces (side end z).space ≡ Some s) x.1 found), λ own. apart x.0 (conn == n) refl)
+            by (inr x) = subst (λ z. ((is_open s.state n ≡ false) × (p.accepter.space ≡ (side end z).space → opens n (Opened conn None) ≡ false)) ⊎ ((p.accepter.space ≡ (side end z).space) × (ends_on n (Opened conn None) ≡ true))) (sym x.1)
+                (this x.0 (some-same (sym r.1.0 ∙ subst (λ k. slice_get w.pipes k ≡ Some p) x.0 is)) end (subst (λ z. (side end z).phase ≡ Over) x.1 phase) (subst (λ z. slice_get w.spaces (side end z).space ≡ Some s) x.1 found))
+
+happens-sound : (e : WorldEvent) (w : World) → AllOf Apart w.asked → AllOf HasDirections w.spaces → Sound w → Sound (happens e w)
 unfolding Worlds.refuse Worlds.deliver Worlds.read_fails Worlds.write_fails
-happens-sound (Own i e) w two h = own (Worlds.is_own e) (λ is. act-plain w i e w (own-plain e is) h h)
+happens-sound (Own i e) w apart ways h = own (Worlds.is_own e) (λ is. plain-sound w i (e ∷ []) w (own-plain e is, tt) h h)
   where
     own : (b : Bool) → (b ≡ true → Sound (Worlds.act w i e w)) → Sound (if b then Worlds.act w i e w else w)
     own true k = k refl
     own false k = h
-happens-sound (Step i task) w two h = step-sound i task w h
-happens-sound (Open a c) w two h = open-sound a c w h
-happens-sound (Refuse a c) w two h = if-sound (Worlds.is_asked a c w) (to (Worlds.id_at c w)) h
+happens-sound (Step i task) w apart ways h = step-sound i task w h
+happens-sound (Open a c) w apart ways h = open-sound a c w (pair-apart a c w.asked apart) ways h
+happens-sound (Refuse a c) w apart ways h = if-sound (Worlds.is_asked a c w) (to (Worlds.id_at c w)) h
   where
     to : (peer : Option Uuid) → Sound (Worlds.refuse_to w a peer (record w { asked = Worlds.without_pair a c w.asked }))
     to None = h
-    to (Some peer) = act-plain w a (Refused peer) (record w { asked = Worlds.without_pair a c w.asked }) (λ n. (refl, refl)) h (record { delivers = record { brings = h.delivers.brings; ends = h.delivers.ends }; histories = h.histories })
-happens-sound (Accept conn) w two h = accept-sound conn w h
-happens-sound (Deliver conn to) w two h = some-sound (slice_get w.pipes conn) _ h (λ p is. if-sound (Worlds.is_live (side to p).phase) (first p is (Worlds.is_ended (side (other to) p).phase) (side to p).queue refl) h)
+    to (Some peer) = plain-sound w a (Refused peer ∷ []) (record w { asked = Worlds.without_pair a c w.asked }) ((λ n. (refl, refl)), tt) h
+        (record { held = asked-held (record w { asked = Worlds.without_pair a c w.asked }) refl refl h.held; over = λ conn p end is phase s at. h.over conn p end is phase s at })
+happens-sound (Accept conn) w apart ways h = accept-sound conn w h
+happens-sound (Deliver conn to) w apart ways h = some-sound (slice_get w.pipes conn) _ h (λ p is. if-sound (Worlds.is_live (side to p).phase) (first p is (Worlds.is_ended (side (other to) p).phase) (side to p).queue refl) h)
   where
     first : (p : Pipe) → slice_get w.pipes conn ≡ Some p → (over : Bool) (queue : List Message) → (side to p).queue ≡ queue → Sound (Worlds.deliver_first conn to w (side to p).space over queue)
-    first p is over (m ∷ ms) eq = one-sound w (side to p).space (Received conn m) (Worlds.on_side Worlds.take_front conn to w) h (front-ready conn to w p m ms is (two-at conn w.pipes p is two) eq h)
-    first p is true [] eq = act-plain w (side to p).space (Closed conn) (Worlds.on_side Worlds.ends conn to w) (λ n. (refl, refl)) h (side-sound Worlds.ends conn to ends-cut h)
+    first p is over (m ∷ ms) eq = one-sound w (side to p).space (Received conn m) (Worlds.on_side Worlds.take_front conn to w) h (front-ready conn to w p m ms is eq h)
+    first p is true [] eq = end-sound w conn to (Worlds.set_side Worlds.ends to) (set-keeps Worlds.ends (λ s. refl) to) (ends-phases to) (ends-order to) (Closed conn) p is (λ n. (refl, refl)) (eq-eqb conn conn refl) h
     first p is false [] eq = h
-happens-sound (ReadFails conn end) w two h = some-sound (slice_get w.pipes conn) _ h (λ p is.
-    if-sound (Worlds.is_live (side end p).phase) (act-plain w (side end p).space (ReadFailed conn) (Worlds.on_side Worlds.ends conn end w) (λ n. (refl, refl)) h (side-sound Worlds.ends conn end ends-cut h)) h)
-happens-sound (WriteFails conn end lost) w two h = some-sound (slice_get w.pipes conn) _ h (λ p is.
-    if-sound (Worlds.is_live (side end p).phase) (act-plain w (side end p).space (WriteFailed conn (Worlds.lost lost end p)) _ (λ n. (refl, refl)) h
-    (side-sound {w = Worlds.on_side (Worlds.cut_end (Worlds.lost lost end p)) conn (other end) w} Worlds.ends conn end ends-cut (side-sound {w = w} (Worlds.cut_end (Worlds.lost lost end p)) conn (other end) (lost-cut (Worlds.lost lost end p)) h))) h)
+happens-sound (ReadFails conn end) w apart ways h = some-sound (slice_get w.pipes conn) _ h (λ p is.
+    if-sound (Worlds.is_live (side end p).phase) (end-sound w conn end (Worlds.set_side Worlds.ends end) (set-keeps Worlds.ends (λ s. refl) end) (ends-phases end) (ends-order end) (ReadFailed conn) p is (λ n. (refl, refl)) (eq-eqb conn conn refl) h) h)
+happens-sound (WriteFails conn end lost) w apart ways h = some-sound (slice_get w.pipes conn) _ h (λ p is. if-sound (Worlds.is_live (side end p).phase)
+    (subst (λ (rows : List Pipe). Sound (Worlds.act w (side end p).space (WriteFailed conn (Worlds.lost lost end p)) (record w { pipes = rows }))) (sym (at-twice (Worlds.set_side Worlds.ends end) (Worlds.set_side (Worlds.cut_end (Worlds.lost lost end p)) (other end)) conn w.pipes))
+    (end-sound w conn end (cut (Worlds.lost lost end p) end) (cut-keeps (Worlds.lost lost end p) end) (cut-phases (Worlds.lost lost end p) end) (cut-order (Worlds.lost lost end p) end) (WriteFailed conn (Worlds.lost lost end p)) p is (λ n. (refl, refl)) (eq-eqb conn conn refl) h)) h)
 
-run-sound : (events : List WorldEvent) (w : World) → ((es : List WorldEvent) → AllOf HasTwoEnds (run w es).pipes) → Sound w → Sound (run w events)
+run-sound : (events : List WorldEvent) (w : World) → ((es : List WorldEvent) → AllOf Apart (run w es).asked) → ((es : List WorldEvent) → AllOf HasDirections (run w es).spaces) → Sound w → Sound (run w events)
 unfolding run after
-run-sound [] w two h = h
-run-sound (e ∷ es) w two h = run-sound es (happens e (record w { refused = None })) (λ more. two (e ∷ more)) (happens-sound e (record w { refused = None }) (two []) (why-sound w None h))
+run-sound [] w apart ways h = h
+run-sound (e ∷ es) w apart ways h = run-sound es (happens e (record w { refused = None })) (λ more. apart (e ∷ more)) (λ more. ways (e ∷ more)) (happens-sound e (record w { refused = None }) (apart []) (ways []) (why-sound w None h))
 
 -- ---- a new world
 
@@ -761,13 +739,23 @@ no-event (g ∷ gs) (suc i) conn s is has = no-event gs i conn s is has
 
 sound-run : (settings : List Setting) (events : List WorldEvent) → Sound (run (new_world settings) events)
 unfolding new_world
-sound-run settings events = run-sound events (new_world settings) (λ es. (connections_are_opened_once settings es).pipes) (record {
-  delivers = record {
-    brings = λ conn p to is. absurd (some-none p (sym is));
+sound-run settings events = run-sound events (new_world settings) (λ es. (once_run settings es).asked) (λ es. spaces_have_directions settings es) (record {
+  held = record {
+    comes = λ conn p to is. absurd (some-none p (sym is));
     ends = λ j conn s is has. absurd (no-event settings j conn s is has);
+    two = λ conn p is. absurd (some-none p (sym is));
+    histories = new-histories settings;
   };
-  histories = new-histories settings;
+  over = λ conn p end is. absurd (some-none p (sym is));
 })
 
+-- ---- the laws
+
+in-some : {came queue sent : List Message} {phase : Phase} → AreInOrder came queue sent phase → AreSomeOf (came ++ queue) sent
+in-some {came} {queue} a = subst (AreSomeOf (came ++ queue)) (append-after came queue a.lost ∙ a.all) (some-more (came ++ queue) (came ++ queue) a.lost (some-all (came ++ queue)))
+
 pub what_comes_was_sent : WhatComesWasSent
-what_comes_was_sent settings events = (sound-run settings events).delivers
+what_comes_was_sent settings events = let h = (sound-run settings events).held in record { brings = λ conn p to is s at. in-some (h.comes conn p to is s at); ends = h.ends }
+
+pub lost_frames_come_last : LostFramesComeLast
+lost_frames_come_last settings events = let h = sound-run settings events in record { comes = h.held.comes; over = h.over }

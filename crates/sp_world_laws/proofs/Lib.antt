@@ -1,4 +1,5 @@
 mod ListLemmas
-mod DeliveryLemmas
+mod QueueLemmas
+pub mod DeliveryLemmas
 mod CameLemmas
 mod EndLemmas

@@ -1,6 +1,7 @@
 //! The laws of what spaces of a world send one another.
 
 ghost use Rattle.sp_world_laws.specs.Delivered.{WhatComesWasSent};
+ghost use Rattle.sp_world_laws.specs.InOrder.{LostFramesComeLast};
 ghost use Rattle.sp_world_laws.specs.Ends.{AnswersCameFromCallees, CallsEndByCallees, ParkedResultsCame};
 
 /// In every run of every world, whatever is lost or fails, the frames that came to a space on a connection,
@@ -8,6 +9,14 @@ ghost use Rattle.sp_world_laws.specs.Ends.{AnswersCameFromCallees, CallsEndByCal
 /// once. Where a connection opens in a space, or a frame comes on it, the space is an end of it.
 pub fn what_comes_was_sent()
     ensures { WhatComesWasSent }
+{}
+
+/// In every run of every world, whatever is lost or fails, the frames that came to a space on a connection,
+/// then those on their way there, and then those that were lost, are all that the other end sent on it, in
+/// this order. So nothing arrives that was sent after a lost frame; and frames are lost only of an end that
+/// is over. At an end that is over its space has the connection no longer open.
+pub fn lost_frames_come_last()
+    ensures { LostFramesComeLast }
 {}
 
 /// After every history of a space each Returned that waits for leases came on its connection.
