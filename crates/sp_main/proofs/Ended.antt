@@ -1,5 +1,6 @@
 -- A task has ended after more steps than there can be fuel for.
-use Rattle.std.proofs.Common.{◌≡◌, ◌∙◌, ◌+◌, ◌<◌, ◌≤◌, ℕ, arith, refl, subst, sym}
+use Rattle.std.proofs.Common.{◌≡◌, ◌∙◌, ◌+◌, ◌<◌, ◌≤◌, ℕ, Option, Some, None, arith, refl, subst, sym}
+use Rattle.std.specs.Prelude.{IsSome}
 use Rattle.cls_link.specs.Links.{Links}
 use Rattle.vm_run.specs.Run.{State, Running, Over, Lost, IsNeverStuck, IsOver, run}
 use Rattle.vm_run.specs.Task.{fuel_left, pause_at}
@@ -15,3 +16,7 @@ pub ended_by_one_more : (program : Links) (reached ended : State) (fuel most : �
 ended_by_one_more program (Running machine left) ended fuel most turn few never is over = let spent : left + most ≡ fuel = turn refl in over (omega (arith, spent, few))
 ended_by_one_more program (Over end left) ended fuel most turn few never is over = subst IsOver (sym (is ∙ run_over program 1 end left)) tt
 ended_by_one_more program Lost ended fuel most turn few never is over = absurd (never_lost program never)
+
+pub none_told : {A : Type 0} (o : Option A) → o ≡ None → IsSome o → ⊥
+none_told None is some = absurd (cc)
+none_told (Some a) is some = absurd (cc)

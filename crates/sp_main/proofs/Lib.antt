@@ -1,5 +1,4 @@
 pub mod Files
-pub mod Made
 pub mod Refused
 pub mod Whole
 pub mod Below

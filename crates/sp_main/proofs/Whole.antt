@@ -7,7 +7,6 @@ use Rattle.cls_set.specs.declared.class.Class.{Class}
 use Rattle.sp_main.specs.Runs.{IsNamed, IsTold, Runs, ThrewClass}
 use Rattle.sp_main.specs.declared.running.RunOutcome.{RunOutcome}
 use Rattle.sp_main.specs.declared.running.RunOutcome.TheVariants as told
-use Rattle.sp_main.proofs.Made.{made-fuel}
 use Rattle.uuid.specs.Parts.{zero_bytes}
 use Rattle.space_ids.specs.declared.value.Value.{Value}
 use Rattle.space_ids.specs.declared.value.Value.TheVariants as value
@@ -20,6 +19,7 @@ use Rattle.vm_run.specs.Task.{Tasked, IsOutcome, TellsThrown, fuel_left, most_el
 use Rattle.vm_run.specs.declared.limits.Limits.{Limits}
 use Rattle.vm_run.specs.declared.outcome.Outcome.{Outcome}
 use Rattle.vm_run.specs.declared.outcome.Outcome.TheVariants as outcome
+use Rattle.vm_run.proofs.Made.{made-fuel}
 
 module _ (classes : List Class) (o : Outcome) (named : RunOutcome) (is : IsNamed classes o named) where
   abbrev renamed : (p : Outcome) → o ≡ p → IsNamed classes p named

@@ -1,5 +1,5 @@
 -- What it means that class files run: from their bytes to how the method ends, each layer by its own definition.
-use Rattle.std.specs.Prelude.{◌≡◌, ◌≢◌, ◌+◌, ◌==◌, ℕ, zero, suc, Bool, MatchBool, Option, Some, None, Ok, Err, List, take, drop, length, nat_le, slice_get, option_and_then}
+use Rattle.std.specs.Prelude.{◌≡◌, ◌≢◌, ◌+◌, ◌==◌, ℕ, Bool, MatchBool, Option, Some, None, Ok, Err, List, take, drop, length, nat_le, slice_get, option_and_then}
 use Rattle.std.specs.List.{AllZip, position}
 use Rattle.cf_reader.specs.declared.class_file.ClassFile.{ClassFile}
 use Rattle.cf_layout.specs.declared.items.Layout.{Layout}
@@ -32,7 +32,7 @@ use Rattle.space_ids.specs.declared.value.Value.{Value}
 use Rattle.space_ids.specs.declared.value.Value.TheVariants as value
 use Rattle.vm_run.specs.Ends.{End, ReturnedNothing, ReturnedInt, ReturnedNull, ReturnedInts, ReturnedObject, Threw, ThrewObject, Spent}
 use Rattle.vm_run.specs.Limited.{KeepsWithin}
-use Rattle.vm_run.specs.Run.{State, Running, Over, Lost, run, step, IsNeverStuck}
+use Rattle.vm_run.specs.Run.{Over, made, run, IsNeverStuck}
 use Rattle.vm_run.specs.Start.{started}
 use Rattle.vm_run.specs.Task.{Tasked, most_elements, thrown_name, unmarshalled}
 use Rattle.vm_run.specs.declared.outcome.Outcome.{Outcome}
@@ -84,17 +84,6 @@ method_named program class text =
     option_and_then (λ holder.
     option_and_then (λ index. links.number_of program.classes holder (take index text) (drop index text))
     (position is_parenthesis text)) (sets.number_of program.classes class)
-
--- how many instructions a step makes: one, while the task runs and has fuel
-abbrev pub made_in : State → ℕ
-made_in (Running m zero) = 0
-made_in (Running m (suc fuel)) = 1
-made_in (Over end fuel) = 0
-made_in Lost = 0
-
-unfoldable pub made : Links → ℕ → State → ℕ
-made program zero state = 0
-made program (suc steps) state = made_in state + made program steps (step program state)
 
 -- the class of this number was thrown, by its name in the set
 abbrev pub ThrewClass : List Class → ClassId → RunOutcome → Type 0

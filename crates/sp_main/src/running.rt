@@ -150,7 +150,8 @@ fn run_method(
     // More instructions than there can be fuel for: the task ends.
     let _ = task.run(program, u64::MAX);
     let _ = task.run(program, 1);
-    match task.outcome(alloc)? {
+    let told = task.outcome(alloc)?;
+    match told {
         Some(outcome) => Ok(named(program, outcome)?),
         None => unreachable!(),
     }

@@ -10,9 +10,7 @@ use std::alloc::{AllocError, Global};
 use std::process::Abort;
 use std::test::Fail;
 use ver_check::accept;
-use vm_run::{
-    Limits, MethodId, Numbered, Outcome, Pause, Program, StartFault, Task, Uuid, Value,
-};
+use vm_run::{Limits, MethodId, Numbered, Outcome, Pause, Program, StartFault, Task, Uuid, Value};
 
 // The program of the class that the bytes spell.
 fn program_of(alloc: Global, bytes: &[u8]) -> Result<Program, Fail> {
