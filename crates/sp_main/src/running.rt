@@ -63,7 +63,8 @@ pub fn run_classes(
     // A refusal says what is wrong, and nothing before it is wrong.
     ensures refused { IfErr result (IsRefused files.now class.now method.now arguments.items limits) }
 {
-    let program = Program::of(alloc, accepted_of(alloc, files)?)?;
+    let accepted = accepted_of(alloc, files)?;
+    let program = Program::of(alloc, accepted)?;
     let Some(method) = find_method(&program, class, method) else {
         return Err(Refusal::Start(StartFault::AbsentMethod));
     };
