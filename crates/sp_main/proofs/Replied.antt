@@ -1,5 +1,5 @@
 -- A report is a reply.
-use Rattle.std.proofs.Common.{◌≡◌, ◌⊎◌, ◌<◌, ◌∙◌, ℕ, List, Option, Result, Ok, Err, IfOk, ap, arith, inl, inr, length, refl, subst, sym}
+use Rattle.std.proofs.Common.{◌≡◌, ◌<◌, ◌∙◌, ℕ, List, Option, Result, Ok, Err, IfOk, ap, arith, inl, inr, length, refl, subst, sym}
 use Rattle.cls_link.specs.Links.{Links}
 use Rattle.sp_main.specs.CommandLine.{AsksCheck, AsksRun, AsksText, IsUsageFault, RunWords}
 use Rattle.sp_main.specs.Folders.{AreFilesOf, Telling}

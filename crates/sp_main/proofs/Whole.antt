@@ -1,5 +1,5 @@
 -- A task that was started and run to its end is a whole run of the tagged machine.
-use Rattle.std.proofs.Common.{◌≡◌, ◌∙◌, ◌+◌, ℕ, ℤ, Bool, true, false, List, ap, sym, subst, refl, arith, Some}
+use Rattle.std.proofs.Common.{◌≡◌, ◌∙◌, ℕ, ℤ, Bool, true, false, List, ap, sym, subst, arith, Some}
 use Rattle.std.specs.Prelude.{MatchBool, Ok, length, nat_le}
 use Rattle.cls_link.specs.Links.{Links}
 use Rattle.cls_link.specs.declared.linked_code.MethodId.{MethodId}

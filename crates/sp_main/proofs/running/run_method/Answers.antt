@@ -1,5 +1,5 @@
 use Rattle.std.proofs.Common.{◌≡◌, ◌∙◌, ◌<◌, ℕ, List, Ok, Option, ap, arith, rules, subst}
-use Rattle.std.specs.Prelude.{IfSome, IsSome}
+use Rattle.std.specs.Prelude.{IfSome}
 use Rattle.cls_link.specs.Links.{Links}
 use Rattle.vm_run.specs.Run.{State, run}
 use Rattle.vm_run.specs.Start.{started}
