@@ -14,7 +14,7 @@ use std::io;
 use std::io::ErrorKind;
 use ver_check::CheckFault;
 use vm_heap::Value;
-use vm_step::{Limits, StartFault};
+use vm_run::{Limits, StartFault};
 
 // A command line, with the status and the text that it owes. Most of its memory goes into the
 // arguments.

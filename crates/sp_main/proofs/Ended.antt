@@ -1,10 +1,11 @@
 -- A task has ended after more steps than there can be fuel for.
-use Rattle.std.proofs.Common.{◌≡◌, ◌∙◌, ◌+◌, ◌<◌, ◌≤◌, ℕ, arith, refl, subst, sym}
+use Rattle.std.proofs.Common.{◌≡◌, ◌∙◌, ◌+◌, ◌<◌, ◌≤◌, ℕ, Option, Some, None, arith, refl, subst, sym}
+use Rattle.std.specs.Prelude.{IsSome}
 use Rattle.cls_link.specs.Links.{Links}
-use Rattle.vm_step.specs.Run.{State, Running, Over, Lost, IsNeverStuck, IsOver, run}
-use Rattle.vm_step.specs.Task.{fuel_left, pause_at}
-use Rattle.vm_step.specs.declared.outcome.Pause.TheVariants.{Turn}
-use Rattle.vm_step.proofs.Runs.{run_over}
+use Rattle.vm_run.specs.Run.{State, Running, Over, Lost, IsNeverStuck, IsOver, run}
+use Rattle.vm_run.specs.Task.{fuel_left, pause_at}
+use Rattle.vm_run.specs.declared.outcome.Pause.TheVariants.{Turn}
+use Rattle.vm_run.proofs.Runs.{run_over}
 
 never_lost : (program : Links) → IsNeverStuck program Lost → ⊥
 unfolding run
@@ -13,5 +14,9 @@ never_lost program never = never.always 0
 pub ended_by_one_more : (program : Links) (reached ended : State) (fuel most : ℕ) → (pause_at reached ≡ Turn → fuel_left reached + most ≡ fuel) → fuel ≤ most
     → IsNeverStuck program reached → ended ≡ run program 1 reached → (fuel_left reached < 1 → IsOver ended) → IsOver ended
 ended_by_one_more program (Running machine left) ended fuel most turn few never is over = let spent : left + most ≡ fuel = turn refl in over (omega (arith, spent, few))
-ended_by_one_more program (Over ending left) ended fuel most turn few never is over = subst IsOver (sym (is ∙ run_over program 1 ending left)) tt
+ended_by_one_more program (Over end left) ended fuel most turn few never is over = subst IsOver (sym (is ∙ run_over program 1 end left)) tt
 ended_by_one_more program Lost ended fuel most turn few never is over = absurd (never_lost program never)
+
+pub none_told : {A : Type 0} (o : Option A) → o ≡ None → IsSome o → ⊥
+none_told None is some = absurd (cc)
+none_told (Some a) is some = absurd (cc)

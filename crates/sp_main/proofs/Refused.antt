@@ -10,7 +10,7 @@ use Rattle.sp_main.specs.declared.refusal.Refusal.{Refusal}
 use Rattle.sp_main.specs.declared.refusal.Refusal.TheVariants as refusal
 use Rattle.sp_main.specs.declared.running.ClassBytes.{ClassBytes}
 use Rattle.space_ids.specs.declared.value.Value.{Value}
-use Rattle.vm_step.specs.declared.limits.Limits.{Limits}
+use Rattle.vm_run.specs.declared.limits.Limits.{Limits}
 
 refused : (files : List ClassBytes) (class text : List ℕ) (arguments : List Value) (limits : Limits) (program : Links) (method : MethodId)
     → IsProgram files program → method_named program class text ≡ Some method → (r : Refusal) → IsNotRun program method arguments limits r → IsRefused files class text arguments limits r

@@ -1,5 +1,5 @@
 -- A report is a reply.
-use Rattle.std.proofs.Common.{◌≡◌, ◌⊎◌, ◌<◌, ◌∙◌, ℕ, List, Option, Result, Ok, Err, IfOk, ap, arith, inl, inr, length, refl, subst, sym}
+use Rattle.std.proofs.Common.{◌≡◌, ◌<◌, ◌∙◌, ℕ, List, Option, Result, Ok, Err, IfOk, ap, arith, inl, inr, length, refl, subst, sym}
 use Rattle.cls_link.specs.Links.{Links}
 use Rattle.sp_main.specs.CommandLine.{AsksCheck, AsksRun, AsksText, IsUsageFault, RunWords}
 use Rattle.sp_main.specs.Folders.{AreFilesOf, Telling}
@@ -19,7 +19,7 @@ use Rattle.sp_main.specs.declared.status.Status.TheVariants.{Done, Failed}
 use Rattle.sp_main.specs.declared.words.Request.{Request}
 use Rattle.sp_main.specs.declared.words.Request.TheVariants.{Run, Check, Tell, Refuse}
 use Rattle.sp_main.specs.declared.words.RunRequest.{RunRequest}
-use Rattle.vm_step.specs.declared.limits.Limits.{Limits}
+use Rattle.vm_run.specs.declared.limits.Limits.{Limits}
 
 module _ {E : Type 0} (telling : Telling) (run : RunWords) (answer : Result Report E) where
   -- the report is the reply to all arguments that ask for this run

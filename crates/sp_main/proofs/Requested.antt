@@ -1,5 +1,5 @@
 -- What words ask for, by what the parser answers to them.
-use Rattle.std.proofs.Common.{◌≡◌, ◌∙◌, ℕ, List, [], true, Option, Some, Result, Ok, Err, IfOk, codes, slice_get, inl, inr, ap, sym, subst, refl, None, arith, length}
+use Rattle.std.proofs.Common.{◌≡◌, ◌∙◌, ℕ, List, [], true, Some, Result, Ok, Err, IfOk, codes, inl, inr, ap, sym, subst, refl, None, arith, length}
 use Rattle.clap.proofs.OnLiterals.{clap_on_literals}
 use Rattle.clap.specs.Faults.{fault_of, is_simple_and_free}
 use Rattle.clap.specs.Kinds.{HasKind, IsAmong}

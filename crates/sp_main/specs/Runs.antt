@@ -1,8 +1,7 @@
 -- What it means that class files run: from their bytes to how the method ends, each layer by its own definition.
-use Rattle.std.specs.Prelude.{◌≡◌, ◌≢◌, ◌+◌, ◌≤◌, ◌==◌, ℕ, zero, suc, Bool, Option, Some, None, Ok, Err, List, take, drop, length, slice_get, option_and_then}
+use Rattle.std.specs.Prelude.{◌≡◌, ◌≢◌, ◌+◌, ◌==◌, ℕ, Bool, MatchBool, Option, Some, None, Ok, Err, List, take, drop, length, nat_le, slice_get, option_and_then}
 use Rattle.std.specs.List.{AllZip, position}
 use Rattle.cf_reader.specs.declared.class_file.ClassFile.{ClassFile}
-use Rattle.cf_reader.specs.declared.class_file.Code.{Code}
 use Rattle.cf_layout.specs.declared.items.Layout.{Layout}
 use Rattle.cf_reader.specs.Spells.{IsAtFault, IsInProfile, Spells}
 use Rattle.cf_load.specs.declared.load_fault.LoadFault.{LoadFault}
@@ -28,19 +27,19 @@ use Rattle.uuid.specs.Parts.{zero_bytes}
 use Rattle.ver_check.specs.Acceptance.{AreSafe}
 use Rattle.ver_check.specs.Faults.{IsCheckFault}
 use Rattle.ver_rules.specs.declared.fault.CheckFault.{CheckFault}
+use Rattle.space_ids.specs.declared.ids.ClassId.{ClassId}
 use Rattle.space_ids.specs.declared.value.Value.{Value}
 use Rattle.space_ids.specs.declared.value.Value.TheVariants as value
-use Rattle.vm_step.specs.Run.{State, Running, Over, Lost, run, step, IsNeverStuck}
-use Rattle.vm_step.specs.Start.{started, startable}
-use Rattle.vm_step.specs.Subjects.{Declared}
-use Rattle.vm_step.specs.Task.{Tasked, thrown_name}
-use Rattle.vm_step.specs.declared.ending.Ending.{Ending}
-use Rattle.vm_step.specs.declared.ending.Ending.TheVariants as ending
-use Rattle.vm_step.specs.declared.outcome.Outcome.{Outcome}
-use Rattle.vm_step.specs.declared.outcome.Outcome.TheVariants as outcome
-use Rattle.vm_step.specs.declared.fault.StartFault.{StartFault}
-use Rattle.vm_step.specs.declared.fault.StartFault.TheVariants as start
-use Rattle.vm_step.specs.declared.limits.Limits.{Limits}
+use Rattle.vm_run.specs.Ends.{End, ReturnedNothing, ReturnedInt, ReturnedNull, ReturnedInts, ReturnedObject, Threw, ThrewObject, Spent}
+use Rattle.vm_run.specs.Limited.{KeepsWithin}
+use Rattle.vm_run.specs.Run.{Over, made, run, IsNeverStuck}
+use Rattle.vm_run.specs.Start.{started}
+use Rattle.vm_run.specs.Task.{Tasked, most_elements, thrown_name, unmarshalled}
+use Rattle.vm_run.specs.declared.outcome.Outcome.{Outcome}
+use Rattle.vm_run.specs.declared.outcome.Outcome.TheVariants as outcome
+use Rattle.vm_run.specs.declared.fault.StartFault.{StartFault}
+use Rattle.vm_run.specs.declared.fault.StartFault.TheVariants as start
+use Rattle.vm_run.specs.declared.limits.Limits.{Limits}
 
 -- what a device gave of a file spells a class file (JVMS 4.1) in profile
 abbrev pub IsSpelled : Content → ClassFile → Type 0
@@ -86,51 +85,43 @@ method_named program class text =
     option_and_then (λ index. links.number_of program.classes holder (take index text) (drop index text))
     (position is_parenthesis text)) (sets.number_of program.classes class)
 
--- how many instructions a step makes: one, while the task runs and has fuel
-abbrev pub made_in : State → ℕ
-made_in (Running m zero) = 0
-made_in (Running m (suc fuel)) = 1
-made_in (Over ending fuel) = 0
-made_in Lost = 0
+-- the class of this number was thrown, by its name in the set
+abbrev pub ThrewClass : List Class → ClassId → RunOutcome → Type 0
+ThrewClass classes class outcome = (name : List ℕ) × (outcome ≡ told.Threw name) × (sets.name_at classes class ≡ Some name)
 
-unfoldable pub made : Links → ℕ → State → ℕ
-made program zero state = 0
-made program (suc steps) state = made_in state + made program steps (step program state)
-
--- the frame of a running task has the local variables of its code, and no more operands than that allows
-abbrev pub KeepsWithin : Code → State → Type 0
-KeepsWithin code (Running m fuel) = (length m.stack.frame.locals ≡ code.max_locals) × (length m.stack.frame.operands ≤ code.max_stack)
-KeepsWithin code (Over ending fuel) = Unit {0}
-KeepsWithin code Lost = Unit {0}
-
--- how a task ended, as it is printed: a thrown class by its name
-abbrev pub IsTold : Ending → RunOutcome → Type 0
-IsTold ending.ReturnedNothing outcome = outcome ≡ told.Returned None
-IsTold (ending.ReturnedInt n) outcome = outcome ≡ told.Returned (Some (value.Int n))
-IsTold (ending.Threw thrown) outcome = outcome ≡ told.Threw (thrown_name thrown)
-IsTold ending.Spent outcome = outcome ≡ told.Spent
+-- how a task ended, as it is printed: an array by its elements, if there are not too many, and a thrown class by its name. A longer
+-- array and an object of the task's own heap cannot cross, and a MarshalException is thrown in their place
+abbrev pub IsTold : List Class → End → RunOutcome → Type 0
+IsTold classes ReturnedNothing outcome = outcome ≡ told.Returned None
+IsTold classes (ReturnedInt n) outcome = outcome ≡ told.Returned (Some (value.Int n))
+IsTold classes ReturnedNull outcome = outcome ≡ told.Returned (Some value.Null)
+IsTold classes (ReturnedInts elements) outcome =
+    MatchBool (nat_le (length elements) most_elements) (outcome ≡ told.Returned (Some (value.Ints elements))) (outcome ≡ told.Threw unmarshalled)
+IsTold classes (ReturnedObject class) outcome = outcome ≡ told.Threw unmarshalled
+IsTold classes (Threw thrown) outcome = outcome ≡ told.Threw (thrown_name thrown)
+IsTold classes (ThrewObject class) outcome = ThrewClass classes class outcome
+IsTold classes Spent outcome = outcome ≡ told.Spent
 
 -- an outcome with the name of a class instead of its number
 abbrev pub IsNamed : List Class → Outcome → RunOutcome → Type 0
 IsNamed classes (outcome.Returned value) named = named ≡ told.Returned value
-IsNamed classes (outcome.Threw class) named = (name : List ℕ) × (named ≡ told.Threw name) × (sets.name_at classes class ≡ Some name)
+IsNamed classes (outcome.Threw class) named = ThrewClass classes class named
 IsNamed classes outcome.Spent named = named ≡ told.Spent
 
--- The tagged machine (JVMS 6.5) runs a method of a program from its opening state to this outcome: it is never stuck, keeps
--- within max_stack and max_locals, and makes no more instructions than it has fuel for.
+-- The tagged machine (JVMS 6.5), of all instructions of the profile, runs a method of a program from its opening state to this outcome: it
+-- is never stuck, keeps the running frame and those of all its callers within max_stack and max_locals, and makes no more instructions
+-- than it has fuel for.
 pub record Runs (program : Links) (method : MethodId) (arguments : List Value) (limits : Limits) (outcome : RunOutcome) : Type 0 where
-  pub declared : Declared
-  pub found : startable program method ≡ Some declared
   pub task : Tasked
   pub starts : started program zero_bytes method arguments limits ≡ Ok task
   pub never_stuck : IsNeverStuck program task.state
-  pub within : (steps : ℕ) → KeepsWithin declared.code (run program steps task.state)
+  pub within : (steps : ℕ) → KeepsWithin program (run program steps task.state)
   pub steps : ℕ
-  pub ending : Ending
+  pub end : End
   pub left : ℕ
-  pub ends : run program steps task.state ≡ Over ending left
+  pub ends : run program steps task.state ≡ Over end left
   pub fuel : made program steps task.state + left ≡ limits.fuel
-  pub told : IsTold ending outcome
+  pub told : IsTold program.classes end outcome
 
 -- the files make a program, and its method of this class, name and descriptor runs to this outcome
 pub record IsRun (files : List ClassBytes) (class text : List ℕ) (arguments : List Value) (limits : Limits) (outcome : RunOutcome) : Type 0 where

@@ -14,7 +14,7 @@ use cf_reader::MAX_LEN;
 use dev_io::{ReadError, StdSource, read_bytes};
 use std::alloc::{AllocError, Global};
 use std::io::{Read, Write};
-use vm_step::Limits;
+use vm_run::Limits;
 
 /// Does what the command line asks for, and returns the exit status. The first of `words` is the
 /// program's own name. What it prints is complete before its first byte is written.

@@ -3,9 +3,8 @@
 
 ghost use Rattle.std.specs.Prelude.{◌≡◌, ◌+◌, ◌-◌, ◌^◌, ◌<◌, ◌≤◌, length, IfOk, IfErr, IfSome};
 ghost use Rattle.std.specs.List.{position};
-ghost use Rattle.cls_link.specs.Links.{AreLinks, Links};
-ghost use Rattle.ver_check.specs.Acceptance.{AreSafe};
-ghost use Rattle.vm_step.specs.Task.{IsOfSet};
+ghost use Rattle.cls_link.specs.Links.{Links};
+ghost use Rattle.vm_run.specs.Task.{IsOfSet};
 ghost use Rattle.sp_main.specs.Runs.{AreSpelled, IsFileFault, IsNamed, IsNoProgram, IsNotRun, IsProgram, IsRefused, IsRun, IsSpelled, IsUnread, Runs, is_parenthesis, method_named};
 
 use super::refusal::Refusal;
@@ -16,7 +15,7 @@ use cls_set::ClassSet;
 use std::alloc::{AllocError, Global};
 use ver_check::{Accepted, accept};
 use vm_heap::{Uuid, Value};
-use vm_step::{Limits, Outcome, StartFault, Task};
+use vm_run::{Limits, Outcome, Program, StartFault, Task};
 
 /// A class file: its path, and what its device gave of it.
 #[derive(Drop)]
@@ -59,16 +58,17 @@ pub fn run_classes(
 ) -> Result<RunOutcome, Refusal>
     requires memory { limits.heap_words + limits.references < 2 ^ 32 }
     // From the bytes to the outcome: the classes that the bytes spell are type safe, and the tagged
-    // machine runs the method to this end, never stuck and within its bounds.
+    // machine of all instructions runs the method to this end, never stuck and within its bounds.
     ensures run { IfOk result (IsRun files.now class.now method.now arguments.items limits) }
     // A refusal says what is wrong, and nothing before it is wrong.
     ensures refused { IfErr result (IsRefused files.now class.now method.now arguments.items limits) }
 {
     let accepted = accepted_of(alloc, files)?;
-    let Some(method) = find_method(&accepted, class, method) else {
+    let program = Program::of(alloc, accepted)?;
+    let Some(method) = find_method(&program, class, method) else {
         return Err(Refusal::Start(StartFault::AbsentMethod));
     };
-    run_method(alloc, &accepted, method, arguments, limits)
+    run_method(alloc, &program, method, arguments, limits)
 }
 
 /// Reads, links and checks the class set of the files, and returns how many files there are. The
@@ -118,10 +118,10 @@ fn read_file(alloc: Global, file: &ClassBytes) -> Result<ClassFile, LoadFault>
 }
 
 // The method of this class, name and descriptor.
-fn find_method(accepted: &Accepted, class: &[u8], method: &[u8]) -> Option<MethodId>
-    ensures { result ≡ method_named accepted.now class.now method.now }
+fn find_method(program: &Program, class: &[u8], method: &[u8]) -> Option<MethodId>
+    ensures { result ≡ method_named program.now class.now method.now }
 {
-    let linked = accepted.linked();
+    let linked = program.linked();
     let class = linked.set().number(class)?;
     let (name, descriptor) = method.split_at(descriptor_index(method)?);
     linked.declared_method(class, name, descriptor)
@@ -138,37 +138,36 @@ fn descriptor_index(method: &[u8]) -> Option<usize>
 // Starts the method and runs it to its end.
 fn run_method(
     alloc: Global,
-    accepted: &Accepted,
+    program: &Program,
     method: MethodId,
     arguments: Vec<Value>,
     limits: Limits,
 ) -> Result<RunOutcome, Refusal>
-    requires linked { AreLinks accepted.now }
-    requires safe { AreSafe accepted.now }
     requires memory { limits.heap_words + limits.references < 2 ^ 32 }
-    ensures run { IfOk result (Runs accepted.now method arguments.items limits) }
-    ensures refused { IfErr result (IsNotRun accepted.now method arguments.items limits) }
+    ensures run { IfOk result (Runs program.now method arguments.items limits) }
+    ensures refused { IfErr result (IsNotRun program.now method arguments.items limits) }
 {
-    let mut task = Task::start(alloc, accepted, Uuid::nil(), method, arguments, limits)?;
+    let mut task = Task::start(alloc, program, Uuid::nil(), method, arguments, limits)?;
     // More instructions than there can be fuel for: the task ends.
-    let _ = task.run(accepted, u64::MAX);
-    let _ = task.run(accepted, 1);
-    match task.outcome() {
-        Some(outcome) => Ok(named(accepted, outcome)?),
+    let _ = task.run(program, u64::MAX);
+    let _ = task.run(program, 1);
+    let told = task.outcome(alloc)?;
+    match told {
+        Some(outcome) => Ok(named(program, outcome)?),
         None => unreachable!(),
     }
 }
 
 // How a task ended, with the name of a class instead of its number.
-fn named(accepted: &Accepted, outcome: Outcome) -> Result<RunOutcome, AllocError>
-    requires { IsOfSet accepted.now.classes outcome }
-    ensures { IfOk result (IsNamed accepted.now.classes outcome) }
+fn named(program: &Program, outcome: Outcome) -> Result<RunOutcome, AllocError>
+    requires { IsOfSet program.now.classes outcome }
+    ensures { IfOk result (IsNamed program.now.classes outcome) }
 {
     match outcome {
         Outcome::Returned(value) => Ok(RunOutcome::Returned(value)),
         Outcome::Spent => Ok(RunOutcome::Spent),
         Outcome::Threw(class) => {
-            let set = accepted.linked().set();
+            let set = program.linked().set();
             Ok(RunOutcome::Threw(set.name(class).copy()?))
         }
     }

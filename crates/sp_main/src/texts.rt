@@ -16,7 +16,7 @@ use cls_set::SetFault;
 use std::alloc::{AllocError, Global};
 use ver_check::CheckFault;
 use vm_heap::Value;
-use vm_step::StartFault;
+use vm_run::StartFault;
 
 /// Returns a text, with one newline at its end.
 pub fn text_report(alloc: Global, text: &str, status: Status) -> Result<Report, AllocError>

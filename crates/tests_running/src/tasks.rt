@@ -10,23 +10,21 @@ use std::alloc::{AllocError, Global};
 use std::process::Abort;
 use std::test::Fail;
 use ver_check::accept;
-use vm_step::{
-    Accepted, Limits, MethodId, Numbered, Outcome, Pause, StartFault, Task, Uuid, Value,
-};
+use vm_run::{Limits, MethodId, Numbered, Outcome, Pause, Program, StartFault, Task, Uuid, Value};
 
-// The checked set of the class that the bytes spell.
-fn program_of(alloc: Global, bytes: &[u8]) -> Result<Accepted, Fail> {
+// The program of the class that the bytes spell.
+fn program_of(alloc: Global, bytes: &[u8]) -> Result<Program, Fail> {
     let mut files = Vec::new(alloc);
     files.push(read_class(alloc, bytes)?)?;
     let set = ClassSet::build(alloc, files)?;
-    Ok(accept(alloc, link(alloc, set)?)?)
+    Ok(Program::of(alloc, accept(alloc, link(alloc, set)?)?)?)
 }
 
-fn sum(alloc: Global) -> Result<Accepted, Fail> {
+fn sum(alloc: Global) -> Result<Program, Fail> {
     program_of(alloc, SUM)
 }
 
-fn method(program: &Accepted, descriptor: &[u8]) -> Option<MethodId> {
+fn method(program: &Program, descriptor: &[u8]) -> Option<MethodId> {
     let linked = program.linked();
     let class = linked.set().number(b"T")?;
     linked.method(class, b"f", descriptor)
@@ -53,7 +51,7 @@ fn ints(alloc: Global, numbers: &[i32]) -> Result<Vec<Value>, AllocError> {
 
 fn begin(
     alloc: Global,
-    program: &Accepted,
+    program: &Program,
     arguments: &[i32],
     limits: Limits,
 ) -> Result<Task, StartFault>
@@ -66,7 +64,7 @@ fn begin(
 }
 
 // How often the task turns, of a hundred pieces of one instruction at most.
-fn turns(task: &mut Task, program: &Accepted) -> u32
+fn turns(task: &mut Task, program: &Program) -> u32
     requires { task.old.program ≡ program.now }
     ensures { task.new.program ≡ program.now }
 {
@@ -83,17 +81,17 @@ fn turns(task: &mut Task, program: &Accepted) -> u32
 fn pieces_of_one_instruction_take_one_unit_of_fuel_each(rt: HostRuntime) -> Result<(), Fail> {
     let program = sum(rt.alloc())?;
     let mut task = begin(rt.alloc(), &program, &[4], limits(8, 38))?;
-    assert!(rt; task.outcome().is_none());
+    assert!(rt; task.outcome(rt.alloc())?.is_none());
     assert_eq!(rt; turns(&mut task, &program), 37);
     assert!(rt;
         matches!(
-            task.outcome(),
+            task.outcome(rt.alloc())?,
             Some(Outcome::Returned(Some(Value::Int(10))))
         )
     );
     let mut task = begin(rt.alloc(), &program, &[4], limits(8, 37))?;
     assert_eq!(rt; turns(&mut task, &program), 37);
-    assert!(rt; matches!(task.outcome(), Some(Outcome::Spent)));
+    assert!(rt; matches!(task.outcome(rt.alloc())?, Some(Outcome::Spent)));
     Ok(())
 }
 
@@ -103,11 +101,11 @@ fn a_piece_of_no_instruction_spends_nothing(rt: HostRuntime) -> Result<(), Fail>
     let program = sum(rt.alloc())?;
     let mut task = begin(rt.alloc(), &program, &[4], limits(8, 0))?;
     assert_eq!(rt; task.run(&program, 0), Pause::Turn);
-    assert!(rt; task.outcome().is_none());
+    assert!(rt; task.outcome(rt.alloc())?.is_none());
     assert_eq!(rt; task.run(&program, 1), Pause::Ended);
-    assert!(rt; matches!(task.outcome(), Some(Outcome::Spent)));
+    assert!(rt; matches!(task.outcome(rt.alloc())?, Some(Outcome::Spent)));
     assert_eq!(rt; task.run(&program, 1), Pause::Ended);
-    assert!(rt; matches!(task.outcome(), Some(Outcome::Spent)));
+    assert!(rt; matches!(task.outcome(rt.alloc())?, Some(Outcome::Spent)));
     Ok(())
 }
 
@@ -120,7 +118,7 @@ fn a_task_that_ended_answers_its_end_again(rt: HostRuntime) -> Result<(), Fail> 
     assert_eq!(rt; task.run(&program, 100), Pause::Ended);
     assert!(rt;
         matches!(
-            task.outcome(),
+            task.outcome(rt.alloc())?,
             Some(Outcome::Returned(Some(Value::Int(10))))
         )
     );
@@ -138,7 +136,7 @@ fn a_first_frame_that_does_not_fit_throws(rt: HostRuntime) -> Result<(), Fail> {
         .set()
         .number(b"java/lang/StackOverflowError");
     assert!(rt; overflow.is_some());
-    match task.outcome() {
+    match task.outcome(rt.alloc())? {
         Some(Outcome::Threw(class)) => assert_eq!(rt; Some(class), overflow),
         _ => assert!(rt; false),
     }
@@ -161,11 +159,11 @@ fn a_task_does_not_start(rt: HostRuntime) -> Result<(), Fail> {
     assert!(rt; matches!(nowhere, Err(StartFault::AbsentMethod)));
     let empty = begin(alloc, &program, &[], limits(8, 1));
     assert!(rt; matches!(empty, Err(StartFault::BadArgument)));
-    let arrays = program_of_arrays(alloc)?;
-    let method = method(&arrays, b"([I)V").ok_or("no method")?;
+    let objects = program_of_objects(alloc)?;
+    let method = method(&objects, b"(LT;)V").ok_or("no method")?;
     let refused = Task::start(
         alloc,
-        &arrays,
+        &objects,
         Uuid::nil(),
         method,
         Vec::new(alloc),
@@ -176,7 +174,6 @@ fn a_task_does_not_start(rt: HostRuntime) -> Result<(), Fail> {
         (StartFault::AbsentMethod, 85),
         (StartFault::BadSignature, 86),
         (StartFault::BadArgument, 87),
-        (StartFault::NotYet, 69),
         (StartFault::Memory, 15),
     ] {
         assert_eq!(rt; fault.number(), number);
@@ -192,20 +189,20 @@ const RETURNS: CodeParts<'static> = CodeParts {
     attributes: &[],
 };
 
-// A method that takes an array and gives nothing.
-fn method_of_array(code: CodeParts<'_>) -> MethodParts<'_> {
+// A method that takes an object of its class and gives nothing.
+fn method_of_object(code: CodeParts<'_>) -> MethodParts<'_> {
     MethodParts {
         flags: Flags::STATIC,
         name: "f",
-        descriptor: "([I)V",
+        descriptor: "(LT;)V",
         code: Some(code),
         attributes: &[],
     }
 }
 
 // The class T with that method.
-fn program_of_arrays(alloc: Global) -> Result<Accepted, Fail> {
-    let methods = [method_of_array(RETURNS)];
+fn program_of_objects(alloc: Global) -> Result<Program, Fail> {
+    let methods = [method_of_object(RETURNS)];
     let class = ClassParts {
         flags: Flags::PUBLIC,
         name: "T",

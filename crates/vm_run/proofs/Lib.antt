@@ -8,3 +8,4 @@ pub mod Passing
 pub mod Begins
 pub mod Sound
 pub mod Limited
+pub mod Made

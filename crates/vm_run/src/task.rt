@@ -3,6 +3,7 @@ ghost use Rattle.std.specs.Prelude.{◌≡◌, ◌≢◌, ℕ, ◌+◌, ◌^◌,
 ghost use Rattle.vm_heap.specs.Heap.{Ints, cell_at, length_at};
 ghost use Rattle.vm_run.specs.Ends.{end_of, returned_at};
 ghost use Rattle.vm_run.specs.Start.{opening_state, started};
+ghost use Rattle.vm_run.specs.Limited.{KeepsWithin};
 ghost use Rattle.vm_run.specs.Run.{run, IsOver, IsNeverStuck};
 ghost use Rattle.vm_run.specs.Task.{pause_at, fuel_left, final_state, last_end, outcome_of, outcome_at, phase_state, threw_named, unmarshalled, IsOutcome, IsOfSet};
 
@@ -66,6 +67,8 @@ impl Task {
         ensures program { IfOk result (λ task. task.program ≡ program.now) }
         ensures fuel { IfOk result (λ task. fuel_left task.state ≡ limits.fuel) }
         ensures never_stuck { IfOk result (λ task. IsNeverStuck program.now task.state) }
+        // All frames keep within max_stack and max_locals of their methods.
+        ensures within { IfOk result (λ task. (k : ℕ) → KeepsWithin program.now (run program.now k task.state)) }
     {
         let linked = program.linked();
         let Some(found) = find(linked, method) else {

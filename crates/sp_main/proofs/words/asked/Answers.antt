@@ -1,4 +1,4 @@
-use Rattle.std.proofs.Common.{◌≡◌, Some, codes, rules}
+use Rattle.std.proofs.Common.{rules}
 use Rattle.clap.specs.Matches.{found_of}
 use Rattle.clap.specs.Simple.{subcommand_rows_of}
 use Rattle.clap.specs.Walk.{rows_of}
