@@ -1,6 +1,7 @@
 //! The laws of the order in which spaces send and answer.
 
 ghost use Rattle.sp_order_laws.specs.Answering.{FramesAreAnsweredOnce};
+ghost use Rattle.sp_order_laws.specs.LastCalls.{CallsComeAboveTheLast, LastCallsCame};
 ghost use Rattle.sp_order_laws.specs.Places.{CallsGoOutOnce, EachCallStandsOnce, EachGroupIsAnsweredOnce, EachResultIsAcknowledgedOnce};
 ghost use Rattle.sp_order_laws.specs.Rising.{CallNumbersRise, NumbersRise, SequenceNumbersRise};
 
@@ -79,6 +80,22 @@ pub fn each_group_is_answered_once()
 /// way or came; and an Ack on its way names a result that its receiver sent on the connection.
 pub fn each_result_is_acknowledged_once()
     ensures { EachResultIsAcknowledgedOnce }
+{
+    frames_go_their_way();
+    what_comes_was_sent();
+}
+
+/// After every history of a space the last number of each open connection is that of a call or lookup that
+/// came there, or 0.
+pub fn last_calls_came()
+    ensures { LastCallsCame }
+{}
+
+/// In every run of every world, whatever is lost or fails, a call or lookup that is on its way has a number
+/// above the last of its connection in the space to which it comes. So no connection is closed since a
+/// number comes again, or falls.
+pub fn calls_come_above_the_last()
+    ensures { CallsComeAboveTheLast }
 {
     frames_go_their_way();
     what_comes_was_sent();
