@@ -57,7 +57,8 @@ pub fn frames_are_answered_once()
 /// In every run of every world, whatever is lost or fails, a call or lookup of a space stands in one part
 /// of the world at most. It waits to be sent, or stands once, on one connection: as its frame on its way,
 /// as a parked call or a living task where it came, as its answer on its way, or as a result that came
-/// back and waits for leases.
+/// back and waits for leases. Once its answer came, nothing of it waits to be sent, is on its way or is
+/// under way at the callee, and no other answer comes.
 pub fn each_call_stands_once()
     ensures { EachCallStandsOnce }
 {
@@ -66,8 +67,8 @@ pub fn each_call_stands_once()
 }
 
 /// In every run of every world, whatever is lost or fails, a dirty or clean call of a space is answered
-/// once: its frame is on its way, or the Lease or Cleaned that answers it, or neither, and on one
-/// connection.
+/// once: its frame is on its way, or the one Lease or Cleaned that answers it is or came, or neither, and
+/// on one connection.
 pub fn each_group_is_answered_once()
     ensures { EachGroupIsAnsweredOnce }
 {
