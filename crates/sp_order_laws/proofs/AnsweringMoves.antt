@@ -254,7 +254,7 @@ owing_moves g x conn k sent bound counts = record {
         let a : sent + (total (noted x conn k) s.notes + (total (weight x conn k counts) s.parked + (tasks_of x conn k s.tasks + owed_of x conn k l))) ≤ bound = h.holds in
         let b : total (weight x conn k counts) (filter (λ q. not (is_parked_at p.conn p.number q)) s.parked) ≤ total (weight x conn k counts) s.parked = total-filter (weight x conn k counts) (λ q. not (is_parked_at p.conn p.number q)) s.parked in omega arith;
   };
-  row = λ l s n f same h. h;
+  counts = λ l s n number h. h;
   closes = λ l s n h. h;
 }
 

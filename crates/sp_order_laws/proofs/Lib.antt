@@ -10,3 +10,5 @@ mod RisingWorlds
 mod AnsweringMoves
 mod AnsweringLaws
 mod PlaceWorlds
+mod LastMoves
+mod LastWorlds

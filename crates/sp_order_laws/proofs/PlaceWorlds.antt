@@ -21,7 +21,7 @@ use Rattle.sp_call_laws.specs.Directions.{FramesGoTheirWay}
 use Rattle.sp_world_laws.specs.Delivered.{came_on, sent_on, AreSomeOf, Delivers, WhatComesWasSent}
 use Rattle.sp_world_laws.specs.Ends.{IsOneOf}
 use Rattle.sp_order_laws.specs.Answering.{Exchange, CallReply, GroupReply, ResultAck, answered_in, result_in, reply_in, times, times_asked, times_answered, under_way}
-use Rattle.sp_order_laws.specs.Places.{waiting_to_go, CallsGoOutOnce, IsBetween, call_stands, group_stands, result_stands, CallsStandOnceIn, EachCallStandsOnce, GroupsStandOnceIn, EachGroupIsAnsweredOnce, SentResult, ResultsStandOnceIn, EachResultIsAcknowledgedOnce}
+use Rattle.sp_order_laws.specs.Places.{waiting_to_go, CallsGoOutOnce, IsBetween, call_stands, call_answered, group_stands, result_stands, CallsStandOnceIn, EachCallStandsOnce, GroupsStandOnceIn, EachGroupIsAnsweredOnce, SentResult, ResultsStandOnceIn, EachResultIsAcknowledgedOnce}
 use Rattle.sp_order_laws.specs.Rising.{sequence_in, frames_in, call_numbers, sequence_numbers}
 use Rattle.sp_order_laws.proofs.NoteLemmas.{flat-append, sent, sent-none}
 use Rattle.sp_order_laws.proofs.RisingMoves.{times-append, number_of, waiting_number, calls_in}
@@ -177,11 +177,23 @@ calls-stand {conn} {k} {p} {a} {b} f =
     let i : under_way CallReply conn k b.state + times k (flat_map reply_in p.dialler.queue) + times k (flat_map reply_in (came_on conn a.history)) ≤ times k (flat_map call_number_in (came_on conn b.history)) = omega arith in
     let j : under_way ResultAck conn k a.state ≤ times k (flat_map reply_in (came_on conn a.history)) = omega arith in omega arith
 
-groups-stand : {conn k : ℕ} {p : Pipe} {a b : Space} → Between conn k p a b → group_stands k p ≤ times k (sequence_numbers (sent_on conn a.outputs))
+-- answers that came and those on their way
+answered-both : (x : Exchange) (k : ℕ) (xs ys : List Message) → times_answered x k (xs ++ ys) ≡ times_answered x k xs + times_answered x k ys
+answered-both x k xs ys = ap (times k) (flat-append (answered_in x) xs ys) ∙ times-append k (flat_map (answered_in x) xs) (flat_map (answered_in x) ys)
+
+calls-answered : {conn k : ℕ} {p : Pipe} {a b : Space} → Between conn k p a b → call_answered conn k p a b ≤ times k (call_numbers (sent_on conn a.outputs))
+calls-answered {conn} {k} {p} {a} {b} f =
+    let c : times k (flat_map call_number_in (came_on conn b.history)) + times k (flat_map call_number_in p.accepter.queue) ≤ times k (call_numbers (sent_on conn a.outputs)) = some-times call_number_in k (came_on conn b.history) p.accepter.queue (sent_on conn a.outputs) f.there in
+    let d : under_way CallReply conn k b.state + times_answered CallReply k (sent_on conn b.outputs) ≤ times k (flat_map call_number_in (came_on conn b.history)) = f.answers CallReply in
+    let e : times_answered CallReply k (came_on conn a.history) + times_answered CallReply k p.dialler.queue ≤ times_answered CallReply k (sent_on conn b.outputs) = some-times reply_in k (came_on conn a.history) p.dialler.queue (sent_on conn b.outputs) f.back in
+    let g : times_answered CallReply k (came_on conn a.history ++ p.dialler.queue) ≡ times_answered CallReply k (came_on conn a.history) + times_answered CallReply k p.dialler.queue = answered-both CallReply k (came_on conn a.history) p.dialler.queue in omega arith
+
+groups-stand : {conn k : ℕ} {p : Pipe} {a b : Space} → Between conn k p a b → group_stands conn k p a ≤ times k (sequence_numbers (sent_on conn a.outputs))
 groups-stand {conn} {k} {p} {a} {b} f =
     let c : times k (flat_map sequence_in (came_on conn b.history)) + times k (flat_map sequence_in p.accepter.queue) ≤ times k (sequence_numbers (sent_on conn a.outputs)) = some-times sequence_in k (came_on conn b.history) p.accepter.queue (sent_on conn a.outputs) f.there in
     let d : under_way GroupReply conn k b.state + times_answered GroupReply k (sent_on conn b.outputs) ≤ times k (flat_map sequence_in (came_on conn b.history)) = f.answers GroupReply in
-    let e : times k (flat_map (answered_in GroupReply) (came_on conn a.history)) + times k (flat_map (answered_in GroupReply) p.dialler.queue) ≤ times_answered GroupReply k (sent_on conn b.outputs) = some-times (answered_in GroupReply) k (came_on conn a.history) p.dialler.queue (sent_on conn b.outputs) f.back in omega arith
+    let e : times_answered GroupReply k (came_on conn a.history) + times_answered GroupReply k p.dialler.queue ≤ times_answered GroupReply k (sent_on conn b.outputs) = some-times (answered_in GroupReply) k (came_on conn a.history) p.dialler.queue (sent_on conn b.outputs) f.back in
+    let g : times_answered GroupReply k (came_on conn a.history ++ p.dialler.queue) ≡ times_answered GroupReply k (came_on conn a.history) + times_answered GroupReply k p.dialler.queue = answered-both GroupReply k (came_on conn a.history) p.dialler.queue in omega arith
 
 results-stand : {conn k : ℕ} {p : Pipe} {a b : Space} → Between conn k p a b → result_stands conn k p a b ≤ times k (call_numbers (sent_on conn a.outputs))
 results-stand {conn} {k} {p} {a} {b} f =
@@ -247,6 +259,10 @@ calls_in_world ways w comes all = record {
       let c : call_stands conn k p a b ≤ times k (call_numbers (sent_on conn a.outputs)) = calls-stand (between ways w comes all conn k p a b is) in
       let d : times k (call_numbers (sent_on conn a.outputs)) ≤ times k (call_numbers (frames_in a.outputs)) = one-connection call_number_in k conn a.outputs in
       let e : times k (call_numbers (frames_in a.outputs)) + waiting_to_go k a.state ≤ 1 = goes-out ways a (at-all Known p.dialler.space w.spaces a is.dialled all) k in omega arith;
+  answered = λ conn k p a b is.
+      let c : call_answered conn k p a b ≤ times k (call_numbers (sent_on conn a.outputs)) = calls-answered (between ways w comes all conn k p a b is) in
+      let d : times k (call_numbers (sent_on conn a.outputs)) ≤ times k (call_numbers (frames_in a.outputs)) = one-connection call_number_in k conn a.outputs in
+      let e : times k (call_numbers (frames_in a.outputs)) + waiting_to_go k a.state ≤ 1 = goes-out ways a (at-all Known p.dialler.space w.spaces a is.dialled all) k in omega arith;
   apart = λ conn d k p q a b c other is also.
       let x : call_stands conn k p a b ≤ times k (call_numbers (sent_on conn a.outputs)) = calls-stand (between ways w comes all conn k p a b is) in
       let y : call_stands d k q a c ≤ times k (call_numbers (sent_on d a.outputs)) = calls-stand (between ways w comes all d k q a c also) in
@@ -257,12 +273,12 @@ calls_in_world ways w comes all = record {
 groups_in_world : FramesGoTheirWay → (w : World) → Delivers w → AllOf Known w.spaces → GroupsStandOnceIn w
 groups_in_world ways w comes all = record {
   once = λ conn k p a b is.
-      let c : group_stands k p ≤ times k (sequence_numbers (sent_on conn a.outputs)) = groups-stand (between ways w comes all conn k p a b is) in
+      let c : group_stands conn k p a ≤ times k (sequence_numbers (sent_on conn a.outputs)) = groups-stand (between ways w comes all conn k p a b is) in
       let d : times k (sequence_numbers (sent_on conn a.outputs)) ≤ times k (sequence_numbers (frames_in a.outputs)) = one-connection sequence_in k conn a.outputs in
       let e : times k (sequence_numbers (frames_in a.outputs)) ≤ 1 = sequence-once ways a (at-all Known p.dialler.space w.spaces a is.dialled all) k in omega arith;
   apart = λ conn d k p q a b c other is also.
-      let x : group_stands k p ≤ times k (sequence_numbers (sent_on conn a.outputs)) = groups-stand (between ways w comes all conn k p a b is) in
-      let y : group_stands k q ≤ times k (sequence_numbers (sent_on d a.outputs)) = groups-stand (between ways w comes all d k q a c also) in
+      let x : group_stands conn k p a ≤ times k (sequence_numbers (sent_on conn a.outputs)) = groups-stand (between ways w comes all conn k p a b is) in
+      let y : group_stands d k q a ≤ times k (sequence_numbers (sent_on d a.outputs)) = groups-stand (between ways w comes all d k q a c also) in
       let z : times k (sequence_numbers (sent_on conn a.outputs)) + times k (sequence_numbers (sent_on d a.outputs)) ≤ times k (sequence_numbers (frames_in a.outputs)) = two-connections sequence_in k conn d a.outputs other in
       let e : times k (sequence_numbers (frames_in a.outputs)) ≤ 1 = sequence-once ways a (at-all Known p.dialler.space w.spaces a is.dialled all) k in omega arith;
 }

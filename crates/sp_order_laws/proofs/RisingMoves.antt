@@ -337,7 +337,7 @@ rising_moves g outs top = record {
   works = λ l s id f same h. h;
   parks = λ l s p h. h;
   takes = λ l s p h. h;
-  row = λ l s conn f same h. first_rising conn f same.number same.dialled (λ c e. ap is_none (sym (same.peer c)) ∙ e) h;
+  counts = λ l s conn number h. first_rising conn (λ (c : Connection). record c { last = number }) (λ c. refl) (λ c. refl) (λ c e. e) h;
   closes = λ l s conn h. closes_rising (λ (c : Connection). not (c.number == conn)) h;
 }
 

@@ -117,12 +117,6 @@ pub record IsSameTask (f : Living → Living) : Type 0 where
   pub id : (t : Living) → (f t).id ≡ t.id
   pub origin : (t : Living) → (f t).origin ≡ t.origin
 
--- a connection that is changed keeps its number and who is at its other end
-pub record IsSameEnd (f : Connection → Connection) : Type 0 where
-  pub number : (c : Connection) → (f c).number ≡ c.number
-  pub dialled : (c : Connection) → (f c).dialled ≡ c.dialled
-  pub peer : (c : Connection) → (f c).peer ≡ c.peer
-
 -- The moves that keep a property of a state and of what is owed beside it.
 pub record Moves (g : Setting) (P : List Owed → State → Type 0) : Type 0 where
   pub quiet : (l : List Owed) (s t : State) → walk_parts t ≡ walk_parts s → P l s → P l t
@@ -137,7 +131,7 @@ pub record Moves (g : Setting) (P : List Owed → State → Type 0) : Type 0 whe
   pub works : (l : List Owed) (s : State) (id : ℕ) (f : Living → Living) → IsSameTask f → P l s → P l (set_task f id s)
   pub parks : (l : List Owed) (s : State) (p : ParkedFrame) → P (of_parked p ∷ l) s → P l (record s { parked = s.parked ++ p ∷ [] })
   pub takes : (l : List Owed) (s : State) (p : ParkedFrame) → P l s → P l (ParkedFrames.take_parked p s)
-  pub row : (l : List Owed) (s : State) (conn : ℕ) (f : Connection → Connection) → IsSameEnd f → P l s → P l (state.set_connection f conn s)
+  pub counts : (l : List Owed) (s : State) (conn number : ℕ) → P (Owes CallReply conn number ∷ l) s → P (Owes CallReply conn number ∷ l) (Frames.counted conn number s)
   pub closes : (l : List Owed) (s : State) (conn : ℕ) → P l s → P l (Endings.without_connection conn s)
 
 -- Beside them: a parked frame goes with what is owed for it, and all that wait for a reference fail.
@@ -350,9 +344,6 @@ first_walk W c (message.Clean sequence strong objects) B is shut h = close_walk 
 first_walk W c (message.Cleaned sequence) B is shut h = close_walk W _ c.number h
 first_walk W c (message.Lookup number name) B is shut h = close_walk W _ c.number (W.moves.falls [] _ _ h)
 
-counts : {g : Setting} {P : List Owed → State → Type 0} (M : Moves g P) {l : List Owed} {s : State} (conn number : ℕ) → P l s → P l (Frames.counted conn number s)
-counts M {l} {s} conn number h = M.row l s conn (λ (c : Connection). record c { last = number }) (record { number = λ c. refl; dialled = λ c. refl; peer = λ c. refl }) h
-
 call_of_walk : {g : Setting} {P : List Owed → State → Type 0} (W : Walks g P) {l : List Owed} {s : State} (conn number : ℕ) (o : Object) (method fuel : ℕ) (arguments : List Value) → P (Owes CallReply conn number ∷ l) s → P l (Frames.call_of g conn number o method fuel arguments s)
 call_of_walk {g} {P} W {l} {s} conn number o method fuel arguments h =
     if_walk W.moves (not (g.classes.may_call o.class method) || (not (fit_kinds (g.classes.parameters method) arguments) || list_any (Holders.is_refused g s) (references_of arguments))) (send_walk W.moves _ conn _ refl h)
@@ -363,8 +354,8 @@ unfolding Frames.got_call
 got_call_walk {g} {P} W {l} {s} c number target method fuel arguments h = if_walk W.moves (nat_le number c.last) (close_walk W _ c.number (W.moves.falls l s _ h)) (on (object_at s target))
   where
     on : (o : Option Object) → P l (Frames.call_on g c.number number o method fuel arguments (Frames.counted c.number number s))
-    on None = send_walk W.moves _ c.number _ refl (counts W.moves c.number number h)
-    on (Some o) = call_of_walk W c.number number o method fuel arguments (counts W.moves c.number number h)
+    on None = send_walk W.moves _ c.number _ refl (W.moves.counts _ _ c.number number h)
+    on (Some o) = call_of_walk W c.number number o method fuel arguments (W.moves.counts _ _ c.number number h)
 
 found_walk : {g : Setting} {P : List Owed → State → Type 0} (M : Moves g P) {l : List Owed} {s : State} (conn number : ℕ) (o : Option Object) → P (Owes CallReply conn number ∷ l) s → P l (Frames.found g conn number o s)
 found_walk M conn number None h = send_walk M _ conn _ refl h
@@ -372,7 +363,7 @@ found_walk {g} M conn number (Some o) h = send_walk M _ conn _ refl (keep_walk M
 
 got_lookup_walk : {g : Setting} {P : List Owed → State → Type 0} (W : Walks g P) {l : List Owed} {s : State} (c : Connection) (number : ℕ) (name : List ℕ) → P (Owes CallReply c.number number ∷ l) s → P l (Frames.got_lookup g c number name s)
 unfolding Frames.got_lookup
-got_lookup_walk {P = P} W {l} {s} c number name h = if_walk W.moves (nat_le number c.last) (close_walk W _ c.number (W.moves.falls l s _ h)) (found_walk W.moves c.number number (Frames.object_of s (registry.lookup s.owner.names name)) (counts W.moves c.number number h))
+got_lookup_walk {P = P} W {l} {s} c number name h = if_walk W.moves (nat_le number c.last) (close_walk W _ c.number (W.moves.falls l s _ h)) (found_walk W.moves c.number number (Frames.object_of s (registry.lookup s.owner.names name)) (W.moves.counts _ _ c.number number h))
 
 release_walk : {g : Setting} {P : List Owed → State → Type 0} (M : Moves g P) {l : List Owed} {s : State} (is : KeptResult → Bool) → P l s → P l (Frames.release g is s)
 unfolding Frames.release

@@ -1,3 +1,4 @@
 pub mod Answering
 pub mod Rising
 pub mod Places
+pub mod LastCalls

@@ -45,9 +45,16 @@ call_stands conn k p a b =
     + (times_answered CallReply k p.dialler.queue
     + under_way ResultAck conn k a.state))
 
--- how often a dirty or clean call of a sequence number is on its way there: as its frame, or as the Lease or Cleaned that answers it
-abbrev pub group_stands : ℕ → Pipe → ℕ
-group_stands k p = times_asked GroupReply k p.accepter.queue + times_answered GroupReply k p.dialler.queue
+-- the same, with answers that came in place of results that wait
+abbrev pub call_answered : ℕ → ℕ → Pipe → Space → Space → ℕ
+call_answered conn k p a b =
+    times_asked CallReply k p.accepter.queue
+    + (under_way CallReply conn k b.state
+    + times_answered CallReply k (came_on conn a.history ++ p.dialler.queue))
+
+-- how often a dirty or clean call of a sequence number stands there: as its frame on its way, or as the Lease or Cleaned that answers it, on its way or come
+abbrev pub group_stands : ℕ → ℕ → Pipe → Space → ℕ
+group_stands conn k p a = times_asked GroupReply k p.accepter.queue + times_answered GroupReply k (came_on conn a.history ++ p.dialler.queue)
 
 -- how often a result is on its way there: as a Returned, as one that came and waits for leases, as an Ack on its way, and as one that came
 abbrev pub result_stands : ℕ → ℕ → Pipe → Space → Space → ℕ
@@ -58,18 +65,19 @@ result_stands conn k p a b =
 
 -- ---- the laws
 
--- A call or lookup of a space stands in one part of the world at most: it waits to be sent, or stands once on one connection.
+-- A call or lookup of a space stands in one part of the world at most: it waits to be sent, or stands once on one connection. Once its answer came, nothing of it waits to be sent, is on its way or is under way at the callee.
 pub record CallsStandOnceIn (w : World) : Type 0 where
   pub once : (conn k : ℕ) (p : Pipe) (a b : Space) → IsBetween w conn p a b → waiting_to_go k a.state + call_stands conn k p a b ≤ 1
+  pub answered : (conn k : ℕ) (p : Pipe) (a b : Space) → IsBetween w conn p a b → waiting_to_go k a.state + call_answered conn k p a b ≤ 1
   pub apart : (conn d k : ℕ) (p q : Pipe) (a b c : Space) → (conn ≡ d → ⊥) → IsBetween w conn p a b → IsBetween w d q a c → call_stands conn k p a b + call_stands d k q a c ≤ 1
 
 abbrev pub EachCallStandsOnce : Type 0
 EachCallStandsOnce = (settings : List Setting) (events : List WorldEvent) → CallsStandOnceIn (run (new_world settings) events)
 
--- A dirty or clean call is on its way, or its answer, or neither, and on one connection.
+-- A dirty or clean call is on its way, or its one answer is or came, or neither, and on one connection.
 pub record GroupsStandOnceIn (w : World) : Type 0 where
-  pub once : (conn k : ℕ) (p : Pipe) (a b : Space) → IsBetween w conn p a b → group_stands k p ≤ 1
-  pub apart : (conn d k : ℕ) (p q : Pipe) (a b c : Space) → (conn ≡ d → ⊥) → IsBetween w conn p a b → IsBetween w d q a c → group_stands k p + group_stands k q ≤ 1
+  pub once : (conn k : ℕ) (p : Pipe) (a b : Space) → IsBetween w conn p a b → group_stands conn k p a ≤ 1
+  pub apart : (conn d k : ℕ) (p q : Pipe) (a b c : Space) → (conn ≡ d → ⊥) → IsBetween w conn p a b → IsBetween w d q a c → group_stands conn k p a + group_stands d k q a ≤ 1
 
 abbrev pub EachGroupIsAnsweredOnce : Type 0
 EachGroupIsAnsweredOnce = (settings : List Setting) (events : List WorldEvent) → GroupsStandOnceIn (run (new_world settings) events)

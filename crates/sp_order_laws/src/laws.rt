@@ -1,6 +1,7 @@
 //! The laws of the order in which spaces send and answer.
 
 ghost use Rattle.sp_order_laws.specs.Answering.{FramesAreAnsweredOnce};
+ghost use Rattle.sp_order_laws.specs.LastCalls.{CallsComeAboveTheLast, LastCallsCame};
 ghost use Rattle.sp_order_laws.specs.Places.{CallsGoOutOnce, EachCallStandsOnce, EachGroupIsAnsweredOnce, EachResultIsAcknowledgedOnce};
 ghost use Rattle.sp_order_laws.specs.Rising.{CallNumbersRise, NumbersRise, SequenceNumbersRise};
 
@@ -56,7 +57,8 @@ pub fn frames_are_answered_once()
 /// In every run of every world, whatever is lost or fails, a call or lookup of a space stands in one part
 /// of the world at most. It waits to be sent, or stands once, on one connection: as its frame on its way,
 /// as a parked call or a living task where it came, as its answer on its way, or as a result that came
-/// back and waits for leases.
+/// back and waits for leases. Once its answer came, nothing of it waits to be sent, is on its way or is
+/// under way at the callee, and no other answer comes.
 pub fn each_call_stands_once()
     ensures { EachCallStandsOnce }
 {
@@ -65,8 +67,8 @@ pub fn each_call_stands_once()
 }
 
 /// In every run of every world, whatever is lost or fails, a dirty or clean call of a space is answered
-/// once: its frame is on its way, or the Lease or Cleaned that answers it, or neither, and on one
-/// connection.
+/// once: its frame is on its way, or the one Lease or Cleaned that answers it is or came, or neither, and
+/// on one connection.
 pub fn each_group_is_answered_once()
     ensures { EachGroupIsAnsweredOnce }
 {
@@ -79,6 +81,22 @@ pub fn each_group_is_answered_once()
 /// way or came; and an Ack on its way names a result that its receiver sent on the connection.
 pub fn each_result_is_acknowledged_once()
     ensures { EachResultIsAcknowledgedOnce }
+{
+    frames_go_their_way();
+    what_comes_was_sent();
+}
+
+/// After every history of a space the last number of each open connection is that of a call or lookup that
+/// came there, or 0.
+pub fn last_calls_came()
+    ensures { LastCallsCame }
+{}
+
+/// In every run of every world, whatever is lost or fails, a call or lookup that is on its way has a number
+/// above the last of its connection in the space to which it comes. So no connection is closed since a
+/// number comes again, or falls.
+pub fn calls_come_above_the_last()
+    ensures { CallsComeAboveTheLast }
 {
     frames_go_their_way();
     what_comes_was_sent();
