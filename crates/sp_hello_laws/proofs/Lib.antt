@@ -1,1 +1,4 @@
 pub mod TurnLemmas
+pub mod RowLemmas
+pub mod FirstLemmas
+pub mod TableLemmas
