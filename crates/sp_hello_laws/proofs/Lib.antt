@@ -2,3 +2,4 @@ pub mod TurnLemmas
 pub mod RowLemmas
 pub mod FirstLemmas
 pub mod TableLemmas
+pub mod HandShakeLemmas

@@ -33,7 +33,7 @@ use Rattle.sp_hello_laws.proofs.TurnLemmas.{hellos_are_said_first}
 
 -- ---- lists
 
-none-left : (xs ys : List Message) → xs ++ ys ≡ [] → (xs ≡ []) × (ys ≡ [])
+pub none-left : (xs ys : List Message) → xs ++ ys ≡ [] → (xs ≡ []) × (ys ≡ [])
 none-left [] ys e = (refl, e)
 none-left (x ∷ xs) ys e = absurd (true≢false (sym (ap is_there e)))
   where
