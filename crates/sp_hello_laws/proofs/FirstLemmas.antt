@@ -1,7 +1,7 @@
 -- As a connection opens, its space says Hello there, once, and nothing else.
 use mathlib.Core.Path.{sym, ap, subst, ◌∙◌}
-use Rattle.std.proofs.lemmas.Bool.{true≢false, eqb-true, eq-eqb}
-use Rattle.std.specs.Prelude.{◌≡◌, refl, ℕ, zero, suc, ◌+◌, ◌==◌, ◌||◌, cond, is_some, Bool, true, false, List, [], ◌∷◌, ◌++◌, Option, None, Some, filter, find, map, if◌then◌else◌}
+use Rattle.std.proofs.lemmas.Bool.{true≢false, eq-eqb}
+use Rattle.std.specs.Prelude.{◌≡◌, refl, ℕ, suc, ◌==◌, ◌||◌, cond, is_some, Bool, true, false, List, [], ◌∷◌, ◌++◌, Option, None, Some, find, if◌then◌else◌}
 use Rattle.dgc_client.specs.Groups as groups
 use Rattle.dgc_client.specs.declared.groups.Group.{Group}
 use Rattle.net_message.specs.declared.message.Message.{Message}

@@ -1,13 +1,13 @@
 -- The table of the hand-shake, of what each end said and heard, and of what is on its way.
 use mathlib.Core.Path.{sym, ap, subst, ◌∙◌}
 use Rattle.std.proofs.lemmas.Bool.{true≢false}
-use Rattle.std.specs.Prelude.{◌≡◌, refl, ℕ, zero, suc, Bool, true, false, List, [], ◌∷◌, ◌++◌, Option, None, Some, slice_get}
+use Rattle.std.specs.Prelude.{◌≡◌, refl, ℕ, zero, suc, Bool, true, false, List, [], ◌∷◌, ◌++◌, Option, Some, slice_get}
 use Rattle.net_message.specs.declared.message.Message.{Message}
 use Rattle.uuid.specs.declared.Uuid.{Uuid}
 use Rattle.sp_rules.specs.Classes.{Setting}
 use Rattle.sp_rules.specs.Laws.{AllOf}
 use Rattle.sp_rules.specs.State.{is_open}
-use Rattle.sp_rules.specs.Worlds.{World, Space, End, Pipe, side, other, run, new_world}
+use Rattle.sp_rules.specs.Worlds.{World, Space, side, other, run, new_world}
 use Rattle.sp_rules.proofs.AllLemmas.{some-none}
 use Rattle.sp_rules.proofs.OwnLemmas.{some-same}
 use Rattle.sp_laws.specs.Inbound.{opened}

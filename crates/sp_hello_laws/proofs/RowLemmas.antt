@@ -21,9 +21,9 @@ use Rattle.sp_rules.specs.State.{State, Living, Origin, OfRoot, OfCall, Connecti
 use Rattle.sp_rules.proofs.AllLemmas.{some-none, found-is}
 use Rattle.sp_rules.proofs.OwnLemmas.{some-same, and-left, and-right}
 use Rattle.sp_laws.specs.Inbound.{opens}
-use Rattle.sp_frame_laws.proofs.FrameFlows.{View, Flows, Begins, EventParts, event_parts, IsFrom, IsWhoWasDialled}
-use Rattle.sp_frame_laws.proofs.FrameSteps.{settle_flow, flush_flow}
-use Rattle.sp_frame_laws.proofs.FrameEvents.{on_flow, finish_event_flow, has-peer}
+use Rattle.sp_frame_laws.proofs.FrameFlows.{View, Flows, Begins, EventParts, IsFrom, IsWhoWasDialled}
+use Rattle.sp_frame_laws.proofs.FrameSteps.{flush_flow}
+use Rattle.sp_frame_laws.proofs.FrameEvents.{on_flow, finish_event_flow}
 use Rattle.sp_frame_laws.proofs.OpenLemmas.{all-unit, all-dialled}
 use Rattle.sp_frame_laws.proofs.ShutLemmas.{has_row, row-ends, connection-ends, ends-so}
 use Rattle.sp_hello_laws.specs.Hellos.{brings_on}

@@ -1,5 +1,5 @@
 -- A space says Hello as a connection opens, and anything else only where a frame came, through every event.
-use mathlib.Core.Path.{sym, ap, subst, ◌∙◌}
+use mathlib.Core.Path.{sym, subst}
 use Rattle.std.proofs.lemmas.Bool.{true≢false, eq-eqb, eqb-true}
 use Rattle.std.specs.Prelude.{◌≡◌, refl, ℕ, ◌==◌, not, is_some, Bool, true, false, List, [], ◌∷◌, ◌++◌, Option, None, Some, filter, if◌then◌else◌}
 use Rattle.net_message.specs.declared.message.Message.TheVariants as message
