@@ -117,7 +117,7 @@ shut-begin g conn s e apart = record {
 }
 
 -- what an event leaves as it ends a connection
-ends-so : (g : Setting) (conn : ℕ) (s : State) → is_open s conn ≡ false → is_open (Space.finish_event true s).0 conn ≡ false
+pub ends-so : (g : Setting) (conn : ℕ) (s : State) → is_open s conn ≡ false → is_open (Space.finish_event true s).0 conn ≡ false
 ends-so g conn s k = finish_event_flow (shut_flow g conn) true k
 
 pub connections_end : ConnectionsEnd

@@ -1,0 +1,2 @@
+pub mod Hellos
+pub mod HandShakes
