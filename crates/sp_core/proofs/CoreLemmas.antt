@@ -1,5 +1,5 @@
 use Rattle.std.proofs.Common.{◌≡◌, ℕ, ◌≤◌, ◌<◌, Bool, true, false, cond, List, [], ◌∷◌, ◌++◌, Option, None, Some, refl, sym, ap, subst, ◌∙◌, map, filter, true≢false, arith}
-use Rattle.std.specs.Prelude.{Result, Ok, Err, nat_lt, nat_le, not, ◌==◌, ◌&&◌, ◌||◌, ◌^◌, option_map, unwrap_or, is_some, OnErr, IfErr}
+use Rattle.std.specs.Prelude.{Result, Ok, Err, nat_lt, nat_le, not, ◌==◌, ◌&&◌, ◌||◌, ◌^◌, option_map, option_and_then, unwrap_or, is_some, OnErr, IfErr, IfOk}
 use Rattle.std.proofs.lemmas.Bool.Decides.{nat_tests}
 use Rattle.space_ids.specs.declared.ids.ClassId.{ClassId}
 use Rattle.std.specs.List.{filter_map}
@@ -20,7 +20,8 @@ use Rattle.dgc_list.specs.declared.list.RefList.{RefList}
 use Rattle.dgc_client.specs.declared.table.Clients.{Clients}
 use Rattle.sp_core.specs.declared.space.SpaceCore.{SpaceCore}
 use Rattle.sp_rules.specs.Classes.{Setting}
-use Rattle.sp_rules.specs.Events.{Output, Denied, Moment, Bind, Rebind, Unbind, Says, in_order}
+use Rattle.sp_rules.specs.Events as rules
+use Rattle.sp_rules.specs.Events.{Output, Denied, Moment, Sweep, RootAck, Bind, Rebind, Unbind, Says, in_order}
 use Rattle.sp_rules.specs.Frames.{release, let_go}
 use Rattle.sp_rules.specs.Holders.{own_object, class_is}
 use Rattle.sp_rules.specs.Lists.{each}
@@ -31,11 +32,11 @@ use Rattle.sp_rules.specs.State.{State, Object, say}
 use Rattle.sp_core.specs.Cores.{IsAlone, IsCore, kept}
 use Rattle.sp_core.specs.declared.fault.CoreFault.{CoreFault}
 use Rattle.sp_core.specs.declared.fault.CoreFault.TheVariants as fault
-use Rattle.sp_core.specs.FaultNames.{Refuses}
-use Rattle.sp_core.specs.Events.{event_of, is_late, told}
+use Rattle.sp_core.specs.FaultNames.{Refuses, core_fault_number}
+use Rattle.sp_core.specs.Events.{event_of, is_late}
 use Rattle.sp_core.specs.declared.event.Event.{Event}
 use Rattle.sp_core.specs.declared.event.Event.TheVariants as event
-use Rattle.sp_rules.specs.Refusals.{Refusal, WornOut, is_worn, refusal}
+use Rattle.sp_rules.specs.Refusals.{Refusal, WornOut, checks, first_refusal, is_worn, refusal, refusal_number}
 
 -- ---- the end of an event of a space that is alone
 
@@ -43,29 +44,34 @@ due-none : (h : List client.Told) → client.held h ≡ [] → due_groups h ≡ 
 unfolding due_groups
 due-none h none = ap (λ rs. groups.grouped (groups.in_order (filter_map (λ reference. due_call reference (due (lease_of (client.own reference h)))) rs))) none
 
-settle-alone : (t : State) → client.held t.leases ≡ [] → t.fresh ≡ [] → settle t ≡ t
+pub settle-alone : (t : State) → client.held t.leases ≡ [] → t.fresh ≡ [] → settle t ≡ t
 unfolding settle make_due ask_fresh each
 settle-alone t none fresh =
     ap (λ gs. ask_fresh (each make_group gs t)) (due-none t.leases none)
     ∙ ap (λ rs. each ask rs (record t { fresh = [] })) fresh
     ∙ (λ j. record t { fresh = sym fresh j })
 
-finish-none : (t : State) → client.held t.leases ≡ [] → t.fresh ≡ [] → t.notes ≡ [] → finish_event true t ≡ (t, [])
+pub finish-none : (t : State) → client.held t.leases ≡ [] → t.fresh ≡ [] → t.notes ≡ [] → finish_event true t ≡ (t, [])
 unfolding in_order each
 finish-none t none fresh quiet =
     ap (λ u. conclude u (in_order u.notes)) (settle-alone t none fresh)
     ∙ ap (λ ns. conclude t (in_order ns)) quiet
     ∙ (λ j. (record t { notes = sym quiet j }, []))
 
-finish-denied : (s : State) (fault : RegistryFault) → IsAlone s → finish_event true (say (Denied fault) s) ≡ (s, Denied fault ∷ [])
+finish-denied : (g : Setting) (s : State) (fault : RegistryFault) → IsAlone g s → finish_event true (say (Denied fault) s) ≡ (s, Denied fault ∷ [])
 unfolding in_order each
-finish-denied s fault alone =
+finish-denied g s fault alone =
     let t : State = say (Denied fault) s in
     ap (λ u. conclude u (in_order u.notes)) (settle-alone t alone.held alone.fresh)
     ∙ ap (λ ns. conclude t (in_order (ns ++ Says (Denied fault) ∷ []))) alone.notes
     ∙ (λ j. (record s { notes = sym alone.notes j }, Denied fault ∷ []))
 
 -- ---- names
+
+-- what is answered to a change of names that the registry denies, or does not
+abbrev pub said : Option RegistryFault → List Output
+said None = []
+said (Some fault) = Denied fault ∷ []
 
 -- the state after a change of names
 abbrev pub named : Result (List Binding) RegistryFault → State → State
@@ -76,25 +82,25 @@ abbrev pub denied : Result (List Binding) RegistryFault → Option RegistryFault
 denied (Ok names) = None
 denied (Err fault) = Some fault
 
-named-is : (s : State) (r : Result (List Binding) RegistryFault) → IsAlone s → finish_event true (set_names r s) ≡ (named r s, told (denied r))
+named-is : (g : Setting) (s : State) (r : Result (List Binding) RegistryFault) → IsAlone g s → finish_event true (set_names r s) ≡ (named r s, said (denied r))
 unfolding set_names
-named-is s (Ok names) alone = finish-none (record s { owner = record s.owner { names = names } }) alone.held alone.fresh alone.notes
-named-is s (Err fault) alone = finish-denied s fault alone
+named-is g s (Ok names) alone = finish-none (record s { owner = record s.owner { names = names } }) alone.held alone.fresh alone.notes
+named-is g s (Err fault) alone = finish-denied g s fault alone
 
-pub on-bind : (g : Setting) (s : State) (name : List ℕ) (value : Value) → IsAlone s
-    → on g (Bind name value) s ≡ (named (registry.bind s.owner.names name (own_object g s value)) s, told (denied (registry.bind s.owner.names name (own_object g s value))))
+pub on-bind : (g : Setting) (s : State) (name : List ℕ) (value : Value) → IsAlone g s
+    → on g (Bind name value) s ≡ (named (registry.bind s.owner.names name (own_object g s value)) s, said (denied (registry.bind s.owner.names name (own_object g s value))))
 unfolding on happen
-on-bind g s name value alone = named-is s (registry.bind s.owner.names name (own_object g s value)) alone
+on-bind g s name value alone = named-is g s (registry.bind s.owner.names name (own_object g s value)) alone
 
-pub on-rebind : (g : Setting) (s : State) (name : List ℕ) (value : Value) → IsAlone s
-    → on g (Rebind name value) s ≡ (named (registry.rebind s.owner.names name (own_object g s value)) s, told (denied (registry.rebind s.owner.names name (own_object g s value))))
+pub on-rebind : (g : Setting) (s : State) (name : List ℕ) (value : Value) → IsAlone g s
+    → on g (Rebind name value) s ≡ (named (registry.rebind s.owner.names name (own_object g s value)) s, said (denied (registry.rebind s.owner.names name (own_object g s value))))
 unfolding on happen
-on-rebind g s name value alone = named-is s (registry.rebind s.owner.names name (own_object g s value)) alone
+on-rebind g s name value alone = named-is g s (registry.rebind s.owner.names name (own_object g s value)) alone
 
-pub on-unbind : (g : Setting) (s : State) (name : List ℕ) → IsAlone s
-    → on g (Unbind name) s ≡ (named (registry.unbind s.owner.names name) s, told (denied (registry.unbind s.owner.names name)))
+pub on-unbind : (g : Setting) (s : State) (name : List ℕ) → IsAlone g s
+    → on g (Unbind name) s ≡ (named (registry.unbind s.owner.names name) s, said (denied (registry.unbind s.owner.names name)))
 unfolding on happen
-on-unbind g s name alone = named-is s (registry.unbind s.owner.names name) alone
+on-unbind g s name alone = named-is g s (registry.unbind s.owner.names name) alone
 
 denied-is : (r : Result (List Binding) RegistryFault) (fault : RegistryFault) → registry.Refuses r (Denies fault) → r ≡ Err fault
 denied-is (Err other) fault h = ap Err (ap (fault_or fault) (sym h))
@@ -114,6 +120,7 @@ names-other g s core n is = record {
   id = is.id;
   moment = is.moment;
   store = is.store;
+  holds = is.holds;
   objects_made = is.objects_made;
   names = refl;
   entries = is.entries;
@@ -130,6 +137,9 @@ names-other g s core n is = record {
     held = is.alone.held;
     fresh = is.alone.fresh;
     notes = is.alone.notes;
+    tasks = is.alone.tasks;
+    fields = is.alone.fields;
+    results = is.alone.results;
   };
 }
 
@@ -138,51 +148,51 @@ names-same g s core n same is =
     subst (λ (names : List Binding). IsCore g (record s { owner = record s.owner { names = names } }) (record core { names = n })) (same ∙ is.names) (names-other g s core n is)
 
 pub change-ok : (g : Setting) (s : State) (core : SpaceCore) (n : registry.Names) (r : Result (List Binding) RegistryFault) (after : State × List Output)
-    → after ≡ (named r s, told (denied r)) → r ≡ Ok n.bindings → IsCore g s core → IsCore g after.0 (record core { names = n }) × (after.1 ≡ told None)
+    → after ≡ (named r s, said (denied r)) → r ≡ Ok n.bindings → IsCore g s core → IsCore g after.0 (record core { names = n }) × (after.1 ≡ said None)
 change-ok g s core n r after is-after ok is = (
   subst (λ (t : State). IsCore g t (record core { names = n })) (sym (ap (λ (p : State × List Output). p.0) is-after ∙ ap (λ r. named r s) ok)) (names-other g s core n is),
-  ap (λ (p : State × List Output). p.1) is-after ∙ ap (λ r. told (denied r)) ok,
+  ap (λ (p : State × List Output). p.1) is-after ∙ ap (λ r. said (denied r)) ok,
 )
 
 pub change-denied : (g : Setting) (s : State) (core : SpaceCore) (n : registry.Names) (r : Result (List Binding) RegistryFault) (fault : RegistryFault) (after : State × List Output)
-    → after ≡ (named r s, told (denied r)) → r ≡ Err fault → n.bindings ≡ core.names.bindings → IsCore g s core → IsCore g after.0 (record core { names = n }) × (after.1 ≡ told (Some fault))
+    → after ≡ (named r s, said (denied r)) → r ≡ Err fault → n.bindings ≡ core.names.bindings → IsCore g s core → IsCore g after.0 (record core { names = n }) × (after.1 ≡ said (Some fault))
 change-denied g s core n r fault after is-after err same is = (
   subst (λ (t : State). IsCore g t (record core { names = n })) (sym (ap (λ (p : State × List Output). p.0) is-after ∙ ap (λ r. named r s) err)) (names-same g s core n same is),
-  ap (λ (p : State × List Output). p.1) is-after ∙ ap (λ r. told (denied r)) err,
+  ap (λ (p : State × List Output). p.1) is-after ∙ ap (λ r. said (denied r)) err,
 )
 
 pub bound-ok : (g : Setting) (s : State) (core : SpaceCore) (n : registry.Names) (name : List ℕ) (value : Value) (own : Option ObjId) → own ≡ own_object g s value
-    → registry.bind core.names.bindings name own ≡ Ok n.bindings → IsCore g s core → IsCore g (on g (Bind name value) s).0 (record core { names = n }) × ((on g (Bind name value) s).1 ≡ told None)
+    → registry.bind core.names.bindings name own ≡ Ok n.bindings → IsCore g s core → IsCore g (on g (Bind name value) s).0 (record core { names = n }) × ((on g (Bind name value) s).1 ≡ said None)
 bound-ok g s core n name value own object ok is =
     change-ok g s core n _ (on g (Bind name value) s) (on-bind g s name value is.alone) (sym (λ j. registry.bind (is.names j) name (object j)) ∙ ok) is
 
 pub bound-denied : (g : Setting) (s : State) (core : SpaceCore) (n : registry.Names) (name : List ℕ) (value : Value) (own : Option ObjId) (fault : RegistryFault) → own ≡ own_object g s value
     → registry.Refuses (registry.bind core.names.bindings name own) (Denies fault) → n.bindings ≡ core.names.bindings → IsCore g s core
-    → IsCore g (on g (Bind name value) s).0 (record core { names = n }) × ((on g (Bind name value) s).1 ≡ told (Some fault))
+    → IsCore g (on g (Bind name value) s).0 (record core { names = n }) × ((on g (Bind name value) s).1 ≡ said (Some fault))
 bound-denied g s core n name value own fault object refused same is =
     change-denied g s core n _ fault (on g (Bind name value) s) (on-bind g s name value is.alone)
     (sym (λ j. registry.bind (is.names j) name (object j)) ∙ denied-is (registry.bind core.names.bindings name own) fault refused) same is
 
 pub rebound-ok : (g : Setting) (s : State) (core : SpaceCore) (n : registry.Names) (name : List ℕ) (value : Value) (own : Option ObjId) → own ≡ own_object g s value
-    → registry.rebind core.names.bindings name own ≡ Ok n.bindings → IsCore g s core → IsCore g (on g (Rebind name value) s).0 (record core { names = n }) × ((on g (Rebind name value) s).1 ≡ told None)
+    → registry.rebind core.names.bindings name own ≡ Ok n.bindings → IsCore g s core → IsCore g (on g (Rebind name value) s).0 (record core { names = n }) × ((on g (Rebind name value) s).1 ≡ said None)
 rebound-ok g s core n name value own object ok is =
     change-ok g s core n _ (on g (Rebind name value) s) (on-rebind g s name value is.alone) (sym (λ j. registry.rebind (is.names j) name (object j)) ∙ ok) is
 
 pub rebound-denied : (g : Setting) (s : State) (core : SpaceCore) (n : registry.Names) (name : List ℕ) (value : Value) (own : Option ObjId) (fault : RegistryFault) → own ≡ own_object g s value
     → registry.Refuses (registry.rebind core.names.bindings name own) (Denies fault) → n.bindings ≡ core.names.bindings → IsCore g s core
-    → IsCore g (on g (Rebind name value) s).0 (record core { names = n }) × ((on g (Rebind name value) s).1 ≡ told (Some fault))
+    → IsCore g (on g (Rebind name value) s).0 (record core { names = n }) × ((on g (Rebind name value) s).1 ≡ said (Some fault))
 rebound-denied g s core n name value own fault object refused same is =
     change-denied g s core n _ fault (on g (Rebind name value) s) (on-rebind g s name value is.alone)
     (sym (λ j. registry.rebind (is.names j) name (object j)) ∙ denied-is (registry.rebind core.names.bindings name own) fault refused) same is
 
 pub unbound-ok : (g : Setting) (s : State) (core : SpaceCore) (n : registry.Names) (name : List ℕ)
-    → registry.unbind core.names.bindings name ≡ Ok n.bindings → IsCore g s core → IsCore g (on g (Unbind name) s).0 (record core { names = n }) × ((on g (Unbind name) s).1 ≡ told None)
+    → registry.unbind core.names.bindings name ≡ Ok n.bindings → IsCore g s core → IsCore g (on g (Unbind name) s).0 (record core { names = n }) × ((on g (Unbind name) s).1 ≡ said None)
 unbound-ok g s core n name ok is =
     change-ok g s core n _ (on g (Unbind name) s) (on-unbind g s name is.alone) (sym (λ j. registry.unbind (is.names j) name) ∙ ok) is
 
 pub unbound-denied : (g : Setting) (s : State) (core : SpaceCore) (n : registry.Names) (name : List ℕ) (fault : RegistryFault)
     → registry.unbind core.names.bindings name ≡ Err fault → n.bindings ≡ core.names.bindings → IsCore g s core
-    → IsCore g (on g (Unbind name) s).0 (record core { names = n }) × ((on g (Unbind name) s).1 ≡ told (Some fault))
+    → IsCore g (on g (Unbind name) s).0 (record core { names = n }) × ((on g (Unbind name) s).1 ≡ said (Some fault))
 unbound-denied g s core n name fault refused same is =
     change-denied g s core n _ fault (on g (Unbind name) s) (on-unbind g s name is.alone) (sym (λ j. registry.unbind (is.names j) name) ∙ refused) same is
 
@@ -211,12 +221,12 @@ released-none g moment rows t is =
     ap (λ gone. each (let_go g) gone (record t { results = filter (λ r. not (is_over_at moment r)) t.results })) none
     ∙ (λ j. record t { results = all j })
 
-pub on-late : (g : Setting) (s : State) (moment : ℕ) → IsAlone s → nat_lt moment s.moment ≡ true → on g (Moment moment) s ≡ (s, [])
+pub on-late : (g : Setting) (s : State) (moment : ℕ) → IsAlone g s → nat_lt moment s.moment ≡ true → on g (Moment moment) s ≡ (s, [])
 unfolding on happen on_moment
 on-late g s moment alone late =
     ap (λ t. finish_event true (cond t s (release g (is_over_at moment) (passed moment s)))) late ∙ finish-none s alone.held alone.fresh alone.notes
 
-pub on-time : (g : Setting) (s : State) (moment : ℕ) (rows : List (ℕ × Option Value)) → IsAlone s → map kept rows ≡ s.results → nat_lt moment s.moment ≡ false
+pub on-time : (g : Setting) (s : State) (moment : ℕ) (rows : List (ℕ × Option Value)) → IsAlone g s → map kept rows ≡ s.results → nat_lt moment s.moment ≡ false
     → on g (Moment moment) s ≡ (passed moment s, [])
 unfolding on happen on_moment
 on-time g s moment rows alone is late =
@@ -237,12 +247,13 @@ pub moment-comes : (g : Setting) (s : State) (core : SpaceCore) (moment : ℕ) (
     → ((h : List client.Told) → client.IsAfter h core.leases → client.IsAfter (client.At moment ∷ h) leases) → IsCore g s core
     → IsCore g (on g (Moment moment) s).0 (record core { moment = moment; entries = entries; leases = leases }) × ((on g (Moment moment) s).1 ≡ [])
 moment-comes g s core moment entries leases late owner-told client-told is =
-    let after = on-time g s moment core.results.entries is.alone is.results (ap (nat_lt moment) (sym is.moment) ∙ late) in
+    let after = on-time g s moment core.results is.alone is.results (ap (nat_lt moment) (sym is.moment) ∙ late) in
     let new : SpaceCore = record core { moment = moment; entries = entries; leases = leases } in (
       subst (λ (t : State). IsCore g t new) (sym (ap (λ (p : State × List Output). p.0) after)) (record {
         id = is.id;
         moment = refl;
         store = is.store;
+        holds = is.holds;
         objects_made = is.objects_made;
         names = is.names;
         entries = owner-told s.owner.entries is.entries;
@@ -259,6 +270,9 @@ moment-comes g s core moment entries leases late owner-told client-told is =
           held = is.alone.held;
           fresh = is.alone.fresh;
           notes = is.alone.notes;
+          tasks = is.alone.tasks;
+          fields = is.alone.fields;
+          results = is.alone.results;
         };
       }),
       ap (λ (p : State × List Output). p.1) after,
@@ -290,25 +304,51 @@ not-below a b h = grind (arith, nat_tests)
 
 -- ---- refusals
 
-worn-if : (w l : Bool) → cond (w && true) (Some WornOut) (cond l (Some WornOut) None) ≡ cond (w || l) (Some WornOut) None
-worn-if true l = refl
-worn-if false l = refl
+and-true : (t : Bool) → (t && true) ≡ t
+and-true true = refl
+and-true false = refl
 
-pub refused-is : (g : Setting) (lent : List ℕ) (s : State) (e : Event) (worn late : Bool) → worn ≡ is_worn s → late ≡ is_late (event_of e)
-    → refusal g lent s (event_of e) ≡ cond (worn || late) (Some WornOut) None
+-- no event of a core is a give-back
+pub refusal-is : (g : Setting) (lent : List ℕ) (s : State) (e : Event) → refusal g lent s (event_of e) ≡ cond (is_worn s) (Some WornOut) (first_refusal (checks g lent s (event_of e)))
 unfolding refusal
-refused-is g lent s (event.Moment moment) worn late w l = worn-if (is_worn s) (nat_le (2 ^ 63) moment) ∙ sym (λ j. cond (w j || l j) (Some WornOut) None)
-refused-is g lent s (event.Bind name value) worn late w l = worn-if (is_worn s) false ∙ sym (λ j. cond (w j || l j) (Some WornOut) None)
-refused-is g lent s (event.Rebind name value) worn late w l = worn-if (is_worn s) false ∙ sym (λ j. cond (w j || l j) (Some WornOut) None)
-refused-is g lent s (event.Unbind name) worn late w l = worn-if (is_worn s) false ∙ sym (λ j. cond (w j || l j) (Some WornOut) None)
+refusal-is g lent s (event.Moment moment) = ap (λ t. cond t (Some WornOut) (first_refusal (checks g lent s (Moment moment)))) (and-true (is_worn s))
+refusal-is g lent s event.Sweep = ap (λ t. cond t (Some WornOut) (first_refusal (checks g lent s Sweep))) (and-true (is_worn s))
+refusal-is g lent s (event.RootAck task) = ap (λ t. cond t (Some WornOut) (first_refusal (checks g lent s (RootAck task)))) (and-true (is_worn s))
+refusal-is g lent s (event.Bind name value) = ap (λ t. cond t (Some WornOut) (first_refusal (checks g lent s (Bind name value)))) (and-true (is_worn s))
+refusal-is g lent s (event.Rebind name value) = ap (λ t. cond t (Some WornOut) (first_refusal (checks g lent s (Rebind name value)))) (and-true (is_worn s))
+refusal-is g lent s (event.Unbind name) = ap (λ t. cond t (Some WornOut) (first_refusal (checks g lent s (Unbind name)))) (and-true (is_worn s))
+
+pub worn-number : (g : Setting) (lent : List ℕ) (s : State) (e : Event) (worn : Bool) → worn ≡ is_worn s → worn ≡ true
+    → option_map refusal_number (refusal g lent s (event_of e)) ≡ Some 98
+worn-number g lent s e worn w late =
+    ap (λ r. option_map refusal_number r) (refusal-is g lent s e ∙ ap (λ t. cond t (Some WornOut) (first_refusal (checks g lent s (event_of e)))) (sym w ∙ late))
+
+pub fresh-number : (g : Setting) (lent : List ℕ) (s : State) (e : Event) (worn : Bool) → worn ≡ is_worn s → worn ≡ false
+    → option_map refusal_number (refusal g lent s (event_of e)) ≡ option_map refusal_number (first_refusal (checks g lent s (event_of e)))
+fresh-number g lent s e worn w early =
+    ap (λ r. option_map refusal_number r) (refusal-is g lent s e ∙ ap (λ t. cond t (Some WornOut) (first_refusal (checks g lent s (event_of e)))) (sym w ∙ early))
+
+pub if-ok : {A E : Type 0} (r : Result A E) (P Q : A → Type 0) → ((x : A) → P x → Q x) → IfOk r P → IfOk r Q
+if-ok (Ok x) P Q each h = each x h
+if-ok (Err e) P Q each h = h
 
 pub if-err : {A E : Type 0} (r : Result A E) (P Q : E → Type 0) → ((e : E) → P e → Q e) → IfErr r P → IfErr r Q
 if-err (Ok x) P Q each h = h
 if-err (Err e) P Q each h = each e h
 
-pub refused-worn : (r : Option Refusal) (t : Bool) → r ≡ cond t (Some WornOut) None → t ≡ true → Refuses r fault.WornOut
-refused-worn r t is true-is = subst (λ (r : Option Refusal). Refuses r fault.WornOut) (sym (is ∙ ap (λ t. cond t (Some WornOut) None) true-is)) refl
+pub refused-none : (r : Option Refusal) → option_map refusal_number r ≡ None → r ≡ None
+refused-none None is = refl
+refused-none (Some refusal) is = cc
 
-pub refused-memory : (r : Option Refusal) (t : Bool) (f : CoreFault) → r ≡ cond t (Some WornOut) None → t ≡ false → f ≡ fault.Memory → Refuses r f
-refused-memory r t f is false-is memory =
-    subst (λ (r : Option Refusal). Refuses r f) (sym (is ∙ ap (λ t. cond t (Some WornOut) None) false-is)) memory
+numbered : (f : CoreFault) → core_fault_number f ≡ None → f ≡ fault.Memory
+numbered fault.UnknownTask is = cc
+numbered fault.WornOut is = cc
+numbered fault.Memory is = refl
+
+pub refused-some : (r : Option Refusal) (f : CoreFault) → option_map refusal_number r ≡ core_fault_number f → Refuses r f
+refused-some None f is = numbered f (sym is)
+refused-some (Some refusal) f is = sym is
+
+pub refused-memory : (r : Option Refusal) (f : CoreFault) → option_map refusal_number r ≡ None → f ≡ fault.Memory → Refuses r f
+refused-memory None f is memory = memory
+refused-memory (Some refusal) f is memory = cc

@@ -2,12 +2,16 @@
 use Rattle.std.specs.Prelude.{◌≡◌, ℕ, List, [], Option, map}
 use Rattle.dgc_client.specs.Table as client
 use Rattle.dgc_list.specs.History as owner
+use Rattle.space_ids.specs.declared.ids.ObjId.{ObjId}
 use Rattle.space_ids.specs.declared.ids.Ref.{Ref}
 use Rattle.space_ids.specs.declared.value.Value.{Value}
 use Rattle.sp_rules.specs.Classes.{Setting}
-use Rattle.sp_rules.specs.State.{State, Living, KeptResult, RootAcked}
+use Rattle.sp_rules.specs.Holders.{fields_of}
+use Rattle.sp_rules.specs.Laws.{AllOf}
+use Rattle.sp_rules.specs.References.{foreign_ids, references_in, references_of}
+use Rattle.sp_rules.specs.State.{State, Living, KeptResult, Object, RootAcked, standing}
 use Rattle.sp_store.specs.Stores as stores
-use Rattle.sp_store.specs.Stores.{made}
+use Rattle.sp_store.specs.Stores.{made, holds_of}
 use Rattle.sp_core.specs.declared.space.SpaceCore.{SpaceCore}
 
 -- What a core sees of a living task beside its machine: its id, and the references that it holds.
@@ -18,8 +22,12 @@ seen t = (t.id, t.task.held)
 abbrev pub kept : ℕ × Option Value → KeptResult
 kept row = record { until = RootAcked row.0; value = row.1 }
 
--- A space that no other has to do with: no connection is open, nothing is asked of a peer, no frame is parked, and no foreign reference was ever held. No event is under way.
-pub record IsAlone (s : State) : Type 0 where
+-- Each of the references is of the space's own object.
+abbrev pub AreOwn : Setting → List Ref → Type 0
+AreOwn g references = foreign_ids g.id references ≡ []
+
+-- A space that no other has to do with: no connection is open, nothing is asked of a peer, no frame is parked, and no foreign reference was ever held; those in tasks, fields and results are own. No event is under way.
+pub record IsAlone (g : Setting) (s : State) : Type 0 where
   pub connections : s.connections ≡ []
   pub requests : s.requests ≡ []
   pub dialling : s.dialling ≡ []
@@ -27,12 +35,16 @@ pub record IsAlone (s : State) : Type 0 where
   pub held : client.held s.leases ≡ []
   pub fresh : s.fresh ≡ []
   pub notes : s.notes ≡ []
+  pub tasks : AllOf (λ (t : Living). AreOwn g t.task.held) s.tasks
+  pub fields : AllOf (λ (o : Object). AreOwn g (references_of (fields_of g s o))) (standing s.store)
+  pub results : AllOf (λ (k : KeptResult). AreOwn g (references_in k.value)) s.results
 
 -- A core is in a state if each of its parts is that of the state. Its space is alone, as long as cores take no connections.
 pub record IsCore (g : Setting) (s : State) (core : SpaceCore) : Type 0 where
   pub id : core.id ≡ g.id
   pub moment : core.moment ≡ s.moment
   pub store : stores.IsAfter g s.store core.store
+  pub holds : (id : ObjId) → holds_of core.store id ≡ 0
   pub objects_made : made core.store ≡ s.objects_made
   pub names : core.names.bindings ≡ s.owner.names
   pub entries : owner.IsAfter s.owner.entries core.entries
@@ -40,5 +52,5 @@ pub record IsCore (g : Setting) (s : State) (core : SpaceCore) : Type 0 where
   pub tasks_made : core.tasks_made ≡ s.tasks_made
   pub tasks : core.tasks.entries ≡ map seen s.tasks
   pub calls_made : core.calls_made ≡ s.calls_made
-  pub results : map kept core.results.entries ≡ s.results
-  pub alone : IsAlone s
+  pub results : map kept core.results ≡ s.results
+  pub alone : IsAlone g s

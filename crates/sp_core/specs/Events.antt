@@ -1,6 +1,5 @@
 -- The events and outputs of a core, as the rules of spaces tell them. (This project's own.)
 use Rattle.std.specs.Prelude.{◌^◌, nat_le, Bool, false, List, [], ◌∷◌, Option, None, Some}
-use Rattle.sp_registry.specs.declared.fault.RegistryFault.{RegistryFault}
 use Rattle.sp_rules.specs.Events as rules
 use Rattle.sp_core.specs.declared.event.Event.{Event}
 use Rattle.sp_core.specs.declared.event.Event.TheVariants as event
@@ -10,18 +9,21 @@ use Rattle.sp_core.specs.declared.event.Output.TheVariants as output
 -- the event of the rules
 abbrev pub event_of : Event → rules.Event
 event_of (event.Moment moment) = rules.Moment moment
+event_of event.Sweep = rules.Sweep
+event_of (event.RootAck task) = rules.RootAck task
 event_of (event.Bind name value) = rules.Bind name value
 event_of (event.Rebind name value) = rules.Rebind name value
 event_of (event.Unbind name) = rules.Unbind name
 
 -- the output of the rules
 abbrev pub output_of : Output → rules.Output
+output_of (output.Withdrawn ids) = rules.Withdrawn ids
 output_of (output.Denied fault) = rules.Denied fault
 
--- what is answered to a change of names that the registry denies, or does not
-abbrev pub told : Option RegistryFault → List rules.Output
+-- what is answered with one output, or with none
+abbrev pub told : Option Output → List rules.Output
 told None = []
-told (Some fault) = rules.Denied fault ∷ []
+told (Some output) = output_of output ∷ []
 
 -- whether an event is a moment from 2^63 on
 abbrev pub is_late : rules.Event → Bool

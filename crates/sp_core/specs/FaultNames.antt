@@ -6,6 +6,7 @@ use Rattle.sp_core.specs.declared.fault.CoreFault.TheVariants as fault
 
 -- the number of a fault, if it is a refusal
 abbrev pub core_fault_number : CoreFault → Option ℕ
+core_fault_number fault.UnknownTask = Some 90
 core_fault_number fault.WornOut = Some 98
 core_fault_number fault.Memory = None
 

@@ -1,3 +1,4 @@
 pub mod Cores
 pub mod Events
 pub mod FaultNames
+pub mod Sweeps

@@ -9,6 +9,9 @@ use thiserror::Error;
 /// Why an event is refused. It has then changed nothing.
 #[derive(Clone, Copy, Debug, PartialEq, Eq, Error)]
 pub enum CoreFault {
+    /// 90: no result of this task is held.
+    #[error("UnknownTask")]
+    UnknownTask,
     /// 98: a moment from 2^63 on, or any event once a number has come to that.
     #[error("WornOut")]
     WornOut,

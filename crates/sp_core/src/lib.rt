@@ -13,3 +13,4 @@ mod event;
 mod fault;
 mod living;
 mod space;
+mod sweep;

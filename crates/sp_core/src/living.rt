@@ -1,6 +1,8 @@
-//! What a core keeps of its tasks and of their results.
+//! What a core keeps of its living tasks.
 
-use space_ids::{Ref, Value};
+ghost use Rattle.std.specs.Prelude.{◌≡◌};
+
+use space_ids::Ref;
 use std::marker::Model;
 
 /// A living task, beside its machine: the references that it holds, each once.
@@ -18,17 +20,11 @@ impl Model for LivingTask {
     ghost view = { λ task. task.held.items };
 }
 
-/// The result of a root, which is held until it is acknowledged.
-#[derive(Debug, Drop)]
-pub(crate) struct RootResult {
-    value: Option<Value>,
-}
-
-impl Model for RootResult {
-    ghost use Rattle.std.specs.Prelude.{Option};
-    ghost use Rattle.space_ids.specs.declared.value.Value.{Value as Carried};
-
-    ghost Value = { Option Carried };
-
-    ghost view = { λ result. result.value };
+impl LivingTask {
+    // The references that it holds.
+    pub(crate) fn held(&self) -> &[Ref]
+        ensures { result.now ≡ self.now }
+    {
+        &self.held
+    }
 }

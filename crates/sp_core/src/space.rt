@@ -1,24 +1,29 @@
 //! The core of a space.
 
-ghost use Rattle.std.specs.Prelude.{◌≡◌, ◌<◌, ◌+◌, ◌^◌, nat_le, ℕ, List, [], false, None, Some, IfOk, IfErr, OnOk, OnErr, IsTrue, map, if◌then◌else◌};
+ghost use Rattle.std.specs.Prelude.{◌≡◌, ◌<◌, ◌+◌, ◌^◌, ◌||◌, nat_le, ℕ, List, [], false, None, Some, IfOk, IfErr, OnOk, OnErr, map, option_and_then, option_map};
 ghost use Rattle.sp_registry.specs.declared.fault.BindFault.TheVariants.{Denied as Denies};
+ghost use Rattle.space_ids.specs.declared.ids.ObjId.{ObjId};
 ghost use Rattle.sp_rules.specs.Classes.{Setting};
-ghost use Rattle.sp_rules.specs.Holders.{is_own_standing, own_object};
-ghost use Rattle.sp_rules.specs.Refusals.{WornOut, is_worn, refusal};
+ghost use Rattle.sp_rules.specs.Holders.{is_bound, is_held_by_tasks, is_in_a_result, is_own_standing, own_object};
+ghost use Rattle.sp_rules.specs.OwnEvents.{without_reason};
+ghost use Rattle.sp_rules.specs.References.{is_id_in};
+ghost use Rattle.sp_rules.specs.Refusals.{checks, first_refusal, is_worn, refusal, refusal_number};
 ghost use Rattle.sp_rules.specs.Space.{on as after_event};
-ghost use Rattle.sp_rules.specs.State.{State, opening};
+ghost use Rattle.sp_rules.specs.State.{Object, State, opening};
 ghost use Rattle.sp_core.specs.Cores.{IsCore};
-ghost use Rattle.sp_rules.specs.Events.{Moment, Bind, Rebind, Unbind};
+ghost use Rattle.sp_rules.specs.Events.{Moment, Sweep, RootAck, Bind, Rebind, Unbind};
 ghost use Rattle.sp_core.specs.Events.{event_of, is_late, output_of, told};
-ghost use Rattle.sp_core.specs.FaultNames.{Refuses};
+ghost use Rattle.sp_core.specs.FaultNames.{Refuses, core_fault_number};
 
-use crate::living::{LivingTask, RootResult};
+use crate::living::LivingTask;
+use crate::sweep::{answer, forget, insert_bound, insert_held, unlisted};
 use crate::{CoreFault, Event, Output};
 use dgc_client::Clients;
 use dgc_list::RefList;
 use indexmap::IndexMap;
 use sp_registry::{BindFault, Registry, RegistryFault};
-use sp_store::Store;
+use sp_results::Results;
+use sp_store::{IdSet, Store};
 use space_ids::{ObjId, Ref, Uuid, Value};
 use std::alloc::{AllocError, Global};
 
@@ -40,15 +45,15 @@ pub struct SpaceCore {
     tasks_made: u64,
     tasks: IndexMap<u64, LivingTask>,
     calls_made: u64,
-    results: IndexMap<u64, RootResult>,
+    results: Results,
 }
 
 impl SpaceCore {
     /// The core of the space of this id, to which nothing has happened.
-    pub fn new(alloc: Global, id: Uuid) -> SpaceCore
-        ensures { (g : Setting) → g.id ≡ id → IsCore g opening result }
+    pub fn new(alloc: Global, id: Uuid) -> Result<SpaceCore, AllocError>
+        ensures { IfOk result (λ core. (g : Setting) → g.id ≡ id → IsCore g opening core) }
     {
-        SpaceCore {
+        Ok(SpaceCore {
             alloc,
             id,
             moment: 0,
@@ -59,8 +64,8 @@ impl SpaceCore {
             tasks_made: 0,
             tasks: IndexMap::new(alloc),
             calls_made: 0,
-            results: IndexMap::new(alloc),
-        }
+            results: Results::new(alloc)?,
+        })
     }
 
     /// Lets an event happen, and answers its outputs. A refused event changes nothing; the refusal with
@@ -72,26 +77,41 @@ impl SpaceCore {
         ensures refused { IfErr result (λ fault. (g : Setting) (s : State) (lent : List ℕ) → IsCore g s self.old → Refuses (refusal g lent s (event_of event.now)) fault) }
         ensures unchanged { OnErr result ((g : Setting) (s : State) → IsCore g s self.old → IsCore g s self.new) }
     {
-        if self.is_refused(event) {
-            return Err(CoreFault::WornOut);
+        match self.refusal(event) {
+            Some(fault) => Err(fault),
+            None => Ok(self.accept(event)?),
         }
+    }
+
+    // Lets an event happen that is not refused, and answers its outputs.
+    fn accept(&mut self, event: &Event) -> Result<Vec<Output>, AllocError>
+        requires in_time { is_late (event_of event.now) ≡ false }
+        ensures outputs { IfOk result (λ outputs. (g : Setting) (s : State) → IsCore g s self.old → map output_of outputs.items ≡ (after_event g (event_of event.now) s).1) }
+        ensures state { OnOk result ((g : Setting) (s : State) → IsCore g s self.old → IsCore g (after_event g (event_of event.now) s).0 self.new) }
+        ensures unchanged { OnErr result ((g : Setting) (s : State) → IsCore g s self.old → IsCore g s self.new) }
+    {
         let mut outputs = Vec::with_capacity(self.alloc, 1)?;
-        if let Some(fault) = self.happen(event)? {
-            outputs.push_reserved(Output::Denied(fault));
+        if let Some(output) = self.happen(event)? {
+            outputs.push_reserved(output);
         }
         Ok(outputs)
     }
 
-    // Lets an event happen that is not refused. Returns what the registry denies of it.
-    fn happen(&mut self, event: &Event) -> Result<Option<RegistryFault>, AllocError>
+    // Lets an event happen that is not refused. Returns its output.
+    fn happen(&mut self, event: &Event) -> Result<Option<Output>, AllocError>
         requires in_time { is_late (event_of event.now) ≡ false }
-        ensures outputs { IfOk result (λ denied. (g : Setting) (s : State) → IsCore g s self.old → (after_event g (event_of event.now) s).1 ≡ told denied) }
+        ensures outputs { IfOk result (λ output. (g : Setting) (s : State) → IsCore g s self.old → (after_event g (event_of event.now) s).1 ≡ told output) }
         ensures state { OnOk result ((g : Setting) (s : State) → IsCore g s self.old → IsCore g (after_event g (event_of event.now) s).0 self.new) }
         ensures unchanged { OnErr result ((g : Setting) (s : State) → IsCore g s self.old → IsCore g s self.new) }
     {
         match event {
             Event::Moment(moment) => {
                 self.on_moment(*moment);
+                Ok(None)
+            }
+            Event::Sweep => self.on_sweep(),
+            Event::RootAck(task) => {
+                self.on_root_ack(*task);
                 Ok(None)
             }
             Event::Bind { name, value } => self.on_bind(name.as_slice(), value),
@@ -114,49 +134,105 @@ impl SpaceCore {
         self.leases.moment(moment);
     }
 
+    // Withdraws the objects that have no reason to stay.
+    fn on_sweep(&mut self) -> Result<Option<Output>, AllocError>
+        ensures outputs { IfOk result (λ output. (g : Setting) (s : State) → IsCore g s self.old → (after_event g Sweep s).1 ≡ told output) }
+        ensures state { OnOk result ((g : Setting) (s : State) → IsCore g s self.old → IsCore g (after_event g Sweep s).0 self.new) }
+        ensures unchanged { OnErr result ((g : Setting) (s : State) → IsCore g s self.old → IsCore g s self.new) }
+    {
+        let gone = self.without_reason()?;
+        self.store.withdraw(self.alloc, &gone)?;
+        forget(&mut self.entries, &gone);
+        Ok(answer(gone))
+    }
+
+    // The objects that have no reason to stay, in the order of ids.
+    fn without_reason(&self) -> Result<Vec<ObjId>, AllocError>
+        ensures { IfOk result (λ ids. (g : Setting) (s : State) → IsCore g s self.now → ids.items ≡ map (λ (o : Object). o.id) (without_reason g s)) }
+    {
+        let needed = self.needed()?;
+        let idle = self.store.idle(self.alloc, needed)?;
+        unlisted(self.alloc, &self.entries, &idle)
+    }
+
+    // What names, tasks and results need.
+    fn needed(&self) -> Result<IdSet, AllocError>
+        ensures { IfOk result (λ needed. (g : Setting) (s : State) (id : ObjId) → IsCore g s self.now → is_id_in needed id ≡ (is_bound s id || (is_held_by_tasks g s id || is_in_a_result g s id))) }
+    {
+        let mut needed = IdSet::new(self.alloc);
+        insert_bound(self.names.list(), &mut needed)?;
+        insert_held(&self.id, &self.tasks, &mut needed)?;
+        self.results.insert_own(&self.id, &mut needed)?;
+        Ok(needed)
+    }
+
+    // Lets the result of the root go.
+    fn on_root_ack(&mut self, task: u64)
+        ensures outputs { (g : Setting) (s : State) → IsCore g s self.old → (after_event g (RootAck task) s).1 ≡ [] }
+        ensures state { (g : Setting) (s : State) → IsCore g s self.old → IsCore g (after_event g (RootAck task) s).0 self.new }
+    {
+        self.results.release(task);
+    }
+
     // Binds the name to the own object that the value names.
-    fn on_bind(&mut self, name: &[u8], value: &Value) -> Result<Option<RegistryFault>, AllocError>
-        ensures outputs { IfOk result (λ denied. (g : Setting) (s : State) → IsCore g s self.old → (after_event g (Bind name.now value.now) s).1 ≡ told denied) }
+    fn on_bind(&mut self, name: &[u8], value: &Value) -> Result<Option<Output>, AllocError>
+        ensures outputs { IfOk result (λ output. (g : Setting) (s : State) → IsCore g s self.old → (after_event g (Bind name.now value.now) s).1 ≡ told output) }
         ensures state { OnOk result ((g : Setting) (s : State) → IsCore g s self.old → IsCore g (after_event g (Bind name.now value.now) s).0 self.new) }
         ensures unchanged { OnErr result ((g : Setting) (s : State) → IsCore g s self.old → IsCore g s self.new) }
     {
         let own = self.own_object(value);
         match self.names.bind(name, own) {
             Ok(()) => Ok(None),
-            Err(fault) => Ok(Some(denial(fault)?)),
+            Err(fault) => Ok(Some(Output::Denied(denial(fault)?))),
         }
     }
 
     // Binds the name anew to the own object that the value names.
-    fn on_rebind(&mut self, name: &[u8], value: &Value) -> Result<Option<RegistryFault>, AllocError>
-        ensures outputs { IfOk result (λ denied. (g : Setting) (s : State) → IsCore g s self.old → (after_event g (Rebind name.now value.now) s).1 ≡ told denied) }
+    fn on_rebind(&mut self, name: &[u8], value: &Value) -> Result<Option<Output>, AllocError>
+        ensures outputs { IfOk result (λ output. (g : Setting) (s : State) → IsCore g s self.old → (after_event g (Rebind name.now value.now) s).1 ≡ told output) }
         ensures state { OnOk result ((g : Setting) (s : State) → IsCore g s self.old → IsCore g (after_event g (Rebind name.now value.now) s).0 self.new) }
         ensures unchanged { OnErr result ((g : Setting) (s : State) → IsCore g s self.old → IsCore g s self.new) }
     {
         let own = self.own_object(value);
         match self.names.rebind(name, own) {
             Ok(()) => Ok(None),
-            Err(fault) => Ok(Some(denial(fault)?)),
+            Err(fault) => Ok(Some(Output::Denied(denial(fault)?))),
         }
     }
 
     // Takes the name away.
-    fn on_unbind(&mut self, name: &[u8]) -> Option<RegistryFault>
+    fn on_unbind(&mut self, name: &[u8]) -> Option<Output>
         ensures outputs { (g : Setting) (s : State) → IsCore g s self.old → (after_event g (Unbind name.now) s).1 ≡ told result }
         ensures state { (g : Setting) (s : State) → IsCore g s self.old → IsCore g (after_event g (Unbind name.now) s).0 self.new }
     {
         match self.names.unbind(name) {
             Ok(()) => None,
-            Err(fault) => Some(fault),
+            Err(fault) => Some(Output::Denied(fault)),
         }
     }
 
-    // Whether the event is refused: it is a moment from 2^63 on, or the space is worn out.
-    fn is_refused(&self, event: &Event) -> bool
-        ensures refused { (g : Setting) (s : State) (lent : List ℕ) → IsCore g s self.now → refusal g lent s (event_of event.now) ≡ (if result then Some WornOut else None) }
-        ensures late { IsTrue (is_late (event_of event.now)) → IsTrue result }
+    // Why the event is refused, if it is.
+    fn refusal(&self, event: &Event) -> Option<CoreFault>
+        ensures in_time { result ≡ None → is_late (event_of event.now) ≡ false }
+        ensures refused { (g : Setting) (s : State) (lent : List ℕ) → IsCore g s self.now → option_map refusal_number (refusal g lent s (event_of event.now)) ≡ option_and_then core_fault_number result }
     {
-        self.is_worn() || is_too_late(event)
+        if self.is_worn() {
+            Some(CoreFault::WornOut)
+        } else {
+            self.check(event)
+        }
+    }
+
+    // Why the event is refused if the space is not worn out: the reason with the lowest number.
+    fn check(&self, event: &Event) -> Option<CoreFault>
+        ensures in_time { result ≡ None → is_late (event_of event.now) ≡ false }
+        ensures refused { (g : Setting) (s : State) (lent : List ℕ) → IsCore g s self.now → option_map refusal_number (first_refusal (checks g lent s (event_of event.now))) ≡ option_and_then core_fault_number result }
+    {
+        match event {
+            Event::Moment(moment) if *moment >= END => Some(CoreFault::WornOut),
+            Event::RootAck(task) if !self.results.contains(*task) => Some(CoreFault::UnknownTask),
+            _ => None,
+        }
     }
 
     // Whether the next number of an object, a task, a call, or a dirty or clean call would be 2^63.
@@ -187,16 +263,6 @@ impl SpaceCore {
             Value::Ref(reference) if self.is_own_standing(reference) => Some(reference.id),
             _ => None,
         }
-    }
-}
-
-// Whether the event is a moment from 2^63 on.
-fn is_too_late(event: &Event) -> bool
-    ensures { result ≡ is_late (event_of event.now) }
-{
-    match event {
-        Event::Moment(moment) => *moment >= END,
-        _ => false,
     }
 }
 

@@ -20,7 +20,7 @@ use Rattle.sp_rules.specs.Lists.{numbers_below}
 use Rattle.sp_rules.specs.References.{is_id, is_id_in, own_id, own_ids, reference_of, references_of}
 use Rattle.sp_rules.specs.State.{Stored, Made, Written, Gone, Object, standing, last_written}
 use Rattle.sp_store.specs.Instances.{Remote, after_release}
-use Rattle.sp_store.specs.Stores.{IsStored, object_of, object_after, fields_after, field_after, blanks, is_in_a_field_after, idle_after}
+use Rattle.sp_store.specs.Stores.{IsStored, object_of, object_after, fields_after, field_after, blanks, is_in_a_field_after, idle_after, swept}
 use Rattle.indexmap.specs.IndexMap.{set_value_at}
 
 -- ---- ids
@@ -350,12 +350,25 @@ keys-objects : (rows : List (ObjId × Remote)) → keys_of rows ≡ map (λ (o :
 keys-objects [] = refl
 keys-objects (e ∷ es) = ap (λ ks. e.0 ∷ ks) (keys-objects es)
 
-pub idle-after : (g : Setting) (h : List Stored) (made : ℕ) (rows : List (ObjId × Remote)) (holds : ObjId → ℕ) (named : ObjId → Bool) → IsStored g h made rows
-    → ((id : ObjId) → named id ≡ is_in_a_field_after g h id)
-    → filter (λ id. not (nat_lt 0 (holds id) || named id)) (keys_of rows) ≡ idle_after g h holds
-idle-after g h made rows holds named s each =
+pub idle-after : (g : Setting) (h : List Stored) (made : ℕ) (rows : List (ObjId × Remote)) (holds : ObjId → ℕ) (needed : List ObjId) (named : ObjId → Bool) → IsStored g h made rows
+    → ((id : ObjId) → named id ≡ (is_id_in needed id || is_in_a_field_after g h id))
+    → filter (λ id. not (nat_lt 0 (holds id) || named id)) (keys_of rows) ≡ idle_after g h holds needed
+idle-after g h made rows holds needed named s each =
     (λ j. filter (λ id. not (nat_lt 0 (holds id) || each id j)) ((keys-objects rows ∙ ap (map (λ (o : Object). o.id)) s.objects) j))
-    ∙ filter-map (λ id. not (nat_lt 0 (holds id) || is_in_a_field_after g h id)) (λ (o : Object). o.id) (standing h)
+    ∙ filter-map (λ id. not (nat_lt 0 (holds id) || (is_id_in needed id || is_in_a_field_after g h id))) (λ (o : Object). o.id) (standing h)
+
+-- a sweep that names none does nothing
+pub swept-none : (ids : List ObjId) (h : List Stored) → length ids ≡ 0 → swept ids h ≡ h
+swept-none [] h none = refl
+swept-none (id ∷ ids) h none = cc
+
+pub none-in : (ids : List ObjId) (id : ObjId) → length ids ≡ 0 → is_id_in ids id ≡ false
+none-in [] id none = refl
+none-in (other ∷ ids) id none = cc
+
+pub swept-some : (ids : List ObjId) (h : List Stored) → ¬ (length ids ≡ 0) → swept ids h ≡ Gone ids ∷ h
+swept-some [] h some = absurd (some refl)
+swept-some (id ∷ ids) h some = refl
 
 -- ---- rows by index
 

@@ -55,10 +55,15 @@ is_full_after h = nat_le 65536 (length (standing h))
 abbrev pub is_in_a_field_after : Setting → List Stored → ObjId → Bool
 is_in_a_field_after g h id = list_any (λ (o : Object). is_id_in (own_ids g.id (references_of (fields_after g h o))) id) (standing h)
 
--- the standing objects that nothing holds and no field has, by id
-abbrev pub idle_after : Setting → List Stored → (ObjId → ℕ) → List ObjId
-idle_after g h holds =
-    map (λ (o : Object). o.id) (filter (λ (o : Object). not (nat_lt 0 (holds o.id) || is_in_a_field_after g h o.id)) (standing h))
+-- the standing objects that are not needed, that nothing holds and no field has, by id
+abbrev pub idle_after : Setting → List Stored → (ObjId → ℕ) → List ObjId → List ObjId
+idle_after g h holds needed =
+    map (λ (o : Object). o.id) (filter (λ (o : Object). not (nat_lt 0 (holds o.id) || (is_id_in needed o.id || is_in_a_field_after g h o.id))) (standing h))
+
+-- what a sweep that withdraws these leaves: nothing happens if it withdraws none
+abbrev pub swept : List ObjId → List Stored → List Stored
+swept [] h = h
+swept (id ∷ ids) h = Gone (id ∷ ids) ∷ h
 
 -- ---- a store
 

@@ -6,6 +6,7 @@
 //! withdrawn.
 #![tactic(auto)]
 
+pub use id_set::IdSet;
 pub use store::{MOST_OBJECTS, Store};
 
 mod id_set;

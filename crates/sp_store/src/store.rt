@@ -6,9 +6,9 @@ ghost use Rattle.indexmap.specs.IndexMap.{keys, values};
 ghost use Rattle.space_ids.specs.declared.ids.ObjId.{ObjId};
 ghost use Rattle.sp_rules.specs.Classes.{Setting};
 ghost use Rattle.sp_rules.specs.References.{is_id, is_id_in, own_ids, references_of};
-ghost use Rattle.sp_rules.specs.State.{Stored, Made, Written, Gone, standing};
+ghost use Rattle.sp_rules.specs.State.{Stored, Made, Written, standing};
 ghost use Rattle.sp_store.specs.Instances.{after_hold, after_release};
-ghost use Rattle.sp_store.specs.Stores.{IsAfter, blanks, fields_after, field_after, holds_of, idle_after, is_full_after, made, made_after, next_after, object_after, room};
+ghost use Rattle.sp_store.specs.Stores.{IsAfter, blanks, fields_after, field_after, holds_of, idle_after, is_full_after, made, made_after, next_after, object_after, room, swept};
 
 use crate::id_set::IdSet;
 use crate::instance::Instance;
@@ -190,24 +190,28 @@ impl Store {
         }
     }
 
-    /// The objects that nobody holds and no field of a standing object has, in the order of ids. It
-    /// looks at each object and each field once.
-    pub fn idle(&self, alloc: Global) -> Result<Vec<ObjId>, AllocError>
-        ensures { IfOk result (λ ids. (g : Setting) (h : List Stored) → IsAfter g h self.now → ids.items ≡ idle_after g h (holds_of self.now)) }
+    /// The objects that are not among those that are needed, that nobody holds and no field of a standing
+    /// object has, in the order of ids. It looks at each object and each field once.
+    pub fn idle(&self, alloc: Global, needed: IdSet) -> Result<Vec<ObjId>, AllocError>
+        ensures { IfOk result (λ ids. (g : Setting) (h : List Stored) → IsAfter g h self.now → ids.items ≡ idle_after g h (holds_of self.now) needed) }
     {
-        let named = self.named(alloc)?;
-        self.idle_beside(alloc, &named)
+        let mut needed = needed;
+        self.insert_named(&mut needed)?;
+        self.idle_beside(alloc, &needed)
     }
 
-    /// Withdraws the objects of these ids. It looks at each object once. At out of memory nothing
-    /// happens.
+    /// Withdraws the objects of these ids, and looks at each object once. Nothing happens if there is no
+    /// id, and at out of memory.
     pub fn withdraw(&mut self, alloc: Global, ids: &[ObjId]) -> Result<(), AllocError>
-        ensures ok { OnOk result ((g : Setting) (h : List Stored) → IsAfter g h self.old → IsAfter g (Gone ids.now ∷ h) self.new) }
+        ensures ok { OnOk result ((g : Setting) (h : List Stored) → IsAfter g h self.old → IsAfter g (swept ids.now h) self.new) }
         ensures err { OnErr result (self.new ≡ self.old) }
         ensures made { made self.new ≡ made self.old }
         ensures holds { OnOk result ((id : ObjId) → holds_of self.new id ≡ (if is_id_in ids.now id then 0 else holds_of self.old id)) }
         ensures room { room self.old ≤ room self.new }
     {
+        if ids.is_empty() {
+            return Ok(());
+        }
         let gone = IdSet::of(alloc, ids)?;
         self.objects.retain(
             |id: &ObjId, object: &mut Instance| -> bool
@@ -217,16 +221,17 @@ impl Store {
         Ok(())
     }
 
-    /// Withdraws the objects that nobody holds and no field of a standing object had as it began, and
-    /// returns their ids, in the order of ids. At out of memory nothing happens.
-    pub fn sweep(&mut self, alloc: Global) -> Result<Vec<ObjId>, AllocError>
-        ensures idle { IfOk result (λ ids. (g : Setting) (h : List Stored) → IsAfter g h self.old → ids.items ≡ idle_after g h (holds_of self.old)) }
-        ensures gone { IfOk result (λ ids. (g : Setting) (h : List Stored) → IsAfter g h self.old → IsAfter g (Gone ids.items ∷ h) self.new) }
+    /// Withdraws the objects that are not among those that are needed, that nobody holds and no field of a
+    /// standing object had as it began, and returns their ids, in the order of ids. At out of memory
+    /// nothing happens.
+    pub fn sweep(&mut self, alloc: Global, needed: IdSet) -> Result<Vec<ObjId>, AllocError>
+        ensures idle { IfOk result (λ ids. (g : Setting) (h : List Stored) → IsAfter g h self.old → ids.items ≡ idle_after g h (holds_of self.old) needed) }
+        ensures gone { IfOk result (λ ids. (g : Setting) (h : List Stored) → IsAfter g h self.old → IsAfter g (swept ids.items h) self.new) }
         ensures err { OnErr result (self.new ≡ self.old) }
         ensures made { made self.new ≡ made self.old }
         ensures holds { IfOk result (λ ids. (id : ObjId) → holds_of self.new id ≡ (if is_id_in ids.items id then 0 else holds_of self.old id)) }
     {
-        let ids = self.idle(alloc)?;
+        let ids = self.idle(alloc, needed)?;
         self.withdraw(alloc, &ids)?;
         Ok(ids)
     }
@@ -258,19 +263,18 @@ impl Store {
         }
     }
 
-    // The ids of own objects that the fields of the objects have.
-    fn named(&self, alloc: Global) -> Result<IdSet, AllocError>
-        ensures { IfOk result (λ named. (id : ObjId) → is_id_in named id ≡ list_any (λ x. is_id_in (own_ids self.now.own (references_of x.fields)) id) (values self.now.objects)) }
+    // Adds the ids of own objects that the fields of the objects have.
+    fn insert_named(&self, named: &mut IdSet) -> Result<(), AllocError>
+        ensures { OnOk result ((id : ObjId) → is_id_in named.new id ≡ (is_id_in named.old id || list_any (λ x. is_id_in (own_ids self.now.own (references_of x.fields)) id) (values self.now.objects))) }
     {
-        let mut named = IdSet::new(alloc);
         for index in 0..self.objects.len() {
             named.insert_own(&self.own, self.objects[index].fields())?;
         }
-        Ok(named)
+        Ok(())
     }
 }
 
-// Whether an object is held or among those that fields have.
+// Whether an object is held or among those that are needed or that fields have.
 fn is_needed(id: ObjId, object: &Instance, named: &IdSet) -> bool
     ensures { result ≡ (nat_lt 0 object.now.holds || is_id_in named.now id) }
 {

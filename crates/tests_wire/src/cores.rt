@@ -29,7 +29,7 @@ fn is_denied(rt: &impl Abort, core: &mut SpaceCore, event: &Event, fault: Regist
 fn a_core_denies_what_the_registry_does(rt: HostRuntime) -> Result<(), Fail> {
     let alloc = rt.alloc();
     let own = Uuid::from_u64_pair(0, 1);
-    let mut core = SpaceCore::new(alloc, own);
+    let mut core = SpaceCore::new(alloc, own)?;
     let absent = Value::Ref(Ref {
         space: own,
         id: ObjId(1),
@@ -54,9 +54,20 @@ fn a_core_denies_what_the_registry_does(rt: HostRuntime) -> Result<(), Fail> {
 
 #[test]
 fn a_core_takes_moments_below_the_last_number(rt: HostRuntime) -> Result<(), Fail> {
-    let mut core = SpaceCore::new(rt.alloc(), Uuid::from_u64_pair(0, 1));
+    let mut core = SpaceCore::new(rt.alloc(), Uuid::from_u64_pair(0, 1))?;
     assert!(rt; core.on(&Event::Moment(5)).is_ok());
     assert!(rt; core.on(&Event::Moment((1 << 63) - 1)).is_ok());
     assert!(rt; matches!(core.on(&Event::Moment(1 << 63)), Err(CoreFault::WornOut)));
+    Ok(())
+}
+
+#[test]
+fn a_core_sweeps_and_knows_no_result(rt: HostRuntime) -> Result<(), Fail> {
+    let mut core = SpaceCore::new(rt.alloc(), Uuid::from_u64_pair(0, 1))?;
+    assert!(rt; matches!(core.on(&Event::RootAck(1)), Err(CoreFault::UnknownTask)));
+    match core.on(&Event::Sweep) {
+        Ok(outputs) => assert!(rt; outputs.is_empty()),
+        Err(_) => assert!(rt; false),
+    }
     Ok(())
 }

@@ -16,3 +16,5 @@ mod names;
 mod objects;
 #[cfg(test)]
 mod reference_lists;
+#[cfg(test)]
+mod results;

@@ -1,6 +1,6 @@
 //! The remote objects of a space.
 
-use sp_store::Store;
+use sp_store::{IdSet, Store};
 use space_ids::{ClassId, ObjId, Ref, Value};
 use std::alloc::Global;
 use std::test::Fail;
@@ -45,12 +45,28 @@ fn objects_are_made_and_keep_what_is_put(rt: HostRuntime) -> Result<(), Fail> {
 #[test]
 fn a_sweep_withdraws_what_nothing_needs(rt: HostRuntime) -> Result<(), Fail> {
     let mut store = three_objects(rt.alloc())?;
-    assert_eq!(rt; store.idle(rt.alloc())?.as_slice(), [ObjId(3)].as_slice());
-    assert_eq!(rt; store.sweep(rt.alloc())?.as_slice(), [ObjId(3)].as_slice());
+    let alloc = rt.alloc();
+    let mut needed = IdSet::new(alloc);
+    needed.insert(ObjId(3))?;
+    assert_eq!(rt;
+        store.idle(alloc, IdSet::new(alloc))?.as_slice(),
+        [ObjId(3)].as_slice()
+    );
+    assert!(rt; store.sweep(alloc, needed)?.is_empty());
+    assert_eq!(rt;
+        store.sweep(alloc, IdSet::new(alloc))?.as_slice(),
+        [ObjId(3)].as_slice()
+    );
     assert_eq!(rt; store.len(), 2);
     store.release(ObjId(1));
-    assert_eq!(rt; store.sweep(rt.alloc())?.as_slice(), [ObjId(1)].as_slice());
-    assert_eq!(rt; store.sweep(rt.alloc())?.as_slice(), [ObjId(2)].as_slice());
+    assert_eq!(rt;
+        store.sweep(alloc, IdSet::new(alloc))?.as_slice(),
+        [ObjId(1)].as_slice()
+    );
+    assert_eq!(rt;
+        store.sweep(alloc, IdSet::new(alloc))?.as_slice(),
+        [ObjId(2)].as_slice()
+    );
     assert_eq!(rt; store.made(), 3);
     Ok(())
 }

@@ -11,6 +11,7 @@ returns c = λ g same. record {
   id = sym same;
   moment = refl;
   store = c.new.ensures.after g same;
+  holds = c.new.ensures.holds;
   objects_made = c.new.ensures.made;
   names = c.new-2.ensures;
   entries = c.new-3.ensures;
@@ -18,6 +19,6 @@ returns c = λ g same. record {
   tasks_made = refl;
   tasks = c.new-5.ensures.empty;
   calls_made = refl;
-  results = ap (λ (rows : List (ℕ × Option Value)). map kept rows) c.new-6.ensures.empty;
-  alone = record { connections = refl; requests = refl; dialling = refl; parked = refl; held = refl; fresh = refl; notes = refl };
+  results = ap (λ (rows : List (ℕ × Option Value)). map kept rows) c.in_ok-new.ensures;
+  alone = record { connections = refl; requests = refl; dialling = refl; parked = refl; held = refl; fresh = refl; notes = refl; tasks = tt; fields = tt; results = tt };
 }
