@@ -24,10 +24,10 @@ fn read_constant_filling(bytes: &[u8], at: usize, end: usize) -> Result<Item, Re
 fn constant_of(bytes: &[u8], attribute: Attribute) -> Result<Item, ReadFault>
     ensures { Gives (constant_of bytes.now attribute) result }
 {
-    let inside = up_to(bytes, attribute.end);
+    let inside = up_to(bytes, attribute.end as usize);
     blame(
-        read_constant_filling(inside, attribute.body, attribute.end),
-        attribute.name.at,
+        read_constant_filling(inside, attribute.body as usize, attribute.end as usize),
+        attribute.name.at as usize,
     )
 }
 

@@ -80,27 +80,27 @@ fn check_entry(
         Entry::Utf8(text) => demand(
             is_modified_utf8(text.as_bytes()),
             Rule::Utf8,
-            positions.second,
+            positions.second as usize,
         ),
-        Entry::Class { name } => check_class_name(alloc, pool, *name, positions.first),
+        Entry::Class { name } => check_class_name(alloc, pool, *name, positions.first as usize),
         Entry::Member {
             class,
             name_and_type,
             ..
         } => {
-            demand(pool.is_class(*class), Rule::Index, positions.first)?;
+            demand(pool.is_class(*class), Rule::Index, positions.first as usize)?;
             demand(
                 pool.is_name_and_type(*name_and_type),
                 Rule::Index,
-                positions.second,
+                positions.second as usize,
             )
         }
         Entry::NameAndType { name, descriptor } => {
-            check_name(pool, *name, positions.first)?;
+            check_name(pool, *name, positions.first as usize)?;
             demand(
                 pool.utf8(*descriptor).is_some(),
                 Rule::Index,
-                positions.second,
+                positions.second as usize,
             )
         }
         Entry::Integer(_) | Entry::Other | Entry::Unusable => Ok(()),

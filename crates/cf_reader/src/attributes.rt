@@ -72,7 +72,11 @@ impl Known {
             Known::Nothing => Ok(()),
             Known::ConstantValue => {
                 let index = read_constant(bytes, attribute)?;
-                demand(pool.integer(index.value).is_some(), Rule::Index, index.at)
+                demand(
+                    pool.integer(index.value).is_some(),
+                    Rule::Index,
+                    index.at as usize,
+                )
             }
             Known::StackMapTable => check_table(bytes, attribute),
         }
@@ -91,12 +95,12 @@ impl Known {
         demand(
             pool.utf8(attribute.name.value).is_some(),
             Rule::Index,
-            attribute.name.at,
+            attribute.name.at as usize,
         )?;
         if !self.is(pool, attribute) {
             return Ok(());
         }
-        demand(!seen, Rule::Duplicate, attribute.name.at)?;
+        demand(!seen, Rule::Duplicate, attribute.name.at as usize)?;
         self.check(bytes, pool, attribute)
     }
 
@@ -132,7 +136,7 @@ fn check_code(
     demand(
         handlers_in_profile(handlers.value),
         Rule::OutOfProfile,
-        handlers.at,
+        handlers.at as usize,
     )?;
     Known::StackMapTable.check_all(bytes, pool, code.attributes.as_slice())
 }
@@ -150,12 +154,12 @@ fn check_method_attribute(
     demand(
         pool.utf8(attribute.name.value).is_some(),
         Rule::Index,
-        attribute.name.at,
+        attribute.name.at as usize,
     )?;
     if !is_named(pool, CODE, attribute) {
         return Ok(());
     }
-    demand(!seen, Rule::Duplicate, attribute.name.at)?;
+    demand(!seen, Rule::Duplicate, attribute.name.at as usize)?;
     check_code(alloc, bytes, pool, attribute)
 }
 

@@ -1,7 +1,7 @@
 //! What a layout says, once its demands hold.
 
 ghost use Rattle.cf_reader.specs.Descriptors.{AreFieldTypes, AreMethodTypes};
-ghost use Rattle.std.specs.Prelude.{◌≡◌, ◌≤◌, length};
+ghost use Rattle.std.specs.Prelude.{◌≡◌, ◌≤◌, None, length};
 ghost use Rattle.cf_text.specs.Reading.{Gives};
 ghost use Rattle.cf_layout.specs.CodeLengths.{IsShort};
 ghost use Rattle.cf_reader.specs.Builds.{class_from, class_name_of, code_from, code_in, constant_attribute, constant_from, each, field_from, method_from, table_in, text_of};
@@ -11,6 +11,7 @@ use super::descriptors::{FieldTypes, MethodTypes};
 use super::{ClassFile, Code, Field, Flags, Method};
 use cf_layout::{Attribute, CodeLayout, Item, Layout, Member, between, read_code, read_constant};
 use cf_pool::{Pool, ReadFault, Row, Rule, Table, Text};
+use cf_text::Shared;
 use std::alloc::Global;
 
 fn wrong_index(at: usize) -> ReadFault
@@ -26,7 +27,7 @@ fn text_of(pool: &Pool, item: Item) -> Result<Text, ReadFault>
     ensures { Gives (text_of pool.now item) result }
 {
     let Some(text) = pool.utf8(item.value) else {
-        return Err(wrong_index(item.at));
+        return Err(wrong_index(item.at as usize));
     };
     Ok(text.copy()?)
 }
@@ -35,7 +36,7 @@ fn class_name_of(pool: &Pool, item: Item) -> Result<Text, ReadFault>
     ensures { Gives (class_name_of pool.now item) result }
 {
     let Some(name) = pool.class(item.value) else {
-        return Err(wrong_index(item.at));
+        return Err(wrong_index(item.at as usize));
     };
     Ok(name.copy()?)
 }
@@ -49,7 +50,12 @@ fn table_in(
 {
     match table {
         None => Ok(None),
-        Some(attribute) => Ok(Some(between(alloc, bytes, attribute.body, attribute.end)?)),
+        Some(attribute) => Ok(Some(between(
+            alloc,
+            bytes,
+            attribute.body as usize,
+            attribute.end as usize,
+        )?)),
     }
 }
 
@@ -74,16 +80,18 @@ fn code_from(
     alloc: Global,
     bytes: &[u8],
     pool: &Pool,
+    no_code: &Shared<Option<Code>>,
     attribute: Option<Attribute>,
-) -> Result<Option<Code>, ReadFault>
+) -> Result<Shared<Option<Code>>, ReadFault>
+    requires none { no_code.now ≡ None }
     ensures { Gives (code_from bytes.now pool.now attribute) result }
 {
     match attribute {
-        None => Ok(None),
+        None => Ok(no_code.share()?),
         Some(attribute) => {
             let layout = read_code(alloc, bytes, attribute)?;
             let code = code_in(alloc, bytes, pool, &layout)?;
-            Ok(Some(code))
+            Ok(Shared::new(alloc, Some(code))?)
         }
     }
 }
@@ -94,8 +102,10 @@ fn method_from(
     bytes: &[u8],
     pool: &Pool,
     known: &mut MethodTypes,
+    no_code: &Shared<Option<Code>>,
     method: &Member,
 ) -> Result<Method, ReadFault>
+    requires none { no_code.now ≡ None }
     requires known { AreMethodTypes pool.now known.old }
     ensures value { Gives (method_from bytes.now pool.now method.now) result }
     ensures known { AreMethodTypes pool.now known.new }
@@ -104,7 +114,7 @@ fn method_from(
     let descriptor = text_of(pool, method.descriptor)?;
     let types = known.read(alloc, pool, method.descriptor, &descriptor)?;
     let attribute = first_named(pool, CODE, method.attributes.as_slice());
-    let code = code_from(alloc, bytes, pool, attribute)?;
+    let code = code_from(alloc, bytes, pool, no_code, attribute)?;
     let flags = Flags {
         bits: method.flags.value,
     };
@@ -130,7 +140,7 @@ fn constant_from(
     let index = read_constant(bytes, attribute)?;
     match pool.integer(index.value) {
         Some(value) => Ok(Some(value)),
-        None => Err(wrong_index(index.at)),
+        None => Err(wrong_index(index.at as usize)),
     }
 }
 
@@ -211,15 +221,17 @@ fn methods_from(
     alloc: Global,
     bytes: &[u8],
     pool: &Pool,
+    no_code: &Shared<Option<Code>>,
     items: &[Member],
 ) -> Result<Table<Method>, ReadFault>
+    requires none { no_code.now ≡ None }
     requires few { length items.now ≤ 65535 }
     ensures { Gives (each (method_from bytes.now pool.now) items.now) result }
 {
     let mut known = MethodTypes::new(alloc);
     let mut methods = Vec::new(alloc);
     for item in items {
-        let method = method_from(alloc, bytes, pool, &mut known, item)?;
+        let method = method_from(alloc, bytes, pool, &mut known, no_code, item)?;
         methods.push(method)?;
     }
     Ok(Table::new(methods))
@@ -239,7 +251,8 @@ pub(crate) fn class_from(
     let superclass = class_name_of(pool, layout.superclass)?;
     let interfaces = interfaces_from(alloc, pool, layout.interfaces.as_slice())?;
     let fields = fields_from(alloc, bytes, pool, layout.fields.as_slice())?;
-    let methods = methods_from(alloc, bytes, pool, layout.methods.as_slice())?;
+    let no_code = Shared::new(alloc, None)?;
+    let methods = methods_from(alloc, bytes, pool, &no_code, layout.methods.as_slice())?;
     let flags = Flags {
         bits: layout.flags.value,
     };

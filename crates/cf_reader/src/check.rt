@@ -24,9 +24,9 @@ fn check_class_flags(item: Item) -> Result<(), ReadFault>
     demand(
         !is_in_profile || class_flags_fit(flags),
         Rule::Flags,
-        item.at,
+        item.at as usize,
     )?;
-    demand(is_in_profile, Rule::OutOfProfile, item.at)
+    demand(is_in_profile, Rule::OutOfProfile, item.at as usize)
 }
 
 // An index names a class, and no array.
@@ -37,10 +37,14 @@ fn check_class_index(pool: &Pool, item: Item) -> Result<(), ReadFault>
     let Some(name) = pool.class(item.value) else {
         return Err(ReadFault::Broken {
             rule: Rule::Index,
-            at: item.at,
+            at: item.at as usize,
         });
     };
-    demand(!begins_with(name.as_bytes(), b'['), Rule::Utf8, item.at)
+    demand(
+        !begins_with(name.as_bytes(), b'['),
+        Rule::Utf8,
+        item.at as usize,
+    )
 }
 
 fn check_each_interface(pool: &Pool, interfaces: &[Item]) -> Result<(), ReadFault>

@@ -48,7 +48,7 @@ impl FieldTypes {
         if let Some(known) = self.by_index.get(&item.value) {
             return Ok(known.share()?);
         }
-        let kind = read_field_descriptor(alloc, text.as_bytes(), item.at)?;
+        let kind = read_field_descriptor(alloc, text.as_bytes(), item.at as usize)?;
         let kind = Shared::new(alloc, kind)?;
         self.by_index.insert(item.value, kind.share()?)?;
         Ok(kind)
@@ -87,7 +87,7 @@ impl MethodTypes {
         if let Some(known) = self.by_index.get(&item.value) {
             return Ok(known.share()?);
         }
-        let types = read_method_descriptor(alloc, text.as_bytes(), item.at)?;
+        let types = read_method_descriptor(alloc, text.as_bytes(), item.at as usize)?;
         let types = Shared::new(alloc, types)?;
         self.by_index.insert(item.value, types.share()?)?;
         Ok(types)

@@ -97,7 +97,7 @@ fn check_field_flags(
     let is_int = is_int_text(alloc, pool, known, field.descriptor.value)?;
     let fit = field_flags_fit(class.has(Flags::INTERFACE), flags);
     let is_in_profile = field_flags_in_profile(is_int, has_constant, flags);
-    check_flags(field.flags.at, fit, is_new, is_in_profile)
+    check_flags(field.flags.at as usize, fit, is_new, is_in_profile)
 }
 
 #[tactic(auto, unfolding(cf_text::specs::Demands::verdict, cf_pool::specs::Pools::named))]
@@ -107,10 +107,10 @@ fn check_field_name(pool: &Pool, name: Item) -> Result<(), ReadFault>
     let Some(text) = pool.utf8(name.value) else {
         return Err(ReadFault::Broken {
             rule: Rule::Index,
-            at: name.at,
+            at: name.at as usize,
         });
     };
-    demand(is_name(text.as_bytes()), Rule::Utf8, name.at)
+    demand(is_name(text.as_bytes()), Rule::Utf8, name.at as usize)
 }
 
 #[tactic(auto, unfolding(crate::specs::Checks::field_type_demands, cf_text::specs::Demands::verdict))]
@@ -127,7 +127,11 @@ fn check_field_type(
     ensures known { AreFieldTypes pool.now known.new }
 {
     let kind = known.read(alloc, pool, descriptor, text)?;
-    demand(is_profile_type(&kind), Rule::OutOfProfile, descriptor.at)
+    demand(
+        is_profile_type(&kind),
+        Rule::OutOfProfile,
+        descriptor.at as usize,
+    )
 }
 
 #[tactic(auto, unfolding(crate::specs::Checks::field_descriptor_demands, cf_text::specs::Demands::verdict, cf_pool::specs::Pools::indexed))]
@@ -144,7 +148,7 @@ fn check_field_descriptor(
     let Some(text) = pool.utf8(descriptor.value) else {
         return Err(ReadFault::Broken {
             rule: Rule::Index,
-            at: descriptor.at,
+            at: descriptor.at as usize,
         });
     };
     check_field_type(alloc, pool, known, descriptor, text)
@@ -228,7 +232,7 @@ fn check_method_flags(
     let has_code = first_named(pool, CODE, method.attributes.as_slice()).is_some();
     let fit = method_flags_fit(class, has_code, is_initializer(pool, method.name), flags);
     let is_in_profile = method_flags_in_profile(class, flags);
-    check_flags(method.flags.at, fit, is_new, is_in_profile)
+    check_flags(method.flags.at as usize, fit, is_new, is_in_profile)
 }
 
 #[tactic(auto, unfolding(crate::specs::Checks::method_name_demands, cf_text::specs::Demands::verdict, cf_pool::specs::Pools::named))]
@@ -238,11 +242,19 @@ fn check_method_name(pool: &Pool, name: Item) -> Result<(), ReadFault>
     let Some(text) = pool.utf8(name.value) else {
         return Err(ReadFault::Broken {
             rule: Rule::Index,
-            at: name.at,
+            at: name.at as usize,
         });
     };
-    demand(is_method_name(text.as_bytes()), Rule::Utf8, name.at)?;
-    demand(method_name_in_profile(text), Rule::OutOfProfile, name.at)
+    demand(
+        is_method_name(text.as_bytes()),
+        Rule::Utf8,
+        name.at as usize,
+    )?;
+    demand(
+        method_name_in_profile(text),
+        Rule::OutOfProfile,
+        name.at as usize,
+    )
 }
 
 // How many words a value takes.
@@ -293,11 +305,11 @@ fn check_method_type(
     let kind = known.read(alloc, pool, descriptor, text)?;
     let fits = are_few(is_static, kind.parameters.as_slice())
         && (!is_initializer || kind.result.is_none());
-    demand(fits, Rule::Descriptor, descriptor.at)?;
+    demand(fits, Rule::Descriptor, descriptor.at as usize)?;
     demand(
         method_type_in_profile(&kind),
         Rule::OutOfProfile,
-        descriptor.at,
+        descriptor.at as usize,
     )
 }
 
@@ -316,7 +328,7 @@ fn check_method_descriptor(
     let Some(text) = pool.utf8(descriptor.value) else {
         return Err(ReadFault::Broken {
             rule: Rule::Index,
-            at: descriptor.at,
+            at: descriptor.at as usize,
         });
     };
     let flags = Flags {

@@ -68,6 +68,12 @@ fn init(alloc: Global) -> Result<Method, AllocError>
         parameters: Row::new(Vec::new(alloc)),
         result: None,
     };
+    let code = Code {
+        max_stack: 0,
+        max_locals: 1,
+        bytes: Table::new(Vec::from_slice(alloc, &[0xb1])?),
+        stack_map_table: None,
+    };
     Ok(Method {
         flags: Flags {
             bits: Flags::PUBLIC,
@@ -75,12 +81,7 @@ fn init(alloc: Global) -> Result<Method, AllocError>
         name: text(alloc, b"<init>")?,
         descriptor: text(alloc, b"()V")?,
         types: Shared::new(alloc, types)?,
-        code: Some(Code {
-            max_stack: 0,
-            max_locals: 1,
-            bytes: Table::new(Vec::from_slice(alloc, &[0xb1])?),
-            stack_map_table: None,
-        }),
+        code: Shared::new(alloc, Some(code))?,
     })
 }
 

@@ -1,8 +1,8 @@
 //! Names, texts, descriptors and tables of class files.
 
 use cf_text::{
-    Descriptor, ElementType, Table, descriptor, is_class_name, is_method_name, is_modified_utf8,
-    is_name, read_field_descriptor, read_method_descriptor, read_row, read_text,
+    Descriptor, ElementType, FileBytes, Table, descriptor, is_class_name, is_method_name,
+    is_modified_utf8, is_name, read_field_descriptor, read_method_descriptor, read_row, read_text,
 };
 use std::test::Fail;
 
@@ -62,7 +62,8 @@ fn is_class_type(element: &ElementType, name: &[u8]) -> bool {
 #[test]
 fn what_takes_memory_is_read(rt: HostRuntime) -> Result<(), Fail> {
     let bytes = b"\x07ab";
-    let (text, to) = read_text(rt.alloc(), bytes, 1, 2).ok().ok_or("no text")?;
+    let file = FileBytes::new(rt.alloc(), Vec::from_slice(rt.alloc(), bytes)?)?;
+    let (text, to) = read_text(&file, 1, 2).ok().ok_or("no text")?;
     assert_eq!(rt; to, 3);
     assert!(rt; text.is(b"ab") && text.copy()?.is(b"ab"));
     let (row, to) = read_row(rt.alloc(), bytes, 0, 3).ok().ok_or("no row")?;

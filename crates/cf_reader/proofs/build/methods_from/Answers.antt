@@ -28,5 +28,5 @@ new-requires c =
     let read = (method_from c.args.bytes.now c.args.pool.now) in
     let all = each-end read c.args.items.now c.loop-item.methods.items c.loop-item.item-index (search rules) c.loop-item.invariant.0 in
     let long : length c.loop-item.methods.items ≡ length c.args.items.now = subst (λ r. IfOk {T = List Method} r (λ ys. length ys ≡ length c.args.items.now)) all (each-long read c.args.items.now) in
-    let few = c.requires in
+    let few = c.requires.few in
     omega (arith, long, few)
