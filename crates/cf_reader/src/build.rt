@@ -2,7 +2,7 @@
 
 ghost use Rattle.cf_reader.specs.Descriptors.{AreFieldTypes, AreMethodTypes};
 ghost use Rattle.std.specs.Prelude.{◌≡◌, ◌≤◌, None, length};
-ghost use Rattle.cf_text.specs.Reading.{Gives};
+ghost use Rattle.cf_text.specs.Reading.{Gives, GivesSeen};
 ghost use Rattle.cf_layout.specs.CodeLengths.{IsShort};
 ghost use Rattle.cf_reader.specs.Builds.{class_from, class_name_of, code_from, code_in, constant_attribute, constant_from, each, field_from, method_from, table_in, text_of};
 
@@ -23,13 +23,13 @@ fn wrong_index(at: usize) -> ReadFault
     }
 }
 
-fn text_of(pool: &Pool, item: Item) -> Result<Text, ReadFault>
-    ensures { Gives (text_of pool.now item) result }
+fn text_of(pool: &Pool, item: Item) -> Result<&Text, ReadFault>
+    ensures { GivesSeen (λ text. text.now) (text_of pool.now item) result }
 {
-    let Some(text) = pool.utf8(item.value) else {
-        return Err(wrong_index(item.at as usize));
-    };
-    Ok(text.copy()?)
+    match pool.utf8(item.value) {
+        Some(text) => Ok(text),
+        None => Err(wrong_index(item.at as usize)),
+    }
 }
 
 fn class_name_of(pool: &Pool, item: Item) -> Result<Text, ReadFault>
@@ -97,11 +97,11 @@ fn code_from(
 }
 
 #[tactic(auto, unfolding(crate::specs::Builds::method_from))]
-fn method_from(
+fn method_from<'a>(
     alloc: Global,
     bytes: &[u8],
-    pool: &Pool,
-    known: &mut MethodTypes,
+    pool: &'a Pool,
+    known: &mut MethodTypes<'a>,
     no_code: &Shared<Option<Code>>,
     method: &Member,
 ) -> Result<Method, ReadFault>
@@ -110,9 +110,9 @@ fn method_from(
     ensures value { Gives (method_from bytes.now pool.now method.now) result }
     ensures known { AreMethodTypes pool.now known.new }
 {
-    let name = text_of(pool, method.name)?;
+    let name = text_of(pool, method.name)?.copy()?;
     let descriptor = text_of(pool, method.descriptor)?;
-    let types = known.read(alloc, pool, method.descriptor, &descriptor)?;
+    let types = known.read(alloc, pool, method.descriptor, descriptor)?;
     let attribute = first_named(pool, CODE, method.attributes.as_slice());
     let code = code_from(alloc, bytes, pool, no_code, attribute)?;
     let flags = Flags {
@@ -121,7 +121,7 @@ fn method_from(
     Ok(Method {
         flags,
         name,
-        descriptor,
+        descriptor: descriptor.copy()?,
         types,
         code,
     })
@@ -160,20 +160,20 @@ fn constant_attribute(pool: &Pool, field: &Member) -> Option<Attribute>
 }
 
 #[tactic(auto, unfolding(crate::specs::Builds::field_from))]
-fn field_from(
+fn field_from<'a>(
     alloc: Global,
     bytes: &[u8],
-    pool: &Pool,
-    known: &mut FieldTypes,
+    pool: &'a Pool,
+    known: &mut FieldTypes<'a>,
     field: &Member,
 ) -> Result<Field, ReadFault>
     requires known { AreFieldTypes pool.now known.old }
     ensures value { Gives (field_from bytes.now pool.now field.now) result }
     ensures known { AreFieldTypes pool.now known.new }
 {
-    let name = text_of(pool, field.name)?;
+    let name = text_of(pool, field.name)?.copy()?;
     let descriptor = text_of(pool, field.descriptor)?;
-    let kind = known.read(alloc, pool, field.descriptor, &descriptor)?;
+    let kind = known.read(alloc, pool, field.descriptor, descriptor)?;
     let flags = Flags {
         bits: field.flags.value,
     };
@@ -181,7 +181,7 @@ fn field_from(
     Ok(Field {
         flags,
         name,
-        descriptor,
+        descriptor: descriptor.copy()?,
         kind,
         constant,
     })

@@ -24,6 +24,7 @@ use cf_pool::{
     ElementType, FieldType, INITIALIZER, Pool, ReadFault, Rule, Text, demand, is_method_name,
     is_name,
 };
+use cf_text::Shared;
 use std::alloc::Global;
 
 #[tactic(auto, unfolding(crate::specs::Checks::flag_demands, cf_text::specs::Demands::verdict))]
@@ -36,12 +37,12 @@ fn check_flags(at: usize, fit: bool, is_new: bool, is_in_profile: bool) -> Resul
 }
 
 #[tactic(auto, unfolding(crate::specs::Checks::is_int_text))]
-fn is_int_read(
+fn is_int_read<'a>(
     alloc: Global,
-    pool: &Pool,
-    known: &mut FieldTypes,
+    pool: &'a Pool,
+    known: &mut FieldTypes<'a>,
     descriptor: u16,
-    text: &Text,
+    text: &'a Text,
 ) -> Result<bool, ReadFault>
     requires named { utf8_at pool.now descriptor ≡ Some text.now }
     requires known { AreFieldTypes pool.now known.old }
@@ -61,10 +62,10 @@ fn is_int_read(
 
 // Whether a static field may have this descriptor, or the descriptor is at fault itself.
 #[tactic(auto, unfolding(crate::specs::Checks::is_int_text))]
-fn is_int_text(
+fn is_int_text<'a>(
     alloc: Global,
-    pool: &Pool,
-    known: &mut FieldTypes,
+    pool: &'a Pool,
+    known: &mut FieldTypes<'a>,
     descriptor: u16,
 ) -> Result<bool, ReadFault>
     requires known { AreFieldTypes pool.now known.old }
@@ -78,10 +79,10 @@ fn is_int_text(
 }
 
 #[tactic(auto, unfolding(crate::specs::Checks::field_flag_demands))]
-fn check_field_flags(
+fn check_field_flags<'a>(
     alloc: Global,
-    pool: &Pool,
-    known: &mut FieldTypes,
+    pool: &'a Pool,
+    known: &mut FieldTypes<'a>,
     class: Flags,
     is_new: bool,
     field: &Member,
@@ -114,12 +115,12 @@ fn check_field_name(pool: &Pool, name: Item) -> Result<(), ReadFault>
 }
 
 #[tactic(auto, unfolding(crate::specs::Checks::field_type_demands, cf_text::specs::Demands::verdict))]
-fn check_field_type(
+fn check_field_type<'a>(
     alloc: Global,
-    pool: &Pool,
-    known: &mut FieldTypes,
+    pool: &'a Pool,
+    known: &mut FieldTypes<'a>,
     descriptor: Item,
-    text: &Text,
+    text: &'a Text,
 ) -> Result<(), ReadFault>
     requires named { utf8_at pool.now descriptor.value ≡ Some text.now }
     requires known { AreFieldTypes pool.now known.old }
@@ -135,10 +136,10 @@ fn check_field_type(
 }
 
 #[tactic(auto, unfolding(crate::specs::Checks::field_descriptor_demands, cf_text::specs::Demands::verdict, cf_pool::specs::Pools::indexed))]
-fn check_field_descriptor(
+fn check_field_descriptor<'a>(
     alloc: Global,
-    pool: &Pool,
-    known: &mut FieldTypes,
+    pool: &'a Pool,
+    known: &mut FieldTypes<'a>,
     descriptor: Item,
 ) -> Result<(), ReadFault>
     requires known { AreFieldTypes pool.now known.old }
@@ -166,11 +167,11 @@ fn field_known(flags: Flags) -> Known
 }
 
 #[tactic(auto, unfolding(crate::specs::Checks::field_demands_if), using(cf_text::proofs::Verdicts::verdicts))]
-fn check_field(
+fn check_field<'a>(
     alloc: Global,
     bytes: &[u8],
-    pool: &Pool,
-    known: &mut FieldTypes,
+    pool: &'a Pool,
+    known: &mut FieldTypes<'a>,
     class: Flags,
     is_new: bool,
     field: &Member,
@@ -274,7 +275,7 @@ fn words_of(kind: &FieldType) -> usize
 
 // Whether parameters, with the receiver if there is one, take at most 255 words.
 #[tactic(auto, unfolding(crate::specs::Checks::are_few))]
-fn are_few(is_static: bool, parameters: &[FieldType]) -> bool
+fn are_few(is_static: bool, parameters: &[Shared<FieldType>]) -> bool
     ensures { result ≡ are_few is_static parameters.now }
 {
     let mut words: usize = if is_static { 0 } else { 1 };
@@ -288,14 +289,14 @@ fn are_few(is_static: bool, parameters: &[FieldType]) -> bool
 }
 
 #[tactic(auto, unfolding(crate::specs::Checks::method_type_demands, cf_text::specs::Demands::verdict))]
-fn check_method_type(
+fn check_method_type<'a>(
     alloc: Global,
-    pool: &Pool,
-    known: &mut MethodTypes,
+    pool: &'a Pool,
+    known: &mut MethodTypes<'a>,
     descriptor: Item,
     is_static: bool,
     is_initializer: bool,
-    text: &Text,
+    text: &'a Text,
 ) -> Result<(), ReadFault>
     requires named { utf8_at pool.now descriptor.value ≡ Some text.now }
     requires known { AreMethodTypes pool.now known.old }
@@ -314,10 +315,10 @@ fn check_method_type(
 }
 
 #[tactic(auto, unfolding(crate::specs::Checks::method_descriptor_demands, cf_text::specs::Demands::verdict, cf_pool::specs::Pools::indexed))]
-fn check_method_descriptor(
+fn check_method_descriptor<'a>(
     alloc: Global,
-    pool: &Pool,
-    known: &mut MethodTypes,
+    pool: &'a Pool,
+    known: &mut MethodTypes<'a>,
     method: &Member,
 ) -> Result<(), ReadFault>
     requires known { AreMethodTypes pool.now known.old }
@@ -346,11 +347,11 @@ fn check_method_descriptor(
 }
 
 #[tactic(auto, unfolding(crate::specs::Checks::method_demands_if), using(cf_text::proofs::Verdicts::verdicts))]
-fn check_method(
+fn check_method<'a>(
     alloc: Global,
     bytes: &[u8],
-    pool: &Pool,
-    known: &mut MethodTypes,
+    pool: &'a Pool,
+    known: &mut MethodTypes<'a>,
     class: Flags,
     is_new: bool,
     method: &Member,

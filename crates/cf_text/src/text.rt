@@ -96,6 +96,30 @@ impl Text {
         self.as_bytes() == bytes
     }
 
+    /// Returns the first bytes, this many, as a text that shares them. It takes no memory.
+    pub fn front(&self, count: usize) -> Result<Text, AllocError>
+        requires within { count ≤ length self.now }
+        ensures { IfOk result (λ front. front ≡ take count self.now) }
+    {
+        let Ok(end) = u32::try_from(self.start as usize + count) else {
+            return Err(AllocError);
+        };
+        let bytes = self.bytes.share()?;
+        Ok(Text {
+            bytes,
+            start: self.start,
+            end,
+        })
+    }
+
+    /// Takes the first bytes, this many, off the text.
+    pub fn advance(&mut self, count: usize)
+        requires within { count ≤ length self.old }
+        ensures { self.new ≡ drop count self.old }
+    {
+        self.start = (self.start as usize + count) as u32;
+    }
+
     /// Returns a copy that shares the bytes. It takes no memory.
     pub fn copy(&self) -> Result<Text, AllocError>
         ensures { IfOk result (λ copy. copy ≡ self.now) }

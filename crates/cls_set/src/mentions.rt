@@ -9,10 +9,10 @@ ghost use Rattle.cls_set.specs.Classes.{names};
 ghost use Rattle.cls_set.specs.Entries.{classes_of, AreOrdered};
 
 use super::entries::{Entry, find};
-use cf_reader::{ClassFile, ElementType, Field, FieldType, Method, MethodDescriptor};
+use cf_reader::{ClassFile, ElementType, Field, FieldType, Method, MethodDescriptor, Shared};
 
 // Whether a type names a class that is not in the set.
-fn is_absent(entries: &[Entry], kind: &FieldType) -> bool
+fn is_absent(entries: &[Entry], kind: &Shared<FieldType>) -> bool
     requires { AreOrdered entries.now }
     ensures { IsTrue result ↔ NamesAbsent (names (classes_of entries.now)) kind.now }
 {
@@ -22,7 +22,7 @@ fn is_absent(entries: &[Entry], kind: &FieldType) -> bool
     }
 }
 
-fn is_one_absent(entries: &[Entry], kinds: &[FieldType]) -> bool
+fn is_one_absent(entries: &[Entry], kinds: &[Shared<FieldType>]) -> bool
     requires { AreOrdered entries.now }
     ensures { IsTrue result ↔ Any (NamesAbsent (names (classes_of entries.now))) kinds.now }
 {

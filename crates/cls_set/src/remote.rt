@@ -9,7 +9,7 @@ ghost use Rattle.cls_set.specs.Entries.{classes_of, AreArranged, HaveTables};
 ghost use Rattle.cls_set.specs.Rules.{CanBeKept, CanCross, IsBelowRemote, NamesRemoteInterface};
 
 use super::entries::{Entry, find, is_in};
-use cf_reader::{ElementType, Field, FieldType, Flags, Method, Row, Text};
+use cf_reader::{ElementType, Field, FieldType, Flags, Method, Row, Shared, Text};
 use std::alloc::{AllocError, Global};
 
 // Whether a class is java/rmi/Remote or below it.
@@ -42,7 +42,7 @@ fn names_remote_interface(entries: &[Entry], tables: &[Row<bool>], name: &Text) 
 }
 
 // Whether a remote class may have an instance field of this type.
-fn can_be_kept(entries: &[Entry], tables: &[Row<bool>], kind: &FieldType) -> bool
+fn can_be_kept(entries: &[Entry], tables: &[Row<bool>], kind: &Shared<FieldType>) -> bool
     requires { AreKnown entries.now tables.now }
     ensures { IsTrue result ↔ CanBeKept (origins_of entries.now) kind.now }
 {
@@ -58,7 +58,7 @@ fn can_be_kept(entries: &[Entry], tables: &[Row<bool>], kind: &FieldType) -> boo
 }
 
 // Whether a remote interface's methods may take and give this type.
-fn can_cross(entries: &[Entry], tables: &[Row<bool>], kind: &FieldType) -> bool
+fn can_cross(entries: &[Entry], tables: &[Row<bool>], kind: &Shared<FieldType>) -> bool
     requires { AreKnown entries.now tables.now }
     ensures { IsTrue result ↔ CanCross (origins_of entries.now) kind.now }
 {
@@ -68,7 +68,7 @@ fn can_cross(entries: &[Entry], tables: &[Row<bool>], kind: &FieldType) -> bool
     }
 }
 
-fn cannot_cross(entries: &[Entry], tables: &[Row<bool>], kind: &FieldType) -> bool
+fn cannot_cross(entries: &[Entry], tables: &[Row<bool>], kind: &Shared<FieldType>) -> bool
     requires { AreKnown entries.now tables.now }
     ensures { IsTrue result ↔ CannotCross (origins_of entries.now) kind.now }
 {
@@ -82,7 +82,7 @@ fn is_field_not_kept(entries: &[Entry], tables: &[Row<bool>], field: &Field) -> 
     !field.flags.has(Flags::STATIC) && !can_be_kept(entries, tables, &field.kind)
 }
 
-fn is_one_not_crossing(entries: &[Entry], tables: &[Row<bool>], kinds: &[FieldType]) -> bool
+fn is_one_not_crossing(entries: &[Entry], tables: &[Row<bool>], kinds: &[Shared<FieldType>]) -> bool
     requires { AreKnown entries.now tables.now }
     ensures { IsTrue result ↔ Any (CannotCross (origins_of entries.now)) kinds.now }
 {

@@ -13,7 +13,7 @@ ghost use Rattle.vm_heap.specs.Tagged.{Int};
 use crate::fault::StartFault;
 use cls_link::{
     Code, ElementType, FieldType, Flags, Linked, LinkedInsn, LinkedMethod, Method,
-    MethodDescriptor, MethodId, StackOperation, ValueKind,
+    MethodDescriptor, MethodId, Shared, StackOperation, ValueKind,
 };
 use vm_heap::{Value, Word};
 use vm_stack::Stack;
@@ -93,13 +93,13 @@ fn may_take(types: &MethodDescriptor) -> bool
     are_int_types(types.parameters.as_slice()) && gives_int(&types.result)
 }
 
-fn are_int_types(kinds: &[FieldType]) -> bool
+fn are_int_types(kinds: &[Shared<FieldType>]) -> bool
     ensures { result ≡ list_all is_int_type kinds.now }
 {
     kinds.iter().all(|kind| is_int(kind))
 }
 
-fn gives_int(result_type: &Option<FieldType>) -> bool
+fn gives_int(result_type: &Option<Shared<FieldType>>) -> bool
     ensures { result ≡ option_map_or is_int_type result_type.now true }
 {
     match result_type {
@@ -108,7 +108,7 @@ fn gives_int(result_type: &Option<FieldType>) -> bool
     }
 }
 
-fn is_int(kind: &FieldType) -> bool
+fn is_int(kind: &Shared<FieldType>) -> bool
     ensures { result ≡ is_int_type kind.now }
 {
     let is_element = match kind.element {
