@@ -191,7 +191,7 @@ fn interfaces_from(alloc: Global, pool: &Pool, items: &[Item]) -> Result<Table<T
     requires few { length items.now ≤ 65535 }
     ensures { Gives (each (class_name_of pool.now) items.now) result }
 {
-    let mut names = Vec::new(alloc);
+    let mut names = Vec::with_capacity(alloc, items.len())?;
     for item in items {
         let name = class_name_of(pool, *item)?;
         names.push(name)?;
@@ -209,7 +209,7 @@ fn fields_from(
     ensures { Gives (each (field_from bytes.now pool.now) items.now) result }
 {
     let mut known = FieldTypes::new(alloc);
-    let mut fields = Vec::new(alloc);
+    let mut fields = Vec::with_capacity(alloc, items.len())?;
     for item in items {
         let field = field_from(alloc, bytes, pool, &mut known, item)?;
         fields.push(field)?;
@@ -229,7 +229,7 @@ fn methods_from(
     ensures { Gives (each (method_from bytes.now pool.now) items.now) result }
 {
     let mut known = MethodTypes::new(alloc);
-    let mut methods = Vec::new(alloc);
+    let mut methods = Vec::with_capacity(alloc, items.len())?;
     for item in items {
         let method = method_from(alloc, bytes, pool, &mut known, no_code, item)?;
         methods.push(method)?;
