@@ -77,6 +77,7 @@ fn what_takes_memory_is_read(rt: HostRuntime) -> Result<(), Fail> {
     assert_eq!(rt; to, 3);
     assert!(rt; row.as_slice() == b"\x07ab".as_slice() && row.into_vec().len() == 3);
     let text = text_of(rt.alloc(), b"(I[[La/b;I[[La/b;)V")?;
+    let other = text_of(rt.alloc(), b"()[Z")?;
     let mut known = KnownTypes::new(rt.alloc());
     let method = read_method_descriptor(rt.alloc(), &mut known, &text, 9)?;
     let [_, _, number, table] = method.parameters.as_slice() else {
@@ -85,8 +86,7 @@ fn what_takes_memory_is_read(rt: HostRuntime) -> Result<(), Fail> {
     assert!(rt; matches!((number.dimensions, &number.element), (0, ElementType::Int)));
     assert!(rt; table.dimensions == 2 && is_class_type(&table.element, b"a/b"));
     assert!(rt; method.result.is_none());
-    let text = text_of(rt.alloc(), b"()[Z")?;
-    let method = read_method_descriptor(rt.alloc(), &mut known, &text, 9)?;
+    let method = read_method_descriptor(rt.alloc(), &mut known, &other, 9)?;
     let result = method.result.as_ref().ok_or("no result")?;
     assert!(rt; method.parameters.as_slice().is_empty());
     assert!(rt;
