@@ -12,7 +12,7 @@ use super::entries::{Entry, find};
 use cf_reader::{ClassFile, ElementType, Field, FieldType, Method, MethodDescriptor, Shared};
 
 // Whether a type names a class that is not in the set.
-fn is_absent(entries: &[Entry], kind: &Shared<FieldType>) -> bool
+fn is_absent(entries: &[Entry], kind: &FieldType) -> bool
     requires { AreOrdered entries.now }
     ensures { IsTrue result ↔ NamesAbsent (names (classes_of entries.now)) kind.now }
 {
@@ -22,11 +22,18 @@ fn is_absent(entries: &[Entry], kind: &Shared<FieldType>) -> bool
     }
 }
 
+fn is_type_absent(entries: &[Entry], kind: &Shared<FieldType>) -> bool
+    requires { AreOrdered entries.now }
+    ensures { IsTrue result ↔ NamesAbsent (names (classes_of entries.now)) kind.now }
+{
+    is_absent(entries, kind)
+}
+
 fn is_one_absent(entries: &[Entry], kinds: &[Shared<FieldType>]) -> bool
     requires { AreOrdered entries.now }
     ensures { IsTrue result ↔ Any (NamesAbsent (names (classes_of entries.now))) kinds.now }
 {
-    kinds.iter().any(|kind| is_absent(entries, kind))
+    kinds.iter().any(|kind| is_type_absent(entries, kind))
 }
 
 fn descriptor_names_absent(entries: &[Entry], types: &MethodDescriptor) -> bool
@@ -34,7 +41,7 @@ fn descriptor_names_absent(entries: &[Entry], types: &MethodDescriptor) -> bool
     ensures { IsTrue result ↔ DescriptorNamesAbsent (names (classes_of entries.now)) types.now }
 {
     match &types.result {
-        Some(kind) if is_absent(entries, kind) => true,
+        Some(kind) if is_type_absent(entries, kind) => true,
         _ => is_one_absent(entries, types.parameters.as_slice()),
     }
 }

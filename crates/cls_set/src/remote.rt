@@ -42,7 +42,7 @@ fn names_remote_interface(entries: &[Entry], tables: &[Row<bool>], name: &Text) 
 }
 
 // Whether a remote class may have an instance field of this type.
-fn can_be_kept(entries: &[Entry], tables: &[Row<bool>], kind: &Shared<FieldType>) -> bool
+fn can_be_kept(entries: &[Entry], tables: &[Row<bool>], kind: &FieldType) -> bool
     requires { AreKnown entries.now tables.now }
     ensures { IsTrue result ↔ CanBeKept (origins_of entries.now) kind.now }
 {
@@ -58,7 +58,7 @@ fn can_be_kept(entries: &[Entry], tables: &[Row<bool>], kind: &Shared<FieldType>
 }
 
 // Whether a remote interface's methods may take and give this type.
-fn can_cross(entries: &[Entry], tables: &[Row<bool>], kind: &Shared<FieldType>) -> bool
+fn can_cross(entries: &[Entry], tables: &[Row<bool>], kind: &FieldType) -> bool
     requires { AreKnown entries.now tables.now }
     ensures { IsTrue result ↔ CanCross (origins_of entries.now) kind.now }
 {

@@ -6,11 +6,11 @@ use Rattle.cls_set.specs.Entries.{classes_of}
 use Rattle.cls_set.proofs.Absent.{by_either, by_parameter, by_result}
 use Rattle.cls_set.proofs.Hierarchy.{none_some, same_some, true_false}
 use Rattle.cls_set.proofs.mentions.descriptor_names_absent.Goals as goal
-use Rattle.cls_set.proofs.mentions.descriptor_names_absent.Goals.{in_default-via-in-Some+else-is_absent, in_default-via-in_default}
+use Rattle.cls_set.proofs.mentions.descriptor_names_absent.Goals.{in_default-via-in-Some+else-is_type_absent, in_default-via-in_default}
 
 pub returns-in-Some : goal.returns-in-Some
 returns-in-Some c = (
-  λ _. by_result (names (classes_of c.args.entries.now)) c.args.types.now c.in-Some.kind c.in-Some.is (c.is_absent.ensures.0 c.if-is_absent.true),
+  λ _. by_result (names (classes_of c.args.entries.now)) c.args.types.now c.in-Some.kind c.in-Some.is (c.is_type_absent.ensures.0 c.if-is_type_absent.true),
   λ _. refl,
 )
 
@@ -24,8 +24,8 @@ returns-in_default c =
             | inl one ↦ c.is_one_absent.ensures.1 (subst (Any (NamesAbsent ns)) (sym c.as_slice.ensures) one)
             | inr r ↦
                 elim c.in_default.branch [
-                  | in_default-via-in-Some+else-is_absent w ↦
-                      absurd (true_false (sym (w.is_absent.ensures.1 (subst (NamesAbsent ns) (same_some (sym r.1 ∙ w.in-Some.is)) r.2)) ∙ w.if-is_absent.false))
+                  | in_default-via-in-Some+else-is_type_absent w ↦
+                      absurd (true_false (sym (w.is_type_absent.ensures.1 (subst (NamesAbsent ns) (same_some (sym r.1 ∙ w.in-Some.is)) r.2)) ∙ w.if-is_type_absent.false))
                   | in_default-via-in_default w ↦ absurd (none_some (sym w.in_default.is ∙ r.1))
                 ]
           ],
