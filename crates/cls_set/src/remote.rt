@@ -68,11 +68,18 @@ fn can_cross(entries: &[Entry], tables: &[Row<bool>], kind: &FieldType) -> bool
     }
 }
 
-fn cannot_cross(entries: &[Entry], tables: &[Row<bool>], kind: &Shared<FieldType>) -> bool
+fn cannot_cross(entries: &[Entry], tables: &[Row<bool>], kind: &FieldType) -> bool
     requires { AreKnown entries.now tables.now }
     ensures { IsTrue result ↔ CannotCross (origins_of entries.now) kind.now }
 {
     !can_cross(entries, tables, kind)
+}
+
+fn does_not_cross(entries: &[Entry], tables: &[Row<bool>], kind: &Shared<FieldType>) -> bool
+    requires { AreKnown entries.now tables.now }
+    ensures { IsTrue result ↔ CannotCross (origins_of entries.now) kind.now }
+{
+    cannot_cross(entries, tables, kind)
 }
 
 fn is_field_not_kept(entries: &[Entry], tables: &[Row<bool>], field: &Field) -> bool
@@ -86,7 +93,9 @@ fn is_one_not_crossing(entries: &[Entry], tables: &[Row<bool>], kinds: &[Shared<
     requires { AreKnown entries.now tables.now }
     ensures { IsTrue result ↔ Any (CannotCross (origins_of entries.now)) kinds.now }
 {
-    kinds.iter().any(|kind| cannot_cross(entries, tables, kind))
+    kinds
+        .iter()
+        .any(|kind| does_not_cross(entries, tables, kind))
 }
 
 fn is_method_not_crossing(entries: &[Entry], tables: &[Row<bool>], method: &Method) -> bool
@@ -94,7 +103,7 @@ fn is_method_not_crossing(entries: &[Entry], tables: &[Row<bool>], method: &Meth
     ensures { IsTrue result ↔ IsMethodNotCrossing (origins_of entries.now) method.now }
 {
     match &method.types.result {
-        Some(kind) if cannot_cross(entries, tables, kind) => true,
+        Some(kind) if does_not_cross(entries, tables, kind) => true,
         _ => is_one_not_crossing(entries, tables, method.types.parameters.as_slice()),
     }
 }
