@@ -17,7 +17,7 @@ use Rattle.cls_set.specs.Walks.{Met, met_by, ups, AreWithin, IsOwn, IsWalked}
 use Rattle.cls_set.proofs.Hierarchy.{some_and, true_false, by_contradiction_false}
 use Rattle.cls_set.proofs.Walks.{IsUnderway, IsWalking, before, complete, count_cons, of_class}
 
-none_met : (n k : ℕ) → get_or (replicate n false) k false ≡ true → ⊥
+pub none_met : (n k : ℕ) → get_or (replicate n false) k false ≡ true → ⊥
 none_met zero k e = true_false (sym e)
 none_met (suc n) zero e = true_false (sym e)
 none_met (suc n) (suc k) e = none_met n k e
@@ -166,7 +166,7 @@ one_more classes entries index y within old new j d l =
 pub table_of : (classes : List Class) (k : ℕ) (walk : Walk) → IsWalked classes (record { 0 = k }) walk → IsTable classes k walk.met.items
 table_of classes k walk w = record { long = w.long; supertypes = w.met }
 
-last_read : {X : Type 0} (xs : List X) (x d : X) → get_or (xs ++ x ∷ []) (length xs) d ≡ x
+pub last_read : {X : Type 0} (xs : List X) (x d : X) → get_or (xs ++ x ∷ []) (length xs) d ≡ x
 last_read [] x d = refl
 last_read (y ∷ ys) x d = last_read ys x d
 

@@ -9,6 +9,7 @@ use Rattle.space_ids.specs.declared.ids.ClassId.{ClassId}
 use Rattle.cls_set.specs.declared.entries.Entry.{Entry}
 use Rattle.cls_set.specs.Classes.{direct_supertypes}
 use Rattle.cls_set.specs.Entries.{classes_of, IsRanked}
+use Rattle.cls_set.specs.Marks.{rank_at, rank_in}
 use Rattle.cls_set.specs.Subtypes as types
 use Rattle.cls_set.specs.Subtypes.{Extends, Declares, IsSubclass, IsSubtype}
 
@@ -73,17 +74,13 @@ All-whole P xs i ys h e all = subst (All P) (take_all i xs h ∙ e) all
 pub equal : (a b : ClassId) → nat_eq a.0 b.0 ≡ true → a ≡ b
 equal a b e = ap (λ n. record { 0 = n }) (nat_is a.0 b.0 e)
 
-abbrev pub rank_in : Option Entry → ℕ
-rank_in None = 0
-rank_in (Some m) = m.rank
-
 -- what the test says
 pub differ : (a b : ClassId) → not (nat_eq a.0 b.0) ≡ true → a ≢ b
 differ a b e same = not_itself a.0 (subst (λ (x : ClassId). not (nat_eq a.0 x.0) ≡ true) (sym same) e)
 
 -- the rank of a class
 abbrev pub rank_of : List Entry → ClassId → ℕ
-rank_of entries c = rank_in (slice_get entries c.0)
+rank_of entries c = rank_at entries c.0
 
 -- a direct supertype stands in the set, with a lower rank
 pub record IsLower (entries : List Entry) (c : ClassId) (s : ClassId) : Type 0 where

@@ -14,7 +14,9 @@ pub mod Broken
 pub mod Turns
 pub mod Stated
 pub mod Arranged
+pub mod Marks
 pub mod Remotes
+pub mod Numbering
 pub mod Overrides
 pub mod Unfit
 pub mod Orders

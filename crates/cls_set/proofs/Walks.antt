@@ -70,6 +70,10 @@ same_or_other R a b same other =
       | false ↦ λ e. other (λ f. differ_by a b e (same_class a b f))
     ] refl
 
+-- the same for indices
+pub same_or_other_index : (R : Type 0) (a b : ℕ) → (a ≡ b → R) → (a ≢ b → R) → R
+same_or_other_index R a b same other = same_or_other R (record { 0 = a }) (record { 0 = b }) (λ e. same (ap (λ (x : ClassId). x.0) e)) other
+
 long_one : (met : Met) (s : ClassId) → length (meet_one met s).0 ≡ length met.0
 long_one met s =
     elim (get_or met.0 s.0 false) as (λ b. length (cond b met (set met.0 s.0 true, met.1 ++ s ∷ [])).0 ≡ length met.0) [

@@ -1,5 +1,5 @@
 -- How a set keeps its classes: in the order of their names, with ranks and tables of supertypes.
-use Rattle.std.specs.Prelude.{◌≡◌, ◌≤◌, ◌<◌, ◌↔◌, ℕ, Bool, false, List, [], All, IsSomeAnd, IsTrue, length, map, slice_get, slice_index_or}
+use Rattle.std.specs.Prelude.{◌≡◌, ◌<◌, ◌↔◌, ℕ, Bool, false, Option, Some, None, List, [], All, IsSomeAnd, IsTrue, length, map, slice_get, slice_index_or}
 use Rattle.std.specs.List.Sorted.{IsStrictlySortedBy}
 use Rattle.cls_set.specs.declared.class.Class.{Class}
 use Rattle.space_ids.specs.declared.ids.ClassId.{ClassId}
@@ -8,8 +8,6 @@ use Rattle.cls_set.specs.Classes.{direct_supertypes, name_cmp, names}
 use Rattle.cls_set.specs.Sets.{IsClassSet, IsResolved}
 use Rattle.cls_set.specs.Subtypes.{IsProperSubtype}
 use Rattle.cls_set.specs.Walks.{IsFirstOwn}
-use Rattle.cls_set.specs.declared.walking.Ranks.{Ranks}
-use Rattle.cls_set.specs.declared.walking.Ranks.TheVariants.{Cyclic, Tables}
 
 -- ---- entries
 
@@ -35,15 +33,13 @@ pub record HaveTables (classes : List Class) (tables : List (List Bool)) : Type 
   pub one_each : length tables ≡ length classes
   pub table : (k : ℕ) → k < length classes → IsTable classes k (slice_index_or tables k [])
 
--- entries that stand in the order of their names, and can be numbered
+-- entries that stand in the order of their names
 pub record AreOrdered (entries : List Entry) : Type 0 where
   pub ordered : IsStrictlySortedBy name_cmp (names (classes_of entries))
-  pub few : length entries ≤ 4096
 
 -- entries whose supertypes are known
 pub record AreArranged (entries : List Entry) : Type 0 where
   pub ordered : IsStrictlySortedBy name_cmp (names (classes_of entries))
-  pub few : length entries ≤ 4096
   pub resolved : All (IsResolved (names (classes_of entries))) (classes_of entries)
   pub ranked : All (IsRanked entries) entries
 
@@ -53,6 +49,6 @@ pub record AreEntries (entries : List Entry) (told : List (List Bool)) : Type 0 
   pub tables : HaveTables (classes_of entries) told
 
 -- what ranking classes comes to
-abbrev pub AreRanks : List Class → List Entry → Ranks → Type 0
-AreRanks classes entries (Cyclic k) = IsFirstOwn classes k
-AreRanks classes entries (Tables tables) = All (IsRanked entries) entries × HaveTables classes tables.items
+abbrev pub AreRanks : List Class → List Entry → Option ℕ → Type 0
+AreRanks classes entries (Some k) = IsFirstOwn classes k
+AreRanks classes entries None = All (IsRanked entries) entries

@@ -5,6 +5,7 @@ pub mod Classes
 pub mod Faults
 pub mod Entries
 pub mod Orders
+pub mod Marks
 pub mod Rules
 pub mod Sets
 pub mod Subtypes

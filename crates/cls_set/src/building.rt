@@ -5,19 +5,20 @@ ghost use Rattle.std.specs.Prelude.{◌≡◌, ◌<◌, ◌++◌, ◌-◌, ◌�
 ghost use Rattle.std.specs.List.Sorted.{IsStrictlySortedBy};
 ghost use Rattle.cls_set.specs.Building.{ranked_from, origins_of, AscendByName, IsCycleFault, IsDuplicateFault, IsFaultOf};
 ghost use Rattle.cls_set.specs.Classes.{name_cmp, names};
-ghost use Rattle.cls_set.specs.Entries.{classes_of, HaveTables, IsRanked};
+ghost use Rattle.cls_set.specs.Entries.{classes_of, IsRanked};
 ghost use Rattle.cls_set.specs.declared.fault.SetRule.TheVariants.{TooMany};
 ghost use Rattle.cls_set.specs.Sets.{origins, IsFirstDuplicate, IsResolved};
 
 use super::built_in::built_in_classes;
+use super::drafts::Draft;
 use super::entries::Entry;
 use super::resolving::broken;
-use super::walking::{Ranks, rank};
-use super::{Class, SetFault, SetRule};
+use super::walking::rank;
+use super::{SetFault, SetRule};
 use cf_reader::{ClassFile, Row, Text};
 use std::alloc::{AllocError, Global};
 
-// How many classes of a set are numbered (a rule of this project).
+// How many classes a set has at most (a rule of this project).
 const MAX_CLASSES: usize = 4096;
 
 // Adds the classes of the files, with ranks in their order.
@@ -30,7 +31,7 @@ fn add_classes(
     ensures { OnOk result (entries.new.items ≡ entries.old.items ++ ranked_from (length entries.old.items) (map (λ file. (file, is_built_in)) files.items)) }
 {
     for file in files {
-        let class = Class {
+        let class = Draft {
             file,
             superclass: None,
             interfaces: Row::new(Vec::new(alloc)),
@@ -61,8 +62,9 @@ fn first_duplicate(entries: &[Entry]) -> Option<usize>
     ensures none { IfNone result (IsStrictlySortedBy name_cmp (names (classes_of entries.now))) }
 {
     for index in 1..entries.len() {
-        let before = entries[index - 1].class.file.name.as_bytes();
-        if entries[index].class.file.name.is(before) {
+        let before = &entries[index - 1].class;
+        let class = &entries[index].class;
+        if class.file.name.is(before.file.name.as_bytes()) {
             return Some(index);
         }
     }
@@ -91,7 +93,7 @@ pub(crate) fn last_name(files: &[ClassFile]) -> Result<Option<Text>, AllocError>
     }
 }
 
-// Refuses more classes than can be numbered: the last file's is named.
+// Refuses more classes than a set may have: the last file's is named.
 pub(crate) fn refuse_many(count: usize, last: Option<Text>) -> Result<(), SetFault>
     ensures ok { OnOk result (IsSome last → count ≤ 4096) }
     ensures fault { IfErr result (λ fault. (4096 < count) × IfSome last (λ name. IsFaultOf TooMany name fault) × IsSome last) }
@@ -109,27 +111,27 @@ pub(crate) fn refuse_duplicates(entries: &[Entry]) -> Result<(), SetFault>
     ensures fault { IfErr result (IsDuplicateFault (names (classes_of entries.now))) }
 {
     match first_duplicate(entries) {
-        Some(index) => Err(broken(SetRule::Duplicate, &entries[index].class.file.name)),
+        Some(index) => {
+            let class = &entries[index].class;
+            Err(broken(SetRule::Duplicate, &class.file.name))
+        }
         None => Ok(()),
     }
 }
 
-// Ranks the classes, writes their supertypes into tables, and refuses a class that is its own
-// supertype.
-pub(crate) fn refuse_cycles(
-    alloc: Global,
-    entries: &mut Vec<Entry>,
-) -> Result<Vec<Row<bool>>, SetFault>
+// Ranks the classes, and refuses a class that is its own supertype.
+pub(crate) fn refuse_cycles(alloc: Global, entries: &mut Vec<Entry>) -> Result<(), SetFault>
     requires ordered { IsStrictlySortedBy name_cmp (names (classes_of entries.old.items)) }
-    requires few { length entries.old.items ≤ 4096 }
     requires resolved { All (IsResolved (names (classes_of entries.old.items))) (classes_of entries.old.items) }
     ensures classes { classes_of entries.new.items ≡ classes_of entries.old.items }
     ensures ranked { OnOk result (All (IsRanked entries.new.items) entries.new.items) }
-    ensures tables { IfOk result (λ tables. HaveTables (classes_of entries.old.items) tables.items) }
     ensures fault { IfErr result (IsCycleFault (origins_of entries.old.items)) }
 {
     match rank(alloc, entries)? {
-        Ranks::Cyclic(index) => Err(broken(SetRule::Cycle, &entries[index].class.file.name)),
-        Ranks::Tables(tables) => Ok(tables),
+        Some(index) => {
+            let class = &entries[index].class;
+            Err(broken(SetRule::Cycle, &class.file.name))
+        }
+        None => Ok(()),
     }
 }

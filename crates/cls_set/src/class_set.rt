@@ -1,8 +1,11 @@
 //! Class sets: their look-ups.
 
 use super::arranging::arrange;
-use super::entries::{Entry, find, is_below, is_in};
-use super::rules::refuse_broken;
+use super::building::{last_name, refuse_many};
+use super::entries::is_in;
+use super::members::{Member, find_number, is_below, number_classes};
+use super::rules::{ClassRule, find_facts, refuse, refuse_broken};
+use super::walking::tables;
 use super::{Class, ClassId, SetFault};
 use cf_reader::{ClassFile, Row, Text};
 use std::alloc::Global;
@@ -12,7 +15,7 @@ use std::marker::Model;
 /// classes: the class with number k is item k.
 #[derive(Debug, Drop)]
 pub struct ClassSet {
-    entries: Vec<Entry>,
+    members: Vec<Member>,
     // For each class a table of its supertypes by number.
     tables: Vec<Row<bool>>,
 }
@@ -25,9 +28,9 @@ impl Model for ClassSet {
 
     ghost use Rattle.cls_set.specs.Entries.{classes_of, AreEntries};
 
-    ghost view = { λ set. classes_of set.entries.items };
+    ghost view = { λ set. classes_of set.members.items };
 
-    ghost invariant = { λ set. AreEntries set.entries.items set.tables.items };
+    ghost invariant = { λ set. AreEntries set.members.items set.tables.items };
 }
 
 impl ClassSet {
@@ -43,10 +46,10 @@ impl ClassSet {
     /// Returns the set of the files' classes and the built-in ones, exactly if the files break no
     /// rule on sets. The files may come in any order. A fault hands nothing of them back.
     ///
-    /// Faults are looked for in this order, each over all classes: `Duplicate`, `TooMany` (more
-    /// classes than can be numbered, 4,096 with the built-in ones), `AbsentClass`, `Cycle`,
-    /// `BadSuper`, `FinalSuper`, `RemoteField`, `RemoteMethod`, `Override`, `NotYet`. The fault
-    /// names the first class at fault by name; `TooMany` names the class of the last file.
+    /// Faults are looked for in the order of their numbers, each over all classes: `Duplicate`,
+    /// `AbsentClass`, `Cycle`, `BadSuper`, `FinalSuper`, `RemoteField`, `RemoteMethod`, `Override`,
+    /// `TooMany` (more than 4,096 classes with the built-in ones), `NotYet`. The fault names the
+    /// first class at fault by name; `TooMany` names the class of the last file.
     pub fn build(alloc: Global, files: Vec<ClassFile>) -> Result<ClassSet, SetFault>
         // They were read, so that each is well formed.
         requires { All IsWellFormed files.items }
@@ -56,16 +59,15 @@ impl ClassSet {
         ensures only { MakeASet files.items → IfErr result (λ fault. fault ≡ Memory) }
         ensures fault { IfErr result (IsSetFault files.items) }
     {
-        let arranged = arrange(alloc, files)?;
-        refuse_broken(
-            alloc,
-            arranged.entries.as_slice(),
-            arranged.tables.as_slice(),
-        )?;
-        Ok(ClassSet {
-            entries: arranged.entries,
-            tables: arranged.tables,
-        })
+        let last = last_name(files.as_slice())?;
+        let entries = arrange(alloc, files)?;
+        let facts = find_facts(alloc, entries.as_slice())?;
+        refuse_broken(entries.as_slice(), &facts)?;
+        refuse_many(entries.len(), last)?;
+        refuse(entries.as_slice(), &facts, ClassRule::NotYet)?;
+        let tables = tables(alloc, entries.as_slice())?;
+        let members = number_classes(alloc, entries)?;
+        Ok(ClassSet { members, tables })
     }
 
     /// Returns how many classes the set has.
@@ -74,7 +76,7 @@ impl ClassSet {
         ensures set { IsClassSet self.now }
         ensures acyclic { (class : ClassId) → ¬ IsProperSubtype self.now class class }
     {
-        self.entries.len()
+        self.members.len()
     }
 
     /// Returns the class with this number.
@@ -82,7 +84,8 @@ impl ClassSet {
         requires { class.0 < length self.now }
         ensures { slice_get self.now class.0 ≡ Some result.now }
     {
-        &self.entries[usize::from(class.0)].class
+        let member = &self.members[usize::from(class.0)];
+        &member.class
     }
 
     /// Returns the name of the class with this number.
@@ -99,7 +102,7 @@ impl ClassSet {
         ensures in_set { IfSome result (λ id. id.0 < length self.now) }
         ensures named { IfSome result (λ id. name_at self.now id ≡ Some name.now) }
     {
-        find(&self.entries, name)
+        find_number(&self.members, name)
     }
 
     /// Returns whether a class is another or a subclass of it.
@@ -107,7 +110,7 @@ impl ClassSet {
         requires { sub.0 < length self.now }
         ensures { IsTrue result ↔ IsSubclass self.now sub sup }
     {
-        is_below(&self.entries, sub, sup)
+        is_below(&self.members, sub, sup)
     }
 
     /// Returns whether a class or interface is a subtype of an interface.

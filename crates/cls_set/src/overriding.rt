@@ -107,10 +107,11 @@ pub(crate) fn overrides_badly(entries: &[Entry], orders: &[Row<usize>], index: u
     requires in_set { index < length entries.now }
     ensures { (c : Class) → slice_get (classes_of entries.now) index ≡ Some c → IsTrue result ↔ OverridesBadly (origins_of entries.now) c.file }
 {
-    let lower = &entries[index].class.file;
-    let mut up = entries[index].class.superclass;
+    let class = &entries[index].class;
+    let lower = &class.file;
+    let mut up = class.superclass;
     'up: while let Some(superclass) = up {
-        let superclass = usize::from(superclass.0);
+        let superclass = superclass.get();
         let upper = &entries[superclass].class;
         if clashes_in(lower, &upper.file, orders[superclass].as_slice()) {
             return true;

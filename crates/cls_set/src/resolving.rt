@@ -7,9 +7,10 @@ ghost use Rattle.cls_set.specs.Classes.{name_cmp, names, number_of};
 ghost use Rattle.cls_set.specs.Entries.{classes_of, AreOrdered};
 ghost use Rattle.cls_set.specs.declared.entries.Entry.{Entry};
 
+use super::drafts::{Draft, Index};
 use super::entries::{Entry, find};
 use super::mentions::members_name_absent;
-use super::{Class, ClassId, SetFault, SetRule};
+use super::{SetFault, SetRule};
 use cf_reader::{Row, Text};
 use std::alloc::Global;
 
@@ -24,7 +25,7 @@ pub(crate) fn broken(rule: SetRule, class: &Text) -> SetFault
 }
 
 // The number of a supertype of a class.
-fn supertype(entries: &[Entry], name: &Text, class: &Class) -> Result<ClassId, SetFault>
+fn supertype(entries: &[Entry], name: &Text, class: &Draft) -> Result<Index, SetFault>
     requires { AreOrdered entries.now }
     ensures ok { IfOk result (λ id. slice_get (names (classes_of entries.now)) id.0 ≡ Some name.now) }
     ensures absent { IfErr result (IsMissing (names (classes_of entries.now)) name.now class.now.file.name) }
@@ -35,7 +36,7 @@ fn supertype(entries: &[Entry], name: &Text, class: &Class) -> Result<ClassId, S
     }
 }
 
-fn superclass(entries: &[Entry], class: &Class) -> Result<Option<ClassId>, SetFault>
+fn superclass(entries: &[Entry], class: &Draft) -> Result<Option<Index>, SetFault>
     requires { AreOrdered entries.now }
     ensures ok { IfOk result (λ id. option_map (λ id. slice_get (names (classes_of entries.now)) id.0) id ≡ option_map (λ name. Some name) class.now.file.superclass) }
     ensures absent { IfErr result (IsClassFault (names (classes_of entries.now)) class.now.file) }
@@ -49,8 +50,8 @@ fn superclass(entries: &[Entry], class: &Class) -> Result<Option<ClassId>, SetFa
 fn superinterfaces(
     alloc: Global,
     entries: &[Entry],
-    class: &Class,
-) -> Result<Row<ClassId>, SetFault>
+    class: &Draft,
+) -> Result<Row<Index>, SetFault>
     requires { AreOrdered entries.now }
     ensures ok { IfOk result (λ ids. map (λ id. slice_get (names (classes_of entries.now)) id.0) ids ≡ map (λ name. Some name) class.now.file.interfaces) }
     ensures absent { IfErr result (IsClassFault (names (classes_of entries.now)) class.now.file) }
@@ -65,7 +66,6 @@ fn superinterfaces(
 // Finds the supertypes of a class, and the classes that its members mention.
 fn resolve_at(alloc: Global, entries: &mut Vec<Entry>, index: usize) -> Result<(), SetFault>
     requires ordered { IsStrictlySortedBy name_cmp (names (classes_of entries.old.items)) }
-    requires few { length entries.old.items ≤ 4096 }
     requires within { index < length entries.old.items }
     ensures kept { map kept entries.new.items ≡ map kept entries.old.items }
     ensures others { (k : ℕ) (d : Entry) → k ≢ index → slice_index_or entries.new.items k d ≡ slice_index_or entries.old.items k d }
@@ -78,16 +78,15 @@ fn resolve_at(alloc: Global, entries: &mut Vec<Entry>, index: usize) -> Result<(
     if members_name_absent(entries.as_slice(), &class.file) {
         return Err(broken(SetRule::AbsentClass, &class.file.name));
     }
-    let entry = &mut entries[index];
-    entry.class.superclass = superclass;
-    entry.class.interfaces = interfaces;
+    let class = &mut entries[index].class;
+    class.superclass = superclass;
+    class.interfaces = interfaces;
     Ok(())
 }
 
 // Finds the supertypes of each class, and the classes that its members mention.
 pub(crate) fn resolve(alloc: Global, entries: &mut Vec<Entry>) -> Result<(), SetFault>
     requires ordered { IsStrictlySortedBy name_cmp (names (classes_of entries.old.items)) }
-    requires few { length entries.old.items ≤ 4096 }
     ensures kept { map kept entries.new.items ≡ map kept entries.old.items }
     ensures resolved { OnOk result (All (λ m. IsWhole (names (classes_of entries.old.items)) m.class) entries.new.items) }
     ensures absent { IfErr result (IsAbsentFault (names (classes_of entries.old.items)) (origins_of entries.old.items)) }

@@ -2,10 +2,10 @@
 //! be among its own.
 
 ghost use Rattle.std.specs.Prelude.{◌≡◌, ◌<◌, ◌≤◌, All, IfOk, OnOk, length};
-ghost use Rattle.cls_set.specs.Entries.{classes_of, AreRanks};
+ghost use Rattle.cls_set.specs.Entries.{classes_of, AreRanks, HaveTables};
 ghost use Rattle.cls_set.specs.Walks.{met_by, meet_one, meet_all, ups_at, AreWithin, IsWalked};
 
-use super::ClassId;
+use super::drafts::Index;
 use super::entries::Entry;
 use cf_reader::Row;
 use std::alloc::{AllocError, Global};
@@ -14,14 +14,14 @@ use std::alloc::{AllocError, Global};
 #[derive(Debug, Drop)]
 pub(crate) struct Walk {
     pub(crate) met: Vec<bool>,
-    pub(crate) order: Vec<ClassId>,
+    pub(crate) order: Vec<Index>,
 }
 
-fn meet(class: ClassId, walk: &mut Walk) -> Result<(), AllocError>
+fn meet(class: Index, walk: &mut Walk) -> Result<(), AllocError>
     requires { class.0 < length walk.old.met.items }
     ensures { OnOk result (met_by walk.new ≡ meet_one (met_by walk.old) class) }
 {
-    let index = usize::from(class.0);
+    let index = class.get();
     if walk.met[index] {
         return Ok(());
     }
@@ -30,7 +30,7 @@ fn meet(class: ClassId, walk: &mut Walk) -> Result<(), AllocError>
     Ok(())
 }
 
-fn meet_each(classes: &[ClassId], walk: &mut Walk) -> Result<(), AllocError>
+fn meet_each(classes: &[Index], walk: &mut Walk) -> Result<(), AllocError>
     requires { All (λ s. s.0 < length walk.old.met.items) classes.now }
     ensures { OnOk result (met_by walk.new ≡ meet_all (met_by walk.old) classes.now) }
 {
@@ -41,12 +41,12 @@ fn meet_each(classes: &[ClassId], walk: &mut Walk) -> Result<(), AllocError>
 }
 
 // Meets the direct supertypes of a class.
-fn meet_supertypes(entries: &[Entry], class: ClassId, walk: &mut Walk) -> Result<(), AllocError>
+fn meet_supertypes(entries: &[Entry], class: Index, walk: &mut Walk) -> Result<(), AllocError>
     requires in_set { class.0 < length entries.now }
     requires within { AreWithin (length walk.old.met.items) (classes_of entries.now) }
     ensures { OnOk result (met_by walk.new ≡ meet_all (met_by walk.old) (ups_at (classes_of entries.now) class)) }
 {
-    let class = &entries[usize::from(class.0)].class;
+    let class = &entries[class.get()].class;
     meet_each(class.interfaces.as_slice(), walk)?;
     match class.superclass {
         Some(superclass) => meet(superclass, walk),
@@ -55,7 +55,7 @@ fn meet_supertypes(entries: &[Entry], class: ClassId, walk: &mut Walk) -> Result
 }
 
 // Meets each supertype of a class once.
-fn walk_up(alloc: Global, entries: &[Entry], from: ClassId) -> Result<Walk, AllocError>
+fn walk_up(alloc: Global, entries: &[Entry], from: Index) -> Result<Walk, AllocError>
     requires in_set { from.0 < length entries.now }
     requires within { AreWithin (length entries.now) (classes_of entries.now) }
     ensures { IfOk result (IsWalked (classes_of entries.now) from) }
@@ -74,30 +74,32 @@ fn walk_up(alloc: Global, entries: &[Entry], from: ClassId) -> Result<Walk, Allo
     Ok(walk)
 }
 
-// The result of ranking: the index of the first class that is its own supertype, or for each class
-// a table of its supertypes by number.
-#[derive(Debug, Drop)]
-pub(crate) enum Ranks {
-    Cyclic(usize),
-    Tables(Vec<Row<bool>>),
-}
-
-// Ranks the classes. It takes a step for each class and each supertype of it.
-pub(crate) fn rank(alloc: Global, entries: &mut Vec<Entry>) -> Result<Ranks, AllocError>
-    requires few { length entries.old.items ≤ 4096 }
-    requires within { AreWithin (length entries.old.items) (classes_of entries.old.items) }
+// Ranks the classes, or answers the index of the first one that is its own supertype.
+pub(crate) fn rank(alloc: Global, entries: &mut Vec<Entry>) -> Result<Option<usize>, AllocError>
+    requires { AreWithin (length entries.old.items) (classes_of entries.old.items) }
     ensures classes { classes_of entries.new.items ≡ classes_of entries.old.items }
     ensures ranks { IfOk result (AreRanks (classes_of entries.old.items) entries.new.items) }
 {
+    for index in 0..entries.len() {
+        let walk = walk_up(alloc, entries.as_slice(), Index::new(index))?;
+        if walk.met[index] {
+            return Ok(Some(index));
+        }
+        entries[index].rank = walk.order.len();
+    }
+    Ok(None)
+}
+
+// For each class a table of its supertypes by number. It takes a step for each class and each supertype
+// of it.
+pub(crate) fn tables(alloc: Global, entries: &[Entry]) -> Result<Vec<Row<bool>>, AllocError>
+    requires { AreWithin (length entries.now) (classes_of entries.now) }
+    ensures { IfOk result (λ tables. HaveTables (classes_of entries.now) tables.items) }
+{
     let mut tables = Vec::with_capacity(alloc, entries.len())?;
     for index in 0..entries.len() {
-        let walk = walk_up(alloc, entries.as_slice(), ClassId(index as u16))?;
-        if walk.met[index] {
-            return Ok(Ranks::Cyclic(index));
-        }
-        let height = walk.order.len();
+        let walk = walk_up(alloc, entries, Index::new(index))?;
         tables.push(Row::new(walk.met))?;
-        entries[index].rank = height;
     }
-    Ok(Ranks::Tables(tables))
+    Ok(tables)
 }

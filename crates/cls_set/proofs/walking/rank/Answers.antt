@@ -14,7 +14,7 @@ returns-then-index-clause-ranks c =
     let k = c.loop-index.index in
     let walk = c.in_ok-walk.walk in
     let same = ap classes_of c.as_slice.ensures.value ∙ c.loop-index.invariant.0 in
-    let w = subst (λ cs. IsWalked cs (record { 0 = k }) walk) same c.in_ok-walk.ensures in
+    let w = subst (λ cs. IsWalked cs (record { 0 = k }) walk) same (subst (λ i. IsWalked (classes_of c.as_slice.result.now) i walk) c.new.ensures c.in_ok-walk.ensures) in
     let long = sym (long_classes entries) ∙ (ap length c.loop-index.invariant.0 ∙ long_classes start) in
     let within : k < length (classes_of start) = subst (λ n. k < n) (sym (long_classes start)) (omega arith) in
     let table = w.long in
@@ -33,17 +33,15 @@ loop-index-preserved c =
     let k = c.loop-index.index in
     let walk = c.in_ok-walk.walk in
     let same = ap classes_of c.as_slice.ensures.value ∙ c.loop-index.invariant.0 in
-    let w = subst (λ cs. IsWalked cs (record { 0 = k }) walk) same c.in_ok-walk.ensures in
+    let w = subst (λ cs. IsWalked cs (record { 0 = k }) walk) same (subst (λ i. IsWalked (classes_of c.as_slice.result.now) i walk) c.new.ensures c.in_ok-walk.ensures) in
     let long = sym (long_classes entries) ∙ (ap length c.loop-index.invariant.0 ∙ long_classes start) in
     let within : k < length (classes_of start) = subst (λ n. k < n) (sym (long_classes start)) (omega arith) in
     let table = w.long in
     let read : get_or walk.met.items k false ≡ c.index.result.now = same_read walk.met.items k false c.index.result.now (omega (arith, table, within)) ∙ sym c.index.ensures in
-    let high : length walk.order.items ≡ c.len-height.result = omega arith in
-    let y : Entry = record { class = c.index_mut.result.now.class; rank = c.len-height.result } in (
+    let high : length walk.order.items ≡ c.len.result = omega arith in
+    let y : Entry = record { class = c.index_mut.result.now.class; rank = c.len.result } in (
       map-set_same (λ (m : Entry). m.class) entries k y c.index_mut.result.now (ap (λ (m : Entry). m.class) c.index_mut.ensures.value) ∙ c.loop-index.invariant.0,
       one_more (classes_of start) entries k y (omega (arith, long)) c.loop-index.invariant.1 (subst (λ n. IsHeight (classes_of start) k n) high (height_of (classes_of start) k walk w (read ∙ c.if-index.false))),
-      ap length c.in_ok-push.ensures.items ∙ (length-append c.loop-index.tables.items (c.new.result ∷ []) ∙ ap (λ n. n + 1) c.loop-index.invariant.2),
-      table_more (classes_of start) c.loop-index.tables.items k c.new.result _ c.loop-index.invariant.2 c.in_ok-push.ensures.items c.loop-index.invariant.3 (subst (IsTable (classes_of start) k) (sym c.new.ensures) (table_of (classes_of start) k walk w)),
     )
 
 pub returns-clause-ranks : goal.returns-clause-ranks
@@ -51,11 +49,5 @@ returns-clause-ranks c =
     let start = c.args.entries.now.items in
     let entries = c.loop-index.entries.items in
     let long = sym (long_classes entries) ∙ (ap length c.loop-index.invariant.0 ∙ long_classes start) in
-    let same = long_classes start in (
-      ranked_by_heights entries (classes_of start) c.loop-index.index c.loop-index.invariant.0 (omega (arith, long))
-          (subst (λ n. AreWithin n (classes_of start)) (sym long) c.requires.within) c.loop-index.invariant.1,
-      record {
-        one_each = omega (arith, c.loop-index.invariant.2, same, long);
-        table = λ j l. c.loop-index.invariant.3 j (omega (arith, l, same, long));
-      },
-    )
+    ranked_by_heights entries (classes_of start) c.loop-index.index c.loop-index.invariant.0 (omega (arith, long))
+    (subst (λ n. AreWithin n (classes_of start)) (sym long) c.requires) c.loop-index.invariant.1

@@ -1,0 +1,72 @@
+//! Classes while a set is built: their supertypes are told by indices, which number all classes that are
+//! handed in, also more than a set can have.
+
+use super::Flags;
+use cf_reader::{ClassFile, Row};
+use std::marker::Model;
+
+/// The index of a class among all that are handed in, in the order of their names.
+#[derive(Clone, Copy, Debug, PartialEq, Eq)]
+pub(crate) struct Index {
+    at: usize,
+}
+
+impl Model for Index {
+    ghost use Rattle.space_ids.specs.declared.ids.ClassId.{ClassId};
+
+    ghost Value = { ClassId };
+
+    ghost view = { λ index. record { 0 = index.at } };
+
+    ghost inverse = { λ id. record { at = id.0 } };
+}
+
+impl Index {
+    ghost use Rattle.std.specs.Prelude.{◌≡◌};
+
+    pub(crate) fn new(at: usize) -> Index
+        ensures { result ≡ record { 0 = at } }
+    {
+        Index { at }
+    }
+
+    pub(crate) fn get(self) -> usize
+        ensures { result ≡ self.0 }
+    {
+        self.at
+    }
+}
+
+/// A class whose supertypes are told by index. A contract sees it as the class of a set.
+#[derive(Debug, Drop)]
+pub(crate) struct Draft {
+    pub(crate) file: ClassFile,
+    pub(crate) superclass: Option<Index>,
+    pub(crate) interfaces: Row<Index>,
+    pub(crate) is_built_in: bool,
+}
+
+impl Model for Draft {
+    ghost use Rattle.cls_set.specs.declared.class.Class.{Class};
+
+    ghost Value = { Class };
+
+    ghost view = { λ draft. record {
+        file = draft.file;
+        superclass = draft.superclass;
+        interfaces = draft.interfaces;
+        is_built_in = draft.is_built_in;
+    } };
+}
+
+impl Draft {
+    ghost use Rattle.std.specs.Prelude.{◌↔◌, IsTrue};
+    ghost use Rattle.cls_set.specs.Classes.{IsInterface};
+
+    /// Returns whether it is an interface (JVMS 4.1).
+    pub(crate) fn is_interface(&self) -> bool
+        ensures { IsTrue result ↔ IsInterface self.now }
+    {
+        self.file.flags.has(Flags::INTERFACE)
+    }
+}
