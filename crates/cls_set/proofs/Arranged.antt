@@ -70,7 +70,7 @@ module _ (files : List ClassFile) (entries : List Entry) (of : AreOf files entri
       (subst (λ r. KeepBelow (origins_of entries) (set_rule_number r)) is before))
 
   all_long : length entries ≡ length (origins files)
-  all_long = sym (length-map entries (λ (m : Entry). origin m.class)) ∙ sym (length_permutation (origins files) (origins_of entries) of.held)
+  all_long = sym (length-map entries (λ (m : Entry). origin m.class)) ∙ length_permutation (origins files) (origins_of entries) of.held
 
   -- the count of the classes
   pub many_fault : KeepBelow (origins_of entries) (set_rule_number rules.TooMany) → (last : Option (List ℕ)) → last ≡ option_map (λ (file : ClassFile). file.name) (slice_get files (length files - 1)) → (fault : SetFault) → 4096 < length entries → IfSome last (λ name. IsFaultOf rules.TooMany name fault) → IsSome last → IsSetFault files fault

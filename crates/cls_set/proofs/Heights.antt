@@ -26,7 +26,7 @@ count_none : (n : ℕ) → count_by (λ (b : Bool). b) (replicate n false) ≡ 0
 count_none zero = refl
 count_none (suc n) = count_cons false (replicate n false) ∙ (zero-add (count_by (λ (b : Bool). b) (replicate n false)) ∙ count_none n)
 
-long_none : (n : ℕ) → length (replicate n false) ≡ n
+pub long_none : (n : ℕ) → length (replicate n false) ≡ n
 long_none zero = refl
 long_none (suc n) = ap suc (long_none n)
 

@@ -1,5 +1,5 @@
 -- The classes of a set that is built have few enough numbers.
-use Rattle.std.proofs.Common.{◌≡◌, ◌<◌, List, [], ◌∷◌, ◌++◌, length, get_or, refl, subst, arith}
+use Rattle.std.proofs.Common.{◌≡◌, ◌<◌, ◌≤◌, List, [], ◌∷◌, ◌++◌, length, get_or, refl, subst, arith}
 use Rattle.std.specs.Prelude.{All, Contains}
 use Rattle.std.proofs.lemmas.List.Elements.{All-contains, Contains-append_right}
 use Rattle.cls_set.specs.declared.class.Class.{Class}
@@ -16,3 +16,7 @@ within_next done m rest all is within =
     let among : Contains all m = subst (λ xs. Contains xs m) is (Contains-append_right done (m ∷ rest) m first) in
     let class = subst (λ (x : Entry). Contains (classes_of all) x.class) among.2 (class_among all among.0 m among.1) in
     All-contains (λ (c : Class). All (λ (s : ClassId). s.0 < 4096) (ups c)) (classes_of all) m.class within class
+
+-- few classes have few numbers
+pub within_few : (entries : List Entry) → length entries ≤ 4096 → AreWithin (length entries) (classes_of entries) → AreWithin 4096 (classes_of entries)
+within_few entries few within k d h i e l = let low = within k d h i e l in omega (arith, low, few)

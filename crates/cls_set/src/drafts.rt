@@ -60,7 +60,7 @@ impl Model for Draft {
 }
 
 impl Draft {
-    ghost use Rattle.std.specs.Prelude.{◌↔◌, IsTrue};
+    ghost use Rattle.std.specs.Prelude.{◌≡◌, ◌↔◌, IsTrue};
     ghost use Rattle.cls_set.specs.Classes.{IsInterface};
 
     /// Returns whether it is an interface (JVMS 4.1).
@@ -68,5 +68,12 @@ impl Draft {
         ensures { IsTrue result ↔ IsInterface self.now }
     {
         self.file.flags.has(Flags::INTERFACE)
+    }
+
+    pub(crate) fn set_supertypes(&mut self, superclass: Option<Index>, interfaces: Row<Index>)
+        ensures { self.new ≡ record self.old { superclass = superclass; interfaces = interfaces } }
+    {
+        self.superclass = superclass;
+        self.interfaces = interfaces;
     }
 }

@@ -57,7 +57,8 @@ pub(crate) fn orders(alloc: Global, entries: &[Entry]) -> Result<Vec<Row<usize>>
 {
     let mut orders = Vec::new(alloc);
     for entry in entries {
-        let order = order(alloc, entry.class.file.methods.as_slice())?;
+        let class = &entry.class;
+        let order = order(alloc, class.file.methods.as_slice())?;
         orders.push(Row::new(order))?;
     }
     Ok(orders)

@@ -25,11 +25,14 @@ pub(crate) fn find_remote(
     ensures { IfOk result (λ remote. AreRemote entries.now remote.items) }
 {
     let mut remote = vec![in alloc; false; entries.len()]?;
-    if let Some(id) = find(entries, b"java/rmi/Remote") {
-        remote[id.get()] = true;
+    match find(entries, b"java/rmi/Remote") {
+        Some(id) => {
+            remote[id.get()] = true;
+            spread(entries, order, &mut remote);
+            Ok(remote)
+        }
+        None => Ok(remote),
     }
-    spread(entries, order, &mut remote);
-    Ok(remote)
 }
 
 fn names_remote_interface(entries: &[Entry], remote: &[bool], name: &Text) -> bool

@@ -78,9 +78,8 @@ fn resolve_at(alloc: Global, entries: &mut Vec<Entry>, index: usize) -> Result<(
     if members_name_absent(entries.as_slice(), &class.file) {
         return Err(broken(SetRule::AbsentClass, &class.file.name));
     }
-    let class = &mut entries[index].class;
-    class.superclass = superclass;
-    class.interfaces = interfaces;
+    let entry = &mut entries[index];
+    entry.class.set_supertypes(superclass, interfaces);
     Ok(())
 }
 

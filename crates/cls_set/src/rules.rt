@@ -7,6 +7,7 @@ ghost use Rattle.cls_set.specs.ClassRules.{set_rule, AreFacts, ExtendsOneWith, I
 ghost use Rattle.cls_set.specs.FaultNames.{set_rule_number};
 ghost use Rattle.cls_set.specs.Faults.{Keeps};
 ghost use Rattle.cls_set.specs.Entries.{classes_of, AreArranged};
+ghost use Rattle.cls_set.specs.Marks.{IsMarked};
 ghost use Rattle.cls_set.specs.Rules.{Breaks};
 ghost use Rattle.cls_set.specs.declared.fault.SetRule.TheVariants.{BadSuper, TooMany};
 
@@ -69,7 +70,8 @@ fn implements_class(entries: &[Entry], class: &Draft) -> bool
     ensures { IsTrue result ↔ ImplementsClass (origins_of entries.now) class.now.file }
 {
     for interface in class.interfaces.as_slice() {
-        if !entries[interface.get()].class.is_interface() {
+        let index = interface.get();
+        if !entries[index].class.is_interface() {
             return true;
         }
     }
@@ -131,6 +133,26 @@ pub(crate) fn find_facts(alloc: Global, entries: &[Entry]) -> Result<Facts, Allo
     })
 }
 
+impl Facts {
+    fn is_remote(&self, index: usize) -> bool
+        ensures { IsTrue result ↔ IsMarked self.now.remote.items index }
+    {
+        is_in(self.remote.as_slice(), index)
+    }
+
+    fn has_unfit_field(&self, index: usize) -> bool
+        ensures { IsTrue result ↔ (IsMarked self.now.remote.items index × IsMarked self.now.fields.items index) }
+    {
+        self.is_remote(index) && is_in(self.fields.as_slice(), index)
+    }
+
+    fn has_unfit_method(&self, index: usize) -> bool
+        ensures { IsTrue result ↔ (IsMarked self.now.remote.items index × IsMarked self.now.methods.items index) }
+    {
+        self.is_remote(index) && is_in(self.methods.as_slice(), index)
+    }
+}
+
 fn breaks(entries: &[Entry], facts: &Facts, index: usize, rule: ClassRule) -> bool
     requires arranged { AreArranged entries.now }
     requires facts { AreFacts entries.now facts.now }
@@ -138,18 +160,13 @@ fn breaks(entries: &[Entry], facts: &Facts, index: usize, rule: ClassRule) -> bo
     ensures { (c : Class) → slice_get (classes_of entries.now) index ≡ Some c → IsTrue result ↔ Breaks (origins_of entries.now) c.file (set_rule rule) }
 {
     let class = &entries[index].class;
-    let is_remote = is_in(facts.remote.as_slice(), index);
     match rule {
         ClassRule::BadSuper => has_bad_super(entries, class),
         ClassRule::FinalSuper => extends_one_with(entries, class, Flags::FINAL),
-        ClassRule::RemoteField => {
-            !class.is_interface() && is_remote && is_in(facts.fields.as_slice(), index)
-        }
-        ClassRule::RemoteMethod => {
-            class.is_interface() && is_remote && is_in(facts.methods.as_slice(), index)
-        }
+        ClassRule::RemoteField => !class.is_interface() && facts.has_unfit_field(index),
+        ClassRule::RemoteMethod => class.is_interface() && facts.has_unfit_method(index),
         ClassRule::Override => overrides_badly(entries, facts.orders.as_slice(), index),
-        ClassRule::NotYet => !class.is_interface() && is_remote,
+        ClassRule::NotYet => !class.is_interface() && facts.is_remote(index),
     }
 }
 

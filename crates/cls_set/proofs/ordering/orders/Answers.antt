@@ -17,7 +17,7 @@ loop-entry-preserved c =
     rw c.in_ok-push.ensures.items (order_more (classes_of entries) n c.loop-entry.orders.items row c.loop-entry.invariant
     (λ k e.
     let same = same_some (sym (class_read entries c.entry-item.result n n refl c.loop-entry-test.true) ∙ e) in
-    subst (λ (x : Class). IsOrder x.file.methods row) same (subst (λ (x : Entry). IsOrder x.class.file.methods row) c.entry-item.is (subst (λ ms. IsOrder ms row) c.as_slice.ensures.items here))))
+    subst (λ (x : Class). IsOrder x.file.methods row) same (subst (λ (x : Entry). IsOrder x.class.file.methods row) c.entry-item.is (subst (λ (x : Class). IsOrder x.file.methods row) c.class.view_is (subst (λ ms. IsOrder ms row) c.as_slice.ensures.items here)))))
 
 pub returns : goal.returns
 returns c =

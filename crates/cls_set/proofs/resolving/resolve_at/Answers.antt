@@ -6,7 +6,8 @@ use Rattle.space_ids.specs.declared.ids.ClassId.{ClassId}
 use Rattle.std.proofs.Math.Seq.{map-set_same}
 use Rattle.cls_set.specs.Building.{kept}
 use Rattle.std.proofs.lemmas.Result.{err_from_is_err_and}
-use Rattle.cls_set.specs.Building.{IsClassFault, IsWhole, MembersNameAbsent}
+use Rattle.cls_set.specs.Building.{IsClassFault, IsFaultOf, IsWhole, MembersNameAbsent}
+use Rattle.cls_set.specs.declared.fault.SetRule.TheVariants.{AbsentClass}
 use Rattle.cls_set.specs.declared.entries.Entry.{Entry}
 use Rattle.cls_set.specs.Classes.{names}
 use Rattle.cls_set.specs.Entries.{classes_of}
@@ -15,7 +16,7 @@ use Rattle.cls_set.proofs.Hierarchy.{same_read, true_false}
 use Rattle.cls_set.proofs.resolving.resolve_at.Goals as goal
 
 pub returns-clause-kept : goal.returns-clause-kept
-returns-clause-kept c = map-set_same kept c.args.entries.now.items c.args.index _ c.index_mut-entry.result.now (ap kept c.index_mut-entry.ensures.value)
+returns-clause-kept c = rw c.set_supertypes.ensures (map-set_same kept c.args.entries.now.items c.args.index _ c.index_mut-entry.result.now (ap kept c.index_mut-entry.ensures.value))
 
 pub returns-in_err-superclass-clause-absent : goal.returns-in_err-superclass-clause-absent
 returns-in_err-superclass-clause-absent c =
@@ -41,9 +42,10 @@ returns-then-members_name_absent-clause-absent c =
     let ms = c.args.entries.now.items in
     let m = c.index.result.now in
     let e = c.broken.result in
-    let absent = subst (λ xs. MembersNameAbsent (names (classes_of xs)) m.class.file) c.as_slice-3.ensures.value (c.members_name_absent.ensures.0 c.if-members_name_absent.true) in
+    let own = subst (λ (x : Class). MembersNameAbsent (names (classes_of c.as_slice-3.result.now)) x.file) c.class.view_is (c.members_name_absent.ensures.0 c.if-members_name_absent.true) in
+    let absent = subst (λ xs. MembersNameAbsent (names (classes_of xs)) m.class.file) c.as_slice-3.ensures.value own in
     λ d. subst (λ (x : Entry). IsClassFault (names (classes_of ms)) x.class.file e) (c.index.ensures ∙ same_read ms c.args.index m d c.requires.within)
-    (members_missing (names (classes_of ms)) m.class.file e absent c.broken.ensures)
+    (members_missing (names (classes_of ms)) m.class.file e absent (subst (λ (x : Class). IsFaultOf AbsentClass x.file.name e) c.class.view_is c.broken.ensures))
 
 pub returns-clause-resolved : goal.returns-clause-resolved
 returns-clause-resolved c =
@@ -57,7 +59,7 @@ returns-clause-resolved c =
     let superclass = subst (λ xs. option_map (λ (id : ClassId). slice_get (names (classes_of xs)) id.0) new.superclass ≡ option_map (λ (name : List ℕ). Some name) m.class.file.superclass) c.as_slice.ensures.value c.in_ok-superclass.ensures.ok in
     let interfaces = subst (λ xs. map (λ (id : ClassId). slice_get (names (classes_of xs)) id.0) new.interfaces ≡ map (λ (name : List ℕ). Some name) m.class.file.interfaces) c.as_slice-2.ensures.value c.in_ok-interfaces.ensures.ok in
     let present : MembersNameAbsent ns m.class.file → ⊥ = λ a.
-    true_false (sym (c.members_name_absent.ensures.1 (subst (λ xs. MembersNameAbsent (names (classes_of xs)) m.class.file) (sym c.as_slice-3.ensures.value) a)) ∙ c.if-members_name_absent.false)
+    true_false (sym (c.members_name_absent.ensures.1 (subst (λ (x : Class). MembersNameAbsent (names (classes_of c.as_slice-3.result.now)) x.file) (sym c.class.view_is) (subst (λ xs. MembersNameAbsent (names (classes_of xs)) m.class.file) (sym c.as_slice-3.ensures.value) a))) ∙ c.if-members_name_absent.false)
     in
     let is : IsWhole ns new =
     whole ns new
@@ -66,4 +68,4 @@ returns-clause-resolved c =
       interfaces = subst (λ (f : ClassFile). map (λ (id : ClassId). slice_get ns id.0) new.interfaces ≡ map (λ (name : List ℕ). Some name) f.interfaces) same interfaces;
     }) (subst (λ f. MembersNameAbsent ns f → ⊥) same present)
     in
-    λ d. subst (λ (x : Entry). IsWhole ns x.class) (sym (get_or-set_same ms k (record { class = new; rank = n.rank }) d c.requires.within)) is
+    rw c.set_supertypes.ensures (λ d. subst (λ (x : Entry). IsWhole ns x.class) (sym (get_or-set_same ms k (record { class = new; rank = n.rank }) d c.requires.within)) is)

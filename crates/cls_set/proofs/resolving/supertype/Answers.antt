@@ -1,4 +1,7 @@
-use Rattle.std.proofs.Common.{◌∙◌, sym, ap}
+use Rattle.std.proofs.Common.{◌∙◌, sym, subst, ap}
+use Rattle.cls_set.specs.declared.class.Class.{Class}
+use Rattle.cls_set.specs.declared.fault.SetRule.TheVariants.{AbsentClass}
+use Rattle.cls_set.specs.Building.{IsFaultOf}
 use Rattle.cls_set.specs.Classes.{names, number_of}
 use Rattle.cls_set.specs.Entries.{classes_of}
 use Rattle.cls_set.proofs.Absent.{missing, name_absent}
@@ -14,4 +17,4 @@ pub returns-in-None-clause-absent : goal.returns-in-None-clause-absent
 returns-in-None-clause-absent c =
     let classes = classes_of c.args.entries.now in
     missing (names classes) c.args.name.now c.args.class.now.file.name c.broken.result
-    (name_absent classes c.args.name.now (ap (number_of classes) (sym c.as_bytes.ensures) ∙ sym c.in-None.ensures.number)) c.broken.ensures
+    (name_absent classes c.args.name.now (ap (number_of classes) (sym c.as_bytes.ensures) ∙ sym c.in-None.ensures.number)) (subst (λ (x : Class). IsFaultOf AbsentClass x.file.name c.broken.result) c.class.view_is c.broken.ensures)

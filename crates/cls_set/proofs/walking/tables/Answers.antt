@@ -9,8 +9,8 @@ loop-index-preserved c =
     let classes = classes_of c.args.entries.now in
     let k = c.loop-index.index in
     let walk = c.in_ok-walk.walk in (
-      ap length c.in_ok-push.ensures.items ∙ (length-append c.loop-index.tables.items (c.new-2.result ∷ []) ∙ ap (λ n. n + 1) c.loop-index.invariant.0),
-      table_more classes c.loop-index.tables.items k c.new-2.result _ c.loop-index.invariant.0 c.in_ok-push.ensures.items c.loop-index.invariant.1 (subst (IsTable classes k) (sym c.new-2.ensures) (table_of classes k walk (subst (λ i. IsWalked classes i walk) c.new.ensures c.in_ok-walk.ensures))),
+      ap length c.in_ok-push.ensures.items ∙ (length-append c.loop-index.tables.items (c.new-in-loop-index.result ∷ []) ∙ ap (λ n. n + 1) c.loop-index.invariant.0),
+      table_more classes c.loop-index.tables.items k c.new-in-loop-index.result _ c.loop-index.invariant.0 c.in_ok-push.ensures.items c.loop-index.invariant.1 (subst (IsTable classes k) (sym c.new-in-loop-index.ensures) (table_of classes k walk (subst (λ i. IsWalked classes i walk) c.new.ensures c.in_ok-walk.ensures))),
     )
 
 pub returns : goal.returns
