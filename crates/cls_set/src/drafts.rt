@@ -52,10 +52,10 @@ impl Model for Draft {
     ghost Value = { Class };
 
     ghost view = { λ draft. record {
-        file = draft.file;
-        superclass = draft.superclass;
-        interfaces = draft.interfaces;
-        is_built_in = draft.is_built_in;
+      file = draft.file;
+      superclass = draft.superclass;
+      interfaces = draft.interfaces;
+      is_built_in = draft.is_built_in;
     } };
 }
 

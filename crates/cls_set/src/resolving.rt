@@ -47,11 +47,7 @@ fn superclass(entries: &[Entry], class: &Draft) -> Result<Option<Index>, SetFaul
     }
 }
 
-fn superinterfaces(
-    alloc: Global,
-    entries: &[Entry],
-    class: &Draft,
-) -> Result<Row<Index>, SetFault>
+fn superinterfaces(alloc: Global, entries: &[Entry], class: &Draft) -> Result<Row<Index>, SetFault>
     requires { AreOrdered entries.now }
     ensures ok { IfOk result (λ ids. map (λ id. slice_get (names (classes_of entries.now)) id.0) ids ≡ map (λ name. Some name) class.now.file.interfaces) }
     ensures absent { IfErr result (IsClassFault (names (classes_of entries.now)) class.now.file) }
