@@ -1,2 +1,3 @@
 pub mod CoreLemmas
+pub mod RootLemmas
 pub mod SweepLemmas

@@ -4,7 +4,6 @@ use Rattle.std.specs.List.{list_any}
 use Rattle.std.specs.Map.{values_of}
 use Rattle.std.proofs.lemmas.Bool.{eqb-true, eq-eqb, ne_eqb, eqb-false}
 use Rattle.std.proofs.lemmas.List.{take_more}
-use Rattle.std.proofs.lemmas.List.Elements.{filter_more}
 use Rattle.std.proofs.lemmas.List.Folds.{list_any-append, list_any_more}
 use Rattle.std.proofs.lemmas.Option.{slice_get_within, get_or_from_slice_get}
 use Rattle.dgc_client.specs.Table as client
@@ -21,7 +20,7 @@ use Rattle.sp_results.specs.Waiting.{is_waiting, without}
 use Rattle.sp_rules.specs.Classes.{Setting}
 use Rattle.sp_rules.specs.Events.{Output, Withdrawn, Sweep, RootAck, Says, in_order}
 use Rattle.sp_rules.specs.Frames.{release, let_go}
-use Rattle.sp_rules.specs.Holders.{drop, drop_ids, fields_of, has_reason, has_entry, is_bound, is_held_by_tasks, is_in_a_field, is_in_a_result, is_parked, in_frame}
+use Rattle.sp_rules.specs.Holders.{drop, drop_ids, fields_of, has_reason, has_entry, is_bound, is_held_by_tasks, is_in_a_field, is_in_a_result, in_frame}
 use Rattle.sp_rules.specs.Laws.{AllOf}
 use Rattle.sp_rules.specs.Lists.{each}
 use Rattle.sp_rules.specs.OwnEvents.{on_sweep, is_of_root, sweep_of, without_reason}
@@ -121,7 +120,9 @@ acked g s core task results new is =
         entries = is.entries;
         leases = is.leases;
         tasks_made = is.tasks_made;
+        fuel = is.fuel;
         tasks = is.tasks;
+        numbers = is.numbers;
         calls_made = is.calls_made;
         results = ap (map kept) new ∙ sym (kept-filter task core.results) ∙ ap (filter (λ r. not (is_of_root task r))) is.results;
         alone = record {
@@ -267,7 +268,9 @@ sweeps g s core store entries ids is gone after same holds told =
         entries = told;
         leases = is.leases;
         tasks_made = is.tasks_made;
+        fuel = is.fuel;
         tasks = is.tasks;
+        numbers = is.numbers;
         calls_made = is.calls_made;
         results = is.results;
         alone = record {

@@ -1,5 +1,5 @@
 -- When a core is in the state that the rules of spaces give: one line a part. (This project's own.)
-use Rattle.std.specs.Prelude.{◌≡◌, ℕ, List, [], Option, map}
+use Rattle.std.specs.Prelude.{◌≡◌, ◌≤◌, ℕ, List, [], Option, map}
 use Rattle.dgc_client.specs.Table as client
 use Rattle.dgc_list.specs.History as owner
 use Rattle.space_ids.specs.declared.ids.ObjId.{ObjId}
@@ -50,7 +50,9 @@ pub record IsCore (g : Setting) (s : State) (core : SpaceCore) : Type 0 where
   pub entries : owner.IsAfter s.owner.entries core.entries
   pub leases : client.IsAfter s.leases core.leases
   pub tasks_made : core.tasks_made ≡ s.tasks_made
+  pub fuel : core.fuel ≡ g.limits.fuel
   pub tasks : core.tasks.entries ≡ map seen s.tasks
+  pub numbers : AllOf (λ (row : ℕ × List Ref). row.0 ≤ core.tasks_made) core.tasks.entries
   pub calls_made : core.calls_made ≡ s.calls_made
   pub results : map kept core.results ≡ s.results
   pub alone : IsAlone g s

@@ -17,8 +17,10 @@ event_of (event.Unbind name) = rules.Unbind name
 
 -- the output of the rules
 abbrev pub output_of : Output → rules.Output
+output_of (output.Started task) = rules.Started task
 output_of (output.Withdrawn ids) = rules.Withdrawn ids
 output_of (output.Denied fault) = rules.Denied fault
+output_of (output.Ready task) = rules.Ready task
 
 -- what is answered with one output, or with none
 abbrev pub told : Option Output → List rules.Output

@@ -1,4 +1,5 @@
 pub mod Cores
 pub mod Events
 pub mod FaultNames
+pub mod Roots
 pub mod Sweeps

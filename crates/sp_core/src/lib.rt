@@ -5,12 +5,13 @@
 //! leaves, and answers what the rules say.
 #![tactic(auto)]
 
-pub use event::{Event, Output};
-pub use fault::CoreFault;
+pub use event::{Event, Output, Root};
+pub use fault::{CoreFault, StartFault};
 pub use space::SpaceCore;
 
 mod event;
 mod fault;
 mod living;
+mod roots;
 mod space;
 mod sweep;

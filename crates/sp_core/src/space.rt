@@ -35,23 +35,26 @@ const END: u64 = 1 << 63;
 /// A contract names the states of the rules that the value may stand for.
 #[derive(Debug, Drop)]
 pub struct SpaceCore {
-    alloc: Global,
+    pub(crate) alloc: Global,
     id: Uuid,
     moment: u64,
     store: Store,
     names: Registry,
     entries: RefList,
     leases: Clients,
-    tasks_made: u64,
-    tasks: IndexMap<u64, LivingTask>,
+    // With how much fuel a task may start.
+    pub(crate) fuel: u64,
+    pub(crate) tasks_made: u64,
+    pub(crate) tasks: IndexMap<u64, LivingTask>,
     calls_made: u64,
     results: Results,
 }
 
 impl SpaceCore {
-    /// The core of the space of this id, to which nothing has happened.
-    pub fn new(alloc: Global, id: Uuid) -> Result<SpaceCore, AllocError>
-        ensures { IfOk result (λ core. (g : Setting) → g.id ≡ id → IsCore g opening core) }
+    /// The core of the space of this id, whose tasks start with at most this fuel. Nothing has happened
+    /// to it.
+    pub fn new(alloc: Global, id: Uuid, fuel: u64) -> Result<SpaceCore, AllocError>
+        ensures { IfOk result (λ core. (g : Setting) → g.id ≡ id → g.limits.fuel ≡ fuel → IsCore g opening core) }
     {
         Ok(SpaceCore {
             alloc,
@@ -61,6 +64,7 @@ impl SpaceCore {
             names: Registry::new(alloc),
             entries: RefList::new(alloc),
             leases: Clients::new(alloc),
+            fuel,
             tasks_made: 0,
             tasks: IndexMap::new(alloc),
             calls_made: 0,
@@ -236,8 +240,9 @@ impl SpaceCore {
     }
 
     // Whether the next number of an object, a task, a call, or a dirty or clean call would be 2^63.
-    fn is_worn(&self) -> bool
-        ensures { (g : Setting) (s : State) → IsCore g s self.now → result ≡ is_worn s }
+    pub(crate) fn is_worn(&self) -> bool
+        ensures in_range { result ≡ false → self.now.tasks_made + 1 < 2 ^ 63 }
+        ensures worn { (g : Setting) (s : State) → IsCore g s self.now → result ≡ is_worn s }
     {
         is_last(self.store.made())
             || (is_last(self.tasks_made)
@@ -245,7 +250,7 @@ impl SpaceCore {
     }
 
     // Whether the reference is of a standing own object, of its class.
-    fn is_own_standing(&self, reference: &Ref) -> bool
+    pub(crate) fn is_own_standing(&self, reference: &Ref) -> bool
         ensures { (g : Setting) (s : State) → IsCore g s self.now → result ≡ is_own_standing g s reference.now }
     {
         reference.space == self.id

@@ -1,7 +1,4 @@
-use Rattle.std.proofs.Common.{◌≡◌, rules}
-use Rattle.std.specs.Prelude.{IfErr}
-use Rattle.sp_core.specs.declared.fault.CoreFault.TheVariants as fault
-use Rattle.sp_core.proofs.CoreLemmas.{if-err, refused-memory, refused-none, refused-some}
+use Rattle.sp_core.proofs.CoreLemmas.{refused-some}
 use Rattle.sp_core.proofs.space.SpaceCore.on.Goals as goal
 
 pub returns-in-Some-clause-refused : goal.returns-in-Some-clause-refused
