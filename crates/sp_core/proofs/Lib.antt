@@ -1,3 +1,4 @@
 pub mod CoreLemmas
+pub mod LendLemmas
 pub mod RootLemmas
 pub mod SweepLemmas

@@ -25,7 +25,8 @@ use Rattle.sp_rules.specs.Refusals.{NotHeld, WrongKind, Busy, WornOut, checks, f
 use Rattle.sp_rules.specs.Space.{on, happen, conclude, finish_event}
 use Rattle.sp_rules.specs.State.{State, Object, Living, KeptResult, ParkedFrame, OfRoot, object_at, say, standing}
 use Rattle.sp_rules.specs.Tasks.{start}
-use Rattle.sp_core.specs.Cores.{AreOwn, IsAlone, IsCore, kept, seen}
+use Rattle.sp_core.specs.Cores.{AreOwn, IsAlone, IsCore, held_row, kept, seen}
+use Rattle.sp_core.specs.Rows.{LivingRow}
 use Rattle.sp_core.specs.FaultNames.{start_refusal}
 use Rattle.sp_core.specs.Roots.{root_number}
 use Rattle.sp_core.specs.declared.fault.StartFault.{StartFault}
@@ -110,7 +111,7 @@ by-cases None true false false = refl
 busy-is : (g : Setting) (s : State) (core : SpaceCore) → IsCore g s core → nat_le 4096 (length core.tasks.entries) ≡ is_busy s
 busy-is g s core is =
     let none : length s.tasks ≡ length s.tasks + 0 = omega arith in
-    ap (nat_le 4096) (ap length is.tasks ∙ length-map s.tasks seen ∙ none ∙ (λ j. length s.tasks + length (filter (λ (p : ParkedFrame). is_call_frame p.frame) (sym is.alone.parked j))))
+    ap (nat_le 4096) (sym (length-map core.tasks.entries held_row) ∙ ap length is.tasks ∙ length-map s.tasks seen ∙ none ∙ (λ j. length s.tasks + length (filter (λ (p : ParkedFrame). is_call_frame p.frame) (sym is.alone.parked j))))
 
 pub root-checks : (g : Setting) (lent : List ℕ) (s : State) (core : SpaceCore) (method : ℕ) (arguments : List Value) (fuel : ℕ) (refused : Option StartFault) (are_own is_over busy : Bool) → IsCore g s core
     → g.classes.start_refusal g.id method arguments ≡ option_map start_refusal refused
@@ -176,13 +177,13 @@ on-root g s method arguments fuel alone own =
     ap (λ u. finish_event true (say (Ready id) u)) (hold-own g (with_references [] (references_of arguments)) (say (Started id) (added g method arguments fuel s)) own)
     ∙ finish-started (added g method arguments fuel s) id alone.held alone.fresh alone.notes
 
-insert-last : (k : ℕ) (v : List Ref) (es : List (ℕ × List Ref)) (n : ℕ) → AllOf (λ (row : ℕ × List Ref). row.0 ≤ n) es → n < k → insert_entry nat_eq es k v ≡ es ++ (k, v) ∷ []
+insert-last : (k : ℕ) (v : LivingRow) (es : List (ℕ × LivingRow)) (n : ℕ) → AllOf (λ (row : ℕ × LivingRow). row.0 ≤ n) es → n < k → insert_entry nat_eq es k v ≡ es ++ (k, v) ∷ []
 insert-last k v [] n all lt = refl
 insert-last k v (e ∷ es) n all lt =
     let low : e.0 ≤ n = all.0 in
     ap (λ t. cond t ((e.0, v) ∷ es) (e ∷ insert_entry nat_eq es k v)) (ne_eqb k e.0 (λ same. omega (arith, low, lt, same))) ∙ ap (λ rs. e ∷ rs) (insert-last k v es n all.1 lt)
 
-numbers-more : (es : List (ℕ × List Ref)) (v : List Ref) (n : ℕ) → AllOf (λ (row : ℕ × List Ref). row.0 ≤ n) es → AllOf (λ (row : ℕ × List Ref). row.0 ≤ n + 1) (es ++ (n + 1, v) ∷ [])
+numbers-more : (es : List (ℕ × LivingRow)) (v : LivingRow) (n : ℕ) → AllOf (λ (row : ℕ × LivingRow). row.0 ≤ n) es → AllOf (λ (row : ℕ × LivingRow). row.0 ≤ n + 1) (es ++ (n + 1, v) ∷ [])
 numbers-more [] v n all = (omega arith, tt)
 numbers-more (e ∷ es) v n all = let low : e.0 ≤ n = all.0 in (omega (arith, low), numbers-more es v n all.1)
 
@@ -203,26 +204,26 @@ tasks-same g s core new entries rest is = record {
   leases = subst (λ (c : SpaceCore). client.IsAfter s.leases c.leases) (sym rest) is.leases;
   tasks_made = ap (λ (c : SpaceCore). c.tasks_made) rest ∙ is.tasks_made;
   fuel = ap (λ (c : SpaceCore). c.fuel) rest ∙ is.fuel;
-  tasks = entries ∙ is.tasks;
-  numbers = subst (AllOf (λ (row : ℕ × List Ref). row.0 ≤ new.tasks_made)) (sym entries)
-      (subst (λ (c : SpaceCore). AllOf (λ (row : ℕ × List Ref). row.0 ≤ c.tasks_made) core.tasks.entries) (sym rest) is.numbers);
+  tasks = ap (map held_row) entries ∙ is.tasks;
+  numbers = subst (AllOf (λ (row : ℕ × LivingRow). row.0 ≤ new.tasks_made)) (sym entries)
+      (subst (λ (c : SpaceCore). AllOf (λ (row : ℕ × LivingRow). row.0 ≤ c.tasks_made) core.tasks.entries) (sym rest) is.numbers);
   calls_made = ap (λ (c : SpaceCore). c.calls_made) rest ∙ is.calls_made;
   results = ap (λ (c : SpaceCore). map kept c.results) rest ∙ is.results;
   alone = is.alone;
 }
 
-pub rooted : (g : Setting) (s : State) (core new : SpaceCore) (method : ℕ) (arguments : List Value) (fuel : ℕ) (held : List Ref) → IsCore g s core
-    → list_all (is_own_standing g s) (references_of arguments) ≡ true → held ≡ with_references [] (references_of arguments)
-    → new.tasks_made ≡ core.tasks_made + 1 → new.tasks.entries ≡ insert_entry nat_eq core.tasks.entries new.tasks_made held
+pub rooted : (g : Setting) (s : State) (core new : SpaceCore) (method : ℕ) (arguments : List Value) (fuel : ℕ) (row : LivingRow) → IsCore g s core
+    → list_all (is_own_standing g s) (references_of arguments) ≡ true → row.held ≡ with_references [] (references_of arguments)
+    → new.tasks_made ≡ core.tasks_made + 1 → new.tasks.entries ≡ insert_entry nat_eq core.tasks.entries new.tasks_made row
     → record new { tasks = core.tasks; tasks_made = core.tasks_made } ≡ core
     → IsCore g (on g (Root method arguments fuel) s).0 new × ((on g (Root method arguments fuel) s).1 ≡ Started new.tasks_made ∷ Ready new.tasks_made ∷ [])
 unfolding start
-rooted g s core new method arguments fuel held is standing-all held-is more entries rest =
+rooted g s core new method arguments fuel row is standing-all held-is more entries rest =
     let own : AreOwn g (with_references [] (references_of arguments)) = own-fold g s [] (references_of arguments) refl standing-all in
     let after = on-root g s method arguments fuel is.alone own in
     let number : new.tasks_made ≡ s.tasks_made + 1 = more ∙ ap (λ n. n + 1) is.tasks_made in
-    let last : new.tasks.entries ≡ core.tasks.entries ++ (core.tasks_made + 1, held) ∷ [] =
-    entries ∙ (λ j. insert_entry nat_eq core.tasks.entries (more j) held) ∙ insert-last (core.tasks_made + 1) held core.tasks.entries core.tasks_made is.numbers (omega arith) in (
+    let last : new.tasks.entries ≡ core.tasks.entries ++ (core.tasks_made + 1, row) ∷ [] =
+    entries ∙ (λ j. insert_entry nat_eq core.tasks.entries (more j) row) ∙ insert-last (core.tasks_made + 1) row core.tasks.entries core.tasks_made is.numbers (omega arith) in (
       subst (λ (t : State). IsCore g t new) (sym (ap (λ (p : State × List Output). p.0) after)) (record {
         id = ap (λ (c : SpaceCore). c.id) rest ∙ is.id;
         moment = ap (λ (c : SpaceCore). c.moment) rest ∙ is.moment;
@@ -234,9 +235,9 @@ rooted g s core new method arguments fuel held is standing-all held-is more entr
         leases = subst (λ (c : SpaceCore). client.IsAfter s.leases c.leases) (sym rest) is.leases;
         tasks_made = number;
         fuel = ap (λ (c : SpaceCore). c.fuel) rest ∙ is.fuel;
-        tasks = last ∙ (λ j. is.tasks j ++ (is.tasks_made j + 1, held-is j) ∷ []) ∙ sym (map-append seen s.tasks (new-task g (s.tasks_made + 1) method arguments fuel ∷ []));
-        numbers = subst (AllOf (λ (row : ℕ × List Ref). row.0 ≤ new.tasks_made)) (sym last)
-            (subst (λ (n : ℕ). AllOf (λ (row : ℕ × List Ref). row.0 ≤ n) (core.tasks.entries ++ (core.tasks_made + 1, held) ∷ [])) (sym more) (numbers-more core.tasks.entries held core.tasks_made is.numbers));
+        tasks = ap (map held_row) last ∙ map-append held_row core.tasks.entries ((core.tasks_made + 1, row) ∷ []) ∙ (λ j. is.tasks j ++ (is.tasks_made j + 1, held-is j) ∷ []) ∙ sym (map-append seen s.tasks (new-task g (s.tasks_made + 1) method arguments fuel ∷ []));
+        numbers = subst (AllOf (λ (row : ℕ × LivingRow). row.0 ≤ new.tasks_made)) (sym last)
+            (subst (λ (n : ℕ). AllOf (λ (row : ℕ × LivingRow). row.0 ≤ n) (core.tasks.entries ++ (core.tasks_made + 1, row) ∷ [])) (sym more) (numbers-more core.tasks.entries row core.tasks_made is.numbers));
         calls_made = ap (λ (c : SpaceCore). c.calls_made) rest ∙ is.calls_made;
         results = ap (λ (c : SpaceCore). map kept c.results) rest ∙ is.results;
         alone = record {
@@ -247,6 +248,7 @@ rooted g s core new method arguments fuel held is standing-all held-is more entr
           held = is.alone.held;
           fresh = is.alone.fresh;
           notes = is.alone.notes;
+          ready = all-append _ s.tasks (new-task g (s.tasks_made + 1) method arguments fuel) is.alone.ready refl;
           tasks = all-append _ s.tasks (new-task g (s.tasks_made + 1) method arguments fuel) is.alone.tasks own;
           fields = is.alone.fields;
           results = is.alone.results;

@@ -28,7 +28,8 @@ use Rattle.sp_rules.specs.References.{is_id, is_id_in, own_ids, references_in, r
 use Rattle.sp_rules.specs.Refusals.{UnknownTask, checks, first_refusal, refusal_number}
 use Rattle.sp_rules.specs.Space.{on, happen, conclude, finish_event}
 use Rattle.sp_rules.specs.State.{State, Object, Living, KeptResult, ParkedFrame, Gone, standing, say, tell_owner}
-use Rattle.sp_core.specs.Cores.{AreOwn, IsAlone, IsCore, kept, seen}
+use Rattle.sp_core.specs.Cores.{AreOwn, IsAlone, IsCore, held_row, kept, seen}
+use Rattle.sp_core.specs.Rows.{LivingRow}
 use Rattle.sp_core.specs.Sweeps.{forgotten, withdrawn}
 use Rattle.sp_core.specs.declared.space.SpaceCore.{SpaceCore}
 use Rattle.sp_core.proofs.CoreLemmas.{finish-none, settle-alone}
@@ -133,6 +134,7 @@ acked g s core task results new is =
           held = is.alone.held;
           fresh = is.alone.fresh;
           notes = is.alone.notes;
+          ready = is.alone.ready;
           tasks = is.alone.tasks;
           fields = is.alone.fields;
           results = all-filter _ (λ r. not (is_of_root task r)) s.results is.alone.results;
@@ -145,7 +147,7 @@ acked g s core task results new is =
 
 -- the tasks hold what their rows do
 held-any : (own : List ℕ) (id : ObjId) (tasks : List Living)
-    → list_any (λ (held : List Ref). is_id_in (own_ids own held) id) (values_of (map seen tasks)) ≡ list_any (λ (t : Living). is_id_in (own_ids own t.task.held) id) tasks
+    → list_any (λ (row : ℕ × List Ref). is_id_in (own_ids own row.1) id) (map seen tasks) ≡ list_any (λ (t : Living). is_id_in (own_ids own t.task.held) id) tasks
 held-any own id [] = refl
 held-any own id (t ∷ ts) = ap (λ b. is_id_in (own_ids own t.task.held) id || b) (held-any own id ts)
 
@@ -154,15 +156,20 @@ result-any : (own : List ℕ) (id : ObjId) (rows : List (ℕ × Option Value))
 result-any own id [] = refl
 result-any own id (row ∷ rows) = ap (λ b. is_id_in (own_ids own (references_in row.1)) id || b) (result-any own id rows)
 
+row-any : (own : List ℕ) (id : ObjId) (rows : List (ℕ × LivingRow))
+    → list_any (λ (row : LivingRow). is_id_in (own_ids own row.held) id) (values_of rows) ≡ list_any (λ (row : ℕ × List Ref). is_id_in (own_ids own row.1) id) (map held_row rows)
+row-any own id [] = refl
+row-any own id (row ∷ rows) = ap (λ b. is_id_in (own_ids own row.1.held) id || b) (row-any own id rows)
+
 pub needed-is : (g : Setting) (s : State) (core : SpaceCore) (id : ObjId) (n0 n1 n2 n3 : List ObjId) → IsCore g s core → n0 ≡ []
     → is_id_in n1 id ≡ (is_id_in n0 id || list_any (λ (b : Binding). is_id b.object id) core.names.bindings)
-    → is_id_in n2 id ≡ (is_id_in n1 id || list_any (λ (held : List Ref). is_id_in (own_ids core.id held) id) (values_of core.tasks.entries))
+    → is_id_in n2 id ≡ (is_id_in n1 id || list_any (λ (row : LivingRow). is_id_in (own_ids core.id row.held) id) (values_of core.tasks.entries))
     → is_id_in n3 id ≡ (is_id_in n2 id || list_any (λ (row : ℕ × Option Value). is_id_in (own_ids core.id (references_in row.1)) id) core.results)
     → is_id_in n3 id ≡ (is_bound s id || (is_held_by_tasks g s id || is_in_a_result g s id))
 needed-is g s core id n0 n1 n2 n3 is none bound tasks results =
     let b : is_id_in n1 id ≡ is_bound s id = bound ∙ (λ j. is_id_in (none j) id || list_any (λ (b : Binding). is_id b.object id) (is.names j)) in
-    let t : list_any (λ (held : List Ref). is_id_in (own_ids core.id held) id) (values_of core.tasks.entries) ≡ is_held_by_tasks g s id =
-    (λ j. list_any (λ (held : List Ref). is_id_in (own_ids (is.id j) held) id) (values_of (is.tasks j))) ∙ held-any g.id id s.tasks in
+    let t : list_any (λ (row : LivingRow). is_id_in (own_ids core.id row.held) id) (values_of core.tasks.entries) ≡ is_held_by_tasks g s id =
+    row-any core.id id core.tasks.entries ∙ (λ j. list_any (λ (row : ℕ × List Ref). is_id_in (own_ids (is.id j) row.1) id) (is.tasks j)) ∙ held-any g.id id s.tasks in
     let r : list_any (λ (row : ℕ × Option Value). is_id_in (own_ids core.id (references_in row.1)) id) core.results ≡ is_in_a_result g s id =
     (λ j. list_any (λ (row : ℕ × Option Value). is_id_in (own_ids (is.id j) (references_in row.1)) id) core.results) ∙ result-any g.id id core.results
     ∙ ap (list_any (λ (r : KeptResult). is_id_in (own_ids g.id (references_in r.value)) id)) is.results in
@@ -281,6 +288,7 @@ sweeps g s core store entries ids is gone after same holds told =
           held = is.alone.held;
           fresh = is.alone.fresh;
           notes = is.alone.notes;
+          ready = is.alone.ready;
           tasks = is.alone.tasks;
           fields = fields-left g s ids is.alone.fields;
           results = is.alone.results;
@@ -303,7 +311,7 @@ bound-more xs i d id a b c within so_far now =
     ∙ or-or a (list_any p (take i xs)) (list_any p (get_or xs i d ∷ []))
     ∙ ap (λ t. a || t) (sym (ap (list_any p) (take_more xs i d within) ∙ list_any-append p (take i xs) (get_or xs i d ∷ [])))
 
-pub held-more : (p : List Ref → Bool) (xs : List (List Ref)) (i : ℕ) (x : List Ref) (a b c : Bool) → slice_get xs i ≡ Some x
+pub held-more : (p : LivingRow → Bool) (xs : List LivingRow) (i : ℕ) (x : LivingRow) (a b c : Bool) → slice_get xs i ≡ Some x
     → b ≡ (a || list_any p (take i xs)) → c ≡ (b || p x) → c ≡ (a || list_any p (take (i + 1) xs))
 held-more p xs i x a b c at so_far now =
     now ∙ ap (λ t. t || p x) so_far ∙ or-or a (list_any p (take i xs)) (p x)

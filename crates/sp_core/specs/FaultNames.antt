@@ -17,6 +17,7 @@ start_refusal start.BadArgument = BadArgument
 abbrev pub core_fault_number : CoreFault → Option ℕ
 core_fault_number (fault.Start why) = Some (start_refusal_number (start_refusal why))
 core_fault_number fault.UnknownTask = Some 90
+core_fault_number fault.NotLent = Some 91
 core_fault_number fault.NotHeld = Some 92
 core_fault_number fault.WrongKind = Some 93
 core_fault_number fault.WornOut = Some 98

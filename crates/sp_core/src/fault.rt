@@ -29,6 +29,9 @@ pub enum CoreFault {
     /// 90: no result of this task is held.
     #[error("UnknownTask")]
     UnknownTask,
+    /// 91: a task that is not lent.
+    #[error("NotLent")]
+    NotLent,
     /// 92: a reference of no standing own object.
     #[error("NotHeld")]
     NotHeld,

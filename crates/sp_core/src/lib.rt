@@ -11,6 +11,7 @@ pub use space::SpaceCore;
 
 mod event;
 mod fault;
+mod lending;
 mod living;
 mod roots;
 mod space;

@@ -34,7 +34,7 @@ pub(crate) fn insert_held(
     tasks: &IndexMap<u64, LivingTask>,
     needed: &mut IdSet,
 ) -> Result<(), AllocError>
-    ensures { OnOk result ((id : ObjId) → is_id_in needed.new id ≡ (is_id_in needed.old id || list_any (λ held. is_id_in (own_ids own.now held) id) (values tasks.now))) }
+    ensures { OnOk result ((id : ObjId) → is_id_in needed.new id ≡ (is_id_in needed.old id || list_any (λ row. is_id_in (own_ids own.now row.held) id) (values tasks.now))) }
 {
     for index in 0..tasks.len() {
         needed.insert_references(own, tasks[index].held())?;
