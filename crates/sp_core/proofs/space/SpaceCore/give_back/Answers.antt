@@ -2,6 +2,7 @@ use Rattle.std.proofs.Common.{◌≡◌, ℕ, Bool, true, false, cond, nat_eq, O
 use Rattle.std.specs.Prelude.{◌&&◌, ◌==◌, not, is_some, option_map, unwrap_or}
 use Rattle.std.specs.Cmp.{nat_eq_equiv}
 use Rattle.std.specs.Map.{lookup}
+use Rattle.indexmap.specs.IndexMap.{with_value_at}
 use Rattle.indexmap.proofs.CallerLemmas.{updates-with_value_at}
 use Rattle.sp_rules.specs.Refusals.{NotLent}
 use Rattle.sp_core.specs.Cores.{is_lent}
@@ -42,5 +43,5 @@ returns-clause-others c = λ other.
     let m = c.args.self.now.tasks in
     let x = c.index_mut.result.now in
     let entry = entry-at c.args.task m.entries c.in-Some.index x (sym c.in-Some.ensures.index) c.index_mut.ensures.value in
-    flag-set c.args.self.now _ c.args.task c.give_back.new.self (λ q. (updates-with_value_at m c.in-Some.index c.give_back.new.self nat_eq_equiv c.in-Some.ensures.unique c.args.task x entry).0 q) other
+    flag-set c.args.self.now (record c.args.self.now { tasks = with_value_at m c.in-Some.index c.give_back.new.self }) c.args.task c.give_back.new.self (λ q. (updates-with_value_at m c.in-Some.index c.give_back.new.self nat_eq_equiv c.in-Some.ensures.unique c.args.task x entry).0 q) other
     ∙ back-and (other == c.args.task) c.give_back.new.self.lent (is_lent c.args.self.now other) (ap (λ (r : LivingRow). r.lent) c.give_back.ensures)
