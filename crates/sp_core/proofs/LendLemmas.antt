@@ -1,4 +1,4 @@
-use Rattle.std.proofs.Common.{◌≡◌, ℕ, zero, suc, ◌+◌, ◌<◌, ◌≤◌, Bool, true, false, cond, nat_eq, List, [], ◌∷◌, Option, None, Some, refl, sym, ap, subst, ◌∙◌, map, length, get_or, slice_get, position, arith}
+use Rattle.std.proofs.Common.{◌≡◌, ℕ, zero, suc, ◌<◌, ◌≤◌, Bool, true, false, cond, nat_eq, List, [], ◌∷◌, Option, None, Some, refl, sym, ap, subst, ◌∙◌, map, length, get_or, slice_get, position, arith}
 use Rattle.std.specs.Prelude.{not, find, is_some, ◌==◌, ◌&&◌, ◌||◌, option_map, unwrap_or}
 use Rattle.std.specs.List.{list_any}
 use Rattle.std.specs.Cmp.{nat_eq_equiv}
@@ -12,15 +12,15 @@ use Rattle.sp_store.specs.Stores as stores
 use Rattle.sp_store.specs.Stores.{holds_of, made}
 use Rattle.space_ids.specs.declared.ids.Ref.{Ref}
 use Rattle.sp_rules.specs.Classes.{Setting}
-use Rattle.sp_rules.specs.Events.{Output, GivenBack}
+use Rattle.sp_rules.specs.Events.{GivenBack}
 use Rattle.sp_rules.specs.Laws.{AllOf}
 use Rattle.sp_rules.specs.Lists.{at_first, with_some}
 use Rattle.sp_rules.specs.LivingTasks.{after_steps, give_back}
 use Rattle.sp_rules.specs.Refusals.{Refusal, NotLent, WornOut, is_in_hand, is_worn, refusal}
-use Rattle.sp_rules.specs.Space.{on, happen, finish_event}
-use Rattle.sp_rules.specs.State.{State, Living, ready_at, set_task, task_at, that_is_ready}
+use Rattle.sp_rules.specs.Space.{on, happen}
+use Rattle.sp_rules.specs.State.{State, Living, ready_at, set_task, that_is_ready}
 use Rattle.sp_rules.specs.Tasks.{Task, Stand, Runs, AsksFor, HasEnded, stand, step, step_at, steps}
-use Rattle.sp_core.specs.Cores.{AreOwn, IsAlone, IsCore, Lends, held_row, is_lent, kept, seen}
+use Rattle.sp_core.specs.Cores.{AreOwn, IsCore, Lends, held_row, is_lent, kept, seen}
 use Rattle.sp_core.specs.Rows.{LivingRow}
 use Rattle.sp_core.specs.declared.fault.CoreFault.TheVariants as fault
 use Rattle.sp_core.specs.FaultNames.{Refuses}

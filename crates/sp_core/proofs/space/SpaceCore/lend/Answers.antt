@@ -1,10 +1,9 @@
-use Rattle.std.proofs.Common.{◌≡◌, ℕ, Bool, true, false, cond, nat_eq, Option, None, Some, refl, sym, ap, subst, ◌∙◌}
-use Rattle.std.specs.Prelude.{◌&&◌, ◌==◌, not, is_some, option_map, unwrap_or}
+use Rattle.std.proofs.Common.{◌≡◌, true, nat_eq, None, Some, refl, sym, ap, ◌∙◌}
+use Rattle.std.specs.Prelude.{◌&&◌, ◌==◌, not}
 use Rattle.std.specs.Cmp.{nat_eq_equiv}
 use Rattle.std.specs.Map.{lookup}
 use Rattle.indexmap.specs.IndexMap.{with_value_at}
 use Rattle.indexmap.proofs.CallerLemmas.{updates-with_value_at}
-use Rattle.sp_rules.specs.Refusals.{NotLent}
 use Rattle.sp_core.specs.Cores.{is_lent}
 use Rattle.sp_core.specs.Rows.{LivingRow}
 use Rattle.sp_core.proofs.LendLemmas.{entry-at, flag-set, lent-by, lent-or, none-from, row-written}
