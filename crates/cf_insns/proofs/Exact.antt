@@ -143,16 +143,16 @@ breaks_after (suc k) offset (operand ∷ bytes) rule at is within =
 
 -- The targets of branches.
 
-begins_told : (offsets : List ℕ) (place : ℤ) → begins_at offsets place ≡ true → Begins offsets place
+begins_told : (offsets : List ℕ) (target : ℤ) → begins_at offsets target ≡ true → Begins offsets target
 begins_told offsets (pos n) is =
     let (k, offset, within, found, same) = Any-from_list_any (λ offset. eqb offset n) offsets is in
     (offset, (k, within, found), ap pos (sym (eqb-true offset n same)))
 begins_told offsets (negsuc n) is = absurd (false≢true is)
 
-begins_again : (offsets : List ℕ) (place : ℤ) → Begins offsets place → begins_at offsets place ≡ true
-begins_again offsets place begins =
-    let (offset, (k, within, found), place_is) = begins in
-    rw place_is (list_any-from_Any (λ o. eqb o offset) offsets (k, offset, within, found, eq-eqb offset offset refl))
+begins_again : (offsets : List ℕ) (target : ℤ) → Begins offsets target → begins_at offsets target ≡ true
+begins_again offsets target begins =
+    let (offset, (k, within, found), target_is) = begins in
+    rw target_is (list_any-from_Any (λ o. eqb o offset) offsets (k, offset, within, found, eq-eqb offset offset refl))
 
 lands_told : (offsets : List ℕ) (offset : ℕ) (branches : List ℤ) → all_land offsets offset branches ≡ true → AllByRecursion (λ branch. Begins offsets (pos offset +ℤ branch)) branches
 lands_told offsets offset [] is = tt

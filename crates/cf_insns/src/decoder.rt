@@ -26,7 +26,8 @@ fn fault_at(offset: u16, stop: Stop) -> CodeFault
 // The instructions from the first byte to the last, or the first broken rule.
 fn listing_of(alloc: Global, code: &[u8]) -> Result<Vec<(u16, Insn)>, CodeFault>
     requires { length code.now ≤ 65535 }
-    ensures exact { MatchResult result (λ listing. listing_from 0 0 code.now ≡ Ok listing.items) (λ fault. Fails fault (listing_from 0 0 code.now)) }
+    ensures exact { MatchResult result (λ listing. listing_from 0 0 code.now ≡ Ok listing.items)
+        (λ fault. Fails fault (listing_from 0 0 code.now)) }
     ensures rises { IfOk result (λ listing. Rises (offsets listing.items)) }
 {
     let mut listing = Vec::with_capacity(alloc, code.len())?;
@@ -82,7 +83,8 @@ fn do_branches_land(listing: &[(u16, Insn)], offset: u16, branches: &[i32]) -> b
 // Whether that of each case does.
 fn do_cases_land(listing: &[(u16, Insn)], offset: u16, cases: &[SwitchCase]) -> bool
     requires { Rises (offsets listing.now) }
-    ensures { result ≡ all_land (offsets listing.now) offset (map (λ (c : SwitchCase). c.branch) cases.now) }
+    ensures { result ≡ all_land (offsets listing.now) offset
+        (map (λ (c : SwitchCase). c.branch) cases.now) }
 {
     for case in cases {
         if !lands(listing, offset, case.branch) {
@@ -135,7 +137,8 @@ fn first_astray(listing: &[(u16, Insn)]) -> Option<u16>
 #[tactic(auto, unfolding(crate::specs::ReadListing::reading))]
 fn listing_with_targets(alloc: Global, code: &[u8]) -> Result<Vec<(u16, Insn)>, CodeFault>
     requires { length code.now ≤ 65535 }
-    ensures exact { MatchResult result (λ listing. reading code.now ≡ Ok listing.items) (λ fault. Fails fault (reading code.now)) }
+    ensures exact { MatchResult result (λ listing. reading code.now ≡ Ok listing.items)
+        (λ fault. Fails fault (reading code.now)) }
     ensures rises { IfOk result (λ listing. Rises (offsets listing.items)) }
 {
     let listing = listing_of(alloc, code)?;
@@ -158,7 +161,8 @@ pub fn decode(alloc: Global, code: &[u8]) -> Result<Vec<(u16, Insn)>, CodeFault>
 
     // What is Ok is the listing of the code. If there is one, the only fault is out of memory.
     ensures found { IfOk result (λ listing. IsListing code.now listing.items) }
-    ensures only { (listing : Listing) → IsListing code.now listing → MatchResult result (λ found. found.items ≡ listing) (λ fault. fault ≡ CodeFault.Memory) }
+    ensures only { (listing : Listing) → IsListing code.now listing
+        → MatchResult result (λ found. found.items ≡ listing) (λ fault. fault ≡ CodeFault.Memory) }
 
     // A fault says what is wrong at the offset that it names.
     ensures fault { IfErr result (Explains code.now) }

@@ -97,7 +97,8 @@ pub(crate) fn instruction(
     opcode: u8,
     operands: &[u8],
 ) -> Result<Spelled, Stop>
-    ensures exact { MatchResult result (λ spelled. spec.instruction offset opcode operands.now ≡ Ok spelled) (λ stop. Stops stop (spec.instruction offset opcode operands.now)) }
+    ensures exact { MatchResult result (λ spelled. spec.instruction offset opcode operands.now
+        ≡ Ok spelled) (λ stop. Stops stop (spec.instruction offset opcode operands.now)) }
     ensures within { IfOk result (λ spelled. spelled.operands ≤ length operands.now) }
 {
     match opcode {

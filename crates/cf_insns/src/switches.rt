@@ -38,7 +38,8 @@ fn read_branches(
     count: usize,
 ) -> Result<Vec<i32>, AllocError>
     requires { from + 4 * count ≤ length operands.now }
-    ensures { IfOk result (λ branches. branches.items ≡ spec.ints_of count (drop from operands.now)) }
+    ensures { IfOk result (λ branches. branches.items
+        ≡ spec.ints_of count (drop from operands.now)) }
 {
     let mut branches = Vec::with_capacity(alloc, count)?;
     for index in 0..count {
@@ -97,7 +98,8 @@ fn rows_end(operands: &[u8], from: usize, count: usize, size: usize) -> Result<u
 // tableswitch at an offset.
 #[tactic(auto, unfolding(crate::specs::Reading::table_switch))]
 pub(crate) fn table_switch(alloc: Global, offset: u16, operands: &[u8]) -> Result<Spelled, Stop>
-    ensures exact { MatchResult result (λ spelled. spec.table_switch offset operands.now ≡ Ok spelled) (λ stop. Stops stop (spec.table_switch offset operands.now)) }
+    ensures exact { MatchResult result (λ spelled. spec.table_switch offset operands.now
+        ≡ Ok spelled) (λ stop. Stops stop (spec.table_switch offset operands.now)) }
     ensures within { IfOk result (λ spelled. spelled.operands ≤ length operands.now) }
 {
     let start = padding(offset);
@@ -121,7 +123,8 @@ pub(crate) fn table_switch(alloc: Global, offset: u16, operands: &[u8]) -> Resul
 // lookupswitch at an offset.
 #[tactic(auto, unfolding(crate::specs::Reading::lookup_switch))]
 pub(crate) fn lookup_switch(alloc: Global, offset: u16, operands: &[u8]) -> Result<Spelled, Stop>
-    ensures exact { MatchResult result (λ spelled. spec.lookup_switch offset operands.now ≡ Ok spelled) (λ stop. Stops stop (spec.lookup_switch offset operands.now)) }
+    ensures exact { MatchResult result (λ spelled. spec.lookup_switch offset operands.now
+        ≡ Ok spelled) (λ stop. Stops stop (spec.lookup_switch offset operands.now)) }
     ensures within { IfOk result (λ spelled. spelled.operands ≤ length operands.now) }
 {
     let start = padding(offset);

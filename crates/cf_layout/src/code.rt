@@ -71,16 +71,19 @@ fn code_of(alloc: Global, bytes: &[u8], attribute: Attribute) -> Result<CodeLayo
     ensures exact { Gives (code_of bytes.now attribute) result }
     ensures short { IfOk result IsShort }
 {
-    let inside = up_to(bytes, attribute.end);
-    let head = blame(read_code_head(inside, attribute.body), attribute.name.at)?;
+    let inside = up_to(bytes, attribute.end as usize);
+    let head = blame(
+        read_code_head(inside, attribute.body as usize),
+        attribute.name.at as usize,
+    )?;
     demand(
         1 <= head.length && head.length <= 65_535,
         Rule::CodeLength,
         head.length_at,
     )?;
     blame(
-        read_code_filling(alloc, inside, head, attribute.end),
-        attribute.name.at,
+        read_code_filling(alloc, inside, head, attribute.end as usize),
+        attribute.name.at as usize,
     )
 }
 
@@ -90,7 +93,8 @@ fn code_of(alloc: Global, bytes: &[u8], attribute: Attribute) -> Result<CodeLayo
 pub fn read_code(alloc: Global, bytes: &[u8], attribute: Attribute) -> Result<CodeLayout, ReadFault>
     // What is read stands there, what stands there is read, and a fault is one of what stands there.
     ensures found { IfOk result (code_look bytes.now attribute).Is }
-    ensures only { (code : CodeLayout) → (code_look bytes.now attribute).Is code → Gives (Ok code) result }
+    ensures only { (code : CodeLayout) → (code_look bytes.now attribute).Is code
+        → Gives (Ok code) result }
     ensures fault { IfErr result (MissesBy (code_look bytes.now attribute)) }
     // Its code has 65,535 bytes at most.
     ensures short { IfOk result IsShort }
@@ -209,10 +213,10 @@ fn skim_table(bytes: &[u8], at: usize, end: usize) -> Result<(), ReadFault>
 fn table_of(bytes: &[u8], attribute: Attribute) -> Result<(), ReadFault>
     ensures { Gives (table_of bytes.now attribute) result }
 {
-    let inside = up_to(bytes, attribute.end);
+    let inside = up_to(bytes, attribute.end as usize);
     blame(
-        skim_table(inside, attribute.body, attribute.end),
-        attribute.name.at,
+        skim_table(inside, attribute.body as usize, attribute.end as usize),
+        attribute.name.at as usize,
     )
 }
 

@@ -24,10 +24,10 @@ fn read_constant_filling(bytes: &[u8], at: usize, end: usize) -> Result<Item, Re
 fn constant_of(bytes: &[u8], attribute: Attribute) -> Result<Item, ReadFault>
     ensures { Gives (constant_of bytes.now attribute) result }
 {
-    let inside = up_to(bytes, attribute.end);
+    let inside = up_to(bytes, attribute.end as usize);
     blame(
-        read_constant_filling(inside, attribute.body, attribute.end),
-        attribute.name.at,
+        read_constant_filling(inside, attribute.body as usize, attribute.end as usize),
+        attribute.name.at as usize,
     )
 }
 
@@ -36,7 +36,8 @@ fn constant_of(bytes: &[u8], attribute: Attribute) -> Result<Item, ReadFault>
 pub fn read_constant(bytes: &[u8], attribute: Attribute) -> Result<Item, ReadFault>
     // What is read stands there, what stands there is read, and a fault is one of what stands there.
     ensures found { IfOk result (constant_look bytes.now attribute).Is }
-    ensures only { (index : Item) → (constant_look bytes.now attribute).Is index → Gives (Ok index) result }
+    ensures only { (index : Item) → (constant_look bytes.now attribute).Is index
+        → Gives (Ok index) result }
     ensures fault { IfErr result (MissesBy (constant_look bytes.now attribute)) }
     // Which fault it is.
     ensures exact { Gives (constant_of bytes.now attribute) result }

@@ -5,7 +5,7 @@ use cf_pool::{PoolLayout, Table};
 /// A number of two bytes, and its position.
 #[derive(Clone, Copy, Debug, PartialEq, Eq)]
 pub struct Item {
-    pub at: usize,
+    pub at: u32,
     pub value: u16,
 }
 
@@ -14,8 +14,8 @@ pub struct Item {
 #[derive(Clone, Copy, Debug, PartialEq, Eq)]
 pub struct Attribute {
     pub name: Item,
-    pub body: usize,
-    pub end: usize,
+    pub body: u32,
+    pub end: u32,
 }
 
 /// A field or a method (JVMS 4.5, 4.6).

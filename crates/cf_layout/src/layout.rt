@@ -8,7 +8,7 @@ ghost use Rattle.cf_layout.specs.FileFormat.{LaysOut, file_format};
 ghost use Rattle.cf_layout.specs.Layouts.{attribute_at, attributes_at, body_at, header_at, item_at, layout_of, member_at};
 
 use super::items::{Attribute, Item, Layout, Member};
-use cf_pool::{ReadFault, Rule, Table, demand, read_u16, read_u32, skip};
+use cf_pool::{ReadFault, Rule, Table, demand, read_u16, read_u32, short_position, skip};
 use std::alloc::Global;
 
 /// The most bytes that a class file may have: 1 MiB, a limit of this project.
@@ -19,6 +19,7 @@ pub(crate) fn read_item(bytes: &[u8], at: usize) -> Result<(Item, usize), ReadFa
     ensures { Gives (item_at bytes.now at) result }
 {
     let (value, to) = read_u16(bytes, at)?;
+    let at = short_position(at)?;
     Ok((Item { at, value }, to))
 }
 
@@ -47,7 +48,12 @@ fn read_attribute(bytes: &[u8], at: usize) -> Result<(Attribute, usize), ReadFau
     let (name, after) = read_item(bytes, at)?;
     let (length, body) = read_u32(bytes, after)?;
     let end = skip(bytes, body, length as usize)?;
-    Ok((Attribute { name, body, end }, end))
+    let attribute = Attribute {
+        name,
+        body: short_position(body)?,
+        end: short_position(end)?,
+    };
+    Ok((attribute, end))
 }
 
 fn read_many_attributes(

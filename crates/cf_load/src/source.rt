@@ -16,7 +16,8 @@ use std::alloc::Global;
 pub fn load<S: Source>(alloc: Global, source: &mut S) -> Result<ClassFile, LoadFault>
     ensures device { IsErrOf result LoadFault.Device ↔ IsTrue (S.has_failed source.new) }
     // As the bytes that the source gave are read.
-    ensures passed { LoadsPassed reading_of (S.remaining source.old) (S.remaining source.new) result }
+    ensures passed { LoadsPassed reading_of (S.remaining source.old) (S.remaining source.new)
+        result }
     // If all of its bytes are known, the answer is that of reading them.
     ensures all { IfSome (S.remaining source.old) (λ all. Loads (reading_of all) result) }
 {

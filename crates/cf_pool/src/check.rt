@@ -10,17 +10,16 @@ ghost use Rattle.cf_pool.specs.Pools.{entry_demands, index_demands, is_class_ent
 
 use super::{Entry, Pool, PoolLayout, Positions};
 use cf_text::{
-    ReadFault, Rule, begins_with, demand, is_class_name, is_modified_utf8, is_name,
+    ReadFault, Rule, Text, begins_with, demand, is_class_name, is_modified_utf8, is_name,
     read_field_descriptor,
 };
-use std::alloc::Global;
 
 #[tactic(auto, unfolding(cf_text::specs::Types::is_field_descriptor))]
-fn is_field_descriptor(alloc: Global, text: &[u8]) -> Result<bool, ReadFault>
+fn is_field_descriptor(text: &Text) -> Result<bool, ReadFault>
     ensures value { IfOk result (λ answer. answer ≡ is_field_descriptor text.now) }
     ensures memory { IfErr result (λ fault. fault ≡ ReadFault.Memory) }
 {
-    match read_field_descriptor(alloc, text, 0) {
+    match read_field_descriptor(text, 0) {
         Ok(_) => Ok(true),
         Err(ReadFault::Broken { .. }) => Ok(false),
         Err(ReadFault::Memory) => Err(ReadFault::Memory),
@@ -29,19 +28,19 @@ fn is_field_descriptor(alloc: Global, text: &[u8]) -> Result<bool, ReadFault>
 
 // A name in a Class entry: a class's, or the descriptor of an array.
 #[tactic(auto, unfolding(crate::specs::Pools::is_class_entry_name))]
-fn is_class_entry_name(alloc: Global, text: &[u8]) -> Result<bool, ReadFault>
+fn is_class_entry_name(text: &Text) -> Result<bool, ReadFault>
     ensures value { IfOk result (λ answer. answer ≡ is_class_entry_name text.now) }
     ensures memory { IfErr result (λ fault. fault ≡ ReadFault.Memory) }
 {
-    if begins_with(text, b'[') {
-        is_field_descriptor(alloc, text)
+    if begins_with(text.as_bytes(), b'[') {
+        is_field_descriptor(text)
     } else {
-        Ok(is_class_name(text))
+        Ok(is_class_name(text.as_bytes()))
     }
 }
 
 #[tactic(auto, unfolding(cf_text::specs::Demands::verdict, crate::specs::Pools::named))]
-fn check_class_name(alloc: Global, pool: &Pool, name: u16, at: usize) -> Result<(), ReadFault>
+fn check_class_name(pool: &Pool, name: u16, at: usize) -> Result<(), ReadFault>
     ensures { Gives (verdict (named at (utf8_at pool.now name) is_class_entry_name)) result }
 {
     let Some(text) = pool.utf8(name) else {
@@ -50,7 +49,7 @@ fn check_class_name(alloc: Global, pool: &Pool, name: u16, at: usize) -> Result<
             at,
         });
     };
-    let holds = is_class_entry_name(alloc, text.as_bytes())?;
+    let holds = is_class_entry_name(text)?;
     demand(holds, Rule::Utf8, at)
 }
 
@@ -68,39 +67,34 @@ fn check_name(pool: &Pool, name: u16, at: usize) -> Result<(), ReadFault>
 }
 
 #[tactic(auto, unfolding(cf_text::specs::Demands::verdict, crate::specs::Pools::entry_demands, crate::specs::Pools::indexed), using(cf_text::proofs::Verdicts::verdicts))]
-fn check_entry(
-    alloc: Global,
-    pool: &Pool,
-    entry: &Entry,
-    positions: Positions,
-) -> Result<(), ReadFault>
+fn check_entry(pool: &Pool, entry: &Entry, positions: Positions) -> Result<(), ReadFault>
     ensures { Gives (verdict (entry_demands pool.now entry.now positions)) result }
 {
     match entry {
         Entry::Utf8(text) => demand(
             is_modified_utf8(text.as_bytes()),
             Rule::Utf8,
-            positions.second,
+            positions.second as usize,
         ),
-        Entry::Class { name } => check_class_name(alloc, pool, *name, positions.first),
+        Entry::Class { name } => check_class_name(pool, *name, positions.first as usize),
         Entry::Member {
             class,
             name_and_type,
             ..
         } => {
-            demand(pool.is_class(*class), Rule::Index, positions.first)?;
+            demand(pool.is_class(*class), Rule::Index, positions.first as usize)?;
             demand(
                 pool.is_name_and_type(*name_and_type),
                 Rule::Index,
-                positions.second,
+                positions.second as usize,
             )
         }
         Entry::NameAndType { name, descriptor } => {
-            check_name(pool, *name, positions.first)?;
+            check_name(pool, *name, positions.first as usize)?;
             demand(
                 pool.utf8(*descriptor).is_some(),
                 Rule::Index,
-                positions.second,
+                positions.second as usize,
             )
         }
         Entry::Integer(_) | Entry::Other | Entry::Unusable => Ok(()),
@@ -108,17 +102,12 @@ fn check_entry(
 }
 
 #[tactic(auto, unfolding(cf_text::specs::Demands::verdict, crate::specs::Pools::index_demands))]
-fn check_index(
-    alloc: Global,
-    pool: &Pool,
-    index: usize,
-    positions: Positions,
-) -> Result<(), ReadFault>
+fn check_index(pool: &Pool, index: usize, positions: Positions) -> Result<(), ReadFault>
     ensures { Gives (verdict (index_demands pool.now index positions)) result }
 {
     match pool.entry(index) {
         None => Ok(()),
-        Some(entry) => check_entry(alloc, pool, entry, positions),
+        Some(entry) => check_entry(pool, entry, positions),
     }
 }
 
@@ -127,11 +116,11 @@ fn check_index(
 /// there; a name that is not allowed is Utf8 at the index that names it. Indices of a String,
 /// MethodHandle, MethodType or InvokeDynamic, and the descriptors of a NameAndType, are not
 /// followed: nothing of the profile uses them.
-pub fn check_pool(alloc: Global, layout: &PoolLayout) -> Result<(), ReadFault>
+pub fn check_pool(layout: &PoolLayout) -> Result<(), ReadFault>
     ensures { Gives (verdict (pool_demands layout.now)) result }
 {
     for (index, positions) in layout.positions.as_slice().iter().enumerate() {
-        check_index(alloc, &layout.pool, index, *positions)?;
+        check_index(&layout.pool, index, *positions)?;
     }
     Ok(())
 }

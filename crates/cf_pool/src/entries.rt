@@ -7,8 +7,8 @@ ghost use Rattle.cf_pool.specs.PoolFormat.{layout_format, pool_format};
 ghost use Rattle.cf_pool.specs.Pools.{cell_from, cells_from, class_entry, entry_from, integer_entry, layout_from, member_entry, name_and_type_entry, pool_from, shape_of, shaped_entry, skipped_entry, tagged, text_entry};
 
 use super::layout::{PlacedEntry, Shape};
-use super::{Entry, MemberKind, Pool, PoolLayout, Positions};
-use cf_text::{ReadFault, Row, Rule, read_i32, read_text, read_u8, read_u16, skip};
+use super::{Entry, MemberKind, Pool, PoolLayout};
+use cf_text::{FileBytes, ReadFault, Row, Rule, read_i32, read_text, read_u8, read_u16, skip};
 use std::alloc::Global;
 
 #[tactic(auto, unfolding(crate::specs::Pools::shape_of))]
@@ -32,12 +32,12 @@ fn shape_of(tag: u8) -> Option<Shape>
 }
 
 #[tactic(auto, unfolding(crate::specs::Pools::text_entry))]
-fn text_entry(alloc: Global, bytes: &[u8], at: usize) -> Result<(PlacedEntry, usize), ReadFault>
-    ensures { Gives (text_entry bytes.now at) result }
+fn text_entry(file: &FileBytes, at: usize) -> Result<(PlacedEntry, usize), ReadFault>
+    ensures { Gives (text_entry file.now at) result }
 {
-    let (length, second) = read_u16(bytes, at)?;
-    let (text, to) = read_text(alloc, bytes, second, length as usize)?;
-    Ok((PlacedEntry::new(Entry::Utf8(text), at, second), to))
+    let (length, second) = read_u16(file.as_slice(), at)?;
+    let (text, to) = read_text(file, second, length as usize)?;
+    Ok((PlacedEntry::new(Entry::Utf8(text), at, second, false)?, to))
 }
 
 #[tactic(auto, unfolding(crate::specs::Pools::integer_entry))]
@@ -45,7 +45,7 @@ fn integer_entry(bytes: &[u8], at: usize) -> Result<(PlacedEntry, usize), ReadFa
     ensures { Gives (integer_entry bytes.now at) result }
 {
     let (value, to) = read_i32(bytes, at)?;
-    Ok((PlacedEntry::new(Entry::Integer(value), at, to), to))
+    Ok((PlacedEntry::new(Entry::Integer(value), at, to, false)?, to))
 }
 
 #[tactic(auto, unfolding(crate::specs::Pools::class_entry))]
@@ -53,7 +53,7 @@ fn class_entry(bytes: &[u8], at: usize) -> Result<(PlacedEntry, usize), ReadFaul
     ensures { Gives (class_entry bytes.now at) result }
 {
     let (name, to) = read_u16(bytes, at)?;
-    Ok((PlacedEntry::new(Entry::Class { name }, at, to), to))
+    Ok((PlacedEntry::new(Entry::Class { name }, at, to, false)?, to))
 }
 
 #[tactic(auto, unfolding(crate::specs::Pools::member_entry))]
@@ -71,7 +71,7 @@ fn member_entry(
         class,
         name_and_type,
     };
-    Ok((PlacedEntry::new(entry, at, second), to))
+    Ok((PlacedEntry::new(entry, at, second, false)?, to))
 }
 
 #[tactic(auto, unfolding(crate::specs::Pools::name_and_type_entry))]
@@ -81,7 +81,7 @@ fn name_and_type_entry(bytes: &[u8], at: usize) -> Result<(PlacedEntry, usize), 
     let (name, second) = read_u16(bytes, at)?;
     let (descriptor, to) = read_u16(bytes, second)?;
     Ok((
-        PlacedEntry::new(Entry::NameAndType { name, descriptor }, at, second),
+        PlacedEntry::new(Entry::NameAndType { name, descriptor }, at, second, false)?,
         to,
     ))
 }
@@ -96,31 +96,20 @@ fn skipped_entry(
     ensures { Gives (skipped_entry len is_wide bytes.now at) result }
 {
     let to = skip(bytes, at, len)?;
-    let positions = Positions {
-        first: at,
-        second: to,
-    };
-    Ok((
-        PlacedEntry {
-            entry: Entry::Other,
-            positions,
-            is_wide,
-        },
-        to,
-    ))
+    Ok((PlacedEntry::new(Entry::Other, at, to, is_wide)?, to))
 }
 
 #[tactic(auto, unfolding(crate::specs::Pools::shaped_entry))]
 fn shaped_entry(
-    alloc: Global,
     shape: Shape,
-    bytes: &[u8],
+    file: &FileBytes,
     at: usize,
 ) -> Result<(PlacedEntry, usize), ReadFault>
-    ensures { Gives (shaped_entry shape bytes.now at) result }
+    ensures { Gives (shaped_entry shape file.now at) result }
 {
+    let bytes = file.as_slice();
     match shape {
-        Shape::Utf8 => text_entry(alloc, bytes, at),
+        Shape::Utf8 => text_entry(file, at),
         Shape::Integer => integer_entry(bytes, at),
         Shape::Class => class_entry(bytes, at),
         Shape::Member(kind) => member_entry(kind, bytes, at),
@@ -149,43 +138,37 @@ fn tagged(tag: u8, is_last: bool, at: usize) -> Result<Shape, ReadFault>
 }
 
 #[tactic(auto, unfolding(crate::specs::Pools::entry_from))]
-fn entry_from(
-    alloc: Global,
-    is_last: bool,
-    bytes: &[u8],
-    at: usize,
-) -> Result<(PlacedEntry, usize), ReadFault>
-    ensures { Gives (entry_from is_last bytes.now at) result }
+fn entry_from(is_last: bool, file: &FileBytes, at: usize) -> Result<(PlacedEntry, usize), ReadFault>
+    ensures { Gives (entry_from is_last file.now at) result }
 {
-    let (tag, body) = read_u8(bytes, at)?;
+    let (tag, body) = read_u8(file.as_slice(), at)?;
     let shape = tagged(tag, is_last, at)?;
-    shaped_entry(alloc, shape, bytes, body)
+    shaped_entry(shape, file, body)
 }
 
 // What stands at an index: nothing at index 0, and after an entry of two indices.
 #[tactic(auto, unfolding(crate::specs::Pools::cell_from))]
 fn cell_from(
-    alloc: Global,
     is_taken: bool,
     is_last: bool,
-    bytes: &[u8],
+    file: &FileBytes,
     at: usize,
 ) -> Result<(PlacedEntry, usize), ReadFault>
-    ensures { Gives (cell_from is_taken is_last bytes.now at) result }
+    ensures { Gives (cell_from is_taken is_last file.now at) result }
 {
     if is_taken {
-        return Ok((PlacedEntry::new(Entry::Unusable, at, at), at));
+        return Ok((PlacedEntry::new(Entry::Unusable, at, at, false)?, at));
     }
-    entry_from(alloc, is_last, bytes, at)
+    entry_from(is_last, file, at)
 }
 
 fn cells_from(
     alloc: Global,
     count: u16,
-    bytes: &[u8],
+    file: &FileBytes,
     at: usize,
 ) -> Result<(PoolLayout, usize), ReadFault>
-    ensures { Gives (cells_from count true bytes.now at) result }
+    ensures { Gives (cells_from count true file.now at) result }
 {
     let mut entries = Vec::new(alloc);
     let mut positions = Vec::new(alloc);
@@ -193,7 +176,7 @@ fn cells_from(
     let mut is_taken = true;
     for index in 0..count {
         let is_last = index == count - 1;
-        let (cell, after) = cell_from(alloc, is_taken, is_last, bytes, position)?;
+        let (cell, after) = cell_from(is_taken, is_last, file, position)?;
         entries.push(cell.entry)?;
         positions.push(cell.positions)?;
         is_taken = cell.is_wide;
@@ -220,7 +203,9 @@ fn layout_from(alloc: Global, bytes: &[u8], at: usize) -> Result<(PoolLayout, us
             at,
         });
     }
-    cells_from(alloc, count, bytes, first)
+    // The texts of the pool share one copy of the bytes.
+    let file = FileBytes::new(alloc, Vec::from_slice(alloc, bytes)?)?;
+    cells_from(alloc, count, &file, first)
 }
 
 /// Returns the constant pool from its count at `at` on, with the positions of its entries, and the
@@ -230,7 +215,8 @@ fn layout_from(alloc: Global, bytes: &[u8], at: usize) -> Result<(PoolLayout, us
 pub fn read_layout(alloc: Global, bytes: &[u8], at: usize) -> Result<(PoolLayout, usize), ReadFault>
     // What is read stands there, what stands there is read, and a fault is one of what stands there.
     ensures found { IfOk result (λ x. (layout_format bytes.now at).Stands at x.0 x.1) }
-    ensures only { (x : PoolLayout × ℕ) → (layout_format bytes.now at).Stands at x.0 x.1 → Gives (Ok x) result }
+    ensures only { (x : PoolLayout × ℕ) → (layout_format bytes.now at).Stands at x.0 x.1
+        → Gives (Ok x) result }
     ensures fault { IfErr result (FailsBy (layout_format bytes.now at) at) }
     // Which fault it is.
     ensures exact { Gives (layout_from bytes.now at) result }
@@ -252,7 +238,8 @@ fn pool_from(alloc: Global, bytes: &[u8], at: usize) -> Result<(Pool, usize), Re
 pub fn read_pool(alloc: Global, bytes: &[u8], at: usize) -> Result<(Pool, usize), ReadFault>
     // What is read stands there, what stands there is read, and a fault is one of what stands there.
     ensures found { IfOk result (λ x. (pool_format bytes.now at).Stands at x.0 x.1) }
-    ensures only { (x : List Entry × ℕ) → (pool_format bytes.now at).Stands at x.0 x.1 → Gives (Ok x) result }
+    ensures only { (x : List Entry × ℕ) → (pool_format bytes.now at).Stands at x.0 x.1
+        → Gives (Ok x) result }
     ensures fault { IfErr result (FailsBy (pool_format bytes.now at) at) }
 {
     pool_from(alloc, bytes, at)

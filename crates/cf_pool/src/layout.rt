@@ -1,9 +1,10 @@
 //! A constant pool as it stands in a file, and what is demanded of it once it is read.
 
-ghost use Rattle.std.specs.Prelude.{◌≡◌, false};
+ghost use Rattle.std.specs.Prelude.{Ok};
+ghost use Rattle.cf_text.specs.Reading.{Gives};
 
 use super::{Entry, MemberKind, Pool};
-use cf_text::Row;
+use cf_text::{ReadFault, Row, short_position};
 
 /// What stands after a tag (JVMS 4.4, table 4.4-A).
 #[derive(Clone, Copy, Debug, PartialEq, Eq)]
@@ -22,8 +23,8 @@ pub(crate) enum Shape {
 /// The positions of an entry: that after its tag, and that after the first item there.
 #[derive(Clone, Copy, Debug, PartialEq, Eq)]
 pub struct Positions {
-    pub first: usize,
-    pub second: usize,
+    pub first: u32,
+    pub second: u32,
 }
 
 // An entry as it was read. A wide one takes two indices.
@@ -35,15 +36,29 @@ pub(crate) struct PlacedEntry {
 }
 
 impl PlacedEntry {
-    // An entry of one index.
-    pub(crate) fn new(entry: Entry, first: usize, second: usize) -> PlacedEntry
-        ensures { result ≡ record { entry = entry; positions = record { first = first; second = second }; is_wide = false } }
+    // An entry, and whether it is wide.
+    pub(crate) fn new(
+        entry: Entry,
+        first: usize,
+        second: usize,
+        is_wide: bool,
+    ) -> Result<PlacedEntry, ReadFault>
+        ensures { Gives (Ok (record {
+          entry = entry;
+          positions = record
+              { first = first; second = second };
+          is_wide = is_wide;
+        })) result }
     {
-        PlacedEntry {
+        let positions = Positions {
+            first: short_position(first)?,
+            second: short_position(second)?,
+        };
+        Ok(PlacedEntry {
             entry,
-            positions: Positions { first, second },
-            is_wide: false,
-        }
+            positions,
+            is_wide,
+        })
     }
 }
 

@@ -184,9 +184,14 @@ impl Pool {
 /// What the look-ups of a pool find is what its indices name, and nothing else; they are `None`
 /// exactly if an index names no entry of the kind wanted.
 pub fn look_ups()
-    ensures texts { (pool : List Entry) (index : ℕ) → Exactly (utf8_at pool index) (NamesText pool index) }
-    ensures integers { (pool : List Entry) (index : ℕ) → Exactly (integer_at pool index) (NamesInteger pool index) }
-    ensures classes { (pool : List Entry) (index : ℕ) → Exactly (class_at pool index) (NamesClass pool index) }
-    ensures names_and_types { (pool : List Entry) (index : ℕ) → Exactly (name_and_type_at pool index) (NamesNameAndType pool index) }
-    ensures members { (pool : List Entry) (index : ℕ) → Exactly (member_at pool index) (NamesMember pool index) }
+    ensures texts { (pool : List Entry) (index : ℕ)
+        → Exactly (utf8_at pool index) (NamesText pool index) }
+    ensures integers { (pool : List Entry) (index : ℕ)
+        → Exactly (integer_at pool index) (NamesInteger pool index) }
+    ensures classes { (pool : List Entry) (index : ℕ)
+        → Exactly (class_at pool index) (NamesClass pool index) }
+    ensures names_and_types { (pool : List Entry) (index : ℕ)
+        → Exactly (name_and_type_at pool index) (NamesNameAndType pool index) }
+    ensures members { (pool : List Entry) (index : ℕ)
+        → Exactly (member_at pool index) (NamesMember pool index) }
 {}

@@ -66,13 +66,18 @@ impl Known {
 
     #[tactic(auto, unfolding(crate::specs::Checks::known_demands, cf_text::specs::Demands::verdict, cf_pool::specs::Pools::indexed))]
     fn check(self, bytes: &[u8], pool: &Pool, attribute: Attribute) -> Result<(), ReadFault>
-        ensures { Gives (verdict (known_demands (insides_of bytes.now) pool.now self attribute)) result }
+        ensures { Gives (verdict (known_demands (insides_of bytes.now) pool.now self attribute))
+            result }
     {
         match self {
             Known::Nothing => Ok(()),
             Known::ConstantValue => {
                 let index = read_constant(bytes, attribute)?;
-                demand(pool.integer(index.value).is_some(), Rule::Index, index.at)
+                demand(
+                    pool.integer(index.value).is_some(),
+                    Rule::Index,
+                    index.at as usize,
+                )
             }
             Known::StackMapTable => check_table(bytes, attribute),
         }
@@ -86,17 +91,18 @@ impl Known {
         seen: bool,
         attribute: Attribute,
     ) -> Result<(), ReadFault>
-        ensures { Gives (verdict (one_attribute pool.now (is_known pool.now self) (known_demands (insides_of bytes.now) pool.now self) seen attribute)) result }
+        ensures { Gives (verdict (one_attribute pool.now (is_known pool.now self)
+            (known_demands (insides_of bytes.now) pool.now self) seen attribute)) result }
     {
         demand(
             pool.utf8(attribute.name.value).is_some(),
             Rule::Index,
-            attribute.name.at,
+            attribute.name.at as usize,
         )?;
         if !self.is(pool, attribute) {
             return Ok(());
         }
-        demand(!seen, Rule::Duplicate, attribute.name.at)?;
+        demand(!seen, Rule::Duplicate, attribute.name.at as usize)?;
         self.check(bytes, pool, attribute)
     }
 
@@ -107,7 +113,8 @@ impl Known {
         pool: &Pool,
         attributes: &[Attribute],
     ) -> Result<(), ReadFault>
-        ensures { Gives (verdict (plain_demands (insides_of bytes.now) pool.now self attributes.now)) result }
+        ensures { Gives (verdict (plain_demands (insides_of bytes.now) pool.now self
+            attributes.now)) result }
     {
         let mut seen = false;
         for attribute in attributes {
@@ -132,7 +139,7 @@ fn check_code(
     demand(
         handlers_in_profile(handlers.value),
         Rule::OutOfProfile,
-        handlers.at,
+        handlers.at as usize,
     )?;
     Known::StackMapTable.check_all(bytes, pool, code.attributes.as_slice())
 }
@@ -145,17 +152,18 @@ fn check_method_attribute(
     seen: bool,
     attribute: Attribute,
 ) -> Result<(), ReadFault>
-    ensures { Gives (verdict (one_attribute pool.now (is_named pool.now (codes "Code")) (code_demands (insides_of bytes.now) pool.now) seen attribute)) result }
+    ensures { Gives (verdict (one_attribute pool.now (is_named pool.now (codes "Code"))
+        (code_demands (insides_of bytes.now) pool.now) seen attribute)) result }
 {
     demand(
         pool.utf8(attribute.name.value).is_some(),
         Rule::Index,
-        attribute.name.at,
+        attribute.name.at as usize,
     )?;
     if !is_named(pool, CODE, attribute) {
         return Ok(());
     }
-    demand(!seen, Rule::Duplicate, attribute.name.at)?;
+    demand(!seen, Rule::Duplicate, attribute.name.at as usize)?;
     check_code(alloc, bytes, pool, attribute)
 }
 
@@ -166,7 +174,8 @@ pub(crate) fn check_method_attributes(
     pool: &Pool,
     attributes: &[Attribute],
 ) -> Result<(), ReadFault>
-    ensures { Gives (verdict (method_attribute_demands (insides_of bytes.now) pool.now attributes.now)) result }
+    ensures { Gives (verdict (method_attribute_demands (insides_of bytes.now) pool.now
+        attributes.now)) result }
 {
     let mut seen = false;
     for attribute in attributes {

@@ -1,8 +1,8 @@
 //! What a layout says, once its demands hold.
 
 ghost use Rattle.cf_reader.specs.Descriptors.{AreFieldTypes, AreMethodTypes};
-ghost use Rattle.std.specs.Prelude.{◌≡◌, ◌≤◌, length};
-ghost use Rattle.cf_text.specs.Reading.{Gives};
+ghost use Rattle.std.specs.Prelude.{◌≡◌, ◌≤◌, None, length};
+ghost use Rattle.cf_text.specs.Reading.{Gives, GivesSeen};
 ghost use Rattle.cf_layout.specs.CodeLengths.{IsShort};
 ghost use Rattle.cf_reader.specs.Builds.{class_from, class_name_of, code_from, code_in, constant_attribute, constant_from, each, field_from, method_from, table_in, text_of};
 
@@ -11,6 +11,7 @@ use super::descriptors::{FieldTypes, MethodTypes};
 use super::{ClassFile, Code, Field, Flags, Method};
 use cf_layout::{Attribute, CodeLayout, Item, Layout, Member, between, read_code, read_constant};
 use cf_pool::{Pool, ReadFault, Row, Rule, Table, Text};
+use cf_text::Shared;
 use std::alloc::Global;
 
 fn wrong_index(at: usize) -> ReadFault
@@ -22,20 +23,20 @@ fn wrong_index(at: usize) -> ReadFault
     }
 }
 
-fn text_of(pool: &Pool, item: Item) -> Result<Text, ReadFault>
-    ensures { Gives (text_of pool.now item) result }
+fn text_of(pool: &Pool, item: Item) -> Result<&Text, ReadFault>
+    ensures { GivesSeen (λ text. text.now) (text_of pool.now item) result }
 {
-    let Some(text) = pool.utf8(item.value) else {
-        return Err(wrong_index(item.at));
-    };
-    Ok(text.copy()?)
+    match pool.utf8(item.value) {
+        Some(text) => Ok(text),
+        None => Err(wrong_index(item.at as usize)),
+    }
 }
 
 fn class_name_of(pool: &Pool, item: Item) -> Result<Text, ReadFault>
     ensures { Gives (class_name_of pool.now item) result }
 {
     let Some(name) = pool.class(item.value) else {
-        return Err(wrong_index(item.at));
+        return Err(wrong_index(item.at as usize));
     };
     Ok(name.copy()?)
 }
@@ -49,7 +50,12 @@ fn table_in(
 {
     match table {
         None => Ok(None),
-        Some(attribute) => Ok(Some(between(alloc, bytes, attribute.body, attribute.end)?)),
+        Some(attribute) => Ok(Some(between(
+            alloc,
+            bytes,
+            attribute.body as usize,
+            attribute.end as usize,
+        )?)),
     }
 }
 
@@ -74,44 +80,48 @@ fn code_from(
     alloc: Global,
     bytes: &[u8],
     pool: &Pool,
+    no_code: &Shared<Option<Code>>,
     attribute: Option<Attribute>,
-) -> Result<Option<Code>, ReadFault>
+) -> Result<Shared<Option<Code>>, ReadFault>
+    requires none { no_code.now ≡ None }
     ensures { Gives (code_from bytes.now pool.now attribute) result }
 {
     match attribute {
-        None => Ok(None),
+        None => Ok(no_code.share()?),
         Some(attribute) => {
             let layout = read_code(alloc, bytes, attribute)?;
             let code = code_in(alloc, bytes, pool, &layout)?;
-            Ok(Some(code))
+            Ok(Shared::new(alloc, Some(code))?)
         }
     }
 }
 
 #[tactic(auto, unfolding(crate::specs::Builds::method_from))]
-fn method_from(
+fn method_from<'a>(
     alloc: Global,
     bytes: &[u8],
-    pool: &Pool,
-    known: &mut MethodTypes,
+    pool: &'a Pool,
+    known: &mut MethodTypes<'a>,
+    no_code: &Shared<Option<Code>>,
     method: &Member,
 ) -> Result<Method, ReadFault>
+    requires none { no_code.now ≡ None }
     requires known { AreMethodTypes pool.now known.old }
     ensures value { Gives (method_from bytes.now pool.now method.now) result }
     ensures known { AreMethodTypes pool.now known.new }
 {
-    let name = text_of(pool, method.name)?;
+    let name = text_of(pool, method.name)?.copy()?;
     let descriptor = text_of(pool, method.descriptor)?;
-    let types = known.read(alloc, pool, method.descriptor, &descriptor)?;
+    let types = known.read(alloc, pool, method.descriptor, descriptor)?;
     let attribute = first_named(pool, CODE, method.attributes.as_slice());
-    let code = code_from(alloc, bytes, pool, attribute)?;
+    let code = code_from(alloc, bytes, pool, no_code, attribute)?;
     let flags = Flags {
         bits: method.flags.value,
     };
     Ok(Method {
         flags,
         name,
-        descriptor,
+        descriptor: descriptor.copy()?,
         types,
         code,
     })
@@ -130,7 +140,7 @@ fn constant_from(
     let index = read_constant(bytes, attribute)?;
     match pool.integer(index.value) {
         Some(value) => Ok(Some(value)),
-        None => Err(wrong_index(index.at)),
+        None => Err(wrong_index(index.at as usize)),
     }
 }
 
@@ -150,20 +160,20 @@ fn constant_attribute(pool: &Pool, field: &Member) -> Option<Attribute>
 }
 
 #[tactic(auto, unfolding(crate::specs::Builds::field_from))]
-fn field_from(
+fn field_from<'a>(
     alloc: Global,
     bytes: &[u8],
-    pool: &Pool,
-    known: &mut FieldTypes,
+    pool: &'a Pool,
+    known: &mut FieldTypes<'a>,
     field: &Member,
 ) -> Result<Field, ReadFault>
     requires known { AreFieldTypes pool.now known.old }
     ensures value { Gives (field_from bytes.now pool.now field.now) result }
     ensures known { AreFieldTypes pool.now known.new }
 {
-    let name = text_of(pool, field.name)?;
+    let name = text_of(pool, field.name)?.copy()?;
     let descriptor = text_of(pool, field.descriptor)?;
-    let kind = known.read(alloc, pool, field.descriptor, &descriptor)?;
+    let kind = known.read(alloc, pool, field.descriptor, descriptor)?;
     let flags = Flags {
         bits: field.flags.value,
     };
@@ -171,7 +181,7 @@ fn field_from(
     Ok(Field {
         flags,
         name,
-        descriptor,
+        descriptor: descriptor.copy()?,
         kind,
         constant,
     })
@@ -181,7 +191,7 @@ fn interfaces_from(alloc: Global, pool: &Pool, items: &[Item]) -> Result<Table<T
     requires few { length items.now ≤ 65535 }
     ensures { Gives (each (class_name_of pool.now) items.now) result }
 {
-    let mut names = Vec::new(alloc);
+    let mut names = Vec::with_capacity(alloc, items.len())?;
     for item in items {
         let name = class_name_of(pool, *item)?;
         names.push(name)?;
@@ -199,7 +209,7 @@ fn fields_from(
     ensures { Gives (each (field_from bytes.now pool.now) items.now) result }
 {
     let mut known = FieldTypes::new(alloc);
-    let mut fields = Vec::new(alloc);
+    let mut fields = Vec::with_capacity(alloc, items.len())?;
     for item in items {
         let field = field_from(alloc, bytes, pool, &mut known, item)?;
         fields.push(field)?;
@@ -211,15 +221,17 @@ fn methods_from(
     alloc: Global,
     bytes: &[u8],
     pool: &Pool,
+    no_code: &Shared<Option<Code>>,
     items: &[Member],
 ) -> Result<Table<Method>, ReadFault>
+    requires none { no_code.now ≡ None }
     requires few { length items.now ≤ 65535 }
     ensures { Gives (each (method_from bytes.now pool.now) items.now) result }
 {
     let mut known = MethodTypes::new(alloc);
-    let mut methods = Vec::new(alloc);
+    let mut methods = Vec::with_capacity(alloc, items.len())?;
     for item in items {
-        let method = method_from(alloc, bytes, pool, &mut known, item)?;
+        let method = method_from(alloc, bytes, pool, &mut known, no_code, item)?;
         methods.push(method)?;
     }
     Ok(Table::new(methods))
@@ -239,7 +251,8 @@ pub(crate) fn class_from(
     let superclass = class_name_of(pool, layout.superclass)?;
     let interfaces = interfaces_from(alloc, pool, layout.interfaces.as_slice())?;
     let fields = fields_from(alloc, bytes, pool, layout.fields.as_slice())?;
-    let methods = methods_from(alloc, bytes, pool, layout.methods.as_slice())?;
+    let no_code = Shared::new(alloc, None)?;
+    let methods = methods_from(alloc, bytes, pool, &no_code, layout.methods.as_slice())?;
     let flags = Flags {
         bits: layout.flags.value,
     };

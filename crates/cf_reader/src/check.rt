@@ -24,9 +24,9 @@ fn check_class_flags(item: Item) -> Result<(), ReadFault>
     demand(
         !is_in_profile || class_flags_fit(flags),
         Rule::Flags,
-        item.at,
+        item.at as usize,
     )?;
-    demand(is_in_profile, Rule::OutOfProfile, item.at)
+    demand(is_in_profile, Rule::OutOfProfile, item.at as usize)
 }
 
 // An index names a class, and no array.
@@ -37,14 +37,19 @@ fn check_class_index(pool: &Pool, item: Item) -> Result<(), ReadFault>
     let Some(name) = pool.class(item.value) else {
         return Err(ReadFault::Broken {
             rule: Rule::Index,
-            at: item.at,
+            at: item.at as usize,
         });
     };
-    demand(!begins_with(name.as_bytes(), b'['), Rule::Utf8, item.at)
+    demand(
+        !begins_with(name.as_bytes(), b'['),
+        Rule::Utf8,
+        item.at as usize,
+    )
 }
 
 fn check_each_interface(pool: &Pool, interfaces: &[Item]) -> Result<(), ReadFault>
-    ensures { Gives (verdict (of_each (λ index interface. class_index_demands pool.now interface) 0 interfaces.now)) result }
+    ensures { Gives (verdict (of_each (λ index interface. class_index_demands pool.now interface) 0
+        interfaces.now)) result }
 {
     for interface in interfaces {
         check_class_index(pool, *interface)?;
@@ -54,11 +59,11 @@ fn check_each_interface(pool: &Pool, interfaces: &[Item]) -> Result<(), ReadFaul
 
 // The constant pool, the flags, this and super.
 #[tactic(auto, unfolding(crate::specs::Checks::head_demands), using(cf_text::proofs::Verdicts::verdicts))]
-fn check_head(alloc: Global, layout: &Layout) -> Result<(), ReadFault>
+fn check_head(layout: &Layout) -> Result<(), ReadFault>
     ensures { Gives (verdict (head_demands layout.now)) result }
 {
     let pool = &layout.pool.pool;
-    check_pool(alloc, &layout.pool)?;
+    check_pool(&layout.pool)?;
     check_class_flags(layout.flags)?;
     check_class_index(pool, layout.this)?;
     check_class_index(pool, layout.superclass)
@@ -108,7 +113,7 @@ fn check_methods(alloc: Global, bytes: &[u8], layout: &Layout) -> Result<(), Rea
 pub(crate) fn check_layout(alloc: Global, bytes: &[u8], layout: &Layout) -> Result<(), ReadFault>
     ensures { Gives (verdict (demands (insides_of bytes.now) layout.now)) result }
 {
-    check_head(alloc, layout)?;
+    check_head(layout)?;
     check_interfaces(layout)?;
     check_fields(alloc, bytes, layout)?;
     check_methods(alloc, bytes, layout)?;

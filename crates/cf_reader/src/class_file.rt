@@ -39,8 +39,8 @@ pub struct Method {
     pub descriptor: Text,
     /// What the descriptor says.
     pub types: Shared<MethodDescriptor>,
-    /// The Code attribute: `None` for an abstract method.
-    pub code: Option<Code>,
+    /// The Code attribute: `None` for an abstract method. All abstract methods of a class share it.
+    pub code: Shared<Option<Code>>,
 }
 
 /// A Code attribute (JVMS 4.7.3), without exception handlers, which the profile leaves out.

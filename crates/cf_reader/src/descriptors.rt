@@ -12,23 +12,25 @@ use cf_pool::{
     FieldType, MethodDescriptor, Pool, ReadFault, Text, read_field_descriptor,
     read_method_descriptor,
 };
-use cf_text::Shared;
+use cf_text::{KnownTypes, Shared};
 use std::alloc::Global;
 use std::collections::BTreeMap;
 
 /// The types that fields of a class name, by the indices of their descriptors.
 #[derive(Drop)]
-pub(crate) struct FieldTypes {
+pub(crate) struct FieldTypes<'a> {
     by_index: BTreeMap<u16, Shared<FieldType>>,
+    types: KnownTypes<'a>,
 }
 
-impl FieldTypes {
+impl<'a> FieldTypes<'a> {
     /// No descriptor is read yet.
-    pub(crate) fn new(alloc: Global) -> FieldTypes
+    pub(crate) fn new(alloc: Global) -> FieldTypes<'a>
         ensures { (pool : List Entry) → AreFieldTypes pool result }
     {
         FieldTypes {
             by_index: BTreeMap::new(alloc),
+            types: KnownTypes::new(alloc),
         }
     }
 
@@ -38,7 +40,7 @@ impl FieldTypes {
         alloc: Global,
         pool: &Pool,
         item: Item,
-        text: &Text,
+        text: &'a Text,
     ) -> Result<Shared<FieldType>, ReadFault>
         requires named { utf8_at pool.now item.value ≡ Some text.now }
         requires known { AreFieldTypes pool.now self.old }
@@ -48,8 +50,8 @@ impl FieldTypes {
         if let Some(known) = self.by_index.get(&item.value) {
             return Ok(known.share()?);
         }
-        let kind = read_field_descriptor(alloc, text.as_bytes(), item.at)?;
-        let kind = Shared::new(alloc, kind)?;
+        let kind = read_field_descriptor(text, item.at as usize)?;
+        let kind = self.types.share(alloc, text.as_bytes(), kind)?;
         self.by_index.insert(item.value, kind.share()?)?;
         Ok(kind)
     }
@@ -57,17 +59,19 @@ impl FieldTypes {
 
 /// The types that methods of a class name, by the indices of their descriptors.
 #[derive(Drop)]
-pub(crate) struct MethodTypes {
+pub(crate) struct MethodTypes<'a> {
     by_index: BTreeMap<u16, Shared<MethodDescriptor>>,
+    types: KnownTypes<'a>,
 }
 
-impl MethodTypes {
+impl<'a> MethodTypes<'a> {
     /// No descriptor is read yet.
-    pub(crate) fn new(alloc: Global) -> MethodTypes
+    pub(crate) fn new(alloc: Global) -> MethodTypes<'a>
         ensures { (pool : List Entry) → AreMethodTypes pool result }
     {
         MethodTypes {
             by_index: BTreeMap::new(alloc),
+            types: KnownTypes::new(alloc),
         }
     }
 
@@ -77,7 +81,7 @@ impl MethodTypes {
         alloc: Global,
         pool: &Pool,
         item: Item,
-        text: &Text,
+        text: &'a Text,
     ) -> Result<Shared<MethodDescriptor>, ReadFault>
         requires named { utf8_at pool.now item.value ≡ Some text.now }
         requires known { AreMethodTypes pool.now self.old }
@@ -87,7 +91,7 @@ impl MethodTypes {
         if let Some(known) = self.by_index.get(&item.value) {
             return Ok(known.share()?);
         }
-        let types = read_method_descriptor(alloc, text.as_bytes(), item.at)?;
+        let types = read_method_descriptor(alloc, &mut self.types, text, item.at as usize)?;
         let types = Shared::new(alloc, types)?;
         self.by_index.insert(item.value, types.share()?)?;
         Ok(types)

@@ -24,6 +24,7 @@ use cf_pool::{
     ElementType, FieldType, INITIALIZER, Pool, ReadFault, Rule, Text, demand, is_method_name,
     is_name,
 };
+use cf_text::Shared;
 use std::alloc::Global;
 
 #[tactic(auto, unfolding(crate::specs::Checks::flag_demands, cf_text::specs::Demands::verdict))]
@@ -36,12 +37,12 @@ fn check_flags(at: usize, fit: bool, is_new: bool, is_in_profile: bool) -> Resul
 }
 
 #[tactic(auto, unfolding(crate::specs::Checks::is_int_text))]
-fn is_int_read(
+fn is_int_read<'a>(
     alloc: Global,
-    pool: &Pool,
-    known: &mut FieldTypes,
+    pool: &'a Pool,
+    known: &mut FieldTypes<'a>,
     descriptor: u16,
-    text: &Text,
+    text: &'a Text,
 ) -> Result<bool, ReadFault>
     requires named { utf8_at pool.now descriptor ≡ Some text.now }
     requires known { AreFieldTypes pool.now known.old }
@@ -61,10 +62,10 @@ fn is_int_read(
 
 // Whether a static field may have this descriptor, or the descriptor is at fault itself.
 #[tactic(auto, unfolding(crate::specs::Checks::is_int_text))]
-fn is_int_text(
+fn is_int_text<'a>(
     alloc: Global,
-    pool: &Pool,
-    known: &mut FieldTypes,
+    pool: &'a Pool,
+    known: &mut FieldTypes<'a>,
     descriptor: u16,
 ) -> Result<bool, ReadFault>
     requires known { AreFieldTypes pool.now known.old }
@@ -78,16 +79,17 @@ fn is_int_text(
 }
 
 #[tactic(auto, unfolding(crate::specs::Checks::field_flag_demands))]
-fn check_field_flags(
+fn check_field_flags<'a>(
     alloc: Global,
-    pool: &Pool,
-    known: &mut FieldTypes,
+    pool: &'a Pool,
+    known: &mut FieldTypes<'a>,
     class: Flags,
     is_new: bool,
     field: &Member,
 ) -> Result<(), ReadFault>
     requires known { AreFieldTypes pool.now known.old }
-    ensures value { Gives (verdict (field_flag_demands pool.now class.bits is_new field.now)) result }
+    ensures value { Gives (verdict (field_flag_demands pool.now class.bits is_new field.now))
+        result }
     ensures known { AreFieldTypes pool.now known.new }
 {
     let flags = Flags {
@@ -97,7 +99,7 @@ fn check_field_flags(
     let is_int = is_int_text(alloc, pool, known, field.descriptor.value)?;
     let fit = field_flags_fit(class.has(Flags::INTERFACE), flags);
     let is_in_profile = field_flags_in_profile(is_int, has_constant, flags);
-    check_flags(field.flags.at, fit, is_new, is_in_profile)
+    check_flags(field.flags.at as usize, fit, is_new, is_in_profile)
 }
 
 #[tactic(auto, unfolding(cf_text::specs::Demands::verdict, cf_pool::specs::Pools::named))]
@@ -107,19 +109,19 @@ fn check_field_name(pool: &Pool, name: Item) -> Result<(), ReadFault>
     let Some(text) = pool.utf8(name.value) else {
         return Err(ReadFault::Broken {
             rule: Rule::Index,
-            at: name.at,
+            at: name.at as usize,
         });
     };
-    demand(is_name(text.as_bytes()), Rule::Utf8, name.at)
+    demand(is_name(text.as_bytes()), Rule::Utf8, name.at as usize)
 }
 
 #[tactic(auto, unfolding(crate::specs::Checks::field_type_demands, cf_text::specs::Demands::verdict))]
-fn check_field_type(
+fn check_field_type<'a>(
     alloc: Global,
-    pool: &Pool,
-    known: &mut FieldTypes,
+    pool: &'a Pool,
+    known: &mut FieldTypes<'a>,
     descriptor: Item,
-    text: &Text,
+    text: &'a Text,
 ) -> Result<(), ReadFault>
     requires named { utf8_at pool.now descriptor.value ≡ Some text.now }
     requires known { AreFieldTypes pool.now known.old }
@@ -127,14 +129,18 @@ fn check_field_type(
     ensures known { AreFieldTypes pool.now known.new }
 {
     let kind = known.read(alloc, pool, descriptor, text)?;
-    demand(is_profile_type(&kind), Rule::OutOfProfile, descriptor.at)
+    demand(
+        is_profile_type(&kind),
+        Rule::OutOfProfile,
+        descriptor.at as usize,
+    )
 }
 
 #[tactic(auto, unfolding(crate::specs::Checks::field_descriptor_demands, cf_text::specs::Demands::verdict, cf_pool::specs::Pools::indexed))]
-fn check_field_descriptor(
+fn check_field_descriptor<'a>(
     alloc: Global,
-    pool: &Pool,
-    known: &mut FieldTypes,
+    pool: &'a Pool,
+    known: &mut FieldTypes<'a>,
     descriptor: Item,
 ) -> Result<(), ReadFault>
     requires known { AreFieldTypes pool.now known.old }
@@ -144,7 +150,7 @@ fn check_field_descriptor(
     let Some(text) = pool.utf8(descriptor.value) else {
         return Err(ReadFault::Broken {
             rule: Rule::Index,
-            at: descriptor.at,
+            at: descriptor.at as usize,
         });
     };
     check_field_type(alloc, pool, known, descriptor, text)
@@ -162,18 +168,19 @@ fn field_known(flags: Flags) -> Known
 }
 
 #[tactic(auto, unfolding(crate::specs::Checks::field_demands_if), using(cf_text::proofs::Verdicts::verdicts))]
-fn check_field(
+fn check_field<'a>(
     alloc: Global,
     bytes: &[u8],
-    pool: &Pool,
-    known: &mut FieldTypes,
+    pool: &'a Pool,
+    known: &mut FieldTypes<'a>,
     class: Flags,
     is_new: bool,
     field: &Member,
 ) -> Result<(), ReadFault>
     requires known { AreFieldTypes pool.now known.old }
     ensures known { AreFieldTypes pool.now known.new }
-    ensures value { Gives (verdict (field_demands_if (insides_of bytes.now) pool.now class.bits is_new field.now)) result }
+    ensures value { Gives (verdict (field_demands_if (insides_of bytes.now) pool.now class.bits
+        is_new field.now)) result }
 {
     check_field_flags(alloc, pool, known, class, is_new, field)?;
     check_field_name(pool, field.name)?;
@@ -192,7 +199,8 @@ pub(crate) fn check_each_field(
     class: Flags,
     fields: &[Member],
 ) -> Result<(), ReadFault>
-    ensures { Gives (verdict (of_each (field_demands (insides_of bytes.now) pool.now class.bits fields.now) 0 fields.now)) result }
+    ensures { Gives (verdict (of_each (field_demands (insides_of bytes.now) pool.now class.bits
+        fields.now) 0 fields.now)) result }
 {
     let mut seen = Seen::new(alloc);
     let mut known = FieldTypes::new(alloc);
@@ -228,7 +236,7 @@ fn check_method_flags(
     let has_code = first_named(pool, CODE, method.attributes.as_slice()).is_some();
     let fit = method_flags_fit(class, has_code, is_initializer(pool, method.name), flags);
     let is_in_profile = method_flags_in_profile(class, flags);
-    check_flags(method.flags.at, fit, is_new, is_in_profile)
+    check_flags(method.flags.at as usize, fit, is_new, is_in_profile)
 }
 
 #[tactic(auto, unfolding(crate::specs::Checks::method_name_demands, cf_text::specs::Demands::verdict, cf_pool::specs::Pools::named))]
@@ -238,11 +246,19 @@ fn check_method_name(pool: &Pool, name: Item) -> Result<(), ReadFault>
     let Some(text) = pool.utf8(name.value) else {
         return Err(ReadFault::Broken {
             rule: Rule::Index,
-            at: name.at,
+            at: name.at as usize,
         });
     };
-    demand(is_method_name(text.as_bytes()), Rule::Utf8, name.at)?;
-    demand(method_name_in_profile(text), Rule::OutOfProfile, name.at)
+    demand(
+        is_method_name(text.as_bytes()),
+        Rule::Utf8,
+        name.at as usize,
+    )?;
+    demand(
+        method_name_in_profile(text),
+        Rule::OutOfProfile,
+        name.at as usize,
+    )
 }
 
 // How many words a value takes.
@@ -262,7 +278,7 @@ fn words_of(kind: &FieldType) -> usize
 
 // Whether parameters, with the receiver if there is one, take at most 255 words.
 #[tactic(auto, unfolding(crate::specs::Checks::are_few))]
-fn are_few(is_static: bool, parameters: &[FieldType]) -> bool
+fn are_few(is_static: bool, parameters: &[Shared<FieldType>]) -> bool
     ensures { result ≡ are_few is_static parameters.now }
 {
     let mut words: usize = if is_static { 0 } else { 1 };
@@ -276,36 +292,37 @@ fn are_few(is_static: bool, parameters: &[FieldType]) -> bool
 }
 
 #[tactic(auto, unfolding(crate::specs::Checks::method_type_demands, cf_text::specs::Demands::verdict))]
-fn check_method_type(
+fn check_method_type<'a>(
     alloc: Global,
-    pool: &Pool,
-    known: &mut MethodTypes,
+    pool: &'a Pool,
+    known: &mut MethodTypes<'a>,
     descriptor: Item,
     is_static: bool,
     is_initializer: bool,
-    text: &Text,
+    text: &'a Text,
 ) -> Result<(), ReadFault>
     requires named { utf8_at pool.now descriptor.value ≡ Some text.now }
     requires known { AreMethodTypes pool.now known.old }
-    ensures value { Gives (verdict (method_type_demands descriptor.at is_static is_initializer text.now)) result }
+    ensures value { Gives (verdict (method_type_demands descriptor.at is_static is_initializer
+        text.now)) result }
     ensures known { AreMethodTypes pool.now known.new }
 {
     let kind = known.read(alloc, pool, descriptor, text)?;
     let fits = are_few(is_static, kind.parameters.as_slice())
         && (!is_initializer || kind.result.is_none());
-    demand(fits, Rule::Descriptor, descriptor.at)?;
+    demand(fits, Rule::Descriptor, descriptor.at as usize)?;
     demand(
         method_type_in_profile(&kind),
         Rule::OutOfProfile,
-        descriptor.at,
+        descriptor.at as usize,
     )
 }
 
 #[tactic(auto, unfolding(crate::specs::Checks::method_descriptor_demands, cf_text::specs::Demands::verdict, cf_pool::specs::Pools::indexed))]
-fn check_method_descriptor(
+fn check_method_descriptor<'a>(
     alloc: Global,
-    pool: &Pool,
-    known: &mut MethodTypes,
+    pool: &'a Pool,
+    known: &mut MethodTypes<'a>,
     method: &Member,
 ) -> Result<(), ReadFault>
     requires known { AreMethodTypes pool.now known.old }
@@ -316,7 +333,7 @@ fn check_method_descriptor(
     let Some(text) = pool.utf8(descriptor.value) else {
         return Err(ReadFault::Broken {
             rule: Rule::Index,
-            at: descriptor.at,
+            at: descriptor.at as usize,
         });
     };
     let flags = Flags {
@@ -334,18 +351,19 @@ fn check_method_descriptor(
 }
 
 #[tactic(auto, unfolding(crate::specs::Checks::method_demands_if), using(cf_text::proofs::Verdicts::verdicts))]
-fn check_method(
+fn check_method<'a>(
     alloc: Global,
     bytes: &[u8],
-    pool: &Pool,
-    known: &mut MethodTypes,
+    pool: &'a Pool,
+    known: &mut MethodTypes<'a>,
     class: Flags,
     is_new: bool,
     method: &Member,
 ) -> Result<(), ReadFault>
     requires known { AreMethodTypes pool.now known.old }
     ensures known { AreMethodTypes pool.now known.new }
-    ensures value { Gives (verdict (method_demands_if (insides_of bytes.now) pool.now class.bits is_new method.now)) result }
+    ensures value { Gives (verdict (method_demands_if (insides_of bytes.now) pool.now class.bits
+        is_new method.now)) result }
 {
     check_method_flags(pool, class, is_new, method)?;
     check_method_name(pool, method.name)?;
@@ -361,7 +379,8 @@ pub(crate) fn check_each_method(
     class: Flags,
     methods: &[Member],
 ) -> Result<(), ReadFault>
-    ensures { Gives (verdict (of_each (method_demands (insides_of bytes.now) pool.now class.bits methods.now) 0 methods.now)) result }
+    ensures { Gives (verdict (of_each (method_demands (insides_of bytes.now) pool.now class.bits
+        methods.now) 0 methods.now)) result }
 {
     let mut seen = Seen::new(alloc);
     let mut known = MethodTypes::new(alloc);

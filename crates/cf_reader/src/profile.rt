@@ -6,6 +6,7 @@ ghost use Rattle.cf_reader.specs.Profile.{class_flags_in_profile, field_flags_in
 
 use super::Flags;
 use cf_pool::{CLASS_INITIALIZER, ElementType, FieldType, MethodDescriptor, Text};
+use cf_text::Shared;
 
 #[tactic(auto, unfolding(crate::specs::Profile::class_flags_in_profile))]
 pub(crate) fn class_flags_in_profile(flags: Flags) -> bool
@@ -63,7 +64,7 @@ pub(crate) fn method_name_in_profile(name: &Text) -> bool
     name.as_bytes() != CLASS_INITIALIZER
 }
 
-fn are_profile_types(kinds: &[FieldType]) -> bool
+fn are_profile_types(kinds: &[Shared<FieldType>]) -> bool
     ensures { result ≡ list_all is_profile_type kinds.now }
 {
     for kind in kinds {

@@ -29,11 +29,13 @@ use std::alloc::Global;
 /// instead of any answer.
 pub fn read_class(alloc: Global, bytes: &[u8]) -> Result<ClassFile, ReadFault>
     // What is read is spelled, and in profile.
-    ensures found { IfOk result (λ class. (layout : Layout) × Spells bytes.now layout class × IsInProfile bytes.now layout) }
+    ensures found { IfOk result (λ class. (layout : Layout) × Spells bytes.now layout class
+        × IsInProfile bytes.now layout) }
     // What is read is well formed: flags, types and descriptors of its members agree.
     ensures well_formed { IfOk result IsWellFormed }
     // What is spelled, and in profile, is read, unless memory runs out.
-    ensures only { (layout : Layout) (class : ClassFile) → Spells bytes.now layout class → IsInProfile bytes.now layout → Gives (Ok class) result }
+    ensures only { (layout : Layout) (class : ClassFile) → Spells bytes.now layout class
+        → IsInProfile bytes.now layout → Gives (Ok class) result }
     // A fault names a rule that fails at its position.
     ensures fault { IfErr result (IsAtFault bytes.now) }
     // Which fault it is: the first.
@@ -54,12 +56,14 @@ fn reading_of(alloc: Global, bytes: &[u8]) -> Result<ClassFile, ReadFault>
 
 /// No bytes have two readings: what they spell, by any layout, is one class file.
 pub fn one_reading()
-    ensures { (bytes : List ℕ) (l m : Layout) (c d : ClassFile) → Spells bytes l c → Spells bytes m d → c ≡ d }
+    ensures { (bytes : List ℕ) (l m : Layout) (c d : ClassFile) → Spells bytes l c
+        → Spells bytes m d → c ≡ d }
 {}
 
 /// The demands of bytes that are laid out stand in the order of bytes, and at one position in the
 /// order of the rules' numbers. So the first demand that does not hold is at the first position at
 /// fault, and has the lowest number of the rules that are broken there.
 pub fn demands_rise()
-    ensures { (bytes : List ℕ) (layout : Layout) (asked : List Demand) → LaysOut bytes layout → AreDemands bytes layout asked → Rises asked }
+    ensures { (bytes : List ℕ) (layout : Layout) (asked : List Demand) → LaysOut bytes layout
+        → AreDemands bytes layout asked → Rises asked }
 {}

@@ -28,8 +28,10 @@ impl<'a> Seen<'a> {
 
     /// Puts a member after those so far, and returns whether it is new among them.
     pub(crate) fn add(&mut self, pool: &'a Pool, member: &Member) -> Result<bool, ReadFault>
-        ensures value { IfOk result (λ new. (members : List Member) → AreSeen pool.now self.old members → new ≡ not (occurs pool.now members member.now)) }
-        ensures added { OnOk result ((members : List Member) → AreSeen pool.now self.old members → AreSeen pool.now self.new (members ++ member.now ∷ [])) }
+        ensures value { IfOk result (λ new. (members : List Member)
+            → AreSeen pool.now self.old members → new ≡ not (occurs pool.now members member.now)) }
+        ensures added { OnOk result ((members : List Member) → AreSeen pool.now self.old members
+            → AreSeen pool.now self.new (members ++ member.now ∷ [])) }
         ensures want { IfErr result (λ fault. fault ≡ Memory) }
     {
         let Some(descriptor) = pool.utf8(member.descriptor.value) else {

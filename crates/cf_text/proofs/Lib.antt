@@ -5,3 +5,4 @@ pub mod FormatLaws
 pub mod LookLaws
 pub mod DescriptorLaws
 pub mod Spans
+mod Parts

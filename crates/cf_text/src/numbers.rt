@@ -5,7 +5,7 @@
 ghost use Rattle.cf_text.specs.Reading.{Gives};
 ghost use Rattle.cf_text.specs.Numbers.{bytes_at, number_at, signed_at, skip_at};
 
-use super::{ReadFault, Row, Rule, Text};
+use super::{FileBytes, ReadFault, Row, Rule, Text};
 use byteorder::{BigEndian, ByteOrder};
 use std::alloc::Global;
 
@@ -55,18 +55,23 @@ pub fn read_i32(bytes: &[u8], at: usize) -> Result<(i32, usize), ReadFault>
     Ok((bits.cast_signed(), to))
 }
 
-/// Returns the next `len` bytes, as a text.
-pub fn read_text(
-    alloc: Global,
-    bytes: &[u8],
-    at: usize,
-    len: usize,
-) -> Result<(Text, usize), ReadFault>
-    ensures { Gives (bytes_at len bytes.now at) result }
+/// Returns the next `len` bytes, as a text that shares them. It takes no memory.
+pub fn read_text(file: &FileBytes, at: usize, len: usize) -> Result<(Text, usize), ReadFault>
+    ensures { Gives (bytes_at len file.now at) result }
 {
-    let to = skip(bytes, at, len)?;
-    let text = Vec::from_slice(alloc, &bytes[at..to])?;
-    Ok((Text::new(alloc, text)?, to))
+    let to = skip(file.as_slice(), at, len)?;
+    Ok((file.text(at, to)?, to))
+}
+
+/// Returns a position as a number of four bytes. A position that has more is out of memory: no
+/// position of a class file of this project has more than three.
+pub fn short_position(at: usize) -> Result<u32, ReadFault>
+    ensures { Gives (Ok at) result }
+{
+    match u32::try_from(at) {
+        Ok(position) => Ok(position),
+        Err(_) => Err(ReadFault::Memory),
+    }
 }
 
 /// Returns the next `len` bytes, as a row.

@@ -1,6 +1,6 @@
 //! Descriptors (JVMS 4.3): the types of fields, and of methods' parameters and results.
 
-use super::{Row, Text};
+use super::{Row, Shared, Text};
 
 /// A field type (JVMS 4.3.2): an element type after 0 to 255 array dimensions.
 #[derive(Debug, Drop)]
@@ -24,11 +24,12 @@ pub enum ElementType {
     Class(Text),
 }
 
-/// A method descriptor (JVMS 4.3.3). `result` is `None` for `V`.
+/// A method descriptor (JVMS 4.3.3). `result` is `None` for `V`. A type stands once in memory, also if
+/// it is named again.
 #[derive(Debug, Drop)]
 pub struct MethodDescriptor {
-    pub parameters: Row<FieldType>,
-    pub result: Option<FieldType>,
+    pub parameters: Row<Shared<FieldType>>,
+    pub result: Option<Shared<FieldType>>,
 }
 
 /// What a descriptor's text says.

@@ -186,7 +186,7 @@ impl Linked {
         requires { method.0 < length self.now.methods }
         ensures { IsSelection self.now.classes (Some method) result }
     {
-        match &self.declaration(method).code {
+        match &*self.declaration(method).code {
             Some(_) => Selection::Runs(method),
             None => Selection::Abstract(method),
         }

@@ -7,33 +7,34 @@ use Rattle.std.proofs.lemmas.List.Elements.{All-append, All-cons, All-nil}
 use Rattle.std.proofs.lemmas.Option.{slice_get_cases, slice_get-get_or, slice_get_within}
 use Rattle.std.proofs.lemmas.Slice.Eq.{bytes_eq-Decides}
 use Rattle.cf_reader.specs.declared.class_file.ClassFile.{ClassFile}
-use Rattle.cls_set.specs.declared.class.Class.{Class}
+use Rattle.cls_order.specs.declared.class.Class.{Class}
 use Rattle.space_ids.specs.declared.ids.ClassId.{ClassId}
-use Rattle.cls_set.specs.declared.entries.Entry.{Entry}
-use Rattle.cls_set.specs.declared.fault.SetFault.{SetFault}
-use Rattle.cls_set.specs.declared.fault.SetFault.TheVariants.{Broken, Memory}
-use Rattle.cls_set.specs.declared.fault.SetRule.{SetRule}
-use Rattle.cls_set.specs.declared.fault.SetRule.TheVariants.{BadSuper, FinalSuper, RemoteField, RemoteMethod, Override, NotYet}
+use Rattle.cls_order.specs.declared.entries.Entry.{Entry}
+use Rattle.cls_order.specs.declared.fault.SetFault.{SetFault}
+use Rattle.cls_order.specs.declared.fault.SetFault.TheVariants.{Broken, Memory}
+use Rattle.cls_order.specs.declared.fault.SetRule.{SetRule}
+use Rattle.cls_order.specs.declared.fault.SetRule.TheVariants.{BadSuper, FinalSuper, RemoteField, RemoteMethod, Override, TooMany, NotYet}
 use Rattle.cls_set.specs.declared.rules.ClassRule.{ClassRule}
 use Rattle.cls_set.specs.declared.rules.ClassRule.TheVariants as class_rules
 use Rattle.cf_reader.specs.declared.flags.TheConstants.Flags.{FINAL, INTERFACE}
-use Rattle.cls_set.specs.Building.{origins_of, IsFaultOf}
-use Rattle.cls_set.specs.Classes.{name_cmp, names, IsInterface}
-use Rattle.cls_set.specs.ClassRules.{set_rule, ExtendsOneWith, ImplementsClass, IsBadlyRooted, IsFirstRuleFault, IsRuleFault, KeepAll}
-use Rattle.cls_set.specs.Faults.{turn, IsFirstToBreak, Keeps}
-use Rattle.cls_set.specs.Entries.{classes_of}
+use Rattle.cls_order.specs.Building.{origins_of, IsFaultOf}
+use Rattle.cls_order.specs.Classes.{name_cmp, names, IsInterface}
+use Rattle.cls_set.specs.ClassRules.{set_rule, ExtendsOneWith, ImplementsClass, IsBadlyRooted, IsFirstRuleFault, IsRuleFault, KeepBelow}
+use Rattle.cls_set.specs.Faults.{IsFirstToBreak, Keeps}
+use Rattle.cls_order.specs.FaultNames.{set_rule_number}
+use Rattle.cls_order.specs.Entries.{classes_of}
 use Rattle.cls_set.specs.Rules as rules
 use Rattle.cf_text.specs.declared.types.FieldType.{FieldType}
 use Rattle.cls_set.specs.Rules.{Breaks, CanBeKept, CanCross, Has, HasFieldNotKept, HasMethodNotCrossing, HasSuperclass, IsBelowRemote, IsItOrAbove, IsRemoteClass, IsRemoteInterface, IsSuperclass, NamesRemoteInterface, OverridesBadly}
-use Rattle.cls_set.specs.Sets.{Origin, origin, IsResolved}
-use Rattle.cls_set.specs.Subtypes.{Declares, Extends}
-use Rattle.cls_set.proofs.Absent.{stands_among}
-use Rattle.cls_set.proofs.Cycles.{later, more_named, resolved_read}
-use Rattle.cls_set.proofs.Hierarchy.{class_read, none_some, same_some, some_and, some_of, true_false}
-use Rattle.cls_set.proofs.Names.{name_of, name_read, length_names}
+use Rattle.cls_order.specs.Sets.{Origin, origin, IsResolved}
+use Rattle.cls_order.specs.Subtypes.{Declares, Extends}
+use Rattle.cls_order.proofs.Absent.{stands_among}
+use Rattle.cls_order.proofs.Cycles.{later, more_named, resolved_read}
+use Rattle.cls_order.proofs.Hierarchy.{class_read, none_some, same_some, some_and, some_of, true_false}
+use Rattle.cls_order.proofs.Names.{name_of, name_read, length_names}
 use Rattle.cls_set.proofs.Supers.{resolved_none, superclass_in, superinterface_in}
-use Rattle.cls_set.proofs.Supertypes.{direct_within}
-use Rattle.cls_set.proofs.Walks.{before}
+use Rattle.cls_order.proofs.Supertypes.{direct_within}
+use Rattle.cls_order.proofs.Walks.{before}
 
 -- of the classes up to an index none breaks the rule
 abbrev pub AreWhole : List Entry → SetRule → ℕ → Type 0
@@ -242,43 +243,75 @@ pub class_among : (xs : List Entry) (p : ℕ) (m : Entry) → p < length xs → 
 class_among xs p m h =
     (p, subst (λ n. p < n) (sym (length-map xs (λ (x : Entry). x.class))) h, get_or-map (λ (x : Entry). x.class) xs p m (get_or xs p m).class h)
 
-pub keep_all : (classes : List Origin) → Keeps classes BadSuper → Keeps classes FinalSuper → Keeps classes RemoteField → Keeps classes RemoteMethod → Keeps classes Override → Keeps classes NotYet → KeepAll classes
-keep_all classes a b c d e f class_rules.BadSuper = a
-keep_all classes a b c d e f class_rules.FinalSuper = b
-keep_all classes a b c d e f class_rules.RemoteField = c
-keep_all classes a b c d e f class_rules.RemoteMethod = d
-keep_all classes a b c d e f class_rules.Override = e
-keep_all classes a b c d e f class_rules.NotYet = f
-
-pub first_fault : (classes : List Origin) (rule : ClassRule) (fault : SetFault) → IsRuleFault classes (set_rule rule) fault
-    → ((other : ClassRule) → turn (set_rule other) < turn (set_rule rule) → Keeps classes (set_rule other)) → IsFirstRuleFault classes fault
-first_fault classes rule (Broken r name) h before = (rule, h.0, h.1, before)
-first_fault classes rule Memory h before = tt
+pub first_fault : (classes : List Origin) (rule : ClassRule) (fault : SetFault) → set_rule_number (set_rule rule) < set_rule_number TooMany → IsRuleFault classes (set_rule rule) fault → KeepBelow classes (set_rule_number (set_rule rule)) → IsFirstRuleFault classes fault
+first_fault classes rule (Broken r name) low h before =
+    (rule, h.0, subst (λ r. set_rule_number r < set_rule_number TooMany) (sym h.0) low, subst (λ r. IsFirstToBreak classes r name) (sym h.0) h.1, subst (λ r. KeepBelow classes (set_rule_number r)) (sym h.0) before)
+first_fault classes rule Memory low h before = tt
 
 -- the rules are looked for one after the other
-pub before_override : (classes : List Origin) → Keeps classes BadSuper → Keeps classes FinalSuper → Keeps classes RemoteField → Keeps classes RemoteMethod → (other : ClassRule) → turn (set_rule other) < turn Override → Keeps classes (set_rule other)
-before_override classes a b c d class_rules.BadSuper l = a
-before_override classes a b c d class_rules.FinalSuper l = b
-before_override classes a b c d class_rules.RemoteField l = c
-before_override classes a b c d class_rules.RemoteMethod l = d
-before_override classes a b c d class_rules.Override l = absurd (omega (arith, l))
-before_override classes a b c d class_rules.NotYet l = absurd (omega (arith, l))
+pub none_before : (classes : List Origin) → KeepBelow classes (set_rule_number BadSuper)
+none_before classes class_rules.BadSuper l = absurd (omega (arith, l))
+none_before classes class_rules.FinalSuper l = absurd (omega (arith, l))
+none_before classes class_rules.RemoteField l = absurd (omega (arith, l))
+none_before classes class_rules.RemoteMethod l = absurd (omega (arith, l))
+none_before classes class_rules.Override l = absurd (omega (arith, l))
+none_before classes class_rules.NotYet l = absurd (omega (arith, l))
 
-pub before_remote_method : (classes : List Origin) → Keeps classes BadSuper → Keeps classes FinalSuper → Keeps classes RemoteField → (other : ClassRule) → turn (set_rule other) < turn RemoteMethod → Keeps classes (set_rule other)
-before_remote_method classes a b c class_rules.BadSuper l = a
-before_remote_method classes a b c class_rules.FinalSuper l = b
-before_remote_method classes a b c class_rules.RemoteField l = c
-before_remote_method classes a b c class_rules.RemoteMethod l = absurd (omega (arith, l))
-before_remote_method classes a b c class_rules.Override l = absurd (omega (arith, l))
-before_remote_method classes a b c class_rules.NotYet l = absurd (omega (arith, l))
+pub one_before : (classes : List Origin) → Keeps classes BadSuper → KeepBelow classes (set_rule_number FinalSuper)
+one_before classes a class_rules.BadSuper l = a
+one_before classes a class_rules.FinalSuper l = absurd (omega (arith, l))
+one_before classes a class_rules.RemoteField l = absurd (omega (arith, l))
+one_before classes a class_rules.RemoteMethod l = absurd (omega (arith, l))
+one_before classes a class_rules.Override l = absurd (omega (arith, l))
+one_before classes a class_rules.NotYet l = absurd (omega (arith, l))
 
-pub before_not_yet : (classes : List Origin) → Keeps classes BadSuper → Keeps classes FinalSuper → Keeps classes RemoteField → Keeps classes RemoteMethod → Keeps classes Override → (other : ClassRule) → turn (set_rule other) < turn NotYet → Keeps classes (set_rule other)
-before_not_yet classes a b c d e class_rules.BadSuper l = a
-before_not_yet classes a b c d e class_rules.FinalSuper l = b
-before_not_yet classes a b c d e class_rules.RemoteField l = c
-before_not_yet classes a b c d e class_rules.RemoteMethod l = d
-before_not_yet classes a b c d e class_rules.Override l = e
-before_not_yet classes a b c d e class_rules.NotYet l = absurd (omega (arith, l))
+pub two_before : (classes : List Origin) → Keeps classes BadSuper → Keeps classes FinalSuper → KeepBelow classes (set_rule_number RemoteField)
+two_before classes a b class_rules.BadSuper l = a
+two_before classes a b class_rules.FinalSuper l = b
+two_before classes a b class_rules.RemoteField l = absurd (omega (arith, l))
+two_before classes a b class_rules.RemoteMethod l = absurd (omega (arith, l))
+two_before classes a b class_rules.Override l = absurd (omega (arith, l))
+two_before classes a b class_rules.NotYet l = absurd (omega (arith, l))
+
+pub three_before : (classes : List Origin) → Keeps classes BadSuper → Keeps classes FinalSuper → Keeps classes RemoteField → KeepBelow classes (set_rule_number RemoteMethod)
+three_before classes a b c class_rules.BadSuper l = a
+three_before classes a b c class_rules.FinalSuper l = b
+three_before classes a b c class_rules.RemoteField l = c
+three_before classes a b c class_rules.RemoteMethod l = absurd (omega (arith, l))
+three_before classes a b c class_rules.Override l = absurd (omega (arith, l))
+three_before classes a b c class_rules.NotYet l = absurd (omega (arith, l))
+
+pub four_before : (classes : List Origin) → Keeps classes BadSuper → Keeps classes FinalSuper → Keeps classes RemoteField → Keeps classes RemoteMethod → KeepBelow classes (set_rule_number Override)
+four_before classes a b c d class_rules.BadSuper l = a
+four_before classes a b c d class_rules.FinalSuper l = b
+four_before classes a b c d class_rules.RemoteField l = c
+four_before classes a b c d class_rules.RemoteMethod l = d
+four_before classes a b c d class_rules.Override l = absurd (omega (arith, l))
+four_before classes a b c d class_rules.NotYet l = absurd (omega (arith, l))
+
+pub five_before : (classes : List Origin) → Keeps classes BadSuper → Keeps classes FinalSuper → Keeps classes RemoteField → Keeps classes RemoteMethod → Keeps classes Override → KeepBelow classes (set_rule_number TooMany)
+five_before classes a b c d e class_rules.BadSuper l = a
+five_before classes a b c d e class_rules.FinalSuper l = b
+five_before classes a b c d e class_rules.RemoteField l = c
+five_before classes a b c d e class_rules.RemoteMethod l = d
+five_before classes a b c d e class_rules.Override l = e
+five_before classes a b c d e class_rules.NotYet l = absurd (omega (arith, l))
+
+pub all_before : (classes : List Origin) → KeepBelow classes (set_rule_number TooMany) → Keeps classes NotYet → (rule : ClassRule) → Keeps classes (set_rule rule)
+all_before classes before last class_rules.BadSuper = before class_rules.BadSuper (omega arith)
+all_before classes before last class_rules.FinalSuper = before class_rules.FinalSuper (omega arith)
+all_before classes before last class_rules.RemoteField = before class_rules.RemoteField (omega arith)
+all_before classes before last class_rules.RemoteMethod = before class_rules.RemoteMethod (omega arith)
+all_before classes before last class_rules.Override = before class_rules.Override (omega arith)
+all_before classes before last class_rules.NotYet = last
+
+pub last_before : (classes : List Origin) → KeepBelow classes (set_rule_number TooMany) → KeepBelow classes (set_rule_number NotYet)
+last_before classes before class_rules.BadSuper l = before class_rules.BadSuper (omega arith)
+last_before classes before class_rules.FinalSuper l = before class_rules.FinalSuper (omega arith)
+last_before classes before class_rules.RemoteField l = before class_rules.RemoteField (omega arith)
+last_before classes before class_rules.RemoteMethod l = before class_rules.RemoteMethod (omega arith)
+last_before classes before class_rules.Override l = before class_rules.Override (omega arith)
+last_before classes before class_rules.NotYet l = absurd (omega (arith, l))
 
 pub final_way : (classes : List Origin) (file : ClassFile) (r : Bool) → IsTrue r ↔ ExtendsOneWith classes file FINAL → IsTrue r ↔ Breaks classes file FinalSuper
 final_way classes file r h = (λ e. let x = h.0 e in rules.Breaks.final_extended x.0 x.1 x.2, λ b. h.1 (way classes file FinalSuper b))

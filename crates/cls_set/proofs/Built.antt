@@ -1,67 +1,37 @@
-use Rattle.std.proofs.Common.{◌≡◌, ℕ, zero, suc, ◌+◌, ◌-◌, ◌<◌, ◌≤◌, inl, inr, true, false, Option, Some, None, List, [], ◌∷◌, length, get_or, map, refl, sym, subst, ap, ◌∙◌, arith}
-use Rattle.std.specs.Prelude.{All, Contains, IsPermutation, IfSome, IsSome, bytes_eq, count_by, cond, slice_get, option_map}
+use Rattle.std.proofs.Common.{◌≡◌, ℕ, zero, suc, ◌+◌, ◌<◌, true, false, Some, List, [], ◌∷◌, length, get_or, map, refl, sym, subst, ap, ◌∙◌, arith}
+use Rattle.std.specs.Prelude.{All, Contains, IsPermutation, IsSome, bytes_eq, count_by, cond, slice_get}
 use Rattle.std.specs.List.Sorted.{IsStrictlySortedBy}
 use Rattle.std.proofs.lemmas.List.{get_or-map, length-append, length-map}
 use Rattle.std.proofs.lemmas.List.Elements.{All-get_or, All-map, Contains-append_left}
-use Rattle.std.proofs.lemmas.List.Sorted.{IsPermutation-map, IsPermutation-sym, Contains-permutation, length_permutation, sum_by-IsPermutation}
+use Rattle.std.proofs.lemmas.List.Sorted.{IsPermutation-map, IsPermutation-sym, Contains-permutation, sum_by-IsPermutation}
 use Rattle.std.proofs.lemmas.Slice.Eq.{bytes_eq-Decides}
 use Rattle.cf_reader.specs.declared.class_file.ClassFile.{ClassFile}
-use Rattle.cls_set.specs.declared.class.Class.{Class}
-use Rattle.cls_set.specs.declared.fault.SetFault.{SetFault}
-use Rattle.cls_set.specs.declared.fault.SetFault.TheVariants.{Broken, Memory}
-use Rattle.cls_set.specs.declared.fault.SetRule.TheVariants.{Duplicate, AbsentClass, Cycle, TooMany}
-use Rattle.cls_set.specs.declared.entries.Entry.{Entry}
-use Rattle.cls_set.specs.BuiltIn.{built_ins, built_in_files, file_of}
-use Rattle.cls_set.specs.Building.{ranked_from, kept, origins_of, IsAbsentFault, IsCycleFault, IsDuplicateFault, IsFaultOf, IsWhole}
-use Rattle.cls_set.specs.Classes.{name_cmp, names, number_from, number_of}
-use Rattle.cls_set.specs.Entries.{classes_of, AreArranged, IsRanked}
-use Rattle.cls_set.specs.Sets.{Origin, origin, origins, origin_names, HasClasses, HasAbsent, IsResolved, IsFirstCycle, IsFirstDuplicate, IsWithoutAbsent, IsWithoutCycles, IsWithoutDuplicates}
+use Rattle.cls_order.specs.declared.class.Class.{Class}
+use Rattle.cls_order.specs.declared.fault.SetFault.{SetFault}
+use Rattle.cls_order.specs.declared.fault.SetFault.TheVariants.{Broken, Memory}
+use Rattle.cls_order.specs.declared.fault.SetRule.TheVariants.{Duplicate, AbsentClass, Cycle}
+use Rattle.cls_order.specs.declared.entries.Entry.{Entry}
+use Rattle.cls_order.specs.BuiltIn.{built_ins, built_in_files, file_of}
+use Rattle.cls_order.specs.Building.{ranked_from, kept, origins_of, IsAbsentFault, IsCycleFault, IsDuplicateFault, IsWhole}
+use Rattle.cls_order.specs.Classes.{name_cmp, names, number_from, number_of}
+use Rattle.cls_order.specs.Entries.{classes_of, AreArranged, IsRanked}
+use Rattle.cls_order.specs.Sets.{Origin, origin, origins, origin_names, HasClasses, HasAbsent, IsResolved, IsFirstDuplicate, IsWithoutAbsent, IsWithoutCycles, IsWithoutDuplicates}
 use Rattle.cls_set.specs.Faults.{IsSetFault}
-use Rattle.cls_set.specs.Subtypes.{IsDirectSupertype}
-use Rattle.cls_set.proofs.Turns.{AreKeptBelow, kept_next}
-use Rattle.cls_set.specs.Walks.{IsFirstOwn}
-use Rattle.std.proofs.lemmas.Option.{slice_get-get_or, slice_get-map, slice_get_cases, slice_get_within}
-use Rattle.cls_set.proofs.Absent.{cycle_fault}
-use Rattle.cls_set.proofs.Cycles.{first_cycle, more_named, none_own, standing}
-use Rattle.cls_set.proofs.Gathered.{length_ranked}
-use Rattle.cls_set.proofs.Resolved.{names_kept, length_kept, origins_kept}
-use Rattle.cls_set.proofs.Sorting.{matches, count_strict}
-use Rattle.cls_set.proofs.Hierarchy.{class_of_read, rank_of, same_some, true_false}
-use Rattle.cls_set.proofs.Supertypes.{ranks}
-
-abbrev pub origin_of : Entry → Origin
-origin_of m = origin m.class
-
-origins_ranked : (k : ℕ) (os : List Origin) → map origin_of (ranked_from k os) ≡ os
-origins_ranked k [] = refl
-origins_ranked k (o ∷ os) = ap (λ xs. o ∷ xs) (origins_ranked (suc k) os)
-
-names_from_origins : (entries : List Entry) → names (classes_of entries) ≡ map (λ (o : Origin). o.0.name) (map origin_of entries)
-names_from_origins [] = refl
-names_from_origins (m ∷ ms) = ap (λ ns. m.class.file.name ∷ ns) (names_from_origins ms)
-
-pub origins_of_classes : (entries : List Entry) → map origin (classes_of entries) ≡ map origin_of entries
-origins_of_classes [] = refl
-origins_of_classes (m ∷ ms) = ap (λ os. origin m.class ∷ os) (origins_of_classes ms)
-
-origins_from_kept : (entries : List Entry) → map origin_of entries ≡ map (λ (k : Origin × ℕ). k.0) (map kept entries)
-origins_from_kept [] = refl
-origins_from_kept (m ∷ ms) = ap (λ os. origin m.class ∷ os) (origins_from_kept ms)
-
--- the first class on a cycle, named
-pub cycle_named : (old new : List Entry) (k : ℕ) (m : Entry) (e : SetFault) → classes_of new ≡ classes_of old → IsStrictlySortedBy name_cmp (names (classes_of old)) → All (IsResolved (names (classes_of old))) (classes_of old) → IsFirstOwn (classes_of old) k → m ≡ get_or new k m → IsFaultOf Cycle m.class.file.name e → IsCycleFault (origins_of old) e
-cycle_named old new k m e same ordered resolved own is fault =
-    let name = m.class.file.name in
-    let within : k < length new = subst (λ n. k < n) (length-map new (λ m. m.class)) (subst (λ (cs : List Class). k < length cs) (sym same) own.within) in
-    let there : slice_get (classes_of new) k ≡ Some m.class = class_of_read new m k k refl within is in
-    let called : slice_get (names (classes_of old)) k ≡ Some name = subst (λ cs. slice_get (names cs) k ≡ Some name) same (slice_get-map (λ (c : Class). c.file.name) (classes_of new) k ∙ ap (option_map (λ (c : Class). c.file.name)) there) in
-    cycle_fault (origins_of old) name e (subst (λ os. IsFirstCycle os name) (origins_of_classes old) (first_cycle (classes_of old) ordered resolved k name called own)) fault
+use Rattle.cls_order.specs.Subtypes.{IsDirectSupertype}
+use Rattle.cls_set.proofs.Turns.{AreKeptBelow, kept_next, lowest}
+use Rattle.std.proofs.lemmas.Option.{slice_get-get_or, slice_get_within}
+use Rattle.cls_order.proofs.Cycles.{more_named, none_own, standing}
+use Rattle.cls_order.proofs.Origins.{origin_of, origins_ranked, names_from_origins, origins_of_classes, origins_from_kept}
+use Rattle.cls_order.proofs.Resolved.{names_kept, origins_kept}
+use Rattle.cls_order.proofs.Sorting.{matches, count_strict}
+use Rattle.cls_order.proofs.Hierarchy.{rank_of, same_some}
+use Rattle.cls_order.proofs.Supertypes.{ranks}
 
 length_built_ins : length built_ins ≡ 29
 unfolding built_ins
 length_built_ins = refl
 
-length_origins : (files : List ClassFile) → length (origins files) ≡ 29 + length files
+pub length_origins : (files : List ClassFile) → length (origins files) ≡ 29 + length files
 length_origins files =
     let built : ClassFile → Origin = λ file. (file, true) in
     let own : ClassFile → Origin = λ file. (file, false) in
@@ -108,7 +78,7 @@ module _ (files : List ClassFile) (entries : List Entry) (all : IsPermutation (r
       }
 
   pub duplicate_fault : (fault : SetFault) → IsDuplicateFault (names (classes_of entries)) fault → IsSetFault files fault
-  duplicate_fault (Broken Duplicate name) h = (duplicate_held name h, λ other l. absurd (omega (arith, l)))
+  duplicate_fault (Broken Duplicate name) h = (duplicate_held name h, λ other l. let low = lowest other in absurd (omega (arith, l, low)))
   duplicate_fault Memory h = tt
   duplicate_fault (Broken _ name) h = absurd h
 
@@ -118,36 +88,9 @@ module _ (files : List ClassFile) (entries : List Entry) (all : IsPermutation (r
       let same = same_count name in
       absurd (omega (arith, once, same, twice))
 
-  all_long : length entries ≡ length (origins files)
-  all_long = length_permutation (ranked_from 0 (origins files)) entries all ∙ length_ranked 0 (origins files)
-
-  pub few_held : (last : Option (List ℕ)) → last ≡ option_map (λ (file : ClassFile). file.name) (slice_get files (length files - 1)) → (IsSome last → length entries ≤ 4096) → length entries ≤ 4096
-  few_held last is few =
-      elim (slice_get_cases files (length files - 1)).1 [
-        | inl r ↦ few (subst IsSome (sym (is ∙ ap (option_map (λ (file : ClassFile). file.name)) r.2)) refl)
-        | inr r ↦
-            let whole = all_long in
-            let both = length_origins files in
-            let past = r.0 in
-            omega (arith, whole, both, past)
-      ]
-
-  few_origins : length entries ≤ 4096 → length (origins files) ≤ 4096
-  few_origins few = let whole = all_long in omega (arith, whole, few)
-
   -- the rules so far are kept
-  pub kept_distinct : IsStrictlySortedBy name_cmp (names (classes_of entries)) → AreKeptBelow files 1
-  kept_distinct ordered = kept_next files Duplicate 0 refl (λ other l. absurd (omega (arith, l))) (distinct ordered)
-
-  pub kept_few : IsStrictlySortedBy name_cmp (names (classes_of entries)) → length entries ≤ 4096 → AreKeptBelow files 2
-  kept_few ordered few = kept_next files TooMany 1 refl (kept_distinct ordered) (few_origins few)
-
-  pub many_fault : IsStrictlySortedBy name_cmp (names (classes_of entries)) → (last : Option (List ℕ)) → last ≡ option_map (λ (file : ClassFile). file.name) (slice_get files (length files - 1)) → (fault : SetFault) → 4096 < length entries → IfSome last (λ name. IsFaultOf TooMany name fault) → IsSome last → IsSetFault files fault
-  many_fault ordered (Some name) is (Broken rule n) over h some =
-      let whole = all_long in
-      subst (λ r. IsSetFault files (Broken r n)) (sym h.0) (record { many = omega (arith, whole, over); last = sym is ∙ ap (λ x. Some x) (sym h.1) }, kept_distinct ordered)
-  many_fault ordered (Some name) is Memory over h some = tt
-  many_fault ordered None is fault over h some = absurd (true_false (sym some))
+  pub kept_distinct : IsStrictlySortedBy name_cmp (names (classes_of entries)) → AreKeptBelow files 31
+  kept_distinct ordered = kept_next files Duplicate 30 refl (λ other l. let low = lowest other in absurd (omega (arith, l, low))) (distinct ordered)
 
   forth : (o : Origin) → Contains (origins files) o → Contains (origins_of entries) o
   forth o among = Contains-permutation (origins files) (origins_of entries) o origins_held among
@@ -166,8 +109,8 @@ module _ (files : List ClassFile) (entries : List Entry) (all : IsPermutation (r
         absent = λ among. h.absent (Contains-permutation (names (classes_of entries)) (origin_names files) h.name (IsPermutation-sym (origin_names files) (names (classes_of entries)) names_held) among);
       }
 
-  pub absent_fault : IsStrictlySortedBy name_cmp (names (classes_of entries)) → length entries ≤ 4096 → (fault : SetFault) → IsAbsentFault (names (classes_of entries)) (origins_of entries) fault → IsSetFault files fault
-  absent_fault ordered few (Broken AbsentClass name) h = (
+  pub absent_fault : IsStrictlySortedBy name_cmp (names (classes_of entries)) → (fault : SetFault) → IsAbsentFault (names (classes_of entries)) (origins_of entries) fault → IsSetFault files fault
+  absent_fault ordered (Broken AbsentClass name) h = (
     record {
       class = h.class;
       stands = back h.class h.stands;
@@ -175,10 +118,10 @@ module _ (files : List ClassFile) (entries : List Entry) (all : IsPermutation (r
       absent = absent_out h.class.0 h.absent;
       first = λ other among less a. h.first other (forth other among) less (absent_in other.0 a);
     },
-    kept_few ordered few,
+    kept_distinct ordered,
   )
-  absent_fault ordered few Memory h = tt
-  absent_fault ordered few (Broken _ name) h = absurd h
+  absent_fault ordered Memory h = tt
+  absent_fault ordered (Broken _ name) h = absurd h
 
   -- the entries once they are resolved
   module _ (resolved : List Entry) (same : map kept resolved ≡ map kept entries) (ordered : IsStrictlySortedBy name_cmp (names (classes_of entries))) (found : All (λ m. IsWhole (names (classes_of entries)) m.class) resolved) where
@@ -210,19 +153,19 @@ module _ (files : List ClassFile) (entries : List Entry) (all : IsPermutation (r
     outside : (o : Origin) → Contains (origins_of resolved) o → Contains (origins files) o
     outside o among = back o (subst (λ os. Contains os o) (origins_kept resolved entries same) among)
 
-    pub kept_complete : length entries ≤ 4096 → AreKeptBelow files 3
-    kept_complete few = kept_next files AbsentClass 2 refl (kept_few ordered few) complete
+    pub kept_complete : AreKeptBelow files 32
+    kept_complete = kept_next files AbsentClass 31 refl (kept_distinct ordered) complete
 
-    pub cycle_held : length entries ≤ 4096 → (fault : SetFault) → IsCycleFault (origins_of resolved) fault → IsSetFault files fault
-    cycle_held few (Broken Cycle name) h = (
+    pub cycle_held : (fault : SetFault) → IsCycleFault (origins_of resolved) fault → IsSetFault files fault
+    cycle_held (Broken Cycle name) h = (
       record {
         cycle = more_named (origins_of resolved) (origins files) outside name name h.cycle;
         first = λ other less s. h.first other less (more_named (origins files) (origins_of resolved) (λ o among. subst (λ os. Contains os o) (origins_of_classes resolved) (inside o among)) other other s);
       },
-      kept_complete few,
+      kept_complete,
     )
-    cycle_held few Memory h = tt
-    cycle_held few (Broken _ name) h = absurd h
+    cycle_held Memory h = tt
+    cycle_held (Broken _ name) h = absurd h
 
     -- once they are ranked too
     module _ (final : List Entry) (is_final : classes_of final ≡ classes_of resolved) (ranked : All (IsRanked final) final) where
@@ -234,14 +177,13 @@ module _ (files : List ClassFile) (entries : List Entry) (all : IsPermutation (r
       pub has_classes_ranked : HasClasses files (classes_of final)
       has_classes_ranked = subst (HasClasses files) (sym is_final) has_classes
 
-      pub kept_acyclic : length entries ≤ 4096 → AreKeptBelow files 4
-      kept_acyclic few = kept_next files Cycle 3 refl (kept_complete few) acyclic
+      pub kept_acyclic : AreKeptBelow files 33
+      kept_acyclic = kept_next files Cycle 32 refl kept_complete acyclic
 
-      pub arranged : length entries ≤ 4096 → AreArranged final
-      arranged few =
+      pub arranged : AreArranged final
+      arranged =
           record {
             ordered = subst (λ cs. IsStrictlySortedBy name_cmp (names cs)) (sym is_final) ordered_kept;
-            few = subst (λ n. n ≤ 4096) (sym (sym (length-map final (λ m. m.class)) ∙ (ap length is_final ∙ (length-map resolved (λ m. m.class) ∙ length_kept resolved entries same)))) few;
             resolved = subst (λ cs. All (IsResolved (names cs)) cs) (sym is_final) found_kept;
             ranked = ranked;
           }

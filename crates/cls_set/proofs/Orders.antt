@@ -1,47 +1,30 @@
 -- Methods in the order of their names and descriptors, and the search among them.
 use Rattle.std.proofs.Common.{◌≡◌, ℕ, ◌+◌, ◌<◌, ◌≤◌, inl, inr, true, false, Some, List, [], ◌∷◌, ◌++◌, length, get_or, refl, sym, subst, ap, ◌∙◌, arith}
-use Rattle.std.specs.Prelude.{All, Contains, slice_get}
+use Rattle.std.specs.Prelude.{slice_get}
 use Rattle.std.specs.List.Sorted.{IsNonDecreasingBy, IsPartitionedBy, IsPartitionPoint}
 use Rattle.std.specs.Ordering.{is_lt, ordering_index, ordering_then}
 use Rattle.std.specs.declared.cmp.Ordering.{Ordering}
 use Rattle.std.specs.declared.cmp.Ordering.TheVariants.{Less, Equal, Greater}
 use Rattle.std.specs.Cmp.{IsTotalOrder}
 use Rattle.std.proofs.lemmas.Cmp.{nat_list_cmp_total, on_total, then_total, tied_itself}
-use Rattle.std.proofs.lemmas.List.Elements.{All-append, All-cons, All-nil, Contains-append_left, Contains-append_right}
 use Rattle.std.proofs.lemmas.List.Sorted.{searchable_from_sorted}
 use Rattle.cf_reader.specs.declared.class_file.Method.{Method}
 use Rattle.cf_reader.specs.declared.class_file.ClassFile.{ClassFile}
-use Rattle.cls_set.specs.declared.class.Class.{Class}
-use Rattle.cls_set.specs.Classes.{name_cmp}
+use Rattle.cls_order.specs.declared.class.Class.{Class}
+use Rattle.cls_order.specs.Classes.{name_cmp}
 use Rattle.cls_set.specs.Orders.{key_at, key_cmp, key_in, key_of, HaveOrders, IsOrder, Key}
 use Rattle.cls_set.specs.Rules.{Clashes}
-use Rattle.cls_set.proofs.Hierarchy.{same_read, same_some, true_false}
-use Rattle.cls_set.proofs.Names.{same_test}
+use Rattle.cls_order.proofs.Hierarchy.{same_read, same_some, true_false}
+use Rattle.cls_order.proofs.Names.{same_test}
 use Rattle.std.specs.List.{Any}
 use Rattle.std.proofs.lemmas.Slice.Eq.{bytes_eq-Decides}
 use Rattle.std.proofs.Math.ListN.{get_or-append}
 use Rattle.std.proofs.lemmas.List.{get_or_push, length-append}
 use Rattle.std.proofs.lemmas.Option.{slice_get-get_or, slice_get_within}
-use Rattle.cls_set.proofs.Walks.{before}
+use Rattle.cls_order.proofs.Walks.{before}
 
 pub key_total : IsTotalOrder key_cmp
 key_total = then_total (on_total (λ (key : Key). key.0) nat_list_cmp_total) (on_total (λ (key : Key). key.1) nat_list_cmp_total)
-
--- the numbers below one
-pub record AreFirst (n : ℕ) (order : List ℕ) : Type 0 where
-  pub only : All (λ k. k < n) order
-  pub each : (k : ℕ) → k < n → Contains order k
-
-pub one_more : (n : ℕ) (order : List ℕ) → AreFirst n order → AreFirst (n + 1) (order ++ n ∷ [])
-one_more n order first =
-    record {
-      only = All-append (λ k. k < n + 1) order (n ∷ []) (λ k d h. let low = first.only k d h in omega (arith, low)) (All-cons (λ k. k < n + 1) n [] (omega arith) (All-nil (λ k. k < n + 1)));
-      each = λ k h.
-          elim (before k n) [
-            | inl low ↦ Contains-append_left order (n ∷ []) k (first.each k low)
-            | inr high ↦ let same : k ≡ n = omega (arith, h, high) in subst (Contains (order ++ n ∷ [])) (sym same) (Contains-append_right order (n ∷ []) n (0, omega arith, refl))
-          ];
-    }
 
 lower_index : (a b : Ordering) → ordering_index a ≤ ordering_index b → is_lt b ≡ true → is_lt a ≡ true
 lower_index Less b h e = refl

@@ -7,17 +7,17 @@ use Rattle.std.proofs.lemmas.Option.{slice_get-get_or, slice_get_within}
 use Rattle.cf_reader.specs.declared.class_file.ClassFile.{ClassFile}
 use Rattle.cf_reader.specs.declared.class_file.Method.{Method}
 use Rattle.cf_reader.specs.declared.flags.TheConstants.Flags.{PRIVATE, STATIC, FINAL}
-use Rattle.cls_set.specs.declared.class.Class.{Class}
+use Rattle.cls_order.specs.declared.class.Class.{Class}
 use Rattle.space_ids.specs.declared.ids.ClassId.{ClassId}
-use Rattle.cls_set.specs.declared.entries.Entry.{Entry}
-use Rattle.cls_set.specs.Building.{origins_of}
+use Rattle.cls_order.specs.declared.entries.Entry.{Entry}
+use Rattle.cls_order.specs.Building.{origins_of}
 use Rattle.cls_set.specs.ClassRules.{ClashesAbove, ClashesIn}
-use Rattle.cls_set.specs.Entries.{classes_of, AreArranged}
+use Rattle.cls_order.specs.Entries.{classes_of, AreArranged}
 use Rattle.cls_set.specs.Rules as rules
 use Rattle.cls_set.specs.Rules.{package_name, Clashes, Has, HasPackageAccess, HasSuperclass, IsSamePackage, IsSuperclass, MayNotStand, OverridesBadly}
-use Rattle.cls_set.specs.Sets.{Origin}
-use Rattle.cls_set.proofs.Built.{origins_of_classes}
-use Rattle.cls_set.proofs.Hierarchy.{rank_of, same_some, superclass_lower}
+use Rattle.cls_order.specs.Sets.{Origin}
+use Rattle.cls_order.proofs.Origins.{origins_of_classes}
+use Rattle.cls_order.proofs.Hierarchy.{rank_of, same_some, superclass_lower}
 use Rattle.cls_set.proofs.Supers.{resolved_member, superclass_in, superclass_in_set, superclass_none, superclass_out}
 
 abbrev pub is_slash : ℕ → Bool

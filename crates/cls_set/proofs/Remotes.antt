@@ -1,22 +1,23 @@
 -- Which classes are java/rmi/Remote or below it, by number and by name.
-use Rattle.std.proofs.Common.{◌≡◌, ℕ, ◌⊎◌, inl, inr, Some, None, List, map, refl, sym, subst, ap, ◌∙◌}
-use Rattle.std.specs.Prelude.{Contains, codes, slice_get}
+use Rattle.std.proofs.Common.{◌≡◌, ℕ, ◌⊎◌, inl, inr, Bool, Some, None, List, map, refl, sym, subst, ap, ◌∙◌}
+use Rattle.std.specs.Prelude.{◌↔◌, Contains, codes, slice_get}
 use Rattle.std.proofs.lemmas.Option.{slice_get_within, slice_get-get_or}
-use Rattle.cls_set.specs.declared.class.Class.{Class}
+use Rattle.cls_order.specs.declared.class.Class.{Class}
 use Rattle.space_ids.specs.declared.ids.ClassId.{ClassId}
-use Rattle.cls_set.specs.declared.entries.Entry.{Entry}
-use Rattle.cls_set.specs.Building.{origins_of}
-use Rattle.cls_set.specs.Classes.{names, number_of}
-use Rattle.cls_set.specs.Entries.{classes_of, AreArranged}
+use Rattle.cls_order.specs.declared.entries.Entry.{Entry}
+use Rattle.cls_order.specs.Building.{origins_of}
+use Rattle.cls_order.specs.Classes.{names, number_of}
+use Rattle.cls_order.specs.Entries.{classes_of, AreArranged}
+use Rattle.cls_order.specs.Marks.{IsMarked, Reaches}
 use Rattle.cls_set.specs.Rules.{IsBelowRemote}
-use Rattle.cls_set.specs.Sets.{origin, IsSupertypeByName}
-use Rattle.cls_set.specs.Subtypes as types
-use Rattle.cls_set.specs.Subtypes.{IsProperSubtype, IsSubtype}
-use Rattle.cls_set.proofs.Absent.{name_absent}
-use Rattle.cls_set.proofs.Built.{origins_of_classes}
-use Rattle.cls_set.proofs.Cycles.{by_name, by_number, class_named, one_index}
-use Rattle.cls_set.proofs.Hierarchy.{same_some}
-use Rattle.cls_set.proofs.Walks.{same_class}
+use Rattle.cls_order.specs.Sets.{origin, IsSupertypeByName}
+use Rattle.cls_order.specs.Subtypes as types
+use Rattle.cls_order.specs.Subtypes.{IsProperSubtype, IsSubtype}
+use Rattle.cls_order.proofs.Absent.{name_absent}
+use Rattle.cls_order.proofs.Origins.{origins_of_classes}
+use Rattle.cls_order.proofs.Cycles.{by_name, by_number, class_named, one_index}
+use Rattle.cls_order.proofs.Hierarchy.{same_some}
+use Rattle.cls_order.proofs.Walks.{same_class}
 
 abbrev remote_name : List ℕ
 remote_name = codes "java/rmi/Remote"
@@ -53,6 +54,32 @@ module _ (entries : List Entry) (a : AreArranged entries) (k : ℕ) (c : Class) 
       let up = subst (λ os. IsSupertypeByName os c.file.name remote_name) (sym (origins_of_classes entries)) s in
       let b = by_number (classes_of entries) a.ordered a.resolved c.file.name remote_name (record { 0 = k }) here up in
       name_absent (classes_of entries) remote_name none (named_among (names (classes_of entries)) b.0.0 remote_name b.1)
+
+  -- what is told if java/rmi/Remote alone is marked
+  pub remote_told : (r : ClassId) → slice_get (names (classes_of entries)) r.0 ≡ Some remote_name → (marks told : List Bool) → ((i : ℕ) → IsMarked marks i → i ≡ r.0) → IsMarked marks r.0 → IsMarked told k ↔ Reaches (classes_of entries) marks k → IsMarked told k ↔ IsBelowRemote (origins_of entries) c.file.name
+  remote_told r named marks told only at h = (
+    λ t.
+        elim (h.0 t) [
+          | inl m ↦ remote_same r named (only k m)
+          | inr up ↦ remote_in r named (subst (IsProperSubtype (classes_of entries) (record { 0 = k })) (same_class up.0 r (only up.0.0 up.2)) up.1)
+        ],
+    λ b.
+        h.1
+        (elim (remote_out r named b) [
+          | inl e ↦ inl (subst (IsMarked marks) (sym e) at)
+          | inr p ↦ inr (r, p, at)
+        ]),
+  )
+
+  pub remote_untold : number_of (classes_of entries) remote_name ≡ None → (marks told : List Bool) → ((i : ℕ) → IsMarked marks i → ⊥) → IsMarked told k ↔ Reaches (classes_of entries) marks k → IsMarked told k ↔ IsBelowRemote (origins_of entries) c.file.name
+  remote_untold none marks told off h = (
+    λ t.
+        elim (h.0 t) [
+          | inl m ↦ absurd (off k m)
+          | inr up ↦ absurd (off up.0.0 up.2)
+        ],
+    λ b. absurd (remote_none none b),
+  )
 
 -- a subtype is the class itself or a proper one
 pub subtype_of_proper : (classes : List Class) (a b : ClassId) → IsProperSubtype classes a b → IsSubtype classes a b

@@ -3,44 +3,20 @@ use Rattle.std.proofs.Common.{◌≡◌, ℕ, ◌<◌, true, false, Option, Some
 use Rattle.std.specs.Prelude.{All, Contains, IsSome, slice_get}
 use Rattle.std.specs.List.Sorted.{IsStrictlySortedBy}
 use Rattle.std.proofs.lemmas.List.{get_or-map, length-map}
-use Rattle.std.proofs.lemmas.List.Elements.{All-append, All-cons, All-contains, All-map, All-nil, Contains-append_left}
+use Rattle.std.proofs.lemmas.List.Elements.{All-append, All-contains, All-map, Contains-append_left}
 use Rattle.std.proofs.lemmas.List.Sorted.{IsPermutation-map, IsPermutation-sym, Contains-permutation}
 use Rattle.std.proofs.lemmas.Option.{slice_get-get_or}
-use Rattle.cf_reader.specs.Profile.{method_type_in_profile}
-use Rattle.cf_reader.specs.WellFormed.{IsWellFormed, IsWellFormedField, IsWellFormedMethod}
+use Rattle.cf_reader.specs.WellFormed.{IsWellFormed}
 use Rattle.cf_reader.specs.declared.class_file.ClassFile.{ClassFile}
-use Rattle.cf_reader.specs.declared.flags.TheConstants.Flags.{INTERFACE}
-use Rattle.cf_reader.specs.Rules.{has}
-use Rattle.cls_set.specs.declared.built_in.Kind.{Kind}
-use Rattle.cls_set.specs.declared.built_in.Kind.TheVariants.{Concrete, Abstract, Interface}
-use Rattle.cls_set.specs.declared.class.Class.{Class}
+use Rattle.cls_order.specs.declared.class.Class.{Class}
 use Rattle.space_ids.specs.declared.ids.ClassId.{ClassId}
-use Rattle.cls_set.specs.BuiltIn.{BuiltIn, built_in_files, built_in_init, built_in_methods, built_ins, file_of}
-use Rattle.cls_set.specs.Classes.{name_cmp, names, number_of}
-use Rattle.cls_set.specs.Sets.{HasClasses, IsResolved, IsWithoutAbsent, Mentions, Origin, origin, origin_names, origins}
-use Rattle.cls_set.proofs.Absent.{name_absent}
-use Rattle.cls_set.proofs.Cycles.{class_named}
+use Rattle.cls_order.specs.BuiltIn.{BuiltIn, built_in_files, built_ins, file_of}
+use Rattle.cls_order.specs.Classes.{name_cmp, names, number_of}
+use Rattle.cls_order.specs.Sets.{HasClasses, IsResolved, IsWithoutAbsent, Mentions, Origin, origin, origin_names, origins}
+use Rattle.cls_order.proofs.Absent.{name_absent}
+use Rattle.cls_order.proofs.BuiltInFiles.{file_well}
+use Rattle.cls_order.proofs.Cycles.{class_named}
 use Rattle.cls_set.proofs.Supers.{one_named}
-
--- ---- the built-in classes
-
-init_well : IsWellFormedMethod built_in_init
-unfolding method_type_in_profile
-init_well = record {
-  spelled = record { parameters = []; result = 86 ∷ []; spelled = refl; are = refl; is = refl };
-  in_profile = refl;
-  initializer = λ e. (refl, refl);
-}
-
-methods_well : (kind : Kind) → All IsWellFormedMethod (built_in_methods kind)
-methods_well Concrete = All-cons IsWellFormedMethod built_in_init [] init_well (All-nil IsWellFormedMethod)
-methods_well Abstract = All-cons IsWellFormedMethod built_in_init [] init_well (All-nil IsWellFormedMethod)
-methods_well Interface = All-nil IsWellFormedMethod
-
-file_well : (b : BuiltIn) → IsWellFormed (file_of b)
-file_well b = record { fields = All-nil (IsWellFormedField (has (file_of b).flags.bits INTERFACE)); methods = methods_well b.kind }
-
--- ---- the classes of a set
 
 abbrev is_well : Origin → Type 0
 is_well o = IsWellFormed o.0

@@ -6,20 +6,20 @@ use Rattle.std.proofs.lemmas.List.{get_or-map, length-map}
 use Rattle.std.proofs.lemmas.List.Elements.{All-contains}
 use Rattle.std.proofs.lemmas.Option.{slice_get_cases, slice_get_within, slice_get-get_or, slice_get-map}
 use Rattle.cf_reader.specs.declared.class_file.ClassFile.{ClassFile}
-use Rattle.cls_set.specs.declared.class.Class.{Class}
+use Rattle.cls_order.specs.declared.class.Class.{Class}
 use Rattle.space_ids.specs.declared.ids.ClassId.{ClassId}
-use Rattle.cls_set.specs.declared.entries.Entry.{Entry}
-use Rattle.cls_set.specs.Building.{origins_of}
-use Rattle.cls_set.specs.Classes.{name_cmp, names}
-use Rattle.cls_set.specs.Entries.{classes_of, AreArranged}
+use Rattle.cls_order.specs.declared.entries.Entry.{Entry}
+use Rattle.cls_order.specs.Building.{origins_of}
+use Rattle.cls_order.specs.Classes.{name_cmp, names}
+use Rattle.cls_order.specs.Entries.{classes_of, AreArranged}
 use Rattle.cf_reader.specs.declared.flags.TheConstants.Flags.{INTERFACE}
 use Rattle.cls_set.specs.ClassRules.{ExtendsOneWith, ImplementsClass}
 use Rattle.cls_set.specs.Rules.{Has, HasSuperclass, HasSuperinterface, IsNamed}
-use Rattle.cls_set.specs.Sets.{Origin, origin, IsResolved}
-use Rattle.cls_set.proofs.Built.{origins_of_classes}
-use Rattle.cls_set.proofs.Cycles.{class_named, one_index, standing, to_id, to_name}
-use Rattle.cls_set.proofs.Names.{length_names}
-use Rattle.cls_set.proofs.Hierarchy.{none_some, same_some}
+use Rattle.cls_order.specs.Sets.{Origin, origin, IsResolved}
+use Rattle.cls_order.proofs.Origins.{origins_of_classes}
+use Rattle.cls_order.proofs.Cycles.{class_named, one_index, standing, to_id, to_name}
+use Rattle.cls_order.proofs.Names.{length_names}
+use Rattle.cls_order.proofs.Hierarchy.{none_some, same_some}
 
 resolved_name : (ns : List (List ℕ)) (o : Option ClassId) (given : Option (List ℕ)) → option_map (λ (id : ClassId). slice_get ns id.0) o ≡ option_map (λ (n : List ℕ). Some n) given → (s : ClassId) → o ≡ Some s → (name : List ℕ) × (given ≡ Some name) × (slice_get ns s.0 ≡ Some name)
 resolved_name ns (Some t) (Some name) e s is = (name, refl, ap (λ (id : ClassId). slice_get ns id.0) (sym (same_some is)) ∙ same_some e)

@@ -1,34 +1,39 @@
 -- Which classes declare members that no remote class or interface may have, and which inherit them.
-use Rattle.std.proofs.Common.{◌≡◌, ℕ, zero, suc, ◌+◌, ◌<◌, ◌≤◌, ◌⊎◌, inl, inr, Bool, true, false, not, Some, None, List, [], ◌∷◌, ◌++◌, length, map, refl, sym, subst, ap, ◌∙◌, arith}
-use Rattle.std.specs.Prelude.{◌↔◌, Contains, IsTrue, slice_get}
+use Rattle.std.proofs.Common.{◌≡◌, ℕ, zero, suc, ◌+◌, ◌<◌, ◌⊎◌, inl, inr, Bool, true, false, not, Some, None, List, [], ◌∷◌, ◌++◌, length, get_or, map, refl, sym, subst, ap, ◌∙◌, arith}
+use Rattle.std.specs.Prelude.{◌↔◌, IsTrue, slice_get}
 use Rattle.std.specs.List.{Any}
-use Rattle.std.proofs.lemmas.List.Elements.{Contains-append_cases, Contains-append_left, Contains-append_right}
 use Rattle.cf_text.specs.declared.types.FieldType.{FieldType}
 use Rattle.cf_text.specs.declared.types.ElementType.TheVariants as elements
 use Rattle.cf_reader.specs.declared.class_file.ClassFile.{ClassFile}
 use Rattle.cf_reader.specs.declared.flags.TheConstants.Flags.{INTERFACE}
-use Rattle.cls_set.specs.declared.class.Class.{Class}
-use Rattle.cls_set.specs.declared.entries.Entry.{Entry}
+use Rattle.cls_order.specs.declared.class.Class.{Class}
+use Rattle.cls_order.specs.declared.entries.Entry.{Entry}
 use Rattle.cls_set.specs.declared.remote.MemberKind.{MemberKind}
 use Rattle.cls_set.specs.declared.remote.MemberKind.TheVariants.{Fields, Methods}
-use Rattle.cls_set.specs.declared.fault.SetRule.TheVariants.{RemoteField, RemoteMethod}
-use Rattle.cls_set.specs.Building.{origins_of}
-use Rattle.cls_set.specs.Classes.{names, number_of}
-use Rattle.cls_set.specs.ClassRules.{AreUnfit, IsFieldNotKept, IsMethodNotCrossing, IsReached, IsUnfit}
-use Rattle.cls_set.specs.Entries.{classes_of, AreArranged, IsTable}
+use Rattle.cls_order.specs.declared.fault.SetRule.TheVariants.{RemoteField, RemoteMethod}
+use Rattle.cls_order.specs.Building.{origins_of}
+use Rattle.cls_order.specs.Classes.{names, number_of}
+use Rattle.cls_set.specs.ClassRules.{AreUnfit, IsFieldNotKept, IsMethodNotCrossing, IsUnfit}
+use Rattle.cls_order.specs.Entries.{classes_of, AreArranged}
+use Rattle.cls_order.specs.Marks.{IsMarked, Reaches}
+use Rattle.cls_order.specs.Subtypes.{IsProperSubtype}
+use Rattle.space_ids.specs.declared.ids.ClassId.{ClassId}
+use Rattle.std.proofs.Math.ListN.{get_or-append}
+use Rattle.std.proofs.lemmas.List.{length-append}
 use Rattle.cls_set.specs.Rules as rules
 use Rattle.cls_set.specs.Rules.{Breaks, CanBeKept, CanCross, Has, HasFieldNotKept, HasMethodNotCrossing, IsBelowRemote, IsItOrAbove, IsNamed, IsRemoteClass, IsRemoteInterface, NamesRemoteInterface}
-use Rattle.cls_set.specs.Sets.{Origin, origin, IsSupertypeByName}
-use Rattle.cls_set.proofs.Absent.{name_absent}
+use Rattle.cls_order.specs.Sets.{Origin, origin, IsSupertypeByName}
+use Rattle.cls_order.proofs.Absent.{name_absent}
 use Rattle.cls_set.proofs.Broken.{way}
-use Rattle.cls_set.proofs.Built.{origins_of_classes}
-use Rattle.cls_set.proofs.Cycles.{by_name, by_number, class_named, standing}
+use Rattle.cls_order.proofs.Origins.{origins_of_classes}
+use Rattle.cls_order.proofs.Cycles.{by_name, by_number, class_named, standing}
 use Rattle.std.proofs.lemmas.Option.{slice_get_within}
-use Rattle.cls_set.proofs.Heights.{long_classes}
-use Rattle.cls_set.proofs.Hierarchy.{same_some, true_false}
+use Rattle.cls_order.proofs.Heights.{last_read, long_classes}
+use Rattle.cls_order.proofs.Hierarchy.{same_some, true_false}
 use Rattle.cls_set.proofs.Remotes.{named_among}
 use Rattle.cls_set.proofs.Supers.{class_there, named_here, one_named}
-use Rattle.cls_set.proofs.Walks.{before}
+use Rattle.cls_order.proofs.Marks.{standing_at}
+use Rattle.cls_order.proofs.Walks.{before}
 
 -- what can be kept is plain, and of one of three kinds
 pub plain_type : (os : List Origin) (type : FieldType) → CanBeKept os type → type.dimensions ≡ 0
@@ -59,48 +64,24 @@ pub methods_unfit : (os : List Origin) (file : ClassFile) → HasMethodNotCrossi
 methods_unfit os file bad = (bad.declared.0, bad.method, bad.declared.1, bad.declared.2, record { type = bad.type; used = bad.used; not_crossing = bad.not_crossing })
 
 -- the unfit classes among those up to an index
-pub record AreUnfitBelow (kind : MemberKind) (entries : List Entry) (n : ℕ) (indices : List ℕ) : Type 0 where
-  pub only : (k : ℕ) → Contains indices k → (c : Class) × (slice_get (classes_of entries) k ≡ Some c) × IsUnfit kind (origins_of entries) c.file
-  pub each : (k : ℕ) (c : Class) → k < n → slice_get (classes_of entries) k ≡ Some c → IsUnfit kind (origins_of entries) c.file → Contains indices k
+pub record AreUnfitBelow (kind : MemberKind) (entries : List Entry) (n : ℕ) (marks : List Bool) : Type 0 where
+  pub long : length marks ≡ n
+  pub each : (k : ℕ) (c : Class) → k < n → slice_get (classes_of entries) k ≡ Some c → IsMarked marks k ↔ IsUnfit kind (origins_of entries) c.file
 
-single_index : (k n : ℕ) → Contains (n ∷ []) k → k ≡ n
-single_index k n (zero, h, is) = sym is
-single_index k n (suc i, h, is) = absurd (omega (arith, h))
-
-pub unfit_more : (kind : MemberKind) (entries : List Entry) (n : ℕ) (indices : List ℕ) (c : Class) → AreUnfitBelow kind entries n indices → slice_get (classes_of entries) n ≡ Some c → IsUnfit kind (origins_of entries) c.file → AreUnfitBelow kind entries (n + 1) (indices ++ n ∷ [])
-unfit_more kind entries n indices c old here bad =
+pub unfit_more : (kind : MemberKind) (entries : List Entry) (n : ℕ) (marks : List Bool) (b : Bool) → AreUnfitBelow kind entries n marks → ((c : Class) → slice_get (classes_of entries) n ≡ Some c → IsTrue b ↔ IsUnfit kind (origins_of entries) c.file) → AreUnfitBelow kind entries (n + 1) (marks ++ b ∷ [])
+unfit_more kind entries n marks b old here =
     record {
-      only = λ k among.
-          elim (Contains-append_cases indices (n ∷ []) k among) [
-            | inl before ↦ old.only k before
-            | inr last ↦ (c, ap (slice_get (classes_of entries)) (single_index k n last) ∙ here, bad)
-          ];
-      each = λ k d l e u.
+      long = length-append marks (b ∷ []) ∙ ap (λ n. n + 1) old.long;
+      each = λ k c l e.
           elim (before k n) [
-            | inl low ↦ Contains-append_left indices (n ∷ []) k (old.each k d low e u)
-            | inr high ↦ let same : k ≡ n = omega (arith, l, high) in subst (Contains (indices ++ n ∷ [])) (sym same) (Contains-append_right indices (n ∷ []) n (0, omega arith, refl))
+            | inl low ↦
+                let inside : k < length marks = let long = old.long in omega (arith, low, long) in
+                subst (λ t. IsTrue t ↔ IsUnfit kind (origins_of entries) c.file) (sym (get_or-append marks (b ∷ []) false k inside)) (old.each k c low e)
+            | inr high ↦
+                let same : n ≡ k = omega (arith, l, high) in
+                let at : get_or (marks ++ b ∷ []) k false ≡ b = ap (λ i. get_or (marks ++ b ∷ []) i false) (sym (old.long ∙ same)) ∙ last_read marks b false in
+                subst (λ t. IsTrue t ↔ IsUnfit kind (origins_of entries) c.file) (sym at) (here c (subst (λ i. slice_get (classes_of entries) i ≡ Some c) (sym same) e))
           ];
-    }
-
-pub unfit_none : (kind : MemberKind) (entries : List Entry) (n : ℕ) (indices : List ℕ) → AreUnfitBelow kind entries n indices → ((c : Class) → slice_get (classes_of entries) n ≡ Some c → IsUnfit kind (origins_of entries) c.file → ⊥) → AreUnfitBelow kind entries (n + 1) indices
-unfit_none kind entries n indices old none =
-    record {
-      only = old.only;
-      each = λ k d l e u.
-          elim (before k n) [
-            | inl low ↦ old.each k d low e u
-            | inr high ↦ let same : k ≡ n = omega (arith, l, high) in absurd (none d (subst (λ i. slice_get (classes_of entries) i ≡ Some d) same e) u)
-          ];
-    }
-
-pub unfit_all : (kind : MemberKind) (entries : List Entry) (n : ℕ) (indices : List ℕ) → length entries ≤ n → AreUnfitBelow kind entries n indices → AreUnfit kind entries indices
-unfit_all kind entries n indices all u =
-    record {
-      only = u.only;
-      each = λ k c e bad.
-          let inside = slice_get_within (classes_of entries) k c e in
-          let long = long_classes entries in
-          u.each k c (omega (arith, inside, long, all)) e bad;
     }
 
 -- a test and its negation
@@ -110,6 +91,18 @@ negated false P h = (λ _ p. true_false (sym (h.1 p)), λ _. refl)
 
 pub off : (b : Bool) (P : Type 0) → b ≡ false → (P → ⊥) → IsTrue b ↔ P
 off b P e none = (λ t. absurd (true_false (sym t ∙ e)), λ p. absurd (none p))
+
+marked_within : (marks : List Bool) (k : ℕ) → IsMarked marks k → k < length marks
+marked_within [] k e = absurd (true_false (sym e))
+marked_within (x ∷ xs) zero e = omega arith
+marked_within (x ∷ xs) (suc k) e = let rest = marked_within xs k e in omega (arith, rest)
+
+-- a test of what says the same as another fact
+pub tells_more : {P Q : Type 0} (b : Bool) → IsTrue b ↔ P → P ↔ Q → IsTrue b ↔ Q
+tells_more b h e = (λ t. e.0 (h.0 t), λ q. h.1 (e.1 q))
+
+pub both_tell : {P Q R : Type 0} (b : Bool) → IsTrue b ↔ (P × R) → P ↔ Q → IsTrue b ↔ (Q × R)
+both_tell b h e = (λ t. let x = h.0 t in (e.0 x.0, x.1), λ y. h.1 (e.1 y.0, y.1))
 
 -- classes that are arranged, by name and by number
 module _ (entries : List Entry) (a : AreArranged entries) where
@@ -136,48 +129,55 @@ module _ (entries : List Entry) (a : AreArranged entries) where
       let called : slice_get (names (classes_of entries)) at.0 ≡ Some name = class_named (classes_of entries) a.ordered a.resolved at.0 at.1 at.2 ∙ ap (λ x. Some x) (ap (λ (o : Origin). o.0.name) at.3 ∙ n.2) in
       name_absent (classes_of entries) name none (named_among (names (classes_of entries)) at.0 name called)
 
-  module _ (index : ℕ) (c : Class) (is : slice_get (classes_of entries) index ≡ Some c) (table : List Bool) (t : IsTable (classes_of entries) index table) where
+  module _ (index : ℕ) (c : Class) (is : slice_get (classes_of entries) index ≡ Some c) where
     here : slice_get (names (classes_of entries)) index ≡ Some c.file.name
     here = class_named (classes_of entries) a.ordered a.resolved index c is
 
-    reached_in : (k : ℕ) (u : Class) → slice_get (classes_of entries) k ≡ Some u → IsReached table index k → IsItOrAbove (origins_of entries) c.file u.file
-    reached_in k u e (inl same) = inl (ap (λ (x : Class). x.file) (same_some (sym e ∙ (ap (slice_get (classes_of entries)) same ∙ is))))
-    reached_in k u e (inr told) =
-        let p = (t.supertypes (record { 0 = k })).0 told in
-        let y = by_name (classes_of entries) a.ordered a.resolved (record { 0 = index }) (record { 0 = k }) c.file.name here p in
-        let same : y.0 ≡ u.file.name = same_some (sym y.1 ∙ class_named (classes_of entries) a.ordered a.resolved k u e) in
+    above_in : (k : ClassId) (u : Class) → slice_get (classes_of entries) k.0 ≡ Some u → IsProperSubtype (classes_of entries) (record { 0 = index }) k → IsItOrAbove (origins_of entries) c.file u.file
+    above_in k u e p =
+        let y = by_name (classes_of entries) a.ordered a.resolved (record { 0 = index }) k c.file.name here p in
+        let same : y.0 ≡ u.file.name = same_some (sym y.1 ∙ class_named (classes_of entries) a.ordered a.resolved k.0 u e) in
         inr (
-          subst (λ os. IsNamed os u.file.name u.file) (origins_of_classes entries) (named_here (classes_of entries) a.ordered a.resolved k u e),
+          subst (λ os. IsNamed os u.file.name u.file) (origins_of_classes entries) (named_here (classes_of entries) a.ordered a.resolved k.0 u e),
           subst (λ os. IsSupertypeByName os c.file.name u.file.name) (origins_of_classes entries) (subst (IsSupertypeByName (map origin (classes_of entries)) c.file.name) same y.2),
         )
 
-    reached_out : (upper : ClassFile) → IsItOrAbove (origins_of entries) c.file upper → (k : ℕ) × (u : Class) × (slice_get (classes_of entries) k ≡ Some u) × (upper ≡ u.file) × IsReached table index k
-    reached_out upper (inl e) = (index, c, is, e, inl refl)
-    reached_out upper (inr (n, s)) =
+    above_out : (upper : ClassFile) → IsItOrAbove (origins_of entries) c.file upper → (upper ≡ c.file) ⊎ ((k : ClassId) × (u : Class) × (slice_get (classes_of entries) k.0 ≡ Some u) × (upper ≡ u.file) × IsProperSubtype (classes_of entries) (record { 0 = index }) k)
+    above_out upper (inl e) = inl e
+    above_out upper (inr (n, s)) =
         let up = subst (λ os. IsSupertypeByName os c.file.name upper.name) (sym (origins_of_classes entries)) s in
         let b = by_number (classes_of entries) a.ordered a.resolved c.file.name upper.name (record { 0 = index }) here up in
         let k = class_there (classes_of entries) a.ordered a.resolved b.0.0 upper.name b.1 in
-        (b.0.0, k.0, k.1, one_named (classes_of entries) a.ordered a.resolved b.0.0 k.0 upper.name upper k.1 b.1 (named_in_set upper upper.name n), inr ((t.supertypes b.0).1 b.2))
+        inr (b.0, k.0, k.1, one_named (classes_of entries) a.ordered a.resolved b.0.0 k.0 upper.name upper k.1 b.1 (named_in_set upper upper.name n), b.2)
 
-    pub unfit_in : (kind : MemberKind) (indices : List ℕ) → AreUnfit kind entries indices → Any (IsReached table index) indices → (u : ClassFile) × IsItOrAbove (origins_of entries) c.file u × IsUnfit kind (origins_of entries) u
-    unfit_in kind indices unfit (i, k, h, at, reached) =
-        let u = unfit.only k (i, h, at) in
-        (u.0.file, reached_in k u.0 u.1 reached, u.2)
+    -- what is told if the unfit classes are marked
+    pub unfit_told : (kind : MemberKind) (marks told : List Bool) → AreUnfitBelow kind entries (length entries) marks → IsMarked told index ↔ Reaches (classes_of entries) marks index
+        → IsMarked told index ↔ ((upper : ClassFile) × IsItOrAbove (origins_of entries) c.file upper × IsUnfit kind (origins_of entries) upper)
+    unfit_told kind marks told u h =
+        let within : (k : ℕ) (d : Class) → slice_get (classes_of entries) k ≡ Some d → k < length entries = λ k d e. let inside = slice_get_within (classes_of entries) k d e in let long = long_classes entries in omega (arith, inside, long) in (
+          λ t.
+              elim (h.0 t) [
+                | inl m ↦ (c.file, inl refl, (u.each index c (within index c is) is).0 m)
+                | inr up ↦
+                    let k = standing_at (classes_of entries) up.0.0 (let low = marked_within marks up.0.0 up.2 in let one = u.long in let long = long_classes entries in omega (arith, low, one, long)) in
+                    (k.0.file, above_in up.0 k.0 k.1 up.1, (u.each up.0.0 k.0 (within up.0.0 k.0 k.1) k.1).0 up.2)
+              ],
+          λ x.
+              h.1
+              (elim (above_out x.0 x.1) [
+                | inl e ↦ inl ((u.each index c (within index c is) is).1 (subst (IsUnfit kind (origins_of entries)) e x.2))
+                | inr r ↦ inr (r.0, r.4, (u.each r.0.0 r.1 (within r.0.0 r.1 r.2) r.2).1 (subst (IsUnfit kind (origins_of entries)) r.3 x.2))
+              ]),
+        )
 
-    pub unfit_out : (kind : MemberKind) (indices : List ℕ) → AreUnfit kind entries indices → (upper : ClassFile) → IsItOrAbove (origins_of entries) c.file upper → IsUnfit kind (origins_of entries) upper → Any (IsReached table index) indices
-    unfit_out kind indices unfit upper above bad =
-        let r = reached_out upper above in
-        let among = unfit.each r.0 r.1 r.2 (subst (IsUnfit kind (origins_of entries)) r.3 bad) in
-        (among.0, r.0, among.1, among.2, r.4)
-
-    pub field_way : (indices : List ℕ) (b : Bool) → AreUnfit Fields entries indices → (¬ Has c.file.flags.bits INTERFACE) → IsTrue b ↔ (IsBelowRemote (origins_of entries) c.file.name × Any (IsReached table index) indices) → IsTrue b ↔ Breaks (origins_of entries) c.file RemoteField
-    field_way indices b unfit class h = (
-      λ e. let p = h.0 e in let u = unfit_in Fields indices unfit p.1 in rules.Breaks.remote_field u.0 (class, p.0) u.1 u.2,
-      λ x. let y = way (origins_of entries) c.file RemoteField x in h.1 (y.1.1, unfit_out Fields indices unfit y.0 y.2 y.3),
+    pub field_way : (told : List Bool) (b : Bool) → AreUnfit Fields entries told → (¬ Has c.file.flags.bits INTERFACE) → IsTrue b ↔ (IsBelowRemote (origins_of entries) c.file.name × IsMarked told index) → IsTrue b ↔ Breaks (origins_of entries) c.file RemoteField
+    field_way told b unfit class h = (
+      λ e. let p = h.0 e in let u = (unfit.each index c is).0 p.1 in rules.Breaks.remote_field u.0 (class, p.0) u.1 u.2,
+      λ x. let y = way (origins_of entries) c.file RemoteField x in h.1 (y.1.1, (unfit.each index c is).1 (y.0, y.2, y.3)),
     )
 
-    pub method_way : (indices : List ℕ) (b : Bool) → AreUnfit Methods entries indices → Has c.file.flags.bits INTERFACE → IsTrue b ↔ (IsBelowRemote (origins_of entries) c.file.name × Any (IsReached table index) indices) → IsTrue b ↔ Breaks (origins_of entries) c.file RemoteMethod
-    method_way indices b unfit interface h = (
-      λ e. let p = h.0 e in let u = unfit_in Methods indices unfit p.1 in rules.Breaks.remote_method u.0 (interface, p.0) u.1 u.2,
-      λ x. let y = way (origins_of entries) c.file RemoteMethod x in h.1 (y.1.1, unfit_out Methods indices unfit y.0 y.2 y.3),
+    pub method_way : (told : List Bool) (b : Bool) → AreUnfit Methods entries told → Has c.file.flags.bits INTERFACE → IsTrue b ↔ (IsBelowRemote (origins_of entries) c.file.name × IsMarked told index) → IsTrue b ↔ Breaks (origins_of entries) c.file RemoteMethod
+    method_way told b unfit interface h = (
+      λ e. let p = h.0 e in let u = (unfit.each index c is).0 p.1 in rules.Breaks.remote_method u.0 (interface, p.0) u.1 u.2,
+      λ x. let y = way (origins_of entries) c.file RemoteMethod x in h.1 (y.1.1, (unfit.each index c is).1 (y.0, y.2, y.3)),
     )

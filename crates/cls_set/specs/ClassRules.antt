@@ -1,28 +1,30 @@
 -- How the rules on each class are looked for.
-use Rattle.std.specs.Prelude.{◌≡◌, ◌≢◌, ◌<◌, ◌⊎◌, ℕ, Bool, false, Some, None, List, Contains, IsPermutation, IsTrue, codes, slice_get, slice_index_or}
+use Rattle.std.specs.Prelude.{◌≡◌, ◌≢◌, ◌<◌, ◌⊎◌, ◌↔◌, ℕ, Bool, Some, None, List, Contains, IsPermutation, codes, slice_get}
 use Rattle.std.specs.List.{Any}
 use Rattle.cf_reader.specs.declared.class_file.ClassFile.{ClassFile}
 use Rattle.cf_text.specs.declared.types.FieldType.{FieldType}
 use Rattle.cf_reader.specs.declared.class_file.Field.{Field}
 use Rattle.cf_reader.specs.declared.class_file.Method.{Method}
 use Rattle.cf_reader.specs.declared.flags.TheConstants.Flags.{INTERFACE, STATIC}
-use Rattle.cls_set.specs.declared.fault.SetFault.{SetFault}
-use Rattle.cls_set.specs.declared.fault.SetFault.TheVariants.{Broken, Memory}
-use Rattle.cls_set.specs.declared.fault.SetRule.{SetRule}
-use Rattle.cls_set.specs.declared.fault.SetRule.TheVariants as rules
+use Rattle.cls_order.specs.declared.fault.SetFault.{SetFault}
+use Rattle.cls_order.specs.declared.fault.SetFault.TheVariants.{Broken, Memory}
+use Rattle.cls_order.specs.declared.fault.SetRule.{SetRule}
+use Rattle.cls_order.specs.declared.fault.SetRule.TheVariants as rules
 use Rattle.cls_set.specs.declared.rules.ClassRule.{ClassRule}
 use Rattle.cls_set.specs.declared.rules.ClassRule.TheVariants.{BadSuper, FinalSuper, RemoteField, RemoteMethod, Override, NotYet}
-use Rattle.cls_set.specs.Faults.{turn, IsFirstToBreak, IsKept, Keeps}
-use Rattle.cls_set.specs.Rules.{CanBeKept, CanCross, Clashes, Has, HasFieldNotKept, HasMethodNotCrossing, HasSuperclass, HasSuperinterface, IsSuperclass}
-use Rattle.cls_set.specs.declared.class.Class.{Class}
-use Rattle.cls_set.specs.declared.entries.Entry.{Entry}
+use Rattle.cls_set.specs.Faults.{IsFirstToBreak, IsKept, Keeps}
+use Rattle.cls_set.specs.Rules.{CanBeKept, CanCross, Clashes, Has, HasFieldNotKept, HasMethodNotCrossing, HasSuperclass, HasSuperinterface, IsBelowRemote, IsItOrAbove, IsSuperclass}
+use Rattle.cls_order.specs.declared.class.Class.{Class}
+use Rattle.cls_order.specs.declared.entries.Entry.{Entry}
 use Rattle.cls_set.specs.declared.remote.MemberKind.{MemberKind}
 use Rattle.cls_set.specs.declared.remote.MemberKind.TheVariants.{Fields, Methods}
-use Rattle.cls_set.specs.declared.remote.Unfit.{Unfit}
-use Rattle.cls_set.specs.Sets.{Origin, origins}
-use Rattle.cls_set.specs.Building.{origins_of}
-use Rattle.cls_set.specs.Entries.{classes_of, AreArranged, HaveTables}
-use Rattle.cls_set.specs.declared.arranging.Arranged.{Arranged}
+use Rattle.cls_set.specs.declared.rules.Facts.{Facts}
+use Rattle.cls_order.specs.Sets.{Origin, origins}
+use Rattle.cls_order.specs.Building.{origins_of}
+use Rattle.cls_order.specs.Entries.{classes_of, AreArranged}
+use Rattle.cls_order.specs.FaultNames.{set_rule_number}
+use Rattle.cls_set.specs.Orders.{HaveOrders}
+use Rattle.cls_order.specs.Marks.{IsMarked}
 
 -- the rule itself
 abbrev pub set_rule : ClassRule → SetRule
@@ -54,10 +56,14 @@ ClashesIn lower upper = Any (λ (low : Method). Any (Clashes lower upper low) up
 abbrev pub ClashesAbove : List Origin → ClassFile → ClassFile → Type 0
 ClashesAbove classes lower below = (upper : ClassFile) × IsSuperclass classes below upper × ClashesIn lower upper
 
--- entries whose supertypes are known and told by tables
-pub record AreKnown (entries : List Entry) (told : List (List Bool)) : Type 0 where
+-- by number, which classes are java/rmi/Remote or below it
+pub record AreRemote (entries : List Entry) (told : List Bool) : Type 0 where
+  pub below : (k : ℕ) (c : Class) → slice_get (classes_of entries) k ≡ Some c → IsMarked told k ↔ IsBelowRemote (origins_of entries) c.file.name
+
+-- entries whose supertypes are known, and of which it is told which are remote
+pub record AreKnown (entries : List Entry) (told : List Bool) : Type 0 where
   pub arranged : AreArranged entries
-  pub tables : HaveTables (classes_of entries) told
+  pub remote : AreRemote entries told
 
 -- an instance field of another type than a remote class may have
 pub record IsFieldNotKept (classes : List Origin) (field : Field) : Type 0 where
@@ -79,39 +85,35 @@ abbrev pub IsUnfit : MemberKind → List Origin → ClassFile → Type 0
 IsUnfit Fields classes file = HasFieldNotKept classes file
 IsUnfit Methods classes file = HasMethodNotCrossing classes file
 
--- the indices of exactly the classes that do
-pub record AreUnfit (kind : MemberKind) (entries : List Entry) (indices : List ℕ) : Type 0 where
-  pub only : (k : ℕ) → Contains indices k → (c : Class) × (slice_get (classes_of entries) k ≡ Some c) × IsUnfit kind (origins_of entries) c.file
-  pub each : (k : ℕ) (c : Class) → slice_get (classes_of entries) k ≡ Some c → IsUnfit kind (origins_of entries) c.file → Contains indices k
+-- by number, which classes do or inherit it
+pub record AreUnfit (kind : MemberKind) (entries : List Entry) (told : List Bool) : Type 0 where
+  pub each : (k : ℕ) (c : Class) → slice_get (classes_of entries) k ≡ Some c
+      → IsMarked told k ↔ ((upper : ClassFile) × IsItOrAbove (origins_of entries) c.file upper × IsUnfit kind (origins_of entries) upper)
 
--- by a class's table, the other is the class itself or a supertype
-abbrev pub IsReached : List Bool → ℕ → ℕ → Type 0
-IsReached table index upper = (upper ≡ index) ⊎ IsTrue (slice_index_or table upper false)
-
--- both lists of such classes
-pub record AreFound (entries : List Entry) (unfit : Unfit) : Type 0 where
-  pub fields : AreUnfit Fields entries unfit.fields.items
-  pub methods : AreUnfit Methods entries unfit.methods.items
+-- what the rules ask of each class
+pub record AreFacts (entries : List Entry) (facts : Facts) : Type 0 where
+  pub remote : AreRemote entries facts.remote.items
+  pub fields : AreUnfit Fields entries facts.fields.items
+  pub methods : AreUnfit Methods entries facts.methods.items
+  pub orders : HaveOrders (classes_of entries) facts.orders.items
 
 -- the first class that breaks the rule, unless memory ran out
 abbrev pub IsRuleFault : List Origin → SetRule → SetFault → Type 0
 IsRuleFault classes rule (Broken r name) = (r ≡ rule) × IsFirstToBreak classes rule name
 IsRuleFault classes rule Memory = Unit {0}
 
--- the classes break none of these rules
-abbrev pub KeepAll : List Origin → Type 0
-KeepAll classes = (rule : ClassRule) → Keeps classes (set_rule rule)
+-- the classes break none of these rules with a number below this one
+abbrev pub KeepBelow : List Origin → ℕ → Type 0
+KeepBelow classes n = (rule : ClassRule) → set_rule_number (set_rule rule) < n → Keeps classes (set_rule rule)
 
--- the first of these rules that a class breaks, and the first class that does
+-- the first that a class breaks of these rules that are looked for before the classes are counted, and the first class that does
 abbrev pub IsFirstRuleFault : List Origin → SetFault → Type 0
 IsFirstRuleFault classes Memory = Unit {0}
 IsFirstRuleFault classes (Broken r name) =
-    (rule : ClassRule) × (r ≡ set_rule rule) × IsFirstToBreak classes (set_rule rule) name
-    × ((other : ClassRule) → turn (set_rule other) < turn (set_rule rule) → Keeps classes (set_rule other))
+    (rule : ClassRule) × (r ≡ set_rule rule) × (set_rule_number r < set_rule_number rules.TooMany) × IsFirstToBreak classes r name × KeepBelow classes (set_rule_number r)
 
--- entries of the classes of these files, whose supertypes are known and told by tables; the rules that are looked for before are kept
-pub record AreOf (files : List ClassFile) (arranged : Arranged) : Type 0 where
-  pub known : AreArranged arranged.entries.items
-  pub tables : HaveTables (classes_of arranged.entries.items) arranged.tables.items
-  pub held : IsPermutation (origins files) (origins_of arranged.entries.items)
-  pub kept : (other : SetRule) → turn other < turn rules.BadSuper → IsKept files other
+-- entries of the classes of these files, whose supertypes are known; the rules that are looked for before are kept
+pub record AreOf (files : List ClassFile) (entries : List Entry) : Type 0 where
+  pub known : AreArranged entries
+  pub held : IsPermutation (origins files) (origins_of entries)
+  pub kept : (other : SetRule) → set_rule_number other < set_rule_number rules.BadSuper → IsKept files other

@@ -1,17 +1,18 @@
--- Which files make a set, and which fault is named if they make none: the rules are looked for one after the other, each over all classes,
+-- Which files make a set, and which fault is named if they make none: the rules are looked for in the order of their numbers, each over all classes,
 -- and the first class at fault by name is named (a rule of this project).
 use Rattle.std.specs.Prelude.{◌≡◌, ◌≤◌, ◌<◌, ◌-◌, ℕ, Some, List, length, Contains, option_map, slice_get}
 use Rattle.std.specs.declared.cmp.Ordering.TheVariants.{Less}
 use Rattle.cf_reader.specs.declared.class_file.ClassFile.{ClassFile}
-use Rattle.cls_set.specs.declared.fault.SetFault.{SetFault}
-use Rattle.cls_set.specs.declared.fault.SetFault.TheVariants.{Broken, Memory}
-use Rattle.cls_set.specs.declared.fault.SetRule.{SetRule}
-use Rattle.cls_set.specs.declared.fault.SetRule.TheVariants.{Duplicate, AbsentClass, Cycle, BadSuper, FinalSuper, RemoteField, RemoteMethod, Override, TooMany, NotYet}
-use Rattle.cls_set.specs.Classes.{name_cmp}
+use Rattle.cls_order.specs.declared.fault.SetFault.{SetFault}
+use Rattle.cls_order.specs.declared.fault.SetFault.TheVariants.{Broken, Memory}
+use Rattle.cls_order.specs.declared.fault.SetRule.{SetRule}
+use Rattle.cls_order.specs.declared.fault.SetRule.TheVariants.{Duplicate, AbsentClass, Cycle, TooMany}
+use Rattle.cls_order.specs.Classes.{name_cmp}
+use Rattle.cls_order.specs.FaultNames.{set_rule_number}
 use Rattle.cls_set.specs.Rules.{Breaks}
-use Rattle.cls_set.specs.Sets.{Origin, origins, origin_names, IsFirstAbsent, IsFirstCycle, IsFirstDuplicate, IsWithoutAbsent, IsWithoutCycles, IsWithoutDuplicates}
+use Rattle.cls_order.specs.Sets.{Origin, origins, origin_names, IsFirstAbsent, IsFirstCycle, IsFirstDuplicate, IsWithoutAbsent, IsWithoutCycles, IsWithoutDuplicates}
 
--- more classes than can be numbered, and the last file has this name (a rule of this project)
+-- more classes than a set may have, and the last file has this name (a rule of this project)
 pub record IsTooMany (files : List ClassFile) (name : List ℕ) : Type 0 where
   pub many : 4096 < length (origins files)
   pub last : option_map (λ file. file.name) (slice_get files (length files - 1)) ≡ Some name
@@ -48,20 +49,7 @@ IsKept files rule = Keeps (origins files) rule
 abbrev pub MakeASet : List ClassFile → Type 0
 MakeASet files = (rule : SetRule) → IsKept files rule
 
--- when a rule is looked for
-abbrev pub turn : SetRule → ℕ
-turn Duplicate = 0
-turn TooMany = 1
-turn AbsentClass = 2
-turn Cycle = 3
-turn BadSuper = 4
-turn FinalSuper = 5
-turn RemoteField = 6
-turn RemoteMethod = 7
-turn Override = 8
-turn NotYet = 9
-
--- the fault of files that make no set, unless memory ran out: the first broken rule, and the class that breaks it
+-- the fault of files that make no set, unless memory ran out: the broken rule of the lowest number, and the class that breaks it
 abbrev pub IsSetFault : List ClassFile → SetFault → Type 0
 IsSetFault files Memory = Unit {0}
-IsSetFault files (Broken rule name) = IsBrokenBy files rule name × ((other : SetRule) → turn other < turn rule → IsKept files other)
+IsSetFault files (Broken rule name) = IsBrokenBy files rule name × ((other : SetRule) → set_rule_number other < set_rule_number rule → IsKept files other)

@@ -1,12 +1,9 @@
-pub mod BuiltIn
-pub mod Building
+pub use Rattle.cls_order.specs.BuiltIn
+pub use Rattle.cls_order.specs.Classes
+pub use Rattle.cls_order.specs.FaultNames
+pub use Rattle.cls_order.specs.Sets
+pub use Rattle.cls_order.specs.Subtypes
 pub mod ClassRules
-pub mod Classes
 pub mod Faults
-pub mod Entries
 pub mod Orders
 pub mod Rules
-pub mod Sets
-pub mod Subtypes
-pub mod Walks
-pub mod FaultNames

@@ -4,8 +4,8 @@ use Rattle.std.specs.List.Sorted.{IsSortedBy}
 use Rattle.std.specs.Ordering.{is_lt, on, then_cmp}
 use Rattle.std.specs.declared.cmp.Ordering.{Ordering}
 use Rattle.cf_reader.specs.declared.class_file.Method.{Method}
-use Rattle.cls_set.specs.declared.class.Class.{Class}
-use Rattle.cls_set.specs.Classes.{name_cmp}
+use Rattle.cls_order.specs.declared.class.Class.{Class}
+use Rattle.cls_order.specs.Classes.{name_cmp}
 
 -- a name and a descriptor
 abbrev pub Key : Type 0

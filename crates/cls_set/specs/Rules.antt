@@ -8,9 +8,9 @@ use Rattle.cf_reader.specs.declared.class_file.ClassFile.{ClassFile}
 use Rattle.cf_reader.specs.declared.class_file.Field.{Field}
 use Rattle.cf_reader.specs.declared.class_file.Method.{Method}
 use Rattle.cf_reader.specs.declared.flags.TheConstants.Flags.{PUBLIC, PRIVATE, PROTECTED, STATIC, FINAL, INTERFACE}
-use Rattle.cls_set.specs.declared.fault.SetRule.{SetRule}
-use Rattle.cls_set.specs.declared.fault.SetRule.TheVariants.{BadSuper, FinalSuper, RemoteField, RemoteMethod, Override, NotYet}
-use Rattle.cls_set.specs.Sets.{Origin, IsSupertypeByName}
+use Rattle.cls_order.specs.declared.fault.SetRule.{SetRule}
+use Rattle.cls_order.specs.declared.fault.SetRule.TheVariants.{BadSuper, FinalSuper, RemoteField, RemoteMethod, Override, NotYet}
+use Rattle.cls_order.specs.Sets.{Origin, IsSupertypeByName}
 
 -- one of a flag's bits is set
 abbrev pub Has : ℕ → ℕ → Type 0

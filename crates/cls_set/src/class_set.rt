@@ -1,10 +1,11 @@
 //! Class sets: their look-ups.
 
 use super::arranging::arrange;
-use super::entries::{Entry, find, is_below, is_in};
-use super::rules::refuse_broken;
+use super::members::{Member, find_number, number_classes};
+use super::rules::{ClassRule, find_facts, refuse, refuse_broken};
 use super::{Class, ClassId, SetFault};
 use cf_reader::{ClassFile, Row, Text};
+use cls_order::{is_in, last_name, refuse_many, tables};
 use std::alloc::Global;
 use std::marker::Model;
 
@@ -12,41 +13,41 @@ use std::marker::Model;
 /// classes: the class with number k is item k.
 #[derive(Debug, Drop)]
 pub struct ClassSet {
-    entries: Vec<Entry>,
+    members: Vec<Member>,
     // For each class a table of its supertypes by number.
     tables: Vec<Row<bool>>,
 }
 
 impl Model for ClassSet {
     ghost use Rattle.std.specs.Prelude.{List};
-    ghost use Rattle.cls_set.specs.declared.class.Class.{Class};
+    ghost use Rattle.cls_order.specs.declared.class.Class.{Class};
 
     ghost Value = { List Class };
 
-    ghost use Rattle.cls_set.specs.Entries.{classes_of, AreEntries};
+    ghost use Rattle.cls_order.specs.Entries.{classes_of, AreEntries};
 
-    ghost view = { λ set. classes_of set.entries.items };
+    ghost view = { λ set. classes_of set.members.items };
 
-    ghost invariant = { λ set. AreEntries set.entries.items set.tables.items };
+    ghost invariant = { λ set. AreEntries set.members.items set.tables.items };
 }
 
 impl ClassSet {
     ghost use Rattle.std.specs.Prelude.{◌≡◌, ◌<◌, ◌↔◌, All, Some, IsTrue, IfOk, IfErr, IfSome, OnOk, length, slice_get};
     ghost use Rattle.cf_reader.specs.WellFormed.{IsWellFormed};
-    ghost use Rattle.cls_set.specs.Classes.{name_at, number_of};
+    ghost use Rattle.cls_order.specs.Classes.{name_at, number_of};
     ghost use Rattle.space_ids.specs.declared.ids.ClassId.{ClassId};
     ghost use Rattle.cls_set.specs.Faults.{IsSetFault, MakeASet};
-    ghost use Rattle.cls_set.specs.Sets.{HasClasses, IsClassSet};
-    ghost use Rattle.cls_set.specs.declared.fault.SetFault.TheVariants.{Memory};
-    ghost use Rattle.cls_set.specs.Subtypes.{IsProperSubtype, IsRemote, IsSubclass, IsSubtype};
+    ghost use Rattle.cls_order.specs.Sets.{HasClasses, IsClassSet};
+    ghost use Rattle.cls_order.specs.declared.fault.SetFault.TheVariants.{Memory};
+    ghost use Rattle.cls_order.specs.Subtypes.{IsProperSubtype, IsRemote, IsSubclass, IsSubtype};
 
     /// Returns the set of the files' classes and the built-in ones, exactly if the files break no
     /// rule on sets. The files may come in any order. A fault hands nothing of them back.
     ///
-    /// Faults are looked for in this order, each over all classes: `Duplicate`, `TooMany` (more
-    /// classes than can be numbered, 4,096 with the built-in ones), `AbsentClass`, `Cycle`,
-    /// `BadSuper`, `FinalSuper`, `RemoteField`, `RemoteMethod`, `Override`, `NotYet`. The fault
-    /// names the first class at fault by name; `TooMany` names the class of the last file.
+    /// Faults are looked for in the order of their numbers, each over all classes: `Duplicate`,
+    /// `AbsentClass`, `Cycle`, `BadSuper`, `FinalSuper`, `RemoteField`, `RemoteMethod`, `Override`,
+    /// `TooMany` (more than 4,096 classes with the built-in ones), `NotYet`. The fault names the
+    /// first class at fault by name; `TooMany` names the class of the last file.
     pub fn build(alloc: Global, files: Vec<ClassFile>) -> Result<ClassSet, SetFault>
         // They were read, so that each is well formed.
         requires { All IsWellFormed files.items }
@@ -56,16 +57,15 @@ impl ClassSet {
         ensures only { MakeASet files.items → IfErr result (λ fault. fault ≡ Memory) }
         ensures fault { IfErr result (IsSetFault files.items) }
     {
-        let arranged = arrange(alloc, files)?;
-        refuse_broken(
-            alloc,
-            arranged.entries.as_slice(),
-            arranged.tables.as_slice(),
-        )?;
-        Ok(ClassSet {
-            entries: arranged.entries,
-            tables: arranged.tables,
-        })
+        let last = last_name(files.as_slice())?;
+        let entries = arrange(alloc, files)?;
+        let facts = find_facts(alloc, entries.as_slice())?;
+        refuse_broken(entries.as_slice(), &facts)?;
+        refuse_many(entries.len(), last)?;
+        refuse(entries.as_slice(), &facts, ClassRule::NotYet)?;
+        let tables = tables(alloc, entries.as_slice())?;
+        let members = number_classes(alloc, entries)?;
+        Ok(ClassSet { members, tables })
     }
 
     /// Returns how many classes the set has.
@@ -74,7 +74,7 @@ impl ClassSet {
         ensures set { IsClassSet self.now }
         ensures acyclic { (class : ClassId) → ¬ IsProperSubtype self.now class class }
     {
-        self.entries.len()
+        self.members.len()
     }
 
     /// Returns the class with this number.
@@ -82,7 +82,8 @@ impl ClassSet {
         requires { class.0 < length self.now }
         ensures { slice_get self.now class.0 ≡ Some result.now }
     {
-        &self.entries[usize::from(class.0)].class
+        let member = &self.members[usize::from(class.0)];
+        &member.class
     }
 
     /// Returns the name of the class with this number.
@@ -99,7 +100,7 @@ impl ClassSet {
         ensures in_set { IfSome result (λ id. id.0 < length self.now) }
         ensures named { IfSome result (λ id. name_at self.now id ≡ Some name.now) }
     {
-        find(&self.entries, name)
+        find_number(&self.members, name)
     }
 
     /// Returns whether a class is another or a subclass of it.
@@ -107,7 +108,8 @@ impl ClassSet {
         requires { sub.0 < length self.now }
         ensures { IsTrue result ↔ IsSubclass self.now sub sup }
     {
-        is_below(&self.entries, sub, sup)
+        let table = self.tables[usize::from(sub.0)].as_slice();
+        sub == sup || (is_in(table, usize::from(sup.0)) && !self.class(sup).is_interface())
     }
 
     /// Returns whether a class or interface is a subtype of an interface.

@@ -12,16 +12,17 @@ pub use fault::{SetFault, SetRule};
 pub use space_ids::ClassId;
 
 mod arranging;
-mod building;
-mod built_in;
-mod class;
 mod class_set;
-mod entries;
-mod fault;
-mod mentions;
+mod members;
 mod ordering;
 mod overriding;
 mod remote;
-mod resolving;
 mod rules;
-mod walking;
+
+pub mod class {
+    pub use cls_order::Class;
+}
+
+pub mod fault {
+    pub use cls_order::{SetFault, SetRule};
+}

@@ -3,10 +3,10 @@
 ghost use Rattle.std.specs.Prelude.{◌≡◌, ◌<◌, IfOk, length};
 ghost use Rattle.std.specs.Ordering.{is_lt};
 ghost use Rattle.cls_set.specs.Orders.{key_at, key_cmp, key_of, HaveOrders, IsOrder};
-ghost use Rattle.cls_set.specs.Entries.{classes_of};
+ghost use Rattle.cls_order.specs.Entries.{classes_of};
 
-use super::entries::Entry;
 use cf_reader::{Method, Row};
+use cls_order::Entry;
 use std::alloc::{AllocError, Global};
 use std::cmp::Ordering;
 
@@ -57,7 +57,8 @@ pub(crate) fn orders(alloc: Global, entries: &[Entry]) -> Result<Vec<Row<usize>>
 {
     let mut orders = Vec::new(alloc);
     for entry in entries {
-        let order = order(alloc, entry.class.file.methods.as_slice())?;
+        let class = &entry.class;
+        let order = order(alloc, class.file.methods.as_slice())?;
         orders.push(Row::new(order))?;
     }
     Ok(orders)

@@ -3,16 +3,16 @@
 ghost use Rattle.std.specs.Prelude.{◌≡◌, ◌<◌, ◌↔◌, Some, IsTrue, length, slice_get};
 ghost use Rattle.std.specs.List.{Any};
 ghost use Rattle.cf_reader.specs.declared.class_file.Method.{Method};
-ghost use Rattle.cls_set.specs.declared.class.Class.{Class};
-ghost use Rattle.cls_set.specs.Building.{origins_of};
+ghost use Rattle.cls_order.specs.declared.class.Class.{Class};
+ghost use Rattle.cls_order.specs.Building.{origins_of};
 ghost use Rattle.cls_set.specs.ClassRules.{ClashesIn};
-ghost use Rattle.cls_set.specs.Entries.{classes_of, AreArranged};
+ghost use Rattle.cls_order.specs.Entries.{classes_of, AreArranged};
 ghost use Rattle.cls_set.specs.Orders.{HaveOrders, IsOrder};
 ghost use Rattle.cls_set.specs.Rules.{package_name, Clashes, HasPackageAccess, IsSamePackage, MayNotStand, OverridesBadly};
 
-use super::entries::Entry;
 use super::ordering::is_before;
 use cf_reader::{ClassFile, Flags, Method, Row};
+use cls_order::Entry;
 
 // What stands before the last / of a class's name.
 fn package_name(name: &[u8]) -> &[u8]
@@ -107,10 +107,11 @@ pub(crate) fn overrides_badly(entries: &[Entry], orders: &[Row<usize>], index: u
     requires in_set { index < length entries.now }
     ensures { (c : Class) → slice_get (classes_of entries.now) index ≡ Some c → IsTrue result ↔ OverridesBadly (origins_of entries.now) c.file }
 {
-    let lower = &entries[index].class.file;
-    let mut up = entries[index].class.superclass;
+    let class = &entries[index].class;
+    let lower = &class.file;
+    let mut up = class.superclass;
     'up: while let Some(superclass) = up {
-        let superclass = usize::from(superclass.0);
+        let superclass = superclass.get();
         let upper = &entries[superclass].class;
         if clashes_in(lower, &upper.file, orders[superclass].as_slice()) {
             return true;

@@ -2,48 +2,54 @@
 
 ghost use Rattle.std.specs.Prelude.{◌≡◌, ◌<◌, ◌↔◌, Some, IfOk, IsTrue, length, slice_get};
 ghost use Rattle.std.specs.List.{Any};
-ghost use Rattle.cls_set.specs.declared.class.Class.{Class};
-ghost use Rattle.cls_set.specs.Building.{origins_of};
-ghost use Rattle.cls_set.specs.ClassRules.{AreKnown, AreUnfit, CannotCross, IsFieldNotKept, IsMethodNotCrossing, IsReached, IsUnfit};
-ghost use Rattle.cls_set.specs.Entries.{classes_of, AreArranged, HaveTables};
-ghost use Rattle.cls_set.specs.Rules.{CanBeKept, CanCross, IsBelowRemote, NamesRemoteInterface};
+ghost use Rattle.cls_order.specs.declared.class.Class.{Class};
+ghost use Rattle.cls_order.specs.Building.{origins_of};
+ghost use Rattle.cls_set.specs.ClassRules.{AreKnown, AreRemote, AreUnfit, CannotCross, IsFieldNotKept, IsMethodNotCrossing, IsUnfit};
+ghost use Rattle.cls_order.specs.Entries.{classes_of, AreArranged};
+ghost use Rattle.cls_order.specs.Marks.{IsByRank};
+ghost use Rattle.cls_set.specs.Rules.{CanBeKept, CanCross, NamesRemoteInterface};
 
-use super::entries::{Entry, find, is_in};
-use cf_reader::{ElementType, Field, FieldType, Flags, Method, Row, Text};
+use cf_reader::{ElementType, Field, FieldType, Flags, Method, Shared, Text};
+use cls_order::{Entry, find, is_in, spread};
 use std::alloc::{AllocError, Global};
 
-// Whether a class is java/rmi/Remote or below it.
-pub(crate) fn is_below_remote(entries: &[Entry], tables: &[Row<bool>], index: usize) -> bool
+// Which classes are java/rmi/Remote or below it.
+pub(crate) fn find_remote(
+    alloc: Global,
+    entries: &[Entry],
+    order: &[usize],
+) -> Result<Vec<bool>, AllocError>
     requires arranged { AreArranged entries.now }
-    requires tables { HaveTables (classes_of entries.now) tables.now }
-    requires in_set { index < length entries.now }
-    ensures { (c : Class) → slice_get (classes_of entries.now) index ≡ Some c → IsTrue result ↔ IsBelowRemote (origins_of entries.now) c.file.name }
+    requires order { IsByRank entries.now order.now }
+    ensures { IfOk result (λ remote. AreRemote entries.now remote.items) }
 {
+    let mut remote = vec![in alloc; false; entries.len()]?;
     match find(entries, b"java/rmi/Remote") {
-        Some(remote) => {
-            let remote = usize::from(remote.0);
-            index == remote || tables[index].as_slice()[remote]
+        Some(id) => {
+            remote[id.get()] = true;
+            spread(entries, order, &mut remote);
+            Ok(remote)
         }
-        None => false,
+        None => Ok(remote),
     }
 }
 
-fn names_remote_interface(entries: &[Entry], tables: &[Row<bool>], name: &Text) -> bool
-    requires { AreKnown entries.now tables.now }
+fn names_remote_interface(entries: &[Entry], remote: &[bool], name: &Text) -> bool
+    requires { AreKnown entries.now remote.now }
     ensures { IsTrue result ↔ NamesRemoteInterface (origins_of entries.now) name.now }
 {
     match find(entries, name.as_bytes()) {
         Some(id) => {
-            let index = usize::from(id.0);
-            entries[index].class.is_interface() && is_below_remote(entries, tables, index)
+            let index = id.get();
+            entries[index].class.is_interface() && is_in(remote, index)
         }
         None => false,
     }
 }
 
 // Whether a remote class may have an instance field of this type.
-fn can_be_kept(entries: &[Entry], tables: &[Row<bool>], kind: &FieldType) -> bool
-    requires { AreKnown entries.now tables.now }
+fn can_be_kept(entries: &[Entry], remote: &[bool], kind: &FieldType) -> bool
+    requires { AreKnown entries.now remote.now }
     ensures { IsTrue result ↔ CanBeKept (origins_of entries.now) kind.now }
 {
     if kind.dimensions != 0 {
@@ -52,69 +58,78 @@ fn can_be_kept(entries: &[Entry], tables: &[Row<bool>], kind: &FieldType) -> boo
     match &kind.element {
         ElementType::Int => true,
         ElementType::Boolean => true,
-        ElementType::Class(name) => names_remote_interface(entries, tables, name),
+        ElementType::Class(name) => names_remote_interface(entries, remote, name),
         _ => false,
     }
 }
 
 // Whether a remote interface's methods may take and give this type.
-fn can_cross(entries: &[Entry], tables: &[Row<bool>], kind: &FieldType) -> bool
-    requires { AreKnown entries.now tables.now }
+fn can_cross(entries: &[Entry], remote: &[bool], kind: &FieldType) -> bool
+    requires { AreKnown entries.now remote.now }
     ensures { IsTrue result ↔ CanCross (origins_of entries.now) kind.now }
 {
     match &kind.element {
         ElementType::Int if kind.dimensions == 1 => true,
-        _ => can_be_kept(entries, tables, kind),
+        _ => can_be_kept(entries, remote, kind),
     }
 }
 
-fn cannot_cross(entries: &[Entry], tables: &[Row<bool>], kind: &FieldType) -> bool
-    requires { AreKnown entries.now tables.now }
+fn cannot_cross(entries: &[Entry], remote: &[bool], kind: &FieldType) -> bool
+    requires { AreKnown entries.now remote.now }
     ensures { IsTrue result ↔ CannotCross (origins_of entries.now) kind.now }
 {
-    !can_cross(entries, tables, kind)
+    !can_cross(entries, remote, kind)
 }
 
-fn is_field_not_kept(entries: &[Entry], tables: &[Row<bool>], field: &Field) -> bool
-    requires { AreKnown entries.now tables.now }
+fn does_not_cross(entries: &[Entry], remote: &[bool], kind: &Shared<FieldType>) -> bool
+    requires { AreKnown entries.now remote.now }
+    ensures { IsTrue result ↔ CannotCross (origins_of entries.now) kind.now }
+{
+    cannot_cross(entries, remote, kind)
+}
+
+fn is_field_not_kept(entries: &[Entry], remote: &[bool], field: &Field) -> bool
+    requires { AreKnown entries.now remote.now }
     ensures { IsTrue result ↔ IsFieldNotKept (origins_of entries.now) field.now }
 {
-    !field.flags.has(Flags::STATIC) && !can_be_kept(entries, tables, &field.kind)
+    !field.flags.has(Flags::STATIC) && !can_be_kept(entries, remote, &field.kind)
 }
 
-fn is_one_not_crossing(entries: &[Entry], tables: &[Row<bool>], kinds: &[FieldType]) -> bool
-    requires { AreKnown entries.now tables.now }
+fn is_one_not_crossing(entries: &[Entry], remote: &[bool], kinds: &[Shared<FieldType>]) -> bool
+    requires { AreKnown entries.now remote.now }
     ensures { IsTrue result ↔ Any (CannotCross (origins_of entries.now)) kinds.now }
 {
-    kinds.iter().any(|kind| cannot_cross(entries, tables, kind))
+    kinds
+        .iter()
+        .any(|kind| does_not_cross(entries, remote, kind))
 }
 
-fn is_method_not_crossing(entries: &[Entry], tables: &[Row<bool>], method: &Method) -> bool
-    requires { AreKnown entries.now tables.now }
+fn is_method_not_crossing(entries: &[Entry], remote: &[bool], method: &Method) -> bool
+    requires { AreKnown entries.now remote.now }
     ensures { IsTrue result ↔ IsMethodNotCrossing (origins_of entries.now) method.now }
 {
     match &method.types.result {
-        Some(kind) if cannot_cross(entries, tables, kind) => true,
-        _ => is_one_not_crossing(entries, tables, method.types.parameters.as_slice()),
+        Some(kind) if does_not_cross(entries, remote, kind) => true,
+        _ => is_one_not_crossing(entries, remote, method.types.parameters.as_slice()),
     }
 }
 
-fn is_one_field_not_kept(entries: &[Entry], tables: &[Row<bool>], fields: &[Field]) -> bool
-    requires { AreKnown entries.now tables.now }
+fn is_one_field_not_kept(entries: &[Entry], remote: &[bool], fields: &[Field]) -> bool
+    requires { AreKnown entries.now remote.now }
     ensures { IsTrue result ↔ Any (IsFieldNotKept (origins_of entries.now)) fields.now }
 {
     fields
         .iter()
-        .any(|field| is_field_not_kept(entries, tables, field))
+        .any(|field| is_field_not_kept(entries, remote, field))
 }
 
-fn is_one_method_not_crossing(entries: &[Entry], tables: &[Row<bool>], methods: &[Method]) -> bool
-    requires { AreKnown entries.now tables.now }
+fn is_one_method_not_crossing(entries: &[Entry], remote: &[bool], methods: &[Method]) -> bool
+    requires { AreKnown entries.now remote.now }
     ensures { IsTrue result ↔ Any (IsMethodNotCrossing (origins_of entries.now)) methods.now }
 {
     methods
         .iter()
-        .any(|method| is_method_not_crossing(entries, tables, method))
+        .any(|method| is_method_not_crossing(entries, remote, method))
 }
 
 // Which members: the fields of classes, or the methods of interfaces.
@@ -125,59 +140,37 @@ pub(crate) enum MemberKind {
 }
 
 // Whether a class has a member that no remote class or interface may have or inherit.
-fn is_unfit(entries: &[Entry], tables: &[Row<bool>], index: usize, kind: MemberKind) -> bool
-    requires arranged { AreArranged entries.now }
-    requires tables { HaveTables (classes_of entries.now) tables.now }
+fn is_unfit(entries: &[Entry], remote: &[bool], index: usize, kind: MemberKind) -> bool
+    requires known { AreKnown entries.now remote.now }
     requires in_set { index < length entries.now }
     ensures { (c : Class) → slice_get (classes_of entries.now) index ≡ Some c → IsTrue result ↔ IsUnfit kind (origins_of entries.now) c.file }
 {
     let class = &entries[index].class;
     match kind {
-        MemberKind::Fields => is_one_field_not_kept(entries, tables, class.file.fields.as_slice()),
+        MemberKind::Fields => is_one_field_not_kept(entries, remote, class.file.fields.as_slice()),
         MemberKind::Methods => {
             class.is_interface()
-                && is_one_method_not_crossing(entries, tables, class.file.methods.as_slice())
+                && is_one_method_not_crossing(entries, remote, class.file.methods.as_slice())
         }
     }
 }
 
-// The indices of the classes that have such a member.
+// Which classes have or inherit such a member.
 pub(crate) fn find_unfit(
     alloc: Global,
     entries: &[Entry],
-    tables: &[Row<bool>],
+    order: &[usize],
+    remote: &[bool],
     kind: MemberKind,
-) -> Result<Vec<usize>, AllocError>
-    requires { AreKnown entries.now tables.now }
-    ensures { IfOk result (λ indices. AreUnfit kind entries.now indices.items) }
+) -> Result<Vec<bool>, AllocError>
+    requires known { AreKnown entries.now remote.now }
+    requires order { IsByRank entries.now order.now }
+    ensures { IfOk result (λ unfit. AreUnfit kind entries.now unfit.items) }
 {
-    let mut indices = Vec::new(alloc);
+    let mut unfit = Vec::with_capacity(alloc, entries.len())?;
     for index in 0..entries.len() {
-        if is_unfit(entries, tables, index, kind) {
-            indices.push(index)?;
-        }
+        unfit.push(is_unfit(entries, remote, index, kind))?;
     }
-    Ok(indices)
-}
-
-// The indices of the classes with fields that no remote class may have or inherit, and of the
-// interfaces with methods that no remote interface may have.
-#[derive(Debug, Drop)]
-pub(crate) struct Unfit {
-    pub(crate) fields: Vec<usize>,
-    pub(crate) methods: Vec<usize>,
-}
-
-// Whether a class is another or below it, by its table.
-fn is_reached(table: &[bool], index: usize, upper: usize) -> bool
-    ensures { IsTrue result ↔ IsReached table.now index upper }
-{
-    upper == index || is_in(table, upper)
-}
-
-// Whether a class is one of others or below one, by its table.
-pub(crate) fn reaches_one(table: &[bool], index: usize, others: &[usize]) -> bool
-    ensures { IsTrue result ↔ Any (IsReached table.now index) others.now }
-{
-    others.iter().any(|other| is_reached(table, index, *other))
+    spread(entries, order, &mut unfit);
+    Ok(unfit)
 }

@@ -1,24 +1,23 @@
 //! The rules that each class of a set keeps, once its supertypes are known.
 
-ghost use Rattle.std.specs.Prelude.{◌≡◌, ◌<◌, ◌≤◌, ◌↔◌, Some, Contains, IsTrue, IfErr, OnOk, List, [], length, slice_get, slice_index_or};
-ghost use Rattle.std.specs.List.{Any};
-ghost use Rattle.cls_set.specs.declared.class.Class.{Class};
-ghost use Rattle.cls_set.specs.Building.{origins_of};
-ghost use Rattle.cls_set.specs.ClassRules.{set_rule, AreFound, ExtendsOneWith, ImplementsClass, IsBadlyRooted, IsFirstRuleFault, IsReached, IsRuleFault, KeepAll};
+ghost use Rattle.std.specs.Prelude.{◌≡◌, ◌<◌, ◌↔◌, Some, Contains, IfOk, IsTrue, IfErr, OnOk, length, slice_get};
+ghost use Rattle.cls_order.specs.declared.class.Class.{Class};
+ghost use Rattle.cls_order.specs.Building.{origins_of};
+ghost use Rattle.cls_set.specs.ClassRules.{set_rule, AreFacts, ExtendsOneWith, ImplementsClass, IsBadlyRooted, IsFirstRuleFault, IsRuleFault, KeepBelow};
+ghost use Rattle.cls_order.specs.FaultNames.{set_rule_number};
 ghost use Rattle.cls_set.specs.Faults.{Keeps};
-ghost use Rattle.cls_set.specs.Entries.{classes_of, AreArranged, HaveTables};
-ghost use Rattle.cls_set.specs.Orders.{HaveOrders};
-ghost use Rattle.cls_set.specs.Rules.{Breaks, IsBelowRemote};
-ghost use Rattle.cls_set.specs.declared.fault.SetRule.TheVariants.{BadSuper};
+ghost use Rattle.cls_order.specs.Entries.{classes_of, AreArranged};
+ghost use Rattle.cls_order.specs.Marks.{IsMarked};
+ghost use Rattle.cls_set.specs.Rules.{Breaks};
+ghost use Rattle.cls_order.specs.declared.fault.SetRule.TheVariants.{BadSuper, TooMany};
 
-use super::entries::Entry;
 use super::ordering::orders;
 use super::overriding::overrides_badly;
-use super::remote::{MemberKind, Unfit, find_unfit, is_below_remote, reaches_one};
-use super::resolving::broken;
-use super::{Class, SetFault, SetRule};
+use super::remote::{MemberKind, find_remote, find_unfit};
+use super::{SetFault, SetRule};
 use cf_reader::{Flags, Row};
-use std::alloc::Global;
+use cls_order::{Draft, Entry, broken, by_rank, is_in};
+use std::alloc::{AllocError, Global};
 
 // A rule that is looked for class by class.
 #[derive(Clone, Copy, Debug, PartialEq, Eq)]
@@ -47,28 +46,29 @@ impl ClassRule {
 }
 
 // Whether the direct superclass of a class has one of the mask's flags.
-fn extends_one_with(entries: &[Entry], class: &Class, mask: u16) -> bool
+fn extends_one_with(entries: &[Entry], class: &Draft, mask: u16) -> bool
     requires arranged { AreArranged entries.now }
     requires among { Contains (classes_of entries.now) class.now }
     ensures { IsTrue result ↔ ExtendsOneWith (origins_of entries.now) class.now.file mask }
 {
     match class.superclass {
         Some(superclass) => {
-            let flags = entries[usize::from(superclass.0)].class.file.flags;
-            flags.has(mask)
+            let superclass = &entries[superclass.get()].class;
+            superclass.file.flags.has(mask)
         }
         None => false,
     }
 }
 
 // Whether one of the direct superinterfaces of a class is no interface.
-fn implements_class(entries: &[Entry], class: &Class) -> bool
+fn implements_class(entries: &[Entry], class: &Draft) -> bool
     requires arranged { AreArranged entries.now }
     requires among { Contains (classes_of entries.now) class.now }
     ensures { IsTrue result ↔ ImplementsClass (origins_of entries.now) class.now.file }
 {
     for interface in class.interfaces.as_slice() {
-        if !entries[usize::from(interface.0)].class.is_interface() {
+        let index = interface.get();
+        if !entries[index].class.is_interface() {
             return true;
         }
     }
@@ -76,7 +76,7 @@ fn implements_class(entries: &[Entry], class: &Class) -> bool
 }
 
 // Whether a class without superclass, or an interface by its superclass, breaks a rule on java/lang/Object.
-fn is_badly_rooted(class: &Class) -> bool
+fn is_badly_rooted(class: &Draft) -> bool
     ensures { IsTrue result ↔ IsBadlyRooted class.now.file }
 {
     match &class.file.superclass {
@@ -85,7 +85,7 @@ fn is_badly_rooted(class: &Class) -> bool
     }
 }
 
-fn has_bad_super(entries: &[Entry], class: &Class) -> bool
+fn has_bad_super(entries: &[Entry], class: &Draft) -> bool
     requires arranged { AreArranged entries.now }
     requires among { Contains (classes_of entries.now) class.now }
     ensures { IsTrue result ↔ Breaks (origins_of entries.now) class.now.file BadSuper }
@@ -99,29 +99,60 @@ fn has_bad_super(entries: &[Entry], class: &Class) -> bool
     implements_class(entries, class)
 }
 
-// Whether a class has or inherits what no remote class or interface may have, by its table and the
-// unfit classes.
-fn is_remotely_unfit(entries: &[Entry], tables: &[Row<bool>], unfit: &[usize], index: usize) -> bool
-    requires arranged { AreArranged entries.now }
-    requires tables { HaveTables (classes_of entries.now) tables.now }
-    requires in_set { index < length entries.now }
-    ensures { (c : Class) → slice_get (classes_of entries.now) index ≡ Some c → IsTrue result ↔ (IsBelowRemote (origins_of entries.now) c.file.name × Any (IsReached (slice_index_or tables.now index []) index) unfit.now) }
-{
-    is_below_remote(entries, tables, index) && reaches_one(tables[index].as_slice(), index, unfit)
+// What the rules ask of each class, by its index.
+#[derive(Debug, Drop)]
+pub(crate) struct Facts {
+    // Whether it is java/rmi/Remote or below it.
+    pub(crate) remote: Vec<bool>,
+    // Whether it has or inherits a field that no remote class may have.
+    pub(crate) fields: Vec<bool>,
+    // Whether it has or inherits a method that no remote interface may have.
+    pub(crate) methods: Vec<bool>,
+    // Its methods in their order.
+    pub(crate) orders: Vec<Row<usize>>,
 }
 
-fn breaks(
-    entries: &[Entry],
-    tables: &[Row<bool>],
-    unfit: &Unfit,
-    orders: &[Row<usize>],
-    index: usize,
-    rule: ClassRule,
-) -> bool
+pub(crate) fn find_facts(alloc: Global, entries: &[Entry]) -> Result<Facts, AllocError>
+    requires { AreArranged entries.now }
+    ensures { IfOk result (AreFacts entries.now) }
+{
+    let order = by_rank(alloc, entries)?;
+    let remote = find_remote(alloc, entries, order.as_slice())?;
+    let told = remote.as_slice();
+    let fields = find_unfit(alloc, entries, order.as_slice(), told, MemberKind::Fields)?;
+    let methods = find_unfit(alloc, entries, order.as_slice(), told, MemberKind::Methods)?;
+    let orders = orders(alloc, entries)?;
+    Ok(Facts {
+        remote,
+        fields,
+        methods,
+        orders,
+    })
+}
+
+impl Facts {
+    fn is_remote(&self, index: usize) -> bool
+        ensures { IsTrue result ↔ IsMarked self.now.remote.items index }
+    {
+        is_in(self.remote.as_slice(), index)
+    }
+
+    fn has_unfit_field(&self, index: usize) -> bool
+        ensures { IsTrue result ↔ (IsMarked self.now.remote.items index × IsMarked self.now.fields.items index) }
+    {
+        self.is_remote(index) && is_in(self.fields.as_slice(), index)
+    }
+
+    fn has_unfit_method(&self, index: usize) -> bool
+        ensures { IsTrue result ↔ (IsMarked self.now.remote.items index × IsMarked self.now.methods.items index) }
+    {
+        self.is_remote(index) && is_in(self.methods.as_slice(), index)
+    }
+}
+
+fn breaks(entries: &[Entry], facts: &Facts, index: usize, rule: ClassRule) -> bool
     requires arranged { AreArranged entries.now }
-    requires tables { HaveTables (classes_of entries.now) tables.now }
-    requires unfit { AreFound entries.now unfit.now }
-    requires orders { HaveOrders (classes_of entries.now) orders.now }
+    requires facts { AreFacts entries.now facts.now }
     requires in_set { index < length entries.now }
     ensures { (c : Class) → slice_get (classes_of entries.now) index ≡ Some c → IsTrue result ↔ Breaks (origins_of entries.now) c.file (set_rule rule) }
 {
@@ -129,62 +160,40 @@ fn breaks(
     match rule {
         ClassRule::BadSuper => has_bad_super(entries, class),
         ClassRule::FinalSuper => extends_one_with(entries, class, Flags::FINAL),
-        ClassRule::RemoteField => {
-            !class.is_interface()
-                && is_remotely_unfit(entries, tables, unfit.fields.as_slice(), index)
-        }
-        ClassRule::RemoteMethod => {
-            class.is_interface()
-                && is_remotely_unfit(entries, tables, unfit.methods.as_slice(), index)
-        }
-        ClassRule::Override => overrides_badly(entries, orders, index),
-        ClassRule::NotYet => !class.is_interface() && is_below_remote(entries, tables, index),
+        ClassRule::RemoteField => !class.is_interface() && facts.has_unfit_field(index),
+        ClassRule::RemoteMethod => class.is_interface() && facts.has_unfit_method(index),
+        ClassRule::Override => overrides_badly(entries, facts.orders.as_slice(), index),
+        ClassRule::NotYet => !class.is_interface() && facts.is_remote(index),
     }
 }
 
 // Refuses the first class that breaks the rule.
-pub(crate) fn refuse(
-    entries: &[Entry],
-    tables: &[Row<bool>],
-    unfit: &Unfit,
-    orders: &[Row<usize>],
-    rule: ClassRule,
-) -> Result<(), SetFault>
+pub(crate) fn refuse(entries: &[Entry], facts: &Facts, rule: ClassRule) -> Result<(), SetFault>
     requires arranged { AreArranged entries.now }
-    requires tables { HaveTables (classes_of entries.now) tables.now }
-    requires unfit { AreFound entries.now unfit.now }
-    requires orders { HaveOrders (classes_of entries.now) orders.now }
+    requires facts { AreFacts entries.now facts.now }
     ensures ok { OnOk result (Keeps (origins_of entries.now) (set_rule rule)) }
     ensures fault { IfErr result (IsRuleFault (origins_of entries.now) (set_rule rule)) }
 {
     for index in 0..entries.len() {
-        if breaks(entries, tables, unfit, orders, index, rule) {
-            return Err(broken(rule.rule(), &entries[index].class.file.name));
+        if breaks(entries, facts, index, rule) {
+            let class = &entries[index].class;
+            return Err(broken(rule.rule(), &class.file.name));
         }
     }
     Ok(())
 }
 
-// Refuses the first class that breaks the first of the rules on each class.
-pub(crate) fn refuse_broken(
-    alloc: Global,
-    entries: &[Entry],
-    tables: &[Row<bool>],
-) -> Result<(), SetFault>
+// Refuses the first class that breaks the first of the rules on each class that are looked for before
+// the classes are counted.
+pub(crate) fn refuse_broken(entries: &[Entry], facts: &Facts) -> Result<(), SetFault>
     requires arranged { AreArranged entries.now }
-    requires tables { HaveTables (classes_of entries.now) tables.now }
-    ensures ok { OnOk result (KeepAll (origins_of entries.now)) }
+    requires facts { AreFacts entries.now facts.now }
+    ensures ok { OnOk result (KeepBelow (origins_of entries.now) (set_rule_number TooMany)) }
     ensures fault { IfErr result (IsFirstRuleFault (origins_of entries.now)) }
 {
-    let fields = find_unfit(alloc, entries, tables, MemberKind::Fields)?;
-    let methods = find_unfit(alloc, entries, tables, MemberKind::Methods)?;
-    let unfit = Unfit { fields, methods };
-    let all = orders(alloc, entries)?;
-    let orders = all.as_slice();
-    refuse(entries, tables, &unfit, orders, ClassRule::BadSuper)?;
-    refuse(entries, tables, &unfit, orders, ClassRule::FinalSuper)?;
-    refuse(entries, tables, &unfit, orders, ClassRule::RemoteField)?;
-    refuse(entries, tables, &unfit, orders, ClassRule::RemoteMethod)?;
-    refuse(entries, tables, &unfit, orders, ClassRule::Override)?;
-    refuse(entries, tables, &unfit, orders, ClassRule::NotYet)
+    refuse(entries, facts, ClassRule::BadSuper)?;
+    refuse(entries, facts, ClassRule::FinalSuper)?;
+    refuse(entries, facts, ClassRule::RemoteField)?;
+    refuse(entries, facts, ClassRule::RemoteMethod)?;
+    refuse(entries, facts, ClassRule::Override)
 }

@@ -24,14 +24,14 @@ pub record IsNumber (keys : List Key) (name descriptor : List ℕ) (number : ℕ
 abbrev pub is_same : Method → Method → Bool
 is_same a b = bytes_eq b.name a.name && bytes_eq b.descriptor a.descriptor
 
--- each of so many methods has the number of its name and descriptor, which is below their number
+-- each of the first n methods has the number of its name and descriptor, which is below their number
 pub record AreNumbered (classes : List Class) (count : ℕ) (numbers : List ℕ) : Type 0 where
   pub one_each : length numbers ≡ count
   pub keys : List Key
   pub few : length keys ≤ count
   pub number : (id : MethodId) (m : Method) → id.0 < count → method_at classes id ≡ Some m → IsNumber keys m.name m.descriptor (slice_index_or numbers id.0 0)
 
--- numbers below this one that agree in so many of their lowest bits are the same
+-- numbers below this one that agree in this many of their lowest bits are the same
 abbrev pub Covers : ℕ → ℕ → Type 0
 Covers zero count = count ≤ 1
 Covers (suc levels) count = Covers levels (count - count / 2)

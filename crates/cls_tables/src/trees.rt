@@ -23,7 +23,7 @@ fn child(nodes: &[Node], index: u32, key: u32) -> u32
     }
 }
 
-/// What a tree of so many levels has for a key.
+/// Returns what a tree of `levels` levels has for a key.
 pub(crate) fn find(nodes: &[Node], levels: u32, root: u32, key: u32) -> u32
     ensures { result ≡ find nodes.now levels root key }
 {

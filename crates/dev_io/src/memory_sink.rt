@@ -25,7 +25,8 @@ impl Model for MemSink {
 
     ghost view = { λ s. record { bytes = s.bytes.items; room = s.room; step = s.step; calls = s.calls } };
 
-    ghost invariant = { λ s. (vec_len s.bytes ≤ s.room) × (s.room ≤ vec_capacity s.bytes) × (0 < s.step) };
+    ghost invariant = { λ s. (vec_len s.bytes ≤ s.room) × (s.room ≤ vec_capacity s.bytes)
+        × (0 < s.step) };
 }
 
 impl MemSink {
@@ -36,7 +37,8 @@ impl MemSink {
     /// call fails before it is full.
     pub fn new(alloc: Global, room: usize, step: usize) -> Result<MemSink, AllocError>
         requires { 0 < step }
-        ensures { IfOk result (λ sink. sink ≡ record { bytes = []; room = room; step = step; calls = Unlimited }) }
+        ensures { IfOk result (λ sink. sink ≡ record
+            { bytes = []; room = room; step = step; calls = Unlimited }) }
     {
         Ok(MemSink {
             bytes: Vec::with_capacity(alloc, room)?,
@@ -83,12 +85,14 @@ impl Sink for MemSink {
         ensures for_good { IsTrue (is_failed self.old.calls) → IsErr result }
 
         // How many bytes a call takes, and what it leaves.
-        ensures count { IfOk result (λ count. count ≡ min self.old.step (min (self.old.room - length self.old.bytes) (length bytes.now))) }
+        ensures count { IfOk result (λ count. count
+            ≡ min self.old.step (min (self.old.room - length self.old.bytes) (length bytes.now))) }
         ensures step { self.new.step ≡ self.old.step }
         ensures room { self.new.room ≡ self.old.room }
         ensures calls { OnOk result (self.new.calls ≡ after_call self.old.calls) }
         // A call fails because it has to fail, or because a byte comes and none fits.
-        ensures full { IsErr result → IsTrue (is_failed (after_call self.old.calls)) ⊎ ((self.old.room ≡ length self.old.bytes) × (0 < length bytes.now)) }
+        ensures full { IsErr result → IsTrue (is_failed (after_call self.old.calls))
+            ⊎ ((self.old.room ≡ length self.old.bytes) × (0 < length bytes.now)) }
     {
         self.calls.count()?;
         let count = self.step.min(self.room - self.bytes.len()).min(bytes.len());

@@ -82,7 +82,8 @@ impl Source for MemSource {
         ensures for_good { IsTrue (is_failed self.old.calls) → IsErr result }
 
         // How many bytes a call gives, and what it leaves.
-        ensures count { IfOk result (λ count. count ≡ min self.old.step (min (length self.old.bytes) (length buffer.old))) }
+        ensures count { IfOk result (λ count. count
+            ≡ min self.old.step (min (length self.old.bytes) (length buffer.old))) }
         ensures step { self.new.step ≡ self.old.step }
         ensures calls { self.new.calls ≡ after_call self.old.calls }
     {

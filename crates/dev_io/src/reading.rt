@@ -26,7 +26,8 @@ fn read_piece<S: Source>(
     piece: &mut [u8],
 ) -> Result<bool, ReadError>
     requires { 0 < length piece.old }
-    ensures given { IfOk result (λ more. GivesPiece (S.remaining source.old) (S.remaining source.new) (length piece.old) bytes.old.items bytes.new.items more) }
+    ensures given { IfOk result (λ more. GivesPiece (S.remaining source.old)
+        (S.remaining source.new) (length piece.old) bytes.old.items bytes.new.items more) }
     ensures device { IsErrOf result ReadError.Device ↔ IsTrue (S.has_failed source.new) }
 {
     let Ok(count) = source.read(piece) else {
@@ -52,9 +53,11 @@ pub fn read_bytes<S: Source>(
 ) -> Result<Vec<u8>, ReadError>
     requires { 0 < most }
     // The source gave these bytes and no others.
-    ensures passed { IfOk result (λ bytes. Consumes (S.remaining source.old) (S.remaining source.new) bytes.items) }
+    ensures passed { IfOk result (λ bytes. Consumes (S.remaining source.old)
+        (S.remaining source.new) bytes.items) }
     // It gave all that it had, or its first `most` bytes.
-    ensures all { IfOk result (λ bytes. IfSome (S.remaining source.old) (λ all. bytes.items ≡ take most all)) }
+    ensures all { IfOk result (λ bytes. IfSome (S.remaining source.old)
+        (λ all. bytes.items ≡ take most all)) }
     ensures within { IfOk result (λ bytes. length bytes.items ≤ most) }
     ensures device { IsErrOf result ReadError.Device ↔ IsTrue (S.has_failed source.new) }
 {

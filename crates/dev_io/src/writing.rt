@@ -18,7 +18,8 @@ pub struct Cut {
 pub fn write_all<K: Sink>(sink: &mut K, bytes: &[u8]) -> Result<(), Cut>
     ensures all { OnOk result (Appends (K.contents sink.old) (K.contents sink.new) bytes.now) }
     ensures cut { IfErr result (λ cut. cut.taken < length bytes.now) }
-    ensures part { IfErr result (λ cut. Appends (K.contents sink.old) (K.contents sink.new) (take cut.taken bytes.now)) }
+    ensures part { IfErr result (λ cut. Appends (K.contents sink.old) (K.contents sink.new)
+        (take cut.taken bytes.now)) }
     ensures failed { IfErr result (λ _. IsTrue (K.has_failed sink.new)) }
 {
     let mut taken = 0;

@@ -65,8 +65,8 @@ entry-here r (e ∷ es) (suc i) v within key value = entry-here r es i v (omega 
 
 -- what stands at the index of a reference
 pub entry-at : (r : ForeignId) (es : List (ForeignId × Kept)) (i : ℕ) (v : Kept) → position (is_same r) (keys_of es) ≡ Some i → slice_get (values_of es) i ≡ Some v → slice_get es i ≡ Some (r, v)
-entry-at r es i v place value =
-    let at = position-Some (is_same r) (keys_of es) i r place in
+entry-at r es i v index value =
+    let at = position-Some (is_same r) (keys_of es) i r index in
     entry-here r es i v at.0 (same-reference r (get_or (keys_of es) i r) at.1) value
 
 -- a test of numbers, both ways

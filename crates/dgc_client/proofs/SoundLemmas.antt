@@ -319,7 +319,7 @@ module _ (clients : Clients) (s : IsSound clients) (m : ℕ) (small : m ≤ 1844
 -- the deadlines of the lease before a change are there
 pub planned-before : (clients : Clients) → IsSound clients → (r : ForeignId) (l : ClientLease) → l ≡ lease_in clients.leases r
     → (at : ℕ) → at ≡ position_or_len (is_same r) (keys_of (leases_of clients.leases)) → (term : Term) → l.lease ≡ Some term → IsPlannedTerm clients.plans term at
-planned-before clients s r l is at place term lease = by (lookup (is_same r) (leases_of clients.leases)) refl
+planned-before clients s r l is at index term lease = by (lookup (is_same r) (leases_of clients.leases)) refl
   where
     by : (o : Option ClientLease) → lookup (is_same r) (leases_of clients.leases) ≡ o → IsPlannedTerm clients.plans term at
     by None none =
@@ -328,5 +328,5 @@ planned-before clients s r l is at place term lease = by (lookup (is_same r) (le
     by (Some v) some =
         let same : l ≡ v = is ∙ ap (λ (x : Option ClientLease). unwrap_or x (fresh clients.leases.moment)) some in
         let there = found-at r (leases_of clients.leases) v some in
-        subst (λ (n : ℕ). IsPlannedTerm clients.plans term n) (sym place)
+        subst (λ (n : ℕ). IsPlannedTerm clients.plans term n) (sym index)
         (s.planned (position_or_len (is_same r) (keys_of (leases_of clients.leases))) there.0 v term there.1 (ap (λ (x : ClientLease). x.lease) (sym same) ∙ lease))

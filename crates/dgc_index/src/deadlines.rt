@@ -74,7 +74,8 @@ impl Deadlines {
 
     /// Takes a deadline out, and all others stay.
     pub fn remove(&mut self, deadline: Deadline)
-        ensures { (other : Deadline) → (other ≡ deadline → ⊥) → IsPlanned self.old other → IsPlanned self.new other }
+        ensures { (other : Deadline) → (other ≡ deadline → ⊥) → IsPlanned self.old other
+            → IsPlanned self.new other }
     {
         let _ = self.row.remove(&deadline);
     }
@@ -82,7 +83,8 @@ impl Deadlines {
     /// Returns the indexes, below this count, of the deadlines up to a moment. There may be others
     /// among them.
     pub fn up_to(&self, alloc: Global, moment: u64, count: usize) -> Result<Vec<usize>, AllocError>
-        ensures { IfOk result (λ indexes. (other : Deadline) → other.moment ≤ moment → other.index < count → IsPlanned self.now other → Contains indexes.items other.index) }
+        ensures { IfOk result (λ indexes. (other : Deadline) → other.moment ≤ moment
+            → other.index < count → IsPlanned self.now other → Contains indexes.items other.index) }
     {
         if self.all {
             return up_to(alloc, count);

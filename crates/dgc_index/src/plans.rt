@@ -60,9 +60,13 @@ impl Plans {
         before: Option<Term>,
         after: Option<Term>,
     )
-        ensures here { (term : Term) → after ≡ Some term → (before ≡ Some term → IsPlannedTerm self.old term index) → IsPlannedTerm self.new term index }
-        ensures others { (term : Term) (other : ℕ) → (other ≡ index → ⊥) → IsPlannedTerm self.old term other → IsPlannedTerm self.new term other }
-        ensures halves { (other : Deadline) → (other.index ≡ index → ⊥) → IsPlanned self.old.halves other → IsPlanned self.new.halves other }
+        ensures here { (term : Term) → after ≡ Some term
+            → (before ≡ Some term → IsPlannedTerm self.old term index)
+            → IsPlannedTerm self.new term index }
+        ensures others { (term : Term) (other : ℕ) → (other ≡ index → ⊥)
+            → IsPlannedTerm self.old term other → IsPlannedTerm self.new term other }
+        ensures halves { (other : Deadline) → (other.index ≡ index → ⊥)
+            → IsPlanned self.old.halves other → IsPlanned self.new.halves other }
     {
         if is_same_term(kept, after) && is_same_term(before, after) {
             return;
@@ -74,8 +78,10 @@ impl Plans {
     /// Adds the deadlines of a lease.
     pub fn add(&mut self, index: usize, term: Option<Term>)
         ensures here { (this : Term) → term ≡ Some this → IsPlannedTerm self.new this index }
-        ensures kept { (this : Term) (other : ℕ) → IsPlannedTerm self.old this other → IsPlannedTerm self.new this other }
-        ensures halves { (other : Deadline) → IsPlanned self.old.halves other → IsPlanned self.new.halves other }
+        ensures kept { (this : Term) (other : ℕ) → IsPlannedTerm self.old this other
+            → IsPlannedTerm self.new this other }
+        ensures halves { (other : Deadline) → IsPlanned self.old.halves other
+            → IsPlanned self.new.halves other }
     {
         if let Some(term) = term {
             self.halves.add(half_of(term, index));
@@ -85,8 +91,10 @@ impl Plans {
 
     // Takes out the deadlines of a lease.
     fn remove(&mut self, index: usize, term: Option<Term>)
-        ensures others { (this : Term) (other : ℕ) → (other ≡ index → ⊥) → IsPlannedTerm self.old this other → IsPlannedTerm self.new this other }
-        ensures halves { (other : Deadline) → (other.index ≡ index → ⊥) → IsPlanned self.old.halves other → IsPlanned self.new.halves other }
+        ensures others { (this : Term) (other : ℕ) → (other ≡ index → ⊥)
+            → IsPlannedTerm self.old this other → IsPlannedTerm self.new this other }
+        ensures halves { (other : Deadline) → (other.index ≡ index → ⊥)
+            → IsPlanned self.old.halves other → IsPlanned self.new.halves other }
     {
         if let Some(term) = term {
             self.halves.remove(half_of(term, index));

@@ -101,8 +101,10 @@ impl Touched {
         more: Vec<usize>,
     ) -> Result<Vec<usize>, AllocError>
         ensures rising { IfOk result (λ indexes. Rises indexes.items) }
-        ensures there { IfOk result (λ indexes. (at : ℕ) → at < count → IsTouched self.now at → Contains indexes.items at) }
-        ensures more { IfOk result (λ indexes. (at : ℕ) → at < count → Contains more.items at → Contains indexes.items at) }
+        ensures there { IfOk result (λ indexes. (at : ℕ) → at < count → IsTouched self.now at
+            → Contains indexes.items at) }
+        ensures more { IfOk result (λ indexes. (at : ℕ) → at < count → Contains more.items at
+            → Contains indexes.items at) }
     {
         if self.all {
             return up_to(alloc, count);

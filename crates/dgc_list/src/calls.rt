@@ -21,7 +21,8 @@ pub(crate) fn make_room(
     ids: &[ObjId],
 ) -> Result<(), AllocError>
     ensures known { OnOk result (AreKnown client.now ids.now objects.new) }
-    ensures same { (other : ObjId) → IsSame (clients_at objects.old other) (clients_at objects.new other) }
+    ensures same { (other : ObjId) → IsSame (clients_at objects.old other)
+        (clients_at objects.new other) }
 {
     for id in ids {
         objects.add(*id, client)?;
@@ -31,7 +32,8 @@ pub(crate) fn make_room(
 
 // Takes back the room for a client at those of the objects at which nothing is remembered of it.
 pub(crate) fn release(objects: &mut Objects, client: &Uuid, ids: &[ObjId])
-    ensures { (other : ObjId) → IsAlike (clients_at objects.old other) (clients_at objects.new other) }
+    ensures { (other : ObjId) → IsAlike (clients_at objects.old other)
+        (clients_at objects.new other) }
 {
     for id in ids {
         release_at(objects, client, *id);
@@ -40,7 +42,8 @@ pub(crate) fn release(objects: &mut Objects, client: &Uuid, ids: &[ObjId])
 
 // Takes back the room for a client at an object, if nothing is remembered of it there.
 fn release_at(objects: &mut Objects, client: &Uuid, id: ObjId)
-    ensures { (other : ObjId) → IsAlike (clients_at objects.old other) (clients_at objects.new other) }
+    ensures { (other : ObjId) → IsAlike (clients_at objects.old other)
+        (clients_at objects.new other) }
 {
     let remembered = objects.get(id, client);
     if remembered.is_blank() {
@@ -57,7 +60,8 @@ pub(crate) fn add_expiries(
     number: u64,
     moment: u64,
 ) -> Result<(), AllocError>
-    ensures planned { OnOk result (ArePlanned client.now ids.now number moment objects.now expiries.new) }
+    ensures planned { OnOk result (ArePlanned client.now ids.now number moment objects.now
+        expiries.new) }
     ensures kept { (other : Expiry) → Contains expiries.old other → Contains expiries.new other }
 {
     for id in ids {
@@ -82,10 +86,16 @@ fn replace(
     remembered: Remembered,
 )
     requires { IsTrue (is_known (clients_at objects.old object) client.now || is_blank remembered) }
-    ensures here { Sets client.now remembered (clients_at objects.old object) (clients_at objects.new object) }
-    ensures others { (other : ObjId) → is_same object other ≡ false → clients_at objects.new other ≡ clients_at objects.old other }
-    ensures covered { ((moment : ℕ) → remembered.expires ≡ Some moment → Contains expiries.old (record { moment = moment; object = object; client = client.now })) → IsCovered objects.old expiries.old → IsCovered objects.new expiries.new }
-    ensures kept { (other : Expiry) → Contains expiries.old other → ((remembered_at objects.old object client.now).expires ≡ Some other.moment → remembered.expires ≡ Some other.moment) → Contains expiries.new other }
+    ensures here { Sets client.now remembered (clients_at objects.old object)
+        (clients_at objects.new object) }
+    ensures others { (other : ObjId) → is_same object other ≡ false
+        → clients_at objects.new other ≡ clients_at objects.old other }
+    ensures covered { ((moment : ℕ) → remembered.expires ≡ Some moment
+        → Contains expiries.old (record { moment = moment; object = object; client = client.now }))
+        → IsCovered objects.old expiries.old → IsCovered objects.new expiries.new }
+    ensures kept { (other : Expiry) → Contains expiries.old other
+        → ((remembered_at objects.old object client.now).expires ≡ Some other.moment
+        → remembered.expires ≡ Some other.moment) → Contains expiries.new other }
 {
     let before = objects.get(object, client);
     objects.set(object, client, remembered);

@@ -32,7 +32,8 @@ impl Model for Clients {
 
     ghost view = { λ clients. clients.remembered.entries };
 
-    ghost invariant = { λ clients. IsDistinct bytes_eq (keys_of clients.remembered.entries) × (clients.remembered.cap ≡ 2 ^ 64 - 1) };
+    ghost invariant = { λ clients. IsDistinct bytes_eq (keys_of clients.remembered.entries)
+        × (clients.remembered.cap ≡ 2 ^ 64 - 1) };
 }
 
 impl Clients {
@@ -62,7 +63,8 @@ impl Clients {
 
     // The clients with an entry, in their order.
     pub(crate) fn leased(&self, alloc: Global) -> Result<Vec<Uuid>, AllocError>
-        ensures { IfOk result (λ clients. clients.items ≡ map (λ entry. entry.0) (filter (λ entry. is_some entry.1.expires) self.now)) }
+        ensures { IfOk result (λ clients. clients.items
+            ≡ map (λ entry. entry.0) (filter (λ entry. is_some entry.1.expires) self.now)) }
     {
         self.remembered
             .iter()
@@ -99,7 +101,8 @@ impl Clients {
     // Sets what is remembered of a client if it has room, or if that is nothing; else nothing
     // changes. A new entry goes after the others, and a client of which nothing is remembered goes.
     pub(crate) fn set(&mut self, client: &Uuid, remembered: Remembered)
-        ensures { IsTrue (is_known self.old client.now || is_blank remembered) → Sets client.now remembered self.old self.new }
+        ensures { IsTrue (is_known self.old client.now || is_blank remembered)
+            → Sets client.now remembered self.old self.new }
     {
         if remembered.is_blank() {
             self.take_out(client);
@@ -130,7 +133,8 @@ impl Clients {
     // Sets what is remembered of a client, whose index stays: no entry is set anew.
     fn put(&mut self, client: &Uuid, remembered: Remembered)
         requires known { IsTrue (is_known self.old client.now) }
-        requires kept { IsTrue (is_some remembered.expires) → IsTrue (is_some (remembered_in self.old client.now).expires) }
+        requires kept { IsTrue (is_some remembered.expires)
+            → IsTrue (is_some (remembered_in self.old client.now).expires) }
         ensures { Sets client.now remembered self.old self.new }
     {
         match self.remembered.peek_mut(client) {

@@ -54,7 +54,8 @@ impl Expiries {
 
     // Takes an expiry out.
     pub(crate) fn remove(&mut self, expiry: Expiry)
-        ensures { (other : Expiry) → Contains self.old other → (other ≡ expiry) ⊎ Contains self.new other }
+        ensures { (other : Expiry) → Contains self.old other
+            → (other ≡ expiry) ⊎ Contains self.new other }
     {
         let _ = self.row.remove(&expiry);
     }
@@ -62,9 +63,11 @@ impl Expiries {
     // Takes the first expiry, if the moment has reached it.
     pub(crate) fn pop_gone(&mut self, moment: u64) -> Option<Expiry>
         ensures reached { IfSome result (λ gone. gone.moment ≤ moment) }
-        ensures others { IfSome result (λ gone. (other : Expiry) → Contains self.old other → (other ≡ gone) ⊎ Contains self.new other) }
+        ensures others { IfSome result (λ gone. (other : Expiry) → Contains self.old other
+            → (other ≡ gone) ⊎ Contains self.new other) }
         ensures fewer { OnSome result (length self.new + 1 ≡ length self.old) }
-        ensures none { IfNone result ((other : Expiry) → Contains self.old other → moment < other.moment) }
+        ensures none { IfNone result ((other : Expiry) → Contains self.old other
+            → moment < other.moment) }
         ensures unchanged { IfNone result (self.new ≡ self.old) }
     {
         match self.row.first() {

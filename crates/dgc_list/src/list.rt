@@ -107,7 +107,8 @@ impl RefList {
     ) -> u64
         requires { HasRoomForDirty client.now objects.now number period self.old }
         ensures granted { result ≡ granted period }
-        ensures told { (h : List Call) → IsAfter h self.old → IsAfter (Dirty client.now objects.now number period ∷ h) self.new }
+        ensures told { (h : List Call) → IsAfter h self.old
+            → IsAfter (Dirty client.now objects.now number period ∷ h) self.new }
     {
         let granted = period.min(LONGEST_LEASE);
         let expires = self.moment + granted;
@@ -133,7 +134,8 @@ impl RefList {
         period: u64,
     ) -> Result<u64, AllocError>
         ensures granted { IfOk result (λ period_granted. period_granted ≡ granted period) }
-        ensures ok { OnOk result ((h : List Call) → IsAfter h self.old → IsAfter (Dirty client.now objects.now number period ∷ h) self.new) }
+        ensures ok { OnOk result ((h : List Call) → IsAfter h self.old
+            → IsAfter (Dirty client.now objects.now number period ∷ h) self.new) }
         ensures err { OnErr result ((h : List Call) → IsAfter h self.old → IsAfter h self.new) }
     {
         self.reserve_dirty(client, objects, number, period)?;
@@ -144,7 +146,8 @@ impl RefList {
     /// [room](RefList::reserve_clean) if the call is strong. It takes no memory.
     pub fn clean_reserved(&mut self, client: &Uuid, objects: &[ObjId], number: u64, strong: bool)
         requires { IsTrue strong → HasRoomForClean client.now objects.now self.old }
-        ensures { (h : List Call) → IsAfter h self.old → IsAfter (Clean client.now objects.now number strong ∷ h) self.new }
+        ensures { (h : List Call) → IsAfter h self.old
+            → IsAfter (Clean client.now objects.now number strong ∷ h) self.new }
     {
         tell_clean(
             &mut self.objects,
@@ -167,7 +170,8 @@ impl RefList {
         number: u64,
         strong: bool,
     ) -> Result<(), AllocError>
-        ensures ok { OnOk result ((h : List Call) → IsAfter h self.old → IsAfter (Clean client.now objects.now number strong ∷ h) self.new) }
+        ensures ok { OnOk result ((h : List Call) → IsAfter h self.old
+            → IsAfter (Clean client.now objects.now number strong ∷ h) self.new) }
         ensures weak { strong ≡ false → IsOk result }
         ensures err { OnErr result ((h : List Call) → IsAfter h self.old → IsAfter h self.new) }
     {
@@ -200,7 +204,8 @@ impl RefList {
 
     /// Returns the moment from which the client's entry for the object is gone, if one stands.
     pub fn entry(&self, client: &Uuid, object: ObjId) -> Option<u64>
-        ensures { (h : List Call) → IsAfter h self.now → result ≡ (remembered_of h client.now object).expires }
+        ensures { (h : List Call) → IsAfter h self.now
+            → result ≡ (remembered_of h client.now object).expires }
     {
         self.objects.get(object, client).expires
     }
@@ -209,7 +214,8 @@ impl RefList {
     /// stand were first set (an order of our own).
     #[tactic(auto, using(crate::proofs::ClientsLemmas::leased_filter))]
     pub fn clients_of(&self, alloc: Global, object: ObjId) -> Result<Vec<Uuid>, AllocError>
-        ensures { IfOk result (λ clients. (h : List Call) → IsAfter h self.now → clients.items ≡ clients_of h object) }
+        ensures { IfOk result (λ clients. (h : List Call) → IsAfter h self.now
+            → clients.items ≡ clients_of h object) }
     {
         match self.objects.clients(object) {
             Some(clients) => clients.leased(alloc),

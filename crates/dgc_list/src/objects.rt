@@ -42,7 +42,8 @@ impl Objects {
 
     // The clients of an object. None are remembered of an object that is not there.
     pub(crate) fn clients(&self, object: ObjId) -> Option<&Clients>
-        ensures { MatchOption result (clients_at self.now object ≡ []) (λ clients. clients.now ≡ clients_at self.now object) }
+        ensures { MatchOption result (clients_at self.now object ≡ [])
+            (λ clients. clients.now ≡ clients_at self.now object) }
     {
         self.lists.get(&object)
     }
@@ -60,7 +61,8 @@ impl Objects {
     // Makes room for a client of an object. Nothing else is remembered of any.
     pub(crate) fn add(&mut self, object: ObjId, client: &Uuid) -> Result<(), AllocError>
         ensures known { OnOk result (IsTrue (is_known (clients_at self.new object) client.now)) }
-        ensures same { (other : ObjId) → IsSame (clients_at self.old other) (clients_at self.new other) }
+        ensures same { (other : ObjId) → IsSame (clients_at self.old other)
+            (clients_at self.new other) }
     {
         self.add_object(object)?;
         match self.lists.get_mut(&object) {
@@ -83,8 +85,11 @@ impl Objects {
 
     // Sets what is remembered of a client of an object, if the client has room or that is nothing.
     pub(crate) fn set(&mut self, object: ObjId, client: &Uuid, remembered: Remembered)
-        ensures here { IsTrue (is_known (clients_at self.old object) client.now || is_blank remembered) → Sets client.now remembered (clients_at self.old object) (clients_at self.new object) }
-        ensures others { (other : ObjId) → is_same object other ≡ false → clients_at self.new other ≡ clients_at self.old other }
+        ensures here { IsTrue (is_known (clients_at self.old object) client.now
+            || is_blank remembered) → Sets client.now remembered (clients_at self.old object)
+            (clients_at self.new object) }
+        ensures others { (other : ObjId) → is_same object other ≡ false
+            → clients_at self.new other ≡ clients_at self.old other }
     {
         let Some(clients) = self.lists.get_mut(&object) else {
             return;
@@ -97,7 +102,8 @@ impl Objects {
 
     // Forgets an object.
     pub(crate) fn forget(&mut self, object: ObjId)
-        ensures { (other : ObjId) → clients_at self.new other ≡ (if is_same object other then [] else clients_at self.old other) }
+        ensures { (other : ObjId) → clients_at self.new other
+            ≡ (if is_same object other then [] else clients_at self.old other) }
     {
         let _ = self.lists.swap_remove(&object);
     }

@@ -41,7 +41,8 @@ impl<S: Source> Model for Inbound<S> {
 
     ghost view = { λ inbound. record { source = inbound.source; held = take inbound.filled inbound.buffer.items; fault = inbound.fault; room = vec_len inbound.buffer } };
 
-    ghost invariant = { λ inbound. (vec_len inbound.buffer ≡ 65540) × (inbound.filled ≤ 65540) × IsWithinFirst (take inbound.filled inbound.buffer.items) };
+    ghost invariant = { λ inbound. (vec_len inbound.buffer ≡ 65540) × (inbound.filled ≤ 65540)
+        × IsWithinFirst (take inbound.filled inbound.buffer.items) };
 }
 
 // Reads at most `missing` bytes after the `filled` that are there, and returns how many.
@@ -54,8 +55,11 @@ fn read_more<S: Source>(
     requires { filled + missing ≤ length buffer.old }
     ensures within { IfOk result (λ count. count ≤ missing) }
     ensures front { take filled buffer.new ≡ take filled buffer.old }
-    ensures bytes { IfOk result (λ count. Keeps (known S.remaining (take filled buffer.old) source.old) (known S.remaining (take (filled + count) buffer.new) source.new)) }
-    ensures end { IfOk result (λ count. count ≡ 0 → 0 < missing → IsAtEnd (S.remaining source.new)) }
+    ensures bytes { IfOk result (λ count. Keeps
+        (known S.remaining (take filled buffer.old) source.old)
+        (known S.remaining (take (filled + count) buffer.new) source.new)) }
+    ensures end { IfOk result (λ count. count ≡ 0 → 0 < missing
+        → IsAtEnd (S.remaining source.new)) }
     ensures kept { OnErr result (Keeps (S.remaining source.old) (S.remaining source.new)) }
     ensures failed { OnErr result (IsTrue (S.has_failed source.new)) }
 {
@@ -100,7 +104,8 @@ fn fill<S: Source>(
     requires first { IsWithinFirst (take filled.old buffer.old) }
     ensures within { filled.new ≤ MAX_FRAME }
     ensures first { IsWithinFirst (take filled.new buffer.new) }
-    ensures kept { Keeps (known S.remaining (take filled.old buffer.old) source.old) (known S.remaining (take filled.new buffer.new) source.new) }
+    ensures kept { Keeps (known S.remaining (take filled.old buffer.old) source.old)
+        (known S.remaining (take filled.new buffer.new) source.new) }
     ensures comes { Comes S.remaining S.has_failed result (take filled.new buffer.new) source.new }
 {
     loop {
@@ -132,7 +137,8 @@ impl<S: Source + Drop> Inbound<S> {
     /// Returns a receiver from the source. It reserves the room for a frame of any kind; if it is
     /// out of memory, the source is dropped.
     pub fn new(alloc: Global, source: S) -> Result<Inbound<S>, AllocError>
-        ensures { IfOk result (λ inbound. inbound ≡ record { source = source; held = []; fault = None; room = MAX_FRAME }) }
+        ensures { IfOk result (λ inbound. inbound
+            ≡ record { source = source; held = []; fault = None; room = MAX_FRAME }) }
     {
         Ok(Inbound {
             buffer: room_for_a_frame(alloc)?,

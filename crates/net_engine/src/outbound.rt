@@ -65,9 +65,11 @@ impl<K: Sink> Outbound<K> {
     /// or the first `sent` of them if the sink fails. It takes no memory.
     pub fn send(&mut self, frame: &Frame) -> Result<(), WriteFailed>
         requires { length (body frame.now) ≤ 65536 }
-        ensures all { OnOk result (Appends (K.contents self.old.sink) (K.contents self.new.sink) (wire.frame frame.now)) }
+        ensures all { OnOk result (Appends (K.contents self.old.sink) (K.contents self.new.sink)
+            (wire.frame frame.now)) }
         ensures cut { IfErr result (λ error. error.sent < length (wire.frame frame.now)) }
-        ensures part { IfErr result (λ error. Appends (K.contents self.old.sink) (K.contents self.new.sink) (take error.sent (wire.frame frame.now))) }
+        ensures part { IfErr result (λ error. Appends (K.contents self.old.sink)
+            (K.contents self.new.sink) (take error.sent (wire.frame frame.now))) }
         ensures failed { IfErr result (λ _. IsTrue (K.has_failed self.new.sink)) }
         ensures room { MAX_FRAME ≤ self.new.room }
     {

@@ -17,7 +17,8 @@ pub fn no_bytes_have_two_readings()
 
 /// No frame has two spellings.
 pub fn no_frame_has_two_spellings()
-    ensures { (first second : List ℕ) (m : Message) → IsWire first m → IsWire second m → first ≡ second }
+    ensures { (first second : List ℕ) (m : Message) → IsWire first m → IsWire second m
+        → first ≡ second }
 {}
 
 /// A frame's bytes alone are the stream of that frame, with nothing after it.
@@ -61,10 +62,12 @@ pub fn what_is_encoded_is_read_back()
 /// What is read is encoded back: if a new reader answers one frame of some bytes, and holds
 /// nothing, the bytes are that frame's.
 pub fn what_is_read_is_encoded_back()
-    ensures { (bytes : List ℕ) (m : Message) → Feeds (Rest []) bytes (m ∷ []) (Rest []) → IsWire bytes m }
+    ensures { (bytes : List ℕ) (m : Message) → Feeds (Rest []) bytes (m ∷ []) (Rest [])
+        → IsWire bytes m }
 {}
 
 /// A reader holds less than one frame, which has at most 65,540 bytes.
 pub fn what_is_held_is_less_than_a_frame()
-    ensures { (bytes rest : List ℕ) (ms : List Message) → Stream bytes ms (Rest rest) → length rest < 65540 }
+    ensures { (bytes rest : List ℕ) (ms : List Message) → Stream bytes ms (Rest rest)
+        → length rest < 65540 }
 {}

@@ -58,7 +58,8 @@ impl Split {
     // The frames, or if there are none the fault after them.
     fn answer(self) -> Result<Vec<Frame>, WireError>
         ensures frames { IfOk result (λ frames. frames ≡ self.frames) }
-        ensures goes_on { IfOk result (λ frames. (bytes : List ℕ) → ¬ (StopsAtOnce frames.items (held bytes self.fault))) }
+        ensures goes_on { IfOk result (λ frames. (bytes : List ℕ)
+            → ¬ (StopsAtOnce frames.items (held bytes self.fault))) }
         ensures fault { IfErr result (λ error. Tells self.frames.items self.fault error) }
     {
         match self.fault {

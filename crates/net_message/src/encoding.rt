@@ -24,7 +24,8 @@ impl Frame {
         ensures in_range { IsInRange self.now }
         ensures items { out.new.items ≡ out.old.items ++ wire.frame self.now }
         ensures spare { out.new.spare + (4 + length (body self.now)) ≡ out.old.spare }
-        ensures capacity { length out.new.items + out.new.spare ≡ length out.old.items + out.old.spare }
+        ensures capacity { length out.new.items + out.new.spare
+            ≡ length out.old.items + out.old.spare }
     {
         put_frame(out, self.body_len() as u32, self.message());
     }
@@ -33,8 +34,10 @@ impl Frame {
 /// Returns the bytes of the frame. Fault 70 exactly if its body is over the limit.
 pub fn encode(alloc: Global, frame: &Frame) -> Result<Vec<u8>, WireError>
     ensures ok { IfOk result (λ bytes. IsWire bytes.items frame.now) }
-    ensures long { (result ≡ Err (errors.Fault faults.Length)) ↔ (MAX_BODY < length (body frame.now)) }
-    ensures other { IfErr result (λ error. error ≢ errors.Fault faults.Length → error ≡ errors.Memory) }
+    ensures long { (result ≡ Err (errors.Fault faults.Length))
+        ↔ (MAX_BODY < length (body frame.now)) }
+    ensures other { IfErr result (λ error. error ≢ errors.Fault faults.Length
+        → error ≡ errors.Memory) }
 {
     let length = frame.body_len();
     if length > MAX_BODY {

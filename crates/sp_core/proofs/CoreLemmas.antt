@@ -1,5 +1,5 @@
 use Rattle.std.proofs.Common.{◌≡◌, ℕ, ◌≤◌, ◌<◌, Bool, true, false, cond, List, [], ◌∷◌, ◌++◌, Option, None, Some, refl, sym, ap, subst, ◌∙◌, map, filter, true≢false, arith}
-use Rattle.std.specs.Prelude.{Result, Ok, Err, nat_lt, nat_le, not, ◌==◌, ◌&&◌, ◌||◌, ◌^◌, option_map, option_and_then, unwrap_or, is_some, OnErr, IfErr, IfOk}
+use Rattle.std.specs.Prelude.{Result, Ok, Err, nat_lt, not, ◌==◌, ◌&&◌, option_map, unwrap_or, is_some, OnErr, IfErr, IfOk}
 use Rattle.std.proofs.lemmas.Bool.Decides.{nat_tests}
 use Rattle.space_ids.specs.declared.ids.ClassId.{ClassId}
 use Rattle.std.specs.List.{filter_map}
@@ -20,7 +20,6 @@ use Rattle.dgc_list.specs.declared.list.RefList.{RefList}
 use Rattle.dgc_client.specs.declared.table.Clients.{Clients}
 use Rattle.sp_core.specs.declared.space.SpaceCore.{SpaceCore}
 use Rattle.sp_rules.specs.Classes.{Setting}
-use Rattle.sp_rules.specs.Events as rules
 use Rattle.sp_rules.specs.Events.{Output, Denied, Moment, Sweep, RootAck, Bind, Rebind, Unbind, Says, in_order}
 use Rattle.sp_rules.specs.Frames.{release, let_go}
 use Rattle.sp_rules.specs.Holders.{own_object, class_is}
@@ -33,7 +32,7 @@ use Rattle.sp_core.specs.Cores.{IsAlone, IsCore, kept}
 use Rattle.sp_core.specs.declared.fault.CoreFault.{CoreFault}
 use Rattle.sp_core.specs.declared.fault.CoreFault.TheVariants as fault
 use Rattle.sp_core.specs.FaultNames.{Refuses, core_fault_number}
-use Rattle.sp_core.specs.Events.{event_of, is_late}
+use Rattle.sp_core.specs.Events.{event_of}
 use Rattle.sp_core.specs.declared.event.Event.{Event}
 use Rattle.sp_core.specs.declared.event.Event.TheVariants as event
 use Rattle.sp_rules.specs.Refusals.{Refusal, WornOut, checks, first_refusal, is_worn, refusal, refusal_number}
@@ -126,9 +125,12 @@ names-other g s core n is = record {
   entries = is.entries;
   leases = is.leases;
   tasks_made = is.tasks_made;
+  fuel = is.fuel;
   tasks = is.tasks;
+  runs = is.runs;
   calls_made = is.calls_made;
   results = is.results;
+  ended = is.ended;
   alone = record {
     connections = is.alone.connections;
     requests = is.alone.requests;
@@ -137,6 +139,8 @@ names-other g s core n is = record {
     held = is.alone.held;
     fresh = is.alone.fresh;
     notes = is.alone.notes;
+    ready = is.alone.ready;
+    roots = is.alone.roots;
     tasks = is.alone.tasks;
     fields = is.alone.fields;
     results = is.alone.results;
@@ -259,9 +263,12 @@ moment-comes g s core moment entries leases late owner-told client-told is =
         entries = owner-told s.owner.entries is.entries;
         leases = client-told s.leases is.leases;
         tasks_made = is.tasks_made;
+        fuel = is.fuel;
         tasks = is.tasks;
+        runs = is.runs;
         calls_made = is.calls_made;
         results = is.results;
+        ended = is.ended;
         alone = record {
           connections = is.alone.connections;
           requests = is.alone.requests;
@@ -270,6 +277,8 @@ moment-comes g s core moment entries leases late owner-told client-told is =
           held = is.alone.held;
           fresh = is.alone.fresh;
           notes = is.alone.notes;
+          ready = is.alone.ready;
+          roots = is.alone.roots;
           tasks = is.alone.tasks;
           fields = is.alone.fields;
           results = is.alone.results;
@@ -341,7 +350,12 @@ refused-none None is = refl
 refused-none (Some refusal) is = cc
 
 numbered : (f : CoreFault) → core_fault_number f ≡ None → f ≡ fault.Memory
+numbered (fault.Start why) is = cc
 numbered fault.UnknownTask is = cc
+numbered fault.NotLent is = cc
+numbered fault.NotHeld is = cc
+numbered fault.WrongKind is = cc
+numbered fault.Busy is = cc
 numbered fault.WornOut is = cc
 numbered fault.Memory is = refl
 

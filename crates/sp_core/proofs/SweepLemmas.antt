@@ -1,12 +1,9 @@
 use Rattle.std.proofs.Common.{◌≡◌, ℕ, ◌+◌, ◌<◌, Bool, true, false, cond, List, [], ◌∷◌, ◌++◌, Option, None, Some, refl, sym, ap, subst, ◌∙◌, map, filter, length, get_or, take}
-use Rattle.std.specs.Prelude.{nat_lt, not, ◌==◌, ◌&&◌, ◌||◌, option_map, slice_get}
+use Rattle.std.specs.Prelude.{nat_lt, not, ◌==◌, ◌&&◌, ◌||◌, option_map}
 use Rattle.std.specs.List.{list_any}
-use Rattle.std.specs.Map.{values_of}
 use Rattle.std.proofs.lemmas.Bool.{eqb-true, eq-eqb, ne_eqb, eqb-false}
 use Rattle.std.proofs.lemmas.List.{take_more}
-use Rattle.std.proofs.lemmas.List.Elements.{filter_more}
-use Rattle.std.proofs.lemmas.List.Folds.{list_any-append, list_any_more}
-use Rattle.std.proofs.lemmas.Option.{slice_get_within, get_or_from_slice_get}
+use Rattle.std.proofs.lemmas.List.Folds.{list_any-append}
 use Rattle.dgc_client.specs.Table as client
 use Rattle.dgc_list.specs.History as owner
 use Rattle.dgc_list.specs.declared.list.RefList.{RefList}
@@ -21,7 +18,7 @@ use Rattle.sp_results.specs.Waiting.{is_waiting, without}
 use Rattle.sp_rules.specs.Classes.{Setting}
 use Rattle.sp_rules.specs.Events.{Output, Withdrawn, Sweep, RootAck, Says, in_order}
 use Rattle.sp_rules.specs.Frames.{release, let_go}
-use Rattle.sp_rules.specs.Holders.{drop, drop_ids, fields_of, has_reason, has_entry, is_bound, is_held_by_tasks, is_in_a_field, is_in_a_result, is_parked, in_frame}
+use Rattle.sp_rules.specs.Holders.{drop, drop_ids, fields_of, has_reason, has_entry, is_bound, is_held_by_tasks, is_in_a_field, is_in_a_result, in_frame}
 use Rattle.sp_rules.specs.Laws.{AllOf}
 use Rattle.sp_rules.specs.Lists.{each}
 use Rattle.sp_rules.specs.OwnEvents.{on_sweep, is_of_root, sweep_of, without_reason}
@@ -29,7 +26,8 @@ use Rattle.sp_rules.specs.References.{is_id, is_id_in, own_ids, references_in, r
 use Rattle.sp_rules.specs.Refusals.{UnknownTask, checks, first_refusal, refusal_number}
 use Rattle.sp_rules.specs.Space.{on, happen, conclude, finish_event}
 use Rattle.sp_rules.specs.State.{State, Object, Living, KeptResult, ParkedFrame, Gone, standing, say, tell_owner}
-use Rattle.sp_core.specs.Cores.{AreOwn, IsAlone, IsCore, kept, seen}
+use Rattle.sp_core.specs.Cores.{AreOwn, IsAlone, IsCore, Seen, kept, seen, seen_row}
+use Rattle.sp_tasks.specs.Rows.{TaskRow}
 use Rattle.sp_core.specs.Sweeps.{forgotten, withdrawn}
 use Rattle.sp_core.specs.declared.space.SpaceCore.{SpaceCore}
 use Rattle.sp_core.proofs.CoreLemmas.{finish-none, settle-alone}
@@ -40,7 +38,7 @@ pub all-filter : {A : Type 0} (P : A → Type 0) (p : A → Bool) (xs : List A) 
 all-filter P p [] all = tt
 all-filter P p (x ∷ xs) all = elim (p x) as (λ t. AllOf P (cond t (x ∷ filter p xs) (filter p xs))) [ true ↦ (all.0, all-filter P p xs all.1) | false ↦ all-filter P p xs all.1 ]
 
-filter-map : {A B : Type 0} (p : B → Bool) (f : A → B) (xs : List A) → filter p (map f xs) ≡ map f (filter (λ x. p (f x)) xs)
+pub filter-map : {A B : Type 0} (p : B → Bool) (f : A → B) (xs : List A) → filter p (map f xs) ≡ map f (filter (λ x. p (f x)) xs)
 filter-map p f [] = refl
 filter-map p f (x ∷ xs) =
     elim (p (f x)) as (λ t. cond t (f x ∷ filter p (map f xs)) (filter p (map f xs)) ≡ map f (cond t (x ∷ filter (λ y. p (f y)) xs) (filter (λ y. p (f y)) xs)))
@@ -69,7 +67,7 @@ or-or false b c = refl
 
 -- ---- own references
 
-drop-own : (g : Setting) (references : List Ref) (t : State) → AreOwn g references → drop g references t ≡ t
+pub drop-own : (g : Setting) (references : List Ref) (t : State) → AreOwn g references → drop g references t ≡ t
 unfolding drop_ids each
 drop-own g references t own = ap (λ ids. drop_ids ids t) own
 
@@ -121,9 +119,12 @@ acked g s core task results new is =
         entries = is.entries;
         leases = is.leases;
         tasks_made = is.tasks_made;
+        fuel = is.fuel;
         tasks = is.tasks;
+        runs = is.runs;
         calls_made = is.calls_made;
         results = ap (map kept) new ∙ sym (kept-filter task core.results) ∙ ap (filter (λ r. not (is_of_root task r))) is.results;
+        ended = subst (AllOf _) (sym new) (all-filter _ (λ (row : ℕ × Option Value). not (row.0 == task)) core.results is.ended);
         alone = record {
           connections = is.alone.connections;
           requests = is.alone.requests;
@@ -132,6 +133,8 @@ acked g s core task results new is =
           held = is.alone.held;
           fresh = is.alone.fresh;
           notes = is.alone.notes;
+          ready = is.alone.ready;
+          roots = is.alone.roots;
           tasks = is.alone.tasks;
           fields = is.alone.fields;
           results = all-filter _ (λ r. not (is_of_root task r)) s.results is.alone.results;
@@ -144,7 +147,7 @@ acked g s core task results new is =
 
 -- the tasks hold what their rows do
 held-any : (own : List ℕ) (id : ObjId) (tasks : List Living)
-    → list_any (λ (held : List Ref). is_id_in (own_ids own held) id) (values_of (map seen tasks)) ≡ list_any (λ (t : Living). is_id_in (own_ids own t.task.held) id) tasks
+    → list_any (λ (x : Seen). is_id_in (own_ids own x.held) id) (map seen tasks) ≡ list_any (λ (t : Living). is_id_in (own_ids own t.task.held) id) tasks
 held-any own id [] = refl
 held-any own id (t ∷ ts) = ap (λ b. is_id_in (own_ids own t.task.held) id || b) (held-any own id ts)
 
@@ -153,15 +156,20 @@ result-any : (own : List ℕ) (id : ObjId) (rows : List (ℕ × Option Value))
 result-any own id [] = refl
 result-any own id (row ∷ rows) = ap (λ b. is_id_in (own_ids own (references_in row.1)) id || b) (result-any own id rows)
 
+row-any : (own : List ℕ) (id : ObjId) (rows : List (ℕ × TaskRow))
+    → list_any (λ (row : ℕ × TaskRow). is_id_in (own_ids own row.1.held) id) rows ≡ list_any (λ (x : Seen). is_id_in (own_ids own x.held) id) (map seen_row rows)
+row-any own id [] = refl
+row-any own id (row ∷ rows) = ap (λ b. is_id_in (own_ids own row.1.held) id || b) (row-any own id rows)
+
 pub needed-is : (g : Setting) (s : State) (core : SpaceCore) (id : ObjId) (n0 n1 n2 n3 : List ObjId) → IsCore g s core → n0 ≡ []
     → is_id_in n1 id ≡ (is_id_in n0 id || list_any (λ (b : Binding). is_id b.object id) core.names.bindings)
-    → is_id_in n2 id ≡ (is_id_in n1 id || list_any (λ (held : List Ref). is_id_in (own_ids core.id held) id) (values_of core.tasks.entries))
+    → is_id_in n2 id ≡ (is_id_in n1 id || list_any (λ (row : ℕ × TaskRow). is_id_in (own_ids core.id row.1.held) id) core.tasks.rows)
     → is_id_in n3 id ≡ (is_id_in n2 id || list_any (λ (row : ℕ × Option Value). is_id_in (own_ids core.id (references_in row.1)) id) core.results)
     → is_id_in n3 id ≡ (is_bound s id || (is_held_by_tasks g s id || is_in_a_result g s id))
 needed-is g s core id n0 n1 n2 n3 is none bound tasks results =
     let b : is_id_in n1 id ≡ is_bound s id = bound ∙ (λ j. is_id_in (none j) id || list_any (λ (b : Binding). is_id b.object id) (is.names j)) in
-    let t : list_any (λ (held : List Ref). is_id_in (own_ids core.id held) id) (values_of core.tasks.entries) ≡ is_held_by_tasks g s id =
-    (λ j. list_any (λ (held : List Ref). is_id_in (own_ids (is.id j) held) id) (values_of (is.tasks j))) ∙ held-any g.id id s.tasks in
+    let t : list_any (λ (row : ℕ × TaskRow). is_id_in (own_ids core.id row.1.held) id) core.tasks.rows ≡ is_held_by_tasks g s id =
+    row-any core.id id core.tasks.rows ∙ (λ j. list_any (λ (x : Seen). is_id_in (own_ids (is.id j) x.held) id) (is.tasks j)) ∙ held-any g.id id s.tasks in
     let r : list_any (λ (row : ℕ × Option Value). is_id_in (own_ids core.id (references_in row.1)) id) core.results ≡ is_in_a_result g s id =
     (λ j. list_any (λ (row : ℕ × Option Value). is_id_in (own_ids (is.id j) (references_in row.1)) id) core.results) ∙ result-any g.id id core.results
     ∙ ap (list_any (λ (r : KeptResult). is_id_in (own_ids g.id (references_in r.value)) id)) is.results in
@@ -233,7 +241,7 @@ sweep-gone g s (o ∷ os) alone all =
     ap (λ u. finish_event true (say (Withdrawn ids) u)) (fields-let-go g s (o ∷ os) (each (λ t id. tell_owner (owner.Forget id) t) ids before) all ∙ forgotten-told ids before)
     ∙ finish-withdrawn (swept-state s ids) ids alone.held alone.fresh alone.notes
 
-on-sweep : (g : Setting) (s : State) → IsAlone g s
+pub on-sweep : (g : Setting) (s : State) → IsAlone g s
     → on g Sweep s ≡ (swept-state s (map (λ (o : Object). o.id) (without_reason g s)), withdrawn (map (λ (o : Object). o.id) (without_reason g s)))
 unfolding on happen on_sweep
 on-sweep g s alone = sweep-gone g s (without_reason g s) alone (all-filter _ _ (standing s.store) alone.fields)
@@ -267,9 +275,12 @@ sweeps g s core store entries ids is gone after same holds told =
         entries = told;
         leases = is.leases;
         tasks_made = is.tasks_made;
+        fuel = is.fuel;
         tasks = is.tasks;
+        runs = is.runs;
         calls_made = is.calls_made;
         results = is.results;
+        ended = is.ended;
         alone = record {
           connections = is.alone.connections;
           requests = is.alone.requests;
@@ -278,6 +289,8 @@ sweeps g s core store entries ids is gone after same holds told =
           held = is.alone.held;
           fresh = is.alone.fresh;
           notes = is.alone.notes;
+          ready = is.alone.ready;
+          roots = is.alone.roots;
           tasks = is.alone.tasks;
           fields = fields-left g s ids is.alone.fields;
           results = is.alone.results;
@@ -299,9 +312,3 @@ bound-more xs i d id a b c within so_far now =
     now ∙ (λ j. so_far j || (flip id (get_or xs i d).object j || false))
     ∙ or-or a (list_any p (take i xs)) (list_any p (get_or xs i d ∷ []))
     ∙ ap (λ t. a || t) (sym (ap (list_any p) (take_more xs i d within) ∙ list_any-append p (take i xs) (get_or xs i d ∷ [])))
-
-pub held-more : (p : List Ref → Bool) (xs : List (List Ref)) (i : ℕ) (x : List Ref) (a b c : Bool) → slice_get xs i ≡ Some x
-    → b ≡ (a || list_any p (take i xs)) → c ≡ (b || p x) → c ≡ (a || list_any p (take (i + 1) xs))
-held-more p xs i x a b c at so_far now =
-    now ∙ ap (λ t. t || p x) so_far ∙ or-or a (list_any p (take i xs)) (p x)
-    ∙ ap (λ t. a || t) (ap (λ v. list_any p (take i xs) || p v) (sym (get_or_from_slice_get xs i x x at)) ∙ sym (list_any_more p xs i x (slice_get_within xs i x at)))

@@ -1,6 +1,7 @@
 -- The events and outputs of a core, as the rules of spaces tell them. (This project's own.)
 use Rattle.std.specs.Prelude.{◌^◌, nat_le, Bool, false, List, [], ◌∷◌, Option, None, Some}
 use Rattle.sp_rules.specs.Events as rules
+use Rattle.sp_tasks.specs.Behaviours.{outcome_of}
 use Rattle.sp_core.specs.declared.event.Event.{Event}
 use Rattle.sp_core.specs.declared.event.Event.TheVariants as event
 use Rattle.sp_core.specs.declared.event.Output.{Output}
@@ -17,8 +18,11 @@ event_of (event.Unbind name) = rules.Unbind name
 
 -- the output of the rules
 abbrev pub output_of : Output → rules.Output
+output_of (output.Started task) = rules.Started task
+output_of (output.Ended task outcome) = rules.Ended task (outcome_of outcome)
 output_of (output.Withdrawn ids) = rules.Withdrawn ids
 output_of (output.Denied fault) = rules.Denied fault
+output_of (output.Ready task) = rules.Ready task
 
 -- what is answered with one output, or with none
 abbrev pub told : Option Output → List rules.Output

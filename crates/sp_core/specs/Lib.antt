@@ -1,4 +1,7 @@
 pub mod Cores
 pub mod Events
 pub mod FaultNames
+pub mod Hands
+pub mod Roots
+pub mod Shown
 pub mod Sweeps

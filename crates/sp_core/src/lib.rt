@@ -5,12 +5,17 @@
 //! leaves, and answers what the rules say.
 #![tactic(auto)]
 
-pub use event::{Event, Output};
-pub use fault::CoreFault;
+pub use event::{Event, Output, Root};
+pub use fault::{CoreFault, StartFault};
+pub use objects::Shown;
+pub use sp_tasks::{LentTask, Op, Outcome, Record, Reply, Stand};
 pub use space::SpaceCore;
 
 mod event;
 mod fault;
-mod living;
+mod finishing;
+mod lending;
+mod objects;
+mod roots;
 mod space;
 mod sweep;

@@ -1,6 +1,6 @@
 //! The core of a space.
 
-ghost use Rattle.std.specs.Prelude.{◌≡◌, ◌<◌, ◌+◌, ◌^◌, ◌||◌, nat_le, ℕ, List, [], false, None, Some, IfOk, IfErr, OnOk, OnErr, map, option_and_then, option_map};
+ghost use Rattle.std.specs.Prelude.{◌≡◌, ◌<◌, ◌+◌, ◌^◌, ◌||◌, nat_le, ℕ, List, [], ◌∷◌, false, None, Some, IfOk, IfErr, OnOk, OnErr, map, option_and_then, option_map};
 ghost use Rattle.sp_registry.specs.declared.fault.BindFault.TheVariants.{Denied as Denies};
 ghost use Rattle.space_ids.specs.declared.ids.ObjId.{ObjId};
 ghost use Rattle.sp_rules.specs.Classes.{Setting};
@@ -8,22 +8,23 @@ ghost use Rattle.sp_rules.specs.Holders.{is_bound, is_held_by_tasks, is_in_a_res
 ghost use Rattle.sp_rules.specs.OwnEvents.{without_reason};
 ghost use Rattle.sp_rules.specs.References.{is_id_in};
 ghost use Rattle.sp_rules.specs.Refusals.{checks, first_refusal, is_worn, refusal, refusal_number};
-ghost use Rattle.sp_rules.specs.Space.{on as after_event};
+ghost use Rattle.sp_rules.specs.Origins.{IsTaken, OwnStand};
+ghost use Rattle.sp_rules.specs.Space.{on as after_event, state_of};
 ghost use Rattle.sp_rules.specs.State.{Object, State, opening};
 ghost use Rattle.sp_core.specs.Cores.{IsCore};
-ghost use Rattle.sp_rules.specs.Events.{Moment, Sweep, RootAck, Bind, Rebind, Unbind};
+ghost use Rattle.sp_rules.specs.Events.{Event as Happening, Moment, Sweep, RootAck, Bind, Rebind, Unbind};
 ghost use Rattle.sp_core.specs.Events.{event_of, is_late, output_of, told};
 ghost use Rattle.sp_core.specs.FaultNames.{Refuses, core_fault_number};
+ghost use Rattle.sp_core.specs.Sweeps.{withdrawn};
 
-use crate::living::LivingTask;
-use crate::sweep::{answer, forget, insert_bound, insert_held, unlisted};
+use crate::sweep::{answer, forget, insert_bound, unlisted};
 use crate::{CoreFault, Event, Output};
 use dgc_client::Clients;
 use dgc_list::RefList;
-use indexmap::IndexMap;
 use sp_registry::{BindFault, Registry, RegistryFault};
 use sp_results::Results;
 use sp_store::{IdSet, Store};
+use sp_tasks::Tasks;
 use space_ids::{ObjId, Ref, Uuid, Value};
 use std::alloc::{AllocError, Global};
 
@@ -35,23 +36,25 @@ const END: u64 = 1 << 63;
 /// A contract names the states of the rules that the value may stand for.
 #[derive(Debug, Drop)]
 pub struct SpaceCore {
-    alloc: Global,
-    id: Uuid,
+    pub(crate) alloc: Global,
+    pub(crate) id: Uuid,
     moment: u64,
-    store: Store,
-    names: Registry,
-    entries: RefList,
+    pub(crate) store: Store,
+    pub(crate) names: Registry,
+    pub(crate) entries: RefList,
     leases: Clients,
-    tasks_made: u64,
-    tasks: IndexMap<u64, LivingTask>,
+    // With how much fuel a task may start.
+    pub(crate) fuel: u64,
+    pub(crate) tasks: Tasks,
     calls_made: u64,
-    results: Results,
+    pub(crate) results: Results,
 }
 
 impl SpaceCore {
-    /// The core of the space of this id, to which nothing has happened.
-    pub fn new(alloc: Global, id: Uuid) -> Result<SpaceCore, AllocError>
-        ensures { IfOk result (λ core. (g : Setting) → g.id ≡ id → IsCore g opening core) }
+    /// The core of the space of this id, whose tasks start with at most this fuel. Nothing has happened
+    /// to it.
+    pub fn new(alloc: Global, id: Uuid, fuel: u64) -> Result<SpaceCore, AllocError>
+        ensures { IfOk result (λ core. (g : Setting) → g.id ≡ id → g.limits.fuel ≡ fuel → IsCore g opening core) }
     {
         Ok(SpaceCore {
             alloc,
@@ -61,8 +64,8 @@ impl SpaceCore {
             names: Registry::new(alloc),
             entries: RefList::new(alloc),
             leases: Clients::new(alloc),
-            tasks_made: 0,
-            tasks: IndexMap::new(alloc),
+            fuel,
+            tasks: Tasks::new(alloc)?,
             calls_made: 0,
             results: Results::new(alloc)?,
         })
@@ -76,6 +79,11 @@ impl SpaceCore {
         ensures state { OnOk result ((g : Setting) (s : State) → IsCore g s self.old → IsCore g (after_event g (event_of event.now) s).0 self.new) }
         ensures refused { IfErr result (λ fault. (g : Setting) (s : State) (lent : List ℕ) → IsCore g s self.old → Refuses (refusal g lent s (event_of event.now)) fault) }
         ensures unchanged { OnErr result ((g : Setting) (s : State) → IsCore g s self.old → IsCore g s self.new) }
+
+        // Own references in tasks, fields and results name standing objects of their class after each
+        // history that the space took; a sweep withdraws exactly what has no reason to stay.
+        ensures standing { OnOk result ((g : Setting) (h : List Happening) → IsCore g (state_of g h) self.old → IsTaken g h → OwnStand g (state_of g (event_of event.now ∷ h))) }
+        ensures swept { IfOk result (λ outputs. (g : Setting) (s : State) → IsCore g s self.old → event.now ≡ Event.Sweep → map output_of outputs.items ≡ withdrawn (map (λ (o : Object). o.id) (without_reason g s))) }
     {
         match self.refusal(event) {
             Some(fault) => Err(fault),
@@ -161,7 +169,7 @@ impl SpaceCore {
     {
         let mut needed = IdSet::new(self.alloc);
         insert_bound(self.names.list(), &mut needed)?;
-        insert_held(&self.id, &self.tasks, &mut needed)?;
+        self.tasks.insert_own(&self.id, &mut needed)?;
         self.results.insert_own(&self.id, &mut needed)?;
         Ok(needed)
     }
@@ -236,16 +244,17 @@ impl SpaceCore {
     }
 
     // Whether the next number of an object, a task, a call, or a dirty or clean call would be 2^63.
-    fn is_worn(&self) -> bool
-        ensures { (g : Setting) (s : State) → IsCore g s self.now → result ≡ is_worn s }
+    pub(crate) fn is_worn(&self) -> bool
+        ensures in_range { result ≡ false → self.now.tasks.made + 1 < 2 ^ 63 }
+        ensures worn { (g : Setting) (s : State) → IsCore g s self.now → result ≡ is_worn s }
     {
         is_last(self.store.made())
-            || (is_last(self.tasks_made)
+            || (is_last(self.tasks.made())
                 || (is_last(self.calls_made) || is_last(self.leases.last_number())))
     }
 
     // Whether the reference is of a standing own object, of its class.
-    fn is_own_standing(&self, reference: &Ref) -> bool
+    pub(crate) fn is_own_standing(&self, reference: &Ref) -> bool
         ensures { (g : Setting) (s : State) → IsCore g s self.now → result ≡ is_own_standing g s reference.now }
     {
         reference.space == self.id

@@ -2,20 +2,17 @@
 
 ghost use Rattle.std.specs.Prelude.{◌≡◌, ◌||◌, not, nat_lt, List, IfOk, OnOk, filter, length};
 ghost use Rattle.std.specs.List.{list_any};
-ghost use Rattle.indexmap.specs.IndexMap.{values};
 ghost use Rattle.dgc_list.specs.History as owner;
 ghost use Rattle.space_ids.specs.declared.ids.ObjId.{ObjId};
-ghost use Rattle.sp_rules.specs.References.{is_id, is_id_in, own_ids};
+ghost use Rattle.sp_rules.specs.References.{is_id, is_id_in};
 ghost use Rattle.sp_core.specs.Events.{told};
 ghost use Rattle.sp_core.specs.Sweeps.{forgotten, withdrawn};
 
 use crate::Output;
-use crate::living::LivingTask;
 use dgc_list::RefList;
-use indexmap::IndexMap;
 use sp_registry::Binding;
 use sp_store::IdSet;
-use space_ids::{ObjId, Row, Uuid};
+use space_ids::{ObjId, Row};
 use std::alloc::{AllocError, Global};
 
 // Adds the ids of the objects to which names are bound.
@@ -24,20 +21,6 @@ pub(crate) fn insert_bound(bindings: &[Binding], needed: &mut IdSet) -> Result<(
 {
     for binding in bindings {
         needed.insert(binding.object)?;
-    }
-    Ok(())
-}
-
-// Adds the ids of the space's own objects that tasks hold.
-pub(crate) fn insert_held(
-    own: &Uuid,
-    tasks: &IndexMap<u64, LivingTask>,
-    needed: &mut IdSet,
-) -> Result<(), AllocError>
-    ensures { OnOk result ((id : ObjId) → is_id_in needed.new id ≡ (is_id_in needed.old id || list_any (λ held. is_id_in (own_ids own.now held) id) (values tasks.now))) }
-{
-    for index in 0..tasks.len() {
-        needed.insert_references(own, tasks[index].held())?;
     }
     Ok(())
 }

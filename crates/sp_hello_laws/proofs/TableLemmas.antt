@@ -329,11 +329,11 @@ goes-on s e lent conn eq taken apart k = record {
 
 -- ---- worlds
 
-record Begun (s : Space) : Type 0 where
-  history : HasHistory s
-  order : OpensOnce s.history → (conn : ℕ) → BeginsInOrder s conn
+pub record Begun (s : Space) : Type 0 where
+  pub history : HasHistory s
+  pub order : OpensOnce s.history → (conn : ℕ) → BeginsInOrder s conn
 
-grows : (e : Event) (s : Space) (lent : List ℕ) → refusal s.setting lent s.state e ≡ None → Begun s → Begun (grown e s)
+pub grows : (e : Event) (s : Space) (lent : List ℕ) → refusal s.setting lent s.state e ≡ None → Begun s → Begun (grown e s)
 unfolding Space.state_of
 grows e s lent taken k = record { history = ap (λ t. (Space.on s.setting e t).0) k.history; order = λ once conn. by conn once (opens conn e) refl }
   where
@@ -341,7 +341,7 @@ grows e s lent taken k = record { history = ap (λ t. (Space.on s.setting e t).0
     by conn once true is = opens-order s e conn k.history is (once.0 conn is) (k.order once.1 conn)
     by conn once false is = goes-on s e lent conn k.history taken is (k.order once.1 conn)
 
-new : (g : Setting) → Begun (new_space g)
+pub new : (g : Setting) → Begun (new_space g)
 unfolding Space.state_of opening
 new g = record {
   history = refl;

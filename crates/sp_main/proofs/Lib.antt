@@ -14,3 +14,4 @@ pub mod Contents
 pub mod Replied
 pub mod CommandRows
 pub mod Ended
+pub mod Only

@@ -2,6 +2,7 @@ pub mod Arguments
 pub mod CommandLine
 pub mod Folders
 pub mod RefusalTexts
+pub mod Only
 pub mod Replies
 pub mod Reports
 pub mod Requests

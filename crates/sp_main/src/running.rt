@@ -1,10 +1,11 @@
 //! From the bytes of class files to how a method ends: reading, sets, linking, checking and running,
 //! without any input or output.
 
-ghost use Rattle.std.specs.Prelude.{◌≡◌, ◌+◌, ◌-◌, ◌^◌, ◌<◌, ◌≤◌, length, IfOk, IfErr, IfSome};
+ghost use Rattle.std.specs.Prelude.{◌≡◌, ◌+◌, ◌-◌, ◌^◌, ◌<◌, ◌≤◌, List, length, IfOk, IfErr, IfSome};
 ghost use Rattle.std.specs.List.{position};
 ghost use Rattle.cls_link.specs.Links.{Links};
 ghost use Rattle.vm_run.specs.Task.{IsOfSet};
+ghost use Rattle.sp_main.specs.Only.{IsOutOfMemory, IsReadOut, MakeAProgram, OnlyGives, RunsOnly};
 ghost use Rattle.sp_main.specs.Runs.{AreSpelled, IsFileFault, IsNamed, IsNoProgram, IsNotRun, IsProgram, IsRefused, IsRun, IsSpelled, IsUnread, Runs, is_parenthesis, method_named};
 
 use super::refusal::Refusal;
@@ -62,6 +63,11 @@ pub fn run_classes(
     ensures run { IfOk result (IsRun files.now class.now method.now arguments.items limits) }
     // A refusal says what is wrong, and nothing before it is wrong.
     ensures refused { IfErr result (IsRefused files.now class.now method.now arguments.items limits) }
+    // No other outcome is possible, and no refusal but out of memory, if the files break no rule and
+    // each program that they make runs the method to this outcome.
+    ensures only { (outcome : RunOutcome)
+        → RunsOnly files.now class.now method.now arguments.items limits outcome
+        → OnlyGives outcome IsOutOfMemory result }
 {
     let accepted = accepted_of(alloc, files)?;
     let program = Program::of(alloc, accepted)?;
@@ -77,6 +83,8 @@ pub fn check_classes(alloc: Global, files: &[ClassBytes]) -> Result<usize, Refus
     ensures accepted { IfOk result (λ count. count ≡ length files.now) }
     ensures program { IfOk result (λ _. (program : Links) × IsProgram files.now program) }
     ensures refused { IfErr result (IsNoProgram files.now) }
+    // Files that break no rule are accepted, unless memory runs out.
+    ensures only { MakeAProgram files.now → IfErr result IsOutOfMemory }
 {
     accepted_of(alloc, files)?;
     Ok(files.len())
@@ -86,6 +94,7 @@ pub fn check_classes(alloc: Global, files: &[ClassBytes]) -> Result<usize, Refus
 fn accepted_of(alloc: Global, files: &[ClassBytes]) -> Result<Accepted, Refusal>
     ensures program { IfOk result (IsProgram files.now) }
     ensures refused { IfErr result (IsNoProgram files.now) }
+    ensures only { MakeAProgram files.now → IfErr result IsOutOfMemory }
 {
     let classes = read_files(alloc, files)?;
     let set = ClassSet::build(alloc, classes)?;
@@ -96,6 +105,9 @@ fn accepted_of(alloc: Global, files: &[ClassBytes]) -> Result<Accepted, Refusal>
 fn read_files(alloc: Global, files: &[ClassBytes]) -> Result<Vec<ClassFile>, Refusal>
     ensures read { IfOk result (λ classes. AreSpelled files.now classes.items) }
     ensures refused { IfErr result (IsUnread files.now) }
+    ensures only { (classes : List ClassFile)
+        → AreSpelled files.now classes
+        → IfErr result IsOutOfMemory }
 {
     let mut classes = Vec::new(alloc);
     for (index, file) in files.iter().enumerate() {
@@ -110,6 +122,7 @@ fn read_files(alloc: Global, files: &[ClassBytes]) -> Result<Vec<ClassFile>, Ref
 fn read_file(alloc: Global, file: &ClassBytes) -> Result<ClassFile, LoadFault>
     ensures read { IfOk result (IsSpelled file.now.content) }
     ensures fault { IfErr result (IsFileFault file.now.content) }
+    ensures only { (class : ClassFile) → IsSpelled file.now.content class → IfErr result IsReadOut }
 {
     match &file.content {
         Content::Bytes(bytes) => Ok(read_class(alloc, bytes)?),
@@ -146,6 +159,9 @@ fn run_method(
     requires memory { limits.heap_words + limits.references < 2 ^ 32 }
     ensures run { IfOk result (Runs program.now method arguments.items limits) }
     ensures refused { IfErr result (IsNotRun program.now method arguments.items limits) }
+    ensures only { (outcome : RunOutcome)
+        → Runs program.now method arguments.items limits outcome
+        → OnlyGives outcome IsOutOfMemory result }
 {
     let mut task = Task::start(alloc, program, Uuid::nil(), method, arguments, limits)?;
     // More instructions than there can be fuel for: the task ends.

@@ -1,1 +1,2 @@
 mod NoneLemmas
+mod WholeLemmas

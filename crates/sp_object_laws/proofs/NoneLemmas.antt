@@ -1,5 +1,5 @@
 -- Events that are refused, and events that do not fit, are none to each object.
-use mathlib.Core.Path.{sym, ap, subst, ◌∙◌}
+use mathlib.Core.Path.{ap, ◌∙◌}
 use Rattle.std.proofs.lemmas.Bool.{true≢false}
 use Rattle.std.specs.Prelude.{◌≡◌, refl, ℕ, ◌&&◌, ◌||◌, Bool, true, false, List, [], ◌∷◌, Option, None, Some, slice_get, if◌then◌else◌}
 use Rattle.net_message.specs.declared.message.Message.{Message}
@@ -10,15 +10,19 @@ use Rattle.sp_rules.specs.Worlds
 use Rattle.sp_rules.specs.Worlds.{World, Pipe, Phase, Unopened, Live, Over, End, WorldEvent, Own, Step, Open, Refuse, Accept, Deliver, ReadFails, WriteFails, side, other, after, happens}
 use Rattle.sp_rules.proofs.RefusalLemmas.{refused_changes_nothing}
 use Rattle.sp_hold_laws.specs.OneObject.{object_in}
-use Rattle.sp_object_laws.specs.SeenAs.{IsSeenAs, IsNone, fits_world, RefusedEventsAreNone, WhatDoesNotHappenIsNone}
+use Rattle.dgc_object.specs.AllClients as objects
+use Rattle.sp_object_laws.specs.SeenAs.{counts_of, IsLike, IsNone, fits_world, RefusedEventsAreNone, WhatDoesNotHappenIsNone}
 
 -- why the last event was refused is nothing to an object
 same-object : (w : World) (why : Option Refusal) (owner : ℕ) (id : ObjId) → object_in (record w { refused = why }) owner id ≡ object_in w owner id
 unfolding object_in
 same-object w why owner id = refl
 
+like-of : (x y : objects.World) → x ≡ y → IsLike x y
+like-of x y e = record { clients = λ client. ap (λ (z : objects.World). counts_of (z.clients client)) e; stands = ap (λ (z : objects.World). z.stands) e; own = ap (λ (z : objects.World). z.own) e; frames = λ is. ap (λ (z : objects.World). objects.count is z.frames) e }
+
 none-seen : (w v : World) (why : Option Refusal) → v ≡ record w { refused = why } → IsNone w v
-none-seen w v why same owner id = record { fits = tt; seen = ap (λ (u : World). object_in u owner id) same ∙ same-object w why owner id }
+none-seen w v why same owner id = record { fits = tt; seen = like-of (object_in v owner id) (object_in w owner id) (ap (λ (u : World). object_in u owner id) same ∙ same-object w why owner id) }
 
 pub refused_events_are_none : RefusedEventsAreNone
 refused_events_are_none w e why refused = none-seen w (after w e) (Some why) (refused_changes_nothing w e why refused)

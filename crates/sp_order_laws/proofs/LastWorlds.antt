@@ -25,7 +25,7 @@ rises-above n top k (x ∷ xs) r (inl e) = let b : n + 1 ≤ x = r.0 in omega (a
 rises-above n top k (x ∷ xs) r (inr a) = let b : n + 1 ≤ x = r.0 in let c : x + 1 ≤ k = rises-above x top k xs r.1 a in omega arith
 
 -- the later ones are above the earlier ones
-rises-over : (n top j k : ℕ) (xs ys : List ℕ) → RisesWithin n top (xs ++ ys) → IsOneOf j xs → IsOneOf k ys → j + 1 ≤ k
+pub rises-over : (n top j k : ℕ) (xs ys : List ℕ) → RisesWithin n top (xs ++ ys) → IsOneOf j xs → IsOneOf k ys → j + 1 ≤ k
 rises-over n top j k [] ys r a b = absurd a
 rises-over n top j k (x ∷ xs) ys r (inl e) b = let c : x + 1 ≤ k = rises-above x top k ys (rises-rest x top xs ys r.1) b in omega (arith, e)
 rises-over n top j k (x ∷ xs) ys r (inr a) b = rises-over x top j k xs ys r.1 a b

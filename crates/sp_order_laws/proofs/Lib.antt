@@ -1,14 +1,14 @@
-mod WalkRules
-mod NoteLemmas
-mod RisingMoves
+pub mod WalkRules
+pub mod NoteLemmas
+pub mod RisingMoves
 mod GroupOrder
 mod RisingRules
-mod RisingHistories
-mod RisingLaws
-mod WorldFacts
-mod RisingWorlds
+pub mod RisingHistories
+pub mod RisingLaws
+pub mod WorldFacts
+pub mod RisingWorlds
 mod AnsweringMoves
 mod AnsweringLaws
 mod PlaceWorlds
-mod LastMoves
-mod LastWorlds
+pub mod LastMoves
+pub mod LastWorlds

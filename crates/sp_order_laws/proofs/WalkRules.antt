@@ -101,6 +101,7 @@ is_numbered _ = false
 -- the parts at which a property may look
 pub record WalkParts : Type 0 where
   pub calls_made : ℕ
+  pub groups_made : ℕ
   pub numbers : ℕ
   pub tasks : List Living
   pub requests : List Request
@@ -110,7 +111,7 @@ pub record WalkParts : Type 0 where
   pub notes : List Note
 
 abbrev pub walk_parts : State → WalkParts
-walk_parts s = record { calls_made = s.calls_made; numbers = numbers_of s.leases; tasks = s.tasks; requests = s.requests; fresh = s.fresh; connections = s.connections; parked = s.parked; notes = s.notes }
+walk_parts s = record { calls_made = s.calls_made; groups_made = s.groups_made; numbers = numbers_of s.leases; tasks = s.tasks; requests = s.requests; fresh = s.fresh; connections = s.connections; parked = s.parked; notes = s.notes }
 
 -- a task that is changed keeps its id and its origin
 pub record IsSameTask (f : Living → Living) : Type 0 where
@@ -397,7 +398,7 @@ numbers-told (x ∷ refs) e h = numbers-told refs e (On x e ∷ h)
 group_told_walk : {g : Setting} {P : List Owed → State → Type 0} (M : Moves g P) {l : List Owed} {s : State} (event : ℕ → lease_events.Event) (asked : Asked) → P l s → P l (Frames.group_told event asked s)
 group_told_walk M event (Calls n task lent kind m) h = h
 group_told_walk M event (LooksUp n task name) h = h
-group_told_walk M {l} {s} event (Tells call group) h = M.quiet l s _ (ap (λ n. record { calls_made = s.calls_made; numbers = n; tasks = s.tasks; requests = s.requests; fresh = s.fresh; connections = s.connections; parked = s.parked; notes = s.notes })
+group_told_walk M {l} {s} event (Tells call group) h = M.quiet l s _ (ap (λ n. record { calls_made = s.calls_made; groups_made = s.groups_made; numbers = n; tasks = s.tasks; requests = s.requests; fresh = s.fresh; connections = s.connections; parked = s.parked; notes = s.notes })
     (numbers-told (client.references_at group.peer group.ids) (event call) s.leases)) h
 
 told_by_walk : {g : Setting} {P : List Owed → State → Type 0} (W : Walks g P) {l : List Owed} {s : State} (c : Connection) (dirty : Bool) (sequence : ℕ) (event : ℕ → lease_events.Event) → P l s → P l (Frames.told_by g c dirty sequence event s)

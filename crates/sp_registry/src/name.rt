@@ -34,7 +34,8 @@ impl Name {
     pub fn new(alloc: Global, bytes: &[u8]) -> Result<Name, BindFault>
         ensures ok { IfOk result (λ name. name ≡ bytes.now) }
         ensures allowed { OnOk result (is_name bytes.now ≡ true) }
-        ensures refused { IfErr result (λ fault. fault ≡ (if is_name bytes.now then Memory else Denied BadName)) }
+        ensures refused { IfErr result (λ fault. fault
+            ≡ (if is_name bytes.now then Memory else Denied BadName)) }
     {
         if !is_allowed(bytes) {
             return Err(BindFault::Denied(RegistryFault::BadName));

@@ -74,7 +74,8 @@ impl Registry {
     /// has memory of its own, and there is [room](Registry::reserve) for one more binding.
     pub fn bind_reserved(&mut self, name: Name, object: Option<ObjId>) -> Result<(), RegistryFault>
         requires { 0 < self.old.room }
-        ensures answer { MatchResult result (λ _. bind self.old.bindings name object ≡ Ok self.new.bindings) (λ fault. bind self.old.bindings name object ≡ Err fault) }
+        ensures answer { MatchResult result (λ _. bind self.old.bindings name object
+            ≡ Ok self.new.bindings) (λ fault. bind self.old.bindings name object ≡ Err fault) }
         ensures unchanged { OnErr result (self.new ≡ self.old) }
         ensures room { self.old.room ≤ self.new.room + 1 }
     {
@@ -114,7 +115,8 @@ impl Registry {
         object: Option<ObjId>,
     ) -> Result<(), RegistryFault>
         requires { 0 < self.old.room }
-        ensures answer { MatchResult result (λ _. rebind self.old.bindings name object ≡ Ok self.new.bindings) (λ fault. rebind self.old.bindings name object ≡ Err fault) }
+        ensures answer { MatchResult result (λ _. rebind self.old.bindings name object
+            ≡ Ok self.new.bindings) (λ fault. rebind self.old.bindings name object ≡ Err fault) }
         ensures unchanged { OnErr result (self.new ≡ self.old) }
         ensures room { self.old.room ≤ self.new.room + 1 }
     {
@@ -128,7 +130,8 @@ impl Registry {
 
     /// Takes the name and its binding away. The order of the others stays.
     pub fn unbind(&mut self, name: &[u8]) -> Result<(), RegistryFault>
-        ensures answer { MatchResult result (λ _. unbind self.old.bindings name.now ≡ Ok self.new.bindings) (λ fault. unbind self.old.bindings name.now ≡ Err fault) }
+        ensures answer { MatchResult result (λ _. unbind self.old.bindings name.now
+            ≡ Ok self.new.bindings) (λ fault. unbind self.old.bindings name.now ≡ Err fault) }
         ensures unchanged { OnErr result (self.new ≡ self.old) }
         ensures room { self.old.room ≤ self.new.room }
     {
@@ -164,7 +167,8 @@ impl Registry {
     fn add(&mut self, name: &[u8], object: ObjId) -> Result<(), BindFault>
         requires allowed { IsTrue (is_name name.now) }
         requires unbound { lookup self.old.bindings name.now ≡ None }
-        ensures ok { OnOk result (self.new.bindings ≡ self.old.bindings ++ record { name = name.now; object = object } ∷ []) }
+        ensures ok { OnOk result (self.new.bindings
+            ≡ self.old.bindings ++ record { name = name.now; object = object } ∷ []) }
         ensures memory { IfErr result (λ fault. fault ≡ BindFault.Memory) }
         ensures unchanged { OnErr result (self.new.bindings ≡ self.old.bindings) }
         ensures room { self.old.room ≤ self.new.room + 1 }
@@ -178,7 +182,8 @@ impl Registry {
     fn add_reserved(&mut self, name: Name, object: ObjId)
         requires room { 0 < self.old.room }
         requires unbound { lookup self.old.bindings name ≡ None }
-        ensures added { self.new.bindings ≡ self.old.bindings ++ record { name = name; object = object } ∷ [] }
+        ensures added { self.new.bindings ≡ self.old.bindings
+            ++ record { name = name; object = object } ∷ [] }
         ensures room { self.old.room ≤ self.new.room + 1 }
     {
         self.bindings.push_reserved(Binding { name, object });
@@ -197,7 +202,8 @@ fn allowed(name: &[u8], object: Option<ObjId>) -> Result<ObjId, RegistryFault>
 
 // The index of the binding of a name: `None` if it is not bound.
 fn index_of(bindings: &[Binding], name: &[u8]) -> Option<usize>
-    ensures { MatchOption result (lookup bindings.now name.now ≡ None) (IsIndexOf bindings.now name.now) }
+    ensures { MatchOption result (lookup bindings.now name.now ≡ None)
+        (IsIndexOf bindings.now name.now) }
 {
     first_of(bindings, name)
 }

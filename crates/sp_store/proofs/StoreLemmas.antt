@@ -386,8 +386,8 @@ entry-here r (e ∷ es) (suc i) v within key value = entry-here r es i v (omega 
 
 -- what stands at the index of an id
 pub entry-at : (r : ObjId) (es : List (ObjId × Remote)) (i : ℕ) (v : Remote) → position (is_id r) (keys_of es) ≡ Some i → slice_get (values_of es) i ≡ Some v → slice_get es i ≡ Some (r, v)
-entry-at r es i v place value =
-    let at = position-Some (is_id r) (keys_of es) i r place in
+entry-at r es i v index value =
+    let at = position-Some (is_id r) (keys_of es) i r index in
     entry-here r es i v at.0 (same-id r (get_or (keys_of es) i r) at.1) value
 
 pub none-from : (o : Option Remote) → false ≡ is_some o → o ≡ None

@@ -20,7 +20,7 @@ use Rattle.sp_rules.proofs.OwnLemmas.{some-same}
 use Rattle.sp_tree_laws.specs.Roots.{with_calls}
 use Rattle.sp_tree_laws.specs.Trees.{Tree, Part, part_of, is_of, has_task, counted, task_part, root_part, roots_in, roots_at, stands_at_call, FitsTree, FitsHistory, AllFrom, IsTree, total_from, space_part, spent, root_fuel}
 use Rattle.sp_tree_laws.proofs.CallNumbers.{calls-rise}
-use Rattle.sp_tree_laws.proofs.TreeOfWorlds.{Holds, place, place-of, all-set, grown-history}
+use Rattle.sp_tree_laws.proofs.TreeOfWorlds.{Holds, index_from, index-of, all-set, grown-history}
 
 -- ---- what was given
 
@@ -227,18 +227,18 @@ all-with-from : {A : Type 0} (P Q R : ℕ → A → Type 0) (j : ℕ) (xs : List
 all-with-from P Q R j [] k a b = tt
 all-with-from P Q R j (x ∷ xs) k a b = (k j x a.0 b.0, all-with-from P Q R (suc j) xs k a.1 b.1)
 
-set-from : {A : Type 0} (P : ℕ → A → Type 0) (g : A → A) (i j : ℕ) (xs : List A) (x : A) → slice_get xs i ≡ Some x → (P (place i j) x → P (place i j) (g x)) → AllFrom P j xs → AllFrom P j (at_index g i xs)
+set-from : {A : Type 0} (P : ℕ → A → Type 0) (g : A → A) (i j : ℕ) (xs : List A) (x : A) → slice_get xs i ≡ Some x → (P (index_from i j) x → P (index_from i j) (g x)) → AllFrom P j xs → AllFrom P j (at_index g i xs)
 set-from P g i j [] x is k a = tt
 set-from P g zero j (y ∷ xs) x is k a = (subst (λ z. P j z → P j (g z)) (sym (some-same is)) k a.0, a.1)
 set-from P g (suc i) j (y ∷ xs) x is k a = (a.0, set-from P g i (suc j) xs x is k a.1)
 
-in-sum : {A : Type 0} (f : ℕ → A → ℕ) (i j : ℕ) (xs : List A) (x : A) → slice_get xs i ≡ Some x → f (place i j) x ≤ total_from f j xs
+in-sum : {A : Type 0} (f : ℕ → A → ℕ) (i j : ℕ) (xs : List A) (x : A) → slice_get xs i ≡ Some x → f (index_from i j) x ≤ total_from f j xs
 in-sum f i j [] x is = absurd (some-none x (sym is))
 in-sum f zero j (y ∷ xs) x is = let e : f j y ≡ f j x = ap (f j) (some-same is) in omega arith
-in-sum f (suc i) j (y ∷ xs) x is = let e : f (place i (suc j)) x ≤ total_from f (suc j) xs = in-sum f i (suc j) xs x is in omega arith
+in-sum f (suc i) j (y ∷ xs) x is = let e : f (index_from i (suc j)) x ≤ total_from f (suc j) xs = in-sum f i (suc j) xs x is in omega arith
 
 in-total : {A : Type 0} (f : ℕ → A → ℕ) (i : ℕ) (xs : List A) (x : A) → slice_get xs i ≡ Some x → f i x ≤ total_from f 0 xs
-in-total f i xs x is = subst (λ n. f n x ≤ total_from f 0 xs) (place-of i) (in-sum f i 0 xs x is)
+in-total f i xs x is = subst (λ n. f n x ≤ total_from f 0 xs) (index-of i) (in-sum f i 0 xs x is)
 
 -- ---- a task that makes a call has a call that was made, or a root
 
@@ -335,8 +335,8 @@ past s = Space.state_of s.setting s.history
 pub take-grown : {tree : Tree} {has : ℕ → ℕ → Bool} {spaces : List Space} (i : ℕ) (e : Event) (s : Space) → slice_get spaces i ≡ Some s → FitsTree (part_of (with_calls tree has) i) (past s) e → KnownEvent (calls_in (at_index (grown e) i spaces)) tree.dialler i (past s) e
     → Grown tree has spaces → Grown tree has (at_index (grown e) i spaces)
 take-grown {tree} {has} {spaces} i e s is fits known h = record {
-  fits = set-from (λ j (u : Space). FitsHistory (part_of (with_calls tree has) j) u.setting u.history) (grown e) i 0 spaces s is (λ f. (subst (λ n. FitsTree (part_of (with_calls tree has) n) (past s) e) (sym (place-of i)) fits, f)) h.fits;
-  known = set-from (λ j (u : Space). Known (calls_in (at_index (grown e) i spaces)) tree.dialler j u.setting u.history) (grown e) i 0 spaces s is (λ f. (subst (λ n. KnownEvent (calls_in (at_index (grown e) i spaces)) tree.dialler n (past s) e) (sym (place-of i)) known, f))
+  fits = set-from (λ j (u : Space). FitsHistory (part_of (with_calls tree has) j) u.setting u.history) (grown e) i 0 spaces s is (λ f. (subst (λ n. FitsTree (part_of (with_calls tree has) n) (past s) e) (sym (index-of i)) fits, f)) h.fits;
+  known = set-from (λ j (u : Space). Known (calls_in (at_index (grown e) i spaces)) tree.dialler j u.setting u.history) (grown e) i 0 spaces s is (λ f. (subst (λ n. KnownEvent (calls_in (at_index (grown e) i spaces)) tree.dialler n (past s) e) (sym (index-of i)) known, f))
       (all-weaken-from (λ j (u : Space). Known (calls_in spaces) tree.dialler j u.setting u.history) (λ j (u : Space). Known (calls_in (at_index (grown e) i spaces)) tree.dialler j u.setting u.history) 0 spaces
       (λ j u k. known-more (calls_in spaces) (calls_in (at_index (grown e) i spaces)) tree.dialler j (calls-grow e i spaces h.histories) u.setting u.history k) h.known);
   histories = all-set HasHistory (grown e) i spaces (grown-history e) h.histories;

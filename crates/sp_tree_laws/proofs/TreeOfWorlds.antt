@@ -26,37 +26,37 @@ use Rattle.sp_tree_laws.proofs.TreeOfSpaces.{on-leaves, tags-of}
 -- ---- lists, with indices
 
 -- the index of an element in a list whose first element has index j
-abbrev pub place : ℕ → ℕ → ℕ
-place zero j = j
-place (suc i) j = place i (suc j)
+abbrev pub index_from : ℕ → ℕ → ℕ
+index_from zero j = j
+index_from (suc i) j = index_from i (suc j)
 
-place-zero : (i j : ℕ) → place i j ≡ i + j
-place-zero zero j = omega arith
-place-zero (suc i) j = let e : place i (suc j) ≡ i + suc j = place-zero i (suc j) in omega arith
+index-zero : (i j : ℕ) → index_from i j ≡ i + j
+index-zero zero j = omega arith
+index-zero (suc i) j = let e : index_from i (suc j) ≡ i + suc j = index-zero i (suc j) in omega arith
 
-pub place-of : (i : ℕ) → place i 0 ≡ i
-place-of i = let e : place i 0 ≡ i + 0 = place-zero i 0 in omega arith
+pub index-of : (i : ℕ) → index_from i 0 ≡ i
+index-of i = let e : index_from i 0 ≡ i + 0 = index-zero i 0 in omega arith
 
 -- one element is changed: what it was goes out of the sum, and what it is comes in
 changed-from : {A : Type 0} (f : ℕ → A → ℕ) (g : A → A) (i j : ℕ) (xs : List A)
-    → total_from f j (at_index g i xs) + value_in (f (place i j)) (slice_get xs i) ≡ total_from f j xs + value_in (λ a. f (place i j) (g a)) (slice_get xs i)
+    → total_from f j (at_index g i xs) + value_in (f (index_from i j)) (slice_get xs i) ≡ total_from f j xs + value_in (λ a. f (index_from i j) (g a)) (slice_get xs i)
 unfolding value_in
 changed-from f g i j [] = refl
 changed-from f g zero j (x ∷ xs) = omega arith
-changed-from f g (suc i) j (x ∷ xs) = let h : total_from f (suc j) (at_index g i xs) + value_in (f (place i (suc j))) (slice_get xs i) ≡ total_from f (suc j) xs + value_in (λ a. f (place i (suc j)) (g a)) (slice_get xs i) = changed-from f g i (suc j) xs in omega arith
+changed-from f g (suc i) j (x ∷ xs) = let h : total_from f (suc j) (at_index g i xs) + value_in (f (index_from i (suc j))) (slice_get xs i) ≡ total_from f (suc j) xs + value_in (λ a. f (index_from i (suc j)) (g a)) (slice_get xs i) = changed-from f g i (suc j) xs in omega arith
 
 changed : {A : Type 0} (f : ℕ → A → ℕ) (g : A → A) (i : ℕ) (xs : List A)
     → total_from f 0 (at_index g i xs) + value_in (f i) (slice_get xs i) ≡ total_from f 0 xs + value_in (λ a. f i (g a)) (slice_get xs i)
-changed f g i xs = subst (λ n. total_from f 0 (at_index g i xs) + value_in (f n) (slice_get xs i) ≡ total_from f 0 xs + value_in (λ a. f n (g a)) (slice_get xs i)) (place-of i) (changed-from f g i 0 xs)
+changed f g i xs = subst (λ n. total_from f 0 (at_index g i xs) + value_in (f n) (slice_get xs i) ≡ total_from f 0 xs + value_in (λ a. f n (g a)) (slice_get xs i)) (index-of i) (changed-from f g i 0 xs)
 
 -- if `g` adds no more than k to the element, it adds no more than k to the sum
-grows-from : {A : Type 0} (f : ℕ → A → ℕ) (g : A → A) (k i j : ℕ) (xs : List A) → ((x : A) → f (place i j) (g x) ≤ f (place i j) x + k) → total_from f j (at_index g i xs) ≤ total_from f j xs + k
+grows-from : {A : Type 0} (f : ℕ → A → ℕ) (g : A → A) (k i j : ℕ) (xs : List A) → ((x : A) → f (index_from i j) (g x) ≤ f (index_from i j) x + k) → total_from f j (at_index g i xs) ≤ total_from f j xs + k
 grows-from f g k i j [] le = omega arith
 grows-from f g k zero j (x ∷ xs) le = let a : f j (g x) ≤ f j x + k = le x in omega arith
 grows-from f g k (suc i) j (x ∷ xs) le = let h : total_from f (suc j) (at_index g i xs) ≤ total_from f (suc j) xs + k = grows-from f g k i (suc j) xs le in omega arith
 
 grows : {A : Type 0} (f : ℕ → A → ℕ) (g : A → A) (k i : ℕ) (xs : List A) → ((x : A) → f i (g x) ≤ f i x + k) → total_from f 0 (at_index g i xs) ≤ total_from f 0 xs + k
-grows f g k i xs le = grows-from f g k i 0 xs (subst (λ n. (x : _) → f n (g x) ≤ f n x + k) (sym (place-of i)) le)
+grows f g k i xs le = grows-from f g k i 0 xs (subst (λ n. (x : _) → f n (g x) ≤ f n x + k) (sym (index-of i)) le)
 
 -- one that adds nothing is added
 more-from : {A : Type 0} (f : ℕ → A → ℕ) (j : ℕ) (xs : List A) (y : A) → ((i : ℕ) → f i y ≡ 0) → total_from f j (xs ++ y ∷ []) ≡ total_from f j xs
@@ -64,13 +64,13 @@ more-from f j [] y none = let e : f j y ≡ 0 = none j in omega arith
 more-from f j (x ∷ xs) y none = let h : total_from f (suc j) (xs ++ y ∷ []) ≡ total_from f (suc j) xs = more-from f (suc j) xs y none in omega arith
 
 -- what held before one was changed
-back-from : {A : Type 0} (P : ℕ → A → Type 0) (g : A → A) (i j : ℕ) (xs : List A) → ((x : A) → P (place i j) (g x) → P (place i j) x) → AllFrom P j (at_index g i xs) → AllFrom P j xs
+back-from : {A : Type 0} (P : ℕ → A → Type 0) (g : A → A) (i j : ℕ) (xs : List A) → ((x : A) → P (index_from i j) (g x) → P (index_from i j) x) → AllFrom P j (at_index g i xs) → AllFrom P j xs
 back-from P g i j [] k a = tt
 back-from P g zero j (x ∷ xs) k a = (k x a.0, a.1)
 back-from P g (suc i) j (x ∷ xs) k a = (a.0, back-from P g i (suc j) xs k a.1)
 
 -- what holds of the one that was changed
-pub at-from : {A : Type 0} (P : ℕ → A → Type 0) (g : A → A) (i j : ℕ) (xs : List A) (x : A) → slice_get xs i ≡ Some x → AllFrom P j (at_index g i xs) → P (place i j) (g x)
+pub at-from : {A : Type 0} (P : ℕ → A → Type 0) (g : A → A) (i j : ℕ) (xs : List A) (x : A) → slice_get xs i ≡ Some x → AllFrom P j (at_index g i xs) → P (index_from i j) (g x)
 at-from P g i j [] x is a = absurd (some-none x (sym is))
 at-from P g zero j (y ∷ xs) x is a = subst (λ z. P j (g z)) (some-same is) a.0
 at-from P g (suc i) j (y ∷ xs) x is a = at-from P g i (suc j) xs x is a.1
@@ -215,7 +215,7 @@ take_holds {tree} {v} i e s is now =
     bounded : IsTree tree (record v { spaces = at_index (grown e) i v.spaces }) → spent tree (record v { spaces = at_index (grown e) i v.spaces }) + (total (output_part (part_of tree i)) (Space.on s.setting e s.state).1 + 0) ≤ root_fuel tree (record v { spaces = at_index (grown e) i v.spaces })
     bounded fits =
         let before : IsTree tree v = back-from (Fits-space tree) (grown e) i 0 v.spaces (λ x f. f.1) fits in
-        let fit : Fits-space tree i (grown e s) = subst (λ n. Fits-space tree n (grown e s)) (place-of i) (at-from (Fits-space tree) (grown e) i 0 v.spaces s is fits) in
+        let fit : Fits-space tree i (grown e s) = subst (λ n. Fits-space tree n (grown e s)) (index-of i) (at-from (Fits-space tree) (grown e) i 0 v.spaces s is fits) in
         let b : spent tree v + in_hand tree e ≤ root_fuel tree v = now.bound before in
         let us : value_in (space_part tree i) (slice_get v.spaces i) ≡ space_part tree i s = found-value (space_part tree i) (slice_get v.spaces i) s is in
         let ug : value_in (λ x. space_part tree i (grown e x)) (slice_get v.spaces i) ≡ space_part tree i (grown e s) = found-value (λ x. space_part tree i (grown e x)) (slice_get v.spaces i) s is in

@@ -1,1 +1,2 @@
 mod RunPlays
+mod QuietPlays

@@ -16,7 +16,7 @@ use Rattle.sp_world_runs.specs.Whole.{is_whole, plays_with, plays_to}
 abbrev pub first : ObjId
 first = record { 0 = 1 }
 
--- as a script of so many spaces begins
+-- as a script of n spaces begins
 abbrev pub begun : ℕ → Sim
 begun n = record { world = new_world (map setting_of (spaces_from 1 n)); vars = []; shown = []; bad = None }
 
@@ -43,7 +43,7 @@ pub record PassesWhole : Type 0 where
 
 -- ---- other runs
 
--- the first object of the space of this number, among so many spaces
+-- the first object of the space of this number, among `spaces` spaces
 abbrev pub is_kept_whole : ℕ → ℕ → World → Bool
 is_kept_whole spaces owner w = is_whole spaces (object_in w owner first)
 

@@ -34,7 +34,7 @@ is_safe s = list_all (λ (b : Bool). b) (
     ∷ list_all (λ call. nat_lt call s.next) s.coming
     ∷ [])
 
--- all clients of fewer than so many spaces: each clause of `IsWhole`
+-- all clients among the first `spaces` spaces: each clause of `IsWhole`
 abbrev pub is_whole : ℕ → objects.World → Bool
 is_whole spaces w =
     list_all (λ client. is_safe (objects.seen client w)) (numbers_below spaces)

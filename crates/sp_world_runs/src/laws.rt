@@ -1,5 +1,6 @@
 //! Runs of spaces, computed by their rules.
 
+ghost use Rattle.sp_world_runs.specs.Quiet.{PassesQuietly};
 ghost use Rattle.sp_world_runs.specs.Runs.{PassesWhole, RunsWithLoss, StaysWhole};
 
 /// In a run of three spaces a reference passes from one through another to the third, by frames that wait
@@ -18,4 +19,10 @@ pub fn objects_stay_whole()
 /// In a run of two spaces in which a frame is lost, a call is out and its task waits.
 pub fn frames_are_lost_and_calls_wait()
     ensures { RunsWithLoss }
+{}
+
+/// Three spaces are of one kind, and in a run of them in which nothing fails a reference passes from one
+/// through another to the third.
+pub fn a_reference_passes_where_nothing_fails()
+    ensures { PassesQuietly }
 {}

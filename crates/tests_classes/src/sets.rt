@@ -204,7 +204,7 @@ fn numbered(alloc: Global, count: u32) -> Result<Vec<ClassFile>, Fail>
     let mut files = Vec::new(alloc);
     for index in 0..count {
         let name = format!(in alloc; "T{index}")?;
-        files.push(class_file(alloc, PUBLIC, name.as_str(), "No", &[])?)?;
+        files.push(class_file(alloc, PUBLIC, name.as_str(), OBJECT, &[])?)?;
     }
     Ok(files)
 }

@@ -82,7 +82,7 @@ fn every_kind_of_entry_is_read(rt: HostRuntime) -> Result<(), Fail> {
 fn what_entries_say_is_checked(rt: HostRuntime) -> Result<(), Fail> {
     let check = |bytes: &[u8]| {
         let (layout, _) = read_layout(rt.alloc(), bytes, 0)?;
-        check_pool(rt.alloc(), &layout)
+        check_pool(&layout)
     };
     for (bytes, fault) in [
         (POOL, None),

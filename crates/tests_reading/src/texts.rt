@@ -1,9 +1,11 @@
 //! Names, texts, descriptors and tables of class files.
 
 use cf_text::{
-    Descriptor, ElementType, Table, descriptor, is_class_name, is_method_name, is_modified_utf8,
-    is_name, read_field_descriptor, read_method_descriptor, read_row, read_text,
+    Descriptor, ElementType, FileBytes, KnownTypes, Table, Text, descriptor, is_class_name,
+    is_method_name, is_modified_utf8, is_name, read_field_descriptor, read_method_descriptor,
+    read_row, read_text,
 };
+use std::alloc::{AllocError, Global};
 use std::test::Fail;
 
 #[test]
@@ -23,7 +25,7 @@ fn descriptors_are_told_from_other_texts(rt: HostRuntime) -> Result<(), Fail> {
         "(I[JLa;)[I",
         "(II)Z",
     ] {
-        let found = descriptor(rt.alloc(), text.as_bytes())?;
+        let found = descriptor(rt.alloc(), &text_of(rt.alloc(), text.as_bytes())?)?;
         let is_method = matches!(found, Some(Descriptor::Method(_)));
         assert!(rt;
             found.is_some() && is_method == text.starts_with('('),
@@ -35,7 +37,7 @@ fn descriptors_are_told_from_other_texts(rt: HostRuntime) -> Result<(), Fail> {
         "(I)",
     ] {
         assert!(rt;
-            descriptor(rt.alloc(), text.as_bytes())?.is_none(),
+            descriptor(rt.alloc(), &text_of(rt.alloc(), text.as_bytes())?)?.is_none(),
             "{text}"
         );
     }
@@ -47,9 +49,14 @@ fn an_array_has_at_most_255_dimensions(rt: HostRuntime) -> Result<(), Fail> {
     for dimensions in [255, 256] {
         let mut text = vec![in rt.alloc(); b'['; dimensions]?;
         text.push(b'I')?;
+        let text = Text::new(rt.alloc(), text)?;
         assert_eq!(rt; descriptor(rt.alloc(), &text)?.is_some(), dimensions == 255);
     }
     Ok(())
+}
+
+fn text_of(alloc: Global, bytes: &[u8]) -> Result<Text, AllocError> {
+    Text::new(alloc, Vec::from_slice(alloc, bytes)?)
 }
 
 fn is_class_type(element: &ElementType, name: &[u8]) -> bool {
@@ -62,29 +69,34 @@ fn is_class_type(element: &ElementType, name: &[u8]) -> bool {
 #[test]
 fn what_takes_memory_is_read(rt: HostRuntime) -> Result<(), Fail> {
     let bytes = b"\x07ab";
-    let (text, to) = read_text(rt.alloc(), bytes, 1, 2).ok().ok_or("no text")?;
+    let file = FileBytes::new(rt.alloc(), Vec::from_slice(rt.alloc(), bytes)?)?;
+    let (text, to) = read_text(&file, 1, 2).ok().ok_or("no text")?;
     assert_eq!(rt; to, 3);
     assert!(rt; text.is(b"ab") && text.copy()?.is(b"ab"));
     let (row, to) = read_row(rt.alloc(), bytes, 0, 3).ok().ok_or("no row")?;
     assert_eq!(rt; to, 3);
     assert!(rt; row.as_slice() == b"\x07ab".as_slice() && row.into_vec().len() == 3);
-    let method = read_method_descriptor(rt.alloc(), b"(I[[La/b;)V", 9)?;
-    let [number, table] = method.parameters.as_slice() else {
-        return Err("not two parameters".into());
+    let text = text_of(rt.alloc(), b"(I[[La/b;I[[La/b;)V")?;
+    let other = text_of(rt.alloc(), b"()[Z")?;
+    let mut known = KnownTypes::new(rt.alloc());
+    let method = read_method_descriptor(rt.alloc(), &mut known, &text, 9)?;
+    let [_, _, number, table] = method.parameters.as_slice() else {
+        return Err("not four parameters".into());
     };
     assert!(rt; matches!((number.dimensions, &number.element), (0, ElementType::Int)));
     assert!(rt; table.dimensions == 2 && is_class_type(&table.element, b"a/b"));
     assert!(rt; method.result.is_none());
-    let method = read_method_descriptor(rt.alloc(), b"()[Z", 9)?;
-    let result = method.result.ok_or("no result")?;
+    let method = read_method_descriptor(rt.alloc(), &mut known, &other, 9)?;
+    let result = method.result.as_ref().ok_or("no result")?;
     assert!(rt; method.parameters.as_slice().is_empty());
     assert!(rt;
         matches!(
-            (result.dimensions, result.element),
+            (result.dimensions, &result.element),
             (1, ElementType::Boolean)
         )
     );
-    let field = read_field_descriptor(rt.alloc(), b"[I", 9)?;
+    let text = text_of(rt.alloc(), b"[I")?;
+    let field = read_field_descriptor(&text, 9)?;
     assert!(rt; matches!((field.dimensions, field.element), (1, ElementType::Int)));
     Ok(())
 }

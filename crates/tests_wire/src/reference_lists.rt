@@ -152,8 +152,8 @@ fn plain_entry(told: &[Told]) -> Option<u64> {
 fn tell(list: &mut RefList, plain: &mut Vec<Vec<Told>>, step: u64) -> Result<(), AllocError> {
     let of = step % 100;
     let mut objects = [ObjId(0); 4];
-    for (place, object) in objects.iter_mut().enumerate() {
-        *object = ObjId((step / 100 * 2 + place as u64 % 3) % 100);
+    for (index, object) in objects.iter_mut().enumerate() {
+        *object = ObjId((step / 100 * 2 + index as u64 % 3) % 100);
     }
     let number = if step % 7 == 3 { step / 2 } else { step };
     let told = if step % 5 == 4 {

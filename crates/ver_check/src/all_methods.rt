@@ -35,7 +35,7 @@ fn view_of<'a>(classes: &'a ClassSet, method: &'a LinkedMethod) -> Option<Method
         .methods
         .as_slice()
         .get(usize::from(method.index))?;
-    let Some(code) = &declaration.code else {
+    let Some(code) = &*declaration.code else {
         return None;
     };
     Some(MethodView {

@@ -7,8 +7,8 @@ pub use ver_frames::{
     ArrayOperation, BinaryOperator, CastType, Class, ClassFile, ClassId, ClassSet, Code, Condition,
     ElementType, Equality, Field, FieldType, Flags, InvokeKind, Linked, LinkedCode, LinkedInsn,
     LinkedMethod, LinkedSwitch, MemberIndex, Method, MethodDescriptor, MethodId, MethodView,
-    Numbered, Pool, Row, StackMapFault, StackMapRule, StackOperation, Table, Text, TypeChange,
-    TypeFrame, UnaryOperator, VType, ValueKind,
+    Numbered, Pool, Row, Shared, StackMapFault, StackMapRule, StackOperation, Table, Text,
+    TypeChange, TypeFrame, UnaryOperator, VType, ValueKind,
 };
 pub use ver_rules::{CheckFault, CheckRule};
 

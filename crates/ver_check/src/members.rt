@@ -6,8 +6,8 @@ ghost use Rattle.ver_check.specs.Members.{field_at, is_init, method_at};
 use super::body::BodyView;
 use super::stop::Stop;
 use super::{
-    CheckRule, ClassId, ClassSet, Field, FieldType, InvokeKind, MemberIndex, Method, TypeChange,
-    TypeFrame, VType,
+    CheckRule, ClassId, ClassSet, Field, FieldType, InvokeKind, MemberIndex, Method, Shared,
+    TypeChange, TypeFrame, VType,
 };
 use ver_frames::{assignable, field_vtype};
 use ver_rules::Want;
@@ -59,7 +59,7 @@ impl BodyView<'_> {
     ghost use Rattle.ver_frames.specs.declared.vtype.VType.TheVariants.{Object};
 
     // The verification type of a field type.
-    fn vtype(&self, kind: &FieldType) -> VType
+    fn vtype(&self, kind: &Shared<FieldType>) -> VType
         ensures { result ≡ field_vtype self.now.classes kind.now }
     {
         let method = self.method;
@@ -67,7 +67,7 @@ impl BodyView<'_> {
     }
 
     // Takes a value of a field type off the top.
-    fn take_value(&self, frame: &mut TypeFrame, kind: &FieldType) -> Result<(), Stop>
+    fn take_value(&self, frame: &mut TypeFrame, kind: &Shared<FieldType>) -> Result<(), Stop>
         ensures { Makes (λ _. frame.new) result (take self.now (Want.Fits (field_vtype self.now.classes kind.now)) frame.old) }
     {
         self.take(frame, Want::Fits(self.vtype(kind)))

@@ -8,7 +8,7 @@ ghost use Rattle.ver_frames.specs.Types.{field_vtype, element_type};
 
 use super::{TypeFrame, VType};
 use cls_link::{LinkedCode, LinkedInsn};
-use cls_set::{Class, ClassId, ClassSet, Code, ElementType, FieldType, Flags, Method};
+use cls_set::{Class, ClassId, ClassSet, Code, ElementType, FieldType, Flags, Method, Shared};
 use std::alloc::{AllocError, Global};
 use std::marker::Model;
 
@@ -137,7 +137,7 @@ fn new_class(insn: LinkedInsn) -> Option<ClassId>
 /// Returns the verification type of a field type (JVMS 4.10.1.2); one out of this project's profile
 /// is top.
 #[tactic(auto, unfolding(crate::specs::Types::field_vtype))]
-pub fn field_vtype(classes: &ClassSet, kind: &FieldType) -> VType
+pub fn field_vtype(classes: &ClassSet, kind: &Shared<FieldType>) -> VType
     ensures { result ≡ field_vtype classes.now kind.now }
 {
     match (kind.dimensions, &kind.element) {

@@ -204,10 +204,10 @@ some None h = absurd (cc)
 some (Some x) h = (x, refl)
 
 -- what was read at an index
-pub read_is : (values : List Tagged) (cells : List Cell) (address k place : ℕ) (v r : Tagged) → values ≡ spelled cells → Stands cells address k v
-    → place ≡ address + k → slice_get values place ≡ Some r → r ≡ v
-read_is values cells address k place v r row there where_is is =
-    let read : slice_get values place ≡ Some v = rw (row, where_is) there.read in
+pub read_is : (values : List Tagged) (cells : List Cell) (address k index : ℕ) (v r : Tagged) → values ≡ spelled cells → Stands cells address k v
+    → index ≡ address + k → slice_get values index ≡ Some r → r ≡ v
+read_is values cells address k index v r row there where_is is =
+    let read : slice_get values index ≡ Some v = rw (row, where_is) there.read in
     let both : Path (Option Tagged) (Some r) (Some v) = sym is ∙ read in
     cc
 

@@ -21,7 +21,7 @@ pub enum Last {
     Spent,
 }
 
-/// A task runs on its machine with so much fuel left, or it is over with so much left.
+/// A task runs on its machine with an amount of fuel left, or it is over with an amount left.
 #[derive(Drop)]
 pub enum Phase {
     Running(Machine, u64),

@@ -7,7 +7,9 @@ ghost use Rattle.ver_frames.specs.Method.{is_static};
 ghost use Rattle.vm_run.specs.Start.{is_below_remote, is_remote_interface, is_int_element, is_remote_element, is_array_element, is_int_type, is_array_type, is_remote_type, crosses, takes_crossing, is_of_type, fill, refusal};
 
 use crate::fault::StartFault;
-use cls_link::{ClassId, ClassSet, ElementType, FieldType, Flags, Method, MethodDescriptor};
+use cls_link::{
+    ClassId, ClassSet, ElementType, FieldType, Flags, Method, MethodDescriptor, Shared,
+};
 use vm_code::is_subtype;
 use vm_heap::Value;
 
@@ -37,13 +39,13 @@ fn may_take(set: &ClassSet, types: &MethodDescriptor) -> bool
     all_cross(set, types.parameters.as_slice()) && result_crosses(set, &types.result)
 }
 
-fn all_cross(set: &ClassSet, kinds: &[FieldType]) -> bool
+fn all_cross(set: &ClassSet, kinds: &[Shared<FieldType>]) -> bool
     ensures { result ≡ list_all (crosses set.now) kinds.now }
 {
     kinds.iter().all(|kind| crosses(set, kind))
 }
 
-fn result_crosses(set: &ClassSet, result_type: &Option<FieldType>) -> bool
+fn result_crosses(set: &ClassSet, result_type: &Option<Shared<FieldType>>) -> bool
     ensures { result ≡ option_map_or (crosses set.now) result_type.now true }
 {
     match result_type {
@@ -52,7 +54,7 @@ fn result_crosses(set: &ClassSet, result_type: &Option<FieldType>) -> bool
     }
 }
 
-fn crosses(set: &ClassSet, kind: &FieldType) -> bool
+fn crosses(set: &ClassSet, kind: &Shared<FieldType>) -> bool
     ensures { result ≡ crosses set.now kind.now }
 {
     is_int(kind) || (is_array(kind) || is_remote(set, kind))
@@ -120,7 +122,7 @@ fn is_below_remote(set: &ClassSet, class: ClassId) -> bool
     }
 }
 
-fn are_filled(kinds: &[FieldType], arguments: &[Value]) -> bool
+fn are_filled(kinds: &[Shared<FieldType>], arguments: &[Value]) -> bool
     ensures { result ≡ fill kinds.now arguments.now }
 {
     if kinds.len() != arguments.len() {
@@ -134,7 +136,7 @@ fn are_filled(kinds: &[FieldType], arguments: &[Value]) -> bool
     true
 }
 
-fn is_of_type(kind: &FieldType, value: &Value) -> bool
+fn is_of_type(kind: &Shared<FieldType>, value: &Value) -> bool
     ensures { result ≡ is_of_type kind.now value.now }
 {
     match value {

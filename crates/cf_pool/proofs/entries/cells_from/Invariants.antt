@@ -6,4 +6,4 @@ use Rattle.cf_pool.proofs.entries.cells_from.Given as goal
 -- the entries so far and those that follow are all of them
 abbrev pub invariant-loop-index : goal.invariant-loop-index
 invariant-loop-index l =
-    with_cells l.entries.items l.positions.items (cells_from (l.count - l.index) l.is_taken l.bytes l.position) ≡ cells_from l.count true l.bytes l.at
+    with_cells l.entries.items l.positions.items (cells_from (l.count - l.index) l.is_taken l.file l.position) ≡ cells_from l.count true l.file l.at

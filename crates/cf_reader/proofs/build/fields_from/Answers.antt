@@ -13,7 +13,7 @@ nowhere = record { at = 0; value = 0 }
 
 pub returns-in_err-field : goal.returns-in_err-field
 returns-in_err-field c =
-    let p = err_from_is_err_and c.from_residual.result c.from_residual.ensures.1 in
+    let p = err_from_is_err_and c.from_residual-in_err-field.result c.from_residual-in_err-field.ensures.1 in
     rw (p.1, p.2) (each-fails (field_from c.args.bytes.now c.args.pool.now) c.args.items.now c.loop-item.fields.items c.loop-item.item-index c.item-item.result c.item-item.result (search rules) (sym c.item-item.is) c.loop-item.invariant.0 c.in_err-field.field-0.0 (search rules))
 
 pub loop-item-preserved : goal.loop-item-preserved

@@ -12,7 +12,7 @@ nowhere = record { at = 0; value = 0 }
 
 pub returns-in_err-name : goal.returns-in_err-name
 returns-in_err-name c =
-    let p = err_from_is_err_and c.from_residual.result c.from_residual.ensures.1 in
+    let p = err_from_is_err_and c.from_residual-in_err-name.result c.from_residual-in_err-name.ensures.1 in
     rw (p.1, p.2) (each-fails (class_name_of c.args.pool.now) c.args.items.now c.loop-item.names.items c.loop-item.item-index nowhere (get_or c.args.items.now c.loop-item.item-index nowhere) (search rules) refl c.loop-item.invariant c.in_err-name.field-0.0 (search rules))
 
 pub loop-item-preserved : goal.loop-item-preserved

@@ -13,7 +13,7 @@ nowhere = record { at = 0; value = 0 }
 
 pub returns-in_err-method : goal.returns-in_err-method
 returns-in_err-method c =
-    let p = err_from_is_err_and c.from_residual.result c.from_residual.ensures.1 in
+    let p = err_from_is_err_and c.from_residual-in_err-method.result c.from_residual-in_err-method.ensures.1 in
     rw (p.1, p.2) (each-fails (method_from c.args.bytes.now c.args.pool.now) c.args.items.now c.loop-item.methods.items c.loop-item.item-index c.item-item.result c.item-item.result (search rules) (sym c.item-item.is) c.loop-item.invariant.0 c.in_err-method.field-0.0 (search rules))
 
 pub loop-item-preserved : goal.loop-item-preserved
@@ -28,5 +28,5 @@ new-requires c =
     let read = (method_from c.args.bytes.now c.args.pool.now) in
     let all = each-end read c.args.items.now c.loop-item.methods.items c.loop-item.item-index (search rules) c.loop-item.invariant.0 in
     let long : length c.loop-item.methods.items ≡ length c.args.items.now = subst (λ r. IfOk {T = List Method} r (λ ys. length ys ≡ length c.args.items.now)) all (each-long read c.args.items.now) in
-    let few = c.requires in
+    let few = c.requires.few in
     omega (arith, long, few)

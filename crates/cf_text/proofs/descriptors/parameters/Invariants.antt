@@ -6,4 +6,4 @@ use Rattle.cf_text.proofs.descriptors.parameters.Given as goal
 -- the types so far and those that follow are all of them
 abbrev pub invariant-loop : goal.invariant-loop
 invariant-loop l =
-    with_front l.types.items (parameters_of (l.most - l.counter) l.at l.rest) ≡ parameters_of l.most l.at l.text
+    with_front l.types.items (parameters_of (l.most - l.counter) l.at l.rest) ≡ parameters_of l.most l.at l.initial.rest

@@ -4,7 +4,8 @@ use Rattle.std.proofs.lemmas.Fn.{always_returns_same}
 use Rattle.std.proofs.lemmas.List.MinMax.{ranks_by}
 use Rattle.std.proofs.lemmas.List.Sorted.{All-permutation, Contains-permutation}
 use Rattle.cls_set.specs.Orders.{key_at, key_cmp}
-use Rattle.cls_set.proofs.Orders.{key_total, one_more}
+use Rattle.cls_order.proofs.Indices.{one_more}
+use Rattle.cls_set.proofs.Orders.{key_total}
 use Rattle.cls_set.proofs.ordering.order.Goals as goal
 
 pub loop-index-preserved : goal.loop-index-preserved

@@ -1,4 +1,4 @@
-use Rattle.cls_set.proofs.Orders.{AreFirst}
+use Rattle.cls_order.proofs.Indices.{AreFirst}
 use Rattle.cls_set.proofs.ordering.order.Given as goal
 
 abbrev pub invariant-loop-index : goal.invariant-loop-index

@@ -1,10 +1,10 @@
 use Rattle.std.proofs.Common.{◌≡◌, length, refl, sym, subst, ◌∙◌, arith}
-use Rattle.cls_set.specs.declared.class.Class.{Class}
-use Rattle.cls_set.specs.declared.entries.Entry.{Entry}
-use Rattle.cls_set.specs.Entries.{classes_of}
+use Rattle.cls_order.specs.declared.class.Class.{Class}
+use Rattle.cls_order.specs.declared.entries.Entry.{Entry}
+use Rattle.cls_order.specs.Entries.{classes_of}
 use Rattle.cls_set.specs.Orders.{IsOrder}
-use Rattle.cls_set.proofs.Heights.{long_classes}
-use Rattle.cls_set.proofs.Hierarchy.{class_read, same_some}
+use Rattle.cls_order.proofs.Heights.{long_classes}
+use Rattle.cls_order.proofs.Hierarchy.{class_read, same_some}
 use Rattle.cls_set.proofs.Orders.{order_all, order_more}
 use Rattle.cls_set.proofs.ordering.orders.Goals as goal
 
@@ -17,7 +17,7 @@ loop-entry-preserved c =
     rw c.in_ok-push.ensures.items (order_more (classes_of entries) n c.loop-entry.orders.items row c.loop-entry.invariant
     (λ k e.
     let same = same_some (sym (class_read entries c.entry-item.result n n refl c.loop-entry-test.true) ∙ e) in
-    subst (λ (x : Class). IsOrder x.file.methods row) same (subst (λ (x : Entry). IsOrder x.class.file.methods row) c.entry-item.is (subst (λ ms. IsOrder ms row) c.as_slice.ensures.items here))))
+    subst (λ (x : Class). IsOrder x.file.methods row) same (subst (λ (x : Entry). IsOrder x.class.file.methods row) c.entry-item.is (subst (λ (x : Class). IsOrder x.file.methods row) c.class.view_is (subst (λ ms. IsOrder ms row) c.as_slice.ensures.items here)))))
 
 pub returns : goal.returns
 returns c =

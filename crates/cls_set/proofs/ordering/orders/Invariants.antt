@@ -1,4 +1,4 @@
-use Rattle.cls_set.specs.Entries.{classes_of}
+use Rattle.cls_order.specs.Entries.{classes_of}
 use Rattle.cls_set.proofs.Orders.{HaveFirstOrders}
 use Rattle.cls_set.proofs.ordering.orders.Given as goal
 

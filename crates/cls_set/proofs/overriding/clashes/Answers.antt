@@ -1,5 +1,5 @@
 use Rattle.std.proofs.Common.{sym, ◌∙◌}
-use Rattle.cls_set.proofs.Hierarchy.{true_false}
+use Rattle.cls_order.proofs.Hierarchy.{true_false}
 use Rattle.cls_set.proofs.overriding.clashes.Goals as goal
 
 pub returns : goal.returns

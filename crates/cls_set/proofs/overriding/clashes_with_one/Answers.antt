@@ -5,7 +5,7 @@ use Rattle.std.specs.Ordering.{is_lt}
 use Rattle.std.proofs.lemmas.Fn.{always_returns_same}
 use Rattle.std.proofs.lemmas.Option.{slice_get-get_or}
 use Rattle.cls_set.specs.Orders.{key_at, key_cmp, key_of, IsOrder}
-use Rattle.cls_set.proofs.Hierarchy.{true_false}
+use Rattle.cls_order.proofs.Hierarchy.{true_false}
 use Rattle.cls_set.proofs.Orders.{partitioned, search_ends, search_on, search_starts, search_stops}
 use Rattle.cls_set.proofs.overriding.clashes_with_one.Goals as goal
 

@@ -1,6 +1,6 @@
 use Rattle.std.proofs.Common.{sym, ◌∙◌}
 use Rattle.cls_set.specs.Rules as rules
-use Rattle.cls_set.proofs.Hierarchy.{true_false}
+use Rattle.cls_order.proofs.Hierarchy.{true_false}
 use Rattle.cls_set.proofs.overriding.may_not_stand.Goals as goal
 
 pub returns-then-has-4 : goal.returns-then-has-4

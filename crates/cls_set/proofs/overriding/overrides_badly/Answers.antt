@@ -1,13 +1,13 @@
 use Rattle.cls_set.specs.Orders.{IsOrder}
-use Rattle.cls_set.proofs.Heights.{long_classes}
+use Rattle.cls_order.proofs.Heights.{long_classes}
 use Rattle.std.proofs.Common.{[], ◌≡◌, arith, ◌<◌, length, get_or, refl, sym, subst, ap, ◌∙◌}
-use Rattle.cls_set.specs.declared.class.Class.{Class}
-use Rattle.cls_set.specs.declared.entries.Entry.{Entry}
-use Rattle.cls_set.specs.Building.{origins_of}
+use Rattle.cls_order.specs.declared.class.Class.{Class}
+use Rattle.cls_order.specs.Building.{origins_of}
 use Rattle.cls_set.specs.Rules.{OverridesBadly}
 use Rattle.cls_set.proofs.Broken.{class_among}
-use Rattle.cls_set.proofs.Hierarchy.{class_read, same_read, same_some, true_false}
-use Rattle.cls_set.proofs.Overrides.{bad_from_clash, clash_from_bad, climb_ends, climb_falls, climb_found, climb_on, climb_starts, climb_within}
+use Rattle.cls_order.proofs.Hierarchy.{class_read, same_read, same_some, true_false}
+use Rattle.cls_set.specs.ClassRules.{ClashesIn}
+use Rattle.cls_set.proofs.Overrides.{still, IsClimbing, bad_from_clash, clash_from_bad, climb_ends, climb_falls, climb_found, climb_on, climb_starts, climb_within}
 use Rattle.cls_set.proofs.overriding.overrides_badly.Goals as goal
 
 pub up-init : goal.up-init
@@ -15,79 +15,82 @@ up-init c =
     let entries = c.args.entries.now in
     let k = c.args.index in
     let m = c.index-entries-index.result in
-    let n = c.index-entries-index-2.result in
-    climb_starts entries c.requires.arranged (get_or entries k m).class.file (get_or entries k m).class (class_among entries k m c.requires.in_set) refl (get_or entries k n).class.superclass
-    (ap (λ (x : Entry). x.class.superclass) (same_read entries k n m c.requires.in_set))
+    climb_starts entries c.requires.arranged c.class.inside.file (get_or entries k m).class (class_among entries k m c.requires.in_set) (ap (λ (x : Class). x.file) c.class.view_is) c.class.inside.superclass
+    (ap (λ (x : Class). x.superclass) c.class.view_is)
 
 pub bounds-entries-superclass : goal.bounds-entries-superclass
 bounds-entries-superclass c =
-    subst (λ n. n < length c.args.entries.now) (sym c.from-superclass.ensures)
-    (climb_within c.args.entries.now c.requires.arranged (get_or c.args.entries.now c.args.index c.index-entries-index.result).class.file c.in-Some.superclass c.up.up c.up.invariant c.in-Some.is)
+    subst (λ n. n < length c.args.entries.now) (sym c.get-superclass.ensures)
+    (climb_within c.args.entries.now c.requires.arranged c.class.inside.file c.in-Some.superclass c.up.up c.up.invariant c.in-Some.is)
 
 pub returns-then-clashes_in : goal.returns-then-clashes_in
 returns-then-clashes_in c = λ k is.
     let entries = c.args.entries.now in
     let a = c.requires.arranged in
-    let lower = (get_or entries c.args.index c.index-entries-index.result).class.file in
+    let lower = c.class.inside.file in
     let s = c.in-Some.superclass in
-    let upper = (get_or entries c.from-superclass.result c.index-entries-superclass.result).class in
+    let upper = (get_or entries c.get-superclass.result c.index-entries-superclass.result).class in
     let inside = climb_within entries a lower s c.up.up c.up.invariant c.in-Some.is in
-    let read = class_read entries c.index-entries-superclass.result c.from-superclass.result s.0 c.from-superclass.ensures inside in
-    let same = same_some (sym (class_read entries c.index-entries-index.result c.args.index c.args.index refl c.requires.in_set) ∙ is) in
-    let clash = climb_found entries a lower s upper c.up.up c.up.invariant c.in-Some.is read (c.clashes_in.ensures.0 c.if-clashes_in.true) in
-    (λ _. subst (λ (x : Class). OverridesBadly (origins_of entries) x.file) same (bad_from_clash (origins_of entries) lower clash), λ _. refl)
+    let read = class_read entries c.index-entries-superclass.result c.get-superclass.result s.0 c.get-superclass.ensures inside in
+    let same = ap (λ (x : Class). x.file) (c.class.view_is ∙ same_some (sym (class_read entries c.index-entries-index.result c.args.index c.args.index refl c.requires.in_set) ∙ is)) in
+    let found = subst (λ (x : Class). ClashesIn lower x.file) c.upper.view_is (c.clashes_in.ensures.0 c.if-clashes_in.true) in
+    let clash = climb_found entries a lower s upper c.up.up c.up.invariant c.in-Some.is read found in
+    (λ _. subst (OverridesBadly (origins_of entries)) same (bad_from_clash (origins_of entries) lower clash), λ _. refl)
 
 pub up-smaller : goal.up-smaller
 up-smaller c =
     let entries = c.args.entries.now in
     let a = c.requires.arranged in
-    let lower = (get_or entries c.args.index c.index-entries-index.result).class.file in
+    let lower = c.class.inside.file in
     let s = c.in-Some.superclass in
     let inside = climb_within entries a lower s c.up.up c.up.invariant c.in-Some.is in
-    climb_falls entries a lower s (get_or entries c.from-superclass.result c.index-entries-superclass.result).class c.up.up c.up.invariant c.in-Some.is
-    (class_read entries c.index-entries-superclass.result c.from-superclass.result s.0 c.from-superclass.ensures inside)
+    let upper = (get_or entries c.get-superclass.result c.index-entries-superclass.result).class in
+    subst (λ (x : Class). still entries x.superclass < still entries c.up.up) (sym c.upper.view_is)
+    (climb_falls entries a lower s upper c.up.up c.up.invariant c.in-Some.is (class_read entries c.index-entries-superclass.result c.get-superclass.result s.0 c.get-superclass.ensures inside))
 
 pub up-preserved : goal.up-preserved
 up-preserved c =
     let entries = c.args.entries.now in
     let a = c.requires.arranged in
-    let lower = (get_or entries c.args.index c.index-entries-index.result).class.file in
+    let lower = c.class.inside.file in
     let s = c.in-Some.superclass in
     let inside = climb_within entries a lower s c.up.up c.up.invariant c.in-Some.is in
-    climb_on entries a lower s (get_or entries c.from-superclass.result c.index-entries-superclass.result).class c.up.up c.up.invariant c.in-Some.is
-    (class_read entries c.index-entries-superclass.result c.from-superclass.result s.0 c.from-superclass.ensures inside) (λ clash. true_false (sym (c.clashes_in.ensures.1 clash) ∙ c.if-clashes_in.false))
+    let upper = (get_or entries c.get-superclass.result c.index-entries-superclass.result).class in
+    let none = subst (λ (x : Class). ClashesIn lower x.file → ⊥) c.upper.view_is (λ clash. true_false (sym (c.clashes_in.ensures.1 clash) ∙ c.if-clashes_in.false)) in
+    subst (λ (x : Class). IsClimbing entries lower x.superclass) (sym c.upper.view_is)
+    (climb_on entries a lower s upper c.up.up c.up.invariant c.in-Some.is (class_read entries c.index-entries-superclass.result c.get-superclass.result s.0 c.get-superclass.ensures inside) none)
 
 pub returns : goal.returns
 returns c = λ k is.
     let entries = c.args.entries.now in
-    let lower = (get_or entries c.args.index c.index-entries-index.result).class.file in
-    let same = same_some (sym (class_read entries c.index-entries-index.result c.args.index c.args.index refl c.requires.in_set) ∙ is) in (
+    let lower = c.class.inside.file in
+    let same = ap (λ (x : Class). x.file) (c.class.view_is ∙ same_some (sym (class_read entries c.index-entries-index.result c.args.index c.args.index refl c.requires.in_set) ∙ is)) in (
       λ e. absurd (true_false (sym e)),
       λ bad.
           absurd (climb_ends entries c.requires.arranged lower c.up.up c.up.invariant c.in_default.is
-          (clash_from_bad (origins_of entries) lower (subst (λ (x : Class). OverridesBadly (origins_of entries) x.file) (sym same) bad))),
+          (clash_from_bad (origins_of entries) lower (subst (OverridesBadly (origins_of entries)) (sym same) bad))),
     )
 
 pub bounds-orders-superclass : goal.bounds-orders-superclass
 bounds-orders-superclass c =
     let entries = c.args.entries.now in
-    let inside = climb_within entries c.requires.arranged (get_or entries c.args.index c.index-entries-index.result).class.file c.in-Some.superclass c.up.up c.up.invariant c.in-Some.is in
+    let inside = climb_within entries c.requires.arranged c.class.inside.file c.in-Some.superclass c.up.up c.up.invariant c.in-Some.is in
     let long = long_classes entries in
     let one = c.requires.orders.one_each in
-    let same = c.from-superclass.ensures in
+    let same = c.get-superclass.ensures in
     omega (arith, inside, long, one, same)
 
 pub clashes_in-requires : goal.clashes_in-requires
 clashes_in-requires c =
     let entries = c.args.entries.now in
     let orders = c.args.orders.now in
-    let r = c.from-superclass.result in
-    let same = c.from-superclass.ensures in
-    let inside = climb_within entries c.requires.arranged (get_or entries c.args.index c.index-entries-index.result).class.file c.in-Some.superclass c.up.up c.up.invariant c.in-Some.is in
+    let r = c.get-superclass.result in
+    let same = c.get-superclass.ensures in
+    let inside = climb_within entries c.requires.arranged c.class.inside.file c.in-Some.superclass c.up.up c.up.invariant c.in-Some.is in
     let long = long_classes entries in
     let one = c.requires.orders.one_each in
     let here : r < length entries = omega (arith, inside, same) in
     let there : r < length orders = omega (arith, here, long, one) in
     let k = (get_or entries r c.index-entries-superclass.result).class in
     let read : get_or orders r [] ≡ c.as_slice.result.now = same_read orders r [] c.index-orders-superclass.result there ∙ (sym c.index-orders-superclass.is ∙ sym c.as_slice.ensures) in
-    subst (IsOrder k.file.methods) read (c.requires.orders.order r k (class_read entries c.index-entries-superclass.result r r refl here))
+    subst (λ (x : Class). IsOrder x.file.methods c.as_slice.result.now) (sym c.upper.view_is) (subst (IsOrder k.file.methods) read (c.requires.orders.order r k (class_read entries c.index-entries-superclass.result r r refl here)))

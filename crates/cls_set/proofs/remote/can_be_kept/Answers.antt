@@ -1,8 +1,8 @@
 use Rattle.std.proofs.Common.{inl, inr, sym, subst, ◌∙◌}
-use Rattle.cls_set.specs.Building.{origins_of}
+use Rattle.cls_order.specs.Building.{origins_of}
 use Rattle.cls_set.specs.Rules as rules
 use Rattle.cls_set.specs.Rules.{NamesRemoteInterface}
-use Rattle.cls_set.proofs.Absent.{no_bool, no_int, same_class_name}
+use Rattle.cls_order.proofs.Absent.{no_bool, no_int, same_class_name}
 use Rattle.cls_set.proofs.Unfit.{kept_kind}
 use Rattle.cls_set.proofs.remote.can_be_kept.Goals as goal
 

@@ -1,5 +1,5 @@
 use Rattle.std.proofs.Common.{inl, inr}
-use Rattle.cls_set.specs.Building.{origins_of}
+use Rattle.cls_order.specs.Building.{origins_of}
 use Rattle.cls_set.specs.Rules as rules
 use Rattle.cls_set.proofs.Unfit.{crossing_kind}
 use Rattle.cls_set.proofs.remote.can_cross.Goals as goal

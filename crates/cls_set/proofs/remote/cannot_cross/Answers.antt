@@ -1,4 +1,4 @@
-use Rattle.cls_set.specs.Building.{origins_of}
+use Rattle.cls_order.specs.Building.{origins_of}
 use Rattle.cls_set.specs.Rules.{CanCross}
 use Rattle.cls_set.proofs.Unfit.{negated}
 use Rattle.cls_set.proofs.remote.cannot_cross.Goals as goal

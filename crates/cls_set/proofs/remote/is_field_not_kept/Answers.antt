@@ -1,9 +1,9 @@
 use Rattle.std.proofs.Common.{subst, sym, ◌∙◌}
 use Rattle.std.specs.Prelude.{◌↔◌, IsTrue}
 use Rattle.cf_text.specs.declared.types.FieldType.{FieldType}
-use Rattle.cls_set.specs.Building.{origins_of}
+use Rattle.cls_order.specs.Building.{origins_of}
 use Rattle.cls_set.specs.Rules.{CanBeKept}
-use Rattle.cls_set.proofs.Hierarchy.{true_false}
+use Rattle.cls_order.proofs.Hierarchy.{true_false}
 use Rattle.cls_set.proofs.Unfit.{negated}
 use Rattle.cls_set.proofs.remote.is_field_not_kept.Goals as goal
 

@@ -1,16 +1,16 @@
 use Rattle.std.proofs.Common.{ap, inl, inr, refl, sym, subst, ◌∙◌}
 use Rattle.std.specs.List.{Any}
 use Rattle.cf_text.specs.declared.types.MethodDescriptor.{MethodDescriptor}
-use Rattle.cls_set.specs.Building.{origins_of}
+use Rattle.cls_order.specs.Building.{origins_of}
 use Rattle.cls_set.specs.ClassRules.{CannotCross}
 use Rattle.cls_set.specs.Rules.{CanCross}
-use Rattle.cls_set.proofs.Hierarchy.{none_some, same_some, true_false}
+use Rattle.cls_order.proofs.Hierarchy.{none_some, same_some, true_false}
 use Rattle.cls_set.proofs.remote.is_method_not_crossing.Goals as goal
-use Rattle.cls_set.proofs.remote.is_method_not_crossing.Goals.{in_default-via-in-Some+else-cannot_cross, in_default-via-in_default}
+use Rattle.cls_set.proofs.remote.is_method_not_crossing.Goals.{in_default-via-in-Some+else-does_not_cross, in_default-via-in_default}
 
 pub returns-in-Some : goal.returns-in-Some
 returns-in-Some c = (
-  λ _. record { type = c.in-Some.kind; used = inr (ap (λ (types : MethodDescriptor). types.result) (sym c.deref.ensures) ∙ c.in-Some.is); not_crossing = (c.cannot_cross.ensures.0 c.if-cannot_cross.true).not_crossing },
+  λ _. record { type = c.in-Some.kind; used = inr (ap (λ (types : MethodDescriptor). types.result) (sym c.deref.ensures) ∙ c.in-Some.is); not_crossing = (c.does_not_cross.ensures.0 c.if-does_not_cross.true).not_crossing },
   λ _. refl,
 )
 
@@ -27,8 +27,8 @@ returns-in_default c =
             | inr used ↦
                 let is = ap (λ (types : MethodDescriptor). types.result) c.deref.ensures ∙ used in
                 elim c.in_default.branch [
-                  | in_default-via-in-Some+else-cannot_cross w ↦
-                      absurd (true_false (sym (w.cannot_cross.ensures.1 (record { not_crossing = subst (λ t. CanCross os t → ⊥) (same_some (sym is ∙ w.in-Some.is)) x.not_crossing })) ∙ w.if-cannot_cross.false))
+                  | in_default-via-in-Some+else-does_not_cross w ↦
+                      absurd (true_false (sym (w.does_not_cross.ensures.1 (record { not_crossing = subst (λ t. CanCross os t → ⊥) (same_some (sym is ∙ w.in-Some.is)) x.not_crossing })) ∙ w.if-does_not_cross.false))
                   | in_default-via-in_default w ↦ absurd (none_some (sym w.in_default.is ∙ is))
                 ]
           ],

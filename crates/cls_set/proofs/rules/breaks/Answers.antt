@@ -1,17 +1,14 @@
-use Rattle.std.proofs.Common.{◌<◌, [], length, ◌∙◌, ap, arith, get_or, not, refl, sym, subst}
+use Rattle.std.proofs.Common.{◌∙◌, ap, get_or, not, refl, sym, subst}
 use Rattle.std.specs.Prelude.{◌↔◌, IsTrue}
-use Rattle.cls_set.specs.declared.class.Class.{Class}
-use Rattle.cls_set.specs.Building.{origins_of}
-use Rattle.cls_set.specs.ClassRules.{set_rule, AreUnfit}
-use Rattle.cls_set.specs.Entries.{classes_of}
-use Rattle.cls_set.specs.declared.remote.MemberKind.TheVariants.{Fields, Methods}
-use Rattle.cls_set.specs.declared.fault.SetRule.TheVariants.{BadSuper, FinalSuper, RemoteField, RemoteMethod}
+use Rattle.cls_order.specs.declared.class.Class.{Class}
+use Rattle.cls_order.specs.Building.{origins_of}
+use Rattle.cls_set.specs.ClassRules.{set_rule}
+use Rattle.cls_order.specs.declared.fault.SetRule.TheVariants.{BadSuper, FinalSuper, RemoteField, RemoteMethod}
 use Rattle.cls_set.specs.Rules.{Breaks}
-use Rattle.cls_set.specs.Classes.{IsInterface}
+use Rattle.cls_order.specs.Classes.{IsInterface}
 use Rattle.cls_set.proofs.Broken.{class_among, final_way, not_remote, override_way, remote_way, way}
-use Rattle.cls_set.proofs.Heights.{long_classes}
-use Rattle.cls_set.proofs.Unfit.{field_way, method_way, off}
-use Rattle.cls_set.proofs.Hierarchy.{class_read, same_some, true_false}
+use Rattle.cls_set.proofs.Unfit.{both_tell, field_way, method_way, off, tells_more}
+use Rattle.cls_order.proofs.Hierarchy.{class_read, same_some, true_false}
 use Rattle.cls_set.proofs.rules.breaks.Goals as goal
 
 pub has_bad_super-requires-clause-among : goal.has_bad_super-requires-clause-among
@@ -40,8 +37,8 @@ returns-then-not-is_interface-2 c = λ k is.
     let os = origins_of c.args.entries.now in
     let same = same_some (sym (class_read c.args.entries.now c.index-entries-index.result c.args.index c.args.index refl c.requires.in_set) ∙ is) in
     let none = subst (λ (x : Class). ¬ IsInterface x) same (λ h. true_false (sym (c.is_interface-in-NotYet.ensures.1 h) ∙ c.if-not-is_interface-2.true)) in
-    subst (λ r. IsTrue c.is_below_remote.result ↔ Breaks os k.file (set_rule r)) (sym c.in-NotYet.is)
-    (remote_way os k.file c.is_below_remote.result none (c.is_below_remote.ensures k is))
+    subst (λ r. IsTrue c.is_remote.result ↔ Breaks os k.file (set_rule r)) (sym c.in-NotYet.is)
+    (remote_way os k.file c.is_remote.result none (tells_more c.is_remote.result c.is_remote.ensures (c.requires.facts.remote.below c.args.index k is)))
 
 pub returns-else-not-is_interface-2 : goal.returns-else-not-is_interface-2
 returns-else-not-is_interface-2 c = λ k is.
@@ -62,13 +59,12 @@ returns-then-not-is_interface c = λ k is.
     let entries = c.args.entries.now in
     let os = origins_of entries in
     let n = c.args.index in
+    let facts = c.requires.facts in
     let same = same_some (sym (class_read entries c.index-entries-index.result n n refl c.requires.in_set) ∙ is) in
     let none = subst (λ (x : Class). ¬ IsInterface x) same (λ h. true_false (sym (c.is_interface.ensures.1 h) ∙ c.if-not-is_interface.true)) in
-    let long = long_classes entries in
-    let inside : n < length (classes_of entries) = let h = c.requires.in_set in omega (arith, h, long) in
-    let unfit = subst (AreUnfit Fields entries) (sym c.as_slice.ensures.value) c.requires.unfit.fields in
-    subst (λ r. IsTrue c.is_remotely_unfit.result ↔ Breaks os k.file (set_rule r)) (sym c.in-RemoteField.is)
-    (field_way entries c.requires.arranged n k is (get_or c.args.tables.now n []) (c.requires.tables.table n inside) c.as_slice.result.now c.is_remotely_unfit.result unfit none (c.is_remotely_unfit.ensures k is))
+    let result = c.has_unfit_field.result in
+    subst (λ r. IsTrue result ↔ Breaks os k.file (set_rule r)) (sym c.in-RemoteField.is)
+    (field_way entries c.requires.arranged n k is c.args.facts.now.fields.items result facts.fields none (both_tell result c.has_unfit_field.ensures (facts.remote.below n k is)))
 
 pub returns-else-not-is_interface : goal.returns-else-not-is_interface
 returns-else-not-is_interface c = λ k is.
@@ -83,15 +79,12 @@ returns-then-is_interface c = λ k is.
     let entries = c.args.entries.now in
     let os = origins_of entries in
     let n = c.args.index in
+    let facts = c.requires.facts in
     let same = same_some (sym (class_read entries c.index-entries-index.result n n refl c.requires.in_set) ∙ is) in
     let interface = subst IsInterface same (c.is_interface-in-RemoteMethod.ensures.0 c.if-is_interface.true) in
-    let long = long_classes entries in
-    let inside : n < length (classes_of entries) = let h = c.requires.in_set in omega (arith, h, long) in
-    let list = c.as_slice-then-is_interface.result.now in
-    let unfit = subst (AreUnfit Methods entries) (sym c.as_slice-then-is_interface.ensures.value) c.requires.unfit.methods in
-    let result = c.is_remotely_unfit-then-is_interface.result in
+    let result = c.has_unfit_method.result in
     subst (λ r. IsTrue result ↔ Breaks os k.file (set_rule r)) (sym c.in-RemoteMethod.is)
-    (method_way entries c.requires.arranged n k is (get_or c.args.tables.now n []) (c.requires.tables.table n inside) list result unfit interface (c.is_remotely_unfit-then-is_interface.ensures k is))
+    (method_way entries c.requires.arranged n k is c.args.facts.now.methods.items result facts.methods interface (both_tell result c.has_unfit_method.ensures (facts.remote.below n k is)))
 
 pub returns-else-is_interface : goal.returns-else-is_interface
 returns-else-is_interface c = λ k is.

@@ -1,9 +1,9 @@
 use Rattle.std.proofs.Common.{◌∙◌, inl, inr, refl, sym}
-use Rattle.cls_set.specs.declared.fault.SetRule.TheVariants.{BadSuper}
-use Rattle.cls_set.specs.Building.{origins_of}
+use Rattle.cls_order.specs.declared.fault.SetRule.TheVariants.{BadSuper}
+use Rattle.cls_order.specs.Building.{origins_of}
 use Rattle.cls_set.specs.Rules as rules
 use Rattle.cls_set.proofs.Broken.{rooted_badly, way}
-use Rattle.cls_set.proofs.Hierarchy.{true_false}
+use Rattle.cls_order.proofs.Hierarchy.{true_false}
 use Rattle.cls_set.proofs.rules.has_bad_super.Goals as goal
 
 pub returns-then-is_badly_rooted : goal.returns-then-is_badly_rooted

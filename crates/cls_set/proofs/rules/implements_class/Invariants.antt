@@ -1,8 +1,8 @@
 use Rattle.std.proofs.Common.{◌≡◌, Some, take}
 use Rattle.std.specs.Prelude.{All, slice_get}
-use Rattle.cls_set.specs.declared.class.Class.{Class}
-use Rattle.cls_set.specs.Classes.{IsInterface}
-use Rattle.cls_set.specs.Entries.{classes_of}
+use Rattle.cls_order.specs.declared.class.Class.{Class}
+use Rattle.cls_order.specs.Classes.{IsInterface}
+use Rattle.cls_order.specs.Entries.{classes_of}
 use Rattle.cls_set.proofs.rules.implements_class.Given as goal
 
 -- the superinterfaces so far are interfaces

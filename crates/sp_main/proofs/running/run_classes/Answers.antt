@@ -1,7 +1,9 @@
 use Rattle.std.proofs.Common.{◌∙◌, sym, subst}
+use Rattle.sp_main.specs.Only.{IsOutOfMemory}
 use Rattle.sp_main.specs.Runs.{IsProgram, IsRefused, no_memory, no_program, absent}
 use Rattle.sp_main.specs.declared.refusal.Refusal.TheVariants.{Memory}
 use Rattle.sp_main.proofs.Files.{known_error}
+use Rattle.sp_main.proofs.Only.{not_absent, only_error, only_run}
 use Rattle.sp_main.proofs.Refused.{run_refused}
 use Rattle.sp_main.proofs.running.run_classes.Goals as goal
 
@@ -23,3 +25,21 @@ pub returns-clause-refused : goal.returns-clause-refused
 returns-clause-refused c =
     run_refused c.args.files.now c.args.class.now c.args.method.now c.args.arguments.items c.args.limits c.in_ok-program.program c.in-Some.method
     (subst (IsProgram c.args.files.now) (sym c.in_ok-program.ensures) (c.in_ok-accepted.ensures).program) (sym c.find_method.ensures ∙ c.in-Some.is) c.run_method.result (c.run_method.ensures).refused
+
+pub returns-in_err-accepted-clause-only : goal.returns-in_err-accepted-clause-only
+returns-in_err-accepted-clause-only c = λ outcome only.
+    only_error c.from_residual.result c.in_err-accepted.field-0.0 outcome IsOutOfMemory c.from_residual.ensures.1 ((c.in_err-accepted.ensures).only only.program)
+
+pub returns-in_err-program-clause-only : goal.returns-in_err-program-clause-only
+returns-in_err-program-clause-only c = λ outcome only. only_error c.from_residual-in_err-program.result Memory outcome IsOutOfMemory c.from_residual-in_err-program.ensures.1 tt
+
+pub returns-in_default-clause-only : goal.returns-in_default-clause-only
+returns-in_default-clause-only c = λ outcome only.
+    absurd (not_absent c.args.files.now c.args.class.now c.args.method.now c.args.arguments.items c.args.limits c.in_ok-program.program outcome
+    (subst (IsProgram c.args.files.now) (sym c.in_ok-program.ensures) (c.in_ok-accepted.ensures).program) (sym c.find_method.ensures ∙ c.in_default.is) only)
+
+pub returns-clause-only : goal.returns-clause-only
+returns-clause-only c = λ outcome only.
+    (c.run_method.ensures).only outcome
+    (only_run c.args.files.now c.args.class.now c.args.method.now c.args.arguments.items c.args.limits c.in_ok-program.program c.in-Some.method outcome
+    (subst (IsProgram c.args.files.now) (sym c.in_ok-program.ensures) (c.in_ok-accepted.ensures).program) (sym c.find_method.ensures ∙ c.in-Some.is) only)

@@ -1,12 +1,15 @@
 use Rattle.std.proofs.Common.{◌≡◌, ◌∙◌, ◌<◌, ℕ, List, Ok, Option, ap, arith, rules, subst}
-use Rattle.std.specs.Prelude.{IfSome}
+use Rattle.std.specs.Prelude.{Err, IfSome}
 use Rattle.cls_link.specs.Links.{Links}
 use Rattle.vm_run.specs.Run.{State, run}
 use Rattle.vm_run.specs.Start.{started}
 use Rattle.vm_run.specs.Task.{IsOutcome, Tasked}
 use Rattle.vm_run.specs.declared.outcome.Outcome.{Outcome}
 use Rattle.sp_main.proofs.Ended.{ended_by_one_more, none_told}
+use Rattle.sp_main.proofs.Only.{one_outcome, only_error, start_out}
 use Rattle.sp_main.proofs.Whole.{whole_run}
+use Rattle.sp_main.specs.Only.{IsOutOfMemory}
+use Rattle.sp_main.specs.declared.refusal.Refusal.TheVariants.{Memory, Start}
 use Rattle.sp_main.proofs.running.run_method.Goals as goal
 
 pub unreachable-requires : goal.unreachable-requires
@@ -28,3 +31,21 @@ returns-clause-run c =
     let over = subst (λ (p : Links). IsOutcome p.classes (run program 18446744073709551616 c.in_ok-task.task.state) c.in-Some.outcome) (c.in_ok-task.ensures).program first in
     whole_run program c.args.method c.args.arguments.items c.args.limits c.in_ok-task.task 18446744073709551616 c.in-Some.outcome c.in_ok-named-in-Some.field-0
     start (c.in_ok-task.ensures).never_stuck (c.in_ok-task.ensures).within (c.in_ok-task.ensures).fuel over (c.in_ok-named-in-Some.ensures)
+
+pub returns-in_err-task-clause-only : goal.returns-in_err-task-clause-only
+returns-in_err-task-clause-only c = λ outcome runs.
+    let program : Links = c.args.program.now in
+    only_error c.from_residual.result (Start c.in_err-task.field-0.0) outcome IsOutOfMemory c.from_residual.ensures.1
+    (start_out program c.args.method c.args.arguments.items c.args.limits outcome c.in_err-task.field-0.0
+    (λ known. subst (λ (own : List ℕ). started program own c.args.method c.args.arguments.items c.args.limits ≡ Err c.in_err-task.field-0.0) c.nil.ensures ((c.in_err-task.ensures).refused known)) runs)
+
+pub returns-in_err-told-clause-only : goal.returns-in_err-told-clause-only
+returns-in_err-told-clause-only c = λ outcome runs. only_error c.from_residual-in_err-told.result Memory outcome IsOutOfMemory c.from_residual-in_err-told.ensures.1 tt
+
+pub returns-in_err-named-in-Some-clause-only : goal.returns-in_err-named-in-Some-clause-only
+returns-in_err-named-in-Some-clause-only c = λ outcome runs.
+    only_error c.from_residual-in_err-named-in-Some.result Memory outcome IsOutOfMemory c.from_residual-in_err-named-in-Some.ensures.1 tt
+
+pub returns-clause-only : goal.returns-clause-only
+returns-clause-only c = λ outcome runs.
+    one_outcome c.args.program.now c.args.method c.args.arguments.items c.args.limits c.in_ok-named-in-Some.field-0 outcome (returns-clause-run c) runs

@@ -1,44 +1,143 @@
-use Rattle.std.proofs.Common.{sym, subst}
+use Rattle.std.proofs.Common.{◌≡◌, ◌≤◌, ◌-◌, List, length, sym, subst, arith}
+use Rattle.std.specs.Prelude.{option_map, slice_get}
 use Rattle.std.proofs.lemmas.Result.{err_from_is_err_and}
-use Rattle.cls_set.specs.Building.{origins_of}
-use Rattle.cls_set.specs.ClassRules.{IsFirstRuleFault, KeepAll}
-use Rattle.cls_set.specs.Entries.{classes_of, AreArranged, HaveTables}
-use Rattle.cls_set.proofs.Arranged.{are_members, has_classes, make_a_set, rule_fault}
+use Rattle.cf_reader.specs.declared.class_file.ClassFile.{ClassFile}
+use Rattle.cls_order.specs.declared.fault.SetRule.TheVariants.{NotYet, TooMany}
+use Rattle.cls_order.specs.Building.{origins_of}
+use Rattle.cls_set.specs.ClassRules.{AreFacts, IsFirstRuleFault, IsRuleFault, KeepBelow}
+use Rattle.cls_order.specs.Entries.{classes_of, AreArranged, AreEntries, HaveTables}
+use Rattle.cls_order.specs.FaultNames.{set_rule_number}
+use Rattle.cls_set.specs.Faults.{Keeps}
+use Rattle.cls_order.specs.Sets.{HasClasses, IsClassSet}
+use Rattle.cls_set.proofs.Arranged.{are_entries, few_held, has_classes, make_a_set, many_fault, remote_fault, rule_fault}
+use Rattle.cls_set.proofs.Numbering.{within_few}
+use Rattle.cls_order.proofs.Supertypes.{are_within}
 use Rattle.cls_set.proofs.Turns.{only_memory}
 use Rattle.cls_set.proofs.class_set.ClassSet.build.Goals as goal
 
-pub returns-in_err-arranged-clause-only : goal.returns-in_err-arranged-clause-only
-returns-in_err-arranged-clause-only c = λ make.
-    let p = err_from_is_err_and c.from_residual.result c.from_residual.ensures.1 in
-    rw (p.1, p.2) (only_memory c.args.files.items make c.in_err-arranged.field-0.0 c.in_err-arranged.ensures.fault)
+pub returns-in_err-entries-clause-only : goal.returns-in_err-entries-clause-only
+returns-in_err-entries-clause-only c = λ make.
+    let p = err_from_is_err_and c.from_residual-in_err-entries.result c.from_residual-in_err-entries.ensures.1 in
+    rw (p.1, p.2) (only_memory c.args.files.items make c.in_err-entries.field-0.0 (c.in_err-entries.ensures.fault))
+
+pub find_facts-requires : goal.find_facts-requires
+find_facts-requires c = subst AreArranged (sym c.as_slice-2.ensures.value) c.in_ok-entries.ensures.classes.known
+
+pub refuse_broken-requires-clause-arranged : goal.refuse_broken-requires-clause-arranged
+refuse_broken-requires-clause-arranged c = subst AreArranged (sym c.as_slice-3.ensures.value) c.in_ok-entries.ensures.classes.known
+
+pub refuse_broken-requires-clause-facts : goal.refuse_broken-requires-clause-facts
+refuse_broken-requires-clause-facts c = subst (λ ms. AreFacts ms c.in_ok-facts.facts) (sym c.as_slice-3.ensures.value) (subst (λ ms. AreFacts ms c.in_ok-facts.facts) c.as_slice-2.ensures.value c.in_ok-facts.ensures)
 
 pub returns-in_err-refuse_broken-clause-only : goal.returns-in_err-refuse_broken-clause-only
 returns-in_err-refuse_broken-clause-only c = λ make.
     let p = err_from_is_err_and c.from_residual-in_err-refuse_broken.result c.from_residual-in_err-refuse_broken.ensures.1 in
-    let fault = rule_fault c.args.files.items c.in_ok-arranged.arranged c.in_ok-arranged.ensures.classes c.in_err-refuse_broken.field-0.0 (subst (λ ms. IsFirstRuleFault (origins_of ms) c.in_err-refuse_broken.field-0.0) c.as_slice.ensures.value c.in_err-refuse_broken.ensures.fault) in
-    rw (p.1, p.2) (only_memory c.args.files.items make c.in_err-refuse_broken.field-0.0 fault)
+    let files = c.args.files.items in
+    let entries = c.in_ok-entries.entries.items in
+    let of = c.in_ok-entries.ensures.classes in
+    rw (p.1, p.2) (only_memory c.args.files.items make c.in_err-refuse_broken.field-0.0 (rule_fault files entries of c.in_err-refuse_broken.field-0.0 (subst (λ ms. IsFirstRuleFault (origins_of ms) c.in_err-refuse_broken.field-0.0) c.as_slice-3.ensures.value c.in_err-refuse_broken.ensures.fault)))
 
 pub returns-in_err-refuse_broken-clause-fault : goal.returns-in_err-refuse_broken-clause-fault
 returns-in_err-refuse_broken-clause-fault c =
     let p = err_from_is_err_and c.from_residual-in_err-refuse_broken.result c.from_residual-in_err-refuse_broken.ensures.1 in
-    rw (p.1, p.2) (rule_fault c.args.files.items c.in_ok-arranged.arranged c.in_ok-arranged.ensures.classes c.in_err-refuse_broken.field-0.0 (subst (λ ms. IsFirstRuleFault (origins_of ms) c.in_err-refuse_broken.field-0.0) c.as_slice.ensures.value c.in_err-refuse_broken.ensures.fault))
+    let files = c.args.files.items in
+    let entries = c.in_ok-entries.entries.items in
+    let of = c.in_ok-entries.ensures.classes in
+    rw (p.1, p.2) (rule_fault files entries of c.in_err-refuse_broken.field-0.0 (subst (λ ms. IsFirstRuleFault (origins_of ms) c.in_err-refuse_broken.field-0.0) c.as_slice-3.ensures.value c.in_err-refuse_broken.ensures.fault))
+
+pub returns-in_err-refuse_many-clause-only : goal.returns-in_err-refuse_many-clause-only
+returns-in_err-refuse_many-clause-only c = λ make.
+    let p = err_from_is_err_and c.from_residual-in_err-refuse_many.result c.from_residual-in_err-refuse_many.ensures.1 in
+    let files = c.args.files.items in
+    let entries = c.in_ok-entries.entries.items in
+    let of = c.in_ok-entries.ensures.classes in
+    let before = subst (λ ms. KeepBelow (origins_of ms) (set_rule_number TooMany)) c.as_slice-3.ensures.value c.in_ok-refuse_broken.ensures.ok in
+    let last = subst (λ (fs : List ClassFile). c.in_ok-last.last ≡ option_map (λ (file : ClassFile). file.name) (slice_get fs (length fs - 1))) c.as_slice.ensures.value c.in_ok-last.ensures in
+    let fault = c.in_err-refuse_many.ensures.fault in
+    rw (p.1, p.2) (only_memory c.args.files.items make c.in_err-refuse_many.field-0.0 (many_fault files entries of before c.in_ok-last.last last c.in_err-refuse_many.field-0.0 (let over = fault.0 in omega (arith, over)) fault.1 fault.2))
+
+pub returns-in_err-refuse_many-clause-fault : goal.returns-in_err-refuse_many-clause-fault
+returns-in_err-refuse_many-clause-fault c =
+    let p = err_from_is_err_and c.from_residual-in_err-refuse_many.result c.from_residual-in_err-refuse_many.ensures.1 in
+    let files = c.args.files.items in
+    let entries = c.in_ok-entries.entries.items in
+    let of = c.in_ok-entries.ensures.classes in
+    let before = subst (λ ms. KeepBelow (origins_of ms) (set_rule_number TooMany)) c.as_slice-3.ensures.value c.in_ok-refuse_broken.ensures.ok in
+    let last = subst (λ (fs : List ClassFile). c.in_ok-last.last ≡ option_map (λ (file : ClassFile). file.name) (slice_get fs (length fs - 1))) c.as_slice.ensures.value c.in_ok-last.ensures in
+    let fault = c.in_err-refuse_many.ensures.fault in
+    rw (p.1, p.2) (many_fault files entries of before c.in_ok-last.last last c.in_err-refuse_many.field-0.0 (let over = fault.0 in omega (arith, over)) fault.1 fault.2)
+
+pub refuse-requires-clause-arranged : goal.refuse-requires-clause-arranged
+refuse-requires-clause-arranged c = subst AreArranged (sym c.as_slice-4.ensures.value) c.in_ok-entries.ensures.classes.known
+
+pub refuse-requires-clause-facts : goal.refuse-requires-clause-facts
+refuse-requires-clause-facts c = subst (λ ms. AreFacts ms c.in_ok-facts.facts) (sym c.as_slice-4.ensures.value) (subst (λ ms. AreFacts ms c.in_ok-facts.facts) c.as_slice-2.ensures.value c.in_ok-facts.ensures)
+
+pub returns-in_err-refuse-clause-only : goal.returns-in_err-refuse-clause-only
+returns-in_err-refuse-clause-only c = λ make.
+    let p = err_from_is_err_and c.from_residual-in_err-refuse.result c.from_residual-in_err-refuse.ensures.1 in
+    let files = c.args.files.items in
+    let entries = c.in_ok-entries.entries.items in
+    let of = c.in_ok-entries.ensures.classes in
+    let before = subst (λ ms. KeepBelow (origins_of ms) (set_rule_number TooMany)) c.as_slice-3.ensures.value c.in_ok-refuse_broken.ensures.ok in
+    let last = subst (λ (fs : List ClassFile). c.in_ok-last.last ≡ option_map (λ (file : ClassFile). file.name) (slice_get fs (length fs - 1))) c.as_slice.ensures.value c.in_ok-last.ensures in
+    let few : length entries ≤ 4096 = few_held files entries of c.in_ok-last.last last (λ some. let low = c.in_ok-refuse_many.ensures.ok some in omega (arith, low)) in
+    rw (p.1, p.2) (only_memory c.args.files.items make c.in_err-refuse.field-0.0 (remote_fault files entries of before few c.in_err-refuse.field-0.0 (subst (λ ms. IsRuleFault (origins_of ms) NotYet c.in_err-refuse.field-0.0) c.as_slice-4.ensures.value c.in_err-refuse.ensures.fault)))
+
+pub returns-in_err-refuse-clause-fault : goal.returns-in_err-refuse-clause-fault
+returns-in_err-refuse-clause-fault c =
+    let p = err_from_is_err_and c.from_residual-in_err-refuse.result c.from_residual-in_err-refuse.ensures.1 in
+    let files = c.args.files.items in
+    let entries = c.in_ok-entries.entries.items in
+    let of = c.in_ok-entries.ensures.classes in
+    let before = subst (λ ms. KeepBelow (origins_of ms) (set_rule_number TooMany)) c.as_slice-3.ensures.value c.in_ok-refuse_broken.ensures.ok in
+    let last = subst (λ (fs : List ClassFile). c.in_ok-last.last ≡ option_map (λ (file : ClassFile). file.name) (slice_get fs (length fs - 1))) c.as_slice.ensures.value c.in_ok-last.ensures in
+    let few : length entries ≤ 4096 = few_held files entries of c.in_ok-last.last last (λ some. let low = c.in_ok-refuse_many.ensures.ok some in omega (arith, low)) in
+    rw (p.1, p.2) (remote_fault files entries of before few c.in_err-refuse.field-0.0 (subst (λ ms. IsRuleFault (origins_of ms) NotYet c.in_err-refuse.field-0.0) c.as_slice-4.ensures.value c.in_err-refuse.ensures.fault))
+
+pub tables-requires : goal.tables-requires
+tables-requires c = subst AreArranged (sym c.as_slice-5.ensures.value) c.in_ok-entries.ensures.classes.known
+
+pub number_classes-requires : goal.number_classes-requires
+number_classes-requires c =
+    let files = c.args.files.items in
+    let entries = c.in_ok-entries.entries.items in
+    let of = c.in_ok-entries.ensures.classes in
+    let last = subst (λ (fs : List ClassFile). c.in_ok-last.last ≡ option_map (λ (file : ClassFile). file.name) (slice_get fs (length fs - 1))) c.as_slice.ensures.value c.in_ok-last.ensures in
+    let few : length entries ≤ 4096 = few_held files entries of c.in_ok-last.last last (λ some. let low = c.in_ok-refuse_many.ensures.ok some in omega (arith, low)) in
+    within_few entries few (are_within entries of.known.resolved)
 
 pub invariant_of-result : goal.invariant_of-result
-invariant_of-result c = are_members c.args.files.items c.in_ok-arranged.arranged c.in_ok-arranged.ensures.classes c.requires (subst (λ ms. KeepAll (origins_of ms)) c.as_slice.ensures.value c.in_ok-refuse_broken.ensures.ok)
+invariant_of-result c =
+    let files = c.args.files.items in
+    let entries = c.in_ok-entries.entries.items in
+    let of = c.in_ok-entries.ensures.classes in
+    let before = subst (λ ms. KeepBelow (origins_of ms) (set_rule_number TooMany)) c.as_slice-3.ensures.value c.in_ok-refuse_broken.ensures.ok in
+    let last = subst (λ (fs : List ClassFile). c.in_ok-last.last ≡ option_map (λ (file : ClassFile). file.name) (slice_get fs (length fs - 1))) c.as_slice.ensures.value c.in_ok-last.ensures in
+    let few : length entries ≤ 4096 = few_held files entries of c.in_ok-last.last last (λ some. let low = c.in_ok-refuse_many.ensures.ok some in omega (arith, low)) in
+    let told = subst (λ ms. HaveTables (classes_of ms) c.in_ok-tables.tables.items) c.as_slice-5.ensures.value c.in_ok-tables.ensures in
+    subst (λ ms. AreEntries ms c.in_ok-tables.tables.items) (sym c.in_ok-members.ensures) (are_entries files entries of c.requires before few c.in_ok-tables.tables.items told)
 
 pub returns-clause-set : goal.returns-clause-set
-returns-clause-set c = (are_members c.args.files.items c.in_ok-arranged.arranged c.in_ok-arranged.ensures.classes c.requires (subst (λ ms. KeepAll (origins_of ms)) c.as_slice.ensures.value c.in_ok-refuse_broken.ensures.ok)).set
+returns-clause-set c =
+    let files = c.args.files.items in
+    let entries = c.in_ok-entries.entries.items in
+    let of = c.in_ok-entries.ensures.classes in
+    let before = subst (λ ms. KeepBelow (origins_of ms) (set_rule_number TooMany)) c.as_slice-3.ensures.value c.in_ok-refuse_broken.ensures.ok in
+    let last = subst (λ (fs : List ClassFile). c.in_ok-last.last ≡ option_map (λ (file : ClassFile). file.name) (slice_get fs (length fs - 1))) c.as_slice.ensures.value c.in_ok-last.ensures in
+    let few : length entries ≤ 4096 = few_held files entries of c.in_ok-last.last last (λ some. let low = c.in_ok-refuse_many.ensures.ok some in omega (arith, low)) in
+    let told = subst (λ ms. HaveTables (classes_of ms) c.in_ok-tables.tables.items) c.as_slice-5.ensures.value c.in_ok-tables.ensures in
+    subst (λ ms. IsClassSet (classes_of ms)) (sym c.in_ok-members.ensures) (are_entries files entries of c.requires before few c.in_ok-tables.tables.items told).set
 
 pub returns-clause-classes : goal.returns-clause-classes
-returns-clause-classes c = has_classes c.args.files.items c.in_ok-arranged.arranged c.in_ok-arranged.ensures.classes
+returns-clause-classes c = subst (λ ms. HasClasses c.args.files.items (classes_of ms)) (sym c.in_ok-members.ensures) (has_classes c.args.files.items c.in_ok-entries.entries.items c.in_ok-entries.ensures.classes)
 
 pub returns-clause-found : goal.returns-clause-found
-returns-clause-found c = make_a_set c.args.files.items c.in_ok-arranged.arranged c.in_ok-arranged.ensures.classes (subst (λ ms. KeepAll (origins_of ms)) c.as_slice.ensures.value c.in_ok-refuse_broken.ensures.ok)
-
-pub refuse_broken-requires-clause-arranged : goal.refuse_broken-requires-clause-arranged
-refuse_broken-requires-clause-arranged c = subst AreArranged (sym c.as_slice.ensures.value) c.in_ok-arranged.ensures.classes.known
-
-pub refuse_broken-requires-clause-tables : goal.refuse_broken-requires-clause-tables
-refuse_broken-requires-clause-tables c =
-    subst (λ ts. HaveTables (classes_of c.as_slice.result.now) ts) (sym c.as_slice-2.ensures.value)
-    (subst (λ ms. HaveTables (classes_of ms) c.in_ok-arranged.arranged.tables.items) (sym c.as_slice.ensures.value) c.in_ok-arranged.ensures.classes.tables)
+returns-clause-found c =
+    let files = c.args.files.items in
+    let entries = c.in_ok-entries.entries.items in
+    let of = c.in_ok-entries.ensures.classes in
+    let before = subst (λ ms. KeepBelow (origins_of ms) (set_rule_number TooMany)) c.as_slice-3.ensures.value c.in_ok-refuse_broken.ensures.ok in
+    let last = subst (λ (fs : List ClassFile). c.in_ok-last.last ≡ option_map (λ (file : ClassFile). file.name) (slice_get fs (length fs - 1))) c.as_slice.ensures.value c.in_ok-last.ensures in
+    let few : length entries ≤ 4096 = few_held files entries of c.in_ok-last.last last (λ some. let low = c.in_ok-refuse_many.ensures.ok some in omega (arith, low)) in
+    make_a_set files entries of before few (subst (λ ms. Keeps (origins_of ms) NotYet) c.as_slice-4.ensures.value c.in_ok-refuse.ensures.ok)

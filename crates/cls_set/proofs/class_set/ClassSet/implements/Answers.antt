@@ -1,7 +1,7 @@
 use Rattle.std.proofs.Common.{◌≡◌, ◌∙◌, ◌<◌, [], inl, inr, false, length, get_or, sym, subst, ap, arith}
-use Rattle.cls_set.specs.Entries.{classes_of}
-use Rattle.cls_set.specs.Subtypes.{IsSubtype}
-use Rattle.cls_set.proofs.Hierarchy.{differ_by, same_read, same_subtype}
+use Rattle.cls_order.specs.Entries.{classes_of}
+use Rattle.cls_order.specs.Subtypes.{IsSubtype}
+use Rattle.cls_order.proofs.Hierarchy.{differ_by, same_read, same_subtype}
 use Rattle.cls_set.proofs.Remotes.{proper_of_subtype, subtype_of_proper}
 use Rattle.cls_set.proofs.class_set.ClassSet.implements.Goals as goal
 
@@ -13,7 +13,7 @@ returns-else-eq c =
     let a = c.args.class in
     let b = c.args.interface in
     let tables = c.self.inside.tables.items in
-    let classes = classes_of c.self.inside.entries.items in
+    let classes = classes_of c.self.inside.members.items in
     let long = c.self.invariant.tables.one_each in
     let viewed = ap length c.self.view_is in
     let inside : a.0 < length classes = omega (arith, c.requires, viewed) in

@@ -1,8 +1,8 @@
 use Rattle.std.proofs.Common.{◌∙◌, sym, subst}
 use Rattle.std.specs.Prelude.{slice_get}
-use Rattle.cls_set.specs.Classes.{IsInterface}
-use Rattle.cls_set.specs.Subtypes.{IsSubtype}
-use Rattle.cls_set.proofs.Hierarchy.{some_and, same_some, none_some, not_true}
+use Rattle.cls_order.specs.Classes.{IsInterface}
+use Rattle.cls_order.specs.Subtypes.{IsSubtype}
+use Rattle.cls_order.proofs.Hierarchy.{some_and, same_some, none_some, not_true}
 use Rattle.cls_set.proofs.class_set.ClassSet.is_remote.Goals as goal
 
 pub returns-then-not-is_interface : goal.returns-then-not-is_interface

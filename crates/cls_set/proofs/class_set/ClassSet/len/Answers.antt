@@ -1,6 +1,6 @@
 use Rattle.std.proofs.Common.{subst}
-use Rattle.cls_set.specs.Sets.{IsClassSet}
-use Rattle.cls_set.proofs.Supertypes.{acyclic}
+use Rattle.cls_order.specs.Sets.{IsClassSet}
+use Rattle.cls_order.proofs.Supertypes.{acyclic}
 use Rattle.cls_set.proofs.class_set.ClassSet.len.Goals as goal
 
 pub returns-clause-acyclic : goal.returns-clause-acyclic

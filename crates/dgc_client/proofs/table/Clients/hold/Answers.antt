@@ -34,14 +34,14 @@ returns-clause-ok c = λ h was.
     let reference = c.args.reference.now in
     let leases : leases_of c.note.new.self.leases ≡ insert_entry is_same before reference lease = ap leases_of c.note.ensures.leases ∙ c.in_ok-index.ensures.leases in
     let moment : c.note.new.self.leases.moment ≡ c.args.self.now.leases.moment = ap (λ (l : Leases). l.moment) c.note.ensures.leases ∙ c.insert.ensures.moment in
-    let place = c.in_ok-index.ensures.index in
+    let index = c.in_ok-index.ensures.index in
     after-held h c.args.self.now c.note.new.self reference Held lease refl moment c.note.ensures.numbers
     (ap (λ (es : List (ForeignId × ClientLease)). keys_of es) leases ∙ keys_insert_entry is_same before reference lease)
     (λ q. ap (λ (l : Leases). lookup (is_same q) (leases_of l)) c.note.ensures.leases ∙ c.in_ok-index.ensures.each q)
     (c.hold.ensures ∙ ap after_hold c.get-before.ensures.lease)
     (λ s. sound-write c.args.self.now c.note.new.self at lease
-    (λ k apart. ap (λ (es : List (ForeignId × ClientLease)). slice_get es k) leases ∙ insert-other reference lease before k (λ same. apart (same ∙ sym place)))
-    (λ r x there. insert-here reference lease before r x (ap (λ (n : ℕ). slice_get (insert_entry is_same before reference lease) n) (sym place) ∙ ap (λ (es : List (ForeignId × ClientLease)). slice_get es at) (sym leases) ∙ there))
+    (λ k apart. ap (λ (es : List (ForeignId × ClientLease)). slice_get es k) leases ∙ insert-other reference lease before k (λ same. apart (same ∙ sym index)))
+    (λ r x there. insert-here reference lease before r x (ap (λ (n : ℕ). slice_get (insert_entry is_same before reference lease) n) (sym index) ∙ ap (λ (es : List (ForeignId × ClientLease)). slice_get es at) (sym leases) ∙ there))
     moment c.note.ensures.moved c.note.ensures.touched c.note.ensures.touched_kept c.note.ensures.later c.note.ensures.later_kept
-    (λ term is. c.note.ensures.planned term is (λ had. planned-before c.args.self.now s reference c.get-before.result c.get-before.ensures.lease at place term had))
+    (λ term is. c.note.ensures.planned term is (λ had. planned-before c.args.self.now s reference c.get-before.result c.get-before.ensures.lease at index term had))
     c.note.ensures.planned_kept c.note.ensures.halves_kept s) was

@@ -1,4 +1,4 @@
-use Rattle.std.proofs.Common.{◌≡◌, Bool, cond, None, Some, refl, sym, ap, subst, ◌∙◌, ℕ, Option}
+use Rattle.std.proofs.Common.{◌≡◌, cond, None, Some, sym, ap, subst, ◌∙◌}
 use Rattle.std.specs.Prelude.{not, option_map}
 use Rattle.sp_rules.specs.Refusals.{UnknownTask, checks, first_refusal, refusal_number}
 use Rattle.sp_core.specs.declared.event.Event.{Event}

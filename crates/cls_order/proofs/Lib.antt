@@ -1,0 +1,16 @@
+pub mod Absent
+pub mod BuiltInFiles
+pub mod Cycles
+pub mod Gathered
+pub mod Heights
+pub mod Hierarchy
+pub mod Indices
+pub mod Marks
+pub mod Names
+pub mod Origins
+pub mod Passes
+pub mod Resolved
+pub mod Sorting
+pub mod SubtypeTables
+pub mod Supertypes
+pub mod Walks

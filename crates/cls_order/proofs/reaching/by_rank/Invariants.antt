@@ -1,0 +1,5 @@
+use Rattle.cls_order.proofs.Indices.{AreFirst}
+use Rattle.cls_order.proofs.reaching.by_rank.Given as goal
+
+abbrev pub invariant-loop-index : goal.invariant-loop-index
+invariant-loop-index l = AreFirst l.index l.order.items

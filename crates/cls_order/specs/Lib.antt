@@ -1,0 +1,11 @@
+pub mod BuiltIn
+pub mod Building
+pub mod Classes
+pub mod Entries
+pub mod Marks
+pub mod Ranking
+pub mod Sets
+pub mod Subtypes
+pub mod Telling
+pub mod Walks
+pub mod FaultNames

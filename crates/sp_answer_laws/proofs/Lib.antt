@@ -1,0 +1,17 @@
+mod StayMoves
+mod StayRules
+mod StayFrames
+mod StayLaws
+mod ResultStays
+mod RowStays
+mod WelcomeLemmas
+mod AnswerFinds
+mod WelcomeFrames
+mod WorldStays
+mod UnbrokenLaws
+mod SenderLemmas
+mod SenderWorlds
+mod OrderRules
+mod OrderLaws
+mod HeardLemmas
+mod TimeLemmas

@@ -1,0 +1,56 @@
+//! What a core shows of its objects and its tasks.
+
+ghost use Rattle.std.specs.Prelude.{◌≡◌, ℕ, List, filter, length, option_map, slice_get};
+ghost use Rattle.sp_rules.specs.References.{is_id};
+ghost use Rattle.sp_rules.specs.Classes.{Setting};
+ghost use Rattle.sp_rules.specs.State.{State, standing};
+ghost use Rattle.sp_core.specs.Cores.{IsCore, Lends};
+ghost use Rattle.sp_core.specs.Shown.{lowest_ready, shown, shown_of};
+
+use crate::SpaceCore;
+use sp_registry::Binding;
+use space_ids::{ClassId, ObjId};
+
+/// What a core shows of a standing object: its id and class, how many names are bound to it, and how many
+/// clients have an entry.
+#[derive(Debug, Drop)]
+pub struct Shown {
+    pub id: ObjId,
+    pub class: ClassId,
+    pub names: usize,
+    pub entries: usize,
+}
+
+impl SpaceCore {
+    /// The standing object at an index, in the order of ids. It looks at each name.
+    pub fn object(&self, index: usize) -> Option<Shown>
+        ensures { (g : Setting) (s : State) → IsCore g s self.now → option_map shown_of result ≡ option_map (shown s) (slice_get (standing s.store) index) }
+    {
+        let Some((id, class)) = self.store.object(index) else {
+            return None;
+        };
+        Some(Shown {
+            id,
+            class,
+            names: bound_to(self.names.list(), id),
+            entries: self.entries.entries_of(id),
+        })
+    }
+
+    /// The lowest task that may go on and is not lent. It looks at each that is lent before that one.
+    pub fn ready(&self) -> Option<u64>
+        ensures { (g : Setting) (s : State) (lent : List ℕ) → IsCore g s self.now → Lends self.now lent → result ≡ lowest_ready lent s }
+    {
+        self.tasks.ready()
+    }
+}
+
+// How many of the bindings are to the object.
+fn bound_to(bindings: &[Binding], id: ObjId) -> usize
+    ensures { result ≡ length (filter (λ binding. is_id binding.object id) bindings.now) }
+{
+    bindings
+        .iter()
+        .filter(|binding| binding.object == id)
+        .count()
+}

@@ -1,0 +1,7 @@
+use Rattle.std.proofs.Common.{sym, ap, ◌∙◌}
+use Rattle.sp_tasks.specs.Rows.{TaskRow}
+use Rattle.sp_tasks.proofs.RowLemmas.{hand-past}
+use Rattle.sp_tasks.proofs.living.LivingTask.give_back.Goals as goal
+
+pub invariant_of-self : goal.invariant_of-self
+invariant_of-self c = c.into_record.ensures ∙ sym (hand-past c.args.self.now c.args.task c.requires) ∙ sym (ap (λ (r : TaskRow). r.past) c.self.view_is)

@@ -1,0 +1,13 @@
+-- The record of a living task, as the rules of spaces tell it. (This project's own.)
+use Rattle.std.specs.Prelude.{map}
+use Rattle.sp_rules.specs.State as rules
+use Rattle.sp_tasks.specs.Behaviours.{reply_of}
+use Rattle.sp_tasks.specs.declared.record.Given.{Given}
+use Rattle.sp_tasks.specs.declared.record.Record.TheInside.{Inside}
+use Rattle.sp_tasks.specs.Recorded.{Recorded}
+
+abbrev pub given_of : Given → rules.Given
+given_of given = record { steps = given.steps; lent = given.lent; reply = reply_of given.reply }
+
+abbrev pub recorded_of : Inside → Recorded
+recorded_of a = record { began = record { method = a.method; arguments = a.arguments; fuel = a.fuel }; given = map given_of a.given.items }

@@ -1,0 +1,62 @@
+//! What a task and its space tell one another.
+
+use space_ids::{ClassId, ObjId, Ref, Row, Value};
+
+/// How a task ends.
+#[derive(Debug, Drop)]
+pub enum Outcome {
+    /// Its method returned, with this value or with none.
+    Returned(Option<Value>),
+    /// It threw an exception of this class that nothing catches.
+    Threw(ClassId),
+    /// Its fuel was spent.
+    Spent,
+}
+
+/// What a task asks its space for.
+#[derive(Debug, Drop)]
+pub enum Op {
+    /// A new remote instance of this class.
+    Create(ClassId),
+    /// What a field of an own object holds.
+    Get {
+        object: ObjId,
+        slot: usize,
+    },
+    /// That a field of an own object hold this value.
+    Put {
+        object: ObjId,
+        slot: usize,
+        value: Value,
+    },
+    /// A call of a method of another space's object.
+    Call {
+        target: Ref,
+        method: u32,
+        arguments: Row<Value>,
+    },
+}
+
+/// What completes the instruction that asks.
+#[derive(Debug, Drop)]
+pub enum Reply {
+    /// The operation on the store is done, with this value or with none.
+    Gives(Option<Value>),
+    /// The call returned, and its callee left this fuel.
+    GivesBack { value: Option<Value>, fuel: u64 },
+    /// It throws an exception of this class.
+    Throws(ClassId),
+    /// The callee's fuel was spent.
+    RunsOut,
+}
+
+/// The point at which a task stands, as its machine tells it.
+#[derive(Debug, Drop)]
+pub enum Stand {
+    /// Before an instruction of its own.
+    Runs,
+    /// At an instruction that asks its space for this.
+    AsksFor(Op),
+    /// At its end.
+    HasEnded(Outcome),
+}

@@ -1,0 +1,105 @@
+//! A task in hand.
+
+ghost use Rattle.std.specs.Prelude.{◌≡◌, ◌+◌, ◌^◌, ◌<◌, ◌≤◌, OnOk, OnErr};
+ghost use Rattle.sp_tasks.specs.Behaviours.{reply_of};
+ghost use Rattle.sp_tasks.specs.Rows.{replied_hand};
+
+use crate::{Record, Reply};
+use std::alloc::AllocError;
+use std::marker::Model;
+
+/// A task that a core lends, beside its machine: its id, its record and its own instructions as it was
+/// lent, and the instructions that its machine made since.
+#[derive(Debug, Drop)]
+pub struct LentTask {
+    id: u64,
+    past: Record,
+    steps: u64,
+    made: u64,
+}
+
+impl Model for LentTask {
+    ghost use Rattle.std.specs.Prelude.{◌+◌, ◌^◌, ◌<◌};
+    ghost use Rattle.sp_tasks.specs.Rows.{Hand};
+
+    ghost Value = { Hand };
+
+    ghost view = { λ task. record { id = task.id; past = task.past; steps = task.steps; made = task.made } };
+
+    ghost invariant = { λ task. task.steps + task.made < 2 ^ 64 };
+}
+
+impl LentTask {
+    // The task of this id and record, after so many instructions since its last reply.
+    pub(crate) fn new(id: u64, past: Record, steps: u64) -> LentTask
+        ensures { result ≡ record { id = id; past = past; steps = steps; made = 0 } }
+    {
+        LentTask {
+            id,
+            past,
+            steps,
+            made: 0,
+        }
+    }
+
+    /// Its id.
+    pub fn id(&self) -> u64
+        ensures { result ≡ self.now.id }
+    {
+        self.id
+    }
+
+    /// Its record, as it was lent or as the last reply left it.
+    pub fn record(&self) -> &Record
+        ensures { result.now ≡ self.now.past }
+    {
+        &self.past
+    }
+
+    /// How many instructions of its own it had made since its last reply as it was lent.
+    pub fn steps(&self) -> u64
+        ensures { result ≡ self.now.steps }
+    {
+        self.steps
+    }
+
+    /// How many instructions of its own it made since it was lent or given a reply.
+    pub fn made(&self) -> u64
+        ensures result { result ≡ self.now.made }
+        ensures fits { self.now.steps + self.now.made < 2 ^ 64 }
+    {
+        self.made
+    }
+
+    /// Enters that its machine made so many more instructions.
+    pub fn ran(&mut self, made: u64)
+        requires { self.old.steps + self.old.made + made < 2 ^ 64 }
+        ensures { self.new ≡ record self.old { made = self.old.made + made } }
+    {
+        self.made += made;
+    }
+
+    // Its record.
+    pub(crate) fn into_record(self) -> Record
+        ensures { result ≡ self.past }
+    {
+        let LentTask {
+            id: _,
+            past,
+            steps: _,
+            made: _,
+        } = self;
+        past
+    }
+
+    // Enters a reply to an operation on the store. At out of memory nothing happens.
+    pub(crate) fn enter(&mut self, reply: Reply) -> Result<(), AllocError>
+        ensures ok { OnOk result (self.new ≡ replied_hand (reply_of reply) self.old) }
+        ensures err { OnErr result (self.new ≡ self.old) }
+    {
+        self.past.enter(self.steps + self.made, reply)?;
+        self.steps = 0;
+        self.made = 0;
+        Ok(())
+    }
+}

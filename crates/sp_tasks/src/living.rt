@@ -1,0 +1,234 @@
+//! What a space keeps of one living task.
+
+ghost use Rattle.std.specs.Prelude.{◌≡◌, ◌&&◌, ◌+◌, ◌<◌, ◌≤◌, not, [], true, false, None, Some, IfOk, OnOk, OnErr, vec_len, vec_capacity};
+ghost use Rattle.std.specs.List.{list_all, list_any};
+ghost use Rattle.std.specs.Str.{bytes_eq};
+ghost use Rattle.sp_rules.specs.References.{is_id, is_reference_in, reference_of, references_in, references_of, with_references};
+ghost use Rattle.sp_rules.specs.Refusals.{result_of};
+ghost use Rattle.sp_tasks.specs.Behaviours.{op_of, outcome_of, reply_of};
+ghost use Rattle.sp_tasks.specs.Rows.{back_row, hand_of, is_in_hand, lent_row, replied_hand, replied_row, row_holds, row_holds_op, started_row, value_given, with_gained};
+
+use crate::{LentTask, Op, Outcome, Record, Reply};
+use space_ids::{ObjId, Ref, Uuid, Value};
+use std::alloc::{AllocError, Global};
+use std::marker::Model;
+
+/// A living task: the references that it holds, each once, its record, and its own instructions since
+/// the last reply. While it is not lent, a second record waits to be lent with it.
+#[derive(Debug, Drop)]
+pub(crate) struct LivingTask {
+    held: Vec<Ref>,
+    past: Record,
+    steps: u64,
+    spare: Option<Record>,
+}
+
+impl Model for LivingTask {
+    ghost use Rattle.std.specs.Prelude.{◌≡◌, IfSome, is_some, not};
+    ghost use Rattle.sp_tasks.specs.Rows.{TaskRow};
+
+    ghost Value = { TaskRow };
+
+    ghost view = { λ task. record { held = task.held.items; past = task.past; steps = task.steps; lent = not (is_some task.spare) } };
+
+    ghost invariant = { λ task. IfSome task.spare (λ past. past ≡ task.past) };
+}
+
+impl LivingTask {
+    // A task that starts at a method. It is not lent, and holds the references among its arguments, each
+    // once, in the order in which they come.
+    pub(crate) fn start(
+        alloc: Global,
+        method: u32,
+        arguments: &[Value],
+        fuel: u64,
+    ) -> Result<LivingTask, AllocError>
+        ensures { IfOk result (λ task. task ≡ started_row method arguments.now fuel) }
+    {
+        let held = held_by(alloc, arguments)?;
+        let past = Record::start(alloc, method, arguments, fuel)?;
+        let spare = Record::start(alloc, method, arguments, fuel)?;
+        Ok(LivingTask {
+            held,
+            past,
+            steps: 0,
+            spare: Some(spare),
+        })
+    }
+
+    // The references that it holds.
+    pub(crate) fn held(&self) -> &[Ref]
+        ensures { result.now ≡ self.now.held }
+    {
+        &self.held
+    }
+
+    // Whether it holds what it asks for.
+    pub(crate) fn holds_op(&self, own: &Uuid, op: &Op) -> bool
+        ensures { result ≡ row_holds_op own.now self.now (op_of op.now) }
+    {
+        match op {
+            Op::Create(_) => true,
+            Op::Get { object, slot: _ } => has_object(&self.held, own, *object),
+            Op::Put {
+                object,
+                slot: _,
+                value,
+            } => has_object(&self.held, own, *object) && has_value(&self.held, value),
+            Op::Call {
+                target,
+                method: _,
+                arguments,
+            } => is_among(&self.held, target) && has_values(&self.held, arguments.as_slice()),
+        }
+    }
+
+    // Whether it holds the reference that it returns, if it returns one.
+    pub(crate) fn holds_result(&self, outcome: &Outcome) -> bool
+        ensures { result ≡ row_holds self.now (references_in (result_of (outcome_of outcome.now))) }
+    {
+        match outcome {
+            Outcome::Returned(Some(value)) => has_value(&self.held, value),
+            _ => true,
+        }
+    }
+
+    pub(crate) fn is_lent(&self) -> bool
+        ensures { result ≡ self.now.lent }
+    {
+        self.spare.is_none()
+    }
+
+    // Lends the task, under its id, if it is not lent.
+    pub(crate) fn lend(&mut self, id: u64) -> Option<LentTask>
+        ensures task { result ≡ hand_of id (Some self.old) }
+        ensures row { self.new ≡ lent_row self.old }
+    {
+        match self.spare.take() {
+            Some(past) => Some(LentTask::new(id, past, self.steps)),
+            None => None,
+        }
+    }
+
+    // Whether the task in hand is this one, as it was lent or as the last reply left it.
+    pub(crate) fn is_lent_as(&self, task: &LentTask) -> bool
+        ensures { result ≡ is_in_hand (Some self.now) task.now }
+    {
+        self.spare.is_none() && (self.steps == task.steps() && self.past.is_same(task.record()))
+    }
+
+    // Takes the task back, which can be lent again.
+    pub(crate) fn give_back(&mut self, task: LentTask)
+        requires { is_in_hand (Some self.old) task ≡ true }
+        ensures { self.new ≡ back_row task.made self.old }
+    {
+        self.steps += task.made();
+        self.spare = Some(task.into_record());
+    }
+
+    // Gives the task a reply to its operation on the store, of which these are two copies. It holds the
+    // reference in it too. At out of memory nothing happens.
+    pub(crate) fn reply(
+        &mut self,
+        task: &mut LentTask,
+        reply: Reply,
+        copy: Reply,
+    ) -> Result<(), AllocError>
+        requires lent { is_in_hand (Some self.old) task.old ≡ true }
+        requires same { copy ≡ reply }
+        ensures row { OnOk result (self.new ≡ replied_row task.old.made (reply_of reply) self.old) }
+        ensures task { OnOk result (task.new ≡ replied_hand (reply_of reply) task.old) }
+        ensures err { OnErr result (self.new ≡ self.old) }
+        ensures kept { OnErr result (task.new ≡ task.old) }
+    {
+        let gained = gained(&self.held, &reply);
+        self.held.reserve(1)?;
+        self.past.enter(task.steps() + task.made(), reply)?;
+        match task.enter(copy) {
+            Ok(()) => {}
+            Err(fault) => {
+                self.past.take_back();
+                return Err(fault);
+            }
+        }
+        match gained {
+            Some(reference) => self.held.push_reserved(reference),
+            None => {}
+        }
+        self.steps = 0;
+        Ok(())
+    }
+}
+
+// The reference in the reply, if there is one and it is not held.
+fn gained(held: &[Ref], reply: &Reply) -> Option<Ref>
+    ensures { with_references held.now (references_in (value_given (reply_of reply.now))) ≡ with_gained held.now result }
+{
+    match reply {
+        Reply::Gives(Some(Value::Ref(reference)))
+        | Reply::GivesBack {
+            value: Some(Value::Ref(reference)),
+            fuel: _,
+        } if !is_among(held, reference) => Some(*reference),
+        _ => None,
+    }
+}
+
+// The references among the values, each once, in the order in which they come.
+fn held_by(alloc: Global, values: &[Value]) -> Result<Vec<Ref>, AllocError>
+    ensures { IfOk result (λ held. held.items ≡ with_references [] (references_of values.now)) }
+{
+    let mut held = Vec::new(alloc);
+    for value in values {
+        gain(&mut held, value)?;
+    }
+    Ok(held)
+}
+
+// Adds the reference that the value is, if it is one and is not among these.
+fn gain(held: &mut Vec<Ref>, value: &Value) -> Result<(), AllocError>
+    ensures { OnOk result (held.new.items ≡ with_references held.old.items (reference_of value.now)) }
+{
+    match value {
+        Value::Ref(reference) if !is_among(held, reference) => {
+            held.push(*reference)?;
+            Ok(())
+        }
+        _ => Ok(()),
+    }
+}
+
+// Whether the reference that the value is, if it is one, is among these.
+fn has_value(held: &[Ref], value: &Value) -> bool
+    ensures { result ≡ list_all (is_reference_in held.now) (reference_of value.now) }
+{
+    match value {
+        Value::Ref(reference) => is_among(held, reference),
+        _ => true,
+    }
+}
+
+// Whether each reference among the values is among these.
+fn has_values(held: &[Ref], values: &[Value]) -> bool
+    ensures { result ≡ list_all (λ value. list_all (is_reference_in held.now) (reference_of value)) values.now }
+{
+    values.iter().all(|value| has_value(held, value))
+}
+
+// Whether one of these is of the space's own object of this id.
+fn has_object(held: &[Ref], own: &Uuid, id: ObjId) -> bool
+    ensures { result ≡ list_any (λ reference. bytes_eq reference.space own.now && is_id id reference.id) held.now }
+{
+    held.iter()
+        .any(|reference| reference.space == *own && id == reference.id)
+}
+
+// Whether the reference is among these.
+fn is_among(references: &[Ref], reference: &Ref) -> bool
+    ensures { result ≡ is_reference_in references.now reference.now }
+{
+    references.iter().any(|other| {
+        reference.space == other.space
+            && (reference.id == other.id && reference.class == other.class)
+    })
+}
