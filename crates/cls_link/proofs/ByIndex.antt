@@ -1,5 +1,5 @@
 -- The method of an index among those of its class, by its number.
-use Rattle.std.proofs.Common.{◌≡◌, ℕ, zero, suc, ◌+◌, Option, Some, None, List, [], ◌∷◌, ◌++◌, length, take, refl, sym, subst, ap, ◌∙◌, arith, add-zero, zero-add}
+use Rattle.std.proofs.Common.{◌≡◌, ℕ, zero, suc, ◌+◌, Option, Some, None, List, [], ◌∷◌, ◌++◌, length, take, refl, sym, ap, ◌∙◌, arith, add-zero, zero-add}
 use Rattle.std.specs.Prelude.{IsSome, option_and_then, option_map, slice_get}
 use Rattle.std.proofs.lemmas.List.{length-append}
 use Rattle.cls_set.specs.declared.Method.{Method}

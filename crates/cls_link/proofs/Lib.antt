@@ -9,3 +9,4 @@ pub mod MethodNumbers
 pub mod DeclaredIndexes
 pub mod Sound
 pub mod NotedCounts
+pub mod SwitchNumbers

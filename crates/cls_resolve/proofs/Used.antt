@@ -144,5 +144,5 @@ module _ (classes : List Class) (user : ClassId) (index : ℕ) where
 
   -- the class that an instruction names
   pub class_named : (type : CastType) (class : ClassId) → IsTypeAt classes user index type → type ≡ cast.Class class → IsClassAt classes user index class
-  class_named type class (meanings.IsTypeAt.class c at) e = subst (IsClassAt classes user index) (same_class e) at
+  class_named type class (meanings.IsTypeAt.class c at plain) e = subst (IsClassAt classes user index) (same_class e) at
   class_named type class (meanings.IsTypeAt.int_array at) e = absurd (no_class e)

@@ -16,7 +16,7 @@ use Rattle.cls_search.specs.MethodSearches.{method_in, own_method, Resolves}
 use Rattle.cls_resolve.specs.declared.named.CastType.{CastType}
 use Rattle.cls_resolve.specs.declared.named.CastType.TheVariants as cast
 use Rattle.cls_resolve.specs.declared.named.MemberIndex.{MemberIndex}
-use Rattle.cls_resolve.specs.LinkRules.{pool_of}
+use Rattle.cls_resolve.specs.LinkRules.{pool_of, IsArray}
 
 -- the field, and the method, of an index
 abbrev pub field_of : MemberIndex → FieldIndex
@@ -31,9 +31,9 @@ pub record IsClassAt (classes : List Class) (user : ClassId) (index : ℕ) (clas
   pub entry : class_at (pool_of classes user) index ≡ Some text
   pub number : number_of classes text ≡ Some class
 
--- a Class entry, whose text is the name of a class of the set or the descriptor `[I`
+-- a Class entry, whose text is the name of a class of the set and of no array, or the descriptor `[I`
 pub data IsTypeAt (classes : List Class) (user : ClassId) (index : ℕ) : CastType → Type 0 where
-  class : (class : ClassId) → IsClassAt classes user index class → IsTypeAt classes user index (cast.Class class)
+  class : (class : ClassId) (at : IsClassAt classes user index class) → ¬ IsArray at.text → IsTypeAt classes user index (cast.Class class)
   int_array : class_at (pool_of classes user) index ≡ Some (codes "[I") → IsTypeAt classes user index cast.IntArray
 
 -- a Fieldref entry of this class of the set, whose name and descriptor mean this field there (JVMS 5.4.3.2)

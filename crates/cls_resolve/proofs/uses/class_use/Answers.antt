@@ -57,4 +57,4 @@ returns-else-makes_abstract-clause-broken c =
 pub returns-else-makes_abstract-clause-named : goal.returns-else-makes_abstract-clause-named
 returns-else-makes_abstract-clause-named c =
     let at = c.in-Class.ensures in
-    meanings.IsTypeAt.class c.in-Class.class (record { text = at.text; entry = at.entry; number = at.number })
+    meanings.IsTypeAt.class c.in-Class.class (record { text = at.text; entry = at.entry; number = at.number }) at.plain
