@@ -44,7 +44,7 @@ later k x = record x { steps = x.steps + k }
 seen-later : (k : ℕ) (t : Living) → seen (after_steps k t) ≡ later k (seen t)
 seen-later k t = λ j. record { id = t.id; held = steps-held k t.task j; past = (seen t).past; steps = t.steps + k }
 
-ended-at : (made : ℕ) (old new : List (ℕ × TaskRow)) → ((id : ℕ) → row_of id old ≡ None → row_of id new ≡ None) → (rs : List (ℕ × Option Value))
+pub ended-at : (made : ℕ) (old new : List (ℕ × TaskRow)) → ((id : ℕ) → row_of id old ≡ None → row_of id new ≡ None) → (rs : List (ℕ × Option Value))
     → AllOf (λ (k : ℕ × Option Value). (k.0 ≤ made) × (row_of k.0 old ≡ None)) rs → AllOf (λ (k : ℕ × Option Value). (k.0 ≤ made) × (row_of k.0 new ≡ None)) rs
 ended-at made old new absent [] all = tt
 ended-at made old new absent (r ∷ rs) all = ((all.0.0, absent r.0 all.0.1), ended-at made old new absent rs all.1)

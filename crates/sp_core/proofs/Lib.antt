@@ -1,6 +1,9 @@
+pub mod CommitLemmas
 pub mod CoreLemmas
 pub mod FinishLemmas
 pub mod HandLemmas
+pub mod OpLemmas
+pub mod OwnValueLemmas
 pub mod ParkLemmas
 pub mod RootLemmas
 pub mod ShownLemmas

@@ -72,7 +72,7 @@ arguments-same g s (r ∷ rs) alone = λ j. argument-same g s r alone j && argum
 
 -- ---- references that come
 
-own-append : (g : Setting) (held : List Ref) (r : Ref) → AreOwn g held → bytes_eq r.space g.id ≡ true → AreOwn g (held ++ r ∷ [])
+pub own-append : (g : Setting) (held : List Ref) (r : Ref) → AreOwn g held → bytes_eq r.space g.id ≡ true → AreOwn g (held ++ r ∷ [])
 own-append g held r own here =
     flat_map-append (foreign_id g.id) held (r ∷ []) ∙ (λ j. own j ++ (cond (here j) [] (record { space = r.space; id = r.id } ∷ []) ++ []))
 

@@ -1,3 +1,4 @@
+pub mod ClassSets
 pub mod Cores
 pub mod Events
 pub mod FaultNames

@@ -16,6 +16,7 @@ ghost use Rattle.sp_rules.specs.Events.{Event as Happening, Moment, Sweep, RootA
 ghost use Rattle.sp_core.specs.Events.{event_of, is_late, output_of, told};
 ghost use Rattle.sp_core.specs.FaultNames.{Refuses, core_fault_number};
 ghost use Rattle.sp_core.specs.Sweeps.{withdrawn};
+ghost use Rattle.sp_store.specs.Stores.{made};
 
 use crate::sweep::{answer, forget, insert_bound, unlisted};
 use crate::{CoreFault, Event, Output};
@@ -246,6 +247,7 @@ impl SpaceCore {
     // Whether the next number of an object, a task, a call, or a dirty or clean call would be 2^63.
     pub(crate) fn is_worn(&self) -> bool
         ensures in_range { result ≡ false → self.now.tasks.made + 1 < 2 ^ 63 }
+        ensures stored { result ≡ false → made self.now.store + 1 < 2 ^ 63 }
         ensures worn { (g : Setting) (s : State) → IsCore g s self.now → result ≡ is_worn s }
     {
         is_last(self.store.made())

@@ -1,0 +1,35 @@
+//! What a core asks of a class set.
+
+ghost use Rattle.std.specs.Prelude.{◌≡◌, map};
+ghost use Rattle.sp_rules.specs.Classes.{Classes};
+ghost use Rattle.sp_core.specs.ClassSets.{kind_of};
+
+use space_ids::ClassId;
+
+/// What a field of a remote class holds.
+#[derive(Clone, Copy, Debug, PartialEq, Eq)]
+pub enum FieldKind {
+    /// An int; a boolean is the int that it is carried as.
+    Int,
+    /// A reference of a remote interface, or null.
+    Reference,
+}
+
+/// The remote classes of a space, as its core asks for them. A remote class is a class that implements a
+/// remote interface.
+pub trait ClassSet {
+    // What the class set tells is what the rules of spaces ask of these classes.
+    ghost tells: { Self → Classes → Type 0 };
+
+    /// Whether instances of the class can be made: it is a remote class that is not abstract.
+    fn is_remote(&self, class: ClassId) -> bool
+        ensures { (c : Classes) → tells self.now c → result ≡ c.is_remote class };
+
+    /// The kinds of the fields of a remote class, inherited ones too, by slot.
+    fn fields(&self, class: ClassId) -> &[FieldKind]
+        ensures { (c : Classes) → tells self.now c → map kind_of result.now ≡ c.fields class };
+
+    /// The class that a task throws if no more objects may stand: java.lang.OutOfMemoryError.
+    fn out_of_memory(&self) -> ClassId
+        ensures { (c : Classes) → tells self.now c → result ≡ c.out_of_memory };
+}
