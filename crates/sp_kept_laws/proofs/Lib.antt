@@ -1,0 +1,9 @@
+mod GrownRules
+mod GrantLemmas
+mod GrownFrames
+mod ParkedLemmas
+mod FreeLemmas
+mod GrantRules
+mod SettleLemmas
+mod DueLemmas
+mod GrantLaws
