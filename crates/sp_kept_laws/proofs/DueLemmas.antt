@@ -111,7 +111,7 @@ clean-due l h some none = waits l.waits (h.ready some)
 
 -- ---- one reference in what is told of a row
 
-own-skips : (r x : ForeignId) (e : Event) (h : List Told) → is_same r x ≡ false → own r (On x e ∷ h) ≡ own r h
+pub own-skips : (r x : ForeignId) (e : Event) (h : List Told) → is_same r x ≡ false → own r (On x e ∷ h) ≡ own r h
 own-skips r x e h apart = pick (is_same x r) refl
   where
     other : is_same x r ≡ true → ⊥
@@ -124,7 +124,7 @@ own-skips r x e h apart = pick (is_same x r) refl
     pick true t = absurd (other t)
     pick false t = refl
 
-row-skips : (r : ForeignId) (e : Event) (xs : List ForeignId) (h : List Told) → is_among r xs ≡ false → own r (client.on_each xs e h) ≡ own r h
+pub row-skips : (r : ForeignId) (e : Event) (xs : List ForeignId) (h : List Told) → is_among r xs ≡ false → own r (client.on_each xs e h) ≡ own r h
 row-skips r e [] h n = refl
 row-skips r e (x ∷ xs) h n = pick (is_same r x) refl n (row-skips r e xs (On x e ∷ h))
   where
@@ -133,16 +133,16 @@ row-skips r e (x ∷ xs) h n = pick (is_same r x) refl n (row-skips r e xs (On x
     pick false s n rest = rest n ∙ own-skips r x e h s
 
 -- a property of the events of a reference that an event keeps
-row-keeps : (P : List Event → Type 0) (r : ForeignId) (e : Event) → ((k : List Event) → P k → P (e ∷ k)) → (xs : List ForeignId) (h : List Told) → P (own r h) → P (own r (client.on_each xs e h))
+pub row-keeps : (P : List Event → Type 0) (r : ForeignId) (e : Event) → ((k : List Event) → P k → P (e ∷ k)) → (xs : List ForeignId) (h : List Told) → P (own r h) → P (own r (client.on_each xs e h))
 row-keeps P r e keeps [] h a = a
 row-keeps P r e keeps (x ∷ xs) h a = row-keeps P r e keeps xs (On x e ∷ h) (own-or-not P r x e h a (keeps (own r h) a))
 
-held-row : (e : Event) → is_hold e ≡ false → (xs : List ForeignId) (h : List Told) → held (client.on_each xs e h) ≡ held h
+pub held-row : (e : Event) → is_hold e ≡ false → (xs : List ForeignId) (h : List Told) → held (client.on_each xs e h) ≡ held h
 held-row e q [] h = refl
 held-row e q (x ∷ xs) h = held-row e q xs (On x e ∷ h) ∙ ap (λ b. if b then with_reference (held h) x else held h) q
 
 -- one that an event gives to the reference itself
-row-gives : (P : List Event → Type 0) (r : ForeignId) (e : Event) → is_hold e ≡ false → ((k : List Event) → P k → P (e ∷ k)) → ((k : List Event) → P (e ∷ k)) → (xs : List ForeignId) (h : List Told) → is_among r xs ≡ true → is_among r (held h) ≡ true → P (own r (client.on_each xs e h))
+pub row-gives : (P : List Event → Type 0) (r : ForeignId) (e : Event) → is_hold e ≡ false → ((k : List Event) → P k → P (e ∷ k)) → ((k : List Event) → P (e ∷ k)) → (xs : List ForeignId) (h : List Told) → is_among r xs ≡ true → is_among r (held h) ≡ true → P (own r (client.on_each xs e h))
 row-gives P r e q keeps gives [] h n t = absurd (true≢false (sym n))
 row-gives P r e q keeps gives (x ∷ xs) h n t = pick (is_same r x) refl n (λ m. row-gives P r e q keeps gives xs (On x e ∷ h) m (subst (λ hs. is_among r hs ≡ true) (sym (ap (λ b. if b then with_reference (held h) x else held h) q)) t))
   where
@@ -228,7 +228,7 @@ any-more r x (y ∷ xs) e = two (is_same r y) e (any-more r x xs)
     two true f rest = absurd (true≢false f)
     two false f rest = rest f
 
-among-with : (r x : ForeignId) (xs : List ForeignId) → is_among r (with_reference xs x) ≡ false → (is_among r xs ≡ false) × (is_same r x ≡ false)
+pub among-with : (r x : ForeignId) (xs : List ForeignId) → is_among r (with_reference xs x) ≡ false → (is_among r xs ≡ false) × (is_same r x ≡ false)
 among-with r x xs = pick (is_among x xs) refl
   where
     pick : (b : Bool) → is_among x xs ≡ b → is_among r (if b then xs else xs ++ x ∷ []) ≡ false → (is_among r xs ≡ false) × (is_same r x ≡ false)
@@ -277,14 +277,14 @@ no-dirty-made r b call h p a (due.Clean strong) e = row-keeps NoDirty r (lease_e
 no-dirty-sent : (r : ForeignId) → SendsKeep (λ h. NoDirty (own r h))
 no-dirty-sent r = sends-keep NoDirty r (λ call k a. sent-none (lease_of k).dirty call (lease_of k).moment a)
 
-held-sent : (r : ForeignId) → SendsKeep (λ h. is_among r (held h) ≡ true)
+pub held-sent : (r : ForeignId) → SendsKeep (λ h. is_among r (held h) ≡ true)
 held-sent r part call h a = by part.kind
   where
     by : (kind : Due) → is_among r (held (client.sent_as kind part call h)) ≡ true
     by due.Dirty = subst (λ hs. is_among r hs ≡ true) (sym (held-row (lease_events.DirtySent call) refl (references_at part.peer part.ids) h)) a
     by (due.Clean strong) = a
 
-held-made : (r : ForeignId) (b : Group) (call : ℕ) (h : List Told) → is_among r (held h) ≡ true → is_among r (held (client.made b call h)) ≡ true
+pub held-made : (r : ForeignId) (b : Group) (call : ℕ) (h : List Told) → is_among r (held h) ≡ true → is_among r (held (client.made b call h)) ≡ true
 held-made r b call h a = by b.kind
   where
     by : (kind : Due) → is_among r (held (client.told b (client.making kind call) h)) ≡ true

@@ -60,7 +60,7 @@ one-foreign a b e =
     let id : a.id ≡ b.id = one-id a.id b.id (and-right (bytes_eq a.space b.space) _ e) in
     ap {A = Uuid} {B = ForeignId} (λ x. record { space = x; id = a.id }) space ∙ ap {A = ObjId} {B = ForeignId} (λ x. record { space = b.space; id = x }) id
 
-abbrev bit : Bool → ℕ
+abbrev pub bit : Bool → ℕ
 bit true = 1
 bit false = 0
 

@@ -148,7 +148,7 @@ ended-grown M made false h = h
 pub past-held : (g : Setting) (r : ForeignId) (lent : List ℕ) (s : State) (e : Event) → refusal g lent s e ≡ None → Numbered s → times_held r s.leases ≤ times_held r (Space.on g e s).0.leases
 past-held g r lent s e t n = subst (λ (c : Stocks). times_held r s.leases ≤ times_held r c.leases) (sym (ends-stocks g e s))
     (ended-grown (least-plain g r (times_held r s.leases)) (λ b call h k. row-least r (times_held r s.leases) (client.making b.kind call) (client.references_at b.peer b.ids) h k) (Space.answers_outputs e)
-    (happen_grown (least-plain g r (times_held r s.leases)) e (any-happens g (AtLeast r (times_held r s.leases)) (least-plain g r (times_held r s.leases)) lent s e t n here (λ c m. least-comes g r (times_held r s.leases) s c m here)) (any-grown g (AtLeast r (times_held r s.leases)) s n here))).parts.told
+    (happen_grown (least-plain g r (times_held r s.leases)) e (any-happens g (AtLeast r (times_held r s.leases)) (least-plain g r (times_held r s.leases)) lent s e t n here (λ conn m same c is. least-comes g r (times_held r s.leases) s c m here)) (any-grown g (AtLeast r (times_held r s.leases)) s n here))).parts.told
   where
     here : AtLeast r (times_held r s.leases) s.leases
     here = omega arith

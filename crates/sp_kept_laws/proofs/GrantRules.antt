@@ -166,7 +166,7 @@ any-grown g T s n t = record {
 
 -- each event brings any reference
 pub any-happens : (g : Setting) (T : List Told → Type 0) (M : Plain g AnyRef T) (lent : List ℕ) (s : State) (e : Event) → refusal g lent s e ≡ None → Numbered s → T s.leases
-    → ((c : Connection) (m : Message) → ComesWell g AnyRef T s c m) → HappensWell g AnyRef T s e
+    → ((conn : ℕ) (m : Message) → e ≡ Received conn m → (c : Connection) → connection_at s conn ≡ Some c → ComesWell g AnyRef T s c m) → HappensWell g AnyRef T s e
 any-happens g T M lent s (Moment moment) t n k b = tt
 any-happens g T M lent s Sweep t n k b = tt
 any-happens g T M lent s (Root method arguments fuel) t n k b = any-refs (references_of arguments)
@@ -177,7 +177,7 @@ any-happens g T M lent s (Unbind name) t n k b = tt
 any-happens g T M lent s (Lookup peer name) t n k b = tt
 any-happens g T M lent s (Opened conn dialled) t n k b = tt
 any-happens g T M lent s (Refused peer) t n k b = tt
-any-happens g T M lent s (Received conn m) t n k b = λ c is greeted way. b c m
+any-happens g T M lent s (Received conn m) t n k b = λ c is greeted way. b conn m refl c is
 any-happens g T M lent s (Closed conn) t n k b = tt
 any-happens g T M lent s (ReadFailed conn) t n k b = tt
 any-happens g T M lent s (Bad conn) t n k b = tt
@@ -190,7 +190,7 @@ any-happens g T M lent s (Finished task made) t n k b = end-brings M lent task m
 -- what is granted is granted still as the event ends
 pub granted-happens : (g : Setting) (r : ForeignId) (lent : List ℕ) (s : State) (e : Event) → refusal g lent s e ≡ None → Numbered s → is_granted s r ≡ true → is_granted (Space.happen g e s) r ≡ true
 granted-happens g r lent s e t n k =
-    (happen_grown (granted-plain g r) e (any-happens g (Granted r) (granted-plain g r) lent s e t n k (λ c m. granted-comes g r s c m k)) (any-grown g (Granted r) s n k)).parts.told
+    (happen_grown (granted-plain g r) e (any-happens g (Granted r) (granted-plain g r) lent s e t n k (λ conn m same c is. granted-comes g r s c m k)) (any-grown g (Granted r) s n k)).parts.told
 
 -- ---- what is free stays free, unless it is granted
 

@@ -7,3 +7,6 @@ mod GrantRules
 mod SettleLemmas
 mod DueLemmas
 mod GrantLaws
+mod RequestRules
+mod NewGrants
+mod CleanLaws

@@ -33,7 +33,7 @@ use Rattle.sp_kept_laws.proofs.FreeLemmas.{one-foreign, filter-one}
 
 -- ---- what is due is in a group, and what is in a group is due
 
-one-filter : {A : Type 0} (is : A → Bool) (xs : List A) (x : A) → is x ≡ true → IsOneOf x xs → IsOneOf x (filter is xs)
+pub one-filter : {A : Type 0} (is : A → Bool) (xs : List A) (x : A) → is x ≡ true → IsOneOf x xs → IsOneOf x (filter is xs)
 one-filter is [] x e a = absurd a
 one-filter is (y ∷ xs) x e (inl same) = pick (is y) (sym (ap is same) ∙ e)
   where
@@ -65,14 +65,14 @@ one-either (y ∷ xs) ys x (inr a) = by (one-either xs ys x a)
     by (inr b) = inr b
 
 -- the call of a kind of a reference
-abbrev call_for : ForeignId → Due → DueCall
+abbrev pub call_for : ForeignId → Due → DueCall
 call_for r k = record { reference = r; kind = k }
 
 abbrev pub names_ref : ForeignId → Group → Bool
 names_ref r b = is_among r (references_at b.peer b.ids)
 
 -- a group that names the reference has its call
-group-has : (r : ForeignId) (peer : Uuid) (k : Due) (ids : List ObjId) → is_among r (references_at peer ids) ≡ true → IsOneOf (call_for r k) (map (call_of peer k) ids)
+pub group-has : (r : ForeignId) (peer : Uuid) (k : Due) (ids : List ObjId) → is_among r (references_at peer ids) ≡ true → IsOneOf (call_for r k) (map (call_of peer k) ids)
 group-has r peer k [] e = absurd (true≢false (sym e))
 group-has r peer k (id ∷ ids) e = pick (is_same r (record { space = peer; id = id })) refl e (group-has r peer k ids)
   where
@@ -81,7 +81,7 @@ group-has r peer k (id ∷ ids) e = pick (is_same r (record { space = peer; id =
     pick true same f rest = inl (ap {A = ForeignId} {B = DueCall} (λ x. record { reference = x; kind = k }) (one-foreign r (record { space = peer; id = id }) same))
     pick false same f rest = inr (rest f)
 
-same-self : (a : ForeignId) → is_same a a ≡ true
+pub same-self : (a : ForeignId) → is_same a a ≡ true
 same-self a = pick (bytes_eq a.space a.space) ((bytes_eq-Decides a.space a.space).1 refl) (eq-eqb a.id.0 a.id.0 refl)
   where
     pick : (b : Bool) → b ≡ true → {c : Bool} → c ≡ true → b && c ≡ true
@@ -89,14 +89,14 @@ same-self a = pick (bytes_eq a.space a.space) ((bytes_eq-Decides a.space a.space
     pick false t f = absurd (true≢false (sym t))
 
 -- and one that has it names the reference
-has-group : (r : ForeignId) (peer : Uuid) (k kind : Due) (ids : List ObjId) → IsOneOf (call_for r k) (map (call_of peer kind) ids) → (kind ≡ k) × (is_among r (references_at peer ids) ≡ true)
+pub has-group : (r : ForeignId) (peer : Uuid) (k kind : Due) (ids : List ObjId) → IsOneOf (call_for r k) (map (call_of peer kind) ids) → (kind ≡ k) × (is_among r (references_at peer ids) ≡ true)
 has-group r peer k kind [] a = absurd a
 has-group r peer k kind (id ∷ ids) (inl e) =
     (sym (ap {A = DueCall} {B = Due} (λ c. c.kind) e), or-left (is_same r (record { space = peer; id = id })) _ (subst (λ (x : ForeignId). is_same r x ≡ true) (ap {A = DueCall} {B = ForeignId} (λ c. c.reference) e) (same-self r)))
 has-group r peer k kind (id ∷ ids) (inr a) =
     let b : (kind ≡ k) × (is_among r (references_at peer ids) ≡ true) = has-group r peer k kind ids a in (b.0, or-right (is_same r (record { space = peer; id = id })) _ b.1)
 
-in-groups : (r : ForeignId) (b : Group) (gs : List Group) → IsOneOf b gs → names_ref r b ≡ true → IsOneOf (call_for r b.kind) (flat_map calls_of gs)
+pub in-groups : (r : ForeignId) (b : Group) (gs : List Group) → IsOneOf b gs → names_ref r b ≡ true → IsOneOf (call_for r b.kind) (flat_map calls_of gs)
 in-groups r b [] a e = absurd a
 in-groups r b (c ∷ gs) (inl same) e = one-front (calls_of c) (flat_map calls_of gs) (call_for r b.kind) (subst (λ (x : Group). IsOneOf (call_for r b.kind) (calls_of x)) same (group-has r b.peer b.kind b.ids e))
 in-groups r b (c ∷ gs) (inr a) e = one-back (calls_of c) (flat_map calls_of gs) (call_for r b.kind) (in-groups r b gs a e)

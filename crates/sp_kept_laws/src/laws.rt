@@ -1,8 +1,11 @@
 //! The laws of what is held, and so is not lost.
 
+ghost use Rattle.sp_kept_laws.specs.Cleans.{GrantedReferencesAreUncleaned};
 ghost use Rattle.sp_kept_laws.specs.Granted.{DirtyCallsAreAwaited, WhatIsHeldIsGranted};
 
+use sp_answer_laws::laws::calls_keep_their_order;
 use sp_laws::laws::holders_are_counted;
+use sp_lease_laws::laws::{calls_are_made_when_due, calls_on_their_way_are_requests};
 
 /// After every history that a space took, in which no number of a connection comes again: a foreign
 /// reference that a task that has started, a field of a standing object or a held result has is granted.
@@ -21,4 +24,15 @@ pub fn dirty_calls_are_awaited()
     ensures { DirtyCallsAreAwaited }
 {
     holders_are_counted();
+}
+
+/// Of each reference that is granted after such a history a Lease came on a connection that the space
+/// dialled to its owner, and each clean call of the reference that waits for an answer is out under a
+/// sequence number below the Lease's. None waits to be sent.
+pub fn granted_references_are_uncleaned()
+    ensures { GrantedReferencesAreUncleaned }
+{
+    calls_on_their_way_are_requests();
+    calls_are_made_when_due();
+    calls_keep_their_order();
 }
