@@ -220,7 +220,7 @@ below-stays : (g : Setting) (h : List Event) (e : Event) (r : ForeignId) (n : �
 below-stays g h e r n granted below = (on-rows g 0 (Below r n) (free-below r n) (waits-below r 0 n) (Space.state_of g h) e (makes-below r 0 n (Space.answers_outputs e) (Space.happen g e (Space.state_of g h)) granted)
     (record { low = omega arith; rows = below; fresh = fresh-of g h })).rows
 
-ended-back : (answers : Bool) (u : State) (r : ForeignId) → is_granted (ended answers u) r ≡ true → is_granted u r ≡ true
+pub ended-back : (answers : Bool) (u : State) (r : ForeignId) → is_granted (ended answers u) r ≡ true → is_granted u r ≡ true
 ended-back true u r e = settle-back u r e
 ended-back false u r e = e
 

@@ -130,7 +130,7 @@ least-comes g r n s c (message.Cleaned sequence) e = λ q is. (told q.asked, any
     told (LooksUp k task name) = e
     told (Tells call group) = row-least r n (lease_events.CleanAnswered call) (client.references_at group.peer group.ids) s.leases e
 
-settle-grown : {g : Setting} {Is : Rattle.space_ids.specs.declared.ids.Ref.Ref → Type 0} {T : List Told → Type 0} {K : ParkedFrame → Type 0} {s : State} (M : Plain g Is T) → ((b : Group) (call : ℕ) (h : List Told) → T h → T (client.made b call h)) → Grown g Is T K s → Grown g Is T K (Requests.settle s)
+pub settle-grown : {g : Setting} {Is : Rattle.space_ids.specs.declared.ids.Ref.Ref → Type 0} {T : List Told → Type 0} {K : ParkedFrame → Type 0} {s : State} (M : Plain g Is T) → ((b : Group) (call : ℕ) (h : List Told) → T h → T (client.made b call h)) → Grown g Is T K s → Grown g Is T K (Requests.settle s)
 unfolding Requests.settle Requests.make_due Requests.ask_fresh Requests.make_group
 settle-grown {g} {Is} {T} {K} {s} M made h = asks (each Requests.make_group (Requests.due_groups s.leases) s) (each_grown Requests.make_group (Requests.due_groups s.leases) (λ t b k. makes t b k) h)
   where
@@ -140,7 +140,7 @@ settle-grown {g} {Is} {T} {K} {s} M made h = asks (each Requests.make_group (Req
     asks : (t : State) → Grown g Is T K t → Grown g Is T K (each Requests.ask t.fresh (record t { fresh = [] }))
     asks t k = each_grown Requests.ask t.fresh (λ u q j. ask_grown M q j) (quiet _ refl k)
 
-ended-grown : {g : Setting} {Is : Rattle.space_ids.specs.declared.ids.Ref.Ref → Type 0} {T : List Told → Type 0} {K : ParkedFrame → Type 0} {s : State} (M : Plain g Is T) → ((b : Group) (call : ℕ) (h : List Told) → T h → T (client.made b call h)) → (answers : Bool) → Grown g Is T K s → Grown g Is T K (ended answers s)
+pub ended-grown : {g : Setting} {Is : Rattle.space_ids.specs.declared.ids.Ref.Ref → Type 0} {T : List Told → Type 0} {K : ParkedFrame → Type 0} {s : State} (M : Plain g Is T) → ((b : Group) (call : ℕ) (h : List Told) → T h → T (client.made b call h)) → (answers : Bool) → Grown g Is T K s → Grown g Is T K (ended answers s)
 ended-grown M made true h = settle-grown M made h
 ended-grown M made false h = h
 

@@ -10,3 +10,5 @@ mod GrantLaws
 mod RequestRules
 mod NewGrants
 mod CleanLaws
+mod StepLaws
+mod EntryLaws

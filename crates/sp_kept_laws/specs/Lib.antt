@@ -1,2 +1,3 @@
 pub mod Granted
 pub mod Cleans
+pub mod Steps
