@@ -12,3 +12,4 @@ mod NewGrants
 mod CleanLaws
 mod StepLaws
 mod EntryLaws
+mod ReachLaws

@@ -2,6 +2,7 @@
 
 ghost use Rattle.sp_kept_laws.specs.Cleans.{GrantedReferencesAreUncleaned};
 ghost use Rattle.sp_kept_laws.specs.Granted.{DirtyCallsAreAwaited, WhatIsHeldIsGranted};
+ghost use Rattle.sp_kept_laws.specs.Reaches.{EventsReachOneSpace};
 ghost use Rattle.sp_kept_laws.specs.Steps.{DirtyCallsSetEntries, EntriesStayUntilCleaned, OnlyLeasesGrant, WhatIsOutStaysAsked};
 
 use sp_answer_laws::laws::calls_keep_their_order;
@@ -68,4 +69,11 @@ pub fn entries_stay_until_cleaned()
 /// object that it names and that stands.
 pub fn dirty_calls_set_entries()
     ensures { DirtyCallsSetEntries }
+{}
+
+/// With each event of a world no space changes, or one space alone does: it takes some events one after the
+/// other, none of which it refuses. A frame that comes to it is the first in the queue of a connection
+/// toward it, and an event of its own is the world's.
+pub fn events_reach_one_space()
+    ensures { EventsReachOneSpace }
 {}
