@@ -1,17 +1,17 @@
-mod StayMoves
-mod StayRules
-mod StayFrames
-mod StayLaws
-mod ResultStays
-mod RowStays
-mod WelcomeLemmas
-mod AnswerFinds
-mod WelcomeFrames
-mod WorldStays
-mod UnbrokenLaws
-mod SenderLemmas
-mod SenderWorlds
-mod OrderRules
-mod OrderLaws
-mod HeardLemmas
-mod TimeLemmas
+pub mod StayMoves
+pub mod StayRules
+pub mod StayFrames
+pub mod StayLaws
+pub mod ResultStays
+pub mod RowStays
+pub mod WelcomeLemmas
+pub mod AnswerFinds
+pub mod WelcomeFrames
+pub mod WorldStays
+pub mod UnbrokenLaws
+pub mod SenderLemmas
+pub mod SenderWorlds
+pub mod OrderRules
+pub mod OrderLaws
+pub mod HeardLemmas
+pub mod TimeLemmas

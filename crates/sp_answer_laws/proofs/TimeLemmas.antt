@@ -107,7 +107,7 @@ remembered-came h c o (owner.Forget object ∷ calls) n a e = by (is_same object
 
 -- ---- frames with numbers
 
-in-flat : (n : ℕ) (ms : List Message) → IsOneOf n (sequence_numbers ms) → (m : Message) × (IsOneOf m ms × IsOneOf n (sequence_in m))
+pub in-flat : (n : ℕ) (ms : List Message) → IsOneOf n (sequence_numbers ms) → (m : Message) × (IsOneOf m ms × IsOneOf n (sequence_in m))
 in-flat n [] o = absurd o
 in-flat n (m ∷ ms) o = by (λ a. in-flat n ms a) (one-either n (sequence_in m) (sequence_numbers ms) o)
   where
@@ -128,7 +128,7 @@ asks-there D conn n (message.Lease sequence period) o k = absurd o
 asks-there D conn n (message.Cleaned sequence) o k = absurd o
 asks-there D conn n (message.Lookup number name) o k = absurd o
 
-has-on : (conn : ℕ) (m : Message) (h : List Event) → IsOneOf m (came_on conn h) → has_event_on conn h ≡ true
+pub has-on : (conn : ℕ) (m : Message) (h : List Event) → IsOneOf m (came_on conn h) → has_event_on conn h ≡ true
 has-on conn m [] o = absurd o
 has-on conn m (e ∷ h) o = by (λ i. has-on conn m h i) (one-either m (came_on conn h) (frame_of conn e) o)
   where
@@ -176,7 +176,7 @@ own-hello s conn version client digest k o = by (opened conn s.history) refl
 
 -- ---- one connection to a peer
 
-found-in : (is : Connection → Bool) (cs : List Connection) (c : Connection) → find is cs ≡ Some c → IsOneOf c cs
+pub found-in : (is : Connection → Bool) (cs : List Connection) (c : Connection) → find is cs ≡ Some c → IsOneOf c cs
 found-in is [] c e = absurd (some-none c (sym e))
 found-in is (d ∷ cs) c e = by (is d) (λ f. found-in is cs c f) e
   where
@@ -192,7 +192,7 @@ all-at Is x (y ∷ ys) (inr o) a = all-at Is x ys o a.1
 alone : (p : Uuid) (ds : List Connection) (y : Connection) → IsAlone (Some p) ds → IsOneOf y ds → y.dialled ≡ Some p → ⊥
 alone p ds y k j g = true≢false (sym (ap (is_to p) g ∙ same-peer p) ∙ all-at (λ (z : Connection). is_to p z.dialled ≡ false) y ds j (none-found (λ (z : Connection). is_to p z.dialled) ds k))
 
-one-dialled : (peer : Uuid) (cs : List Connection) (c d : Connection) → AreDialledOnce cs → IsOneOf c cs → IsOneOf d cs → c.dialled ≡ Some peer → d.dialled ≡ Some peer → c ≡ d
+pub one-dialled : (peer : Uuid) (cs : List Connection) (c d : Connection) → AreDialledOnce cs → IsOneOf c cs → IsOneOf d cs → c.dialled ≡ Some peer → d.dialled ≡ Some peer → c ≡ d
 one-dialled peer [] c d a o i e f = absurd o
 one-dialled peer (x ∷ cs) c d a (inl o) (inl i) e f = o ∙ sym i
 one-dialled peer (x ∷ cs) c d a (inl o) (inr i) e f = absurd (alone peer cs d (subst (λ (p : Option Uuid). IsAlone p cs) (ap (λ (y : Connection). y.dialled) (sym o) ∙ e) a.0) i f)
@@ -209,21 +209,21 @@ low k n le = pick (nat_le k n) refl
     pick false e = refl
 
 -- What is known of a world in which nothing fails.
-record Given (settings : List Setting) (w : World) : Type 0 where
-  facts : Facts settings w
-  stays : (i : ℕ) (s : Space) → slice_get w.spaces i ≡ Some s → (n : ℕ) (d : Option Uuid) → IsOneOf (Opened n d) s.history → is_open s.state n ≡ true
-  begins : AllOf (λ (s : Space). (conn : ℕ) → BeginsInOrder s conn) w.spaces
-  heard : AllOf (λ (s : Space). AllOf (IsHeard s.history) s.state.owner.entries) w.spaces
-  rise : NumbersRiseIn w
+pub record Given (settings : List Setting) (w : World) : Type 0 where
+  pub facts : Facts settings w
+  pub stays : (i : ℕ) (s : Space) → slice_get w.spaces i ≡ Some s → (n : ℕ) (d : Option Uuid) → IsOneOf (Opened n d) s.history → is_open s.state n ≡ true
+  pub begins : AllOf (λ (s : Space). (conn : ℕ) → BeginsInOrder s conn) w.spaces
+  pub heard : AllOf (λ (s : Space). AllOf (IsHeard s.history) s.state.owner.entries) w.spaces
+  pub rise : NumbersRiseIn w
 
 -- a frame with a number was sent on a connection: its sender dialled the other space there
-record Dialled (s : Space) (conn : ℕ) (peer : Uuid) : Type 0 where
-  row : Connection
-  number : row.number ≡ conn
-  there : IsOneOf row s.state.connections
-  dialled : row.dialled ≡ Some peer
+pub record Dialled (s : Space) (conn : ℕ) (peer : Uuid) : Type 0 where
+  pub row : Connection
+  pub number : row.number ≡ conn
+  pub there : IsOneOf row s.state.connections
+  pub dialled : row.dialled ≡ Some peer
 
-dialled-there : {settings : List Setting} {w : World} (G : Given settings w) (conn n : ℕ) (p : Pipe) (a b : Space) (m : Message) → IsBetween w conn p a b → IsOneOf n (sequence_in m) → IsOneOf m (sent_on conn a.outputs) → Dialled a conn b.setting.id
+pub dialled-there : {settings : List Setting} {w : World} (G : Given settings w) (conn n : ℕ) (p : Pipe) (a b : Space) (m : Message) → IsBetween w conn p a b → IsOneOf n (sequence_in m) → IsOneOf m (sent_on conn a.outputs) → Dialled a conn b.setting.id
 dialled-there {settings} {w} G conn n p a b m between num sent = by (connection_at a.state conn) refl
   where
     F : Facts settings w
@@ -248,7 +248,7 @@ dialled-there {settings} {w} G conn n p a b m between num sent = by (connection_
     }
 
 -- what a call names came on the connection that the space dialled
-one-way : {settings : List Setting} {w : World} (G : Given settings w) (conn k n : ℕ) (p : Pipe) (a b : Space) → IsBetween w conn p a b → IsOneOf k (sequence_numbers p.accepter.queue) → (c : CameFrom b.history a.setting.id n) → c.conn ≡ conn
+pub one-way : {settings : List Setting} {w : World} (G : Given settings w) (conn k n : ℕ) (p : Pipe) (a b : Space) → IsBetween w conn p a b → IsOneOf k (sequence_numbers p.accepter.queue) → (c : CameFrom b.history a.setting.id n) → c.conn ≡ conn
 one-way {settings} {w} G conn k n p a b between there c = by (slice_get w.pipes c.conn) refl (F.delivers.ends p.accepter.space c.conn b between.accepted (has-on c.conn old.0 b.history old.1.0))
   where
     F : Facts settings w

@@ -67,7 +67,7 @@ came-now conn m e h is = one-right m (came_on conn h) (Rattle.sp_world_laws.spec
     here false f = absurd (true≢false (sym f))
 
 -- an output among these
-one-output : (Is : Output → Type 0) (conn : ℕ) (m : Message) (os : List Output) → AllOf Is os → IsOneOf m (sent_on conn os) → Is (Send conn m)
+pub one-output : (Is : Output → Type 0) (conn : ℕ) (m : Message) (os : List Output) → AllOf Is os → IsOneOf m (sent_on conn os) → Is (Send conn m)
 one-output Is conn m [] a o = absurd o
 one-output Is conn m (x ∷ os) a o = by x a.0 (λ i. one-output Is conn m os a.1 i) o
   where
@@ -167,7 +167,7 @@ facts-of L settings events kind h = record {
 
 -- ---- runs
 
-run-last : (w : World) (es : List WorldEvent) (e : WorldEvent) → run w (es ++ e ∷ []) ≡ after (run w es) e
+pub run-last : (w : World) (es : List WorldEvent) (e : WorldEvent) → run w (es ++ e ∷ []) ≡ after (run w es) e
 unfolding run
 run-last w [] e = refl
 run-last w (x ∷ es) e = run-last (after w x) es e
@@ -199,7 +199,7 @@ new-standing settings = record {
         first : (x : Setting) → Rattle.sp_rules.specs.State.opening ≡ Space.state_of x []
         first x = refl
 
-all-split : {A : Type 0} (Is : A → Type 0) (xs : List A) (x : A) → AllOf Is (xs ++ x ∷ []) → AllOf Is xs × Is x
+pub all-split : {A : Type 0} (Is : A → Type 0) (xs : List A) (x : A) → AllOf Is (xs ++ x ∷ []) → AllOf Is xs × Is x
 all-split Is [] x a = (tt, a.0)
 all-split Is (y ∷ xs) x a = let r = all-split Is xs x a.1 in ((a.0, r.0), r.1)
 

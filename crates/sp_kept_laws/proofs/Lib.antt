@@ -1,0 +1,15 @@
+mod GrownRules
+mod GrantLemmas
+mod GrownFrames
+mod ParkedLemmas
+mod FreeLemmas
+mod GrantRules
+mod SettleLemmas
+mod DueLemmas
+mod GrantLaws
+mod RequestRules
+mod NewGrants
+mod CleanLaws
+mod StepLaws
+mod EntryLaws
+mod ReachLaws

@@ -1,0 +1,4 @@
+pub mod Granted
+pub mod Cleans
+pub mod Steps
+pub mod Reaches
