@@ -15,3 +15,4 @@ pub mod Replied
 pub mod CommandRows
 pub mod Ended
 pub mod Only
+pub mod Named

@@ -1,20 +1,26 @@
 -- What class files give, if they break no rule, is one.
 use Rattle.std.proofs.Common.{◌≡◌, ◌≢◌, ◌∙◌, ◌+◌, ℕ, zero, suc, ℤ, Bool, true, false, List, [], ◌∷◌, Some, None, arith, ap, refl, subst, sym}
-use Rattle.std.specs.Prelude.{MatchBool, Result, Ok, Err, IsErrAnd, length, nat_le, slice_get}
+use Rattle.std.specs.Prelude.{MatchBool, Option, Result, Ok, Err, IsErrAnd, drop, length, nat_le, option_map, slice_get, take}
 use Rattle.cf_reader.proofs.SpellsLaws.{one_class}
 use Rattle.cf_reader.specs.declared.class_file.ClassFile.{ClassFile}
 use Rattle.cf_load.specs.declared.load_fault.LoadFault.TheVariants as load
 use Rattle.cf_text.specs.Reading.{Fails}
 use Rattle.cf_text.specs.declared.fault.ReadFault.{ReadFault}
 use Rattle.cf_text.specs.declared.fault.ReadFault.TheVariants as read
+use Rattle.cls_laws.proofs.Links.{one_linking}
+use Rattle.cls_laws.proofs.Sets.{one_set}
 use Rattle.cls_link.specs.Links.{Links}
+use Rattle.cls_link.specs.Numbers.{number_in}
 use Rattle.cls_link.specs.declared.linked_code.MethodId.{MethodId}
+use Rattle.cls_resolve.proofs.Unique.{one_resolved}
+use Rattle.cls_search.specs.MethodSearches.{Resolves, own_method}
+use Rattle.cls_set.specs.Sets.{HasClasses, IsClassSet}
 use Rattle.cls_set.specs.declared.class.Class.{Class}
 use Rattle.space_ids.specs.declared.ids.ClassId.{ClassId}
 use Rattle.space_ids.specs.declared.value.Value.{Value}
 use Rattle.space_ids.specs.declared.value.Value.TheVariants as value
-use Rattle.sp_main.specs.Only.{HasRun, IsReadOut, OnlyGives, RunsOnly}
-use Rattle.sp_main.specs.Runs.{AreSpelled, IsProgram, IsSpelled, IsTold, Runs, ThrewClass, method_named}
+use Rattle.sp_main.specs.Only.{IsReadOut, OnlyGives}
+use Rattle.sp_main.specs.Runs.{AreSpelled, IsProgram, IsRun, IsSpelled, IsTold, NamesMethod, Runs, ThrewClass, no_class, no_descriptor, resolved, is_parenthesis}
 use Rattle.sp_main.specs.declared.running.ClassBytes.{ClassBytes}
 use Rattle.sp_main.specs.declared.running.Content.{Content}
 use Rattle.sp_main.specs.declared.running.Content.TheVariants.{Bytes, Unreadable}
@@ -79,6 +85,9 @@ safe_out So Is (check.Broken rule class method descriptor at) settles is = absur
 
 -- ---- runs
 
+some_none : {X : Type 0} {x : X} → Some x ≡ None → ⊥
+some_none e = cc
+
 starts_not : {A E : Type 0} {r : Result A E} {a : A} {e : E} → r ≡ Ok a → r ≡ Err e → ⊥
 starts_not ok err = cc
 
@@ -133,20 +142,54 @@ pub only_ran : {E : Type 0} (program : Links) (method : MethodId) (arguments : L
     → Runs program method arguments limits o → Runs program method arguments limits p → OnlyGives o P (Ok p)
 only_ran program method arguments limits o p P a b = one_outcome program method arguments limits p o b a
 
+-- a text names one method
+one_named : (program : Links) (class text : List ℕ) (a b : Option MethodId) → NamesMethod program class text a → NamesMethod program class text b → a ≡ b
+one_named program class text a b (no_class none) (no_class too) = refl
+one_named program class text a b (no_class none) (no_descriptor too) = refl
+one_named program class text a b (no_class none) (resolved holder index found at first finds) = absurd (some_none (sym at ∙ none))
+one_named program class text a b (no_descriptor none) (no_class too) = refl
+one_named program class text a b (no_descriptor none) (no_descriptor too) = refl
+one_named program class text a b (no_descriptor none) (resolved holder index found at first finds) = absurd (some_none (sym first ∙ none))
+one_named program class text a b (resolved holder index found at first finds) (no_class none) = absurd (some_none (sym at ∙ none))
+one_named program class text a b (resolved holder index found at first finds) (no_descriptor none) = absurd (some_none (sym first ∙ none))
+one_named program class text a b (resolved holder index found at first finds) (resolved holder2 index2 found2 at2 first2 finds2) =
+    let holders : Some holder ≡ Some holder2 = sym at ∙ at2 in
+    let same : holder ≡ holder2 = cc in
+    let indices : Some index ≡ Some index2 = sym first ∙ first2 in
+    let equal : index ≡ index2 = cc in
+    let here = subst (λ (h : ClassId). Resolves program.classes h (take index2 text) (own_method program.classes (take index2 text) (drop index2 text)) found) same
+    (subst (λ (i : ℕ). Resolves program.classes holder (take i text) (own_method program.classes (take i text) (drop i text)) found) equal finds) in
+    ap (option_map (number_in program.classes)) (one_resolved program.classes holder2 (take index2 text) (own_method program.classes (take index2 text) (drop index2 text)) here finds2)
+
+-- the files make one program
+pub one_program : (files : List ClassBytes) (p q : Links) → IsProgram files p → IsProgram files q → p ≡ q
+one_program files p q a b =
+    let same : a.classes ≡ b.classes = one_list files a.classes b.classes a.spelled b.spelled in
+    let has = subst (λ (cs : List ClassFile). HasClasses cs p.classes) same a.set in
+    one_linking p q a.linked b.linked (one_set b.classes p.classes q.classes has b.set a.linked.set b.linked.set)
+
+-- class sets of the files are that of their program
+pub same_set : (files : List ClassBytes) (read : List ClassFile) (set : List Class) (program : Links) → AreSpelled files read → HasClasses read set → IsClassSet set
+    → IsProgram files program → set ≡ program.classes
+same_set files read set program spelled has whole is =
+    let same : read ≡ is.classes = one_list files read is.classes spelled is.spelled in
+    one_set is.classes set program.classes (subst (λ (cs : List ClassFile). HasClasses cs set) same has) is.set whole is.linked.set
+
 -- the method that is looked for is the one that runs
 pub only_run : (files : List ClassBytes) (class text : List ℕ) (arguments : List Value) (limits : Limits) (program : Links) (method : MethodId) (outcome : RunOutcome)
-    → IsProgram files program → method_named program class text ≡ Some method → RunsOnly files class text arguments limits outcome
+    → IsProgram files program → NamesMethod program class text (Some method) → IsRun files class text arguments limits outcome
     → Runs program method arguments limits outcome
-only_run files class text arguments limits program method outcome is named only =
-    let has : HasRun program class text arguments limits outcome = only.runs program is in
-    let some : Some has.method ≡ Some method = sym has.named ∙ named in
-    let same : has.method ≡ method = cc in
-    subst (λ (m : MethodId). Runs program m arguments limits outcome) same has.runs
+only_run files class text arguments limits program method outcome is named run =
+    let same : run.program ≡ program = one_program files run.program program run.is_program is in
+    let found : NamesMethod program class text (Some run.method) = subst (λ (p : Links). NamesMethod p class text (Some run.method)) same run.named in
+    let some : Some run.method ≡ Some method = one_named program class text (Some run.method) (Some method) found named in
+    let equal : run.method ≡ method = cc in
+    subst (λ (m : MethodId). Runs program m arguments limits outcome) equal (subst (λ (p : Links). Runs p run.method arguments limits outcome) same run.runs)
 
 -- and there is one
 pub not_absent : (files : List ClassBytes) (class text : List ℕ) (arguments : List Value) (limits : Limits) (program : Links) (outcome : RunOutcome)
-    → IsProgram files program → method_named program class text ≡ None → RunsOnly files class text arguments limits outcome → ⊥
-not_absent files class text arguments limits program outcome is none only =
-    let has : HasRun program class text arguments limits outcome = only.runs program is in
-    let clash : Some has.method ≡ None = sym has.named ∙ none in
-    cc
+    → IsProgram files program → NamesMethod program class text None → IsRun files class text arguments limits outcome → ⊥
+not_absent files class text arguments limits program outcome is none run =
+    let same : run.program ≡ program = one_program files run.program program run.is_program is in
+    let found : NamesMethod program class text (Some run.method) = subst (λ (p : Links). NamesMethod p class text (Some run.method)) same run.named in
+    some_none (one_named program class text (Some run.method) None found none)

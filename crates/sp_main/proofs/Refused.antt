@@ -5,7 +5,7 @@ use Rattle.std.proofs.lemmas.Option.{slice_get_within}
 use Rattle.cls_link.specs.Links.{Links}
 use Rattle.cls_link.specs.declared.linked_code.MethodId.{MethodId}
 use Rattle.sp_main.specs.RefusalTexts.{IsRefusalOf}
-use Rattle.sp_main.specs.Runs.{IsNoProgram, IsNotRun, IsProgram, IsRefused, IsUnread, absent, at_fault, method_named, no_memory, no_memory_to_read, no_program, no_set, not_linked, not_safe, not_started, unread}
+use Rattle.sp_main.specs.Runs.{IsNoProgram, IsNotRun, IsProgram, IsRefused, IsUnread, NamesMethod, absent, at_fault, no_memory, no_memory_to_read, no_program, no_set, not_linked, not_safe, not_started, unread}
 use Rattle.sp_main.specs.declared.refusal.Refusal.{Refusal}
 use Rattle.sp_main.specs.declared.refusal.Refusal.TheVariants as refusal
 use Rattle.sp_main.specs.declared.running.ClassBytes.{ClassBytes}
@@ -13,13 +13,13 @@ use Rattle.space_ids.specs.declared.value.Value.{Value}
 use Rattle.vm_run.specs.declared.limits.Limits.{Limits}
 
 refused : (files : List ClassBytes) (class text : List ℕ) (arguments : List Value) (limits : Limits) (program : Links) (method : MethodId)
-    → IsProgram files program → method_named program class text ≡ Some method → (r : Refusal) → IsNotRun program method arguments limits r → IsRefused files class text arguments limits r
+    → IsProgram files program → NamesMethod program class text (Some method) → (r : Refusal) → IsNotRun program method arguments limits r → IsRefused files class text arguments limits r
 refused files class text arguments limits program method is named (refusal.Start fault) why = not_started program method fault is named why
 refused files class text arguments limits program method is named refusal.Memory why = no_memory
 refused files class text arguments limits program method is named r why = absurd why
 
 pub run_refused : {A : Type 0} (files : List ClassBytes) (class text : List ℕ) (arguments : List Value) (limits : Limits) (program : Links) (method : MethodId)
-    → IsProgram files program → method_named program class text ≡ Some method → (r : Result A Refusal) → IfErr r (IsNotRun program method arguments limits) → IfErr r (IsRefused files class text arguments limits)
+    → IsProgram files program → NamesMethod program class text (Some method) → (r : Result A Refusal) → IfErr r (IsNotRun program method arguments limits) → IfErr r (IsRefused files class text arguments limits)
 run_refused files class text arguments limits program method is named (Ok a) why = tt
 run_refused files class text arguments limits program method is named (Err r) why = refused files class text arguments limits program method is named r why
 

@@ -1,18 +1,20 @@
 -- What it means that class files run: from their bytes to how the method ends, each layer by its own definition.
-use Rattle.std.specs.Prelude.{◌≡◌, ◌≢◌, ◌+◌, ◌==◌, ℕ, Bool, MatchBool, Option, Some, None, Ok, Err, List, take, drop, length, nat_le, slice_get, option_and_then}
+use Rattle.std.specs.Prelude.{◌≡◌, ◌≢◌, ◌+◌, ◌==◌, ℕ, Bool, MatchBool, Option, Some, None, Ok, Err, List, take, drop, length, nat_le, slice_get, option_map}
 use Rattle.std.specs.List.{AllZip, position}
 use Rattle.cf_reader.specs.declared.class_file.ClassFile.{ClassFile}
 use Rattle.cf_layout.specs.declared.items.Layout.{Layout}
 use Rattle.cf_reader.specs.Spells.{IsAtFault, IsInProfile, Spells}
 use Rattle.cf_load.specs.declared.load_fault.LoadFault.{LoadFault}
 use Rattle.cf_load.specs.declared.load_fault.LoadFault.TheVariants as load
-use Rattle.cls_link.specs.LinkFaults.{IsLinkFault}
+use Rattle.cls_link.specs.LinkFaults.{AreSound, IsLinkFault}
 use Rattle.cls_link.specs.Links.{Links, AreLinks}
 use Rattle.cls_link.specs.declared.fault.LinkFault.{LinkFault}
-use Rattle.cls_link.specs.Links as links
+use Rattle.cls_link.specs.Numbers.{number_in}
 use Rattle.cls_link.specs.declared.linked_code.MethodId.{MethodId}
+use Rattle.cls_search.specs.MethodSearches.{Resolves, own_method}
+use Rattle.cls_search.specs.declared.methods.MethodIndex.{MethodIndex}
 use Rattle.cls_set.specs.Classes as sets
-use Rattle.cls_set.specs.Faults.{IsSetFault}
+use Rattle.cls_set.specs.Faults.{IsSetFault, MakeASet}
 use Rattle.cls_set.specs.Sets.{HasClasses, IsClassSet}
 use Rattle.cls_set.specs.declared.fault.SetFault.{SetFault}
 use Rattle.cls_set.specs.declared.class.Class.{Class}
@@ -70,7 +72,11 @@ IsNotRun program method arguments limits _ = ⊥
 pub record IsProgram (files : List ClassBytes) (program : Links) : Type 0 where
   pub classes : List ClassFile
   pub spelled : AreSpelled files classes
+  -- they break no rule on sets
+  pub makes_a_set : MakeASet classes
   pub set : HasClasses classes program.classes
+  -- and their code none on what it names
+  pub sound : AreSound program.classes
   pub linked : AreLinks program
   pub safe : AreSafe program
 
@@ -78,12 +84,15 @@ pub record IsProgram (files : List ClassBytes) (program : Links) : Type 0 where
 abbrev pub is_parenthesis : ℕ → Bool
 is_parenthesis byte = byte == 40
 
--- the method of a class by its name and descriptor, one text: the descriptor begins at the first parenthesis
-abbrev pub method_named : Links → List ℕ → List ℕ → Option MethodId
-method_named program class text =
-    option_and_then (λ holder.
-    option_and_then (λ index. links.number_of program.classes holder (take index text) (drop index text))
-    (position is_parenthesis text)) (sets.number_of program.classes class)
+-- The method that a text names in a class, or none. The text is a name and then a descriptor, which begins at the first parenthesis
+-- (JVMS 4.3.3). Method resolution looks for it (JVMS 5.4.3.3, 5.4.3.4), so the class may inherit it.
+pub data NamesMethod (program : Links) (class text : List ℕ) : Option MethodId → Type 0 where
+  no_class : sets.number_of program.classes class ≡ None → NamesMethod program class text None
+  no_descriptor : position is_parenthesis text ≡ None → NamesMethod program class text None
+  resolved : (holder : ClassId) (index : ℕ) (found : Option MethodIndex)
+      → sets.number_of program.classes class ≡ Some holder → position is_parenthesis text ≡ Some index
+      → Resolves program.classes holder (take index text) (own_method program.classes (take index text) (drop index text)) found
+      → NamesMethod program class text (option_map (number_in program.classes) found)
 
 -- the class of this number was thrown, by its name in the set
 abbrev pub ThrewClass : List Class → ClassId → RunOutcome → Type 0
@@ -128,7 +137,7 @@ pub record IsRun (files : List ClassBytes) (class text : List ℕ) (arguments : 
   pub program : Links
   pub is_program : IsProgram files program
   pub method : MethodId
-  pub named : method_named program class text ≡ Some method
+  pub named : NamesMethod program class text (Some method)
   pub runs : Runs program method arguments limits outcome
 
 -- why files are not read: the first at fault, and those before it spell class files
@@ -150,7 +159,7 @@ pub data IsNoProgram (files : List ClassBytes) : Refusal → Type 0 where
 -- out of memory instead of any answer
 pub data IsRefused (files : List ClassBytes) (class text : List ℕ) (arguments : List Value) (limits : Limits) : Refusal → Type 0 where
   no_program : (refused : Refusal) → IsNoProgram files refused → IsRefused files class text arguments limits refused
-  absent : (program : Links) → IsProgram files program → method_named program class text ≡ None → IsRefused files class text arguments limits (refusal.Start start.AbsentMethod)
-  not_started : (program : Links) (method : MethodId) (fault : StartFault) → IsProgram files program → method_named program class text ≡ Some method
+  absent : (program : Links) → IsProgram files program → NamesMethod program class text None → IsRefused files class text arguments limits (refusal.Start start.AbsentMethod)
+  not_started : (program : Links) (method : MethodId) (fault : StartFault) → IsProgram files program → NamesMethod program class text (Some method)
       → IsStartFault program method arguments limits fault → IsRefused files class text arguments limits (refusal.Start fault)
   no_memory : IsRefused files class text arguments limits refusal.Memory

@@ -1,17 +1,21 @@
 //! From the bytes of class files to how a method ends: reading, sets, linking, checking and running,
 //! without any input or output.
 
-ghost use Rattle.std.specs.Prelude.{◌≡◌, ◌+◌, ◌-◌, ◌^◌, ◌<◌, ◌≤◌, List, length, IfOk, IfErr, IfSome};
+ghost use Rattle.std.specs.Prelude.{◌≡◌, ◌+◌, ◌-◌, ◌^◌, ◌<◌, ◌≤◌, List, length, IfOk, IfErr, IfSome, IsSome};
 ghost use Rattle.std.specs.List.{position};
 ghost use Rattle.cls_link.specs.Links.{Links};
+ghost use Rattle.cls_link.specs.Numbers.{number_in};
+ghost use Rattle.cls_search.specs.MethodSearches.{method_in};
 ghost use Rattle.vm_run.specs.Task.{IsOfSet};
-ghost use Rattle.sp_main.specs.Only.{IsOutOfMemory, IsReadOut, MakeAProgram, OnlyGives, RunsOnly};
-ghost use Rattle.sp_main.specs.Runs.{AreSpelled, IsFileFault, IsNamed, IsNoProgram, IsNotRun, IsProgram, IsRefused, IsRun, IsSpelled, IsUnread, Runs, is_parenthesis, method_named};
+ghost use Rattle.sp_main.specs.Only.{IsOutOfMemory, IsReadOut, OnlyGives};
+ghost use Rattle.sp_main.specs.Runs.{AreSpelled, IsFileFault, IsNamed, IsNoProgram, IsNotRun, IsProgram, IsRefused, IsRun, IsSpelled, IsUnread, NamesMethod, Runs, is_parenthesis};
 
 use super::refusal::Refusal;
 use cf_load::LoadFault;
 use cf_reader::{ClassFile, Text, read_class};
-use cls_link::{MethodId, link};
+use cls_link::{Linked, MethodId, link};
+use cls_resolve::MemberIndex;
+use cls_search::{MethodIndex, find_method};
 use cls_set::ClassSet;
 use std::alloc::{AllocError, Global};
 use ver_check::{Accepted, accept};
@@ -46,7 +50,8 @@ pub enum RunOutcome {
 }
 
 /// Runs the static method of this name and descriptor, as `f(I)I`, over the class set of the files,
-/// and returns how it ended. The first refusal counts: files in order, then the set, links, checks,
+/// and returns how it ended. Method resolution finds it, so the class may inherit it (JVMS 5.4.3.3).
+/// The first refusal counts: files in order, then the set, links, checks,
 /// and the start. It may be out of memory instead of any answer. The limits' heap words and
 /// references are together below 2^32.
 pub fn run_classes(
@@ -63,15 +68,16 @@ pub fn run_classes(
     ensures run { IfOk result (IsRun files.now class.now method.now arguments.items limits) }
     // A refusal says what is wrong, and nothing before it is wrong.
     ensures refused { IfErr result (IsRefused files.now class.now method.now arguments.items limits) }
-    // No other outcome is possible, and no refusal but out of memory, if the files break no rule and
-    // each program that they make runs the method to this outcome.
+    // If the files make a program and its method runs to an outcome, no other is answered, and no refusal
+    // but out of memory.
     ensures only { (outcome : RunOutcome)
-        → RunsOnly files.now class.now method.now arguments.items limits outcome
+        → IsRun files.now class.now method.now arguments.items limits outcome
         → OnlyGives outcome IsOutOfMemory result }
 {
     let accepted = accepted_of(alloc, files)?;
     let program = Program::of(alloc, accepted)?;
-    let Some(method) = find_method(&program, class, method) else {
+    let found = find_named(alloc, &program, class, method)?;
+    let Some(method) = found else {
         return Err(Refusal::Start(StartFault::AbsentMethod));
     };
     run_method(alloc, &program, method, arguments, limits)
@@ -83,8 +89,8 @@ pub fn check_classes(alloc: Global, files: &[ClassBytes]) -> Result<usize, Refus
     ensures accepted { IfOk result (λ count. count ≡ length files.now) }
     ensures program { IfOk result (λ _. (program : Links) × IsProgram files.now program) }
     ensures refused { IfErr result (IsNoProgram files.now) }
-    // Files that break no rule are accepted, unless memory runs out.
-    ensures only { MakeAProgram files.now → IfErr result IsOutOfMemory }
+    // Files that make a program are accepted, unless memory runs out.
+    ensures only { (program : Links) → IsProgram files.now program → IfErr result IsOutOfMemory }
 {
     accepted_of(alloc, files)?;
     Ok(files.len())
@@ -94,7 +100,7 @@ pub fn check_classes(alloc: Global, files: &[ClassBytes]) -> Result<usize, Refus
 fn accepted_of(alloc: Global, files: &[ClassBytes]) -> Result<Accepted, Refusal>
     ensures program { IfOk result (IsProgram files.now) }
     ensures refused { IfErr result (IsNoProgram files.now) }
-    ensures only { MakeAProgram files.now → IfErr result IsOutOfMemory }
+    ensures only { (program : Links) → IsProgram files.now program → IfErr result IsOutOfMemory }
 {
     let classes = read_files(alloc, files)?;
     let set = ClassSet::build(alloc, classes)?;
@@ -130,14 +136,49 @@ fn read_file(alloc: Global, file: &ClassBytes) -> Result<ClassFile, LoadFault>
     }
 }
 
-// The method of this class, name and descriptor.
-fn find_method(program: &Program, class: &[u8], method: &[u8]) -> Option<MethodId>
-    ensures { result ≡ method_named program.now class.now method.now }
+// The method that a text names in the class of this name, or in a class or interface above it.
+fn find_named(
+    alloc: Global,
+    program: &Program,
+    class: &[u8],
+    text: &[u8],
+) -> Result<Option<MethodId>, AllocError>
+    ensures { IfOk result (NamesMethod program.now class.now text.now) }
 {
     let linked = program.linked();
-    let class = linked.set().number(class)?;
-    let (name, descriptor) = method.split_at(descriptor_index(method)?);
-    linked.declared_method(class, name, descriptor)
+    let Some(class) = linked.set().number(class) else {
+        return Ok(None);
+    };
+    let Some(index) = descriptor_index(text) else {
+        return Ok(None);
+    };
+    let (name, descriptor) = text.split_at(index);
+    let mut marks = vec![in alloc; false; linked.set().len()]?;
+    match find_method(linked.set(), class, name, descriptor, &mut marks) {
+        Some(found) => Ok(Some(number(linked, found))),
+        None => Ok(None),
+    }
+}
+
+// The number of a method.
+fn number(linked: &Linked, method: MethodIndex) -> MethodId
+    requires { IsSome (method_in linked.now.classes method) }
+    ensures { result ≡ number_in linked.now.classes method }
+{
+    linked.method_id(MemberIndex {
+        class: method.class,
+        index: index_in_class(linked.set(), method),
+    })
+}
+
+// The index of a method among those of its class, which are few enough.
+fn index_in_class(set: &ClassSet, method: MethodIndex) -> u16
+    requires { IsSome (method_in set.now method) }
+    ensures { result ≡ method.index }
+{
+    let methods = set.class(method.class).file.methods.as_slice();
+    let _ = &methods[method.index];
+    method.index as u16
 }
 
 // The index of the descriptor's first byte.

@@ -30,43 +30,56 @@ fn three_objects(alloc: Global) -> Result<Store, Fail> {
     Ok(store)
 }
 
+// What the calls of a store answer. These functions promise nothing, so that a test of several calls is
+// proved at once.
+fn field(store: &Store, id: u64, index: usize) -> Option<&Value> {
+    store.get_field(ObjId(id), index)
+}
+
+fn sweep(store: &mut Store, alloc: Global, needed: IdSet) -> Result<Vec<ObjId>, Fail> {
+    Ok(store.sweep(alloc, needed)?)
+}
+
 #[test]
 fn objects_are_made_and_keep_what_is_put(rt: HostRuntime) -> Result<(), Fail> {
     let mut store = three_objects(rt.alloc())?;
     assert_eq!(rt; store.len(), 3);
     assert_eq!(rt; store.object(2), Some((ObjId(3), ClassId(8))));
-    assert!(rt; matches!(store.get_field(ObjId(1), 0), Some(Value::Int(0))));
+    assert!(rt; matches!(field(&store, 1, 0), Some(Value::Int(0))));
     store.put_field(ObjId(1), 0, Value::Int(5));
-    assert!(rt; matches!(store.get_field(ObjId(1), 0), Some(Value::Int(5))));
-    assert!(rt; store.get_field(ObjId(3), 0).is_none());
+    assert!(rt; matches!(field(&store, 1, 0), Some(Value::Int(5))));
+    assert!(rt; field(&store, 3, 0).is_none());
+    Ok(())
+}
+
+#[test]
+fn idle_objects_are_told(rt: HostRuntime) -> Result<(), Fail> {
+    let alloc = rt.alloc();
+    let store = three_objects(alloc)?;
+    let idle = store.idle(alloc, IdSet::new(alloc))?;
+    assert_eq!(rt; idle.as_slice(), [ObjId(3)].as_slice());
+    Ok(())
+}
+
+#[test]
+fn a_sweep_leaves_what_is_needed(rt: HostRuntime) -> Result<(), Fail> {
+    let alloc = rt.alloc();
+    let mut store = three_objects(alloc)?;
+    let mut needed = IdSet::new(alloc);
+    needed.insert(ObjId(3))?;
+    assert!(rt; sweep(&mut store, alloc, needed)?.is_empty());
     Ok(())
 }
 
 #[test]
 fn a_sweep_withdraws_what_nothing_needs(rt: HostRuntime) -> Result<(), Fail> {
-    let mut store = three_objects(rt.alloc())?;
     let alloc = rt.alloc();
-    let mut needed = IdSet::new(alloc);
-    needed.insert(ObjId(3))?;
-    assert_eq!(rt;
-        store.idle(alloc, IdSet::new(alloc))?.as_slice(),
-        [ObjId(3)].as_slice()
-    );
-    assert!(rt; store.sweep(alloc, needed)?.is_empty());
-    assert_eq!(rt;
-        store.sweep(alloc, IdSet::new(alloc))?.as_slice(),
-        [ObjId(3)].as_slice()
-    );
-    assert_eq!(rt; store.len(), 2);
-    store.release(ObjId(1));
-    assert_eq!(rt;
-        store.sweep(alloc, IdSet::new(alloc))?.as_slice(),
-        [ObjId(1)].as_slice()
-    );
-    assert_eq!(rt;
-        store.sweep(alloc, IdSet::new(alloc))?.as_slice(),
-        [ObjId(2)].as_slice()
-    );
-    assert_eq!(rt; store.made(), 3);
+    let mut store = three_objects(alloc)?;
+    for id in [3, 1, 2] {
+        let gone = sweep(&mut store, alloc, IdSet::new(alloc))?;
+        assert_eq!(rt; gone.as_slice(), [ObjId(id)].as_slice());
+        store.release(ObjId(1));
+    }
+    assert_eq!(rt; (store.len(), store.made()), (0, 3));
     Ok(())
 }

@@ -13,90 +13,145 @@ fn client(number: u64) -> Uuid {
     Uuid::from_u64_pair(0, number)
 }
 
-// Dirty calls of a client on object 1, for 100 ms, with these numbers.
-fn dirty_1(list: &mut RefList, of: u64, numbers: &[u64]) -> Result<(), AllocError> {
-    for number in numbers {
-        list.dirty(&client(of), &[ObjId(1)], *number, 100)?;
+// What happens to object 1, and what is asked of it.
+#[derive(Clone, Copy)]
+enum Step {
+    // A dirty call of a client: its number and the period in ms.
+    Dirty(u64, u64, u64),
+    // A clean call of a client: its number, and whether it is strong.
+    Clean(u64, u64, bool),
+    Moment(u64),
+    Forget,
+    // How many entries there are.
+    Entries(usize),
+    // The moment until which the client's entry stands.
+    Until(u64, Option<u64>),
+}
+
+fn take(list: &mut RefList, step: Step) -> Result<(), AllocError> {
+    match step {
+        Step::Dirty(of, number, period) => {
+            list.dirty(&client(of), &[ObjId(1)], number, period)?;
+        }
+        Step::Clean(of, number, strong) => {
+            list.clean(&client(of), &[ObjId(1), ObjId(2)], number, strong)?;
+        }
+        Step::Moment(moment) if moment < 1 << 63 => list.moment(moment),
+        Step::Forget => list.forget(ObjId(1)),
+        _ => {}
     }
     Ok(())
 }
 
-fn stands(list: &RefList, of: u64) -> bool {
-    list.entry(&client(of), ObjId(1)).is_some()
+fn holds(list: &RefList, step: Step) -> bool {
+    match step {
+        Step::Entries(count) => list.entries_of(ObjId(1)) == count,
+        Step::Until(of, moment) => list.entry(&client(of), ObjId(1)) == moment,
+        _ => true,
+    }
 }
 
-#[test]
-fn a_strong_clean_call_outlives_an_older_dirty_call(rt: HostRuntime) -> Result<(), Fail> {
-    let mut list = RefList::new(rt.alloc());
-    dirty_1(&mut list, 7, &[3])?;
-    assert!(rt; stands(&list, 7));
-    list.clean(&client(7), &[ObjId(1)], 5, true)?;
-    dirty_1(&mut list, 7, &[4])?;
-    assert!(rt; !stands(&list, 7));
-    dirty_1(&mut list, 7, &[6])?;
-    assert!(rt; stands(&list, 7));
-    list.clean(&client(7), &[ObjId(1), ObjId(2)], 7, false)?;
-    assert!(rt; !stands(&list, 7));
-    dirty_1(&mut list, 7, &[7])?;
-    assert!(rt; !stands(&list, 7), "the number stays after a strong call");
+// Takes the steps on a list in which nothing stands; the moment is 0. Each answer is the one that is told.
+fn play(rt: &impl Abort, list: &mut RefList, steps: &[Step]) -> Result<(), AllocError> {
+    for (index, step) in steps.iter().enumerate() {
+        take(list, *step)?;
+        assert!(rt; holds(list, *step), "step {index}");
+    }
     Ok(())
 }
 
 #[test]
+fn a_strong_clean_call_outlives_an_older_dirty_call(rt: HostRuntime) -> Result<(), Fail> {
+    let steps = [
+        Step::Dirty(7, 3, 100),
+        Step::Until(7, Some(100)),
+        Step::Clean(7, 5, true),
+        Step::Dirty(7, 4, 100),
+        Step::Until(7, None),
+        Step::Dirty(7, 6, 100),
+        Step::Until(7, Some(100)),
+        Step::Clean(7, 7, false),
+        Step::Until(7, None),
+        // The number stays after a strong call.
+        Step::Dirty(7, 7, 100),
+        Step::Until(7, None),
+    ];
+    Ok(play(&rt, &mut RefList::new(rt.alloc()), &steps)?)
+}
+
+#[test]
 fn an_entry_stands_for_its_period(rt: HostRuntime) -> Result<(), Fail> {
+    let steps = [
+        Step::Moment(1000),
+        Step::Dirty(7, 1, 100),
+        Step::Moment(1099),
+        Step::Until(7, Some(1100)),
+        Step::Moment(1100),
+        Step::Until(7, None),
+        Step::Dirty(7, 1, 700_000),
+        Step::Until(7, Some(1100 + LONGEST_LEASE)),
+        Step::Forget,
+        Step::Until(7, None),
+    ];
+    Ok(play(&rt, &mut RefList::new(rt.alloc()), &steps)?)
+}
+
+#[test]
+fn a_dirty_call_is_granted_for_the_longest_lease_at_most(rt: HostRuntime) -> Result<(), Fail> {
     let mut list = RefList::new(rt.alloc());
-    list.moment(1000);
-    assert_eq!(rt; list.dirty(&client(7), &[ObjId(1)], 1, 100)?, 100);
-    list.moment(1099);
-    assert_eq!(rt; list.entry(&client(7), ObjId(1)), Some(1100));
-    list.moment(1100);
-    assert_eq!(rt; list.entry(&client(7), ObjId(1)), None);
-    assert_eq!(rt;
-        list.dirty(&client(7), &[ObjId(1)], 1, 700_000)?,
-        LONGEST_LEASE
-    );
-    list.forget(ObjId(1));
-    assert!(rt; !stands(&list, 7));
+    let granted = list.dirty(&client(7), &[ObjId(1)], 1, 700_000)?;
+    assert_eq!(rt; granted, LONGEST_LEASE);
     Ok(())
 }
 
 #[test]
 fn entries_expire_in_the_order_of_their_moments(rt: HostRuntime) -> Result<(), Fail> {
-    for renewed in [false, true] {
-        let mut list = RefList::new(rt.alloc());
-        list.dirty(&client(1), &[ObjId(1)], 1, 100)?;
-        list.dirty(&client(2), &[ObjId(1)], 1, 200)?;
-        list.dirty(&client(3), &[ObjId(1)], 1, 200)?;
-        list.moment(99);
-        assert_eq!(rt; list.entries_of(ObjId(1)), 3);
-        list.moment(100);
-        assert_eq!(rt; list.entries_of(ObjId(1)), 2);
-        if renewed {
-            list.moment(150);
-            list.dirty(&client(2), &[ObjId(1)], 2, 200)?;
-        }
-        list.moment(199);
-        assert_eq!(rt; list.entries_of(ObjId(1)), 2);
-        list.moment(200);
-        assert_eq!(rt; stands(&list, 2), renewed);
-        assert!(rt; !stands(&list, 3));
-        list.moment(349);
-        assert_eq!(rt; stands(&list, 2), renewed);
-        list.moment(350);
-        assert_eq!(rt; list.entries_of(ObjId(1)), 0);
-    }
-    Ok(())
+    let steps = [
+        Step::Dirty(1, 1, 100),
+        Step::Dirty(2, 1, 200),
+        Step::Dirty(3, 1, 200),
+        Step::Moment(99),
+        Step::Entries(3),
+        Step::Moment(100),
+        Step::Entries(2),
+        Step::Moment(199),
+        Step::Entries(2),
+        Step::Moment(200),
+        Step::Entries(0),
+    ];
+    Ok(play(&rt, &mut RefList::new(rt.alloc()), &steps)?)
+}
+
+#[test]
+fn an_entry_that_is_renewed_expires_later(rt: HostRuntime) -> Result<(), Fail> {
+    let steps = [
+        Step::Dirty(2, 1, 200),
+        Step::Dirty(3, 1, 200),
+        Step::Moment(150),
+        Step::Dirty(2, 2, 200),
+        Step::Moment(200),
+        Step::Until(2, Some(350)),
+        Step::Until(3, None),
+        Step::Moment(349),
+        Step::Entries(1),
+        Step::Moment(350),
+        Step::Entries(0),
+    ];
+    Ok(play(&rt, &mut RefList::new(rt.alloc()), &steps)?)
 }
 
 #[test]
 fn clients_are_in_the_order_of_their_entries(rt: HostRuntime) -> Result<(), Fail> {
+    let steps = [
+        Step::Dirty(1, 1, 100),
+        Step::Dirty(2, 1, 100),
+        Step::Dirty(3, 1, 100),
+        Step::Dirty(1, 2, 100),
+        Step::Clean(2, 2, false),
+        Step::Dirty(2, 3, 100),
+    ];
     let mut list = RefList::new(rt.alloc());
-    for of in [1, 2, 3] {
-        dirty_1(&mut list, of, &[1])?;
-    }
-    dirty_1(&mut list, 1, &[2])?;
-    list.clean(&client(2), &[ObjId(1)], 2, false)?;
-    dirty_1(&mut list, 2, &[3])?;
+    play(&rt, &mut list, &steps)?;
     let clients = list.clients_of(rt.alloc(), ObjId(1))?;
     assert_eq!(rt;
         clients.as_slice(),
