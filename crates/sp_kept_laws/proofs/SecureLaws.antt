@@ -52,8 +52,8 @@ use Rattle.sp_answer_laws.proofs.WorldStays.{Standing}
 use Rattle.sp_hello_laws.proofs.TableLemmas.{connections_begin_in_order}
 use Rattle.sp_order_laws.proofs.RisingWorlds.{numbers_rise}
 use Rattle.sp_kept_laws.specs.Cleans.{is_clean_of, IsOutBelow, IsUncleaned, GrantedReferencesAreUncleaned}
-use Rattle.sp_kept_laws.specs.Granted.{is_granted}
-use Rattle.sp_kept_laws.specs.Secure.{NoCleanOnItsWay, GrantedReferencesStaySecure}
+use Rattle.sp_kept_laws.specs.Granted.{is_granted, HeldIsGranted, WhatIsHeldIsGranted}
+use Rattle.sp_kept_laws.specs.Secure.{NoCleanOnItsWay, GrantedReferencesStaySecure, WhatIsHeldIsNotCleaned}
 use Rattle.sp_kept_laws.proofs.FreeLemmas.{one-of}
 
 -- ---- a clean call of a number that names an object
@@ -326,3 +326,15 @@ given-of L settings events kind fine = record { facts = facts-of L settings even
   where
     h : Standing settings (run (new_world settings) events)
     h = standing-of L settings events kind fine
+
+pub what_is_held_is_not_cleaned : WhatIsHeldIsGranted → GrantedReferencesAreUncleaned → ((settings : List Setting) (events : List WorldEvent) → AreOfOneKind settings → NothingFails events → Given settings (run (new_world settings) events)) → WhatIsHeldIsNotCleaned
+what_is_held_is_not_cleaned granted U given settings events kind fine conn number strong ids p a b r between same few held there = secure G U conn number strong ids p a b r between same (by (at-all Known p.dialler.space w.spaces a between.dialled G.facts.known)) there
+  where
+    w : World
+    w = run (new_world settings) events
+
+    G : Given settings w
+    G = given settings events kind fine
+
+    by : Known a → is_granted a.state r ≡ true
+    by k = (subst (λ (s : State). HeldIsGranted a.setting s r) (sym k.state) (granted a.setting a.history r k.taken k.once (subst (λ (s : State). Rattle.std.specs.Prelude.nat_lt (Rattle.sp_laws.specs.Counted.times_held r s.leases) 18446744073709551615 ≡ true) k.state few))).held held

@@ -3,7 +3,7 @@
 ghost use Rattle.sp_kept_laws.specs.Cleans.{GrantedReferencesAreUncleaned};
 ghost use Rattle.sp_kept_laws.specs.Granted.{DirtyCallsAreAwaited, WhatIsHeldIsGranted};
 ghost use Rattle.sp_kept_laws.specs.Reaches.{EventsReachOneSpace};
-ghost use Rattle.sp_kept_laws.specs.Secure.{GrantedReferencesStaySecure};
+ghost use Rattle.sp_kept_laws.specs.Secure.{GrantedReferencesStaySecure, WhatIsHeldIsNotCleaned};
 ghost use Rattle.sp_kept_laws.specs.Steps.{DirtyCallsSetEntries, EntriesStayUntilCleaned, OnlyLeasesGrant, WhatIsOutStaysAsked};
 
 use sp_answer_laws::laws::calls_keep_their_order;
@@ -106,4 +106,27 @@ pub fn granted_references_stay_secure()
     answers_are_parked();
     connections_are_opened_once();
     granted_references_are_uncleaned();
+}
+
+/// In every run of every world of spaces that have ids of their own and one digest, in which no Dial is
+/// refused and no read or write fails: a clean call on its way to an owner names no object of a reference
+/// that a task that has started, a field of a standing object or a held result of the client has, as long as
+/// a holder of the reference came fewer than 2^64 - 1 times.
+pub fn what_is_held_is_not_cleaned()
+    ensures { WhatIsHeldIsNotCleaned }
+{
+    frames_go_their_way();
+    parked_results_came();
+    spaces_have_directions();
+    what_comes_was_sent();
+    hand_shakes_are_in_table();
+    calls_come_above_the_last();
+    each_call_stands_once();
+    each_group_is_answered_once();
+    each_result_is_acknowledged_once();
+    frames_are_answered_once();
+    answers_are_parked();
+    connections_are_opened_once();
+    granted_references_are_uncleaned();
+    what_is_held_is_granted();
 }
