@@ -13,3 +13,4 @@ mod CleanLaws
 mod StepLaws
 mod EntryLaws
 mod ReachLaws
+mod SecureLaws

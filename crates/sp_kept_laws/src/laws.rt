@@ -3,12 +3,20 @@
 ghost use Rattle.sp_kept_laws.specs.Cleans.{GrantedReferencesAreUncleaned};
 ghost use Rattle.sp_kept_laws.specs.Granted.{DirtyCallsAreAwaited, WhatIsHeldIsGranted};
 ghost use Rattle.sp_kept_laws.specs.Reaches.{EventsReachOneSpace};
+ghost use Rattle.sp_kept_laws.specs.Secure.{GrantedReferencesStaySecure, WhatIsHeldIsNotCleaned};
 ghost use Rattle.sp_kept_laws.specs.Steps.{DirtyCallsSetEntries, EntriesStayUntilCleaned, OnlyLeasesGrant, WhatIsOutStaysAsked};
 
 use sp_answer_laws::laws::calls_keep_their_order;
+use sp_call_laws::laws::{frames_go_their_way, spaces_have_directions};
+use sp_hello_laws::laws::hand_shakes_are_in_table;
 use sp_hold_laws::laws::nothing_holds_what_goes;
-use sp_laws::laws::holders_are_counted;
+use sp_laws::laws::{answers_are_parked, connections_are_opened_once, holders_are_counted};
 use sp_lease_laws::laws::{calls_are_made_when_due, calls_on_their_way_are_requests};
+use sp_order_laws::laws::{
+    calls_come_above_the_last, each_call_stands_once, each_group_is_answered_once,
+    each_result_is_acknowledged_once, frames_are_answered_once,
+};
+use sp_world_laws::laws::{parked_results_came, what_comes_was_sent};
 
 /// After every history that a space took, in which no number of a connection comes again: a foreign
 /// reference that a task that has started, a field of a standing object or a held result has is granted.
@@ -77,3 +85,48 @@ pub fn dirty_calls_set_entries()
 pub fn events_reach_one_space()
     ensures { EventsReachOneSpace }
 {}
+
+/// In every run of every world of spaces that have ids of their own and one digest, in which no Dial is
+/// refused and no read or write fails: a clean call on its way to an owner names no object of a reference
+/// that is granted to its client. So none does of what a task that has started, a field or a held result of
+/// the client has.
+pub fn granted_references_stay_secure()
+    ensures { GrantedReferencesStaySecure }
+{
+    frames_go_their_way();
+    parked_results_came();
+    spaces_have_directions();
+    what_comes_was_sent();
+    hand_shakes_are_in_table();
+    calls_come_above_the_last();
+    each_call_stands_once();
+    each_group_is_answered_once();
+    each_result_is_acknowledged_once();
+    frames_are_answered_once();
+    answers_are_parked();
+    connections_are_opened_once();
+    granted_references_are_uncleaned();
+}
+
+/// In every run of every world of spaces that have ids of their own and one digest, in which no Dial is
+/// refused and no read or write fails: a clean call on its way to an owner names no object of a reference
+/// that a task that has started, a field of a standing object or a held result of the client has, as long as
+/// a holder of the reference came fewer than 2^64 - 1 times.
+pub fn what_is_held_is_not_cleaned()
+    ensures { WhatIsHeldIsNotCleaned }
+{
+    frames_go_their_way();
+    parked_results_came();
+    spaces_have_directions();
+    what_comes_was_sent();
+    hand_shakes_are_in_table();
+    calls_come_above_the_last();
+    each_call_stands_once();
+    each_group_is_answered_once();
+    each_result_is_acknowledged_once();
+    frames_are_answered_once();
+    answers_are_parked();
+    connections_are_opened_once();
+    granted_references_are_uncleaned();
+    what_is_held_is_granted();
+}
