@@ -72,8 +72,8 @@ module _ (classes : List Class) (user : ClassId) where
       let named : a.named ≡ b.named = same_some (sym a.entry ∙ b.entry) in
       let class : c ≡ d = same_some (sym a.number ∙ (ap (λ (k : NamedMember). number_of classes k.class) named ∙ b.number)) in
       let resolved =
-          subst (λ (k : ClassId). ResolvesField classes k b.named.name b.named.descriptor (Some (field_of m))) class
-          (subst (λ (k : NamedMember). ResolvesField classes c k.name k.descriptor (Some (field_of m))) named a.resolved)
+      subst (λ (k : ClassId). ResolvesField classes k b.named.name b.named.descriptor (Some (field_of m))) class
+      (subst (λ (k : NamedMember). ResolvesField classes c k.name k.descriptor (Some (field_of m))) named a.resolved)
       in
       let member : m ≡ n = same_field m n (same_some (one_found (supertypes_of classes) (own_field classes b.named.name b.named.descriptor) resolved b.resolved)) in
       record { class = class; member = member; declared = same_some (sym a.declared ∙ (ap (λ (k : MemberIndex). field_at classes (field_of k)) member ∙ b.declared)) }
@@ -83,8 +83,8 @@ module _ (classes : List Class) (user : ClassId) where
       let named : a.named ≡ b.named = same_some (sym a.entry ∙ b.entry) in
       let class : c ≡ d = same_some (sym a.number ∙ (ap (λ (k : NamedMember). number_of classes k.class) named ∙ b.number)) in
       let resolved =
-          subst (λ (k : ClassId). Resolves classes k b.named.name (own_method classes b.named.name b.named.descriptor) (Some (method_of m))) class
-          (subst (λ (k : NamedMember). Resolves classes c k.name (own_method classes k.name k.descriptor) (Some (method_of m))) named a.resolved)
+      subst (λ (k : ClassId). Resolves classes k b.named.name (own_method classes b.named.name b.named.descriptor) (Some (method_of m))) class
+      (subst (λ (k : NamedMember). Resolves classes c k.name (own_method classes k.name k.descriptor) (Some (method_of m))) named a.resolved)
       in
       let member : m ≡ n = same_method m n (same_some (one_resolved classes d b.named.name (own_method classes b.named.name b.named.descriptor) resolved b.resolved)) in
       record { class = class; member = member; declared = same_some (sym a.declared ∙ (ap (λ (k : MemberIndex). method_in classes (method_of k)) member ∙ b.declared)) }

@@ -72,7 +72,7 @@ module _ {X : Type 0} (key : X → List ℕ) where
       let into : (z : X) → Contains (x ∷ xs) z → Contains (x ∷ ys) z = λ z h. subst (λ w. Contains (w ∷ ys) z) (sym same) (f z h) in
       let back : (z : X) → Contains (y ∷ ys) z → Contains (y ∷ xs) z = λ z h. subst (λ w. Contains (w ∷ xs) z) same (g z h) in
       let rest : xs ≡ ys =
-          same_rows xs ys (sorted_tail name_cmp (key x) (map key xs) up) (sorted_tail name_cmp (key y) (map key ys) rise) (after_first x xs ys up into) (after_first y ys xs rise back)
+      same_rows xs ys (sorted_tail name_cmp (key x) (map key xs) up) (sorted_tail name_cmp (key y) (map key ys) rise) (after_first x xs ys up into) (after_first y ys xs rise back)
       in
       cc
 

@@ -83,10 +83,10 @@ module _ (ns : List (List ℕ)) (up : IsStrictlySortedBy name_cmp ns) where
       let file : c.file ≡ d.file = ap (λ (o : Origin). o.0) same in
       let built_in : c.is_built_in ≡ d.is_built_in = ap (λ (o : Origin). o.1) same in
       let superclass : c.superclass ≡ d.superclass =
-          one_superclass c.superclass d.superclass d.file.superclass (r.superclass ∙ ap (λ (f : ClassFile). option_map (λ n. Some n) f.superclass) file) s.superclass
+      one_superclass c.superclass d.superclass d.file.superclass (r.superclass ∙ ap (λ (f : ClassFile). option_map (λ n. Some n) f.superclass) file) s.superclass
       in
       let interfaces : c.interfaces ≡ d.interfaces =
-          one_row c.interfaces d.interfaces d.file.interfaces (r.interfaces ∙ ap (λ (f : ClassFile). map (λ n. Some n) f.interfaces) file) s.interfaces
+      one_row c.interfaces d.interfaces d.file.interfaces (r.interfaces ∙ ap (λ (f : ClassFile). map (λ n. Some n) f.interfaces) file) s.interfaces
       in
       ap (λ f. made f c.superclass c.interfaces c.is_built_in) file
       ∙ (ap (λ x. made d.file x c.interfaces c.is_built_in) superclass
