@@ -1,3 +1,4 @@
 mod Images
 mod Cells
-mod References
+mod OwnWords
+mod Tables

@@ -1,3 +1,4 @@
 pub mod Tagged
 pub mod Words
 pub mod Heap
+pub mod References

@@ -1,6 +1,6 @@
 //! The heap of a task.
 ghost use Rattle.std.specs.Prelude.{◌≡◌, ◌+◌, ◌<◌, ◌≤◌, ◌^◌, [], ◌++◌, length, map, pos, IfOk, IfSome, IsSome, Some, None, option_map, replicate};
-ghost use Rattle.vm_heap.specs.Tagged.{Int, Local, IsInt, int_of};
+ghost use Rattle.vm_heap.specs.Tagged.{Int, Local, IsInt, int_of, most_rows};
 ghost use Rattle.vm_heap.specs.Heap.{Ints, cell_at, all_cost, cost, class_of, default, new_cell, with_new};
 
 use crate::word::Word;
@@ -53,8 +53,10 @@ impl Model for Cells {
 impl Heap {
     ghost use Rattle.vm_heap.specs.Heap.{field_at, element_at, length_at, with_field, with_element};
 
-    /// Returns a heap with a budget of `words` words, all of them reserved, and nothing in it.
+    /// Returns a heap with a budget of `words` words, all of them reserved, and nothing in it. The
+    /// highest words stand for remote objects.
     pub fn with_words(alloc: Global, words: u32) -> Result<Heap, AllocError>
+        requires { words + most_rows < 2 ^ 32 }
         ensures { IfOk result (λ heap. heap ≡ record { cells = []; free = words }) }
     {
         Ok(Heap {

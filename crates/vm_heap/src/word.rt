@@ -1,6 +1,6 @@
 //! Words: what a task's heap and stack are made of.
-ghost use Rattle.std.specs.Prelude.{◌≡◌, ◌+◌, ◌<◌, ◌^◌, ◌↔◌, IsTrue};
-ghost use Rattle.vm_heap.specs.Tagged.{Tagged, IsInt, IsPointer, IsFirstHead, IsLengthHead, Int, Null, Local, Unset, Head, OfClass, OfInts, Length, address_of, as_fresh, class_of_head};
+ghost use Rattle.std.specs.Prelude.{◌≡◌, ◌+◌, ◌<◌, ◌^◌, ◌↔◌, IsTrue, Some, IsSome};
+ghost use Rattle.vm_heap.specs.Tagged.{Tagged, IsInt, IsPointer, IsFirstHead, IsLengthHead, Int, Null, Local, Remote, Unset, Head, OfClass, OfInts, Length, address_of, pointer_of, most_rows, as_fresh, class_of_head};
 
 use ghost_value::{Ghost, Says};
 use space_ids::ClassId;
@@ -32,6 +32,19 @@ impl Model for Tag {
 
     ghost view = { λ _. Unset };
 }
+
+/// What a reference stands for.
+#[derive(Clone, Copy, Debug, PartialEq, Eq)]
+pub enum Pointer {
+    Null,
+    /// An object or an array of the heap, by its address.
+    Address(usize),
+    /// A remote object, by its row in the task's list of references.
+    Row(usize),
+}
+
+// The lowest of the words that stand for remote objects.
+const FIRST_ROW: u32 = 0xFFFF_0000;
 
 // The word that the heap keeps of an array first: the one after the highest class number.
 const INTS: u32 = 65_536;
@@ -73,12 +86,24 @@ impl Word {
     /// Returns the word of an initialised object, or an array, at an address of the heap.
     #[inline(always)]
     pub fn local(address: usize) -> Word
-        requires { address + 1 < 2 ^ 32 }
+        requires { address + 1 + most_rows < 2 ^ 32 }
         ensures { result ≡ Local address }
     {
         Word {
             bits: address as u32 + 1,
             tag: Ghost::of::<usize, OfAddress>(&address),
+        }
+    }
+
+    /// Returns the word of an initialised remote object, by its row in the task's list of
+    /// references.
+    #[inline(always)]
+    pub fn remote(row: u16) -> Word
+        ensures { result ≡ Remote row }
+    {
+        Word {
+            bits: u32::MAX - row as u32,
+            tag: Ghost::of::<u16, OfRow>(&row),
         }
     }
 
@@ -103,6 +128,22 @@ impl Word {
             None
         } else {
             Some(self.bits as usize - 1)
+        }
+    }
+
+    /// Returns what the reference stands for: null, an object or an array of the heap, or a remote
+    /// object. The caller owes that it is a reference; nothing tests it.
+    #[inline(always)]
+    pub fn as_pointer(&self) -> Pointer
+        requires { IsSome (pointer_of self.now) }
+        ensures { pointer_of self.now ≡ Some result }
+    {
+        if self.bits == 0 {
+            Pointer::Null
+        } else if self.bits < FIRST_ROW {
+            Pointer::Address(self.bits as usize - 1)
+        } else {
+            Pointer::Row((u32::MAX - self.bits) as usize)
         }
     }
 
@@ -212,6 +253,12 @@ struct OfAddress;
 
 impl Says<usize, Tag> for OfAddress {
     ghost says = { Local };
+}
+
+struct OfRow;
+
+impl Says<u16, Tag> for OfRow {
+    ghost says = { Remote };
 }
 
 // A new object, and the index of its `new` instruction.
