@@ -6,3 +6,4 @@ pub mod Objects
 pub mod Arrays
 pub mod Calls
 pub mod Switches
+pub mod Remote

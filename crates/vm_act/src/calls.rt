@@ -1,11 +1,11 @@
 //! Calls and returns (JVMS 6.5).
 ghost use Rattle.std.specs.Prelude.{◌≡◌, ◌≢◌, ◌+◌, ◌<◌, ◌^◌};
-ghost use Rattle.vm_act.specs.Next.{NotStuck, Does};
-ghost use Rattle.vm_act.specs.Calls.{call, construct, invoke, return_int, return_reference, return_nothing};
+ghost use Rattle.vm_act.specs.Next.{NotStuck, Does, Ends};
+ghost use Rattle.vm_act.specs.Calls.{call, construct, invoke, on_returned, return_int, return_reference, return_nothing};
 
 use crate::ending::{Ending, Flow, Thrown};
 use crate::machine::Machine;
-use vm_heap::Word;
+use vm_heap::{Pointer, Word};
 
 /// What a call needs to know of a method with code.
 #[derive(Clone, Copy, Debug, PartialEq, Eq)]
@@ -130,7 +130,20 @@ impl Machine {
             self.push(word);
             Flow::Moves
         } else {
-            Flow::Ends(Ending::ReturnedReference(word.as_address()))
+            Flow::Ends(self.returned(&word))
+        }
+    }
+
+    // What a task ends with that returns this reference.
+    #[inline(always)]
+    fn returned(&self, word: &Word) -> Ending
+        requires { NotStuck (on_returned Ends self.now word.now) }
+        ensures { on_returned Ends self.now word.now ≡ Ends result }
+    {
+        match word.as_pointer() {
+            Pointer::Null => Ending::ReturnedReference(None),
+            Pointer::Address(address) => Ending::ReturnedReference(Some(address)),
+            Pointer::Row(row) => Ending::ReturnedRemote(self.references.get(row)),
         }
     }
 

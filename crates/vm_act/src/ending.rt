@@ -1,6 +1,7 @@
 //! How tasks end.
 
-use vm_heap::ClassId;
+use crate::asked::Asked;
+use vm_heap::{ClassId, Ref};
 
 /// The built-in classes of which the machine itself throws objects.
 #[derive(Clone, Copy, Debug, PartialEq, Eq)]
@@ -24,17 +25,21 @@ pub enum Ending {
     ReturnedInt(i32),
     /// Null, or the heap's address of an object or an array.
     ReturnedReference(Option<usize>),
+    /// A remote object.
+    ReturnedRemote(Ref),
     Threw(Thrown),
     /// An `athrow` threw an object of this class.
     ThrewObject(ClassId),
 }
 
-/// What an instruction did: the machine goes on in the same method, or in another, or the task ends.
+/// What an instruction did: the machine goes on in the same method, or in another, or the task ends, or it
+/// asks its space for something while the machine waits for the reply.
 #[derive(Clone, Copy)]
 pub enum Flow {
     Goes,
     Moves,
     Ends(Ending),
+    Asks(Asked),
 }
 
 impl Flow {

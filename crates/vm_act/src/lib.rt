@@ -6,14 +6,16 @@
 //! a field that is there); nothing tests it.
 #![tactic(auto)]
 
+pub use asked::{Asked, FieldValue, Reply};
 pub use calls::{Callee, Selected};
 pub use ending::{Ending, Flow, Thrown};
 pub use machine::Machine;
 pub use objects::Referent;
-pub use vm_heap::{ClassId, Heap, Word, WordKind};
+pub use vm_heap::{ClassId, Heap, Ref, References, Word, WordKind};
 pub use vm_stack::Stack;
 
 mod arrays;
+mod asked;
 mod calls;
 mod ending;
 mod machine;

@@ -6,15 +6,16 @@ ghost use Rattle.vm_act.specs.Steps.{go_on, branch};
 ghost use Rattle.vm_act.specs.Shapes.{IsIntOnTop, pushed_on};
 
 use crate::ending::Flow;
-use vm_heap::{Heap, Word};
+use vm_heap::{Heap, References, Word};
 use vm_stack::Stack;
 
-/// The frames and the heap of a task. The method of an instruction executes it (JVMS 6.5), and
+/// The frames and the heap of a task, and the references that it came by. The method of an instruction executes it (JVMS 6.5), and
 /// returns what it did: that the task goes on in the same method, or in another, or how it ends.
 #[derive(Drop)]
 pub struct Machine {
     pub stack: Stack,
     pub heap: Heap,
+    pub references: References,
 }
 
 impl Machine {

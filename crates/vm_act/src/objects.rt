@@ -6,12 +6,13 @@ ghost use Rattle.vm_act.specs.Objects.{new_object, get_field, put_field, put_at,
 
 use crate::ending::{Ending, Flow, Thrown};
 use crate::machine::Machine;
-use vm_heap::{ClassId, Word, WordKind};
+use vm_heap::{ClassId, Pointer, Word, WordKind};
 
 /// What a reference stands for.
 #[derive(Clone, Copy, Debug, PartialEq, Eq)]
 pub enum Referent {
     Null,
+    /// An object of the heap, or a remote one of the task's own space.
     Object(ClassId),
     /// An int array.
     Ints,
@@ -103,15 +104,16 @@ impl Machine {
 
     #[inline(always)]
     fn referent_of(&self, word: &Word) -> Referent
-        requires { IsSome (referent_of self.now.heap.cells word.now) }
-        ensures { referent_of self.now.heap.cells word.now ≡ Some result }
+        requires { IsSome (referent_of self.now.references self.now.heap.cells word.now) }
+        ensures { referent_of self.now.references self.now.heap.cells word.now ≡ Some result }
     {
-        match word.as_address() {
-            Some(address) => match self.heap.class_of(address) {
+        match word.as_pointer() {
+            Pointer::Address(address) => match self.heap.class_of(address) {
                 Some(class) => Referent::Object(class),
                 None => Referent::Ints,
             },
-            None => Referent::Null,
+            Pointer::Row(row) => Referent::Object(self.references.get(row).class),
+            Pointer::Null => Referent::Null,
         }
     }
 

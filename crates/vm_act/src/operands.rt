@@ -5,7 +5,7 @@ ghost use Rattle.vm_act.specs.Words.{constant, null, load, store_top, increment,
 
 use crate::ending::Flow;
 use crate::machine::Machine;
-use vm_heap::{Word, WordKind};
+use vm_heap::{Pointer, Word, WordKind};
 
 impl Machine {
     /// Executes the instructions that push a constant int: pushes it.
@@ -227,8 +227,8 @@ impl Machine {
         ensures does { Does (if_same equal target self.old) result self.new }
         ensures method { self.new.stack.frame.method ≡ self.old.stack.frame.method }
     {
-        let right = self.stack.pop().as_address();
-        let left = self.stack.pop().as_address();
+        let right = self.stack.pop().as_pointer();
+        let left = self.stack.pop().as_pointer();
         self.branch(same(left, right) == equal, target)
     }
 
@@ -240,19 +240,20 @@ impl Machine {
         ensures does { Does (if_null null target self.old) result self.new }
         ensures method { self.new.stack.frame.method ≡ self.old.stack.frame.method }
     {
-        let address = self.stack.pop().as_address();
-        self.branch(address.is_none() == null, target)
+        let pointer = self.stack.pop().as_pointer();
+        self.branch(same(pointer, Pointer::Null) == null, target)
     }
 }
 
-// Whether two addresses are those of one object, or both none.
+// Whether two references are to one object, or both null.
 #[inline(always)]
-fn same(left: Option<usize>, right: Option<usize>) -> bool
+fn same(left: Pointer, right: Pointer) -> bool
     ensures { result ≡ are_same left right }
 {
     match (left, right) {
-        (None, None) => true,
-        (Some(one), Some(other)) => one == other,
+        (Pointer::Null, Pointer::Null) => true,
+        (Pointer::Address(one), Pointer::Address(other)) => one == other,
+        (Pointer::Row(one), Pointer::Row(other)) => one == other,
         _ => false,
     }
 }

@@ -2,10 +2,10 @@
 ghost use Rattle.std.specs.Prelude.{◌≡◌, ◌<◌, [], length, IfOk, Some, option_map, slice_get};
 ghost use Rattle.std.specs.List.{position};
 ghost use Rattle.vm_heap.specs.Tagged.{Remote};
-ghost use Rattle.vm_heap.specs.References.{is_same_reference, row_of, row_for, with_reference};
+ghost use Rattle.vm_heap.specs.References.{is_own, is_same_reference, row_of, row_for, with_reference};
 
 use crate::word::Word;
-use space_ids::Ref;
+use space_ids::{Ref, Uuid};
 use std::alloc::{AllocError, Global};
 use std::marker::Model;
 
@@ -13,6 +13,7 @@ use std::marker::Model;
 /// them by their rows. Room for as many as there may be is reserved when it is made.
 #[derive(Drop)]
 pub struct References {
+    own: Uuid,
     rows: Vec<Ref>,
     limit: u16,
 }
@@ -23,17 +24,19 @@ impl Model for References {
 
     ghost Value = { Table };
 
-    ghost view = { λ r. record { rows = r.rows.items; limit = r.limit } };
+    ghost view = { λ r. record { own = r.own; rows = r.rows.items; limit = r.limit } };
 
     ghost invariant = { λ r. IsTable r.rows.items r.limit (vec_capacity r.rows) };
 }
 
 impl References {
-    /// Returns a list without references, with room for `limit` of them.
-    pub fn with_limit(alloc: Global, limit: u16) -> Result<References, AllocError>
-        ensures { IfOk result (λ references. references ≡ record { rows = []; limit = limit }) }
+    /// Returns a list without references, for a task of the space of this id, with room for `limit`
+    /// of them.
+    pub fn with_limit(alloc: Global, own: Uuid, limit: u16) -> Result<References, AllocError>
+        ensures { IfOk result (λ references. references ≡ record { own = own; rows = []; limit = limit }) }
     {
         Ok(References {
+            own,
             rows: Vec::with_capacity(alloc, limit as usize)?,
             limit,
         })
@@ -54,6 +57,16 @@ impl References {
         ensures { slice_get self.now.rows row ≡ Some result }
     {
         self.rows[row]
+    }
+
+    /// Returns whether the reference of a row is to an object of the task's own space. The caller
+    /// owes that there is one.
+    #[inline(always)]
+    pub fn is_own(&self, row: usize) -> bool
+        requires { row < length self.now.rows }
+        ensures { option_map (is_own self.now) (slice_get self.now.rows row) ≡ Some result }
+    {
+        self.rows[row].space == self.own
     }
 
     /// Returns the word of a reference. One that the task has not come by yet gets a row of its own.

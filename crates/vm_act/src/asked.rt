@@ -1,0 +1,177 @@
+//! What instructions on remote objects ask of the task's space, and its replies.
+ghost use Rattle.std.specs.Prelude.{◌≡◌, ◌+◌, ◌<◌, ◌^◌, Some, IsSome, IsTrue};
+ghost use Rattle.vm_act.specs.Next.{NotStuck, Does};
+ghost use Rattle.vm_act.specs.Steps.{is_kind};
+ghost use Rattle.vm_act.specs.Remote.{create, is_remote_at, ask_get, ask_put, put_to, stored_as, answered, push_value, push_made};
+
+use crate::ending::{Ending, Flow, Thrown};
+use crate::machine::Machine;
+use vm_heap::{ClassId, Pointer, Ref, Word, WordKind};
+
+/// What a field of a remote object holds.
+#[derive(Clone, Copy, Debug, PartialEq, Eq)]
+pub enum FieldValue {
+    Null,
+    /// An int or a boolean.
+    Int(i32),
+    Reference(Ref),
+}
+
+/// What a task asks its space for.
+#[derive(Clone, Copy, Debug, PartialEq, Eq)]
+pub enum Asked {
+    /// A new remote object of this class.
+    Create(ClassId),
+    /// What a field of an own object holds.
+    Get {
+        object: Ref,
+        slot: u32,
+    },
+    /// That a field of an own object hold this value.
+    Put {
+        object: Ref,
+        slot: u32,
+        value: FieldValue,
+    },
+}
+
+/// What completes the instruction that asks.
+#[derive(Clone, Copy, Debug, PartialEq, Eq)]
+pub enum Reply {
+    /// To Create: the new object.
+    Made(Ref),
+    /// To Get: what the field holds.
+    Holds(FieldValue),
+    /// To Put.
+    Written,
+    /// To each of them: an exception of this class is thrown.
+    Throws(ClassId),
+}
+
+impl Machine {
+    /// Executes new of a remote class: it asks for the object.
+    #[inline(always)]
+    pub fn create(&mut self, class: ClassId) -> Flow
+        ensures { Does (create class self.old) result self.new }
+    {
+        Flow::Asks(Asked::Create(class))
+    }
+
+    /// Returns whether the operand with `depth` others above it is a remote object: a reference.
+    #[inline(always)]
+    pub fn is_remote(&self, depth: usize) -> bool
+        requires { IsSome (is_remote_at depth self.now) }
+        ensures { is_remote_at depth self.now ≡ Some result }
+    {
+        matches!(self.stack.operand(depth).as_pointer(), Pointer::Row(_))
+    }
+
+    /// Executes getfield of a remote object: it asks for what the field holds.
+    pub fn ask_get(&mut self, slot: u32) -> Flow
+        requires { NotStuck (ask_get slot self.old) }
+        ensures { Does (ask_get slot self.old) result self.new }
+    {
+        let object = self.stack.pop();
+        match object.as_pointer() {
+            Pointer::Row(row) => Flow::Asks(Asked::Get {
+                object: self.references.get(row),
+                slot,
+            }),
+            _ => unreachable!(),
+        }
+    }
+
+    /// Executes putfield of a remote object, whose field is of this kind: it asks that it hold the
+    /// value.
+    pub fn ask_put(&mut self, slot: u32, kind: WordKind) -> Flow
+        requires { NotStuck (ask_put slot kind self.old) }
+        ensures { Does (ask_put slot kind self.old) result self.new }
+    {
+        let word = self.stack.pop();
+        let object = self.stack.pop();
+        match object.as_pointer() {
+            Pointer::Row(row) => self.ask_put_at(self.references.get(row), slot, kind, word),
+            _ => unreachable!(),
+        }
+    }
+
+    fn ask_put_at(&self, object: Ref, slot: u32, kind: WordKind, word: Word) -> Flow
+        requires kind { IsTrue (is_kind kind word) }
+        requires fits { NotStuck (put_to object slot word self.now) }
+        ensures { Does (put_to object slot word self.now) result self.now }
+    {
+        match self.stored(kind, &word) {
+            Some(value) => Flow::Asks(Asked::Put {
+                object,
+                slot,
+                value,
+            }),
+            None => Flow::throws(Thrown::IncompatibleClassChangeError),
+        }
+    }
+
+    // The value that is written to a field of a remote object: `None` for an object or an array of
+    // the heap.
+    fn stored(&self, kind: WordKind, word: &Word) -> Option<FieldValue>
+        requires kind { IsTrue (is_kind kind word.now) }
+        requires fits { IsSome (stored_as self.now word.now) }
+        ensures { stored_as self.now word.now ≡ Some result }
+    {
+        match kind {
+            WordKind::Int => Some(FieldValue::Int(word.as_int())),
+            WordKind::Reference => match word.as_pointer() {
+                Pointer::Null => Some(FieldValue::Null),
+                Pointer::Address(_) => None,
+                Pointer::Row(row) => Some(FieldValue::Reference(self.references.get(row))),
+            },
+        }
+    }
+
+    /// Completes the instruction that waits for this reply.
+    pub fn answer_with(&mut self, reply: Reply) -> Flow
+        requires index { self.old.stack.frame.index + 1 < 2 ^ 64 }
+        requires fits { NotStuck (answered reply self.old) }
+        ensures does { Does (answered reply self.old) result self.new }
+        ensures method { self.new.stack.frame.method ≡ self.old.stack.frame.method }
+    {
+        match reply {
+            Reply::Made(reference) => self.push_made(reference),
+            Reply::Holds(value) => self.push_value(value),
+            Reply::Written => self.go_on(),
+            Reply::Throws(class) => Flow::Ends(Ending::ThrewObject(class)),
+        }
+    }
+
+    fn push_made(&mut self, reference: Ref) -> Flow
+        requires index { self.old.stack.frame.index + 1 < 2 ^ 64 }
+        requires fits { NotStuck (push_made reference self.old) }
+        ensures does { Does (push_made reference self.old) result self.new }
+        ensures method { self.new.stack.frame.method ≡ self.old.stack.frame.method }
+    {
+        match self.references.hold(reference) {
+            Some(word) => {
+                let fresh = word.fresh(self.stack.index());
+                self.push(fresh);
+                self.go_on()
+            }
+            None => Flow::throws(Thrown::OutOfMemoryError),
+        }
+    }
+
+    fn push_value(&mut self, value: FieldValue) -> Flow
+        requires index { self.old.stack.frame.index + 1 < 2 ^ 64 }
+        requires fits { NotStuck (push_value value self.old) }
+        ensures does { Does (push_value value self.old) result self.new }
+        ensures method { self.new.stack.frame.method ≡ self.old.stack.frame.method }
+    {
+        match value {
+            FieldValue::Int(n) => self.push(Word::int(n)),
+            FieldValue::Null => self.push(Word::null()),
+            FieldValue::Reference(reference) => match self.references.hold(reference) {
+                Some(word) => self.push(word),
+                None => return Flow::throws(Thrown::OutOfMemoryError),
+            },
+        }
+        self.go_on()
+    }
+}
