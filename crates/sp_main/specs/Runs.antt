@@ -32,7 +32,7 @@ use Rattle.ver_rules.specs.declared.fault.CheckFault.{CheckFault}
 use Rattle.space_ids.specs.declared.ids.ClassId.{ClassId}
 use Rattle.space_ids.specs.declared.value.Value.{Value}
 use Rattle.space_ids.specs.declared.value.Value.TheVariants as value
-use Rattle.vm_run.specs.Ends.{End, ReturnedNothing, ReturnedInt, ReturnedNull, ReturnedInts, ReturnedObject, Threw, ThrewObject, Spent}
+use Rattle.vm_run.specs.Ends.{End, ReturnedNothing, ReturnedInt, ReturnedNull, ReturnedInts, ReturnedObject, ReturnedRemote, Threw, ThrewObject, Spent}
 use Rattle.vm_run.specs.Limited.{KeepsWithin}
 use Rattle.vm_run.specs.Run.{Over, made, run, IsNeverStuck}
 use Rattle.vm_run.specs.Start.{started}
@@ -107,6 +107,7 @@ IsTold classes ReturnedNull outcome = outcome ≡ told.Returned (Some value.Null
 IsTold classes (ReturnedInts elements) outcome =
     MatchBool (nat_le (length elements) most_elements) (outcome ≡ told.Returned (Some (value.Ints elements))) (outcome ≡ told.Threw unmarshalled)
 IsTold classes (ReturnedObject class) outcome = outcome ≡ told.Threw unmarshalled
+IsTold classes (ReturnedRemote reference) outcome = outcome ≡ told.Returned (Some (value.Ref reference))
 IsTold classes (Threw thrown) outcome = outcome ≡ told.Threw (thrown_name thrown)
 IsTold classes (ThrewObject class) outcome = ThrewClass classes class outcome
 IsTold classes Spent outcome = outcome ≡ told.Spent

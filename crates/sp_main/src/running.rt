@@ -52,8 +52,8 @@ pub enum RunOutcome {
 /// Runs the static method of this name and descriptor, as `f(I)I`, over the class set of the files,
 /// and returns how it ended. Method resolution finds it, so the class may inherit it (JVMS 5.4.3.3).
 /// The first refusal counts: files in order, then the set, links, checks,
-/// and the start. It may be out of memory instead of any answer. The limits' heap words and
-/// references are together below 2^32.
+/// and the start. It may be out of memory instead of any answer. The limits' heap words are
+/// below 2^32 - 2^16.
 pub fn run_classes(
     alloc: Global,
     files: &[ClassBytes],
@@ -62,7 +62,7 @@ pub fn run_classes(
     arguments: Vec<Value>,
     limits: Limits,
 ) -> Result<RunOutcome, Refusal>
-    requires memory { limits.heap_words + limits.references < 2 ^ 32 }
+    requires memory { limits.heap_words + 65536 < 2 ^ 32 }
     // From the bytes to the outcome: the classes that the bytes spell are type safe, and the tagged
     // machine of all instructions runs the method to this end, never stuck and within its bounds.
     ensures run { IfOk result (IsRun files.now class.now method.now arguments.items limits) }
@@ -197,7 +197,7 @@ fn run_method(
     arguments: Vec<Value>,
     limits: Limits,
 ) -> Result<RunOutcome, Refusal>
-    requires memory { limits.heap_words + limits.references < 2 ^ 32 }
+    requires memory { limits.heap_words + 65536 < 2 ^ 32 }
     ensures run { IfOk result (Runs program.now method arguments.items limits) }
     ensures refused { IfErr result (IsNotRun program.now method arguments.items limits) }
     ensures only { (outcome : RunOutcome)

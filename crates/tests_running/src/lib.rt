@@ -5,6 +5,8 @@
 #[cfg(test)]
 mod heaps;
 #[cfg(test)]
+mod references;
+#[cfg(test)]
 mod said;
 #[cfg(test)]
 mod stacks;

@@ -31,7 +31,7 @@ fn method(program: &Program, descriptor: &[u8]) -> Option<MethodId> {
 }
 
 fn limits(stack_words: u32, fuel: u64) -> Limits
-    ensures { result.heap_words + result.references < 2 ^ 32 }
+    ensures { result.heap_words + 65536 < 2 ^ 32 }
 {
     Limits {
         heap_words: 0,
@@ -55,7 +55,7 @@ fn begin(
     arguments: &[i32],
     limits: Limits,
 ) -> Result<Task, StartFault>
-    requires { limits.heap_words + limits.references < 2 ^ 32 }
+    requires { limits.heap_words + 65536 < 2 ^ 32 }
     ensures { IfOk result (λ task. task.program ≡ program.now) }
 {
     let values = ints(alloc, arguments)?;

@@ -24,6 +24,8 @@ use Rattle.vm_act.specs.declared.calls.Callee.{Callee}
 use Rattle.vm_act.specs.declared.ending.Thrown.{Thrown}
 use Rattle.vm_act.specs.declared.ending.Thrown.TheVariants.{OutOfMemoryError, StackOverflowError}
 use Rattle.vm_act.specs.declared.machine.Machine.{Machine}
+use Rattle.uuid.specs.declared.Uuid.{Uuid}
+use Rattle.vm_heap.specs.References.{Table}
 use Rattle.vm_heap.specs.Heap.{Cell, Ints, Store, all_cost, cell_at, cost}
 use Rattle.vm_heap.specs.Tagged.{Tagged, Null, Unset}
 use Rattle.vm_stack.specs.Frames.{Frames, empty_frame, entered, frame_cost}
@@ -159,7 +161,7 @@ begins-static : (m : Subject) → is_static m.method ≡ true → begins_uninit 
 unfolding begins_uninit
 begins-static m static = rw static refl
 
-module _ (links : Links) (id : MethodId) (m : Subject) (arguments : List Value) (limits : Limits) (are : AreLinks links) (sound : IsSoundSet links)
+module _ (links : Links) (own : Uuid) (id : MethodId) (m : Subject) (arguments : List Value) (limits : Limits) (are : AreLinks links) (sound : IsSoundSet links)
     (found : subject_at links id.0 ≡ Some m) (classes : m.classes ≡ links.classes) (normal : is_init m ≡ false) (given : Accepts links.classes m.method arguments) where
   abbrev world : World
   world = world_of links sound.frames
@@ -205,13 +207,14 @@ module _ (links : Links) (id : MethodId) (m : Subject) (arguments : List Value) 
   machine = record {
     stack = record { frame = opening_frame id m.code arguments; callers = empty_frame ∷ []; free = limits.stack_words - frame_cost m.code.max_locals m.code.max_stack };
     heap = record { cells = copies arguments; free = limits.heap_words - all_cost (copies arguments) };
+    references = record { own = own; rows = []; limit = limits.references };
   }
 
   typed : IsTyped world (world.method id.0).result machine
   unfolding machine all_cost
   typed =
       starts_typed world owes callee (passed_from 0 arguments) empty_frame (limits.stack_words - frame_cost m.code.max_locals m.code.max_stack)
-      (record { cells = copies arguments; free = limits.heap_words - all_cost (copies arguments) }) agrees
+      (record { cells = copies arguments; free = limits.heap_words - all_cost (copies arguments) }) (record { own = own; rows = []; limit = limits.references }) agrees
       (subst (λ ts. AllFit world (copies arguments) no_marks ts (passed_from 0 arguments)) (sym passed_is) fits)
       (copies_fit world (copies arguments) arguments)
       (ap (λ (t : MethodType). t.is_init) type_is ∙ normal)
@@ -230,7 +233,7 @@ module _ (links : Links) (id : MethodId) (m : Subject) (arguments : List Value) 
   opens true b = begins b
   opens false b = over-IsNeverStuck links (Threw OutOfMemoryError) limits.fuel tt
 
-  pub opening-IsNeverStuck : IsNeverStuck links (opening_state id m.code arguments limits)
+  pub opening-IsNeverStuck : IsNeverStuck links (opening_state own id m.code arguments limits)
   unfolding machine
   opening-IsNeverStuck = opens (have_room arguments limits.heap_words) (nat_le (frame_cost m.code.max_locals m.code.max_stack) limits.stack_words)
 
@@ -243,7 +246,7 @@ module _ (links : Links) (id : MethodId) (m : Subject) (arguments : List Value) 
   opens_within k false b = throws_within OutOfMemoryError k
 
   -- all frames of its runs are within the limits of their methods
-  pub opening-KeepsWithin : (k : ℕ) → KeepsWithin links (run links k (opening_state id m.code arguments limits))
+  pub opening-KeepsWithin : (k : ℕ) → KeepsWithin links (run links k (opening_state own id m.code arguments limits))
   unfolding machine
   opening-KeepsWithin k = opens_within k (have_room arguments limits.heap_words) (nat_le (frame_cost m.code.max_locals m.code.max_stack) limits.stack_words)
 
@@ -259,15 +262,15 @@ same_store : (a b : Store) → a.cells ≡ b.cells → a.free ≡ b.free → a �
 same_store a b cells free = λ i. record { cells = cells i; free = free i }
 
 -- a new stack with the first frame, to which the arguments were passed, and a new heap with their copies, are the opening state's
-pub opening_runs : (id : MethodId) (code : Code) (arguments : List Value) (limits : Limits) (fresh entry s : Frames) (empty heap : Store)
+pub opening_runs : (own : Uuid) (id : MethodId) (code : Code) (arguments : List Value) (limits : Limits) (fresh entry s : Frames) (empty heap : Store) (table : Table)
     → fresh ≡ record { frame = empty_frame; callers = []; free = limits.stack_words } → frame_cost code.max_locals code.max_stack ≤ fresh.free
     → entry ≡ entered id.0 0 code.max_locals code.max_stack fresh
     → s.frame ≡ record entry.frame { locals = passed_from 0 arguments ++ drop (length arguments) entry.frame.locals } → s.callers ≡ entry.callers → s.free ≡ entry.free
     → empty ≡ record { cells = []; free = limits.heap_words } → true ≡ have_room arguments empty.free → heap.cells ≡ empty.cells ++ copies arguments
-    → heap.free + all_cost (copies arguments) ≡ empty.free
-    → Running (record { stack = s; heap = heap }) limits.fuel ≡ opening_state id code arguments limits
+    → heap.free + all_cost (copies arguments) ≡ empty.free → table ≡ record { own = own; rows = []; limit = limits.references }
+    → Running (record { stack = s; heap = heap; references = table }) limits.fuel ≡ opening_state own id code arguments limits
 unfolding entered
-opening_runs id code arguments limits fresh entry s empty heap new enough pushed frame callers free none room cells left =
+opening_runs own id code arguments limits fresh entry s empty heap table new enough pushed frame callers free none room cells left held =
     let all : code.max_locals - 0 ≡ code.max_locals = omega arith in
     let cost : ℕ = frame_cost code.max_locals code.max_stack in
     let stack : Frames = record { frame = opening_frame id code arguments; callers = empty_frame ∷ []; free = limits.stack_words - cost } in
@@ -279,27 +282,27 @@ opening_runs id code arguments limits fresh entry s empty heap new enough pushed
     let store : Store = record { cells = copies arguments; free = limits.heap_words - all_cost (copies arguments) } in
     let same_heap : heap ≡ store = same_store heap store (cells ∙ ap (λ (e : Store). e.cells ++ copies arguments) none) rest in
     let has : have_room arguments limits.heap_words ≡ true = sym (room ∙ ap (have_room arguments) words) in
-    rw (same, same_heap, has, le-leb cost limits.stack_words within) refl
+    rw (same, same_heap, held, has, le-leb cost limits.stack_words within) refl
 
 -- nothing is started where the copies or the first frame have no room
-pub opening_throws : (id : MethodId) (code : Code) (arguments : List Value) (limits : Limits) (empty : Store) → empty ≡ record { cells = []; free = limits.heap_words }
-    → false ≡ have_room arguments empty.free → Over (Threw OutOfMemoryError) limits.fuel ≡ opening_state id code arguments limits
-opening_throws id code arguments limits empty none room =
+pub opening_throws : (own : Uuid) (id : MethodId) (code : Code) (arguments : List Value) (limits : Limits) (empty : Store) → empty ≡ record { cells = []; free = limits.heap_words }
+    → false ≡ have_room arguments empty.free → Over (Threw OutOfMemoryError) limits.fuel ≡ opening_state own id code arguments limits
+opening_throws own id code arguments limits empty none room =
     let has : have_room arguments limits.heap_words ≡ false = sym (room ∙ ap (λ (e : Store). have_room arguments e.free) none) in
     rw has refl
 
-pub opening_overflows : (id : MethodId) (code : Code) (arguments : List Value) (limits : Limits) (empty : Store) → empty ≡ record { cells = []; free = limits.heap_words }
+pub opening_overflows : (own : Uuid) (id : MethodId) (code : Code) (arguments : List Value) (limits : Limits) (empty : Store) → empty ≡ record { cells = []; free = limits.heap_words }
     → true ≡ have_room arguments empty.free → nat_le (frame_cost code.max_locals code.max_stack) limits.stack_words ≡ false
-    → Over (Threw StackOverflowError) limits.fuel ≡ opening_state id code arguments limits
-opening_overflows id code arguments limits empty none room full =
+    → Over (Threw StackOverflowError) limits.fuel ≡ opening_state own id code arguments limits
+opening_overflows own id code arguments limits empty none room full =
     let has : have_room arguments limits.heap_words ≡ true = sym (room ∙ ap (λ (e : Store). have_room arguments e.free) none) in
     rw (has, full) refl
 
 -- what is known of the task that a method's start gives
-pub record Begins (links : Links) (id : MethodId) (m : Declared) (arguments : List Value) (limits : Limits) : Type 0 where
+pub record Begins (links : Links) (own : Uuid) (id : MethodId) (m : Declared) (arguments : List Value) (limits : Limits) : Type 0 where
   pub few : length arguments ≤ m.code.max_locals
-  pub never_stuck : IsNeverStuck links (opening_state id m.code arguments limits)
-  pub within : (k : ℕ) → KeepsWithin links (run links k (opening_state id m.code arguments limits))
+  pub never_stuck : IsNeverStuck links (opening_state own id m.code arguments limits)
+  pub within : (k : ℕ) → KeepsWithin links (run links k (opening_state own id m.code arguments limits))
 
 accepts : (classes : List Class) (method : Method) (arguments : List Value) → refusal classes method arguments ≡ None → Accepts classes method arguments
 accepts classes method arguments e = taken (takes_crossing classes method.types) refl e
@@ -331,10 +334,10 @@ normal m e = is_not (bytes_eq m.method.name (codes "<init>")) (both (not (bytes_
     is_not true e = absurd (cc)
     is_not false e = refl
 
-pub startable-begins : (links : Links) (id : MethodId) (m : Declared) (arguments : List Value) (limits : Limits) → AreLinks links → IsSoundSet links → startable links id ≡ Some m
-    → refusal links.classes m.method arguments ≡ None → Begins links id m arguments limits
+pub startable-begins : (links : Links) (own : Uuid) (id : MethodId) (m : Declared) (arguments : List Value) (limits : Limits) → AreLinks links → IsSoundSet links → startable links id ≡ Some m
+    → refusal links.classes m.method arguments ≡ None → Begins links own id m arguments limits
 unfolding declared_at
-startable-begins links id m arguments limits are sound found taken =
+startable-begins links own id m arguments limits are sound found taken =
     let at = passes_both (declared_at links id) (λ d. if is_startable d then Some d else None) m found in
     let passed = tested at.0 (is_startable at.0) refl at.1.1 in
     let subject = maps_some (subject_at links id.0) declared_of at.0 at.1.0 in
@@ -342,23 +345,23 @@ startable-begins links id m arguments limits are sound found taken =
     subst (λ (d : Declared). Accepts links.classes d.method arguments) (sym (subject.1.1 ∙ passed.0)) (accepts links.classes m.method arguments taken) in
     let no_init : is_init subject.0 ≡ false = normal (declared_of subject.0) (subst (λ (d : Declared). is_startable d ≡ true) (sym subject.1.1) passed.1) in
     let same = (stands links id.0 subject.0 subject.1.0).classes in
-    let begins : Begins links id (declared_of subject.0) arguments limits = record {
-      few = few links id subject.0 arguments limits are sound subject.1.0 same no_init given;
-      never_stuck = opening-IsNeverStuck links id subject.0 arguments limits are sound subject.1.0 same no_init given;
-      within = opening-KeepsWithin links id subject.0 arguments limits are sound subject.1.0 same no_init given;
+    let begins : Begins links own id (declared_of subject.0) arguments limits = record {
+      few = few links own id subject.0 arguments limits are sound subject.1.0 same no_init given;
+      never_stuck = opening-IsNeverStuck links own id subject.0 arguments limits are sound subject.1.0 same no_init given;
+      within = opening-KeepsWithin links own id subject.0 arguments limits are sound subject.1.0 same no_init given;
     } in
-    subst (λ (d : Declared). Begins links id d arguments limits) (subject.1.1 ∙ passed.0) begins
+    subst (λ (d : Declared). Begins links own id d arguments limits) (subject.1.1 ∙ passed.0) begins
   where
     tested : (d : Declared) (b : Bool) → is_startable d ≡ b → (if b then Some d else None) ≡ Some m → (d ≡ m) × (is_startable d ≡ true)
     tested d false is e = absurd (cc)
     tested d true is e = (cc, is)
 
 -- the same, of what a start found and did not refuse
-pub found_begins : (links program : Links) (id : MethodId) (r : Option Found) (found : Found) (classes : List Class) (why : Option StartFault) (given arguments : List Value) (limits : Limits)
+pub found_begins : (links program : Links) (own : Uuid) (id : MethodId) (r : Option Found) (found : Found) (classes : List Class) (why : Option StartFault) (given arguments : List Value) (limits : Limits)
     → links ≡ program → AreLinks links → IsSoundSet program → option_map shown r ≡ startable links id → r ≡ Some found → classes ≡ links.classes
-    → why ≡ refusal classes found.method.now given → why ≡ None → given ≡ arguments → Begins program id (shown found) arguments limits
-found_begins links program id r found classes why given arguments limits same are sound is was set refuses none args =
+    → why ≡ refusal classes found.method.now given → why ≡ None → given ≡ arguments → Begins program own id (shown found) arguments limits
+found_begins links program own id r found classes why given arguments limits same are sound is was set refuses none args =
     let at : startable program id ≡ Some (shown found) = subst (λ (l : Links). startable l id ≡ Some (shown found)) same (sym is ∙ ap (option_map shown) was) in
     let here : classes ≡ program.classes = set ∙ ap (λ (l : Links). l.classes) same in
     let accepted : refusal program.classes found.method.now arguments ≡ None = rw (← here, ← args) (sym refuses ∙ none) in
-    startable-begins program id (shown found) arguments limits (subst AreLinks same are) sound at accepted
+    startable-begins program own id (shown found) arguments limits (subst AreLinks same are) sound at accepted

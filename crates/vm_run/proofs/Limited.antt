@@ -8,7 +8,7 @@ use Rattle.ver_frames.specs.Frames as types
 use Rattle.ver_frames.specs.Method.{Subject}
 use Rattle.ver_frames.specs.declared.vtype.VType.{VType}
 use Rattle.vm_heap.specs.Heap.{Cell}
-use Rattle.vm_act.specs.Next.{Next, On, Ends, Stuck}
+use Rattle.vm_act.specs.Next.{Next, On, Ends, Asks, Stuck}
 use Rattle.vm_act.specs.declared.machine.Machine.{Machine}
 use Rattle.vm_stack.specs.Frames.{Frame}
 use Rattle.vm_typing.proofs.Leads.{length-AllZip}
@@ -118,4 +118,5 @@ module _ (links : Links) (frames : ℕ → ℕ → types.Frame) (typed : AreType
           → LeadsTo world asked m.heap.cells (IsTyped world asked) next → KeepsWithin links (run links k (after m.heap.cells next fuel))
       on go (On m1) leads = go m1 leads
       on go (Ends e) leads = subst (KeepsWithin links) (sym (run_done links k (end_of m.heap.cells e) fuel)) (over_within (end_of m.heap.cells e) fuel)
+      on go (Asks op m1) leads = absurd leads
       on go Stuck leads = absurd leads

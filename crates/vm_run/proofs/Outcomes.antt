@@ -17,7 +17,7 @@ use Rattle.vm_heap.specs.Heap.{Cell, Object, Ints, cell_at, element_at, element_
 use Rattle.vm_heap.specs.Tagged.{Tagged, Int}
 use Rattle.vm_act.specs.declared.ending.Ending.{Ending}
 use Rattle.vm_act.specs.declared.ending.Ending.TheVariants.{ReturnedReference}
-use Rattle.vm_run.specs.Ends.{End, ReturnedNothing, ReturnedInt, ReturnedNull, ReturnedInts, ReturnedObject, Threw, ThrewObject, Spent, IsEndIn, end_of}
+use Rattle.vm_run.specs.Ends.{End, ReturnedNothing, ReturnedInt, ReturnedNull, ReturnedInts, ReturnedObject, ReturnedRemote, Threw, ThrewObject, Spent, IsEndIn, end_of}
 
 -- what is returned lies in no empty heap
 pub nowhere : (e : Ending) (o : Option ℕ) (address : ℕ) → IsSome (end_of [] e) → e ≡ ReturnedReference o → o ≡ Some address → ⊥
@@ -124,6 +124,8 @@ told_end classes (ReturnedInts elements) told e in_set =
 told_end classes (ReturnedObject class) told e in_set =
     let so = named classes unmarshalled told (number_of classes unmarshalled) refl e in
     record { tells = so.0; of_set = so.1 }
+told_end classes (ReturnedRemote reference) told e in_set =
+    let same : outcome.Returned (Some (value.Ref reference)) ≡ told = cc in rw (← same) record { tells = refl; of_set = tt }
 told_end classes (Threw thrown) told e in_set =
     let so = named classes (thrown_name thrown) told (number_of classes (thrown_name thrown)) refl e in
     record { tells = so.0; of_set = so.1 }

@@ -7,7 +7,7 @@ use Rattle.ver_frames.specs.Frames as types
 use Rattle.ver_frames.specs.declared.vtype.VType.{VType}
 use Rattle.ver_frames.specs.declared.vtype.VType.TheVariants as vtype
 use Rattle.vm_heap.specs.Heap.{Cell, Object, Ints, cell_at}
-use Rattle.vm_act.specs.Next.{Next, On, Ends, Stuck}
+use Rattle.vm_act.specs.Next.{Next, On, Ends, Asks, Stuck}
 use Rattle.vm_act.specs.declared.ending.Ending.{Ending}
 use Rattle.vm_act.specs.declared.ending.Ending.TheVariants as ending
 use Rattle.vm_act.specs.declared.machine.Machine.{Machine}
@@ -49,6 +49,7 @@ module _ (links : Links) (frames : ℕ → ℕ → types.Frame) (asked : Option 
   ended cells (ending.ReturnedInt n) fuel given = tt
   ended cells (ending.ReturnedReference None) fuel given = tt
   ended cells (ending.ReturnedReference (Some address)) fuel given = given-there world links.classes cells asked address fuel plain given
+  ended cells (ending.ReturnedRemote reference) fuel given = tt
   ended cells (ending.Threw thrown) fuel given = tt
   ended cells (ending.ThrewObject class) fuel given = given
 
@@ -62,6 +63,7 @@ module _ (links : Links) (frames : ℕ → ℕ → types.Frame) (asked : Option 
           → LeadsTo world asked m.heap.cells (IsTyped world asked) next → IsNotLost links.classes (run links k (after m.heap.cells next fuel))
       on go (On m1) leads = go m1 leads
       on go (Ends e) leads = subst (IsNotLost links.classes) (sym (run_done links k (end_of m.heap.cells e) fuel)) (ended m.heap.cells e fuel leads)
+      on go (Asks op m1) leads = absurd leads
       on go Stuck leads = absurd leads
 
   pub typed-IsNeverStuck : (m : Machine) (fuel : ℕ) → IsTyped world asked m → IsNeverStuck links (Running m fuel)

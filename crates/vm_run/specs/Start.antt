@@ -153,13 +153,14 @@ opening_frame id code arguments = record {
 
 -- the state in which a task begins. It throws if the heap's budget has no room for the arguments, or else the stack's for the first
 -- frame
-abbrev pub opening_state : MethodId → Code → List Value → Limits → State
-opening_state id code arguments limits =
+abbrev pub opening_state : Uuid → MethodId → Code → List Value → Limits → State
+opening_state own id code arguments limits =
     if have_room arguments limits.heap_words
     then (if nat_le (frame_cost code.max_locals code.max_stack) limits.stack_words
     then Running (record {
       stack = record { frame = opening_frame id code arguments; callers = empty_frame ∷ []; free = limits.stack_words - frame_cost code.max_locals code.max_stack };
       heap = record { cells = copies arguments; free = limits.heap_words - all_cost (copies arguments) };
+      references = record { own = own; rows = []; limit = limits.references };
     }) limits.fuel
     else Over (Threw StackOverflowError) limits.fuel)
     else Over (Threw OutOfMemoryError) limits.fuel
@@ -171,7 +172,7 @@ started links own id arguments limits =
   where
     begin : Declared → Option StartFault → Result Tasked StartFault
     begin m (Some why) = Err why
-    begin m None = Ok (record { program = links; own = own; state = opening_state id m.code arguments limits })
+    begin m None = Ok (record { program = links; own = own; state = opening_state own id m.code arguments limits })
 
     start_at : Option Declared → Result Tasked StartFault
     start_at None = Err fault.AbsentMethod

@@ -9,7 +9,7 @@ use Rattle.space_ids.specs.declared.value.Value.TheVariants as value
 use Rattle.vm_act.specs.declared.ending.Ending.TheVariants.{ReturnedReference}
 use Rattle.vm_act.specs.declared.ending.Thrown.{Thrown}
 use Rattle.vm_act.specs.declared.ending.Thrown.TheVariants as thrown
-use Rattle.vm_run.specs.Ends.{End, ReturnedNothing, ReturnedInt, ReturnedNull, ReturnedInts, ReturnedObject, Threw, ThrewObject, Spent, end_of}
+use Rattle.vm_run.specs.Ends.{End, ReturnedNothing, ReturnedInt, ReturnedNull, ReturnedInts, ReturnedObject, ReturnedRemote, Threw, ThrewObject, Spent, end_of}
 use Rattle.vm_run.specs.Run.{State, Running, Over, Lost, over, run}
 use Rattle.vm_run.specs.declared.outcome.Outcome.{Outcome}
 use Rattle.vm_run.specs.declared.outcome.Outcome.TheVariants as outcome
@@ -86,6 +86,7 @@ outcome_of classes ReturnedNull = Some (outcome.Returned (Some value.Null))
 outcome_of classes (ReturnedInts elements) =
     if nat_le (length elements) most_elements then Some (outcome.Returned (Some (value.Ints elements))) else threw_named classes unmarshalled
 outcome_of classes (ReturnedObject class) = threw_named classes unmarshalled
+outcome_of classes (ReturnedRemote reference) = Some (outcome.Returned (Some (value.Ref reference)))
 outcome_of classes (Threw thrown) = threw_named classes (thrown_name thrown)
 outcome_of classes (ThrewObject class) = Some (outcome.Threw class)
 outcome_of classes Spent = Some outcome.Spent
@@ -112,6 +113,7 @@ Tells classes (ReturnedInt n) told = told ≡ outcome.Returned (Some (value.Int 
 Tells classes ReturnedNull told = told ≡ outcome.Returned (Some value.Null)
 Tells classes (ReturnedInts elements) told = TellsInts classes elements told
 Tells classes (ReturnedObject class) told = TellsThrown classes unmarshalled told
+Tells classes (ReturnedRemote reference) told = told ≡ outcome.Returned (Some (value.Ref reference))
 Tells classes (Threw thrown) told = TellsThrown classes (thrown_name thrown) told
 Tells classes (ThrewObject class) told = told ≡ outcome.Threw class
 Tells classes Spent told = told ≡ outcome.Spent

@@ -2,7 +2,7 @@
 
 ghost use Rattle.std.specs.Prelude.{◌≡◌};
 
-/// How much a task may use. The words of its heap and its references are below 2^32 together.
+/// How much a task may use. The words of its heap are below 2^32 - 2^16.
 #[derive(Clone, Copy, Debug, PartialEq, Eq)]
 pub struct Limits {
     /// Words of four bytes for objects and arrays.
@@ -10,7 +10,7 @@ pub struct Limits {
     /// Words for frames: each takes as many as its local variables and operands, and four more.
     pub stack_words: u32,
     /// How many distinct references to remote objects it may come by.
-    pub references: u32,
+    pub references: u16,
     /// How many instructions it may make.
     pub fuel: u64,
 }

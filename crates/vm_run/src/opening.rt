@@ -1,6 +1,7 @@
 //! The machine with which a task begins: its arguments and its first frame.
 ghost use Rattle.std.specs.Prelude.{◌≡◌, ◌+◌, ◌-◌, ◌≤◌, ◌<◌, ◌^◌, ◌↔◌, ◌++◌, IsTrue, IfOk, length, drop};
 ghost use Rattle.std.specs.Bool.{OnTrue};
+ghost use Rattle.vm_heap.specs.Tagged.{most_rows};
 ghost use Rattle.vm_heap.specs.Heap.{Ints, all_cost, cost, with_new};
 ghost use Rattle.vm_run.specs.Start.{copies, copy_of, has_room_for, have_room, opening_state, passed_at, passed_from};
 ghost use Rattle.vm_run.specs.Task.{phase_state, fuel_left};
@@ -10,23 +11,26 @@ use crate::phase::{Last, Phase};
 use cls_link::{Code, MethodId};
 use std::alloc::{AllocError, Global};
 use vm_code::{Ending, Machine, Thrown};
-use vm_heap::{Heap, Value, Word};
+use vm_heap::{Heap, References, Uuid, Value, Word};
 use vm_stack::Stack;
 
-/// The phase in which a method begins.
+/// The phase in which a method begins, in a task of the space of this id.
 pub fn opening(
     alloc: Global,
+    own: Uuid,
     method: MethodId,
     code: &Code,
     arguments: &[Value],
     limits: Limits,
 ) -> Result<Phase, AllocError>
     requires few { length arguments.now ≤ code.now.max_locals }
-    ensures opens { IfOk result (λ phase. phase_state phase ≡ opening_state method code.now arguments.now limits) }
+    requires memory { limits.heap_words + most_rows < 2 ^ 32 }
+    ensures opens { IfOk result (λ phase. phase_state phase ≡ opening_state own method code.now arguments.now limits) }
     ensures fuel { IfOk result (λ phase. fuel_left (phase_state phase) ≡ limits.fuel) }
 {
     let mut stack = Stack::with_words(alloc, limits.stack_words as usize)?;
     let mut heap = Heap::with_words(alloc, limits.heap_words)?;
+    let references = References::with_limit(alloc, own, limits.references)?;
     if !copy_in(&mut heap, arguments) {
         return Ok(thrown(Thrown::OutOfMemoryError, limits.fuel));
     }
@@ -34,7 +38,14 @@ pub fn opening(
         return Ok(thrown(Thrown::StackOverflowError, limits.fuel));
     }
     pass(&mut stack, arguments);
-    Ok(Phase::Running(Machine { stack, heap }, limits.fuel))
+    Ok(Phase::Running(
+        Machine {
+            stack,
+            heap,
+            references,
+        },
+        limits.fuel,
+    ))
 }
 
 // The phase of a task that throws before its first instruction.
@@ -92,7 +103,7 @@ fn copy_ints(heap: &mut Heap, elements: &[i32]) -> bool
 // Writes the arguments into the first local variables: each array is the address of its copy.
 fn pass(stack: &mut Stack, arguments: &[Value])
     requires room { length arguments.now ≤ length stack.old.frame.locals }
-    requires small { all_cost (copies arguments.now) < 2 ^ 32 }
+    requires small { all_cost (copies arguments.now) + most_rows < 2 ^ 32 }
     ensures frame { stack.new.frame
         ≡ record stack.old.frame {
           locals =
@@ -112,7 +123,7 @@ fn pass(stack: &mut Stack, arguments: &[Value])
 
 // An argument as a local variable holds it, where the next copy comes to an address.
 fn word(address: usize, argument: &Value) -> Word
-    requires { address + all_cost (copy_of argument.now) < 2 ^ 32 }
+    requires { address + all_cost (copy_of argument.now) + most_rows < 2 ^ 32 }
     ensures { result ≡ passed_at address argument.now }
 {
     match argument {

@@ -56,7 +56,8 @@ impl Phase {
             Phase::Running(machine, fuel) => {
                 let most = if k < fuel { k } else { fuel };
                 let reached = run::run(machine, program, most, fuel);
-                match reached.ending {
+                let ending = reached.ending;
+                match ending {
                     Some(ending) => Phase::Over(keep(reached.machine, ending), reached.fuel),
                     None if fuel < k => Phase::Over(Last::Spent, 0),
                     None => Phase::Running(reached.machine, reached.fuel),

@@ -1,6 +1,7 @@
 //! Tasks.
 ghost use Rattle.std.specs.Prelude.{◌≡◌, ◌≢◌, ℕ, ◌+◌, ◌^◌, ◌<◌, ◌≤◌, [], IsSome, IfSome, IfOk, IfErr, option_and_then};
 ghost use Rattle.vm_heap.specs.Heap.{Ints, cell_at, length_at};
+ghost use Rattle.vm_heap.specs.Tagged.{most_rows};
 ghost use Rattle.vm_run.specs.Ends.{end_of, returned_at};
 ghost use Rattle.vm_run.specs.Start.{opening_state, started};
 ghost use Rattle.vm_run.specs.Limited.{KeepsWithin};
@@ -55,7 +56,7 @@ impl Task {
         arguments: Vec<Value>,
         limits: Limits,
     ) -> Result<Task, StartFault>
-        requires { limits.heap_words + limits.references < 2 ^ 32 }
+        requires { limits.heap_words + most_rows < 2 ^ 32 }
         ensures started { IfOk result (λ task. started program.now own method arguments.items limits ≡ Ok task) }
         ensures refused { IfErr
             result
@@ -78,7 +79,7 @@ impl Task {
             Some(fault) => return Err(fault),
             None => {}
         }
-        let phase = opening(alloc, method, found.code, &arguments, limits)?;
+        let phase = opening(alloc, own, method, found.code, &arguments, limits)?;
         Ok(Task {
             program: Snapshot::of(program),
             own,
@@ -154,6 +155,7 @@ impl Task {
                 None => Outcome::Returned(Some(Value::Null)),
                 Some(_) => unreachable!(),
             },
+            Ending::ReturnedRemote(reference) => { Outcome::Returned(Some(Value::Ref(reference))) }
             Ending::Threw(thrown) => Outcome::Threw(self.thrown.number(thrown)),
             Ending::ThrewObject(class) => Outcome::Threw(class),
         }

@@ -12,6 +12,7 @@ use Rattle.ver_frames.specs.Types.{field_vtype}
 use Rattle.ver_frames.specs.declared.vtype.VType.{VType}
 use Rattle.ver_frames.specs.declared.vtype.VType.TheVariants as vtype
 use Rattle.vm_act.specs.declared.calls.Callee.{Callee}
+use Rattle.vm_heap.specs.References.{Table}
 use Rattle.vm_heap.specs.Heap.{Store}
 use Rattle.vm_heap.specs.Tagged.{Tagged}
 use Rattle.vm_stack.specs.Frames as stacks
@@ -84,16 +85,16 @@ module _ (links : Links) (frames : ℕ → ℕ → Frame) (are : AreLinks links)
     gives : type.result ≡ result_in world d.method
     gives = ap (λ (t : MethodType). t.result) run.type ∙ callees.result_same links frames are files run.s d d.method run.classes run.method refl
 
-    is_typed : (lowest : stacks.Frame) (free : ℕ) → IsTyped world (result_in world d.method) (started callee values lowest free heap)
-    is_typed lowest free =
-        subst (λ (r : Option VType). IsTyped world r (started callee values lowest free heap)) gives
-        (starts_typed world (owed links frames are typed files) callee values lowest free heap
+    is_typed : (lowest : stacks.Frame) (free : ℕ) (references : Table) → IsTyped world (result_in world d.method) (started callee values lowest free heap references)
+    is_typed lowest free references =
+        subst (λ (r : Option VType). IsTyped world r (started callee values lowest free heap references)) gives
+        (starts_typed world (owed links frames are typed files) callee values lowest free heap references
         (plain_callee_agrees links frames are files id d.method callee (ap (option_map (λ (d : Declared). d.method)) start.declared) start.normal start.has_code)
         (subst (λ (ts : List VType). AllFit world heap.cells no_marks ts values) (sym (parameters_normal type type_normal ∙ passed)) start.values_fit)
         start.heap_fits type_normal)
 
   pub starts : AreSoundFromStart links frames
-  starts d callee values lowest free heap start n = runs (result_in world d.method) (started callee values lowest free heap) (is_typed d callee values heap start lowest free) n
+  starts d callee values lowest free heap references start n = runs (result_in world d.method) (started callee values lowest free heap references) (is_typed d callee values heap start lowest free references) n
 
   pub never : IsNeverStuck links
   never = record { frames = frames; typed = typed; keeps = keeps; runs = runs; starts = starts }

@@ -10,6 +10,7 @@ use Rattle.ver_frames.specs.declared.vtype.VType.TheVariants as vtype
 use Rattle.vm_act.specs.Next.{On}
 use Rattle.vm_act.specs.declared.calls.Callee.{Callee}
 use Rattle.vm_code.specs.Methods.{callee_of, is_init}
+use Rattle.vm_heap.specs.References.{Table}
 use Rattle.vm_heap.specs.Heap.{Store}
 use Rattle.vm_heap.specs.Tagged.{Tagged}
 use Rattle.vm_stack.specs.Frames as stacks
@@ -34,9 +35,9 @@ pub record IsStarted (links : Links) (w : World) (d : Declared) (callee : Callee
 
 -- however many steps such a method makes, it is never stuck, and its task ends by a throw or with a result of the type that it declares
 abbrev pub AreSoundFromStart : Links → (ℕ → ℕ → Frame) → Type 0
-AreSoundFromStart links frames = (d : Declared) (callee : Callee) (values : List Tagged) (lowest : stacks.Frame) (free : ℕ) (heap : Store)
+AreSoundFromStart links frames = (d : Declared) (callee : Callee) (values : List Tagged) (lowest : stacks.Frame) (free : ℕ) (heap : Store) (references : Table)
     → IsStarted links (world_of links frames) d callee values heap → (n : ℕ)
-    → IsSound (world_of links frames) (result_in (world_of links frames) d.method) (steps (step links) n (On (started callee values lowest free heap)))
+    → IsSound (world_of links frames) (result_in (world_of links frames) d.method) (steps (step links) n (On (started callee values lowest free heap references)))
 
 -- A set whose methods are typed by frames, so that each step of a typed machine leads to a typed one, or ends its task with what that may
 -- give: so no typed machine is ever stuck, and no method that is started is.

@@ -10,6 +10,7 @@ use Rattle.ver_frames.specs.Frames.{Frame}
 use Rattle.ver_frames.specs.Assignable.{IsObjectAssignable}
 use Rattle.ver_frames.specs.declared.vtype.VType.{VType}
 use Rattle.ver_frames.specs.declared.vtype.VType.TheVariants as vtype
+use Rattle.vm_heap.specs.References.{Table}
 use Rattle.vm_heap.specs.Tagged.{Tagged, HeapAddress, Local, Fresh, This, Unset, after_init}
 use Rattle.vm_heap.specs.Heap.{Cell, Object, Ints, Store, cell_at}
 use Rattle.vm_stack.specs.Frames as frames
@@ -102,11 +103,11 @@ module _ (w : World) (owed : Owed w) (asked : Option VType) where
   abbrev Typed : Machine → Type 0
   Typed = IsTyped w asked
 
-  begun-typed : (callee : Callee) (fresh : ℕ → ℕ) (receiver : ℕ) (values : List Tagged) (callers : List frames.Frame) (free : ℕ) (heap : Store) → IsCallee w callee
+  begun-typed : (callee : Callee) (fresh : ℕ → ℕ) (receiver : ℕ) (values : List Tagged) (callers : List frames.Frame) (free : ℕ) (heap : Store) (references : Table) → IsCallee w callee
       → AllFit w heap.cells (marks_of w callee.method fresh receiver) (parameters (w.method callee.method)) values
       → HeapFits w heap.cells → CallersWait w asked heap.cells (w.method callee.method).result callers
-      → Typed (record { stack = record { frame = first_frame callee values; callers = callers; free = free }; heap = heap })
-  begun-typed callee fresh receiver values callers free heap agrees fit fits wait =
+      → Typed (record { stack = record { frame = first_frame callee values; callers = callers; free = free }; heap = heap; references = references })
+  begun-typed callee fresh receiver values callers free heap references agrees fit fits wait =
       let method : MethodType = w.method callee.method in
       let opens : Enters w callee.method 0 (opening method) = (owed.methods callee.method agrees.known).opens in
       let count : callee.max_locals - callee.arguments ≡ method.max_locals - length (parameters method) = rw (agrees.max_locals, agrees.arguments) refl in
@@ -135,10 +136,10 @@ module _ (w : World) (owed : Owed w) (asked : Option VType) where
   wait_more cells result frame (below ∷ callers) waits wait = (waits, wait)
 
   -- a method that is started on values of its parameters, over one frame, is typed
-  pub start-typed : (callee : Callee) (values : List Tagged) (lowest : frames.Frame) (free : ℕ) (heap : Store) → IsCallee w callee → (w.method callee.method).result ≡ asked
+  pub start-typed : (callee : Callee) (values : List Tagged) (lowest : frames.Frame) (free : ℕ) (heap : Store) (references : Table) → IsCallee w callee → (w.method callee.method).result ≡ asked
       → AllFit w heap.cells (marks_of w callee.method (λ o. 0) 0) (parameters (w.method callee.method)) values → HeapFits w heap.cells
-      → Typed (record { stack = record { frame = first_frame callee values; callers = lowest ∷ []; free = free }; heap = heap })
-  start-typed callee values lowest free heap agrees result fit fits = begun-typed callee (λ o. 0) 0 values (lowest ∷ []) free heap agrees fit fits result
+      → Typed (record { stack = record { frame = first_frame callee values; callers = lowest ∷ []; free = free }; heap = heap; references = references })
+  start-typed callee values lowest free heap references agrees result fit fits = begun-typed callee (λ o. 0) 0 values (lowest ∷ []) free heap references agrees fit fits result
 
   module _ (heap : List Cell) where
     abbrev Leads : Next → Type 0
@@ -185,7 +186,7 @@ module _ (w : World) (owed : Owed w) (asked : Option VType) where
         (enter-leads callee unchanged m (called_frames callee (reverse passed) left m.stack) (few callee agrees)
         (entered_is callee m.stack passed left whole count)
         (begun-typed callee (λ o. 0) 0 (reverse passed) (record m.stack.frame { operands = left; index = m.stack.frame.index + 1 } ∷ m.stack.callers)
-        (m.stack.free - frame_cost callee.max_locals callee.max_stack) m.heap agrees fit' fits
+        (m.stack.free - frame_cost callee.max_locals callee.max_stack) m.heap m.references agrees fit' fits
         (wait_more m.heap.cells method.result _ m.stack.callers waits wait)))
 
     -- an `<init>` on a value that turns into the object at an address
@@ -222,7 +223,7 @@ module _ (w : World) (owed : Owed w) (asked : Option VType) where
         (ap (begin_receiver callee.begins_uninit) (entered_is callee s (passed ++ Local a ∷ []) (map (after_init v) left) whole' count') ∙ begun_is callee.begins_uninit callee passed (map (after_init v) left) a s)
         (begun-typed callee (λ o. 0) a (receiver_value callee.begins_uninit a ∷ reverse passed)
         (record s.frame { operands = map (after_init v) left; index = m.stack.frame.index + 1 } ∷ m.stack.callers)
-        (m.stack.free - frame_cost callee.max_locals callee.max_stack) m.heap agrees fit' fits
+        (m.stack.free - frame_cost callee.max_locals callee.max_stack) m.heap m.references agrees fit' fits
         (wait_more m.heap.cells method.result _ m.stack.callers (rw none waits) wait)))
 
     module _ (fresh : ℕ → ℕ) (receiver_at : ℕ) where

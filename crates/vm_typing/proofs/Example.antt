@@ -9,6 +9,7 @@ use Rattle.ver_frames.specs.Frames.{Frame}
 use Rattle.ver_frames.specs.Assignable.{IsAssignable, IsObjectAssignable, IsFrameAssignable}
 use Rattle.ver_frames.specs.declared.vtype.VType.{VType}
 use Rattle.ver_frames.specs.declared.vtype.VType.TheVariants as vtype
+use Rattle.vm_heap.specs.References.{Table}
 use Rattle.vm_heap.specs.Tagged.{Tagged}
 use Rattle.vm_heap.specs.Heap.{Store}
 use Rattle.vm_heap.specs.declared.heap.WordKind.TheVariants as kind
@@ -112,64 +113,64 @@ owed = record {
 enters_main : (index : ℕ) (f : Frame) → index < 6 → IsFrameAssignable world.classes f (main_frames index) → Enters world 0 index f
 enters_main index f inside to = record { inside = inside; to = to }
 
-abbrev at_machine : ℕ → ℕ → List Tagged → List Tagged → ℕ → List frames.Frame → ℕ → Store → Machine
-at_machine method index locals operands room callers free heap =
-    record { stack = record { frame = record { method = method; index = index; locals = locals; operands = operands; room = room }; callers = callers; free = free }; heap = heap }
+abbrev at_machine : ℕ → ℕ → List Tagged → List Tagged → ℕ → List frames.Frame → ℕ → Store → Table → Machine
+at_machine method index locals operands room callers free heap references =
+    record { stack = record { frame = record { method = method; index = index; locals = locals; operands = operands; room = room }; callers = callers; free = free }; heap = heap; references = references }
 
 abbrev asked : Option VType
 asked = Some vtype.Int
 
-step_typed : (method index : ℕ) (locals operands : List Tagged) (room : ℕ) (callers : List frames.Frame) (free : ℕ) (heap : Store)
-    → IsTyped world asked (at_machine method index locals operands room callers free heap)
-    → LeadsTo world asked heap.cells (IsTyped world asked) (act_at method index (at_machine method index locals operands room callers free heap))
+step_typed : (method index : ℕ) (locals operands : List Tagged) (room : ℕ) (callers : List frames.Frame) (free : ℕ) (heap : Store) (references : Table)
+    → IsTyped world asked (at_machine method index locals operands room callers free heap references)
+    → LeadsTo world asked heap.cells (IsTyped world asked) (act_at method index (at_machine method index locals operands room callers free heap references))
 unfolding IsAssignable
-step_typed zero zero locals operands room callers free heap typed =
+step_typed zero zero locals operands room callers free heap references typed =
     Objects.new_object-leads world owed asked heap.cells typed.fresh typed.receiver point_id (kind.Int ∷ []) 0 (main_frames 0) _ (omega arith) (tt, tt) (omega arith) refl refl refl (omega arith)
     (record { inside = omega arith; to = record { locals = tt; stack = (refl, tt); flag = λ e. e } }) typed.at
-step_typed zero (suc zero) locals operands room callers free heap typed =
+step_typed zero (suc zero) locals operands room callers free heap references typed =
     Words.dup-leads world owed asked heap.cells typed.fresh typed.receiver (vtype.Uninitialized 0) [] (main_frames 1) _ refl (omega arith)
     (record { inside = omega arith; to = record { locals = tt; stack = (refl, (refl, tt)); flag = λ e. e } }) typed.at
-step_typed zero (suc (suc zero)) locals operands room callers free heap typed =
+step_typed zero (suc (suc zero)) locals operands room callers free heap references typed =
     Words.constant-leads world owed asked heap.cells typed.fresh typed.receiver (pos 5) (main_frames 2) _ (omega arith)
     (record { inside = omega arith; to = record { locals = tt; stack = (tt, (refl, (refl, tt))); flag = λ e. e } }) typed.at
-step_typed zero (suc (suc (suc zero))) locals operands room callers free heap typed =
+step_typed zero (suc (suc (suc zero))) locals operands room callers free heap references typed =
     Calls.construct_new-leads world owed asked heap.cells typed.fresh typed.receiver point_callee 0 false (main_frames 3) (vtype.Uninitialized 0 ∷ []) _
     (record { known = refl; arguments = refl; max_locals = refl; max_stack = refl; begins_uninit = refl }) refl
     (record { given = vtype.Int ∷ []; whole = refl; to = (tt, tt) }) refl
     (record { inside = omega arith; to = record { locals = tt; stack = (inr (itself point_id), tt); flag = λ e. e } }) typed.at
-step_typed zero (suc (suc (suc (suc zero)))) locals operands room callers free heap typed =
+step_typed zero (suc (suc (suc (suc zero)))) locals operands room callers free heap references typed =
     Objects.get_field-leads world owed asked heap.cells typed.fresh typed.receiver point_id 0 vtype.Int (vtype.Object point_id) [] (main_frames 4) _ refl refl (inr (itself point_id)) (omega arith)
     (record { inside = omega arith; to = record { locals = tt; stack = (tt, tt); flag = λ e. e } }) typed.at
-step_typed zero (suc (suc (suc (suc (suc n))))) locals operands room callers free heap typed =
+step_typed zero (suc (suc (suc (suc (suc n))))) locals operands room callers free heap references typed =
     Returns.return_int-leads world owed asked typed.fresh typed.receiver [] (main_frames (suc (suc (suc (suc (suc n)))))) _ refl refl typed.at
-step_typed (suc zero) zero locals operands room callers free heap typed =
+step_typed (suc zero) zero locals operands room callers free heap references typed =
     Words.load_local-leads world owed asked heap.cells typed.fresh typed.receiver kind.Reference 0 vtype.UninitializedThis (init_frames 0) _ refl tt (omega arith)
     (record { inside = omega arith; to = record { locals = (tt, (tt, tt)); stack = (tt, tt); flag = λ e. e } }) typed.at
-step_typed (suc zero) (suc zero) locals operands room callers free heap typed =
+step_typed (suc zero) (suc zero) locals operands room callers free heap references typed =
     Words.load_local-leads world owed asked heap.cells typed.fresh typed.receiver kind.Int 1 vtype.Int (init_frames 1) _ refl tt (omega arith)
     (record { inside = omega arith; to = record { locals = (tt, (tt, tt)); stack = (tt, (tt, tt)); flag = λ e. e } }) typed.at
-step_typed (suc zero) (suc (suc zero)) locals operands room callers free heap typed =
+step_typed (suc zero) (suc (suc zero)) locals operands room callers free heap references typed =
     Objects.put_field-leads world owed asked heap.cells typed.fresh typed.receiver point_id 0 vtype.Int vtype.Int vtype.UninitializedThis [] (init_frames 2) _ refl refl tt refl
     (record { inside = omega arith; to = record { locals = (tt, (tt, tt)); stack = tt; flag = λ e. e } }) typed.at
-step_typed (suc zero) (suc (suc (suc zero))) locals operands room callers free heap typed =
+step_typed (suc zero) (suc (suc (suc zero))) locals operands room callers free heap references typed =
     Words.load_local-leads world owed asked heap.cells typed.fresh typed.receiver kind.Reference 0 vtype.UninitializedThis (init_frames 3) _ refl tt (omega arith)
     (record { inside = omega arith; to = record { locals = (tt, (tt, tt)); stack = (tt, tt); flag = λ e. e } }) typed.at
-step_typed (suc zero) (suc (suc (suc (suc zero)))) locals operands room callers free heap typed =
+step_typed (suc zero) (suc (suc (suc (suc zero)))) locals operands room callers free heap references typed =
     Calls.construct_this-leads world owed asked heap.cells typed.fresh typed.receiver object_callee false (init_frames 4) [] _
     (record { known = refl; arguments = refl; max_locals = refl; max_stack = refl; begins_uninit = refl }) refl
     (record { given = []; whole = refl; to = tt }) (inr (superclass point_id object_id refl))
     (record { inside = omega arith; to = record { locals = (inr (itself point_id), (tt, tt)); stack = tt; flag = λ e. e } }) typed.at
-step_typed (suc zero) (suc (suc (suc (suc (suc n))))) locals operands room callers free heap typed =
+step_typed (suc zero) (suc (suc (suc (suc (suc n))))) locals operands room callers free heap references typed =
     Returns.return_nothing-leads world owed asked typed.fresh typed.receiver (init_frames (suc (suc (suc (suc (suc n)))))) _ refl typed.at
-step_typed (suc (suc number)) index locals operands room callers free heap typed =
+step_typed (suc (suc number)) index locals operands room callers free heap references typed =
     Returns.return_nothing-leads world owed asked typed.fresh typed.receiver ((methods (suc (suc number))).frames index) _ refl typed.at
 
 keeps : KeepsTyped world asked step
 keeps m typed =
-    step_typed m.stack.frame.method m.stack.frame.index m.stack.frame.locals m.stack.frame.operands m.stack.frame.room m.stack.callers m.stack.free m.heap typed
+    step_typed m.stack.frame.method m.stack.frame.index m.stack.frame.locals m.stack.frame.operands m.stack.frame.room m.stack.callers m.stack.free m.heap m.references typed
 
 pub example_is_sound : ExampleIsSound
-example_is_sound free heap_free n =
-    Runs.runs_sound world asked step keeps (started main_callee [] empty_frame free (record { cells = []; free = heap_free }))
-    (Runs.starts_typed world owed main_callee [] empty_frame free (record { cells = []; free = heap_free })
+example_is_sound free heap_free n references =
+    Runs.runs_sound world asked step keeps (started main_callee [] empty_frame free (record { cells = []; free = heap_free }) references)
+    (Runs.starts_typed world owed main_callee [] empty_frame free (record { cells = []; free = heap_free }) references
     (record { known = refl; arguments = refl; max_locals = refl; max_stack = refl; begins_uninit = refl }) tt tt refl) n

@@ -10,6 +10,8 @@ use Rattle.ver_frames.specs.Frames.{Frame}
 use Rattle.ver_frames.specs.Assignable.{IsObjectAssignable, IsAssignable, AreAssignable, IsFrameAssignable}
 use Rattle.ver_frames.specs.declared.vtype.VType.{VType}
 use Rattle.ver_frames.specs.declared.vtype.VType.TheVariants as vtype
+use Rattle.vm_heap.specs.declared.word.Pointer.{Pointer}
+use Rattle.vm_heap.specs.declared.word.Pointer.TheVariants as pointer
 use Rattle.vm_heap.specs.Tagged.{Tagged, Int, Null, Local, Remote, Fresh, This, Unset, Head}
 use Rattle.vm_heap.specs.Heap.{Cell, Object, Ints}
 use Rattle.vm_heap.specs.declared.heap.WordKind.{WordKind}
@@ -251,10 +253,10 @@ module _ (w : World) (owed : Owed w) where
     on_object-leads P Q next cells Unset fits go = absurd fits
     on_object-leads P Q next cells (Head header) fits go = absurd fits
 
-    on_points : (P : Machine → Type 0) (Q : Cell → Type 0) (next : Option ℕ → Next) (cells : List Cell) (v : Tagged) → Points Q cells v
-        → ((a : Option ℕ) → Leads P (next a)) → Leads P (on_reference next v)
-    on_points P Q next cells Null fits go = go None
-    on_points P Q next cells (Local a) fits go = go (Some a)
+    on_points : (P : Machine → Type 0) (Q : Cell → Type 0) (next : Pointer → Next) (cells : List Cell) (v : Tagged) → Points Q cells v
+        → ((a : Pointer) → Leads P (next a)) → Leads P (on_reference next v)
+    on_points P Q next cells Null fits go = go pointer.Null
+    on_points P Q next cells (Local a) fits go = go (pointer.Address a)
     on_points P Q next cells (Int n) fits go = absurd fits
     on_points P Q next cells (Remote row) fits go = absurd fits
     on_points P Q next cells (Fresh index site) fits go = absurd fits
@@ -263,20 +265,20 @@ module _ (w : World) (owed : Owed w) where
     on_points P Q next cells (Head header) fits go = absurd fits
 
     -- what is compared: any reference
-    pub on_reference-leads : (P : Machine → Type 0) (next : Option ℕ → Next) (m : Machine) (t : VType) (v : Tagged) → Moves kind.Reference t → FitsIn m t v
-        → ((a : Option ℕ) → Leads P (next a)) → Leads P (on_reference next v)
-    on_reference-leads P next m vtype.Null Null moves fits go = go None
+    pub on_reference-leads : (P : Machine → Type 0) (next : Pointer → Next) (m : Machine) (t : VType) (v : Tagged) → Moves kind.Reference t → FitsIn m t v
+        → ((a : Pointer) → Leads P (next a)) → Leads P (on_reference next v)
+    on_reference-leads P next m vtype.Null Null moves fits go = go pointer.Null
     on_reference-leads P next m (vtype.Object c) v moves fits go = on_points P (IsA w c) next m.heap.cells v fits go
     on_reference-leads P next m vtype.IntArray v moves fits go = on_points P IsInts next m.heap.cells v fits go
-    on_reference-leads P next m (vtype.Uninitialized o) v moves fits go = rw fits.is (go (Some (fresh o)))
-    on_reference-leads P next m vtype.UninitializedThis v moves fits go = rw fits.is (go (Some receiver))
+    on_reference-leads P next m (vtype.Uninitialized o) v moves fits go = rw fits.is (go (pointer.Address (fresh o)))
+    on_reference-leads P next m vtype.UninitializedThis v moves fits go = rw fits.is (go (pointer.Address receiver))
     on_reference-leads P next m vtype.Top v moves fits go = absurd moves
     on_reference-leads P next m vtype.Int v moves fits go = absurd moves
     on_reference-leads P next m t v moves fits go = absurd fits
 
-    pub pop_reference-leads : (P : Machine → Type 0) (next : Option ℕ → Machine → Next) (f : Frame) (t : VType) (types : List VType) (m : Machine) → f.stack ≡ t ∷ types
+    pub pop_reference-leads : (P : Machine → Type 0) (next : Pointer → Machine → Next) (f : Frame) (t : VType) (types : List VType) (m : Machine) → f.stack ≡ t ∷ types
         → Moves kind.Reference t → At f m
-        → ((a : Option ℕ) (below : List Tagged) → At (record f { stack = types }) (with_operands below m) → Leads P (next a (with_operands below m))) → Leads P (pop_reference next m)
+        → ((a : Pointer) (below : List Tagged) → At (record f { stack = types }) (with_operands below m) → Leads P (next a (with_operands below m))) → Leads P (pop_reference next m)
     pop_reference-leads P next f t types m e moves at go =
         pop-leads P (λ value m. on_reference (λ a. next a m) value) f t types m e at
         (λ value below fit all. on_reference-leads P (λ a. next a (with_operands below m)) m t value moves fit (λ a. go a below all))

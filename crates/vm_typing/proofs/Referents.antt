@@ -7,6 +7,7 @@ use Rattle.ver_frames.specs.Frames.{Frame}
 use Rattle.ver_frames.specs.Assignable.{IsAssignable, IsObjectAssignable}
 use Rattle.ver_frames.specs.declared.vtype.VType.{VType}
 use Rattle.ver_frames.specs.declared.vtype.VType.TheVariants as vtype
+use Rattle.vm_heap.specs.References.{Table}
 use Rattle.vm_heap.specs.Tagged.{Tagged, Int, Null, Local, Remote, Fresh, This, Unset, Head}
 use Rattle.vm_heap.specs.Heap.{Cell, Object, Ints, cell_at}
 use Rattle.vm_act.specs.Next.{Next}
@@ -28,56 +29,56 @@ use Rattle.vm_typing.proofs.Turns.{popped, get_front, more_front}
 use Rattle.vm_typing.proofs.Calls.{reversed, on_left, passed-leads, waits_for}
 
 -- what a value of a type that is asked for stands for
-record Found (w : World) (cells : List Cell) (t : VType) (v : Tagged) : Type 0 where
+record Found (w : World) (table : Table) (cells : List Cell) (t : VType) (v : Tagged) : Type 0 where
   stands : Referent
-  is : referent_of cells v ≡ Some stands
+  is : referent_of table cells v ≡ Some stands
   one : IsOne w t stands
   -- and it is of each class that this one may stand for
   above : (c : ClassId) → CastFits w (vtype.Object c) stands → Points (IsA w c) cells v
   ints : CastFits w vtype.IntArray stands → Points IsInts cells v
 
-found_object : (w : World) (cells : List Cell) (class : ClassId) (v : Tagged) → Points (IsA w class) cells v → Found w cells (vtype.Object class) v
-found_object w cells class Null fit = record { stands = referent.Null; is = refl; one = tt; above = λ c fits. tt; ints = λ fits. tt }
-found_object w cells class (Local a) fit = at (cell_at cells a) refl fit
+found_object : (w : World) (table : Table) (cells : List Cell) (class : ClassId) (v : Tagged) → Points (IsA w class) cells v → Found w table cells (vtype.Object class) v
+found_object w table cells class Null fit = record { stands = referent.Null; is = refl; one = tt; above = λ c fits. tt; ints = λ fits. tt }
+found_object w table cells class (Local a) fit = at (cell_at cells a) refl fit
   where
-    at : (o : Option Cell) → cell_at cells a ≡ o → There (IsA w class) o → Found w cells (vtype.Object class) (Local a)
+    at : (o : Option Cell) → cell_at cells a ≡ o → There (IsA w class) o → Found w table cells (vtype.Object class) (Local a)
     at None e there = absurd there
     at (Some (Object b fields)) e there = record { stands = referent.Object b; is = rw e refl; one = there; above = λ c fits. rw e fits; ints = λ fits. absurd fits }
     at (Some (Ints elements)) e there = record { stands = referent.Ints; is = rw e refl; one = there; above = λ c fits. rw e fits; ints = λ fits. rw e tt }
-found_object w cells class (Int n) fit = absurd fit
-found_object w cells class (Remote row) fit = absurd fit
-found_object w cells class (Fresh index site) fit = absurd fit
-found_object w cells class (This site) fit = absurd fit
-found_object w cells class Unset fit = absurd fit
-found_object w cells class (Head header) fit = absurd fit
+found_object w table cells class (Int n) fit = absurd fit
+found_object w table cells class (Remote row) fit = absurd fit
+found_object w table cells class (Fresh index site) fit = absurd fit
+found_object w table cells class (This site) fit = absurd fit
+found_object w table cells class Unset fit = absurd fit
+found_object w table cells class (Head header) fit = absurd fit
 
-found_ints : (w : World) (cells : List Cell) (v : Tagged) → Points IsInts cells v → Found w cells vtype.IntArray v
-found_ints w cells Null fit = record { stands = referent.Null; is = refl; one = tt; above = λ c fits. tt; ints = λ fits. tt }
-found_ints w cells (Local a) fit = at (cell_at cells a) refl fit
+found_ints : (w : World) (table : Table) (cells : List Cell) (v : Tagged) → Points IsInts cells v → Found w table cells vtype.IntArray v
+found_ints w table cells Null fit = record { stands = referent.Null; is = refl; one = tt; above = λ c fits. tt; ints = λ fits. tt }
+found_ints w table cells (Local a) fit = at (cell_at cells a) refl fit
   where
-    at : (o : Option Cell) → cell_at cells a ≡ o → There IsInts o → Found w cells vtype.IntArray (Local a)
+    at : (o : Option Cell) → cell_at cells a ≡ o → There IsInts o → Found w table cells vtype.IntArray (Local a)
     at None e there = absurd there
     at (Some (Object b fields)) e there = absurd there
     at (Some (Ints elements)) e there = record { stands = referent.Ints; is = rw e refl; one = tt; above = λ c fits. rw e fits; ints = λ fits. rw e tt }
-found_ints w cells (Int n) fit = absurd fit
-found_ints w cells (Remote row) fit = absurd fit
-found_ints w cells (Fresh index site) fit = absurd fit
-found_ints w cells (This site) fit = absurd fit
-found_ints w cells Unset fit = absurd fit
-found_ints w cells (Head header) fit = absurd fit
+found_ints w table cells (Int n) fit = absurd fit
+found_ints w table cells (Remote row) fit = absurd fit
+found_ints w table cells (Fresh index site) fit = absurd fit
+found_ints w table cells (This site) fit = absurd fit
+found_ints w table cells Unset fit = absurd fit
+found_ints w table cells (Head header) fit = absurd fit
 
-found_null : (w : World) (cells : List Cell) (v : Tagged) → IsNull v → Found w cells vtype.Null v
-found_null w cells Null fit = record { stands = referent.Null; is = refl; one = tt; above = λ c fits. tt; ints = λ fits. tt }
-found_null w cells v fit = absurd fit
+found_null : (w : World) (table : Table) (cells : List Cell) (v : Tagged) → IsNull v → Found w table cells vtype.Null v
+found_null w table cells Null fit = record { stands = referent.Null; is = refl; one = tt; above = λ c fits. tt; ints = λ fits. tt }
+found_null w table cells v fit = absurd fit
 
-found : (w : World) (cells : List Cell) (k : Marks) (t : VType) (v : Tagged) → Refers t → Fits w cells k t v → Found w cells t v
-found w cells k vtype.Null v refers fit = found_null w cells v fit
-found w cells k (vtype.Object c) v refers fit = found_object w cells c v fit
-found w cells k vtype.IntArray v refers fit = found_ints w cells v fit
-found w cells k vtype.Top v refers fit = absurd refers
-found w cells k vtype.Int v refers fit = absurd refers
-found w cells k (vtype.Uninitialized o) v refers fit = absurd refers
-found w cells k vtype.UninitializedThis v refers fit = absurd refers
+found : (w : World) (table : Table) (cells : List Cell) (k : Marks) (t : VType) (v : Tagged) → Refers t → Fits w cells k t v → Found w table cells t v
+found w table cells k vtype.Null v refers fit = found_null w table cells v fit
+found w table cells k (vtype.Object c) v refers fit = found_object w table cells c v fit
+found w table cells k vtype.IntArray v refers fit = found_ints w table cells v fit
+found w table cells k vtype.Top v refers fit = absurd refers
+found w table cells k vtype.Int v refers fit = absurd refers
+found w table cells k (vtype.Uninitialized o) v refers fit = absurd refers
+found w table cells k vtype.UninitializedThis v refers fit = absurd refers
 
 module _ (w : World) (owed : Owed w) (asked : Option VType) (heap : List Cell) where
   abbrev Typed : Machine → Type 0
@@ -132,7 +133,7 @@ module _ (w : World) (owed : Owed w) (asked : Option VType) (heap : List Cell) w
         let whole : m.stack.frame.operands ≡ off.passed ++ top.0 ∷ top.1.0 = off.whole ∙ ap (λ (zs : List Tagged). off.passed ++ zs) top.1.1.0 in
         let long : length off.passed ≡ length arguments = sym (length-reverse off.passed) ∙ length-AllZip (Fits w m.heap.cells k) arguments (reverse off.passed) fit in
         let there : slice_get m.stack.frame.operands (length arguments) ≡ Some top.0 = get_at (length arguments) m.stack.frame.operands off.passed top.1.0 top.0 whole long in
-        let one : Found w m.heap.cells (vtype.Object class) top.0 = found w m.heap.cells k (vtype.Object class) top.0 tt top.1.1.1.0 in
+        let one : Found w m.references m.heap.cells (vtype.Object class) top.0 = found w m.references m.heap.cells k (vtype.Object class) top.0 tt top.1.1.1.0 in
         rw (there, one.is) (by off.passed top.1.0 top.0 one.stands one.one one.above whole fit top.1.1.1.1)
       where
         by : (passed left : List Tagged) (v : Tagged) (r : Referent) → IsOne w (vtype.Object class) r → ((c : ClassId) → CastFits w (vtype.Object c) r → Points (IsA w c) m.heap.cells v)
@@ -148,11 +149,11 @@ module _ (w : World) (owed : Owed w) (asked : Option VType) (heap : List Cell) w
     -- what is on top stands for what its type says
     on_top-leads : (s : VType) (types : List VType) (next : Referent → Machine → Next) (f : Frame) (m : Machine) → f.stack ≡ s ∷ types → Refers s
         → Here f m
-        → ((v : Tagged) (left : List Tagged) (one : Found w m.heap.cells s v) → m.stack.frame.operands ≡ v ∷ left → AllFit w m.heap.cells (marks m) types left → Leads (next one.stands m))
+        → ((v : Tagged) (left : List Tagged) (one : Found w m.references m.heap.cells s v) → m.stack.frame.operands ≡ v ∷ left → AllFit w m.heap.cells (marks m) types left → Leads (next one.stands m))
         → Leads (on_referent 0 next m)
     on_top-leads s types next f m e refers at go =
         let top = on_left (Fits w m.heap.cells (marks m)) s types m.stack.frame.operands (rw (← e) at.frame.operands) in
-        let one : Found w m.heap.cells s top.0 = found w m.heap.cells (marks m) s top.0 refers top.1.1.1.0 in
+        let one : Found w m.references m.heap.cells s top.0 = found w m.references m.heap.cells (marks m) s top.0 refers top.1.1.1.0 in
         let there : slice_get m.stack.frame.operands 0 ≡ Some top.0 = get_at 0 m.stack.frame.operands [] top.1.0 top.0 top.1.1.0 refl in
         rw (there, one.is) (go top.0 top.1.0 one top.1.1.0 top.1.1.1.1)
 
@@ -165,7 +166,7 @@ module _ (w : World) (owed : Owed w) (asked : Option VType) (heap : List Cell) w
         on_top-leads s types (λ r. cast (passes r)) f m e refers at
         (λ v left one whole rest. tested v (passes one.stands) (λ is. by t refers' v one (fine one.stands one.one is)) left whole rest)
       where
-        by : (t : VType) → Refers t → (v : Tagged) (one : Found w m.heap.cells s v) → CastFits w t one.stands → Fits w m.heap.cells (marks m) t v
+        by : (t : VType) → Refers t → (v : Tagged) (one : Found w m.references m.heap.cells s v) → CastFits w t one.stands → Fits w m.heap.cells (marks m) t v
         by (vtype.Object c) refers v one fits = one.above c fits
         by vtype.IntArray refers v one fits = one.ints fits
         by vtype.Null refers v one fits = absurd fits
@@ -201,7 +202,7 @@ module _ (w : World) (owed : Owed w) (asked : Option VType) (heap : List Cell) w
         → ¬ IsObjectAssignable w.classes w.object class → Here f m → Leads (on_referent 0 throw m)
     throw-leads class s types f m e refers to none at =
         on_top-leads s types throw f m e refers at
-        (λ v left one whole rest. by v one.stands (found w m.heap.cells (marks m) (vtype.Object class) v tt
+        (λ v left one whole rest. by v one.stands (found w m.references m.heap.cells (marks m) (vtype.Object class) v tt
         (Fits-assignable w owed m.heap.cells (marks m) s (vtype.Object class) v to (fits_of v left whole))) one.is)
       where
         fits_of : (v : Tagged) (left : List Tagged) → m.stack.frame.operands ≡ v ∷ left → Fits w m.heap.cells (marks m) s v
@@ -215,7 +216,7 @@ module _ (w : World) (owed : Owed w) (asked : Option VType) (heap : List Cell) w
         thrown_one (referent.Object b) one = one.0
         thrown_one referent.Ints one = absurd (none one.1)
 
-        by : (v : Tagged) (r : Referent) → (one : Found w m.heap.cells (vtype.Object class) v) → referent_of m.heap.cells v ≡ Some r → Leads (throw r m)
+        by : (v : Tagged) (r : Referent) → (one : Found w m.references m.heap.cells (vtype.Object class) v) → referent_of m.references m.heap.cells v ≡ Some r → Leads (throw r m)
         by v r one is =
             let same : one.stands ≡ r = let h = one.is in cc in
             subst (λ (q : Referent). Leads (throw q m)) same (thrown_one one.stands one.one)

@@ -10,8 +10,8 @@ use Rattle.vm_heap.specs.declared.heap.WordKind.TheVariants as kind
 use Rattle.vm_stack.specs.Frames as frames
 use Rattle.vm_stack.specs.Frames.{pushed, frame_cost}
 use Rattle.vm_act.specs.Next.{On}
-use Rattle.vm_act.specs.Steps.{on_initialised, push, with_operands}
-use Rattle.vm_act.specs.Calls.{leave, left, return_int, return_reference, return_nothing}
+use Rattle.vm_act.specs.Steps.{push, with_operands}
+use Rattle.vm_act.specs.Calls.{on_returned, leave, left, return_int, return_reference, return_nothing}
 use Rattle.vm_act.specs.declared.machine.Machine.{Machine}
 use Rattle.vm_act.specs.declared.ending.Ending.{Ending}
 use Rattle.vm_act.specs.declared.ending.Ending.TheVariants as ending
@@ -87,7 +87,7 @@ module _ (w : World) (owed : Owed w) (asked : Option VType) where
 
     on_points : (P : Cell → Type 0) (t : VType) (m : Machine) (v : Tagged) → Points P m.heap.cells v
         → ((address : Option ℕ) → v ≡ reference_to address → LeadsTo w asked m.heap.cells Typed (leave (push v On) (ending.ReturnedReference address) m))
-        → LeadsTo w asked m.heap.cells Typed (on_initialised (λ address. leave (push v On) (ending.ReturnedReference address) m) v)
+        → LeadsTo w asked m.heap.cells Typed (on_returned (λ over. leave (push v On) over m) m v)
     on_points P t m Null fits go = go None refl
     on_points P t m (Local a) fits go = go (Some a) refl
     on_points P t m (Int n) fits go = absurd fits
@@ -99,7 +99,7 @@ module _ (w : World) (owed : Owed w) (asked : Option VType) where
 
     value-leads : (t : VType) (m : Machine) (v : Tagged) → IsPlain t → Moves kind.Reference t → Fits w m.heap.cells (marks m) t v
         → ((address : Option ℕ) → v ≡ reference_to address → LeadsTo w asked m.heap.cells Typed (leave (push v On) (ending.ReturnedReference address) m))
-        → LeadsTo w asked m.heap.cells Typed (on_initialised (λ address. leave (push v On) (ending.ReturnedReference address) m) v)
+        → LeadsTo w asked m.heap.cells Typed (on_returned (λ over. leave (push v On) over m) m v)
     value-leads (vtype.Object c) m v plain moves fit go = on_points (IsA w c) (vtype.Object c) m v fit go
     value-leads vtype.IntArray m v plain moves fit go = on_points IsInts vtype.IntArray m v fit go
     value-leads vtype.Top m v plain moves fit go = absurd plain
@@ -114,7 +114,7 @@ module _ (w : World) (owed : Owed w) (asked : Option VType) where
     return_reference-leads s t types f m e to result moves at =
         let plain : IsPlain t = (owed.methods m.stack.frame.method at.frame.known).result t result in
         pop_typed-leads w owed asked m.heap.cells fresh receiver Typed
-        (λ value m. on_initialised (λ address. leave (push value On) (ending.ReturnedReference address) m) value) f s t types m e to at
+        (λ value m. on_returned (λ over. leave (push value On) over m) m value) f s t types m e to at
         (λ value below fit all. value-leads t (with_operands below m) value plain moves fit
         (λ address is. value_left t value (ending.ReturnedReference address) (with_operands below m) (marks m) m.stack.callers plain fit at.heap
         (subst (λ (r : Option VType). CallersWait w asked m.heap.cells r m.stack.callers) result at.callers)

@@ -7,7 +7,7 @@ use Rattle.ver_frames.specs.Assignable.{IsAssignable, AreAssignable, IsFrameAssi
 use Rattle.ver_frames.specs.declared.vtype.VType.{VType}
 use Rattle.ver_frames.specs.declared.vtype.VType.TheVariants as vtype
 use Rattle.vm_heap.specs.Heap.{Cell}
-use Rattle.vm_act.specs.Next.{Next, On, Ends, Stuck, NotStuck, GoesOn, Does}
+use Rattle.vm_act.specs.Next.{Next, On, Ends, Asks, Stuck, NotStuck, GoesOn, Does}
 use Rattle.vm_act.specs.Steps.{on_some}
 use Rattle.vm_act.specs.Objects.{referent_at, on_referent}
 use Rattle.vm_act.specs.declared.machine.Machine.{Machine}
@@ -46,12 +46,14 @@ module _ (w : World) (asked : Option VType) (heap : List Cell) (P : Machine → 
   pub not_stuck : (next : Next) → LeadsTo w asked heap P next → NotStuck next
   not_stuck (On m) leads = tt
   not_stuck (Ends ending) leads = tt
+  not_stuck (Asks op m) leads = tt
   not_stuck Stuck leads = leads
 
   -- what it makes of a machine with which the task goes on
   pub goes_on : (next : Next) (did : Flow) (after : Machine) → LeadsTo w asked heap P next → Does next did after → GoesOn did → P after
   goes_on (On m) did after leads does goes = subst P (sym does.1) leads
   goes_on (Ends ending) did after leads does goes = absurd (subst GoesOn does goes)
+  goes_on (Asks op m) did after leads does goes = absurd leads
   goes_on Stuck did after leads does goes = absurd leads
 
   -- and what a task ends with
@@ -61,6 +63,7 @@ module _ (w : World) (asked : Option VType) (heap : List Cell) (P : Machine → 
     where
       same_ending : (a b : Ending) → Path Flow (flow.Ends b) (flow.Ends a) → a ≡ b
       same_ending a b e = cc
+  ends (Asks op m) ending after leads does = absurd leads
   ends Stuck ending after leads does = absurd leads
 
   -- there is what an instruction asks of an object

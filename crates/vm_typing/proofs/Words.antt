@@ -7,6 +7,7 @@ use mir.Syntax.{w32}
 use Rattle.ver_frames.specs.Frames.{Frame}
 use Rattle.ver_frames.specs.declared.vtype.VType.{VType}
 use Rattle.ver_frames.specs.declared.vtype.VType.TheVariants as vtype
+use Rattle.vm_heap.specs.declared.word.Pointer.TheVariants as pointer
 use Rattle.vm_heap.specs.Tagged.{Tagged, Int, Null}
 use Rattle.vm_heap.specs.Heap.{Cell}
 use Rattle.vm_heap.specs.declared.heap.WordKind.{WordKind}
@@ -177,8 +178,8 @@ module _ (w : World) (owed : Owed w) (asked : Option VType) (heap : List Cell) (
   pub if_null-leads : (wanted : Bool) (target : ℕ) (a : VType) (types : List VType) (f : Frame) (m : Machine) → f.stack ≡ a ∷ types → Moves kind.Reference a
       → GoesOn m f types → Enters w m.stack.frame.method target (record f { stack = types }) → Here f m → Leads (if_null wanted target m)
   if_null-leads wanted target a types f m e of_a enters lands at =
-      pop_reference-leads w owed asked heap fresh receiver Typed (λ address. branch (is_wanted wanted (are_same address None)) target) f a types m e of_a at
-      (λ address below all. branch-leads w owed asked heap fresh receiver (record f { stack = types }) (with_operands below m) (is_wanted wanted (are_same address None)) target enters lands all)
+      pop_reference-leads w owed asked heap fresh receiver Typed (λ address. branch (is_wanted wanted (are_same address pointer.Null)) target) f a types m e of_a at
+      (λ address below all. branch-leads w owed asked heap fresh receiver (record f { stack = types }) (with_operands below m) (is_wanted wanted (are_same address pointer.Null)) target enters lands all)
 
   -- two ints on top, and what is made of them: the operators on ints and the comparisons
   pub two_ints-leads : (next : ℤ → ℤ → Machine → Next) (types : List VType) (f : Frame) (m : Machine) → f.stack ≡ vtype.Int ∷ vtype.Int ∷ types → Here f m

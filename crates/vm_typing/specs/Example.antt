@@ -6,6 +6,7 @@ use Rattle.cls_set.specs.declared.class.Class.{Class}
 use Rattle.ver_frames.specs.Frames.{Frame}
 use Rattle.ver_frames.specs.declared.vtype.VType.{VType}
 use Rattle.ver_frames.specs.declared.vtype.VType.TheVariants as vtype
+use Rattle.vm_heap.specs.References.{Table}
 use Rattle.vm_heap.specs.declared.heap.WordKind.TheVariants as kind
 use Rattle.vm_stack.specs.Frames.{empty_frame}
 use Rattle.vm_act.specs.Next.{Next, On}
@@ -167,4 +168,5 @@ step m = act_at m.stack.frame.method m.stack.frame.index m
 
 -- however few words the frames and the heap have, and however many steps are made, the program is never stuck and gives an int
 abbrev pub ExampleIsSound : Type 0
-ExampleIsSound = (free heap_free n : ℕ) → IsSound world (Some vtype.Int) (steps step n (On (started main_callee [] empty_frame free (record { cells = []; free = heap_free }))))
+ExampleIsSound = (free heap_free n : ℕ) (references : Table)
+    → IsSound world (Some vtype.Int) (steps step n (On (started main_callee [] empty_frame free (record { cells = []; free = heap_free }) references)))

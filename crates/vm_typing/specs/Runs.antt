@@ -3,8 +3,9 @@ use Rattle.std.specs.Prelude.{◌≡◌, ℕ, zero, suc, ◌-◌, false, Option,
 use Rattle.ver_frames.specs.declared.vtype.VType.{VType}
 use Rattle.vm_heap.specs.Tagged.{Tagged, Unset}
 use Rattle.vm_heap.specs.Heap.{Cell, Store}
+use Rattle.vm_heap.specs.References.{Table}
 use Rattle.vm_stack.specs.Frames as frames
-use Rattle.vm_act.specs.Next.{Next, On, Ends, Stuck}
+use Rattle.vm_act.specs.Next.{Next, On, Ends, Asks, Stuck}
 use Rattle.vm_act.specs.declared.machine.Machine.{Machine}
 use Rattle.vm_act.specs.declared.calls.Callee.{Callee}
 use Rattle.vm_typing.specs.World.{World, parameters}
@@ -24,13 +25,14 @@ first_frame callee values = record {
 }
 
 -- the machine with which a method is started on values, over one frame
-abbrev pub started : Callee → List Tagged → frames.Frame → ℕ → Store → Machine
-started callee values lowest free heap =
-    record { stack = record { frame = first_frame callee values; callers = lowest ∷ []; free = free }; heap = heap }
+abbrev pub started : Callee → List Tagged → frames.Frame → ℕ → Store → Table → Machine
+started callee values lowest free heap references =
+    record { stack = record { frame = first_frame callee values; callers = lowest ∷ []; free = free }; heap = heap; references = references }
 
 abbrev pub stepped : (Machine → Next) → Next → Next
 stepped step (On m) = step m
 stepped step (Ends ending) = Ends ending
+stepped step (Asks op m) = Asks op m
 stepped step Stuck = Stuck
 
 -- what some steps make of a machine
@@ -46,13 +48,14 @@ KeepsTyped w asked step = (m : Machine) → IsTyped w asked m → LeadsTo w aske
 abbrev pub IsSound : World → Option VType → Next → Type 0
 IsSound w asked (On m) = IsTyped w asked m
 IsSound w asked (Ends ending) = (heap : List Cell) × IsGiven w asked heap ending
+IsSound w asked (Asks op m) = ⊥
 IsSound w asked Stuck = ⊥
 
 -- a method is typed if it is started on values of its parameters' types, with a heap that fits
 abbrev pub StartsTyped : World → Type 0
-StartsTyped w = (callee : Callee) (values : List Tagged) (lowest : frames.Frame) (free : ℕ) (heap : Store) → IsCallee w callee
+StartsTyped w = (callee : Callee) (values : List Tagged) (lowest : frames.Frame) (free : ℕ) (heap : Store) (references : Table) → IsCallee w callee
     → AllFit w heap.cells no_marks (parameters (w.method callee.method)) values → HeapFits w heap.cells
-    → (w.method callee.method).is_init ≡ false → IsTyped w (w.method callee.method).result (started callee values lowest free heap)
+    → (w.method callee.method).is_init ≡ false → IsTyped w (w.method callee.method).result (started callee values lowest free heap references)
 
 -- however many steps a typed machine makes, it is never stuck
 abbrev pub RunsSound : World → Type 0
