@@ -1,11 +1,8 @@
-//! The tests of what links and checks class files, in one crate above all of it, since a crate with
-//! tests is proved a second time.
+//! The tests of class sets, links and type frames, in one crate above all of them, since a crate with
+//! tests is proved a second time. Each fault of a set, of links and of checks is a row of
+//! `command_rows`.
 #![tactic(auto)]
 
-#[cfg(test)]
-mod checking;
-#[cfg(test)]
-mod checking_objects;
 #[cfg(test)]
 mod frames;
 #[cfg(test)]

@@ -123,80 +123,6 @@ fn refused(rt: &impl Abort, outcome: Result<ClassSet, SetFault>, number: u8, nam
     }
 }
 
-#[test]
-fn faults_name_the_class(rt: HostRuntime) -> Result<(), Fail> {
-    let alloc = rt.alloc();
-    let built_in = set_of(alloc, &[(PUBLIC, OBJECT, OBJECT, &[])])?;
-    refused(&rt, built_in, 30, b"java/lang/Object");
-    let twice = set_of(
-        alloc,
-        &[
-            (PUBLIC, "U", OBJECT, &[]),
-            (PUBLIC, "T", OBJECT, &[]),
-            (PUBLIC, "U", OBJECT, &[]),
-            (PUBLIC, "T", OBJECT, &[]),
-        ],
-    )?;
-    refused(&rt, twice, 30, b"T");
-    let two = set_of(
-        alloc,
-        &[(PUBLIC, "U", OBJECT, &[]), (PUBLIC, "T", OBJECT, &[])],
-    )??;
-    assert_eq!(rt; two.len(), 31);
-    Ok(())
-}
-
-#[test]
-fn absent_supertypes_are_refused(rt: HostRuntime) -> Result<(), Fail> {
-    let alloc = rt.alloc();
-    let superclass = set_of(alloc, &[(PUBLIC, "T", "No", &[])])?;
-    refused(&rt, superclass, 31, b"T");
-    let interface = set_of(alloc, &[(PUBLIC, "T", "T", &["java/rmi/Remote", "No"])])?;
-    refused(&rt, interface, 31, b"T");
-    let first = set_of(
-        alloc,
-        &[
-            (PUBLIC, "V", "No", &[]),
-            (PUBLIC, "T", "U", &[]),
-            (PUBLIC, "U", "T", &["No"]),
-        ],
-    )?;
-    refused(&rt, first, 31, b"U");
-    let twice = set_of(
-        alloc,
-        &[
-            (PUBLIC, "V", "V", &[]),
-            (PUBLIC, "T", "No", &[]),
-            (PUBLIC, "V", "V", &[]),
-        ],
-    )?;
-    refused(&rt, twice, 30, b"V");
-    Ok(())
-}
-
-#[test]
-fn classes_on_cycles_are_refused(rt: HostRuntime) -> Result<(), Fail> {
-    let alloc = rt.alloc();
-    let superclass = set_of(alloc, &[(PUBLIC, "T", "T", &[])])?;
-    refused(&rt, superclass, 32, b"T");
-    let interface = set_of(alloc, &[(PUBLIC, "T", OBJECT, &["java/rmi/Remote", "T"])])?;
-    refused(&rt, interface, 32, b"T");
-    let two = set_of(alloc, &[(PUBLIC, "B", "A", &[]), (PUBLIC, "A", "B", &[])])?;
-    refused(&rt, two, 32, b"A");
-    // A is below the cycle, and not on it.
-    let below = set_of(
-        alloc,
-        &[
-            (PUBLIC, "A", "C", &[]),
-            (PUBLIC, "C", OBJECT, &["D"]),
-            (PUBLIC, "D", OBJECT, &["B"]),
-            (PUBLIC, "B", "C", &[]),
-        ],
-    )?;
-    refused(&rt, below, 32, b"B");
-    Ok(())
-}
-
 // The classes T0, T1 and so on.
 fn numbered(alloc: Global, count: u32) -> Result<Vec<ClassFile>, Fail>
     ensures { IfOk result (λ files. All IsWellFormed files.items) }
@@ -214,35 +140,5 @@ fn classes_that_cannot_be_numbered_are_too_many(rt: HostRuntime) -> Result<(), F
     let alloc = rt.alloc();
     let files = numbered(alloc, 4068)?;
     refused(&rt, ClassSet::build(alloc, files), 38, b"T4067");
-    Ok(())
-}
-
-#[test]
-fn bad_supertypes_are_refused(rt: HostRuntime) -> Result<(), Fail> {
-    let alloc = rt.alloc();
-    let extended = set_of(alloc, &[(PUBLIC, "T", "java/rmi/Remote", &[])])?;
-    refused(&rt, extended, 33, b"T");
-    let implemented = set_of(alloc, &[(PUBLIC, "T", OBJECT, &["java/lang/Exception"])])?;
-    refused(&rt, implemented, 33, b"T");
-    let flags = PUBLIC | Flags::INTERFACE | Flags::ABSTRACT;
-    let interface = set_of(alloc, &[(flags, "I", "java/lang/Exception", &[])])?;
-    refused(&rt, interface, 33, b"I");
-    // A final superclass, and the same beside a class that extends an interface: the lower number.
-    let finals = set_of(
-        alloc,
-        &[(Flags::FINAL, "F", OBJECT, &[]), (PUBLIC, "G", "F", &[])],
-    )?;
-    refused(&rt, finals, 34, b"G");
-    let both = set_of(
-        alloc,
-        &[
-            (Flags::FINAL, "F", OBJECT, &[]),
-            (PUBLIC, "G", "F", &[]),
-            (PUBLIC, "T", "java/rmi/Remote", &[]),
-        ],
-    )?;
-    refused(&rt, both, 33, b"T");
-    let remote = set_of(alloc, &[(PUBLIC, "T", OBJECT, &["java/rmi/Remote"])])?;
-    refused(&rt, remote, 39, b"T");
     Ok(())
 }

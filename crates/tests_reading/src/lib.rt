@@ -9,8 +9,6 @@ mod decoding;
 #[cfg(test)]
 mod devices;
 #[cfg(test)]
-mod flags;
-#[cfg(test)]
 mod layouts;
 #[cfg(test)]
 mod opcodes;

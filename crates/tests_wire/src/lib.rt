@@ -1,13 +1,7 @@
-//! The tests of the wire, of leases, of names, of remote objects and of cores, in one crate above them, since a crate with tests is
-//! proved a second time.
+//! The tests of leases, of names and of remote objects, in one crate above them, since a crate with tests
+//! is proved a second time. Rows test the wire and cores (`wire_rows`, `core_rows`).
 #![tactic(auto)]
 
-#[cfg(test)]
-mod cores;
-#[cfg(test)]
-mod engine;
-#[cfg(test)]
-mod frames;
 #[cfg(test)]
 mod leases;
 #[cfg(test)]

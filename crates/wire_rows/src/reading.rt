@@ -1,0 +1,77 @@
+//! Bytes as a reader of frames takes them.
+
+ghost use Rattle.std.specs.Prelude.{◌<◌};
+
+use super::fault::RowFault;
+use super::making::{remade, show};
+use net_frames::{FrameReader, Numbered, WireError, WireFault, encode};
+use std::alloc::Global;
+use std::io::Write;
+
+/// Returns the frames that come of the bytes and the fault after them, and says so if other pieces
+/// give others.
+pub fn said_of(alloc: Global, bytes: &[u8]) -> Result<Vec<u8>, RowFault> {
+    let mut said = fed(alloc, bytes, 1_000_000)?;
+    for piece in [1, 7, 1000] {
+        let again = fed(alloc, bytes, piece)?;
+        if again.as_slice() != said.as_slice() {
+            writeln!(said, "something else in pieces of {piece}")?;
+        }
+    }
+    Ok(said)
+}
+
+// What comes of the bytes in pieces of this length.
+fn fed(alloc: Global, bytes: &[u8], length: usize) -> Result<Vec<u8>, RowFault>
+    requires { 0 < length }
+{
+    let mut reader = FrameReader::new(alloc);
+    let mut said = Vec::new(alloc);
+    let mut fault = None;
+    for piece in bytes.chunks(length) {
+        if fault.is_none() {
+            fault = feed(alloc, &mut reader, piece, &mut said)?;
+        }
+    }
+    if fault.is_none() {
+        // A fault after frames is told as the next piece comes.
+        fault = feed(alloc, &mut reader, &[], &mut said)?;
+    }
+    if let Some(fault) = fault {
+        writeln!(said, "{} {fault}", fault.number())?;
+        if feed(
+            alloc,
+            &mut reader,
+            b"\0\0\0\x09\x06\0\0\0\0\0\0\0\x05",
+            &mut said,
+        )? != Some(fault)
+        {
+            writeln!(said, "and not for good")?;
+        }
+    }
+    Ok(said)
+}
+
+// Feeds a piece, prints its frames, and returns its fault.
+fn feed(
+    alloc: Global,
+    reader: &mut FrameReader,
+    piece: &[u8],
+    said: &mut Vec<u8>,
+) -> Result<Option<WireFault>, RowFault> {
+    match reader.feed(piece) {
+        Ok(frames) => {
+            for frame in frames {
+                show(said, &frame)?;
+                let bytes = encode(alloc, &frame)?;
+                let again = remade(frame)?;
+                if encode(alloc, &again)?.as_slice() != bytes.as_slice() {
+                    writeln!(said, "and other bytes from its parts")?;
+                }
+            }
+            Ok(None)
+        }
+        Err(WireError::Fault(fault)) => Ok(Some(fault)),
+        Err(WireError::Memory) => Err(RowFault::Memory),
+    }
+}
