@@ -38,42 +38,74 @@ pub fn row_of(alloc: Global, text: &str) -> Result<Row, RowFault> {
     }
     let words: Vec<&str> = text.split(' ').collect(alloc)?;
     match words.as_slice() {
-        ["core", id, fuel] => Ok(Row::Core(space(id)?, number(fuel)?)),
-        ["lend", task] => Ok(Row::Lend(number(task)?)),
-        ["ran", task, made] => Ok(Row::Ran(number(task)?, number(made)?)),
-        ["object", at] => Ok(Row::Object(index(at)?)),
-        ["ready"] => Ok(Row::Ready),
-        ["root" | "roots" | "refused", parts @ ..] => root_of(alloc, words[0], parts),
-        ["create" | "get" | "put", task, parts @ ..] => {
-            Ok(Row::Commit(number(task)?, op_of(alloc, words[0], parts)?, 1))
-        }
-        ["creates", task, times, of] => {
-            let op = Op::Create(class(of)?);
-            Ok(Row::Commit(number(task)?, op, index(times)?))
-        }
-        [
-            "give" | "park" | "finish" | "return" | "throw" | "spend",
-            task,
-            parts @ ..,
-        ] => { Ok(Row::Hand(number(task)?, hand_of(alloc, words[0], parts)?)) }
-        parts => Ok(Row::Event(event_of(alloc, parts)?)),
+        [kind, parts @ ..] => row_of_kind(alloc, kind, parts),
+        [] => Err(RowFault::Bad),
     }
 }
 
-fn event_of(alloc: Global, words: &[&str]) -> Result<Event, RowFault> {
-    match words {
-        ["moment", moment] => Ok(Event::Moment(number(moment)?)),
-        ["sweep"] => Ok(Event::Sweep),
-        ["ack", task] => Ok(Event::RootAck(number(task)?)),
-        ["bind", text, bound] => Ok(Event::Bind {
+fn row_of_kind(alloc: Global, kind: &str, parts: &[&str]) -> Result<Row, RowFault> {
+    match kind {
+        "core" => core_of(parts),
+        "root" | "roots" | "refused" => root_of(alloc, kind, parts),
+        "lend" | "ran" | "object" | "ready" => look_of(kind, parts),
+        "create" | "creates" | "get" | "put" => commit_of(alloc, kind, parts),
+        "give" | "park" | "finish" | "return" | "throw" | "spend" => {
+            hand_row(alloc, kind, parts)
+        }
+        _ => Ok(Row::Event(event_of(alloc, kind, parts)?)),
+    }
+}
+
+fn core_of(parts: &[&str]) -> Result<Row, RowFault> {
+    match parts {
+        [id, fuel] => Ok(Row::Core(space(id)?, number(fuel)?)),
+        _ => Err(RowFault::Bad),
+    }
+}
+
+// A row that changes no more than what is in hand.
+fn look_of(kind: &str, parts: &[&str]) -> Result<Row, RowFault> {
+    match (kind, parts) {
+        ("lend", [task]) => Ok(Row::Lend(number(task)?)),
+        ("ran", [task, made]) => Ok(Row::Ran(number(task)?, number(made)?)),
+        ("object", [at]) => Ok(Row::Object(index(at)?)),
+        ("ready", []) => Ok(Row::Ready),
+        _ => Err(RowFault::Bad),
+    }
+}
+
+fn commit_of(alloc: Global, kind: &str, parts: &[&str]) -> Result<Row, RowFault> {
+    let [task, parts @ ..] = parts else {
+        return Err(RowFault::Bad);
+    };
+    let task = number(task)?;
+    match (kind, parts) {
+        ("creates", [times, of]) => Ok(Row::Commit(task, Op::Create(class(of)?), index(times)?)),
+        _ => Ok(Row::Commit(task, op_of(alloc, kind, parts)?, 1)),
+    }
+}
+
+fn hand_row(alloc: Global, kind: &str, parts: &[&str]) -> Result<Row, RowFault> {
+    match parts {
+        [task, parts @ ..] => Ok(Row::Hand(number(task)?, hand_of(alloc, kind, parts)?)),
+        [] => Err(RowFault::Bad),
+    }
+}
+
+fn event_of(alloc: Global, kind: &str, parts: &[&str]) -> Result<Event, RowFault> {
+    match (kind, parts) {
+        ("moment", [moment]) => Ok(Event::Moment(number(moment)?)),
+        ("sweep", []) => Ok(Event::Sweep),
+        ("ack", [task]) => Ok(Event::RootAck(number(task)?)),
+        ("bind", [text, bound]) => Ok(Event::Bind {
             name: name(alloc, text)?,
             value: value(alloc, bound)?,
         }),
-        ["rebind", text, bound] => Ok(Event::Rebind {
+        ("rebind", [text, bound]) => Ok(Event::Rebind {
             name: name(alloc, text)?,
             value: value(alloc, bound)?,
         }),
-        ["unbind", text] => Ok(Event::Unbind {
+        ("unbind", [text]) => Ok(Event::Unbind {
             name: name(alloc, text)?,
         }),
         _ => Err(RowFault::Bad),

@@ -109,21 +109,30 @@ impl Stage {
 
     fn hand(&mut self, said: &mut Vec<u8>, task: u64, hand: &Hand) -> Result<(), RowFault> {
         let lent = self.taken(task)?;
-        let answer = match hand {
-            Hand::Give => match self.core.give_back(lent) {
-                Ok(()) => Ok(Vec::new(self.alloc)),
-                Err(refused) => Err(refused),
-            },
-            Hand::Park(stand) => self.core.park(lent, stand),
-            Hand::Finish(stand) => self.core.finish(lent, stand),
-        };
-        match answer {
+        match given(&mut self.core, self.alloc, lent, hand) {
             Ok(outputs) => put_outputs(said, &outputs),
             Err((lent, fault)) => {
                 self.tasks.push(lent)?;
                 put_fault(said, fault)
             }
         }
+    }
+}
+
+// What a core answers to a task that is given to it.
+fn given(
+    core: &mut SpaceCore,
+    alloc: Global,
+    lent: LentTask,
+    hand: &Hand,
+) -> Result<Vec<Output>, (LentTask, CoreFault)> {
+    match hand {
+        Hand::Give => match core.give_back(lent) {
+            Ok(()) => Ok(Vec::new(alloc)),
+            Err(refused) => Err(refused),
+        },
+        Hand::Park(stand) => core.park(lent, stand),
+        Hand::Finish(stand) => core.finish(lent, stand),
     }
 }
 
@@ -141,12 +150,17 @@ fn put_outputs(said: &mut Vec<u8>, outputs: &[Output]) -> Result<(), RowFault> {
         writeln!(said, "done")?;
     }
     for output in outputs {
-        writeln!(said, "{output:?}")?;
+        match output {
+            Output::Withdrawn(ids) if ids.as_slice().len() > 8 => {
+                writeln!(said, "Withdrawn, {} objects", ids.as_slice().len())?
+            }
+            _ => writeln!(said, "{output:?}")?,
+        }
     }
     Ok(())
 }
 
 fn put_fault(said: &mut Vec<u8>, fault: CoreFault) -> Result<(), RowFault> {
-    writeln!(said, "refused: {fault:?} {fault}")?;
+    writeln!(said, "refused: {fault}")?;
     Ok(())
 }
