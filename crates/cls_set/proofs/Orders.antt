@@ -1,18 +1,18 @@
 -- Methods in the order of their names and descriptors, and the search among them.
 use Rattle.std.proofs.Common.{◌≡◌, ℕ, ◌+◌, ◌<◌, ◌≤◌, inl, inr, true, false, Some, List, [], ◌∷◌, ◌++◌, length, get_or, refl, sym, subst, ap, ◌∙◌, arith}
 use Rattle.std.specs.Prelude.{slice_get}
-use Rattle.std.specs.List.Sorted.{IsNonDecreasingBy, IsPartitionedBy, IsPartitionPoint}
+use Rattle.std.specs.List.Sorted.{IsNonDecreasingBy, IsPartitionedBy, IsPartitionPoint, IsSortedBy}
 use Rattle.std.specs.Ordering.{is_lt, ordering_index, ordering_then}
 use Rattle.std.specs.declared.cmp.Ordering.{Ordering}
 use Rattle.std.specs.declared.cmp.Ordering.TheVariants.{Less, Equal, Greater}
 use Rattle.std.specs.Cmp.{IsTotalOrder}
-use Rattle.std.proofs.lemmas.Cmp.{nat_list_cmp_total, on_total, then_total, tied_itself}
+use Rattle.std.proofs.lemmas.Cmp.{nat_cmp_total, nat_list_cmp_total, on_total, then_total, tied_itself}
 use Rattle.std.proofs.lemmas.List.Sorted.{searchable_from_sorted}
 use Rattle.cf_reader.specs.declared.class_file.Method.{Method}
 use Rattle.cf_reader.specs.declared.class_file.ClassFile.{ClassFile}
 use Rattle.cls_order.specs.declared.class.Class.{Class}
 use Rattle.cls_order.specs.Classes.{name_cmp}
-use Rattle.cls_set.specs.Orders.{key_at, key_cmp, key_in, key_of, HaveOrders, IsOrder, Key}
+use Rattle.cls_set.specs.Orders.{key_at, key_cmp, key_in, key_of, method_cmp, HaveOrders, IsOrder, Key}
 use Rattle.cls_set.specs.Rules.{Clashes}
 use Rattle.cls_order.proofs.Hierarchy.{same_read, same_some, true_false}
 use Rattle.cls_order.proofs.Names.{same_test}
@@ -25,6 +25,15 @@ use Rattle.cls_order.proofs.Walks.{before}
 
 pub key_total : IsTotalOrder key_cmp
 key_total = then_total (on_total (λ (key : Key). key.0) nat_list_cmp_total) (on_total (λ (key : Key). key.1) nat_list_cmp_total)
+
+pub method_total : (methods : List Method) → IsTotalOrder (method_cmp methods)
+method_total methods = then_total (on_total (key_at methods) key_total) nat_cmp_total
+
+-- what is not less by two tests is not less by the first
+not_less_first : (a b : Ordering) → is_lt (ordering_then a b) ≡ false → is_lt a ≡ false
+not_less_first Less b e = e
+not_less_first Equal b e = refl
+not_less_first Greater b e = refl
 
 lower_index : (a b : Ordering) → ordering_index a ≤ ordering_index b → is_lt b ≡ true → is_lt a ≡ true
 lower_index Less b h e = refl
@@ -48,9 +57,12 @@ neither_less Less e h = absurd (true_false e)
 neither_less Equal e h = refl
 neither_less Greater e h = absurd (omega (arith, h))
 
+by_key : (methods : List Method) (order : List ℕ) → IsSortedBy (λ i j. is_lt (method_cmp methods i j)) order → IsSortedBy (λ i j. is_lt (key_cmp (key_at methods i) (key_at methods j))) order
+by_key methods order up k d low high = not_less_first (key_cmp (key_at methods (get_or order (k + 1) d)) (key_at methods (get_or order k d))) _ (up k d low high)
+
 module _ (methods : List Method) (order : List ℕ) (o : IsOrder methods order) (key : Key) where
   rising : IsNonDecreasingBy (λ k. ordering_index (key_cmp (key_at methods k) key)) order
-  rising = searchable_from_sorted key_total (key_at methods) order key o.sorted
+  rising = searchable_from_sorted key_total (key_at methods) order key (by_key methods order o.sorted)
 
   pub partitioned : IsPartitionedBy (λ k. is_lt (key_cmp (key_at methods k) key)) order
   partitioned i j d low high e = lower_index (key_cmp (key_at methods (get_or order i d)) key) (key_cmp (key_at methods (get_or order j d)) key) (rising i j d low high) e

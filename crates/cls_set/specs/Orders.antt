@@ -1,7 +1,8 @@
--- The methods of a class in the order of their names, and those of one name in that of their descriptors.
+-- The methods of a class in the order of their names, those of one name in that of their descriptors, and those of one name and
+-- descriptor as declared.
 use Rattle.std.specs.Prelude.{◌≡◌, ◌<◌, ℕ, Option, Some, None, List, [], All, Contains, length, slice_get, slice_index_or}
 use Rattle.std.specs.List.Sorted.{IsSortedBy}
-use Rattle.std.specs.Ordering.{is_lt, on, then_cmp}
+use Rattle.std.specs.Ordering.{is_lt, nat_cmp, on, then_cmp}
 use Rattle.std.specs.declared.cmp.Ordering.{Ordering}
 use Rattle.cf_reader.specs.declared.class_file.Method.{Method}
 use Rattle.cls_order.specs.declared.class.Class.{Class}
@@ -24,11 +25,15 @@ key_in (Some method) = key_of method
 abbrev pub key_at : List Method → ℕ → Key
 key_at methods index = key_in (slice_get methods index)
 
+-- by name, then descriptor, then index: no two methods tie
+abbrev pub method_cmp : List Method → ℕ → ℕ → Ordering
+method_cmp methods = then_cmp (on (key_at methods) key_cmp) nat_cmp
+
 -- the indices of the methods, each of them, in that order
 pub record IsOrder (methods : List Method) (order : List ℕ) : Type 0 where
   pub only : All (λ k. k < length methods) order
   pub each : (k : ℕ) → k < length methods → Contains order k
-  pub sorted : IsSortedBy (λ i j. is_lt (key_cmp (key_at methods i) (key_at methods j))) order
+  pub sorted : IsSortedBy (λ i j. is_lt (method_cmp methods i j)) order
 
 -- there is such an order for the methods of each class
 pub record HaveOrders (classes : List Class) (orders : List (List ℕ)) : Type 0 where

@@ -1,8 +1,8 @@
-//! The methods of a class in the order of their names and descriptors.
+//! The methods of a class in the order of their names and descriptors, then as declared.
 
 ghost use Rattle.std.specs.Prelude.{◌≡◌, ◌<◌, IfOk, length};
 ghost use Rattle.std.specs.Ordering.{is_lt};
-ghost use Rattle.cls_set.specs.Orders.{key_at, key_cmp, key_of, HaveOrders, IsOrder};
+ghost use Rattle.cls_set.specs.Orders.{key_at, key_cmp, key_of, method_cmp, HaveOrders, IsOrder};
 ghost use Rattle.cls_order.specs.Entries.{classes_of};
 
 use cf_reader::{Method, Row};
@@ -22,11 +22,12 @@ fn key(methods: &[Method], index: usize) -> (&[u8], &[u8])
 }
 
 fn compare(methods: &[Method], a: usize, b: usize) -> Ordering
-    ensures { result ≡ key_cmp (key_at methods.now a) (key_at methods.now b) }
+    ensures { result ≡ method_cmp methods.now a b }
 {
     let (a_name, a_descriptor) = key(methods, a);
     let (b_name, b_descriptor) = key(methods, b);
-    a_name.cmp(b_name).then(a_descriptor.cmp(b_descriptor))
+    let by_key = a_name.cmp(b_name).then(a_descriptor.cmp(b_descriptor));
+    by_key.then(a.cmp(&b))
 }
 
 // Whether the method with this index comes before another.

@@ -3,9 +3,9 @@ use Rattle.std.specs.Ordering.{is_lt}
 use Rattle.std.proofs.lemmas.Fn.{always_returns_same}
 use Rattle.std.proofs.lemmas.List.MinMax.{ranks_by}
 use Rattle.std.proofs.lemmas.List.Sorted.{All-permutation, Contains-permutation}
-use Rattle.cls_set.specs.Orders.{key_at, key_cmp}
+use Rattle.cls_set.specs.Orders.{method_cmp}
 use Rattle.cls_order.proofs.Indices.{one_more}
-use Rattle.cls_set.proofs.Orders.{key_total}
+use Rattle.cls_set.proofs.Orders.{method_total}
 use Rattle.cls_set.proofs.ordering.order.Goals as goal
 
 pub loop-index-preserved : goal.loop-index-preserved
@@ -21,6 +21,6 @@ returns c =
       only = All-permutation (λ k. k < length methods) old new c.in_ok-sort_by.ensures.permutation (λ k d h. let low = c.loop-index.invariant.only k d h in let end = c.loop-index.auto.index-end in omega (arith, low, end));
       each = λ k h. Contains-permutation old new k c.in_ok-sort_by.ensures.permutation (c.loop-index.invariant.each k (let end = c.loop-index-test.false in omega (arith, h, end)));
       sorted =
-          c.in_ok-sort_by.ensures.sorted (λ a b. is_lt (key_cmp (key_at methods a) (key_at methods b))) (ranks_by key_total (key_at methods))
-          (always_returns_same _ (λ a r. is_lt r ≡ is_lt (key_cmp (key_at methods a.0.now) (key_at methods a.1.0.now))) _ (λ a r q k. (search rules, search rules)));
+          c.in_ok-sort_by.ensures.sorted (λ a b. is_lt (method_cmp methods a b)) (ranks_by (method_total methods) (λ k. k))
+          (always_returns_same _ (λ a r. is_lt r ≡ is_lt (method_cmp methods a.0.now a.1.0.now)) _ (λ a r q k. (search rules, search rules)));
     }
