@@ -1,12 +1,15 @@
 -- The methods of a class in the order of their names, those of one name in that of their descriptors, and those of one name and
 -- descriptor as declared.
-use Rattle.std.specs.Prelude.{◌≡◌, ◌<◌, ℕ, Option, Some, None, List, [], All, Contains, length, slice_get, slice_index_or}
+use Rattle.std.specs.Prelude.{◌≡◌, ◌<◌, ℕ, Bool, Option, Some, None, List, [], All, Contains, length, slice_get, slice_index_or}
 use Rattle.std.specs.List.Sorted.{IsSortedBy}
 use Rattle.std.specs.Ordering.{is_lt, nat_cmp, on, then_cmp}
 use Rattle.std.specs.declared.cmp.Ordering.{Ordering}
 use Rattle.cf_reader.specs.declared.class_file.Method.{Method}
 use Rattle.cls_order.specs.declared.class.Class.{Class}
 use Rattle.cls_order.specs.Classes.{name_cmp}
+use Rattle.cls_order.specs.declared.entries.Entry.{Entry}
+use Rattle.cls_order.specs.Entries.{classes_of, HaveTables, IsRanked}
+use Rattle.cls_order.specs.Sets.{IsClassSet}
 
 -- a name and a descriptor
 abbrev pub Key : Type 0
@@ -39,3 +42,10 @@ pub record IsOrder (methods : List Method) (order : List ℕ) : Type 0 where
 pub record HaveOrders (classes : List Class) (orders : List (List ℕ)) : Type 0 where
   pub one_each : length orders ≡ length classes
   pub order : (k : ℕ) (c : Class) → slice_get classes k ≡ Some c → IsOrder c.file.methods (slice_index_or orders k [])
+
+-- what a set keeps: its entries, a table of supertypes and the order of the methods for each class
+pub record AreKept (entries : List Entry) (told : List (List Bool)) (rows : List (List ℕ)) : Type 0 where
+  pub set : IsClassSet (classes_of entries)
+  pub ranked : All (IsRanked entries) entries
+  pub tables : HaveTables (classes_of entries) told
+  pub orders : HaveOrders (classes_of entries) rows

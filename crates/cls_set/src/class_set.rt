@@ -16,6 +16,8 @@ pub struct ClassSet {
     members: Vec<Member>,
     // For each class a table of its supertypes by number.
     tables: Vec<Row<bool>>,
+    // For each class its methods by name and descriptor.
+    orders: Vec<Row<usize>>,
 }
 
 impl Model for ClassSet {
@@ -24,11 +26,12 @@ impl Model for ClassSet {
 
     ghost Value = { List Class };
 
-    ghost use Rattle.cls_order.specs.Entries.{classes_of, AreEntries};
+    ghost use Rattle.cls_order.specs.Entries.{classes_of};
+    ghost use Rattle.cls_set.specs.Orders.{AreKept};
 
     ghost view = { λ set. classes_of set.members.items };
 
-    ghost invariant = { λ set. AreEntries set.members.items set.tables.items };
+    ghost invariant = { λ set. AreKept set.members.items set.tables.items set.orders.items };
 }
 
 impl ClassSet {
@@ -36,7 +39,9 @@ impl ClassSet {
     ghost use Rattle.cf_reader.specs.WellFormed.{IsWellFormed};
     ghost use Rattle.cls_order.specs.Classes.{name_at, number_of};
     ghost use Rattle.space_ids.specs.declared.ids.ClassId.{ClassId};
+    ghost use Rattle.cls_order.specs.declared.class.Class.{Class};
     ghost use Rattle.cls_set.specs.Faults.{IsSetFault, MakeASet};
+    ghost use Rattle.cls_set.specs.Orders.{IsOrder};
     ghost use Rattle.cls_order.specs.Sets.{HasClasses, IsClassSet};
     ghost use Rattle.cls_order.specs.declared.fault.SetFault.TheVariants.{Memory};
     ghost use Rattle.cls_order.specs.Subtypes.{IsProperSubtype, IsRemote, IsSubclass, IsSubtype};
@@ -65,7 +70,11 @@ impl ClassSet {
         refuse(entries.as_slice(), &facts, ClassRule::NotYet)?;
         let tables = tables(alloc, entries.as_slice())?;
         let members = number_classes(alloc, entries)?;
-        Ok(ClassSet { members, tables })
+        Ok(ClassSet {
+            members,
+            tables,
+            orders: facts.orders,
+        })
     }
 
     /// Returns how many classes the set has.
@@ -84,6 +93,15 @@ impl ClassSet {
     {
         let member = &self.members[usize::from(class.0)];
         &member.class
+    }
+
+    /// Returns the indices of the methods of the class with this number, in the order of their names,
+    /// then of their descriptors, then as declared.
+    pub fn method_order(&self, class: ClassId) -> &[usize]
+        requires { class.0 < length self.now }
+        ensures { (c : Class) → slice_get self.now class.0 ≡ Some c → IsOrder c.file.methods result.now }
+    {
+        self.orders[usize::from(class.0)].as_slice()
     }
 
     /// Returns the name of the class with this number.
