@@ -1,6 +1,8 @@
--- An order of the members of a class by their names and descriptors, in which they are searched. Of a name and a descriptor the shorter
--- one is compared first: so a long text that many members share is compared only where the other one is the same too.
-use Rattle.std.specs.Prelude.{◌≡◌, ◌<◌, ◌&&◌, ℕ, Bool, true, false, Option, Some, None, List, [], All, Contains, bytes_eq, if◌then◌else◌, length, map, nat_le, slice_get, slice_index_or}
+-- An order of the members of a class by their names and descriptors, in which they are searched. Of a name and a
+-- descriptor the shorter one is compared first: so a long text that many members share is compared only where the
+-- other one is the same too.
+use Rattle.std.specs.Prelude.{◌≡◌, ◌<◌, ◌&&◌, ℕ, Bool, true, false, Option, Some, None, List, [], All, Contains}
+use Rattle.std.specs.Prelude.{bytes_eq, if◌then◌else◌, length, map, nat_le, slice_get, slice_index_or}
 use Rattle.std.specs.List.{position}
 use Rattle.std.specs.List.Sorted.{IsPartitionPoint, IsSortedBy}
 use Rattle.std.specs.Ordering.{bool_cmp, is_lt, nat_cmp, on, then_cmp}
@@ -70,7 +72,8 @@ abbrev pub is_below : List Key → Key → ℕ → Bool
 is_below keys wanted index = is_lt (key_cmp (key_at keys index) wanted)
 
 abbrev pub IsPlace : List Key → List ℕ → Key → ℕ → Type 0
-IsPlace keys order wanted place = IsPartitionPoint (λ k. is_below keys wanted k ≡ true) (λ k. is_below keys wanted k ≡ false) order place
+IsPlace keys order wanted place =
+    IsPartitionPoint (λ k. is_below keys wanted k ≡ true) (λ k. is_below keys wanted k ≡ false) order place
 
 -- the index of the first method, and of the first field, of a class with this name and descriptor
 abbrev pub first_method : ClassFile → List ℕ → List ℕ → Option ℕ

@@ -3,7 +3,8 @@
 ghost use Rattle.std.specs.Prelude.{◌≡◌, ◌<◌, ◌≤◌, IfOk, length};
 ghost use Rattle.std.specs.List.{position};
 ghost use Rattle.cls_order.specs.Entries.{classes_of};
-ghost use Rattle.cls_set.specs.Orders.{index_cmp, is_below, is_key, is_short_name, key_at, key_cmp, keys_of, longer, shorter, HaveOrders, IsOrder, IsPlace};
+ghost use Rattle.cls_set.specs.Orders.{index_cmp, is_below, is_key, is_short_name, key_at, key_cmp, keys_of};
+ghost use Rattle.cls_set.specs.Orders.{longer, shorter, HaveOrders, IsOrder, IsPlace};
 
 use super::remote::MemberKind;
 use cf_reader::{ClassFile, Row};

@@ -23,6 +23,7 @@ returns-else-place-order c =
     let place = c.place-place.result in
     sym (none_here keys order c.requires wanted place c.place-place.ensures.place 0
     (elim c.else-place-order.branch [
-      | else-place-order-via-then-place-order+else-is_named w ↦ λ h is. true_false (sym is ∙ (sym w.is_named.ensures ∙ w.if-is_named.false))
+      | else-place-order-via-then-place-order+else-is_named w ↦
+          λ h is. true_false (sym is ∙ (sym w.is_named.ensures ∙ w.if-is_named.false))
       | else-place-order-via-else-place-order w ↦ λ h is. let past = w.if-place-order.false in absurd (omega (arith, h, past))
     ]))

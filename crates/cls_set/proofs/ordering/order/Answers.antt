@@ -18,9 +18,14 @@ returns c =
     let old = c.loop-index.order.items in
     let new = c.sort_by.new.self.items in
     record {
-      only = All-permutation (λ k. k < length keys) old new c.in_ok-sort_by.ensures.permutation (λ k d h. let low = c.loop-index.invariant.only k d h in let end = c.loop-index.auto.index-end in omega (arith, low, end));
-      each = λ k h. Contains-permutation old new k c.in_ok-sort_by.ensures.permutation (c.loop-index.invariant.each k (let end = c.loop-index-test.false in omega (arith, h, end)));
+      only =
+          All-permutation (λ k. k < length keys) old new c.in_ok-sort_by.ensures.permutation
+          (λ k d h. let low = c.loop-index.invariant.only k d h in let end = c.loop-index.auto.index-end in omega (arith, low, end));
+      each = λ k h.
+          Contains-permutation old new k c.in_ok-sort_by.ensures.permutation
+          (c.loop-index.invariant.each k (let end = c.loop-index-test.false in omega (arith, h, end)));
       sorted =
           c.in_ok-sort_by.ensures.sorted (λ a b. is_lt (index_cmp keys a b)) (ranks_by (index_total keys) (λ k. k))
-          (always_returns_same _ (λ a r. is_lt r ≡ is_lt (index_cmp keys a.0.now a.1.0.now)) _ (λ a r q k. (search rules, search rules)));
+          (always_returns_same _ (λ a r. is_lt r ≡ is_lt (index_cmp keys a.0.now a.1.0.now)) _
+          (λ a r q k. (search rules, search rules)));
     }

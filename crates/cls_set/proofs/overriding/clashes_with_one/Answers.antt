@@ -11,7 +11,9 @@ same-init c =
     let order = c.args.order.now in
     let first = c.place-next.result in
     let low = c.args.low.now in
-    let named = subst (λ n. IsPlace keys order (n, c.as_bytes-descriptor.result.now) first) c.as_bytes-name.ensures c.place-next.ensures.place in
+    let named =
+    subst (λ n. IsPlace keys order (n, c.as_bytes-descriptor.result.now) first) c.as_bytes-name.ensures c.place-next.ensures.place
+    in
     search_starts c.args.lower.now c.args.upper.now order c.requires low first
     (subst (λ n. IsPlace keys order (low.name, n) first) c.as_bytes-descriptor.ensures named) c.place-next.ensures.within
 
@@ -20,11 +22,15 @@ returns-then-not-is_same_member c =
     let upper = c.args.upper.now in
     let order = c.args.order.now in
     let high = c.index-methods-from.result in
-    let read = c.index-methods-from.is ∙ ap (λ j. get_or c.as_slice-methods.result.now j high) c.from.ensures in
-    let e = method_read upper order c.requires c.same.next c.as_slice-methods.result.now high c.as_slice-methods.ensures.items c.same-test.true read in (
+    let next = c.same.next in
+    let inside = c.same-test.true in
+    let methods = c.as_slice-methods in
+    let read = c.index-methods-from.is ∙ ap (λ j. get_or methods.result.now j high) c.from.ensures in
+    let e = method_read upper order c.requires next methods.result.now high methods.ensures.items inside read in
+    let low = c.args.low.now in
+    let stop = search_stops c.args.lower.now upper order c.requires low next 0 high c.same.invariant inside e in (
       λ t. absurd (true_false (sym t)),
-      λ any.
-          absurd (search_stops c.args.lower.now upper order c.requires c.args.low.now c.same.next 0 high c.same.invariant c.same-test.true e (λ same. true_false (sym (c.is_same_member.ensures.1 same) ∙ c.if-not-is_same_member.true)) any),
+      λ any. absurd (stop (λ same. true_false (sym (c.is_same_member.ensures.1 same) ∙ c.if-not-is_same_member.true)) any),
     )
 
 pub same-preserved : goal.same-preserved
@@ -32,12 +38,19 @@ same-preserved c =
     let upper = c.args.upper.now in
     let order = c.args.order.now in
     let high = c.index-methods-from.result in
-    let read = c.index-methods-from.is ∙ ap (λ j. get_or c.as_slice-methods.result.now j high) c.from.ensures in
-    let e = method_read upper order c.requires c.same.next c.as_slice-methods.result.now high c.as_slice-methods.ensures.items c.same-test.true read in
-    search_on c.args.lower.now upper order c.requires c.args.low.now c.same.next 0 high c.same.invariant e c.same-test.true (λ clash. true_false (sym (c.clashes.ensures.1 clash) ∙ c.if-clashes.false))
+    let next = c.same.next in
+    let inside = c.same-test.true in
+    let methods = c.as_slice-methods in
+    let read = c.index-methods-from.is ∙ ap (λ j. get_or methods.result.now j high) c.from.ensures in
+    let e = method_read upper order c.requires next methods.result.now high methods.ensures.items inside read in
+    search_on c.args.lower.now upper order c.requires c.args.low.now next 0 high c.same.invariant e inside
+    (λ clash. true_false (sym (c.clashes.ensures.1 clash) ∙ c.if-clashes.false))
 
 pub returns : goal.returns
-returns c = (
-  λ t. absurd (true_false (sym t)),
-  λ any. absurd (search_ends c.args.lower.now c.args.upper.now c.args.order.now c.requires c.args.low.now c.same.next c.same.invariant c.same-test.false any),
-)
+returns c =
+    let lower = c.args.lower.now in
+    let upper = c.args.upper.now in
+    let low = c.args.low.now in (
+      λ t. absurd (true_false (sym t)),
+      λ any. absurd (search_ends lower upper c.args.order.now c.requires low c.same.next c.same.invariant c.same-test.false any),
+    )

@@ -92,6 +92,8 @@ clashes_in-requires c =
     let here : r < length entries = omega (arith, inside, same) in
     let k = (get_or entries r c.index-entries-superclass.result).class in
     let row = c.as_slice.result.now in
+    let orders = c.args.orders.now in
+    let at = class_read entries c.index-entries-superclass.result r r refl here in
     subst (λ (x : Class). IsOrder (keys_of Methods x.file) row) (sym c.upper.view_is)
-    (order_read Methods (classes_of entries) c.args.orders.now c.requires.orders r r row c.index-orders-superclass.result k refl (class_read entries c.index-entries-superclass.result r r refl here)
+    (order_read Methods (classes_of entries) orders c.requires.orders r r row c.index-orders-superclass.result k refl at
     (c.as_slice.ensures ∙ c.index-orders-superclass.is))

@@ -9,6 +9,8 @@ pub find_member-requires : goal.find_member-requires
 find_member-requires c =
     let a = c.args.class.0 in
     let k = c.class.result.now in
-    order_read Fields (classes_of c.self.inside.members.items) c.self.inside.fields.items c.self.invariant.fields a c.from.result c.as_slice-order.result.now c.index.result.now k c.from.ensures
-    (subst (λ cs. slice_get cs a ≡ Some k) (sym c.self.view_is) c.class.ensures)
-    (c.as_slice-order.ensures ∙ c.index.ensures)
+    let set = c.self.inside in
+    let orders = set.fields.items in
+    let here = subst (λ cs. slice_get cs a ≡ Some k) (sym c.self.view_is) c.class.ensures in
+    order_read Fields (classes_of set.members.items) orders c.self.invariant.fields a c.from.result
+    c.as_slice-order.result.now c.index.result.now k c.from.ensures here (c.as_slice-order.ensures ∙ c.index.ensures)
