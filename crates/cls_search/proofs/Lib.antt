@@ -2,4 +2,4 @@ pub mod Found
 pub mod Heights
 pub mod Interfaces
 pub mod Marked
-pub mod Passed
+pub mod Named

@@ -1,13 +1,13 @@
 //! Searches for fields.
 
-ghost use Rattle.std.specs.Prelude.{◌≡◌, ◌<◌, ◌&&◌, IfSome, IsSome, bytes_eq, length};
+ghost use Rattle.std.specs.Prelude.{◌≡◌, ◌<◌, IfSome, IsSome, length};
 ghost use Rattle.cls_search.specs.FieldSearches as spec;
-ghost use Rattle.cls_search.specs.FieldSearches.{first_from, field_at, ResolvesField};
+ghost use Rattle.cls_search.specs.FieldSearches.{field_at, ResolvesField};
 ghost use Rattle.cls_search.specs.Searches.{FindNothing, supertypes_of};
 ghost use Rattle.cls_set.specs.Sets.{IsClassSet};
 
 use super::marks::{clear, is_marked, mark};
-use cls_set::{ClassId, ClassSet, Field};
+use cls_set::{ClassId, ClassSet};
 
 /// A field: the class that declares it, and its index among the fields of that class.
 #[derive(Clone, Copy, Debug, PartialEq, Eq)]
@@ -16,33 +16,13 @@ pub struct FieldIndex {
     pub index: usize,
 }
 
-fn is_named(field: &Field, name: &[u8], descriptor: &[u8]) -> bool
-    ensures { result ≡ (bytes_eq field.now.name name.now && bytes_eq field.now.descriptor descriptor.now) }
-{
-    field.name.as_bytes() == name && field.descriptor.as_bytes() == descriptor
-}
-
-// The index of the first field with this name and descriptor.
-fn find(fields: &[Field], name: &[u8], descriptor: &[u8]) -> Option<usize>
-    ensures found { result ≡ first_from 0 fields.now name.now descriptor.now }
-    ensures within { IfSome result (λ index. index < length fields.now) }
-{
-    for (index, field) in fields.iter().enumerate() {
-        if is_named(field, name, descriptor) {
-            return Some(index);
-        }
-    }
-    None
-}
-
 // The field that a class declares with this name and descriptor.
 fn own_field(set: &ClassSet, class: ClassId, name: &[u8], descriptor: &[u8]) -> Option<FieldIndex>
     requires in_set { class.0 < length set.now }
     ensures found { result ≡ spec.own_field set.now name.now descriptor.now class }
     ensures within { IfSome result (λ f. IsSome (field_at set.now f)) }
 {
-    let fields = set.class(class).file.fields.as_slice();
-    match find(fields, name, descriptor) {
+    match set.first_field(class, name, descriptor) {
         Some(index) => Some(FieldIndex { class, index }),
         None => None,
     }

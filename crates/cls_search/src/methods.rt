@@ -1,13 +1,13 @@
 //! Searches for methods, from a class up.
 
-ghost use Rattle.std.specs.Prelude.{◌≡◌, ◌<◌, ◌∷◌, ◌&&◌, [], IfSome, IsSome, bytes_eq, length};
+ghost use Rattle.std.specs.Prelude.{◌≡◌, ◌<◌, ◌∷◌, [], IfSome, IsSome, length};
 ghost use Rattle.cls_search.specs.MethodSearches as spec;
-ghost use Rattle.cls_search.specs.MethodSearches.{method_in, own_of_interface, first_from, Resolves};
+ghost use Rattle.cls_search.specs.MethodSearches.{method_in, own_of_interface, Resolves};
 ghost use Rattle.cls_search.specs.Searches.{Finds, FindNothing, superclass_of, supertypes_of};
 ghost use Rattle.cls_set.specs.Sets.{IsClassSet};
 
 use super::marks::{clear, is_marked, mark};
-use cls_set::{ClassId, ClassSet, Method};
+use cls_set::{ClassId, ClassSet};
 
 /// A method: the class that declares it, and its index among the methods of that class.
 #[derive(Clone, Copy, Debug, PartialEq, Eq)]
@@ -23,25 +23,6 @@ pub fn is_initializer(name: &[u8]) -> bool
     name == b"<init>".as_slice()
 }
 
-fn is_named(method: &Method, name: &[u8], descriptor: &[u8]) -> bool
-    ensures { result ≡ (bytes_eq method.now.name name.now && bytes_eq method.now.descriptor descriptor.now) }
-{
-    method.name.as_bytes() == name && method.descriptor.as_bytes() == descriptor
-}
-
-// The index of the first method with this name and descriptor.
-fn find(methods: &[Method], name: &[u8], descriptor: &[u8]) -> Option<usize>
-    ensures found { result ≡ first_from 0 methods.now name.now descriptor.now }
-    ensures within { IfSome result (λ index. index < length methods.now) }
-{
-    for (index, method) in methods.iter().enumerate() {
-        if is_named(method, name, descriptor) {
-            return Some(index);
-        }
-    }
-    None
-}
-
 /// Returns the method that a class itself declares with this name and descriptor: `None` if it
 /// declares none.
 pub fn own_method(
@@ -54,8 +35,7 @@ pub fn own_method(
     ensures found { result ≡ spec.own_method set.now name.now descriptor.now class }
     ensures within { IfSome result (λ m. IsSome (method_in set.now m)) }
 {
-    let methods = set.class(class).file.methods.as_slice();
-    match find(methods, name, descriptor) {
+    match set.first_method(class, name, descriptor) {
         Some(index) => Some(MethodIndex { class, index }),
         None => None,
     }

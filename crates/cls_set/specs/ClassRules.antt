@@ -95,7 +95,7 @@ pub record AreFacts (entries : List Entry) (facts : Facts) : Type 0 where
   pub remote : AreRemote entries facts.remote.items
   pub fields : AreUnfit Fields entries facts.fields.items
   pub methods : AreUnfit Methods entries facts.methods.items
-  pub orders : HaveOrders (classes_of entries) facts.orders.items
+  pub orders : HaveOrders Methods (classes_of entries) facts.orders.items
 
 -- the first class that breaks the rule, unless memory ran out
 abbrev pub IsRuleFault : List Origin → SetRule → SetFault → Type 0

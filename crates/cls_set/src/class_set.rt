@@ -2,6 +2,8 @@
 
 use super::arranging::arrange;
 use super::members::{Member, find_number, number_classes};
+use super::ordering::{find_member, orders};
+use super::remote::MemberKind;
 use super::rules::{ClassRule, find_facts, refuse, refuse_broken};
 use super::{Class, ClassId, SetFault};
 use cf_reader::{ClassFile, Row, Text};
@@ -16,6 +18,9 @@ pub struct ClassSet {
     members: Vec<Member>,
     // For each class a table of its supertypes by number.
     tables: Vec<Row<bool>>,
+    // For each class its methods, and its fields, by name and descriptor.
+    methods: Vec<Row<u16>>,
+    fields: Vec<Row<u16>>,
 }
 
 impl Model for ClassSet {
@@ -24,11 +29,12 @@ impl Model for ClassSet {
 
     ghost Value = { List Class };
 
-    ghost use Rattle.cls_order.specs.Entries.{classes_of, AreEntries};
+    ghost use Rattle.cls_order.specs.Entries.{classes_of};
+    ghost use Rattle.cls_set.specs.Orders.{AreKept};
 
     ghost view = { λ set. classes_of set.members.items };
 
-    ghost invariant = { λ set. AreEntries set.members.items set.tables.items };
+    ghost invariant = { λ set. AreKept set.members.items set.tables.items set.methods.items set.fields.items };
 }
 
 impl ClassSet {
@@ -36,7 +42,9 @@ impl ClassSet {
     ghost use Rattle.cf_reader.specs.WellFormed.{IsWellFormed};
     ghost use Rattle.cls_order.specs.Classes.{name_at, number_of};
     ghost use Rattle.space_ids.specs.declared.ids.ClassId.{ClassId};
+    ghost use Rattle.cls_order.specs.declared.class.Class.{Class};
     ghost use Rattle.cls_set.specs.Faults.{IsSetFault, MakeASet};
+    ghost use Rattle.cls_set.specs.Orders as spec;
     ghost use Rattle.cls_order.specs.Sets.{HasClasses, IsClassSet};
     ghost use Rattle.cls_order.specs.declared.fault.SetFault.TheVariants.{Memory};
     ghost use Rattle.cls_order.specs.Subtypes.{IsProperSubtype, IsRemote, IsSubclass, IsSubtype};
@@ -64,8 +72,14 @@ impl ClassSet {
         refuse_many(entries.len(), last)?;
         refuse(entries.as_slice(), &facts, ClassRule::NotYet)?;
         let tables = tables(alloc, entries.as_slice())?;
+        let fields = orders(alloc, entries.as_slice(), MemberKind::Fields)?;
         let members = number_classes(alloc, entries)?;
-        Ok(ClassSet { members, tables })
+        Ok(ClassSet {
+            members,
+            tables,
+            methods: facts.orders,
+            fields,
+        })
     }
 
     /// Returns how many classes the set has.
@@ -84,6 +98,28 @@ impl ClassSet {
     {
         let member = &self.members[usize::from(class.0)];
         &member.class
+    }
+
+    /// Returns the index of the first method of this name and descriptor among those of a class:
+    /// `None` if it declares none.
+    pub fn first_method(&self, class: ClassId, name: &[u8], descriptor: &[u8]) -> Option<usize>
+        requires { class.0 < length self.now }
+        ensures { (c : Class) → slice_get self.now class.0 ≡ Some c → result ≡ spec.first_method c.file name.now descriptor.now }
+    {
+        let order = self.methods[usize::from(class.0)].as_slice();
+        let file = &self.class(class).file;
+        find_member(file, MemberKind::Methods, order, name, descriptor)
+    }
+
+    /// Returns the index of the first field of this name and descriptor among those of a class:
+    /// `None` if it declares none.
+    pub fn first_field(&self, class: ClassId, name: &[u8], descriptor: &[u8]) -> Option<usize>
+        requires { class.0 < length self.now }
+        ensures { (c : Class) → slice_get self.now class.0 ≡ Some c → result ≡ spec.first_field c.file name.now descriptor.now }
+    {
+        let order = self.fields[usize::from(class.0)].as_slice();
+        let file = &self.class(class).file;
+        find_member(file, MemberKind::Fields, order, name, descriptor)
     }
 
     /// Returns the name of the class with this number.

@@ -7,10 +7,12 @@ ghost use Rattle.cls_order.specs.declared.class.Class.{Class};
 ghost use Rattle.cls_order.specs.Building.{origins_of};
 ghost use Rattle.cls_set.specs.ClassRules.{ClashesIn};
 ghost use Rattle.cls_order.specs.Entries.{classes_of, AreArranged};
-ghost use Rattle.cls_set.specs.Orders.{HaveOrders, IsOrder};
+ghost use Rattle.cls_set.specs.Orders.{keys_of, HaveOrders, IsOrder};
+ghost use Rattle.cls_set.specs.declared.remote.MemberKind.TheVariants.{Methods};
 ghost use Rattle.cls_set.specs.Rules.{package_name, Clashes, HasPackageAccess, IsSamePackage, MayNotStand, OverridesBadly};
 
-use super::ordering::is_before;
+use super::ordering::place;
+use super::remote::MemberKind;
 use cf_reader::{ClassFile, Flags, Method, Row};
 use cls_order::Entry;
 
@@ -70,14 +72,15 @@ fn clashes(lower: &ClassFile, upper: &ClassFile, low: &Method, high: &Method) ->
 }
 
 // Whether it may not stand below one of the superclass's methods, which are searched in their order.
-fn clashes_with_one(lower: &ClassFile, upper: &ClassFile, order: &[usize], low: &Method) -> bool
-    requires { IsOrder upper.now.methods order.now }
+fn clashes_with_one(lower: &ClassFile, upper: &ClassFile, order: &[u16], low: &Method) -> bool
+    requires { IsOrder (keys_of Methods upper.now) order.now }
     ensures { IsTrue result ↔ Any (Clashes lower.now upper.now low.now) upper.now.methods }
 {
     let methods = upper.methods.as_slice();
-    let mut next = order.partition_point(|index| is_before(methods, *index, low));
+    let (name, descriptor) = (low.name.as_bytes(), low.descriptor.as_bytes());
+    let mut next = place(upper, MemberKind::Methods, order, name, descriptor);
     'same: while next < order.len() {
-        let high = &methods[order[next]];
+        let high = &methods[usize::from(order[next])];
         if !is_same_member(low, high) {
             return false;
         }
@@ -90,8 +93,8 @@ fn clashes_with_one(lower: &ClassFile, upper: &ClassFile, order: &[usize], low: 
 }
 
 // Whether a method of a class may not stand below a method of a superclass.
-fn clashes_in(lower: &ClassFile, upper: &ClassFile, order: &[usize]) -> bool
-    requires { IsOrder upper.now.methods order.now }
+fn clashes_in(lower: &ClassFile, upper: &ClassFile, order: &[u16]) -> bool
+    requires { IsOrder (keys_of Methods upper.now) order.now }
     ensures { IsTrue result ↔ ClashesIn lower.now upper.now }
 {
     let methods = lower.methods.as_slice();
@@ -101,9 +104,9 @@ fn clashes_in(lower: &ClassFile, upper: &ClassFile, order: &[usize]) -> bool
 }
 
 // Whether a class has a method that may not stand below one of a superclass.
-pub(crate) fn overrides_badly(entries: &[Entry], orders: &[Row<usize>], index: usize) -> bool
+pub(crate) fn overrides_badly(entries: &[Entry], orders: &[Row<u16>], index: usize) -> bool
     requires arranged { AreArranged entries.now }
-    requires orders { HaveOrders (classes_of entries.now) orders.now }
+    requires orders { HaveOrders Methods (classes_of entries.now) orders.now }
     requires in_set { index < length entries.now }
     ensures { (c : Class) → slice_get (classes_of entries.now) index ≡ Some c → IsTrue result ↔ OverridesBadly (origins_of entries.now) c.file }
 {

@@ -109,7 +109,7 @@ pub(crate) struct Facts {
     // Whether it has or inherits a method that no remote interface may have.
     pub(crate) methods: Vec<bool>,
     // Its methods in their order.
-    pub(crate) orders: Vec<Row<usize>>,
+    pub(crate) orders: Vec<Row<u16>>,
 }
 
 pub(crate) fn find_facts(alloc: Global, entries: &[Entry]) -> Result<Facts, AllocError>
@@ -121,7 +121,7 @@ pub(crate) fn find_facts(alloc: Global, entries: &[Entry]) -> Result<Facts, Allo
     let told = remote.as_slice();
     let fields = find_unfit(alloc, entries, order.as_slice(), told, MemberKind::Fields)?;
     let methods = find_unfit(alloc, entries, order.as_slice(), told, MemberKind::Methods)?;
-    let orders = orders(alloc, entries)?;
+    let orders = orders(alloc, entries, MemberKind::Methods)?;
     Ok(Facts {
         remote,
         fields,

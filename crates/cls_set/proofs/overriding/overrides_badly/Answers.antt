@@ -1,11 +1,14 @@
-use Rattle.cls_set.specs.Orders.{IsOrder}
+use Rattle.cls_order.specs.Entries.{classes_of}
+use Rattle.cls_set.specs.declared.remote.MemberKind.TheVariants.{Methods}
+use Rattle.cls_set.specs.Orders.{keys_of, IsOrder}
+use Rattle.cls_set.proofs.Orders.{order_read}
 use Rattle.cls_order.proofs.Heights.{long_classes}
-use Rattle.std.proofs.Common.{[], ◌≡◌, arith, ◌<◌, length, get_or, refl, sym, subst, ap, ◌∙◌}
+use Rattle.std.proofs.Common.{arith, ◌<◌, length, get_or, refl, sym, subst, ap, ◌∙◌}
 use Rattle.cls_order.specs.declared.class.Class.{Class}
 use Rattle.cls_order.specs.Building.{origins_of}
 use Rattle.cls_set.specs.Rules.{OverridesBadly}
 use Rattle.cls_set.proofs.Broken.{class_among}
-use Rattle.cls_order.proofs.Hierarchy.{class_read, same_read, same_some, true_false}
+use Rattle.cls_order.proofs.Hierarchy.{class_read, same_some, true_false}
 use Rattle.cls_set.specs.ClassRules.{ClashesIn}
 use Rattle.cls_set.proofs.Overrides.{still, IsClimbing, bad_from_clash, clash_from_bad, climb_ends, climb_falls, climb_found, climb_on, climb_starts, climb_within}
 use Rattle.cls_set.proofs.overriding.overrides_badly.Goals as goal
@@ -83,14 +86,14 @@ bounds-orders-superclass c =
 pub clashes_in-requires : goal.clashes_in-requires
 clashes_in-requires c =
     let entries = c.args.entries.now in
-    let orders = c.args.orders.now in
     let r = c.get-superclass.result in
-    let same = c.get-superclass.ensures in
     let inside = climb_within entries c.requires.arranged c.class.inside.file c.in-Some.superclass c.up.up c.up.invariant c.in-Some.is in
-    let long = long_classes entries in
-    let one = c.requires.orders.one_each in
+    let same = c.get-superclass.ensures in
     let here : r < length entries = omega (arith, inside, same) in
-    let there : r < length orders = omega (arith, here, long, one) in
     let k = (get_or entries r c.index-entries-superclass.result).class in
-    let read : get_or orders r [] ≡ c.as_slice.result.now = same_read orders r [] c.index-orders-superclass.result there ∙ (sym c.index-orders-superclass.is ∙ sym c.as_slice.ensures) in
-    subst (λ (x : Class). IsOrder x.file.methods c.as_slice.result.now) (sym c.upper.view_is) (subst (IsOrder k.file.methods) read (c.requires.orders.order r k (class_read entries c.index-entries-superclass.result r r refl here)))
+    let row = c.as_slice.result.now in
+    let orders = c.args.orders.now in
+    let at = class_read entries c.index-entries-superclass.result r r refl here in
+    subst (λ (x : Class). IsOrder (keys_of Methods x.file) row) (sym c.upper.view_is)
+    (order_read Methods (classes_of entries) orders c.requires.orders r r row c.index-orders-superclass.result k refl at
+    (c.as_slice.ensures ∙ c.index-orders-superclass.is))

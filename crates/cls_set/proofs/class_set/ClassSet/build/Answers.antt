@@ -5,7 +5,9 @@ use Rattle.cf_reader.specs.declared.class_file.ClassFile.{ClassFile}
 use Rattle.cls_order.specs.declared.fault.SetRule.TheVariants.{NotYet, TooMany}
 use Rattle.cls_order.specs.Building.{origins_of}
 use Rattle.cls_set.specs.ClassRules.{AreFacts, IsFirstRuleFault, IsRuleFault, KeepBelow}
-use Rattle.cls_order.specs.Entries.{classes_of, AreArranged, AreEntries, HaveTables}
+use Rattle.cls_order.specs.Entries.{classes_of, AreArranged, HaveTables}
+use Rattle.cls_set.specs.declared.remote.MemberKind.TheVariants.{Fields, Methods}
+use Rattle.cls_set.specs.Orders.{AreKept, HaveOrders}
 use Rattle.cls_order.specs.FaultNames.{set_rule_number}
 use Rattle.cls_set.specs.Faults.{Keeps}
 use Rattle.cls_order.specs.Sets.{HasClasses, IsClassSet}
@@ -116,7 +118,11 @@ invariant_of-result c =
     let last = subst (λ (fs : List ClassFile). c.in_ok-last.last ≡ option_map (λ (file : ClassFile). file.name) (slice_get fs (length fs - 1))) c.as_slice.ensures.value c.in_ok-last.ensures in
     let few : length entries ≤ 4096 = few_held files entries of c.in_ok-last.last last (λ some. let low = c.in_ok-refuse_many.ensures.ok some in omega (arith, low)) in
     let told = subst (λ ms. HaveTables (classes_of ms) c.in_ok-tables.tables.items) c.as_slice-5.ensures.value c.in_ok-tables.ensures in
-    subst (λ ms. AreEntries ms c.in_ok-tables.tables.items) (sym c.in_ok-members.ensures) (are_entries files entries of c.requires before few c.in_ok-tables.tables.items told)
+    let kept = are_entries files entries of c.requires before few c.in_ok-tables.tables.items told in
+    let methods = subst (λ ms. HaveOrders Methods (classes_of ms) c.in_ok-facts.facts.orders.items) c.as_slice-2.ensures.value c.in_ok-facts.ensures.orders in
+    let fields = subst (λ ms. HaveOrders Fields (classes_of ms) c.in_ok-fields.fields.items) c.as_slice-6.ensures.value c.in_ok-fields.ensures in
+    subst (λ ms. AreKept ms c.in_ok-tables.tables.items c.in_ok-facts.facts.orders.items c.in_ok-fields.fields.items) (sym c.in_ok-members.ensures)
+    (record { set = kept.set; ranked = kept.ranked; tables = kept.tables; methods = methods; fields = fields })
 
 pub returns-clause-set : goal.returns-clause-set
 returns-clause-set c =
