@@ -1,0 +1,9 @@
+mod ReachLemmas
+mod BetweenLemmas
+mod RequestLemmas
+mod HolderLemmas
+mod GivenLaws
+mod StandLaws
+mod ClientSteps
+mod OwnerSteps
+mod HeldLaws
