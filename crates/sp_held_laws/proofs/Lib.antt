@@ -7,3 +7,4 @@ mod StandLaws
 mod ClientSteps
 mod OwnerSteps
 mod HeldLaws
+mod PassesPlays

@@ -2,6 +2,7 @@
 
 ghost use Rattle.sp_held_laws.specs.Entries.{GrantedReferencesHaveEntries, LeasesComeOfEntries};
 ghost use Rattle.sp_held_laws.specs.Lost.{CallsFindTheirObjects, NothingHeldIsLost};
+ghost use Rattle.sp_held_laws.specs.Passes.{PassesUnlost};
 
 use sp_answer_laws::laws::{calls_come_in_time, calls_keep_their_order, senders_hold};
 use sp_call_laws::laws::{frames_go_their_way, spaces_have_directions};
@@ -18,6 +19,7 @@ use sp_order_laws::laws::{
     each_result_is_acknowledged_once, frames_are_answered_once, sequence_numbers_rise,
 };
 use sp_world_laws::laws::{parked_results_came, what_comes_was_sent};
+use sp_world_runs::laws::a_reference_passes_where_nothing_fails;
 
 /// In every run of every world of spaces that have ids of their own and one digest, in which no Dial is
 /// refused, no read or write fails and no entry for an object expires: of each reference to the object that
@@ -149,4 +151,12 @@ pub fn calls_find_their_objects()
     calls_are_made_when_due();
     calls_keep_their_order();
     sequence_numbers_rise();
+}
+
+/// A run of three spaces meets the premises of these laws: a reference passes in it from one space through
+/// another to the third, where a task holds it.
+pub fn a_held_reference_is_passed_on()
+    ensures { PassesUnlost }
+{
+    a_reference_passes_where_nothing_fails();
 }
