@@ -5,10 +5,8 @@ use Rattle.std.proofs.lemmas.Bool.{true≢false, eq-eqb, eqb-true}
 use Rattle.std.proofs.lemmas.Slice.Eq.{bytes_eq-Decides}
 use Rattle.std.specs.Prelude.{◌≡◌, refl, ℕ, zero, suc, ◌==◌, Bool, true, false, List, [], ◌∷◌, ◌++◌, Some, map, slice_get}
 use Rattle.std.specs.Str.{bytes_eq}
-use Rattle.net_message.specs.declared.message.Message.TheVariants as message
 use Rattle.space_ids.specs.declared.ids.ForeignId.{ForeignId}
 use Rattle.space_ids.specs.declared.ids.ObjId.{ObjId}
-use Rattle.space_ids.specs.declared.value.Value.{Value}
 use Rattle.sp_rules.specs.Classes.{Setting}
 use Rattle.sp_rules.specs.Events.{Event}
 use Rattle.sp_rules.specs.Laws.{AllOf}
@@ -16,16 +14,13 @@ use Rattle.sp_rules.specs.Lists.{at_index}
 use Rattle.sp_rules.specs.Origins.{IsTaken}
 use Rattle.sp_rules.specs.Space
 use Rattle.sp_rules.specs.State.{State, opening}
-use Rattle.sp_rules.specs.Worlds.{World, Space, Pipe, WorldEvent, grown, new_space, after, run, new_world}
+use Rattle.sp_rules.specs.Worlds.{World, Space, WorldEvent, grown, new_space, after, run, new_world}
 use Rattle.sp_rules.proofs.AllLemmas.{some-none}
 use Rattle.sp_rules.proofs.OwnLemmas.{some-same}
-use Rattle.sp_rules.proofs.SweepLemmas.{one-id}
 use Rattle.sp_laws.specs.Others.{HasTwoEnds}
 use Rattle.sp_world_laws.specs.Ends.{IsOneOf}
-use Rattle.sp_order_laws.specs.Places.{IsBetween}
 use Rattle.sp_order_laws.proofs.NoteLemmas.{append-none, append-after}
 use Rattle.sp_order_laws.proofs.WorldFacts.{Known, at-all, all_known}
-use Rattle.sp_answer_laws.specs.Senders.{CallerHolds}
 use Rattle.sp_answer_laws.specs.Unbroken.{AreOfOneKind, NothingFails, is_failure}
 use Rattle.sp_answer_laws.proofs.UnbrokenLaws.{run-last}
 use Rattle.sp_answer_laws.proofs.WelcomeLemmas.{Facts}
@@ -34,15 +29,16 @@ use Rattle.sp_kept_laws.specs.Reaches.{grown_by, AreTakenBy, ComesBy}
 use Rattle.sp_kept_laws.specs.Steps.{has_entry_for}
 use Rattle.sp_kept_laws.proofs.GrantLaws.{fewer-before}
 use Rattle.sp_held_laws.specs.Entries.{GrantedHaveEntries, GrantedReferencesHaveEntries, LeasesComeOfEntries}
-use Rattle.sp_held_laws.specs.Lost.{NothingHeldIsLost, CallsFindTheirObjects}
+use Rattle.sp_held_laws.specs.Lost.{NothingHeldIsLost, WhatIsNamedStands, CallsFound, CallsFindTheirObjects}
 use Rattle.sp_held_laws.specs.Premises.{LetsNoneExpire, NothingExpires, HoldersAreFew}
 use Rattle.sp_held_laws.proofs.BetweenLemmas.{same-bytes, one-place}
 use Rattle.sp_held_laws.proofs.ClientSteps.{Gives, Came, client-step, client-silent, taken-before, setting-stays, lease-answers}
 use Rattle.sp_held_laws.proofs.GivenLaws.{Below, Quiet, quiet-of, AreFew, held-granted}
-use Rattle.sp_held_laws.proofs.HolderLemmas.{started-foreign, Names}
+use Rattle.sp_held_laws.proofs.HolderLemmas.{started-foreign}
+use Rattle.sp_held_laws.proofs.NamedLaws.{named-stands, event-finds, silent-finds}
 use Rattle.sp_held_laws.proofs.OwnerSteps.{owner-step, owner-silent}
-use Rattle.sp_held_laws.proofs.ReachLemmas.{AreAlone, Reaches, Reached, reaches-one, at-row}
-use Rattle.sp_held_laws.proofs.StandLaws.{Entered, kept-stands, held-by-caller}
+use Rattle.sp_held_laws.proofs.ReachLemmas.{IsSilent, AreAlone, Reaches, Reached, reaches-one, at-row}
+use Rattle.sp_held_laws.proofs.StandLaws.{Entered, kept-stands}
 
 -- ---- the invariant
 
@@ -50,8 +46,10 @@ use Rattle.sp_held_laws.proofs.StandLaws.{Entered, kept-stands, held-by-caller}
 abbrev Pair : ForeignId → Space → Space → Type 0
 Pair r a b = Gives r (has_entry_for b.state a.setting.id r.id ≡ true) (Came b) a.state
 
+-- So of each two spaces of a world; and each Call of the object that came to the owner found it.
 record Invariant (r : ForeignId) (w : World) : Type 0 where
   pairs : (i j : ℕ) (a b : Space) → slice_get w.spaces i ≡ Some a → slice_get w.spaces j ≡ Some b → bytes_eq r.space a.setting.id ≡ false → r.space ≡ b.setting.id → Pair r a b
+  found : (j : ℕ) (b : Space) → slice_get w.spaces j ≡ Some b → r.space ≡ b.setting.id → CallsFound b.setting r.id b.history
 
 entries-of : {r : ForeignId} {w : World} → Invariant r w → GrantedHaveEntries r w
 entries-of I a b o granted = (I.pairs o.client o.owner a b o.here o.there o.foreign o.own).granted granted
@@ -71,6 +69,11 @@ all-back {A} P f zero (y ∷ xs) x e back a = (subst P (sym (some-same e)) (back
 all-back P f (suc k) (y ∷ xs) x e back a = (a.0, all-back P f k xs x e back a.1)
 
 -- ---- an event of a world
+
+-- what answers nothing brings no Call
+silent-found : (id : ObjId) (es : List Event) (s : Space) → AllOf IsSilent es → CallsFound s.setting id s.history → CallsFound s.setting id (grown_by es s).history
+silent-found id [] s silent k = k
+silent-found id (e ∷ es) s silent k = silent-found id es (grown e s) silent.1 (silent-finds (Space.state_of s.setting s.history) id e silent.0, k)
 
 module _ {settings : List Setting} {r : ForeignId} {w v : World} (E : Entered settings r w) (V : Quiet settings v) (e : WorldEvent) (lets : LetsNoneExpire r w e) (R : Reaches w e v) (I : Invariant r w) where
   -- the client changes
@@ -109,43 +112,61 @@ module _ {settings : List Setting} {r : ForeignId} {w v : World} (E : Entered se
       by (inl d) = one d.0 es d.1 later comes taken
       by (inr silent) = owner-silent E.below es a b r silent (at-all Known j w.spaces b atj E.quiet.given.facts.known) (later.state ∙ ap (λ (g : Setting). Space.state_of g (grown_by es b).history) (setting-stays es b)) old
 
+  -- the space that changed, by its number
+  changed : (k : ℕ) → R.space ≡ k → slice_get v.spaces k ≡ Some (grown_by R.events R.row)
+  changed k f = subst (λ n. slice_get v.spaces n ≡ Some (grown_by R.events R.row)) f (ap (λ (l : List Space). slice_get l R.space) R.spaces ∙ at-row (grown_by R.events) R.space w.spaces R.row R.there)
+
+  was : (k : ℕ) → R.space ≡ k → slice_get w.spaces k ≡ Some R.row
+  was k f = subst (λ n. slice_get w.spaces n ≡ Some R.row) f R.there
+
+  -- one that did not
+  stayed : (k : ℕ) (x : Space) → (R.space ≡ k → ⊥) → slice_get v.spaces k ≡ Some x → slice_get w.spaces k ≡ Some x
+  stayed k x apart f = sym (ap (λ (l : List Space). slice_get l k) R.spaces ∙ at-other (grown_by R.events) R.space k w.spaces apart) ∙ f
+
+  other : (k : ℕ) → (R.space == k) ≡ false → R.space ≡ k → ⊥
+  other k f same = true≢false (sym (eq-eqb R.space k same) ∙ f)
+
   pair-after : (i j : ℕ) (a b : Space) → slice_get v.spaces i ≡ Some a → slice_get v.spaces j ≡ Some b → bytes_eq r.space a.setting.id ≡ false → r.space ≡ b.setting.id → Pair r a b
   pair-after i j a b at atj foreign own = by (R.space == i) refl (R.space == j) refl
     where
-      es : List Event
-      es = R.events
-
-      -- the space that changed, by its number
-      changed : (k : ℕ) → R.space ≡ k → slice_get v.spaces k ≡ Some (grown_by es R.row)
-      changed k f = subst (λ n. slice_get v.spaces n ≡ Some (grown_by es R.row)) f (ap (λ (l : List Space). slice_get l R.space) R.spaces ∙ at-row (grown_by es) R.space w.spaces R.row R.there)
-
-      was : (k : ℕ) → R.space ≡ k → slice_get w.spaces k ≡ Some R.row
-      was k f = subst (λ n. slice_get w.spaces n ≡ Some R.row) f R.there
-
-      -- one that did not
-      stayed : (k : ℕ) (x : Space) → (R.space ≡ k → ⊥) → slice_get v.spaces k ≡ Some x → slice_get w.spaces k ≡ Some x
-      stayed k x apart f = sym (ap (λ (l : List Space). slice_get l k) R.spaces ∙ at-other (grown_by es) R.space k w.spaces apart) ∙ f
-
-      other : (k : ℕ) → (R.space == k) ≡ false → R.space ≡ k → ⊥
-      other k f same = true≢false (sym (eq-eqb R.space k same) ∙ f)
-
       by : (x : Bool) → (R.space == i) ≡ x → (y : Bool) → (R.space == j) ≡ y → Pair r a b
       by true ei true ej =
           let same : a ≡ b = some-same (sym at ∙ (ap (slice_get v.spaces) (sym (eqb-true R.space i ei) ∙ eqb-true R.space j ej) ∙ atj)) in
           absurd (true≢false (sym (same-bytes r.space a.setting.id (own ∙ sym (ap (λ (s : Space). s.setting.id) same))) ∙ foreign))
       by true ei false ej =
           let k : R.space ≡ i = eqb-true R.space i ei in
-          let is : grown_by es R.row ≡ a = some-same (sym (changed i k) ∙ at) in
-          subst (λ (s : Space). Pair r s b) is (of-client i j es (subst (λ n. v.spaces ≡ at_index (grown_by es) n w.spaces) k R.spaces) R.alone R.row b (was i k) (stayed j b (other j ej) atj) (changed i k) atj (subst (λ (s : Space). bytes_eq r.space s.setting.id ≡ false) (sym is) foreign) own)
+          let is : grown_by R.events R.row ≡ a = some-same (sym (changed i k) ∙ at) in
+          subst (λ (s : Space). Pair r s b) is (of-client i j R.events (subst (λ n. v.spaces ≡ at_index (grown_by R.events) n w.spaces) k R.spaces) R.alone R.row b (was i k) (stayed j b (other j ej) atj) (changed i k) atj (subst (λ (s : Space). bytes_eq r.space s.setting.id ≡ false) (sym is) foreign) own)
       by false ei true ej =
           let k : R.space ≡ j = eqb-true R.space j ej in
-          let is : grown_by es R.row ≡ b = some-same (sym (changed j k) ∙ atj) in
-          subst (λ (s : Space). Pair r a s) is (of-owner i j es R.alone (subst (λ n. AllOf (ComesBy w e n) es) k R.comes) a R.row R.taken (stayed i a (other i ei) at) (was j k) (changed j k) foreign (own ∙ sym (ap (λ (s : Space). s.setting.id) is)))
+          let is : grown_by R.events R.row ≡ b = some-same (sym (changed j k) ∙ atj) in
+          subst (λ (s : Space). Pair r a s) is (of-owner i j R.events R.alone (subst (λ n. AllOf (ComesBy w e n) R.events) k R.comes) a R.row R.taken (stayed i a (other i ei) at) (was j k) (changed j k) foreign (own ∙ sym (ap (λ (s : Space). s.setting.id) is)))
       by false ei false ej = I.pairs i j a b (stayed i a (other i ei) at) (stayed j b (other j ej) atj) foreign own
 
+  found-after : (j : ℕ) (b : Space) → slice_get v.spaces j ≡ Some b → r.space ≡ b.setting.id → CallsFound b.setting r.id b.history
+  found-after j b atj own = by (R.space == j) refl
+    where
+      one : (row : Space) → slice_get w.spaces j ≡ Some row → r.space ≡ row.setting.id → (d : Event) (ds : List Event) → ds ≡ d ∷ [] → AllOf (ComesBy w e j) ds → CallsFound row.setting r.id (grown_by ds row).history
+      one row at mine d ds is comes = subst (λ (xs : List Event). CallsFound row.setting r.id (grown_by xs row).history) (sym is) (event-finds E e j row d at mine (subst (AllOf (ComesBy w e j)) is comes).0, I.found j row at mine)
+
+      grew : (row : Space) → slice_get w.spaces j ≡ Some row → r.space ≡ row.setting.id → AllOf (ComesBy w e j) R.events → AreAlone R.events → CallsFound row.setting r.id (grown_by R.events row).history
+      grew row at mine comes (inl d) = one row at mine d.0 R.events d.1 comes
+      grew row at mine comes (inr silent) = silent-found r.id R.events row silent (I.found j row at mine)
+
+      by : (x : Bool) → (R.space == j) ≡ x → CallsFound b.setting r.id b.history
+      by true ej =
+          let k : R.space ≡ j = eqb-true R.space j ej in
+          let is : grown_by R.events R.row ≡ b = some-same (sym (changed j k) ∙ atj) in
+          let mine : r.space ≡ R.row.setting.id = own ∙ (sym (ap (λ (s : Space). s.setting.id) is) ∙ ap (λ (g : Setting). g.id) (setting-stays R.events R.row)) in
+          subst (λ (s : Space). CallsFound s.setting r.id s.history) is (subst (λ (g : Setting). CallsFound g r.id (grown_by R.events R.row).history) (sym (setting-stays R.events R.row)) (grew R.row (was j k) mine (subst (λ n. AllOf (ComesBy w e n) R.events) k R.comes) R.alone))
+      by false ej = I.found j b (stayed j b (other j ej) atj) own
+
 invariant-after : {settings : List Setting} {r : ForeignId} {w v : World} → Below → Quiet settings w → Quiet settings v → HoldersAreFew r w → (e : WorldEvent) → LetsNoneExpire r w e → Reached w e v → Invariant r w → Invariant r v
-invariant-after B Q V few e lets (inl same) I = record { pairs = λ i j a b at atj foreign own. I.pairs i j a b (ap (λ (l : List Space). slice_get l i) (sym same) ∙ at) (ap (λ (l : List Space). slice_get l j) (sym same) ∙ atj) foreign own }
-invariant-after B Q V few e lets (inr R) I = record { pairs = pair-after (record { below = B; quiet = Q; few = few; granted = entries-of I }) V e lets R I }
+invariant-after {settings} {r} {w} B Q V few e lets (inl same) I = record { pairs = λ i j a b at atj foreign own. I.pairs i j a b (ap (λ (l : List Space). slice_get l i) (sym same) ∙ at) (ap (λ (l : List Space). slice_get l j) (sym same) ∙ atj) foreign own; found = λ j b atj own. I.found j b (ap (λ (l : List Space). slice_get l j) (sym same) ∙ atj) own }
+invariant-after {settings} {r} {w} B Q V few e lets (inr R) I = record { pairs = pair-after E V e lets R I; found = found-after E V e lets R I }
+  where
+    E : Entered settings r w
+    E = record { below = B; quiet = Q; few = few; granted = entries-of I }
 
 -- ---- holders are fewer before
 
@@ -171,12 +192,17 @@ few-before r w v e known later (inr R) few = all-back (λ (s : Space). AreFew r 
 
 new-invariant : (r : ForeignId) (settings : List Setting) → Invariant r (new_world settings)
 unfolding new_world opening
-new-invariant r settings = record { pairs = λ i j a b at atj foreign own. empty a b (nothing settings i a at) }
+new-invariant r settings = record { pairs = λ i j a b at atj foreign own. empty a b (nothing settings i a at); found = λ j b atj own. subst (CallsFound b.setting r.id) (sym (unheard settings j b atj)) tt }
   where
     nothing : (gs : List Setting) (i : ℕ) (s : Space) → slice_get (map new_space gs) i ≡ Some s → s.state ≡ opening
     nothing [] i s e = absurd (some-none s (sym e))
     nothing (g ∷ gs) zero s e = ap (λ (x : Space). x.state) (sym (some-same e))
     nothing (g ∷ gs) (suc i) s e = nothing gs i s e
+
+    unheard : (gs : List Setting) (i : ℕ) (s : Space) → slice_get (map new_space gs) i ≡ Some s → s.history ≡ []
+    unheard [] i s e = absurd (some-none s (sym e))
+    unheard (g ∷ gs) zero s e = ap (λ (x : Space). x.history) (sym (some-same e))
+    unheard (g ∷ gs) (suc i) s e = unheard gs i s e
 
     empty : (a b : Space) → a.state ≡ opening → Pair r a b
     empty a b e = record {
@@ -245,23 +271,11 @@ nothing_held_is_lost B settings events r kind fine lets few i j a b at atj own s
     has : has_entry_for b.state a.setting.id r.id ≡ true
     has = E.granted a b (record { client = i; owner = j; here = at; there = atj; foreign = started-foreign a.setting a.state r started; own = own }) granted
 
+pub what_is_named_stands : Below → WhatIsNamedStands
+what_is_named_stands B settings events r kind fine lets few = named-stands (entered-of B r settings events kind fine lets few)
+
 pub calls_find_their_objects : Below → CallsFindTheirObjects
-calls_find_their_objects B settings events r kind fine lets few = record {
-  target = λ conn number method fuel arguments p a b between own there. let h = holds conn number method fuel r.id arguments p a b between there in held-by-caller E p.dialler.space p.accepter.space a b b r.id arguments between.dialled between.accepted own h h.object (inl refl) (names h own);
-  argument = λ conn number method fuel target arguments p a b x between own there is space id. held-by-caller E p.dialler.space p.accepter.space a b b target arguments between.dialled between.accepted own (holds conn number method fuel target arguments p a b between there) x (inr is) (record { space = space; id = id });
-}
-  where
-    w : World
-    w = run (new_world settings) events
-
-    E : Entered settings r w
-    E = entered-of B r settings events kind fine lets few
-
-    holds : (conn number method fuel : ℕ) (target : ObjId) (arguments : List Value) (p : Pipe) (a b : Space) → IsBetween w conn p a b → IsOneOf (message.Call number target method fuel arguments) p.accepter.queue → CallerHolds a b target arguments
-    holds conn number method fuel target arguments p a b between there = E.quiet.hold.calls conn number p a b target method fuel arguments between (inl there)
-
-    names : {a b : Space} {arguments : List Value} → (h : CallerHolds a b r.id arguments) → r.space ≡ b.setting.id → Names r h.object
-    names {a} {b} h own = record { space = own ∙ sym ((bytes_eq-Decides h.object.space b.setting.id).0 h.space); id = sym (one-id h.object.id r.id h.number) }
+calls_find_their_objects B settings events r kind fine lets few = (invariant-of B r settings events kind fine lets few).found
 
 pub leases_come_of_entries : Below → LeasesComeOfEntries
 leases_come_of_entries B settings events r kind fine lets few conn number period p a b between there out own = (I.pairs p.dialler.space p.accepter.space a b between.dialled between.accepted foreign own).lent conn number out came

@@ -28,6 +28,7 @@ use Rattle.sp_world_laws.specs.Ends.{IsOneOf}
 use Rattle.sp_answer_laws.proofs.WelcomeLemmas.{one-total}
 use Rattle.sp_kept_laws.specs.Granted.{started_of}
 use Rattle.sp_kept_laws.specs.Steps.{has_entry_for}
+use Rattle.sp_held_laws.specs.Lost.{IsReferenceTo}
 use Rattle.sp_kept_laws.proofs.FreeLemmas.{bit, times-cons, times-append, one-foreign, NotIt, none-in, other-not-it}
 
 -- ---- lists
@@ -76,31 +77,26 @@ one-held (y ∷ refs) x e = pick (is_same_reference x y) refl e (one-held refs x
     pick true same f rest = inl (same-reference x y same)
     pick false same f rest = inr (rest f)
 
--- a reference names what a foreign id names
-pub record Names (r : ForeignId) (x : Ref) : Type 0 where
-  pub space : r.space ≡ x.space
-  pub id : r.id ≡ x.id
-
 -- where a foreign reference is counted there is one
-pub counted-is : (g : Setting) (r : ForeignId) (refs : List Ref) → 1 ≤ times_in r (foreign_ids g.id refs) → (x : Ref) × (IsOneOf x refs × Names r x)
+pub counted-is : (g : Setting) (r : ForeignId) (refs : List Ref) → 1 ≤ times_in r (foreign_ids g.id refs) → (x : Ref) × (IsOneOf x refs × IsReferenceTo r x)
 counted-is g r [] le = absurd (let z : times_in r [] ≡ 0 = refl in omega (arith, le))
 counted-is g r (y ∷ refs) le = pick (nat_le 1 (times_in r (foreign_id g.id y))) refl (counted-is g r refs)
   where
     parts : times_in r (foreign_ids g.id (y ∷ refs)) ≡ times_in r (foreign_id g.id y) + times_in r (foreign_ids g.id refs)
     parts = times-append r (foreign_id g.id y) (foreign_ids g.id refs)
 
-    this : (b : Bool) → 1 ≤ times_in r (if b then [] else record { space = y.space; id = y.id } ∷ []) → Names r y
+    this : (b : Bool) → 1 ≤ times_in r (if b then [] else record { space = y.space; id = y.id } ∷ []) → IsReferenceTo r y
     this true l = absurd (let z : times_in r [] ≡ 0 = refl in omega (arith, l))
     this false l = same (is_same r (record { space = y.space; id = y.id })) refl
       where
-        same : (c : Bool) → is_same r (record { space = y.space; id = y.id }) ≡ c → Names r y
+        same : (c : Bool) → is_same r (record { space = y.space; id = y.id }) ≡ c → IsReferenceTo r y
         same true e = let f : r ≡ record { space = y.space; id = y.id } = one-foreign r (record { space = y.space; id = y.id }) e in record { space = ap (λ (z : ForeignId). z.space) f; id = ap (λ (z : ForeignId). z.id) f }
         same false e =
             let a : times_in r (record { space = y.space; id = y.id } ∷ []) ≡ bit (is_same r (record { space = y.space; id = y.id })) + times_in r [] = times-cons r (record { space = y.space; id = y.id }) [] in
             let b : bit (is_same r (record { space = y.space; id = y.id })) ≡ 0 = ap bit e in
             let z : times_in r [] ≡ 0 = refl in absurd (omega (arith, l))
 
-    pick : (b : Bool) → nat_le 1 (times_in r (foreign_id g.id y)) ≡ b → (1 ≤ times_in r (foreign_ids g.id refs) → (x : Ref) × (IsOneOf x refs × Names r x)) → (x : Ref) × (IsOneOf x (y ∷ refs) × Names r x)
+    pick : (b : Bool) → nat_le 1 (times_in r (foreign_id g.id y)) ≡ b → (1 ≤ times_in r (foreign_ids g.id refs) → (x : Ref) × (IsOneOf x refs × IsReferenceTo r x)) → (x : Ref) × (IsOneOf x (y ∷ refs) × IsReferenceTo r x)
     pick true e rest = (y, (inl refl, this (bytes_eq y.space g.id) (leb-true 1 (times_in r (foreign_id g.id y)) e)))
     pick false e rest =
         let z : times_in r (foreign_id g.id y) < 1 = leb-false 1 (times_in r (foreign_id g.id y)) e in
@@ -108,7 +104,7 @@ counted-is g r (y ∷ refs) le = pick (nat_le 1 (times_in r (foreign_id g.id y))
         let x = rest (omega (arith, le, parts, z)) in (x.0, (inr x.1.0, x.1.1))
 
 -- and where there is one it is counted
-pub is-counted : (g : Setting) (r : ForeignId) (refs : List Ref) (x : Ref) → IsOneOf x refs → Names r x → bytes_eq x.space g.id ≡ false → 1 ≤ times_in r (foreign_ids g.id refs)
+pub is-counted : (g : Setting) (r : ForeignId) (refs : List Ref) (x : Ref) → IsOneOf x refs → IsReferenceTo r x → bytes_eq x.space g.id ≡ false → 1 ≤ times_in r (foreign_ids g.id refs)
 is-counted g r [] x o n f = absurd o
 is-counted g r (y ∷ refs) x (inl e) n f =
     let parts : times_in r (foreign_ids g.id (y ∷ refs)) ≡ times_in r (foreign_id g.id y) + times_in r (foreign_ids g.id refs) = times-append r (foreign_id g.id y) (foreign_ids g.id refs) in
@@ -194,3 +190,16 @@ class-stands s id class e = among (standing s.store) (there (object_at s id) e)
         pick : (b : Bool) → is_id o.id id ≡ b → is_some (cond b (Some o) (find (λ (p : Object). is_id p.id id) os)) ≡ true → (is_some (find (λ (p : Object). is_id p.id id) os) ≡ true → is_id_in (map (λ (p : Object). p.id) os) id ≡ true) → is_id id o.id || is_id_in (map (λ (p : Object). p.id) os) id ≡ true
         pick true same g rest = or-left (is_id id o.id) _ (eq-eqb id.0 o.id.0 (sym (eqb-true o.id.0 id.0 same)))
         pick false same g rest = or-right (is_id id o.id) _ (rest g)
+
+-- and what stands is found
+pub stands-found : (s : State) (id : ObjId) → stands s id ≡ true → is_some (object_at s id) ≡ true
+stands-found s id e = among (standing s.store) e
+  where
+    among : (os : List Object) → is_id_in (map (λ (o : Object). o.id) os) id ≡ true → is_some (find (λ (o : Object). is_id o.id id) os) ≡ true
+    among [] f = absurd (true≢false (sym f))
+    among (o ∷ os) f = pick (is_id o.id id) refl (is_id id o.id) refl f (among os)
+      where
+        pick : (b : Bool) → is_id o.id id ≡ b → (c : Bool) → is_id id o.id ≡ c → c || is_id_in (map (λ (p : Object). p.id) os) id ≡ true → (is_id_in (map (λ (p : Object). p.id) os) id ≡ true → is_some (find (λ (p : Object). is_id p.id id) os) ≡ true) → is_some (cond b (Some o) (find (λ (p : Object). is_id p.id id) os)) ≡ true
+        pick true here c same g rest = refl
+        pick false here true same g rest = absurd (true≢false (sym (eq-eqb o.id.0 id.0 (sym (eqb-true id.0 o.id.0 same))) ∙ here))
+        pick false here false same g rest = rest g

@@ -4,6 +4,7 @@ mod RequestLemmas
 mod HolderLemmas
 mod GivenLaws
 mod StandLaws
+mod NamedLaws
 mod ClientSteps
 mod OwnerSteps
 mod HeldLaws

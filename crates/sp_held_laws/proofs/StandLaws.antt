@@ -36,10 +36,11 @@ use Rattle.sp_kept_laws.specs.Granted.{is_granted, started_of, awaited_of}
 use Rattle.sp_kept_laws.specs.Steps.{has_entry_for}
 use Rattle.sp_kept_laws.proofs.FreeLemmas.{one-of}
 use Rattle.sp_held_laws.specs.Entries.{GrantedHaveEntries, IsDirtyOut}
+use Rattle.sp_held_laws.specs.Lost.{IsReferenceTo}
 use Rattle.sp_held_laws.specs.Premises.{HoldersAreFew}
 use Rattle.sp_held_laws.proofs.BetweenLemmas.{one-space, spoke-by}
 use Rattle.sp_held_laws.proofs.GivenLaws.{Below, Quiet, AreFew, held-granted, dirty-awaited, own-stand}
-use Rattle.sp_held_laws.proofs.HolderLemmas.{found-one, some-counts, one-held, Names, counted-is, is-counted, folded-times, task-has, result-has, entry-stands, class-stands}
+use Rattle.sp_held_laws.proofs.HolderLemmas.{found-one, some-counts, one-held, counted-is, is-counted, folded-times, task-has, result-has, entry-stands, class-stands}
 
 -- What is known of a world, and of a reference there: what is granted has entries.
 pub record Entered (settings : List Setting) (r : ForeignId) (w : World) : Type 0 where
@@ -61,7 +62,7 @@ kept-stands {settings} {r} {w} E j b c atj has =
     subst (λ (s : State). stands s r.id ≡ true) (sym k.state) (entry-stands b.setting b.history c r.id (subst (λ (s : State). has_entry_for s c r.id ≡ true) k.state has))
 
 -- what a space has stands at its owner, that space or another
-pub has-stands : {settings : List Setting} {r : ForeignId} {w : World} → Entered settings r w → (k j : ℕ) (u b : Space) (x : Ref) → slice_get w.spaces k ≡ Some u → slice_get w.spaces j ≡ Some b → r.space ≡ b.setting.id → Names r x → IsRight u.setting u.state x
+pub has-stands : {settings : List Setting} {r : ForeignId} {w : World} → Entered settings r w → (k j : ℕ) (u b : Space) (x : Ref) → slice_get w.spaces k ≡ Some u → slice_get w.spaces j ≡ Some b → r.space ≡ b.setting.id → IsReferenceTo r x → IsRight u.setting u.state x
     → (bytes_eq x.space u.setting.id ≡ false → 1 ≤ started_of u.setting u.state r) → stands b.state r.id ≡ true
 has-stands {settings} {r} {w} E k j u b x at atj own n right started = by (bytes_eq x.space u.setting.id) refl
   where
@@ -77,7 +78,7 @@ has-stands {settings} {r} {w} E k j u b x at atj own n right started = by (bytes
 
 -- of a call: what its caller holds stands
 pub held-by-caller : {settings : List Setting} {r : ForeignId} {w : World} → Entered settings r w → (k j : ℕ) (u b a : Space) (target : ObjId) (arguments : List Value) → slice_get w.spaces k ≡ Some u → slice_get w.spaces j ≡ Some b → r.space ≡ b.setting.id → (h : CallerHolds u a target arguments)
-    → (x : Ref) → IsOneOf x (h.object ∷ references_of arguments) → Names r x → stands b.state r.id ≡ true
+    → (x : Ref) → IsOneOf x (h.object ∷ references_of arguments) → IsReferenceTo r x → stands b.state r.id ≡ true
 held-by-caller {settings} {r} {w} E k j u b a target arguments at atj own h x o n = has-stands E k j u b x at atj own n (one-of (IsRight u.setting u.state) h.row.task.held x rights x-held) (λ foreign. task-has u.setting u.state r h.row row-there (is-counted u.setting r h.row.task.held x x-held n foreign))
   where
     row-there : IsOneOf h.row u.state.tasks
@@ -90,8 +91,8 @@ held-by-caller {settings} {r} {w} E k j u b a target arguments at atj own h x o 
     rights = one-of (λ (t : Living). AllOf (IsRight u.setting u.state) t.task.held) u.state.tasks h.row (own-stand u (known-at E k u at)).tasks row-there
 
 -- of a result: what is held until its Ack stands
-held-as-result : {settings : List Setting} {r : ForeignId} {w : World} → Entered settings r w → (k j conn number : ℕ) (u b : Space) (value : Option Value) → slice_get w.spaces k ≡ Some u → slice_get w.spaces j ≡ Some b → r.space ≡ b.setting.id → IsOneOf (record { until = Acked conn number; value = value }) u.state.results
-    → (x : Ref) → IsOneOf x (references_in value) → Names r x → stands b.state r.id ≡ true
+pub held-as-result : {settings : List Setting} {r : ForeignId} {w : World} → Entered settings r w → (k j conn number : ℕ) (u b : Space) (value : Option Value) → slice_get w.spaces k ≡ Some u → slice_get w.spaces j ≡ Some b → r.space ≡ b.setting.id → IsOneOf (record { until = Acked conn number; value = value }) u.state.results
+    → (x : Ref) → IsOneOf x (references_in value) → IsReferenceTo r x → stands b.state r.id ≡ true
 held-as-result {settings} {r} {w} E k j conn number u b value at atj own kept x o n = has-stands E k j u b x at atj own n (one-of (IsRight u.setting u.state) (references_in value) x rights o) (λ foreign. result-has u.setting u.state r (record { until = Acked conn number; value = value }) kept (is-counted u.setting r (references_in value) x o n foreign))
   where
     rights : AllOf (IsRight u.setting u.state) (references_in value)

@@ -1,7 +1,7 @@
 //! The laws of what is held, and so is not lost.
 
 ghost use Rattle.sp_held_laws.specs.Entries.{GrantedReferencesHaveEntries, LeasesComeOfEntries};
-ghost use Rattle.sp_held_laws.specs.Lost.{CallsFindTheirObjects, NothingHeldIsLost};
+ghost use Rattle.sp_held_laws.specs.Lost.{CallsFindTheirObjects, NothingHeldIsLost, WhatIsNamedStands};
 ghost use Rattle.sp_held_laws.specs.Passes.{PassesUnlost};
 
 use sp_answer_laws::laws::{calls_come_in_time, calls_keep_their_order, senders_hold};
@@ -120,9 +120,41 @@ pub fn nothing_held_is_lost()
     sequence_numbers_rise();
 }
 
-/// In every such run a Call that is on its way to the owner of the object, and names it as its target or
-/// among its arguments, names an object that stands. So it is not answered that there is no such object, nor
-/// refused for an own reference of none.
+/// In every such run the object stands while a Call or a Returned that names it is on its way, or waits for
+/// leases where it came: as the target of the call, or by a reference among its arguments or as the result,
+/// in whatever spaces.
+pub fn what_is_named_stands()
+    ensures { WhatIsNamedStands }
+{
+    frames_go_their_way();
+    parked_results_came();
+    spaces_have_directions();
+    what_comes_was_sent();
+    hand_shakes_are_in_table();
+    calls_come_above_the_last();
+    each_call_stands_once();
+    each_group_is_answered_once();
+    each_result_is_acknowledged_once();
+    frames_are_answered_once();
+    answers_are_parked();
+    connections_are_opened_once();
+    what_is_held_is_granted();
+    dirty_calls_are_awaited();
+    granted_references_stay_secure();
+    only_leases_grant();
+    what_is_out_stays_asked();
+    entries_stay_until_cleaned();
+    dirty_calls_set_entries();
+    senders_hold();
+    calls_come_in_time();
+    calls_on_their_way_are_requests();
+    calls_are_made_when_due();
+    calls_keep_their_order();
+    sequence_numbers_rise();
+}
+
+/// In every such run each Call that came to the owner of the object, with the object as its target, found it
+/// there: none was answered that there is no such object.
 pub fn calls_find_their_objects()
     ensures { CallsFindTheirObjects }
 {
