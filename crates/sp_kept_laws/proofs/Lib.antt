@@ -13,4 +13,5 @@ pub mod CleanLaws
 pub mod StepLaws
 pub mod EntryLaws
 pub mod ReachLaws
+pub mod AskedLemmas
 pub mod SecureLaws
