@@ -1,29 +1,25 @@
 -- What the events of a client do to what its owner granted, and to its dirty calls on their way.
 use mathlib.Core.Path.{sym, ap, subst, ◌∙◌}
 use Rattle.std.proofs.Common.{arith, inl, inr}
-use Rattle.std.proofs.lemmas.Bool.{true≢false, eq-eqb}
-use Rattle.std.specs.Prelude.{◌≡◌, ◌⊎◌, refl, ℕ, zero, suc, ◌+◌, ◌≤◌, ◌==◌, ◌&&◌, ◌||◌, Bool, true, false, List, [], ◌∷◌, ◌++◌, Option, None, Some, slice_get, if◌then◌else◌}
-use Rattle.dgc_client.specs.Table.{numbers_of, is_same, is_among, references_at}
-use Rattle.dgc_client.specs.declared.groups.Group.{Group}
+use Rattle.std.proofs.lemmas.Bool.{true≢false}
+use Rattle.std.specs.Prelude.{◌≡◌, ◌⊎◌, refl, ℕ, zero, suc, ◌≤◌, ◌==◌, Bool, true, false, List, [], ◌∷◌, ◌++◌, Option, None, Some, slice_get, if◌then◌else◌}
+use Rattle.dgc_client.specs.Table.{numbers_of}
 use Rattle.net_message.specs.declared.message.Message.{Message}
 use Rattle.net_message.specs.declared.message.Message.TheVariants as message
 use Rattle.space_ids.specs.declared.ids.ForeignId.{ForeignId}
 use Rattle.space_ids.specs.declared.ids.ObjId.{ObjId}
 use Rattle.sp_rules.specs.Classes.{Setting}
 use Rattle.sp_rules.specs.Events.{Event, Opened, Received, Output, Started, Ended, Withdrawn, Denied, Send, Dial, Close, Ready}
-use Rattle.sp_rules.specs.Frames.{tells_of}
-use Rattle.sp_rules.specs.Holders.{times_in}
 use Rattle.sp_rules.specs.Laws.{AllOf, RisesWithin}
 use Rattle.sp_rules.specs.Lists.{at_index}
 use Rattle.sp_rules.specs.Origins.{IsTaken}
 use Rattle.sp_rules.specs.Space
-use Rattle.sp_rules.specs.State.{State, Request, Tells}
+use Rattle.sp_rules.specs.State.{State}
 use Rattle.sp_rules.specs.Worlds.{World, Space, Pipe, Dialler, Accepter, grown}
 use Rattle.sp_rules.proofs.AllLemmas.{some-none}
 use Rattle.sp_rules.proofs.OwnLemmas.{some-same}
 use Rattle.sp_laws.specs.Inbound.{OpensOnce}
 use Rattle.sp_call_laws.specs.Directions.{HasDirections}
-use Rattle.sp_lease_laws.specs.OnTheWay.{names_in, calls_naming, times_named}
 use Rattle.sp_world_laws.specs.Delivered.{came_on, sent_on, frame_in, outputs_at, outputs_in, IsEnd}
 use Rattle.sp_world_laws.specs.Ends.{IsOneOf}
 use Rattle.sp_order_laws.specs.Places.{IsBetween}
@@ -34,37 +30,15 @@ use Rattle.sp_answer_laws.specs.Unbroken.{IsJoined}
 use Rattle.sp_answer_laws.proofs.TimeLemmas.{has-on}
 use Rattle.sp_answer_laws.proofs.UnbrokenLaws.{came-now}
 use Rattle.sp_answer_laws.proofs.WelcomeFrames.{not-dialled}
-use Rattle.sp_answer_laws.proofs.WelcomeLemmas.{Facts, ends-of, of-there, one-some, one-left, one-right, one-total, went, opened-as, dials-at}
+use Rattle.sp_answer_laws.proofs.WelcomeLemmas.{Facts, ends-of, of-there, one-some, one-left, one-right, went, opened-as, dials-at}
 use Rattle.sp_kept_laws.specs.Granted.{is_granted}
-use Rattle.sp_kept_laws.specs.Reaches.{grown_by}
+use Rattle.sp_kept_laws.specs.Reaches.{grown_by, IsSilent}
 use Rattle.sp_kept_laws.specs.Steps.{BringsLease, StaysAsked}
-use Rattle.sp_kept_laws.proofs.FreeLemmas.{bit, times-cons}
+use Rattle.sp_kept_laws.proofs.AskedLemmas.{in-flat-of}
+use Rattle.sp_kept_laws.proofs.CleanLaws.{counts-naming}
 use Rattle.sp_held_laws.specs.Entries.{IsDirtyOut}
 use Rattle.sp_held_laws.proofs.BetweenLemmas.{Between, between-of}
 use Rattle.sp_held_laws.proofs.GivenLaws.{Below, opened-to}
-use Rattle.sp_held_laws.proofs.ReachLemmas.{IsSilent}
-use Rattle.sp_held_laws.proofs.RequestLemmas.{in-flat-of}
-
--- ---- a request counts
-
-among-times : (r : ForeignId) (xs : List ForeignId) → is_among r xs ≡ true → 1 ≤ times_in r xs
-among-times r [] e = absurd (true≢false (sym e))
-among-times r (x ∷ xs) e = pick (is_same r x) e (times-cons r x xs) (among-times r xs)
-  where
-    pick : (b : Bool) → b || is_among r xs ≡ true → times_in r (x ∷ xs) ≡ bit b + times_in r xs → (is_among r xs ≡ true → 1 ≤ times_in r xs) → 1 ≤ times_in r (x ∷ xs)
-    pick true e f rest = let a : times_in r (x ∷ xs) ≡ 1 + times_in r xs = f in omega arith
-    pick false e f rest = let a : times_in r (x ∷ xs) ≡ 0 + times_in r xs = f in let b : 1 ≤ times_in r xs = rest e in omega arith
-
-counts-naming : (r : ForeignId) (call : ℕ) (group : Group) (q : Request) (rs : List Request) → IsOneOf q rs → q.asked ≡ Tells call group → tells_of true (Tells call group) ≡ true → is_among r (references_at group.peer group.ids) ≡ true → 1 ≤ calls_naming true call r rs
-counts-naming r call group q rs there asked kind names =
-    let a : names_in true call r q.asked ≤ calls_naming true call r rs = one-total (λ (x : Request). names_in true call r x.asked) q rs there in
-    let b : 1 ≤ names_in true call r (Tells call group) = by (call == call) (tells_of true (Tells call group)) (eq-eqb call call refl) kind in
-    let c : names_in true call r q.asked ≡ names_in true call r (Tells call group) = ap (names_in true call r) asked in omega arith
-  where
-    by : (x y : Bool) → x ≡ true → y ≡ true → 1 ≤ (if x && y then times_named r group else 0)
-    by true true e f = among-times r (references_at group.peer group.ids) names
-    by true false e f = absurd (true≢false (sym f))
-    by false y e f = absurd (true≢false (sym e))
 
 -- ---- one event of a client
 
@@ -84,7 +58,7 @@ was-out B g h e r conn n t d low = record {
   asked = d.asked;
   dirty = d.dirty;
   names = d.names;
-  made = stays.way r d.call (counts-naming r d.call d.group d.request (Space.state_of g h).requests there d.asked d.dirty d.names) d.made;
+  made = stays.way r d.call (counts-naming true r d.call d.group d.request (Space.state_of g h).requests there d.asked d.dirty d.names) d.made;
 }
   where
     stays : StaysAsked g h e

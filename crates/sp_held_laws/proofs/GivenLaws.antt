@@ -24,6 +24,7 @@ use Rattle.sp_answer_laws.specs.Unbroken.{AreOfOneKind, NothingFails}
 use Rattle.sp_answer_laws.proofs.TimeLemmas.{Given}
 use Rattle.sp_answer_laws.proofs.UnbrokenLaws.{Laws}
 use Rattle.sp_kept_laws.specs.Granted.{is_granted, awaited_of, HeldIsGranted, WhatIsHeldIsGranted, DirtyCallsAreAwaited}
+use Rattle.sp_kept_laws.specs.Reaches.{EventsReachOneSpace}
 use Rattle.sp_kept_laws.specs.Secure.{NoCleanOnItsWay, GrantedReferencesStaySecure}
 use Rattle.sp_kept_laws.specs.Steps.{OnlyLeasesGrant, WhatIsOutStaysAsked, EntriesStayUntilCleaned, DirtyCallsSetEntries}
 use Rattle.sp_kept_laws.proofs.CleanLaws.{Kept, kept-of, peer-of, dialled-to}
@@ -45,6 +46,7 @@ pub record Below : Type 0 where
   pub due : CallsAreMadeWhenDue
   pub order : CallsKeepTheirOrder
   pub sequences : SequenceNumbersRise
+  pub reach : EventsReachOneSpace
 
 -- What is known of a world of a run in which nothing fails.
 pub record Quiet (settings : List Setting) (w : World) : Type 0 where

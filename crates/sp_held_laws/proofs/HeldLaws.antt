@@ -3,7 +3,7 @@ use mathlib.Core.Path.{sym, ap, subst, ◌∙◌}
 use Rattle.std.proofs.Common.{inl, inr}
 use Rattle.std.proofs.lemmas.Bool.{true≢false, eq-eqb, eqb-true}
 use Rattle.std.proofs.lemmas.Slice.Eq.{bytes_eq-Decides}
-use Rattle.std.specs.Prelude.{◌≡◌, refl, ℕ, zero, suc, ◌==◌, Bool, true, false, List, [], ◌∷◌, ◌++◌, Some, map, slice_get}
+use Rattle.std.specs.Prelude.{◌≡◌, ◌⊎◌, refl, ℕ, zero, suc, ◌==◌, Bool, true, false, List, [], ◌∷◌, ◌++◌, Some, map, slice_get}
 use Rattle.std.specs.Str.{bytes_eq}
 use Rattle.space_ids.specs.declared.ids.ForeignId.{ForeignId}
 use Rattle.space_ids.specs.declared.ids.ObjId.{ObjId}
@@ -25,9 +25,10 @@ use Rattle.sp_answer_laws.specs.Unbroken.{AreOfOneKind, NothingFails, is_failure
 use Rattle.sp_answer_laws.proofs.UnbrokenLaws.{run-last}
 use Rattle.sp_answer_laws.proofs.WelcomeLemmas.{Facts}
 use Rattle.sp_kept_laws.specs.Granted.{is_granted}
-use Rattle.sp_kept_laws.specs.Reaches.{grown_by, AreTakenBy, ComesBy}
+use Rattle.sp_kept_laws.specs.Reaches.{grown_by, AreTakenBy, ComesBy, IsSilent, AreAlone, ReachesOne}
 use Rattle.sp_kept_laws.specs.Steps.{has_entry_for}
 use Rattle.sp_kept_laws.proofs.GrantLaws.{fewer-before}
+use Rattle.sp_kept_laws.proofs.ReachLaws.{at-row}
 use Rattle.sp_held_laws.specs.Entries.{GrantedHaveEntries, GrantedReferencesHaveEntries, LeasesComeOfEntries}
 use Rattle.sp_held_laws.specs.Lost.{NothingHeldIsLost, WhatIsNamedStands, CallsFound, CallsFindTheirObjects}
 use Rattle.sp_held_laws.specs.Premises.{LetsNoneExpire, NothingExpires, HoldersAreFew}
@@ -37,7 +38,6 @@ use Rattle.sp_held_laws.proofs.GivenLaws.{Below, Quiet, quiet-of, AreFew, held-g
 use Rattle.sp_held_laws.proofs.HolderLemmas.{started-foreign}
 use Rattle.sp_held_laws.proofs.NamedLaws.{named-stands, event-finds, silent-finds}
 use Rattle.sp_held_laws.proofs.OwnerSteps.{owner-step, owner-silent}
-use Rattle.sp_held_laws.proofs.ReachLemmas.{IsSilent, AreAlone, Reaches, Reached, reaches-one, at-row}
 use Rattle.sp_held_laws.proofs.StandLaws.{Entered, kept-stands}
 
 -- ---- the invariant
@@ -75,25 +75,25 @@ silent-found : (id : ObjId) (es : List Event) (s : Space) → AllOf IsSilent es 
 silent-found id [] s silent k = k
 silent-found id (e ∷ es) s silent k = silent-found id es (grown e s) silent.1 (silent-finds (Space.state_of s.setting s.history) id e silent.0, k)
 
-module _ {settings : List Setting} {r : ForeignId} {w v : World} (E : Entered settings r w) (V : Quiet settings v) (e : WorldEvent) (lets : LetsNoneExpire r w e) (R : Reaches w e v) (I : Invariant r w) where
+module _ {settings : List Setting} {r : ForeignId} {w : World} (E : Entered settings r w) (e : WorldEvent) (V : Quiet settings (after w e)) (lets : LetsNoneExpire r w e) (R : ReachesOne w e) (I : Invariant r w) where
   -- the client changes
-  of-client : (i j : ℕ) (es : List Event) → v.spaces ≡ at_index (grown_by es) i w.spaces → AreAlone es → (a b : Space) → slice_get w.spaces i ≡ Some a → slice_get w.spaces j ≡ Some b → slice_get v.spaces i ≡ Some (grown_by es a) → slice_get v.spaces j ≡ Some b
+  of-client : (i j : ℕ) (es : List Event) → (after w e).spaces ≡ at_index (grown_by es) i w.spaces → AreAlone es → (a b : Space) → slice_get w.spaces i ≡ Some a → slice_get w.spaces j ≡ Some b → slice_get (after w e).spaces i ≡ Some (grown_by es a) → slice_get (after w e).spaces j ≡ Some b
       → bytes_eq r.space (grown_by es a).setting.id ≡ false → r.space ≡ b.setting.id → Pair r (grown_by es a) b
   of-client i j es same alone a b at atj now nowj foreign own = subst (λ (g : Setting). Gives r (has_entry_for b.state g.id r.id ≡ true) (Came b) (grown_by es a).state) (sym (setting-stays es a)) (by alone)
     where
       old : Pair r a b
       old = I.pairs i j a b at atj (subst (λ (g : Setting). bytes_eq r.space g.id ≡ false) (setting-stays es a) foreign) own
 
-      one : (d : Event) (ds : List Event) → ds ≡ d ∷ [] → v.spaces ≡ at_index (grown_by ds) i w.spaces → slice_get v.spaces i ≡ Some (grown_by ds a) → Gives r (has_entry_for b.state a.setting.id r.id ≡ true) (Came b) (grown_by ds a).state
+      one : (d : Event) (ds : List Event) → ds ≡ d ∷ [] → (after w e).spaces ≡ at_index (grown_by ds) i w.spaces → slice_get (after w e).spaces i ≡ Some (grown_by ds a) → Gives r (has_entry_for b.state a.setting.id r.id ≡ true) (Came b) (grown_by ds a).state
       one d ds is s n = subst (λ (xs : List Event). Gives r (has_entry_for b.state a.setting.id r.id ≡ true) (Came b) (grown_by xs a).state) (sym is)
-          (client-step E.below E.quiet.given.facts V.given.facts i j d (subst (λ (xs : List Event). v.spaces ≡ at_index (grown_by xs) i w.spaces) is s) a b r (has_entry_for b.state a.setting.id r.id ≡ true) at atj (subst (λ (xs : List Event). slice_get v.spaces i ≡ Some (grown_by xs a)) is n) nowj own old)
+          (client-step E.below E.quiet.given.facts V.given.facts i j d (subst (λ (xs : List Event). (after w e).spaces ≡ at_index (grown_by xs) i w.spaces) is s) a b r (has_entry_for b.state a.setting.id r.id ≡ true) at atj (subst (λ (xs : List Event). slice_get (after w e).spaces i ≡ Some (grown_by xs a)) is n) nowj own old)
 
       by : AreAlone es → Gives r (has_entry_for b.state a.setting.id r.id ≡ true) (Came b) (grown_by es a).state
       by (inl d) = one d.0 es d.1 same now
       by (inr silent) = client-silent E.below E.quiet.given.facts V.given.facts i j es silent same a b r (has_entry_for b.state a.setting.id r.id ≡ true) at atj now nowj own old
 
   -- the owner changes
-  of-owner : (i j : ℕ) (es : List Event) → AreAlone es → AllOf (ComesBy w e j) es → (a b : Space) → AreTakenBy es b → slice_get w.spaces i ≡ Some a → slice_get w.spaces j ≡ Some b → slice_get v.spaces j ≡ Some (grown_by es b) → bytes_eq r.space a.setting.id ≡ false → r.space ≡ (grown_by es b).setting.id → Pair r a (grown_by es b)
+  of-owner : (i j : ℕ) (es : List Event) → AreAlone es → AllOf (ComesBy w e j) es → (a b : Space) → AreTakenBy es b → slice_get w.spaces i ≡ Some a → slice_get w.spaces j ≡ Some b → slice_get (after w e).spaces j ≡ Some (grown_by es b) → bytes_eq r.space a.setting.id ≡ false → r.space ≡ (grown_by es b).setting.id → Pair r a (grown_by es b)
   of-owner i j es alone comes a b taken at atj nowj foreign own = by alone
     where
       own-then : r.space ≡ b.setting.id
@@ -103,7 +103,7 @@ module _ {settings : List Setting} {r : ForeignId} {w v : World} (E : Entered se
       old = I.pairs i j a b at atj foreign own-then
 
       later : Known (grown_by es b)
-      later = at-all Known j v.spaces (grown_by es b) nowj V.given.facts.known
+      later = at-all Known j (after w e).spaces (grown_by es b) nowj V.given.facts.known
 
       one : (d : Event) (ds : List Event) → ds ≡ d ∷ [] → Known (grown_by ds b) → AllOf (ComesBy w e j) ds → AreTakenBy ds b → Pair r a (grown_by ds b)
       one d ds is l c t = subst (λ (xs : List Event). Pair r a (grown_by xs b)) (sym is) (owner-step E i j a b at atj own-then e d (subst (λ (xs : List Event). Known (grown_by xs b)) is l) (subst (AllOf (ComesBy w e j)) is c).0 (subst (λ (xs : List Event). AreTakenBy xs b) is t).0 lets foreign old)
@@ -113,37 +113,37 @@ module _ {settings : List Setting} {r : ForeignId} {w v : World} (E : Entered se
       by (inr silent) = owner-silent E.below es a b r silent (at-all Known j w.spaces b atj E.quiet.given.facts.known) (later.state ∙ ap (λ (g : Setting). Space.state_of g (grown_by es b).history) (setting-stays es b)) old
 
   -- the space that changed, by its number
-  changed : (k : ℕ) → R.space ≡ k → slice_get v.spaces k ≡ Some (grown_by R.events R.row)
-  changed k f = subst (λ n. slice_get v.spaces n ≡ Some (grown_by R.events R.row)) f (ap (λ (l : List Space). slice_get l R.space) R.spaces ∙ at-row (grown_by R.events) R.space w.spaces R.row R.there)
+  changed : (k : ℕ) → R.space ≡ k → slice_get (after w e).spaces k ≡ Some (grown_by R.events R.row)
+  changed k f = subst (λ n. slice_get (after w e).spaces n ≡ Some (grown_by R.events R.row)) f (ap (λ (l : List Space). slice_get l R.space) R.spaces ∙ at-row (grown_by R.events) R.space w.spaces R.row R.there)
 
   was : (k : ℕ) → R.space ≡ k → slice_get w.spaces k ≡ Some R.row
   was k f = subst (λ n. slice_get w.spaces n ≡ Some R.row) f R.there
 
   -- one that did not
-  stayed : (k : ℕ) (x : Space) → (R.space ≡ k → ⊥) → slice_get v.spaces k ≡ Some x → slice_get w.spaces k ≡ Some x
+  stayed : (k : ℕ) (x : Space) → (R.space ≡ k → ⊥) → slice_get (after w e).spaces k ≡ Some x → slice_get w.spaces k ≡ Some x
   stayed k x apart f = sym (ap (λ (l : List Space). slice_get l k) R.spaces ∙ at-other (grown_by R.events) R.space k w.spaces apart) ∙ f
 
   other : (k : ℕ) → (R.space == k) ≡ false → R.space ≡ k → ⊥
   other k f same = true≢false (sym (eq-eqb R.space k same) ∙ f)
 
-  pair-after : (i j : ℕ) (a b : Space) → slice_get v.spaces i ≡ Some a → slice_get v.spaces j ≡ Some b → bytes_eq r.space a.setting.id ≡ false → r.space ≡ b.setting.id → Pair r a b
+  pair-after : (i j : ℕ) (a b : Space) → slice_get (after w e).spaces i ≡ Some a → slice_get (after w e).spaces j ≡ Some b → bytes_eq r.space a.setting.id ≡ false → r.space ≡ b.setting.id → Pair r a b
   pair-after i j a b at atj foreign own = by (R.space == i) refl (R.space == j) refl
     where
       by : (x : Bool) → (R.space == i) ≡ x → (y : Bool) → (R.space == j) ≡ y → Pair r a b
       by true ei true ej =
-          let same : a ≡ b = some-same (sym at ∙ (ap (slice_get v.spaces) (sym (eqb-true R.space i ei) ∙ eqb-true R.space j ej) ∙ atj)) in
+          let same : a ≡ b = some-same (sym at ∙ (ap (slice_get (after w e).spaces) (sym (eqb-true R.space i ei) ∙ eqb-true R.space j ej) ∙ atj)) in
           absurd (true≢false (sym (same-bytes r.space a.setting.id (own ∙ sym (ap (λ (s : Space). s.setting.id) same))) ∙ foreign))
       by true ei false ej =
           let k : R.space ≡ i = eqb-true R.space i ei in
           let is : grown_by R.events R.row ≡ a = some-same (sym (changed i k) ∙ at) in
-          subst (λ (s : Space). Pair r s b) is (of-client i j R.events (subst (λ n. v.spaces ≡ at_index (grown_by R.events) n w.spaces) k R.spaces) R.alone R.row b (was i k) (stayed j b (other j ej) atj) (changed i k) atj (subst (λ (s : Space). bytes_eq r.space s.setting.id ≡ false) (sym is) foreign) own)
+          subst (λ (s : Space). Pair r s b) is (of-client i j R.events (subst (λ n. (after w e).spaces ≡ at_index (grown_by R.events) n w.spaces) k R.spaces) R.alone R.row b (was i k) (stayed j b (other j ej) atj) (changed i k) atj (subst (λ (s : Space). bytes_eq r.space s.setting.id ≡ false) (sym is) foreign) own)
       by false ei true ej =
           let k : R.space ≡ j = eqb-true R.space j ej in
           let is : grown_by R.events R.row ≡ b = some-same (sym (changed j k) ∙ atj) in
           subst (λ (s : Space). Pair r a s) is (of-owner i j R.events R.alone (subst (λ n. AllOf (ComesBy w e n) R.events) k R.comes) a R.row R.taken (stayed i a (other i ei) at) (was j k) (changed j k) foreign (own ∙ sym (ap (λ (s : Space). s.setting.id) is)))
       by false ei false ej = I.pairs i j a b (stayed i a (other i ei) at) (stayed j b (other j ej) atj) foreign own
 
-  found-after : (j : ℕ) (b : Space) → slice_get v.spaces j ≡ Some b → r.space ≡ b.setting.id → CallsFound b.setting r.id b.history
+  found-after : (j : ℕ) (b : Space) → slice_get (after w e).spaces j ≡ Some b → r.space ≡ b.setting.id → CallsFound b.setting r.id b.history
   found-after j b atj own = by (R.space == j) refl
     where
       one : (row : Space) → slice_get w.spaces j ≡ Some row → r.space ≡ row.setting.id → (d : Event) (ds : List Event) → ds ≡ d ∷ [] → AllOf (ComesBy w e j) ds → CallsFound row.setting r.id (grown_by ds row).history
@@ -161,9 +161,9 @@ module _ {settings : List Setting} {r : ForeignId} {w v : World} (E : Entered se
           subst (λ (s : Space). CallsFound s.setting r.id s.history) is (subst (λ (g : Setting). CallsFound g r.id (grown_by R.events R.row).history) (sym (setting-stays R.events R.row)) (grew R.row (was j k) mine (subst (λ n. AllOf (ComesBy w e n) R.events) k R.comes) R.alone))
       by false ej = I.found j b (stayed j b (other j ej) atj) own
 
-invariant-after : {settings : List Setting} {r : ForeignId} {w v : World} → Below → Quiet settings w → Quiet settings v → HoldersAreFew r w → (e : WorldEvent) → LetsNoneExpire r w e → Reached w e v → Invariant r w → Invariant r v
-invariant-after {settings} {r} {w} B Q V few e lets (inl same) I = record { pairs = λ i j a b at atj foreign own. I.pairs i j a b (ap (λ (l : List Space). slice_get l i) (sym same) ∙ at) (ap (λ (l : List Space). slice_get l j) (sym same) ∙ atj) foreign own; found = λ j b atj own. I.found j b (ap (λ (l : List Space). slice_get l j) (sym same) ∙ atj) own }
-invariant-after {settings} {r} {w} B Q V few e lets (inr R) I = record { pairs = pair-after E V e lets R I; found = found-after E V e lets R I }
+invariant-after : {settings : List Setting} {r : ForeignId} {w : World} → Below → Quiet settings w → (e : WorldEvent) → Quiet settings (after w e) → HoldersAreFew r w → LetsNoneExpire r w e → ((after w e).spaces ≡ w.spaces) ⊎ ReachesOne w e → Invariant r w → Invariant r (after w e)
+invariant-after {settings} {r} {w} B Q e V few lets (inl same) I = record { pairs = λ i j a b at atj foreign own. I.pairs i j a b (ap (λ (l : List Space). slice_get l i) (sym same) ∙ at) (ap (λ (l : List Space). slice_get l j) (sym same) ∙ atj) foreign own; found = λ j b atj own. I.found j b (ap (λ (l : List Space). slice_get l j) (sym same) ∙ atj) own }
+invariant-after {settings} {r} {w} B Q e V few lets (inr R) I = record { pairs = pair-after E e V lets R I; found = found-after E e V lets R I }
   where
     E : Entered settings r w
     E = record { below = B; quiet = Q; few = few; granted = entries-of I }
@@ -174,12 +174,12 @@ fewer-by : (r : ForeignId) (es : List Event) (s : Space) → IsTaken s.setting (
 fewer-by r [] s t lt = lt
 fewer-by r (e ∷ es) s t lt = fewer-before s.setting r e s.history (taken-before es (grown e s) t) (fewer-by r es (grown e s) t lt)
 
-few-before : (r : ForeignId) (w v : World) (e : WorldEvent) → AllOf Known w.spaces → AllOf Known v.spaces → Reached w e v → HoldersAreFew r v → HoldersAreFew r w
-few-before r w v e known later (inl same) few = subst (AllOf (λ (s : Space). AreFew r s.state)) same few
-few-before r w v e known later (inr R) few = all-back (λ (s : Space). AreFew r s.state) (grown_by R.events) R.space w.spaces R.row R.there back (subst (AllOf (λ (s : Space). AreFew r s.state)) R.spaces few)
+few-before : (r : ForeignId) (w : World) (e : WorldEvent) → AllOf Known w.spaces → AllOf Known (after w e).spaces → ((after w e).spaces ≡ w.spaces) ⊎ ReachesOne w e → HoldersAreFew r (after w e) → HoldersAreFew r w
+few-before r w e known later (inl same) few = subst (AllOf (λ (s : Space). AreFew r s.state)) same few
+few-before r w e known later (inr R) few = all-back (λ (s : Space). AreFew r s.state) (grown_by R.events) R.space w.spaces R.row R.there back (subst (AllOf (λ (s : Space). AreFew r s.state)) R.spaces few)
   where
     grew : Known (grown_by R.events R.row)
-    grew = at-all Known R.space v.spaces (grown_by R.events R.row) (ap (λ (l : List Space). slice_get l R.space) R.spaces ∙ at-row (grown_by R.events) R.space w.spaces R.row R.there) later
+    grew = at-all Known R.space (after w e).spaces (grown_by R.events R.row) (ap (λ (l : List Space). slice_get l R.space) R.spaces ∙ at-row (grown_by R.events) R.space w.spaces R.row R.there) later
 
     was : Known R.row
     was = at-all Known R.space w.spaces R.row R.there known
@@ -215,10 +215,10 @@ fine-more : (events : List WorldEvent) (e : WorldEvent) → NothingFails events 
 fine-more [] e fine f = (f, tt)
 fine-more (x ∷ events) e fine f = (fine.0, fine-more events e fine.1 f)
 
-few-at-first : (r : ForeignId) (settings : List Setting) (before more : List WorldEvent) → HoldersAreFew r (run (new_world settings) (before ++ more)) → HoldersAreFew r (run (new_world settings) before)
-few-at-first r settings before [] few = subst (λ es. HoldersAreFew r (run (new_world settings) es)) (append-none before) few
-few-at-first r settings before (e ∷ more) few = few-before r w (after w e) e (all_known settings before) (subst (λ (x : World). AllOf Known x.spaces) last (all_known settings (before ++ e ∷ []))) (reaches-one w e) (subst (HoldersAreFew r) last
-    (few-at-first r settings (before ++ e ∷ []) more (subst (λ es. HoldersAreFew r (run (new_world settings) es)) (sym (append-after before (e ∷ []) more)) few)))
+few-at-first : Below → (r : ForeignId) (settings : List Setting) (before more : List WorldEvent) → HoldersAreFew r (run (new_world settings) (before ++ more)) → HoldersAreFew r (run (new_world settings) before)
+few-at-first B r settings before [] few = subst (λ es. HoldersAreFew r (run (new_world settings) es)) (append-none before) few
+few-at-first B r settings before (e ∷ more) few = few-before r w e (all_known settings before) (subst (λ (x : World). AllOf Known x.spaces) last (all_known settings (before ++ e ∷ []))) (B.reach w e) (subst (HoldersAreFew r) last
+    (few-at-first B r settings (before ++ e ∷ []) more (subst (λ es. HoldersAreFew r (run (new_world settings) es)) (sym (append-after before (e ∷ []) more)) few)))
   where
     w : World
     w = run (new_world settings) before
@@ -245,7 +245,7 @@ keeps B r settings kind before (e ∷ more) fine finer lets few I = subst (λ es
     now-fine = fine-more before e fine finer.0
 
     next : Invariant r (run (new_world settings) (before ++ e ∷ []))
-    next = subst (Invariant r) (sym last) (invariant-after B (quiet-of B settings before kind fine) (subst (Quiet settings) last (quiet-of B settings (before ++ e ∷ []) kind now-fine)) (few-at-first r settings before (e ∷ more) few) e lets.0 (reaches-one w e) I)
+    next = subst (Invariant r) (sym last) (invariant-after B (quiet-of B settings before kind fine) e (subst (Quiet settings) last (quiet-of B settings (before ++ e ∷ []) kind now-fine)) (few-at-first B r settings before (e ∷ more) few) lets.0 (B.reach w e) I)
 
 invariant-of : Below → (r : ForeignId) (settings : List Setting) (events : List WorldEvent) → AreOfOneKind settings → NothingFails events → NothingExpires r (new_world settings) events → HoldersAreFew r (run (new_world settings) events) → Invariant r (run (new_world settings) events)
 unfolding run

@@ -1,4 +1,3 @@
-mod ReachLemmas
 mod BetweenLemmas
 mod RequestLemmas
 mod HolderLemmas

@@ -24,10 +24,9 @@ use Rattle.sp_order_laws.proofs.WorldFacts.{Known, at-all}
 use Rattle.sp_answer_laws.specs.Senders.{CallerHolds}
 use Rattle.sp_answer_laws.proofs.WelcomeFrames.{not-dialled}
 use Rattle.sp_answer_laws.proofs.WelcomeLemmas.{Facts, of-there, one-right, went}
-use Rattle.sp_kept_laws.specs.Reaches.{ComesBy, IsFirstTo}
+use Rattle.sp_kept_laws.specs.Reaches.{ComesBy, IsFirstTo, IsSilent}
 use Rattle.sp_held_laws.specs.Lost.{ComesAsCall, IsReferenceTo, NamedStands, FindsObject}
 use Rattle.sp_held_laws.proofs.HolderLemmas.{stands-found}
-use Rattle.sp_held_laws.proofs.ReachLemmas.{IsSilent}
 use Rattle.sp_held_laws.proofs.StandLaws.{Entered, held-by-caller, held-as-result}
 
 -- ---- what frames name

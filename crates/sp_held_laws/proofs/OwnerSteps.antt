@@ -37,16 +37,16 @@ use Rattle.sp_answer_laws.proofs.UnbrokenLaws.{one-either}
 use Rattle.sp_answer_laws.proofs.WelcomeLemmas.{one-some, one-left, one-right}
 use Rattle.sp_kept_laws.specs.Cleans.{is_clean_of, IsOutBelow}
 use Rattle.sp_kept_laws.specs.Granted.{is_granted}
-use Rattle.sp_kept_laws.specs.Reaches.{grown_by, ComesBy, IsFirstTo}
+use Rattle.sp_kept_laws.specs.Reaches.{grown_by, ComesBy, IsFirstTo, IsSilent}
 use Rattle.sp_kept_laws.specs.Steps.{has_entry_for, expires_with, BringsClean}
+use Rattle.sp_kept_laws.proofs.AskedLemmas.{in-flat-of, out-peer, group-peer, among-ids, ids-among, CleanOut, clean-out}
 use Rattle.sp_kept_laws.proofs.CleanLaws.{clean-below}
 use Rattle.sp_held_laws.specs.Entries.{IsDirtyOut}
 use Rattle.sp_held_laws.specs.Premises.{LetsNoneExpire}
 use Rattle.sp_held_laws.proofs.BetweenLemmas.{Between, between-of, frame-from, first-along, ClientRow, client-row}
 use Rattle.sp_held_laws.proofs.ClientSteps.{Gives, Came}
 use Rattle.sp_held_laws.proofs.GivenLaws.{Below, kept-in, opened-by}
-use Rattle.sp_held_laws.proofs.ReachLemmas.{IsSilent}
-use Rattle.sp_held_laws.proofs.RequestLemmas.{in-flat-of, out-peer, group-peer, among-ids, ids-among, dirty-names, CleanOut, clean-out}
+use Rattle.sp_held_laws.proofs.RequestLemmas.{dirty-names}
 use Rattle.sp_held_laws.proofs.StandLaws.{Entered, dirty-stands}
 
 -- ---- frames that come

@@ -9,8 +9,8 @@ use sp_call_laws::laws::{frames_go_their_way, spaces_have_directions};
 use sp_hello_laws::laws::hand_shakes_are_in_table;
 use sp_kept_laws::laws::{
     dirty_calls_are_awaited, dirty_calls_set_entries, entries_stay_until_cleaned,
-    granted_references_stay_secure, only_leases_grant, what_is_held_is_granted,
-    what_is_out_stays_asked,
+    events_reach_one_space, granted_references_stay_secure, only_leases_grant,
+    what_is_held_is_granted, what_is_out_stays_asked,
 };
 use sp_laws::laws::{answers_are_parked, connections_are_opened_once};
 use sp_lease_laws::laws::{calls_are_made_when_due, calls_on_their_way_are_requests};
@@ -53,6 +53,7 @@ pub fn granted_references_have_entries()
     calls_are_made_when_due();
     calls_keep_their_order();
     sequence_numbers_rise();
+    events_reach_one_space();
 }
 
 /// In every such run: as a Lease is on its way that answers a dirty call of a reference to the object, and no
@@ -85,6 +86,7 @@ pub fn leases_come_of_entries()
     calls_are_made_when_due();
     calls_keep_their_order();
     sequence_numbers_rise();
+    events_reach_one_space();
 }
 
 /// In every such run nothing that is held is lost: a reference to the object that a task that has started, a
@@ -118,6 +120,7 @@ pub fn nothing_held_is_lost()
     calls_are_made_when_due();
     calls_keep_their_order();
     sequence_numbers_rise();
+    events_reach_one_space();
 }
 
 /// In every such run the object stands while a Call or a Returned that names it is on its way, or waits for
@@ -151,6 +154,7 @@ pub fn what_is_named_stands()
     calls_are_made_when_due();
     calls_keep_their_order();
     sequence_numbers_rise();
+    events_reach_one_space();
 }
 
 /// In every such run each Call that came to the owner of the object, with the object as its target, found it
@@ -183,10 +187,11 @@ pub fn calls_find_their_objects()
     calls_are_made_when_due();
     calls_keep_their_order();
     sequence_numbers_rise();
+    events_reach_one_space();
 }
 
 /// A run of three spaces meets the premises of these laws: a reference passes in it from one space through
-/// another to the third, where a task holds it.
+/// another to the third, where it is held.
 pub fn a_held_reference_is_passed_on()
     ensures { PassesUnlost }
 {

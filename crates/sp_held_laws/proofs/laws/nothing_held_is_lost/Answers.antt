@@ -30,4 +30,5 @@ returns c = HeldLaws.nothing_held_is_lost (record {
   due = c.calls_are_made_when_due.ensures;
   order = c.calls_keep_their_order.ensures;
   sequences = c.sequence_numbers_rise.ensures;
+  reach = c.events_reach_one_space.ensures;
 })
