@@ -75,7 +75,7 @@ among-times r (x ∷ xs) e = pick (is_same r x) e (times-cons r x xs) (among-tim
     pick false e f rest = let a : times_in r (x ∷ xs) ≡ 0 + times_in r xs = f in let b : 1 ≤ times_in r xs = rest e in omega arith
 
 -- a request that names the reference in calls of a kind and number counts
-counts-naming : (dirty : Bool) (r : ForeignId) (call : ℕ) (group : Group) (q : Request) (rs : List Request) → IsOneOf q rs → q.asked ≡ Tells call group → tells_of dirty (Tells call group) ≡ true → names_ref r group ≡ true → 1 ≤ calls_naming dirty call r rs
+pub counts-naming : (dirty : Bool) (r : ForeignId) (call : ℕ) (group : Group) (q : Request) (rs : List Request) → IsOneOf q rs → q.asked ≡ Tells call group → tells_of dirty (Tells call group) ≡ true → names_ref r group ≡ true → 1 ≤ calls_naming dirty call r rs
 counts-naming dirty r call group q rs there asked kind names =
     let a : names_in dirty call r q.asked ≤ calls_naming dirty call r rs = one-total (λ (x : Request). names_in dirty call r x.asked) q rs there in
     let b : 1 ≤ names_in dirty call r (Tells call group) = by (call == call) (tells_of dirty (Tells call group)) (eq-eqb call call refl) kind in
@@ -114,7 +114,7 @@ clean-first {r = r} {s = s} K k call group q made there asked clean = by (K.amon
 
 -- ---- which went out first
 
-pair-order : (rs : List Request) (x y : Request) → AllPairs rs → IsOneOf x rs → IsOneOf y rs → (x ≡ y) ⊎ (StandInOrder x y ⊎ StandInOrder y x)
+pub pair-order : (rs : List Request) (x y : Request) → AllPairs rs → IsOneOf x rs → IsOneOf y rs → (x ≡ y) ⊎ (StandInOrder x y ⊎ StandInOrder y x)
 pair-order [] x y a i j = absurd i
 pair-order (q ∷ rs) x y a (inl e) (inl f) = inl (e ∙ sym f)
 pair-order (q ∷ rs) x y a (inl e) (inr j) = inr (inl (subst (λ (z : Request). StandInOrder z y) (sym e) (one-of (StandInOrder q) rs y a.0 j)))

@@ -1,16 +1,17 @@
-mod GrownRules
-mod GrantLemmas
-mod GrownFrames
-mod ParkedLemmas
-mod FreeLemmas
-mod GrantRules
-mod SettleLemmas
-mod DueLemmas
-mod GrantLaws
-mod RequestRules
-mod NewGrants
-mod CleanLaws
-mod StepLaws
-mod EntryLaws
-mod ReachLaws
-mod SecureLaws
+pub mod GrownRules
+pub mod GrantLemmas
+pub mod GrownFrames
+pub mod ParkedLemmas
+pub mod FreeLemmas
+pub mod GrantRules
+pub mod SettleLemmas
+pub mod DueLemmas
+pub mod GrantLaws
+pub mod RequestRules
+pub mod NewGrants
+pub mod CleanLaws
+pub mod StepLaws
+pub mod EntryLaws
+pub mod ReachLaws
+pub mod AskedLemmas
+pub mod SecureLaws

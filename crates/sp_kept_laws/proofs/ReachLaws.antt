@@ -15,7 +15,7 @@ use Rattle.sp_rules.specs.State.{task_at}
 use Rattle.sp_rules.specs.Tasks.{Task, Stand, Runs, AsksFor, HasEnded, stand, step}
 use Rattle.sp_rules.specs.Worlds
 use Rattle.sp_rules.specs.Worlds.{World, Space, Pipe, End, Phase, Unopened, Live, Over, WorldEvent, Own, Step, Open, Refuse, Accept, Deliver, ReadFails, WriteFails, side, grown, lent_for, is_own, put, acts, act, take_event, after}
-use Rattle.sp_kept_laws.specs.Reaches.{grown_by, AreTakenBy, ComesBy, ReachesOne, EventsReachOneSpace}
+use Rattle.sp_kept_laws.specs.Reaches.{grown_by, AreTakenBy, ComesBy, AreAlone, ReachesOne, EventsReachOneSpace}
 
 -- ---- rows
 
@@ -29,7 +29,7 @@ at-none n [] = refl
 at-none zero (x ∷ xs) = refl
 at-none {A} (suc n) (x ∷ xs) = ap (λ (l : List A). x ∷ l) (at-none n xs)
 
-at-row : {A : Type 0} (f : A → A) (n : ℕ) (xs : List A) (x : A) → slice_get xs n ≡ Some x → slice_get (at_index f n xs) n ≡ Some (f x)
+pub at-row : {A : Type 0} (f : A → A) (n : ℕ) (xs : List A) (x : A) → slice_get xs n ≡ Some x → slice_get (at_index f n xs) n ≡ Some (f x)
 at-row f n [] x e = absurd (Rattle.sp_rules.proofs.AllLemmas.some-none x (sym e))
 at-row {A} f zero (y ∷ xs) x e = ap {A = A} {B = Option A} (λ z. Some (f z)) (Rattle.sp_rules.proofs.OwnLemmas.some-same e)
 at-row f (suc n) (y ∷ xs) x e = at-row f n xs x e
@@ -95,12 +95,23 @@ acts-none : (before : World) (i : ℕ) (e : Event) (es : List Event) (r : World)
 unfolding acts
 acts-none before i e es r none = ap (λ o. (with_some o before (λ s. with_some (refusal s.setting (lent_for e) s.state e) (acts before i es (take_event i e s r)) (λ why. record before { refused = Some why }))).spaces) none
 
+-- A space takes events, and no other changes, from the one world to the other.
+record Reaches (w : World) (e : WorldEvent) (v : World) : Type 0 where
+  space : ℕ
+  row : Space
+  events : List Event
+  there : slice_get w.spaces space ≡ Some row
+  spaces : v.spaces ≡ at_index (grown_by events) space w.spaces
+  taken : AreTakenBy events row
+  comes : AllOf (ComesBy w e space) events
+  alone : AreAlone events
+
 -- so of events in a world with the same spaces
 abbrev Reached : World → WorldEvent → World → Type 0
-Reached w e v = (v.spaces ≡ w.spaces) ⊎ ((i : ℕ) × ((row : Space) × ((es : List Event) × ((slice_get w.spaces i ≡ Some row) × ((v.spaces ≡ at_index (grown_by es) i w.spaces) × (AreTakenBy es row × AllOf (ComesBy w e i) es))))))
+Reached w e v = (v.spaces ≡ w.spaces) ⊎ Reaches w e v
 
-reached : (w : World) (e : WorldEvent) (before : World) (i : ℕ) (d : Event) (ds : List Event) (r : World) → before.spaces ≡ w.spaces → r.spaces ≡ w.spaces → AllOf (ComesBy w e i) (d ∷ ds) → Reached w e (acts before i (d ∷ ds) r)
-reached w e before i d ds r same there comes = by (slice_get r.spaces i) refl
+reached : (w : World) (e : WorldEvent) (before : World) (i : ℕ) (d : Event) (ds : List Event) (r : World) → before.spaces ≡ w.spaces → r.spaces ≡ w.spaces → AllOf (ComesBy w e i) (d ∷ ds) → AreAlone (d ∷ ds) → Reached w e (acts before i (d ∷ ds) r)
+reached w e before i d ds r same there comes alone = by (slice_get r.spaces i) refl
   where
     by : (o : Option Space) → slice_get r.spaces i ≡ o → Reached w e (acts before i (d ∷ ds) r)
     by None at = inl (acts-none before i d ds r at ∙ same)
@@ -108,7 +119,7 @@ reached w e before i d ds r same there comes = by (slice_get r.spaces i) refl
       where
         took : ((acts before i (d ∷ ds) r).spaces ≡ before.spaces) ⊎ Took i (d ∷ ds) r.spaces (acts before i (d ∷ ds) r).spaces → Reached w e (acts before i (d ∷ ds) r)
         took (inl k) = inl (k ∙ same)
-        took (inr k) = inr (i, (k.1.0, (d ∷ ds, (subst (λ xs. slice_get xs i ≡ Some k.1.0) there k.1.1.0, (k.0 ∙ ap (at_index (grown_by (d ∷ ds)) i) there, (k.1.1.1, comes))))))
+        took (inr k) = inr (record { space = i; row = k.1.0; events = d ∷ ds; there = subst (λ xs. slice_get xs i ≡ Some k.1.0) there k.1.1.0; spaces = k.0 ∙ ap (at_index (grown_by (d ∷ ds)) i) there; taken = k.1.1.1; comes = comes; alone = alone })
 
 -- ---- the events of a world
 
@@ -144,6 +155,9 @@ own-comes w i (Parked task k) e = λ own. refl
 own-comes w i (GivenBack task k) e = λ own. refl
 own-comes w i (Finished task k) e = λ own. refl
 
+by-itself : (d : Event) → AreAlone (d ∷ [])
+by-itself d = inl (d, refl)
+
 none-own : {A : Type 0} → false ≡ true → A
 none-own e = absurd (true≢false (sym e))
 
@@ -153,10 +167,10 @@ step-reached w i id = some-reached w (Step i id) (Cleared w) (slice_get w.spaces
     if-reached w (Step i id) t.waits _ _ (λ x. inl refl) (λ x. does t.task (stand t.task))))
   where
     one : (d : Event) → ComesBy w (Step i id) i d → Reached w (Step i id) (acts (Cleared w) i (d ∷ []) (Cleared w))
-    one d c = reached w (Step i id) (Cleared w) i d [] (Cleared w) refl refl (c, tt)
+    one d c = reached w (Step i id) (Cleared w) i d [] (Cleared w) refl refl (c, tt) (by-itself d)
 
     stored : (op : Op) → Reached w (Step i id) (acts (Cleared w) i (Committed id 0 op ∷ GivenBack id 0 ∷ []) (Cleared w))
-    stored op = reached w (Step i id) (Cleared w) i (Committed id 0 op) (GivenBack id 0 ∷ []) (Cleared w) refl refl (none-own, (none-own, tt))
+    stored op = reached w (Step i id) (Cleared w) i (Committed id 0 op) (GivenBack id 0 ∷ []) (Cleared w) refl refl (none-own, (none-own, tt)) (inr (refl, (refl, tt)))
 
     ends : (over : Bool) → Reached w (Step i id) (acts (Cleared w) i (Worlds.events_after id over) (Cleared w))
     ends true = one (Finished id 1) none-own
@@ -176,8 +190,8 @@ deliver-reached w conn to = some-reached w (Deliver conn to) (Cleared w) (slice_
     (λ x. first p at (Worlds.is_ended (side (Worlds.other to) p).phase) (side to p).queue refl) (λ x. inl refl))
   where
     first : (p : Pipe) → slice_get w.pipes conn ≡ Some p → (over : Bool) (ms : List Message) → (side to p).queue ≡ ms → Reached w (Deliver conn to) (Worlds.deliver_first conn to (Cleared w) (side to p).space over ms)
-    first p at over (m ∷ ms) e = reached w (Deliver conn to) (Cleared w) (side to p).space (Received conn m) [] _ refl refl (record { pipe = p; end = to; rest = ms; there = at; space = refl; queue = e }, tt)
-    first p at true [] e = reached w (Deliver conn to) (Cleared w) (side to p).space (Closed conn) [] _ refl refl (none-own, tt)
+    first p at over (m ∷ ms) e = reached w (Deliver conn to) (Cleared w) (side to p).space (Received conn m) [] _ refl refl (record { pipe = p; end = to; rest = ms; there = at; space = refl; queue = e }, tt) (by-itself (Received conn m))
+    first p at true [] e = reached w (Deliver conn to) (Cleared w) (side to p).space (Closed conn) [] _ refl refl (none-own, tt) (by-itself (Closed conn))
     first p at false [] e = inl refl
 
 accept-reached : (w : World) (conn : ℕ) → Reached w (Accept conn) (Worlds.accept conn (Cleared w))
@@ -185,23 +199,23 @@ unfolding Worlds.accept
 accept-reached w conn = some-reached w (Accept conn) (Cleared w) (slice_get w.pipes conn) _ (inl refl) (λ p at. by p p.accepter.phase)
   where
     by : (p : Pipe) (phase : Phase) → Reached w (Accept conn) (Worlds.accept_at conn (Cleared w) p.accepter.space phase)
-    by p Unopened = reached w (Accept conn) (Cleared w) p.accepter.space (Opened conn None) [] _ refl refl (none-own, tt)
+    by p Unopened = reached w (Accept conn) (Cleared w) p.accepter.space (Opened conn None) [] _ refl refl (none-own, tt) (by-itself (Opened conn None))
     by p Live = inl refl
     by p Over = inl refl
 
 fails-reached : (w : World) (conn : ℕ) (end : End) → Reached w (ReadFails conn end) (Worlds.read_fails conn end (Cleared w))
 unfolding Worlds.read_fails
 fails-reached w conn end = some-reached w (ReadFails conn end) (Cleared w) (slice_get w.pipes conn) _ (inl refl) (λ p at. if-reached w (ReadFails conn end) (Worlds.is_live (side end p).phase) _ _
-    (λ x. reached w (ReadFails conn end) (Cleared w) (side end p).space (ReadFailed conn) [] _ refl refl (none-own, tt)) (λ x. inl refl))
+    (λ x. reached w (ReadFails conn end) (Cleared w) (side end p).space (ReadFailed conn) [] _ refl refl (none-own, tt) (by-itself (ReadFailed conn))) (λ x. inl refl))
 
 writes-reached : (w : World) (conn : ℕ) (end : End) (unsent : ℕ) → Reached w (WriteFails conn end unsent) (Worlds.write_fails conn end unsent (Cleared w))
 unfolding Worlds.write_fails
 writes-reached w conn end unsent = some-reached w (WriteFails conn end unsent) (Cleared w) (slice_get w.pipes conn) _ (inl refl) (λ p at. if-reached w (WriteFails conn end unsent) (Worlds.is_live (side end p).phase) _ _
-    (λ x. reached w (WriteFails conn end unsent) (Cleared w) (side end p).space (WriteFailed conn (Worlds.lost unsent end p)) [] _ refl refl (none-own, tt)) (λ x. inl refl))
+    (λ x. reached w (WriteFails conn end unsent) (Cleared w) (side end p).space (WriteFailed conn (Worlds.lost unsent end p)) [] _ refl refl (none-own, tt) (by-itself (WriteFailed conn (Worlds.lost unsent end p)))) (λ x. inl refl))
 
 open-reached : (w : World) (a b : ℕ) → Reached w (Open a b) (Worlds.open_pipe a b (Cleared w))
 unfolding Worlds.open_pipe
-open-reached w a b = if-reached w (Open a b) (Worlds.is_asked a b (Cleared w)) _ _ (λ x. reached w (Open a b) (Cleared w) a (Opened (length w.pipes) (Worlds.id_at b (Cleared w))) [] _ refl refl (none-own, tt)) (λ x. inl refl)
+open-reached w a b = if-reached w (Open a b) (Worlds.is_asked a b (Cleared w)) _ _ (λ x. reached w (Open a b) (Cleared w) a (Opened (length w.pipes) (Worlds.id_at b (Cleared w))) [] _ refl refl (none-own, tt) (by-itself (Opened (length w.pipes) (Worlds.id_at b (Cleared w))))) (λ x. inl refl)
 
 refuse-reached : (w : World) (a b : ℕ) → Reached w (Refuse a b) (Worlds.refuse a b (Cleared w))
 unfolding Worlds.refuse
@@ -209,10 +223,10 @@ refuse-reached w a b = if-reached w (Refuse a b) (Worlds.is_asked a b (Cleared w
   where
     by : (o : Option Uuid) → Reached w (Refuse a b) (Worlds.refuse_to (Cleared w) a o (record (Cleared w) { asked = Worlds.without_pair a b w.asked }))
     by None = inl refl
-    by (Some peer) = reached w (Refuse a b) (Cleared w) a (Refused peer) [] _ refl refl (none-own, tt)
+    by (Some peer) = reached w (Refuse a b) (Cleared w) a (Refused peer) [] _ refl refl (none-own, tt) (by-itself (Refused peer))
 
 all-reached : (w : World) (e : WorldEvent) → Reached w e (Worlds.happens e (Cleared w))
-all-reached w (Own i d) = if-reached w (Own i d) (is_own d) _ _ (λ own. reached w (Own i d) (Cleared w) i d [] (Cleared w) refl refl (own-comes w i d own, tt)) (λ x. inl refl)
+all-reached w (Own i d) = if-reached w (Own i d) (is_own d) _ _ (λ own. reached w (Own i d) (Cleared w) i d [] (Cleared w) refl refl (own-comes w i d own, tt) (by-itself d)) (λ x. inl refl)
 all-reached w (Step i task) = step-reached w i task
 all-reached w (Open a b) = open-reached w a b
 all-reached w (Refuse a b) = refuse-reached w a b
@@ -227,4 +241,4 @@ events_reach_one_space w e = by (all-reached w e)
   where
     by : Reached w e (Worlds.happens e (Cleared w)) → ((Worlds.happens e (Cleared w)).spaces ≡ w.spaces) ⊎ ReachesOne w e
     by (inl k) = inl k
-    by (inr k) = inr (record { space = k.0; row = k.1.0; events = k.1.1.0; there = k.1.1.1.0; spaces = k.1.1.1.1.0; taken = k.1.1.1.1.1.0; comes = k.1.1.1.1.1.1 })
+    by (inr k) = inr (record { space = k.space; row = k.row; events = k.events; there = k.there; spaces = k.spaces; taken = k.taken; comes = k.comes; alone = k.alone })

@@ -79,9 +79,9 @@ pub fn dirty_calls_set_entries()
     ensures { DirtyCallsSetEntries }
 {}
 
-/// With each event of a world no space changes, or one space alone does: it takes some events one after the
-/// other, none of which it refuses. A frame that comes to it is the first in the queue of a connection
-/// toward it, and an event of its own is the world's.
+/// With each event of a world no space changes, or one space alone does: it takes one event, or some one
+/// after the other that answer nothing, none of which it refuses. A frame that comes to it is the first in
+/// the queue of a connection toward it, and an event of its own is the world's.
 pub fn events_reach_one_space()
     ensures { EventsReachOneSpace }
 {}

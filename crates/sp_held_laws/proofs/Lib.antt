@@ -1,0 +1,10 @@
+mod BetweenLemmas
+mod RequestLemmas
+mod HolderLemmas
+mod GivenLaws
+mod StandLaws
+mod NamedLaws
+mod ClientSteps
+mod OwnerSteps
+mod HeldLaws
+mod PassesPlays

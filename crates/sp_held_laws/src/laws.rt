@@ -1,0 +1,199 @@
+//! The laws of what is held, and so is not lost.
+
+ghost use Rattle.sp_held_laws.specs.Entries.{GrantedReferencesHaveEntries, LeasesComeOfEntries};
+ghost use Rattle.sp_held_laws.specs.Lost.{CallsFindTheirObjects, NothingHeldIsLost, WhatIsNamedStands};
+ghost use Rattle.sp_held_laws.specs.Passes.{PassesUnlost};
+
+use sp_answer_laws::laws::{calls_come_in_time, calls_keep_their_order, senders_hold};
+use sp_call_laws::laws::{frames_go_their_way, spaces_have_directions};
+use sp_hello_laws::laws::hand_shakes_are_in_table;
+use sp_kept_laws::laws::{
+    dirty_calls_are_awaited, dirty_calls_set_entries, entries_stay_until_cleaned,
+    events_reach_one_space, granted_references_stay_secure, only_leases_grant,
+    what_is_held_is_granted, what_is_out_stays_asked,
+};
+use sp_laws::laws::{answers_are_parked, connections_are_opened_once};
+use sp_lease_laws::laws::{calls_are_made_when_due, calls_on_their_way_are_requests};
+use sp_order_laws::laws::{
+    calls_come_above_the_last, each_call_stands_once, each_group_is_answered_once,
+    each_result_is_acknowledged_once, frames_are_answered_once, sequence_numbers_rise,
+};
+use sp_world_laws::laws::{parked_results_came, what_comes_was_sent};
+use sp_world_runs::laws::a_reference_passes_where_nothing_fails;
+
+/// In every run of every world of spaces that have ids of their own and one digest, in which no Dial is
+/// refused, no read or write fails and no entry for an object expires: of each reference to the object that
+/// is granted to a client the object's owner has an entry of the client. This holds as long as a holder of
+/// the reference came fewer than 2^64 - 1 times in each space, here and in the laws below.
+pub fn granted_references_have_entries()
+    ensures { GrantedReferencesHaveEntries }
+{
+    frames_go_their_way();
+    parked_results_came();
+    spaces_have_directions();
+    what_comes_was_sent();
+    hand_shakes_are_in_table();
+    calls_come_above_the_last();
+    each_call_stands_once();
+    each_group_is_answered_once();
+    each_result_is_acknowledged_once();
+    frames_are_answered_once();
+    answers_are_parked();
+    connections_are_opened_once();
+    what_is_held_is_granted();
+    dirty_calls_are_awaited();
+    granted_references_stay_secure();
+    only_leases_grant();
+    what_is_out_stays_asked();
+    entries_stay_until_cleaned();
+    dirty_calls_set_entries();
+    senders_hold();
+    calls_come_in_time();
+    calls_on_their_way_are_requests();
+    calls_are_made_when_due();
+    calls_keep_their_order();
+    sequence_numbers_rise();
+    events_reach_one_space();
+}
+
+/// In every such run: as a Lease is on its way that answers a dirty call of a reference to the object, and no
+/// clean call has overtaken that call, the owner has an entry of the client for the object.
+pub fn leases_come_of_entries()
+    ensures { LeasesComeOfEntries }
+{
+    frames_go_their_way();
+    parked_results_came();
+    spaces_have_directions();
+    what_comes_was_sent();
+    hand_shakes_are_in_table();
+    calls_come_above_the_last();
+    each_call_stands_once();
+    each_group_is_answered_once();
+    each_result_is_acknowledged_once();
+    frames_are_answered_once();
+    answers_are_parked();
+    connections_are_opened_once();
+    what_is_held_is_granted();
+    dirty_calls_are_awaited();
+    granted_references_stay_secure();
+    only_leases_grant();
+    what_is_out_stays_asked();
+    entries_stay_until_cleaned();
+    dirty_calls_set_entries();
+    senders_hold();
+    calls_come_in_time();
+    calls_on_their_way_are_requests();
+    calls_are_made_when_due();
+    calls_keep_their_order();
+    sequence_numbers_rise();
+    events_reach_one_space();
+}
+
+/// In every such run nothing that is held is lost: a reference to the object that a task that has started, a
+/// field of a standing object or a held result of another space has names an object that stands, and for
+/// which its owner has an entry of that space. So no Sweep takes it.
+pub fn nothing_held_is_lost()
+    ensures { NothingHeldIsLost }
+{
+    frames_go_their_way();
+    parked_results_came();
+    spaces_have_directions();
+    what_comes_was_sent();
+    hand_shakes_are_in_table();
+    calls_come_above_the_last();
+    each_call_stands_once();
+    each_group_is_answered_once();
+    each_result_is_acknowledged_once();
+    frames_are_answered_once();
+    answers_are_parked();
+    connections_are_opened_once();
+    what_is_held_is_granted();
+    dirty_calls_are_awaited();
+    granted_references_stay_secure();
+    only_leases_grant();
+    what_is_out_stays_asked();
+    entries_stay_until_cleaned();
+    dirty_calls_set_entries();
+    senders_hold();
+    calls_come_in_time();
+    calls_on_their_way_are_requests();
+    calls_are_made_when_due();
+    calls_keep_their_order();
+    sequence_numbers_rise();
+    events_reach_one_space();
+}
+
+/// In every such run the object stands while a Call or a Returned that names it is on its way, or waits for
+/// leases where it came: as the target of the call, or by a reference among its arguments or as the result,
+/// in whatever spaces.
+pub fn what_is_named_stands()
+    ensures { WhatIsNamedStands }
+{
+    frames_go_their_way();
+    parked_results_came();
+    spaces_have_directions();
+    what_comes_was_sent();
+    hand_shakes_are_in_table();
+    calls_come_above_the_last();
+    each_call_stands_once();
+    each_group_is_answered_once();
+    each_result_is_acknowledged_once();
+    frames_are_answered_once();
+    answers_are_parked();
+    connections_are_opened_once();
+    what_is_held_is_granted();
+    dirty_calls_are_awaited();
+    granted_references_stay_secure();
+    only_leases_grant();
+    what_is_out_stays_asked();
+    entries_stay_until_cleaned();
+    dirty_calls_set_entries();
+    senders_hold();
+    calls_come_in_time();
+    calls_on_their_way_are_requests();
+    calls_are_made_when_due();
+    calls_keep_their_order();
+    sequence_numbers_rise();
+    events_reach_one_space();
+}
+
+/// In every such run each Call that came to the owner of the object, with the object as its target, found it
+/// there: none was answered that there is no such object.
+pub fn calls_find_their_objects()
+    ensures { CallsFindTheirObjects }
+{
+    frames_go_their_way();
+    parked_results_came();
+    spaces_have_directions();
+    what_comes_was_sent();
+    hand_shakes_are_in_table();
+    calls_come_above_the_last();
+    each_call_stands_once();
+    each_group_is_answered_once();
+    each_result_is_acknowledged_once();
+    frames_are_answered_once();
+    answers_are_parked();
+    connections_are_opened_once();
+    what_is_held_is_granted();
+    dirty_calls_are_awaited();
+    granted_references_stay_secure();
+    only_leases_grant();
+    what_is_out_stays_asked();
+    entries_stay_until_cleaned();
+    dirty_calls_set_entries();
+    senders_hold();
+    calls_come_in_time();
+    calls_on_their_way_are_requests();
+    calls_are_made_when_due();
+    calls_keep_their_order();
+    sequence_numbers_rise();
+    events_reach_one_space();
+}
+
+/// A run of three spaces meets the premises of these laws: a reference passes in it from one space through
+/// another to the third, where it is held.
+pub fn a_held_reference_is_passed_on()
+    ensures { PassesUnlost }
+{
+    a_reference_passes_where_nothing_fails();
+}
