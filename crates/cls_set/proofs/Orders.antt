@@ -20,7 +20,7 @@ use Rattle.cls_order.specs.Classes.{name_cmp}
 use Rattle.cls_set.specs.declared.remote.MemberKind.{MemberKind}
 use Rattle.cls_set.specs.declared.remote.MemberKind.TheVariants.{Methods}
 use Rattle.cls_set.specs.Orders.{index_cmp, is_below, is_key, is_short_name, key_at, key_cmp, key_in, keys_of, longer}
-use Rattle.cls_set.specs.Orders.{method_key, shorter, HaveOrders, IsOrder, IsPlace, Key}
+use Rattle.cls_set.specs.Orders.{method_key, shorter, HaveOrders, IsOrder, IsLowerBound, Key}
 use Rattle.cls_set.specs.Rules.{Clashes}
 use Rattle.cls_order.proofs.Hierarchy.{same_read, same_some, true_false}
 use Rattle.cls_order.proofs.Names.{same_test}
@@ -123,39 +123,39 @@ module _ (keys : List Key) (order : List ℕ) (o : IsOrder keys order) (key : Ke
   not_below : (k : ℕ) → key_at keys k ≡ key → is_below keys key k ≡ true → ⊥
   not_below k same below = true_false (sym below ∙ ap is_lt (key_itself (key_at keys k) key same))
 
-  module _ (place : ℕ) (parts : IsPlace keys order key place) where
-    -- in the order, what has the key stands from the place on
+  module _ (start : ℕ) (parts : IsLowerBound keys order key start) where
+    -- in the order, what has the key stands from the start on
     pub stands_from : (i : ℕ) → i < length keys → key_at keys i ≡ key
-        → (p : ℕ) × (place ≤ p) × (p < length order) × (get_or order p i ≡ i)
+        → (p : ℕ) × (start ≤ p) × (p < length order) × (get_or order p i ≡ i)
     stands_from i h same =
         let at = o.each i h in
-        elim (before at.0 place) [
+        elim (before at.0 start) [
           | inl less ↦
               let below = parts.0 at.0 i (omega arith) less in
               absurd (not_below i same (subst (λ k. is_below keys key k ≡ true) at.2 below))
           | inr more ↦ (at.0, more, at.1, at.2)
         ]
 
-    -- what stands at the place has the key, if any member has
+    -- what stands at the start has the key, if any member has
     pub here : (i d : ℕ) → i < length keys → key_at keys i ≡ key
-        → (place < length order) × (key_at keys (get_or order place d) ≡ key)
+        → (start < length order) × (key_at keys (get_or order start d) ≡ key)
     here i d h same =
         let at = stands_from i h same in
         let more = at.1 in
         let inside = at.2 in
-        let within : place < length order = omega (arith, more, inside) in
-        let past = parts.1 place i (omega arith) within in
-        let found = at_key place at.0 i more inside past (ap (key_at keys) at.3 ∙ same) in
-        (within, ap (key_at keys) (same_read order place d i within) ∙ found)
+        let within : start < length order = omega (arith, more, inside) in
+        let past = parts.1 start i (omega arith) within in
+        let found = at_key start at.0 i more inside past (ap (key_at keys) at.3 ∙ same) in
+        (within, ap (key_at keys) (same_read order start d i within) ∙ found)
 
     -- and no member before it
-    pub first_here : (i d : ℕ) → place < length order → key_at keys (get_or order place d) ≡ key
-        → i < get_or order place d → key_at keys i ≡ key → ⊥
+    pub first_here : (i d : ℕ) → start < length order → key_at keys (get_or order start d) ≡ key
+        → i < get_or order start d → key_at keys i ≡ key → ⊥
     first_here i d within found low same =
-        let first = get_or order place d in
-        let few = o.only place d within in
+        let first = get_or order start d in
+        let few = o.only start d within in
         let at = stands_from i (omega (arith, low, few)) same in
-        let up = searchable_from_sorted (index_total keys) (λ k. k) order first o.sorted place at.0 d at.1 at.2 in
+        let up = searchable_from_sorted (index_total keys) (λ k. k) order first o.sorted start at.0 d at.1 at.2 in
         let read : get_or order at.0 d ≡ i = same_read order at.0 d i at.2 ∙ at.3 in
         let one = ap ordering_index (tied_itself (index_total keys) first) in
         let tie = key_itself (key_at keys i) (key_at keys first) (same ∙ sym found) in
@@ -182,26 +182,26 @@ is_itself key = rw ((bytes_eq-Decides key.0 key.0).1 refl, (bytes_eq-Decides key
 read_key : (keys : List Key) (i : ℕ) (d : Key) → i < length keys → key_at keys i ≡ get_or keys i d
 read_key keys i d h = ap key_in (slice_get-get_or keys i d h)
 
--- the search for the first member with a key: it stands at the place, or there is none
-module _ (keys : List Key) (order : List ℕ) (o : IsOrder keys order) (key : Key) (place : ℕ) where
-  module _ (parts : IsPlace keys order key place) where
-    pub found_here : (d : ℕ) → place < length order → is_key key (key_at keys (get_or order place d)) ≡ true
-        → position (is_key key) keys ≡ Some (get_or order place d)
+-- the search for the first member with a key: it stands at the start, or there is none
+module _ (keys : List Key) (order : List ℕ) (o : IsOrder keys order) (key : Key) (start : ℕ) where
+  module _ (parts : IsLowerBound keys order key start) where
+    pub found_here : (d : ℕ) → start < length order → is_key key (key_at keys (get_or order start d)) ≡ true
+        → position (is_key key) keys ≡ Some (get_or order start d)
     found_here d within is =
-        let i = get_or order place d in
-        let few : i < length keys = o.only place d within in
+        let i = get_or order start d in
+        let few : i < length keys = o.only start d within in
         let same = same_key key (key_at keys i) is in
         let at : position_or_len (is_key key) keys ≡ i =
         position_or_len_is (is_key key) keys i key (omega (arith, few))
         (λ k low. false_from_ne_true (is_key key (get_or keys k key)) (λ t.
         let read = read_key keys k key (omega (arith, low, few)) in
-        first_here keys order o key place parts k d within same low (read ∙ same_key key (get_or keys k key) t)))
+        first_here keys order o key start parts k d within same low (read ∙ same_key key (get_or keys k key) t)))
         (λ _. subst (λ x. is_key key x ≡ true) (read_key keys i key few) is)
         in
         rw (at, lt-ltb i (length keys) few) refl
 
     pub none_here : (d : ℕ)
-        → (place < length order → is_key key (key_at keys (get_or order place d)) ≡ true → ⊥)
+        → (start < length order → is_key key (key_at keys (get_or order start d)) ≡ true → ⊥)
         → position (is_key key) keys ≡ None
     none_here d none =
         let n = length keys in
@@ -209,7 +209,7 @@ module _ (keys : List Key) (order : List ℕ) (o : IsOrder keys order) (key : Ke
         position_or_len_is (is_key key) keys n key (omega arith)
         (λ k low. false_from_ne_true (is_key key (get_or keys k key)) (λ t.
         let same = read_key keys k key low ∙ same_key key (get_or keys k key) t in
-        let found = here keys order o key place parts k d low same in
+        let found = here keys order o key start parts k d low same in
         none found.0 (subst (λ x. is_key key x ≡ true) (sym found.1) (is_itself key))))
         (λ h. absurd (omega (arith, h)))
         in
@@ -238,7 +238,7 @@ module _ (lower upper : ClassFile) (order : List ℕ) (o : IsOrder (keys_of Meth
       ∙ (ap (λ (n : List ℕ). (n, m.descriptor)) (sym clash.name)
       ∙ ap (λ (n : List ℕ). (low.name, n)) (sym clash.descriptor))
 
-  pub search_starts : (first : ℕ) → IsPlace keys order (method_key low) first → first ≤ length order
+  pub search_starts : (first : ℕ) → IsLowerBound keys order (method_key low) first → first ≤ length order
       → IsSearching lower upper order low first
   search_starts first parts inside =
       record {

@@ -71,9 +71,9 @@ pub record IsOrder (keys : List Key) (order : List ℕ) : Type 0 where
 abbrev pub is_below : List Key → Key → ℕ → Bool
 is_below keys wanted index = is_lt (key_cmp (key_at keys index) wanted)
 
-abbrev pub IsPlace : List Key → List ℕ → Key → ℕ → Type 0
-IsPlace keys order wanted place =
-    IsPartitionPoint (λ k. is_below keys wanted k ≡ true) (λ k. is_below keys wanted k ≡ false) order place
+abbrev pub IsLowerBound : List Key → List ℕ → Key → ℕ → Type 0
+IsLowerBound keys order wanted start =
+    IsPartitionPoint (λ k. is_below keys wanted k ≡ true) (λ k. is_below keys wanted k ≡ false) order start
 
 -- the index of the first method, and of the first field, of a class with this name and descriptor
 abbrev pub first_method : ClassFile → List ℕ → List ℕ → Option ℕ

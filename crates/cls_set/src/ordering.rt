@@ -4,7 +4,7 @@ ghost use Rattle.std.specs.Prelude.{◌≡◌, ◌<◌, ◌≤◌, IfOk, length}
 ghost use Rattle.std.specs.List.{position};
 ghost use Rattle.cls_order.specs.Entries.{classes_of};
 ghost use Rattle.cls_set.specs.Orders.{index_cmp, is_below, is_key, is_short_name, key_at, key_cmp, keys_of};
-ghost use Rattle.cls_set.specs.Orders.{longer, shorter, HaveOrders, IsOrder, IsPlace};
+ghost use Rattle.cls_set.specs.Orders.{longer, shorter, HaveOrders, IsOrder, IsLowerBound};
 
 use super::remote::MemberKind;
 use cf_reader::{ClassFile, Row};
@@ -81,7 +81,7 @@ fn is_before(file: &ClassFile, kind: MemberKind, index: u16, name: &[u8], descri
 }
 
 // Where in their order those members begin that do not come before this name and descriptor.
-pub(crate) fn place(
+pub(crate) fn lower_bound(
     file: &ClassFile,
     kind: MemberKind,
     order: &[u16],
@@ -90,7 +90,7 @@ pub(crate) fn place(
 ) -> usize
     requires { IsOrder (keys_of kind file.now) order.now }
     ensures within { result ≤ length order.now }
-    ensures place { IsPlace (keys_of kind file.now) order.now (name.now, descriptor.now) result }
+    ensures start { IsLowerBound (keys_of kind file.now) order.now (name.now, descriptor.now) result }
 {
     order.partition_point(|index| is_before(file, kind, *index, name, descriptor))
 }
@@ -113,9 +113,9 @@ pub(crate) fn find_member(
     requires { IsOrder (keys_of kind file.now) order.now }
     ensures { result ≡ position (is_key (name.now, descriptor.now)) (keys_of kind file.now) }
 {
-    let place = place(file, kind, order, name, descriptor);
-    if place < order.len() && is_named(file, kind, order[place], name, descriptor) {
-        Some(usize::from(order[place]))
+    let start = lower_bound(file, kind, order, name, descriptor);
+    if start < order.len() && is_named(file, kind, order[start], name, descriptor) {
+        Some(usize::from(order[start]))
     } else {
         None
     }

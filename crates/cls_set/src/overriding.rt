@@ -11,7 +11,7 @@ ghost use Rattle.cls_set.specs.Orders.{keys_of, HaveOrders, IsOrder};
 ghost use Rattle.cls_set.specs.declared.remote.MemberKind.TheVariants.{Methods};
 ghost use Rattle.cls_set.specs.Rules.{package_name, Clashes, HasPackageAccess, IsSamePackage, MayNotStand, OverridesBadly};
 
-use super::ordering::place;
+use super::ordering::lower_bound;
 use super::remote::MemberKind;
 use cf_reader::{ClassFile, Flags, Method, Row};
 use cls_order::Entry;
@@ -78,7 +78,7 @@ fn clashes_with_one(lower: &ClassFile, upper: &ClassFile, order: &[u16], low: &M
 {
     let methods = upper.methods.as_slice();
     let (name, descriptor) = (low.name.as_bytes(), low.descriptor.as_bytes());
-    let mut next = place(upper, MemberKind::Methods, order, name, descriptor);
+    let mut next = lower_bound(upper, MemberKind::Methods, order, name, descriptor);
     'same: while next < order.len() {
         let high = &methods[usize::from(order[next])];
         if !is_same_member(low, high) {

@@ -1,6 +1,6 @@
 use Rattle.std.proofs.Common.{get_or, ap, sym, subst, ◌∙◌}
 use Rattle.cls_set.specs.declared.remote.MemberKind.TheVariants.{Methods}
-use Rattle.cls_set.specs.Orders.{keys_of, IsPlace}
+use Rattle.cls_set.specs.Orders.{keys_of, IsLowerBound}
 use Rattle.cls_order.proofs.Hierarchy.{true_false}
 use Rattle.cls_set.proofs.Orders.{method_read, search_ends, search_on, search_starts, search_stops}
 use Rattle.cls_set.proofs.overriding.clashes_with_one.Goals as goal
@@ -9,13 +9,13 @@ pub same-init : goal.same-init
 same-init c =
     let keys = keys_of Methods c.args.upper.now in
     let order = c.args.order.now in
-    let first = c.place-next.result in
+    let first = c.lower_bound-next.result in
     let low = c.args.low.now in
     let named =
-    subst (λ n. IsPlace keys order (n, c.as_bytes-descriptor.result.now) first) c.as_bytes-name.ensures c.place-next.ensures.place
+    subst (λ n. IsLowerBound keys order (n, c.as_bytes-descriptor.result.now) first) c.as_bytes-name.ensures c.lower_bound-next.ensures.start
     in
     search_starts c.args.lower.now c.args.upper.now order c.requires low first
-    (subst (λ n. IsPlace keys order (low.name, n) first) c.as_bytes-descriptor.ensures named) c.place-next.ensures.within
+    (subst (λ n. IsLowerBound keys order (low.name, n) first) c.as_bytes-descriptor.ensures named) c.lower_bound-next.ensures.within
 
 pub returns-then-not-is_same_member : goal.returns-then-not-is_same_member
 returns-then-not-is_same_member c =
