@@ -136,8 +136,10 @@ fn numbered(alloc: Global, count: u32) -> Result<Vec<ClassFile>, Fail>
 }
 
 #[test]
-fn classes_that_cannot_be_numbered_are_too_many(rt: HostRuntime) -> Result<(), Fail> {
+fn a_set_has_at_most_4096_classes(rt: HostRuntime) -> Result<(), Fail> {
     let alloc = rt.alloc();
+    let full = ClassSet::build(alloc, numbered(alloc, 4067)?)?;
+    assert_eq!(rt; full.len(), 4096);
     let files = numbered(alloc, 4068)?;
     refused(&rt, ClassSet::build(alloc, files), 38, b"T4067");
     Ok(())
