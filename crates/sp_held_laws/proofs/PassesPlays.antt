@@ -57,38 +57,59 @@ no-entry : {A : Type 0} → false ≡ true → A
 no-entry e = absurd (true≢false (sym e))
 
 -- a client with an entry is one of them
-has-dirtied : (h : List owner.Call) (c : Uuid) (o : ObjId) → is_some (owner.remembered_of h c o).expires ≡ true → IsOneOf c (dirtied h)
+has-dirtied : (h : List owner.Call) (c : Uuid) (o : ObjId) → is_some (owner.remembered_of h c o).expires ≡ true
+    → IsOneOf c (dirtied h)
 unfolding dirtied
 has-dirtied [] c o e = no-entry e
-has-dirtied (owner.Dirty client names number period ∷ h) c o e = pick (owner.is_told client names c o) refl e (has-dirtied h c o)
+has-dirtied (owner.Dirty client names number period ∷ h) c o e =
+    pick (owner.is_told client names c o) refl e (has-dirtied h c o)
   where
-    pick : (b : Bool) → owner.is_told client names c o ≡ b → is_some (if b then after_dirty number (owner.moment_of h + owner.granted period) (owner.remembered_of h c o) else owner.remembered_of h c o).expires ≡ true
-        → (is_some (owner.remembered_of h c o).expires ≡ true → IsOneOf c (dirtied h)) → IsOneOf c (client ∷ dirtied h)
+    pick : (b : Bool) → owner.is_told client names c o ≡ b
+        → is_some (if b then after_dirty number (owner.moment_of h + owner.granted period) (owner.remembered_of h c o)
+        else owner.remembered_of h c o).expires ≡ true
+        → (is_some (owner.remembered_of h c o).expires ≡ true → IsOneOf c (dirtied h))
+        → IsOneOf c (client ∷ dirtied h)
     pick true told f rest = inl (sym ((bytes_eq-Decides client c).0 (and-left (bytes_eq client c) _ told)))
     pick false told f rest = inr (rest f)
-has-dirtied (owner.Clean client names number strong ∷ h) c o e = pick (owner.is_told client names c o) e (has-dirtied h c o)
+has-dirtied (owner.Clean client names number strong ∷ h) c o e =
+    pick (owner.is_told client names c o) e (has-dirtied h c o)
   where
-    late : (b : Bool) → is_some (if b then owner.remembered_of h c o else record { number = (if strong || (owner.remembered_of h c o).strong then Some number else None); strong = strong || (owner.remembered_of h c o).strong; expires = None }).expires ≡ true
+    late : (b : Bool) → is_some (if b then owner.remembered_of h c o else record {
+      number = (if strong || (owner.remembered_of h c o).strong then Some number else None);
+      strong =
+          strong || (owner.remembered_of h c o).strong;
+      expires = None;
+    }).expires ≡ true
         → (is_some (owner.remembered_of h c o).expires ≡ true → IsOneOf c (dirtied h)) → IsOneOf c (dirtied h)
     late true f rest = rest f
     late false f rest = no-entry f
 
-    pick : (b : Bool) → is_some (if b then after_clean number strong (owner.remembered_of h c o) else owner.remembered_of h c o).expires ≡ true → (is_some (owner.remembered_of h c o).expires ≡ true → IsOneOf c (dirtied h)) → IsOneOf c (dirtied h)
+    pick : (b : Bool) → is_some (if b then after_clean number strong (owner.remembered_of h c o) else
+        owner.remembered_of h c o).expires ≡ true
+        → (is_some (owner.remembered_of h c o).expires ≡ true → IsOneOf c (dirtied h)) → IsOneOf c (dirtied h)
     pick true f rest = late (is_late (owner.remembered_of h c o) number) f rest
     pick false f rest = rest f
 has-dirtied (owner.Moment moment ∷ h) c o e = pick (nat_lt moment (owner.moment_of h)) e (has-dirtied h c o)
   where
-    gone : (b : Bool) → is_some (if b then record { number = (if (owner.remembered_of h c o).strong then (owner.remembered_of h c o).number else None); strong = (owner.remembered_of h c o).strong; expires = None } else owner.remembered_of h c o).expires ≡ true
+    gone : (b : Bool) → is_some (if b then record {
+      number = (if (owner.remembered_of h c o).strong then (owner.remembered_of h c o).number else None);
+      strong =
+          (owner.remembered_of h c o).strong;
+      expires = None;
+    } else owner.remembered_of h c o).expires ≡ true
         → (is_some (owner.remembered_of h c o).expires ≡ true → IsOneOf c (dirtied h)) → IsOneOf c (dirtied h)
     gone true f rest = no-entry f
     gone false f rest = rest f
 
-    pick : (b : Bool) → is_some (if b then owner.remembered_of h c o else after_moment moment (owner.remembered_of h c o)).expires ≡ true → (is_some (owner.remembered_of h c o).expires ≡ true → IsOneOf c (dirtied h)) → IsOneOf c (dirtied h)
+    pick : (b : Bool) → is_some (if b then owner.remembered_of h c o else after_moment moment
+        (owner.remembered_of h c o)).expires ≡ true
+        → (is_some (owner.remembered_of h c o).expires ≡ true → IsOneOf c (dirtied h)) → IsOneOf c (dirtied h)
     pick true f rest = rest f
     pick false f rest = gone (is_gone moment (owner.remembered_of h c o).expires) f rest
 has-dirtied (owner.Forget object ∷ h) c o e = pick (objects.is_same object o) e (has-dirtied h c o)
   where
-    pick : (b : Bool) → is_some (if b then blank else owner.remembered_of h c o).expires ≡ true → (is_some (owner.remembered_of h c o).expires ≡ true → IsOneOf c (dirtied h)) → IsOneOf c (dirtied h)
+    pick : (b : Bool) → is_some (if b then blank else owner.remembered_of h c o).expires ≡ true
+        → (is_some (owner.remembered_of h c o).expires ≡ true → IsOneOf c (dirtied h)) → IsOneOf c (dirtied h)
     pick true f rest = no-entry f
     pick false f rest = rest f
 
@@ -98,7 +119,8 @@ lasts : ℕ → ObjId → List owner.Call → Bool
 lasts moment o h = list_all (λ (c : Uuid). not (is_gone moment (owner.remembered_of h c o).expires)) (dirtied h)
 
 lasts_at : ForeignId → World → WorldEvent → Bool
-lasts_at r w (Own i (Moment moment)) = with_some (slice_get w.spaces i) true (λ (b : Space). lasts moment r.id b.state.owner.entries)
+lasts_at r w (Own i (Moment moment)) =
+    with_some (slice_get w.spaces i) true (λ (b : Space). lasts moment r.id b.state.owner.entries)
 lasts_at r w _ = true
 
 all_last : ForeignId → World → List WorldEvent → Bool
@@ -111,9 +133,14 @@ is-false false f = refl
 
 lets-last : (r : ForeignId) (w : World) (e : WorldEvent) → lasts_at r w e ≡ true → LetsNoneExpire r w e
 unfolding lasts lasts_at
-lets-last r w (Own i (Moment moment)) k = λ b client at own has. is-false (is_gone moment (owner.remembered_of b.state.owner.entries client r.id).expires)
-    (one-of (λ (c : Uuid). not (is_gone moment (owner.remembered_of b.state.owner.entries c r.id).expires) ≡ true) (dirtied b.state.owner.entries) client
-    (all-pass (λ (c : Uuid). not (is_gone moment (owner.remembered_of b.state.owner.entries c r.id).expires)) (dirtied b.state.owner.entries) (subst (λ (x : Option Space). with_some x true (λ (s : Space). lasts moment r.id s.state.owner.entries) ≡ true) at k))
+lets-last r w (Own i (Moment moment)) k =
+    λ b client at own has. is-false (is_gone moment (owner.remembered_of b.state.owner.entries client r.id).expires)
+    (one-of (λ (c : Uuid). not (is_gone moment (owner.remembered_of b.state.owner.entries c r.id).expires) ≡ true)
+    (dirtied b.state.owner.entries) client
+    (all-pass (λ (c : Uuid). not (is_gone moment (owner.remembered_of b.state.owner.entries c r.id).expires))
+    (dirtied b.state.owner.entries)
+    (subst (λ (x : Option Space). with_some x true (λ (s : Space). lasts moment r.id s.state.owner.entries) ≡
+    true) at k))
     (has-dirtied b.state.owner.entries client r.id has))
 lets-last r w (Own i Sweep) k = λ b client at own has. refl
 lets-last r w (Own i (Root method arguments fuel)) k = λ b client at own has. refl
@@ -144,11 +171,17 @@ lets-last r w (WriteFails conn end unsent) k = tt
 all-let : (r : ForeignId) (w : World) (es : List WorldEvent) → all_last r w es ≡ true → NothingExpires r w es
 unfolding all_last
 all-let r w [] k = tt
-all-let r w (e ∷ es) k = (lets-last r w e (and-left (lasts_at r w e) _ k), all-let r (after w e) es (and-right (lasts_at r w e) _ k))
+all-let r w (e ∷ es) k = (
+  lets-last r w e (and-left (lasts_at r w e) _ k),
+  all-let r (after w e) es (and-right (lasts_at r w e) _ k),
+)
 
 none-fail : (es : List WorldEvent) → list_all (λ e. not (is_failure e)) es ≡ true → NothingFails es
 none-fail [] k = tt
-none-fail (e ∷ es) k = (is-false (is_failure e) (and-left (not (is_failure e)) _ k), none-fail es (and-right (not (is_failure e)) _ k))
+none-fail (e ∷ es) k = (
+  is-false (is_failure e) (and-left (not (is_failure e)) _ k),
+  none-fail es (and-right (not (is_failure e)) _ k),
+)
 
 -- ---- the run
 
@@ -158,6 +191,7 @@ a_held_reference_is_passed_on passes = record {
   kind = passes.kind;
   fine = none-fail renewing_events refl;
   lets = all-let passed (new_world three_spaces) renewing_events refl;
-  few = all-pass (λ (s : Space). nat_lt (times_held passed s.state.leases) 18446744073709551615) (run (new_world three_spaces) renewing_events).spaces refl;
+  few = all-pass (λ (s : Space). nat_lt (times_held passed s.state.leases) 18446744073709551615)
+      (run (new_world three_spaces) renewing_events).spaces refl;
   held = refl;
 }
