@@ -55,33 +55,50 @@ pub record Quiet (settings : List Setting) (w : World) : Type 0 where
   pub hold : SendersHoldIn w
   pub time : ComeInTimeIn w
 
-pub quiet-of : Below → (settings : List Setting) (events : List WorldEvent) → AreOfOneKind settings → NothingFails events → Quiet settings (run (new_world settings) events)
-quiet-of B settings events kind fine = record { given = given-of B.laws settings events kind fine; secure = B.secure settings events kind fine; hold = B.hold settings events kind fine; time = B.time settings events kind fine }
+pub quiet-of : Below → (settings : List Setting) (events : List WorldEvent) → AreOfOneKind settings
+    → NothingFails events → Quiet settings (run (new_world settings) events)
+quiet-of B settings events kind fine =
+    record {
+      given = given-of B.laws settings events kind fine;
+      secure = B.secure settings events kind fine;
+      hold =
+          B.hold settings events kind fine;
+      time = B.time settings events kind fine;
+    }
 
 -- ---- a space
 
 pub kept-in : Below → (r : ForeignId) (a : Space) → Known a → Kept a.setting a.history r a.state
-kept-in B r a k = subst (Kept a.setting a.history r) (sym k.state) (kept-of B.ways B.due B.order a.setting a.history r k.taken k.once)
+kept-in B r a k = subst (Kept a.setting a.history r) (sym k.state)
+    (kept-of B.ways B.due B.order a.setting a.history r k.taken k.once)
 
 abbrev pub AreFew : ForeignId → State → Type 0
 AreFew r s = nat_lt (times_held r s.leases) 18446744073709551615 ≡ true
 
-pub held-granted : Below → (r : ForeignId) (a : Space) → Known a → AreFew r a.state → HeldIsGranted a.setting a.state r
-held-granted B r a k few = subst (λ (s : State). HeldIsGranted a.setting s r) (sym k.state) (B.granted a.setting a.history r k.taken k.once (subst (AreFew r) k.state few))
+pub held-granted : Below → (r : ForeignId) (a : Space) → Known a → AreFew r a.state
+    → HeldIsGranted a.setting a.state r
+held-granted B r a k few = subst (λ (s : State). HeldIsGranted a.setting s r) (sym k.state)
+    (B.granted a.setting a.history r k.taken k.once (subst (AreFew r) k.state few))
 
-pub dirty-awaited : Below → (r : ForeignId) (a : Space) → Known a → AreFew r a.state → is_some (lease_now a.state r).dirty ≡ true → (is_granted a.state r ≡ true) ⊎ (1 ≤ awaited_of a.state r)
+pub dirty-awaited : Below → (r : ForeignId) (a : Space) → Known a → AreFew r a.state
+    → is_some (lease_now a.state r).dirty ≡ true → (is_granted a.state r ≡ true) ⊎ (1 ≤ awaited_of a.state r)
 dirty-awaited B r a k few some = subst (λ (s : State). (is_granted s r ≡ true) ⊎ (1 ≤ awaited_of s r)) (sym k.state)
-    (B.awaited a.setting a.history r k.taken k.once (subst (AreFew r) k.state few) (subst (λ (s : State). is_some (lease_now s r).dirty ≡ true) k.state some))
+    (B.awaited a.setting a.history r k.taken k.once (subst (AreFew r) k.state few)
+    (subst (λ (s : State). is_some (lease_now s r).dirty ≡ true) k.state some))
 
 pub own-stand : (a : Space) → Known a → OwnStand a.setting a.state
 own-stand a k = subst (OwnStand a.setting) (sym k.state) (own_references_stand a.setting a.history k.taken)
 
 -- the space dialled the owner of the reference on the connection on which its dirty call is out
-pub opened-to : Below → (g : Setting) (h : List Event) (r : ForeignId) (conn n : ℕ) → IsTaken g h → OpensOnce h → IsDirtyOut (Space.state_of g h) conn n r → IsOneOf (Opened conn (Some r.space)) h
-opened-to B g h r conn n t o d = dialled-to K conn n d.request d.there d.out (peer-of K d.call d.group d.request d.there d.asked d.names)
+pub opened-to : Below → (g : Setting) (h : List Event) (r : ForeignId) (conn n : ℕ) → IsTaken g h → OpensOnce h
+    → IsDirtyOut (Space.state_of g h) conn n r → IsOneOf (Opened conn (Some r.space)) h
+opened-to B g h r conn n t o d =
+    dialled-to K conn n d.request d.there d.out (peer-of K d.call d.group d.request d.there d.asked d.names)
   where
     K : Kept g h r (Space.state_of g h)
     K = kept-of B.ways B.due B.order g h r t o
 
-pub opened-by : Below → (r : ForeignId) (a : Space) (conn n : ℕ) → Known a → IsDirtyOut a.state conn n r → IsOneOf (Opened conn (Some r.space)) a.history
-opened-by B r a conn n k d = opened-to B a.setting a.history r conn n k.taken k.once (subst (λ (s : State). IsDirtyOut s conn n r) k.state d)
+pub opened-by : Below → (r : ForeignId) (a : Space) (conn n : ℕ) → Known a → IsDirtyOut a.state conn n r
+    → IsOneOf (Opened conn (Some r.space)) a.history
+opened-by B r a conn n k d = opened-to B a.setting a.history r conn n k.taken k.once
+    (subst (λ (s : State). IsDirtyOut s conn n r) k.state d)

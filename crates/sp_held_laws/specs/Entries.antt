@@ -1,22 +1,22 @@
--- Where nothing fails and no entry expires, a client's lease stands on an entry: of each reference that its owner granted to a client the owner has an entry of that client, and of each whose Lease is on its way (Java RMI specification, 9.1: a dirty call adds the client to the object's list).
-use Rattle.std.specs.Prelude.{◌≡◌, ℕ, true, false, List, Some, slice_get}
+-- Where nothing fails and no entry expires, a client's lease stands on an entry: of each reference that its owner
+-- granted to a client the owner has an entry of that client, and of each whose Lease is on its way (Java RMI
+-- specification, 9.1: a dirty call adds the client to the object's list).
+use Rattle.std.specs.Prelude.{◌≡◌, ℕ, true, false, Some, slice_get}
 use Rattle.std.specs.Str.{bytes_eq}
 use Rattle.dgc_client.specs.Lease.{is_made}
 use Rattle.dgc_client.specs.Table.{references_at, is_among}
 use Rattle.dgc_client.specs.declared.groups.Group.{Group}
 use Rattle.net_message.specs.declared.message.Message.TheVariants as message
 use Rattle.space_ids.specs.declared.ids.ForeignId.{ForeignId}
-use Rattle.sp_rules.specs.Classes.{Setting}
 use Rattle.sp_rules.specs.Frames.{tells_of}
 use Rattle.sp_rules.specs.Holders.{lease_now}
 use Rattle.sp_rules.specs.State.{State, Request, Tells, Out}
-use Rattle.sp_rules.specs.Worlds.{World, Space, Pipe, WorldEvent, run, new_world}
+use Rattle.sp_rules.specs.Worlds.{World, Space, Pipe}
 use Rattle.sp_world_laws.specs.Ends.{IsOneOf}
 use Rattle.sp_order_laws.specs.Places.{IsBetween}
-use Rattle.sp_answer_laws.specs.Unbroken.{AreOfOneKind, NothingFails}
 use Rattle.sp_kept_laws.specs.Granted.{is_granted}
 use Rattle.sp_kept_laws.specs.Steps.{has_entry_for}
-use Rattle.sp_held_laws.specs.Premises.{NothingExpires, HoldersAreFew}
+use Rattle.sp_held_laws.specs.Premises.{InQuietRuns}
 
 -- A reference is foreign to the first of two spaces of a world, and the second is its owner.
 pub record IsOfOwner (w : World) (r : ForeignId) (a b : Space) : Type 0 where
@@ -29,12 +29,12 @@ pub record IsOfOwner (w : World) (r : ForeignId) (a b : Space) : Type 0 where
 
 -- Of each reference that is granted to a client its owner has an entry of the client.
 abbrev pub GrantedHaveEntries : ForeignId → World → Type 0
-GrantedHaveEntries r w = (a b : Space) → IsOfOwner w r a b → is_granted a.state r ≡ true → has_entry_for b.state a.setting.id r.id ≡ true
+GrantedHaveEntries r w = (a b : Space) → IsOfOwner w r a b → is_granted a.state r ≡ true
+    → has_entry_for b.state a.setting.id r.id ≡ true
 
--- So in every run of every world of spaces of one kind in which nothing fails and no entry for its object expires, as long as a holder of it came fewer than 2^64 - 1 times.
+-- So in every run in which nothing fails and no entry for its object expires.
 abbrev pub GrantedReferencesHaveEntries : Type 0
-GrantedReferencesHaveEntries = (settings : List Setting) (events : List WorldEvent) (r : ForeignId) → AreOfOneKind settings → NothingFails events → NothingExpires r (new_world settings) events → HoldersAreFew r (run (new_world settings) events)
-    → GrantedHaveEntries r (run (new_world settings) events)
+GrantedReferencesHaveEntries = InQuietRuns GrantedHaveEntries
 
 -- A dirty call of the reference that no clean call has overtaken is out on a connection under a sequence number.
 pub record IsDirtyOut (s : State) (conn number : ℕ) (r : ForeignId) : Type 0 where
@@ -50,10 +50,11 @@ pub record IsDirtyOut (s : State) (conn number : ℕ) (r : ForeignId) : Type 0 w
 
 -- As the Lease of such a call is on its way, the owner has an entry of the client.
 abbrev pub LeasesHaveEntries : ForeignId → World → Type 0
-LeasesHaveEntries r w = (conn number period : ℕ) (p : Pipe) (a b : Space) → IsBetween w conn p a b → IsOneOf (message.Lease number period) p.dialler.queue → IsDirtyOut a.state conn number r → r.space ≡ b.setting.id
+LeasesHaveEntries r w = (conn number period : ℕ) (p : Pipe) (a b : Space) → IsBetween w conn p a b
+    → IsOneOf (message.Lease number period) p.dialler.queue → IsDirtyOut a.state conn number r
+    → r.space ≡ b.setting.id
     → has_entry_for b.state a.setting.id r.id ≡ true
 
 -- So in every such run.
 abbrev pub LeasesComeOfEntries : Type 0
-LeasesComeOfEntries = (settings : List Setting) (events : List WorldEvent) (r : ForeignId) → AreOfOneKind settings → NothingFails events → NothingExpires r (new_world settings) events → HoldersAreFew r (run (new_world settings) events)
-    → LeasesHaveEntries r (run (new_world settings) events)
+LeasesComeOfEntries = InQuietRuns LeasesHaveEntries

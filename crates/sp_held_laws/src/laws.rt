@@ -190,8 +190,9 @@ pub fn calls_find_their_objects()
     events_reach_one_space();
 }
 
-/// A run of three spaces meets the premises of these laws: a reference passes in it from one space through
-/// another to the third, where it is held.
+/// A run of three spaces meets the premises of these laws: a lease is renewed in it, more time passes at the
+/// owner than one lease lasts, and a reference passes from it through another space to the third, where it is
+/// held.
 pub fn a_held_reference_is_passed_on()
     ensures { PassesUnlost }
 {
