@@ -1,0 +1,38 @@
+//! Reads code and texts of class files as the rows on the standard input say, and prints what came of each.
+//! So a further test case is a row.
+//!
+//! | A row | What it prints |
+//! |---|---|
+//! | an empty one, or `# TEXT` | itself |
+//! | `code BYTES` | each instruction of the code after its offset, or the rule that is broken and where |
+//! | `text BYTES` | whether the bytes are modified UTF-8 |
+//! | `name TEXT` | whether the text, or none, is a name, one of a method, and one of a class |
+//! | `descriptor TEXT` | whether the text, or none, is the descriptor of a field or of a method |
+//! | `dimensions N` | the same of an array of ints of N dimensions |
+//!
+//! BYTES are words in hex digits, or none. A row that is none of these is printed after `bad row: `.
+#![tactic(auto)]
+
+use fault::RowFault;
+use std::io;
+use std::io::{BufRead, BufReader, BufWriter, ErrorKind, Write};
+
+mod fault;
+mod said;
+
+fn main(rt: HostRuntime) -> io::Result<()> {
+    let alloc = rt.alloc();
+    let mut out = BufWriter::new(alloc, io::writer(&rt))?;
+    for text in BufReader::new(alloc, rt.reader())?.lines(alloc) {
+        let text = text?;
+        match said::said_of(alloc, &text) {
+            Ok(said) => {
+                writeln!(out, "{text}")?;
+                out.write_all(said.as_slice())?;
+            }
+            Err(RowFault::Bad) => writeln!(out, "bad row: {text}")?,
+            Err(RowFault::Memory) => return Err(io::Error::from(ErrorKind::OutOfMemory)),
+        }
+    }
+    out.flush()
+}
