@@ -2,7 +2,7 @@
 """Sets of classes whose references cost a search each: how the time of a check grows with them.
 
 With no words, for each shape of SIZES a set of each size is written and checked, in turn: the least time of five runs,
-less that of a set of one, with the bytes of its files and the ratio to the size before it, which is half. A search goes
+less that of a set of three, with the bytes of its files and the ratio to the size before it, which is half. A search goes
 by halves among the members of a class, so the ratio is a little above 2: the status is 1 if one is above 2.3. It builds
 the program if that is older than its sources, and needs no network.
 
@@ -10,7 +10,7 @@ With three words, a folder, a shape and how many, it writes such a set into the 
 
 - members: an interface of so many abstract methods, and a class whose code names a third of them once each, the last
   ones first.
-- fields: the same of an interface's constants.
+- fields: the same of a class with so many fields.
 - one_name: as members, but all methods have one name of 65,535 bytes, and each has a descriptor of its own.
 - diamonds: a ladder of so many rungs of two interfaces, each of which extends both of the rung below, and a class T
   that implements the two of the top rung. None of them declares the method that is asked for.
@@ -27,17 +27,17 @@ import time
 from long_method import attribute, u2, u4
 from shared_texts import descriptors
 
-PUBLIC, STATIC, FINAL, SUPER, INTERFACE, ABSTRACT = 0x0001, 0x0008, 0x0010, 0x0020, 0x0200, 0x0400
+PUBLIC, STATIC, SUPER, INTERFACE, ABSTRACT = 0x0001, 0x0008, 0x0020, 0x0200, 0x0400
 LONGEST = 65_535
 # How many `new` and `pop` a method holds: its code is below 65,536 bytes.
 NEWS = 16_000
-# A pool has fewer than 65,536 entries, and a reference takes three.
+# A pool has fewer than 65,536 entries, and a file is at most 1 MiB long.
 SIZES = {
-    "members": (16_000, 32_000, 64_000),
-    "fields": (16_000, 32_000, 64_000),
-    "one_name": (8_000, 16_000, 32_000),
+    "members": (15_000, 30_000, 60_000),
+    "fields": (15_000, 30_000, 60_000),
+    "one_name": (7_000, 14_000, 28_000),
 }
-TURNS = 5
+FEW, TURNS = 3, 5
 MOST = 2.3
 TOP = pathlib.Path(__file__).resolve().parent.parent
 PROGRAM = TOP / "crates" / "rmispace" / "out" / "rmispace"
@@ -92,8 +92,8 @@ def user(kind, pairs):
     pool, methods, insns = Pool(), [], b""
     for name, descriptor in pairs:
         if kind == "fields":
-            # getstatic; pop
-            insns += b"\xb2" + u2(pool.member(b"\x09", "I", name, descriptor)) + b"\x57"
+            # aconst_null; getfield; pop
+            insns += b"\x01\xb4" + u2(pool.member(b"\x09", "I", name, descriptor)) + b"\x57"
         else:
             # aconst_null; for each argument aconst_null or iconst_0; invokeinterface
             arguments = bytes(1 if it == "A" else 3 for it in descriptor[1:-2].replace("[I", "A"))
@@ -111,11 +111,11 @@ def members(count, kind="members"):
     else:
         pairs = [(f"m{n}", "I" if kind == "fields" else "()V") for n in range(count)]
     pool = Pool()
-    flags = PUBLIC | INTERFACE | ABSTRACT
     if kind == "fields":
-        yield "I", class_file(pool, "I", [], flags, [], rows(pool, PUBLIC | STATIC | FINAL, pairs))
+        yield "I", class_file(pool, "I", [], PUBLIC | SUPER, [], rows(pool, PUBLIC, pairs))
     else:
-        yield "I", class_file(pool, "I", [], flags, rows(pool, PUBLIC | ABSTRACT, pairs))
+        methods = rows(pool, PUBLIC | ABSTRACT, pairs)
+        yield "I", class_file(pool, "I", [], PUBLIC | INTERFACE | ABSTRACT, methods)
     yield "T", user(kind, pairs[::-1][: count // 3])
 
 
@@ -160,7 +160,7 @@ def checked(folder):
 
 def measure(work, shape):
     """Prints a line for each size of a shape, and says whether each ratio is small enough."""
-    folders = {count: os.path.join(work, f"{shape}{count}") for count in (1, *SIZES[shape])}
+    folders = {count: os.path.join(work, f"{shape}{count}") for count in (FEW, *SIZES[shape])}
     for count, folder in folders.items():
         write(folder, shape, count)
     least = {}
@@ -169,7 +169,7 @@ def measure(work, shape):
             least[count] = min(checked(folder), least.get(count, sys.maxsize))
     before, is_small = None, True
     for count in SIZES[shape]:
-        taken = least[count] - least[1]
+        taken = least[count] - least[FEW]
         size = sum(file.stat().st_size for file in pathlib.Path(folders[count]).iterdir())
         line = f"{shape:8} {count:6}, {size:8} bytes: {taken * 1e3:8.1f} ms"
         if before:
