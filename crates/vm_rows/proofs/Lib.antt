@@ -13,3 +13,4 @@ pub mod Callees
 pub mod Readings
 pub mod Sets
 pub mod Named
+mod HeapObjects

@@ -40,14 +40,17 @@ use Rattle.vm_act.specs.Steps.{on_some}
 use Rattle.vm_act.specs.declared.objects.Referent.{Referent}
 use Rattle.vm_act.specs.declared.objects.Referent.TheVariants as referent
 use Rattle.vm_code.specs.Classes.{is_instance, is_object, passes}
-use Rattle.vm_code.specs.Fields.{kinds_of, slot_of}
+use Rattle.vm_code.specs.Act.{get_at, put_at}
+use Rattle.vm_code.specs.Fields.{field_kind, kinds_of, slot_of}
 use Rattle.vm_heap.specs.declared.heap.WordKind.{WordKind}
 use Rattle.vm_typing.proofs.Objects as objects
 use Rattle.vm_typing.proofs.Referents as referents
 use Rattle.vm_typing.specs.Laws.{Leads}
+use Rattle.vm_typing.specs.Typed.{IsTyped}
 use Rattle.vm_typing.specs.Owed.{CastFits, IsOne, MayWrite, Owed, Refers}
 use Rattle.vm_typing.specs.World.{World, IsKnown, cleared, is_made_at}
 use Rattle.vm_rows.specs.Rows.{CastsTo, MakesObjects, NamesField, IsRow, ObjectRows}
+use Rattle.vm_rows.proofs.HeapObjects.{get-here, put-here}
 use Rattle.vm_rows.proofs.Stands.{fits_asked, next_is, room_for}
 use Rattle.vm_rows.proofs.Takes.{demanded, found_is, gives, passes_then, same_ok, take_last, take_then}
 use Rattle.vm_rows.proofs.Wants.{initialized_wanted}
@@ -182,12 +185,12 @@ module _ (links : Links) (w : World) (owed : Owed w) (set : IsClassSet w.classes
       let same = field_named class member names first.0 s.body_of.classes first.1.0 in
       let a = take_then body (want.Fits (vtype.Object class)) f (give body (field_vtype body.classes first.0.kind)) after first.1.1 in
       let given = gives body (field_vtype body.classes first.0.kind) (record f { stack = a.types }) after a.further in
-      subst (λ (o : Option ℕ). Leads w asked m.heap.cells (on_some (λ slot. acts.get_field slot m) o)) (slot_there class member names s.body_of.linked)
-      (objects.get_field-leads w owed asked m.heap.cells fresh receiver class names.slot (field_vtype body.classes first.0.kind) a.top a.types f m
+      subst (λ (o : Option ℕ). Leads w asked m.heap.cells (on_some (λ slot. get_at slot m) o)) (slot_there class member names s.body_of.linked)
+      (get-here w asked m.heap.cells (IsTyped w asked) names.slot m (objects.get_field-leads w owed asked m.heap.cells fresh receiver class names.slot (field_vtype body.classes first.0.kind) a.top a.types f m
       (subst (λ (t : VType). slice_get (w.fields class) names.slot ≡ Some t) (sym same) names.typed) a.stack
       (fits_asked links w body (insn.GetField class member) f after m s set (vtype.Object class) a.top a.wanted)
       (room_for links w body (insn.GetField class member) f after m s (length a.types) given.0)
-      (next_is links w body (insn.GetField class member) f after m s (record f { stack = field_vtype body.classes first.0.kind ∷ a.types }) given.1 refl) at)
+      (next_is links w body (insn.GetField class member) f after m s (record f { stack = field_vtype body.classes first.0.kind ∷ a.types }) given.1 refl) at))
 
   put_row : (class : ClassId) (member : MemberIndex) → IsRow links w body (insn.PutField class member)
   unfolding effect put_field
@@ -201,15 +204,15 @@ module _ (links : Links) (w : World) (owed : Owed w) (set : IsClassSet w.classes
       let stack : f.stack ≡ a.top ∷ b.top ∷ b.types = subst (λ (types : List VType). f.stack ≡ a.top ∷ types) b.stack a.stack in
       let fits = fits_asked links w body (insn.PutField class member) f after m s set t a.top a.wanted in
       let next = next_is links w body (insn.PutField class member) f after m s (record f { stack = b.types }) (same_ok b.further) refl in
-      subst (λ (o : Option ℕ). Leads w asked m.heap.cells (on_some (λ slot. acts.put_field slot m) o)) (slot_there class member names s.body_of.linked)
-      (elim (written body.classes body class member b.top b.wanted) [
+      subst (λ (o : Option ℕ). Leads w asked m.heap.cells (on_some (λ slot. put_at (field_kind links.classes (field_of member)) slot m) o)) (slot_there class member names s.body_of.linked)
+      (put-here w asked m.heap.cells (IsTyped w asked) (field_kind links.classes (field_of member)) names.slot m (elim (written body.classes body class member b.top b.wanted) [
         | inl own ↦ objects.put_field-leads w owed asked m.heap.cells fresh receiver member.class names.slot t a.top b.top b.types f m
             (subst (λ (u : VType). slice_get (w.fields member.class) names.slot ≡ Some u) (sym same) names.own) stack fits
             (subst (λ (u : VType). MayWrite w (w.method m.stack.frame.method).owner member.class u) (sym own.0) (sym s.body_of.owner ∙ own.1)) next at
         | inr of_class ↦ objects.put_field-leads w owed asked m.heap.cells fresh receiver class names.slot t a.top b.top b.types f m
             (subst (λ (u : VType). slice_get (w.fields class) names.slot ≡ Some u) (sym same) names.typed) stack fits
             (may_write body.classes w (w.method m.stack.frame.method).owner class b.top (fits_asked links w body (insn.PutField class member) f after m s set (vtype.Object class) b.top of_class)) next at
-      ])
+      ]))
 
   -- ---- casts
 
