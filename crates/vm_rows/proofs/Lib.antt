@@ -13,4 +13,3 @@ pub mod Callees
 pub mod Readings
 pub mod Sets
 pub mod Named
-mod HeapObjects
