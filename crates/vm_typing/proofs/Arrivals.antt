@@ -1,6 +1,6 @@
 -- What stays when a task comes by a reference to an object of its own space, and what stands at the reference's row.
-use Rattle.std.proofs.Common.{◌≡◌, ℕ, zero, suc, Bool, true, false, List, [], ◌∷◌, ◌++◌, length, refl, ap, sym, subst, Option, Some, None}
-use Rattle.std.specs.Prelude.{◌==◌, ◌&&◌, nat_eq, nat_lt, get_or, slice_get, if◌then◌else◌}
+use Rattle.std.proofs.Common.{◌≡◌, ℕ, zero, suc, Bool, true, false, List, [], ◌∷◌, ◌++◌, length, refl, ap, sym, subst, ◌∙◌, Option, Some, None}
+use Rattle.std.specs.Prelude.{◌==◌, ◌&&◌, nat_lt, get_or, slice_get, if◌then◌else◌}
 use Rattle.std.specs.Str.{bytes_eq}
 use Rattle.std.proofs.lemmas.Bool.{eqb-true}
 use Rattle.std.proofs.lemmas.List.Quantifiers.{position-Some}
@@ -8,7 +8,7 @@ use Rattle.std.proofs.lemmas.Option.{slice_get-get_or}
 use Rattle.std.proofs.lemmas.Slice.Eq.{bytes_eq-Decides}
 use Rattle.space_ids.specs.declared.ids.ClassId.{ClassId}
 use Rattle.space_ids.specs.declared.ids.Ref.{Ref}
-use Rattle.vm_heap.specs.References.{Table, is_own, is_same_reference, row_for, row_of, row_or_new, with_new_row, with_reference, with_reference_unless}
+use Rattle.vm_heap.specs.References.{Table, is_own, is_same_reference, row_for, row_of, row_or_new, with_reference, with_reference_unless}
 use Rattle.vm_heap.specs.Tagged.{ReferenceRow}
 use Rattle.vm_typing.specs.Fits.{Held, OfSpace, own_pointee, pointee_at}
 use Rattle.vm_typing.proofs.Kept.{Keeps, KeepsCells}
@@ -37,12 +37,20 @@ pub record Comes (before after : Held) (class : ClassId) (row : ℕ) : Type 0 wh
   pub keeps : Keeps before after
   pub there : pointee_at after (ReferenceRow row) ≡ Some (OfSpace class)
 
+-- a reference that the task has come by stands at its row
+pub known_there : (held : Held) (r : Ref) (row : ℕ) → row_of held.references.rows r ≡ Some row → is_own held.references r ≡ true
+    → pointee_at held (ReferenceRow row) ≡ Some (OfSpace r.class)
+unfolding row_of
+known_there held r row is own =
+    let first = position-Some (is_same_reference r) held.references.rows row r is in
+    let found : slice_get held.references.rows row ≡ Some (get_or held.references.rows row r) = slice_get-get_or held.references.rows row r first.0 in
+    rw found (same_own held.references r (get_or held.references.rows row r) first.1 own)
+
 itself : (held : Held) → Keeps held held
 itself held = record { heap = kept.all_kept held.cells; own = refl; rows = λ row reference is. is }
 
 pub comes : (held : Held) (r : Ref) (row : ℕ) → row_for r held.references ≡ Some row → is_own held.references r ≡ true
     → Comes held (record held { references = with_reference r held.references }) r.class row
-unfolding row_of
 comes held r row is own = at (row_of held.references.rows r) refl is
   where
     new : (b : Bool) → (if b then Some (length held.references.rows) else None) ≡ Some row
@@ -64,11 +72,4 @@ comes held r row is own = at (row_of held.references.rows r) refl is
     at : (o : Option ℕ) → row_of held.references.rows r ≡ o → row_or_new held.references o ≡ Some row
         → Comes held (record held { references = with_reference_unless r held.references o }) r.class row
     at None e f = new (nat_lt (length held.references.rows) held.references.limit) f
-    at (Some k) e f =
-        let first = position-Some (is_same_reference r) held.references.rows k r e in
-        let found : slice_get held.references.rows k ≡ Some (get_or held.references.rows k r) = slice_get-get_or held.references.rows k r first.0 in
-        let here : k ≡ row = cc in
-        record {
-          keeps = itself held;
-          there = rw (← here, found) (same_own held.references r (get_or held.references.rows k r) first.1 own);
-        }
+    at (Some k) e f = let here : k ≡ row = cc in record { keeps = itself held; there = known_there held r row (e ∙ ap (λ (n : ℕ). Some n) here) own }

@@ -1,9 +1,9 @@
 -- The instructions on remote objects, and on objects that may be remote: what they ask of the space is of typed words, and with each reply
 -- that fits the machine goes on typed.
 use Rattle.std.proofs.Common.{◌≡◌, ℕ, ◌+◌, ◌<◌, ◌≤◌, ◌∙◌, arith, Bool, true, false, List, [], ◌∷◌, length, map, refl, sym, subst, Option, Some, None}
-use Rattle.std.specs.Prelude.{nat_lt, not, slice_get, IsSome, if◌then◌else◌}
+use Rattle.std.specs.Prelude.{nat_lt, not, slice_get, if◌then◌else◌}
 use Rattle.std.proofs.lemmas.List.{length-map}
-use Rattle.std.specs.List.{AllZip, list_all}
+use Rattle.std.specs.List.{list_all}
 use Rattle.space_ids.specs.declared.ids.ClassId.{ClassId}
 use Rattle.space_ids.specs.declared.ids.Ref.{Ref}
 use Rattle.cls_set.specs.Subtypes.{IsRemote}
@@ -11,16 +11,15 @@ use Rattle.ver_frames.specs.Frames.{Frame}
 use Rattle.ver_frames.specs.Assignable.{IsAssignable}
 use Rattle.ver_frames.specs.declared.vtype.VType.{VType}
 use Rattle.ver_frames.specs.declared.vtype.VType.TheVariants as vtype
-use Rattle.vm_heap.specs.Heap.{Store, field_at, with_field}
+use Rattle.vm_heap.specs.Heap.{with_field}
 use Rattle.vm_heap.specs.References.{Table, is_own, row_for, with_reference}
 use Rattle.vm_heap.specs.Tagged.{Tagged, Site, HeapAddress, ReferenceRow, Int, Null, Local, Remote, Fresh, This, Unset, Head}
 use Rattle.vm_heap.specs.declared.heap.WordKind.{WordKind}
 use Rattle.vm_heap.specs.declared.heap.WordKind.TheVariants as kind
-use Rattle.vm_act.specs.Next.{Next, On, Ends, Asks, Stuck}
-use Rattle.vm_act.specs.Objects.{get_field, put_at}
-use Rattle.vm_act.specs.Remote.{answered, ask_get, create, is_row, on_held, on_row, push_value, put_to, read_field, stored_as, write_field, write_stored}
-use Rattle.vm_act.specs.Steps.{is_initialised, is_kind, on_some, push, go_on, where_true, with_operands}
-use Rattle.vm_act.specs.declared.asked.Asked.{Asked}
+use Rattle.vm_act.specs.Next.{Next, On, Asks, Stuck}
+use Rattle.vm_act.specs.Objects.{put_at}
+use Rattle.vm_act.specs.Remote.{answered, create, on_held, on_row, push_value, put_to, read_field, write_field}
+use Rattle.vm_act.specs.Steps.{is_initialised, is_kind, push, go_on, with_operands}
 use Rattle.vm_act.specs.declared.asked.Asked.TheVariants as ask
 use Rattle.vm_act.specs.declared.asked.FieldValue.{FieldValue}
 use Rattle.vm_act.specs.declared.asked.FieldValue.TheVariants as field
@@ -28,14 +27,14 @@ use Rattle.vm_act.specs.declared.asked.Reply.{Reply}
 use Rattle.vm_act.specs.declared.asked.Reply.TheVariants as reply
 use Rattle.vm_act.specs.declared.machine.Machine.{Machine}
 use Rattle.vm_typing.specs.World.{World, IsKnown, IsPlain, Enters, is_made_at, cleared}
-use Rattle.vm_typing.specs.Fits.{Held, Marks, OfSpace, held_by, held_in, no_marks, pointee_at, IsA, IsInts, IsOf, There, Points, Fits, CellFits, AllCells, AllFit, HeapFits}
-use Rattle.vm_typing.specs.Asking.{AskedFits, IsOwnObject, ReplyFits, ValueFits}
+use Rattle.vm_typing.specs.Fits.{Held, Marks, OfSpace, held_by, held_in, no_marks, pointee_at, IsA, There, Points, Fits, CellFits, AllFit, HeapFits}
+use Rattle.vm_typing.specs.Asking.{IsOwnObject, ReplyFits, ValueFits}
 use Rattle.vm_typing.specs.Typed.{IsAt, IsTyped, StandsBefore, marks_of}
 use Rattle.vm_typing.specs.Owed.{Owed, HasKind, MayWrite, Moves}
 use Rattle.vm_typing.specs.Leads.{Completes, IsWaiting, LeadsTo}
-use Rattle.vm_typing.proofs.Arrivals.{Comes, comes}
+use Rattle.vm_typing.proofs.Arrivals.{comes}
 use Rattle.vm_typing.proofs.Kept.{Keeps, CellFits-keeps, AllCells-map, FitsFrame-keeps, CallersWait-keeps, with_field-Keeps}
-use Rattle.vm_typing.proofs.Leads.{Fits-assignable, OwnRow, go_on-leads, kind_value, no_array_away, length-AllZip, own_row, plain_fits, plain_initialised, push-leads}
+use Rattle.vm_typing.proofs.Leads.{Fits-assignable, go_on-leads, kind_value, no_array_away, length-AllZip, own_row, plain_fits, plain_initialised, push-leads}
 use Rattle.vm_typing.proofs.Objects.{field_found, field_put, push_made-leads, with_heap}
 
 -- what holds a value of a type moves as its kind
@@ -155,7 +154,7 @@ module _ (w : World) (owed : Owed w) (asked : Option VType) (held : Held) (fresh
       → length f.stack < (w.method m.stack.frame.method).max_stack
       → Enters w m.stack.frame.method (m.stack.frame.index + 1) (record f { stack = t ∷ f.stack }) → Here f m
       → IsWaiting w asked Typed (ask.Get reference slot) m
-  get-waits reference slot t f m own has room enters at = record { fits = (own, rw has tt); before = before f _ m at enters refl (omega arith); completes = by }
+  get-waits reference slot t f m own has room enters at = record { fits = (own, rw has refl); before = before f _ m at enters refl (omega arith); completes = by }
     where
       by : (given : Reply) → ReplyFits w m.references (ask.Get reference slot) given → Done (held_by m) (answered given m)
       by (reply.Made other) fits = absurd fits

@@ -1,5 +1,5 @@
 -- The instructions on objects and arrays: what they lead to is not stuck and fits.
-use Rattle.std.proofs.Common.{◌≡◌, ℕ, zero, suc, ◌+◌, ◌<◌, Bool, true, false, List, [], ◌∷◌, ◌++◌, length, map, refl, subst, arith, Option, Some, None, ltb-true}
+use Rattle.std.proofs.Common.{◌≡◌, ℕ, zero, suc, ◌+◌, ◌<◌, Bool, true, false, List, [], ◌∷◌, length, map, refl, subst, arith, Option, Some, None, ltb-true}
 use Rattle.std.specs.Prelude.{ℤ, pos, negsuc, nat_lt, nat_le, nat_eq, not, ◌&&◌, replicate, slice_get, option_map, option_and_then, if◌then◌else◌}
 use Rattle.std.specs.List.{AllZip, list_all}
 use Rattle.std.proofs.lemmas.Bool.{eq-eqb}
@@ -19,7 +19,7 @@ use Rattle.vm_act.specs.Arrays.{sized, new_array, index_in, on_array, array_load
 use Rattle.vm_act.specs.declared.machine.Machine.{Machine}
 use Rattle.vm_act.specs.declared.ending.Ending.TheVariants as ending
 use Rattle.vm_act.specs.declared.ending.Thrown.TheVariants as thrown
-use Rattle.vm_typing.specs.World.{World, IsKnown, IsPlain, Enters, is_made_at, cleared}
+use Rattle.vm_typing.specs.World.{World, IsKnown, Enters, is_made_at, cleared}
 use Rattle.vm_typing.specs.Fits.{Held, OfHeap, held_by, held_in, pointee_at, IsA, IsOf, IsInts, There, Marks, IsMade, Fits, AllFit, CellFits, AllCells, HeapFits, no_marks}
 use Rattle.vm_typing.specs.Typed.{IsAt, IsTyped, marks_of}
 use Rattle.vm_typing.specs.Owed.{Owed, HasKind}
@@ -116,24 +116,21 @@ module _ (w : World) (owed : Owed w) where
       → slice_get (w.fields class) slot ≡ Some t → Fits w held no_marks t v → HeapFits w (record held { cells = with_field a slot v held.cells })
   field_put held a class slot t v heap there e fit = at (cell_at held.cells a) refl there
     where
-      abbrev after : Held
-      after = record held { cells = with_field a slot v held.cells }
-
-      keeps : Keeps held after
+      keeps : Keeps held (record held { cells = with_field a slot v held.cells })
       keeps = with_field-Keeps a slot v held
 
-      all : AllCells (CellFits w after) held.cells
-      all = AllCells-map (CellFits w held) (CellFits w after) held.cells (λ x. CellFits-keeps w held after x keeps) heap
+      all : AllCells (CellFits w (record held { cells = with_field a slot v held.cells })) held.cells
+      all = AllCells-map (CellFits w held) (CellFits w (record held { cells = with_field a slot v held.cells })) held.cells (λ x. CellFits-keeps w held (record held { cells = with_field a slot v held.cells }) x keeps) heap
 
-      new : (x : Cell) → IsA w class (OfHeap x) → CellFits w after x → CellFits w after (cell_with_field slot v x)
+      new : (x : Cell) → IsA w class (OfHeap x) → CellFits w (record held { cells = with_field a slot v held.cells }) x → CellFits w (record held { cells = with_field a slot v held.cells }) (cell_with_field slot v x)
       new (Object c fs) is fits =
-          AllZip-keep (Fits w after no_marks) (w.fields c) fs slot t v fits (owed.inherits c class slot t is.0 is.1 e) (Fits-keeps w held after no_marks t v keeps fit)
+          AllZip-keep (Fits w (record held { cells = with_field a slot v held.cells }) no_marks) (w.fields c) fs slot t v fits (owed.inherits c class slot t is.0 is.1 e) (Fits-keeps w held (record held { cells = with_field a slot v held.cells }) no_marks t v keeps fit)
       new (Ints is') is fits = tt
 
-      at : (o : Option Cell) → cell_at held.cells a ≡ o → There (IsA w class) (option_map (λ cell. OfHeap cell) o) → HeapFits w after
+      at : (o : Option Cell) → cell_at held.cells a ≡ o → There (IsA w class) (option_map (λ cell. OfHeap cell) o) → HeapFits w (record held { cells = with_field a slot v held.cells })
       at None is there = absurd there
       at (Some x) is there =
-          AllCells-changed (CellFits w after) (cell_with_field slot v) held.cells a x all is (new x there (AllCells-at (CellFits w after) held.cells a x all is))
+          AllCells-changed (CellFits w (record held { cells = with_field a slot v held.cells })) (cell_with_field slot v) held.cells a x all is (new x there (AllCells-at (CellFits w (record held { cells = with_field a slot v held.cells })) held.cells a x all is))
 
   element_put : (held : Held) (a index : ℕ) (n : ℤ) (elements : List ℤ) → HeapFits w held → cell_at held.cells a ≡ Some (Ints elements)
       → HeapFits w (record held { cells = with_element a index n held.cells })

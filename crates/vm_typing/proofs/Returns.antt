@@ -1,5 +1,5 @@
 -- Returns: what they lead to is not stuck and fits, and a task ends with what its method's descriptor says.
-use Rattle.std.proofs.Common.{◌≡◌, ℕ, ◌+◌, List, [], ◌∷◌, length, refl, sym, subst, Option, Some, None}
+use Rattle.std.proofs.Common.{◌≡◌, ℕ, ◌+◌, List, [], ◌∷◌, length, sym, subst, Option, Some, None}
 use Rattle.space_ids.specs.declared.ids.ClassId.{ClassId}
 use Rattle.space_ids.specs.declared.ids.Ref.{Ref}
 use Rattle.ver_frames.specs.Frames.{Frame}

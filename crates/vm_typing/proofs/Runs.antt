@@ -4,15 +4,14 @@ use Rattle.ver_frames.specs.declared.vtype.VType.{VType}
 use Rattle.vm_act.specs.Next.{Next, On, Ends, Asks, Stuck}
 use Rattle.vm_act.specs.Remote.{answered}
 use Rattle.vm_act.specs.declared.asked.Asked.{Asked}
-use Rattle.vm_act.specs.declared.asked.Reply.{Reply}
 use Rattle.vm_act.specs.declared.machine.Machine.{Machine}
 use Rattle.vm_act.specs.declared.ending.Ending.{Ending}
 use Rattle.vm_typing.specs.World.{World}
-use Rattle.vm_typing.specs.Fits.{Held, AllFit, held_by, held_in, no_marks, no_site}
+use Rattle.vm_typing.specs.Fits.{AllFit, held_by, held_in, no_marks, no_site}
 use Rattle.vm_typing.specs.Typed.{IsTyped, marks_of}
 use Rattle.vm_typing.specs.Owed.{Owed}
-use Rattle.vm_typing.specs.Leads.{Completes, IsWaiting, LeadsTo}
-use Rattle.vm_typing.specs.Runs.{Move, Steps, Replied, steps, replied, moved, played, IsDue, MoveFits, MovesFit, KeepsTyped, IsSound, StartsTyped, RunsSound, PlaysSound}
+use Rattle.vm_typing.specs.Leads.{Completes, LeadsTo}
+use Rattle.vm_typing.specs.Runs.{Move, Steps, Replied, steps, moved, played, MoveFits, MovesFit, KeepsTyped, IsSound, StartsTyped, RunsSound, PlaysSound}
 use Rattle.vm_typing.proofs.Turns.{all_plain_fit}
 use Rattle.vm_typing.proofs.Calls.{start-typed, parameters_normal}
 

@@ -17,7 +17,7 @@ use Rattle.vm_act.specs.declared.ending.Flow.{Flow}
 use Rattle.vm_act.specs.declared.ending.Flow.TheVariants as flow
 use Rattle.vm_typing.specs.World.{World, Enters}
 use Rattle.vm_typing.specs.Fits.{Held}
-use Rattle.vm_typing.specs.Leads.{LeadsTo, IsGiven, IsWaiting}
+use Rattle.vm_typing.specs.Leads.{LeadsTo, IsGiven}
 
 -- each type may stand for itself, and each frame
 IsAssignable-itself : (classes : List Class) (t : VType) → IsAssignable classes t t

@@ -1,6 +1,6 @@
 -- What a typed machine asks of its task's space, and the replies that fit (JVMS 6.5: new, getfield, putfield). A field of a remote object
 -- may hold an int, null, or a reference to a remote object.
-use Rattle.std.specs.Prelude.{◌≡◌, true, Option, IsSome, slice_get}
+use Rattle.std.specs.Prelude.{◌≡◌, true, IsSome, slice_get}
 use Rattle.space_ids.specs.declared.ids.ClassId.{ClassId}
 use Rattle.space_ids.specs.declared.ids.Ref.{Ref}
 use Rattle.cls_set.specs.Subtypes.{IsRemote}
