@@ -1,5 +1,5 @@
 -- The test of a remote class passes for remote classes alone, and for each of them.
-use Rattle.std.proofs.Common.{◌≡◌, ◌↔◌, inl, inr, ℕ, ◌<◌, Bool, true, false, Option, Some, None, List, IsTrue, length, refl, sym, subst, ap, ◌∙◌, arith}
+use Rattle.std.proofs.Common.{◌≡◌, ◌↔◌, inl, inr, ℕ, ◌<◌, Bool, true, false, Option, Some, None, List, IsTrue, length, refl, sym, subst, ◌∙◌, arith}
 use Rattle.std.specs.Prelude.{◌&&◌, not, nat_eq, bit_and, codes, slice_get, IsSomeAnd}
 use Rattle.std.specs.Option.{option_map_or}
 use Rattle.std.proofs.lemmas.Bool.{eq-eqb, eqb-true}
@@ -9,7 +9,7 @@ use Rattle.cls_search.specs.MethodSearches.{is_interface}
 use Rattle.cls_set.proofs.Hierarchy.{true_false}
 use Rattle.cls_set.specs.Classes.{number_of, IsInterface}
 use Rattle.cls_set.specs.Sets.{IsClassSet}
-use Rattle.cls_set.specs.Subtypes.{IsRemote, IsSubtype}
+use Rattle.cls_set.specs.Subtypes.{IsRemote}
 use Rattle.cls_set.specs.declared.class.Class.{Class}
 use Rattle.space_ids.specs.declared.ids.ClassId.{ClassId}
 use Rattle.vm_code.proofs.Subtypes.{same_test, subtype_sound, subtype_test}
