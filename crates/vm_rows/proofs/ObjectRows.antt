@@ -1,6 +1,6 @@
 -- The rows of objects, their fields, and casts.
 use Rattle.std.proofs.Common.{◌≡◌, ◌⊎◌, inl, inr, ℕ, ◌<◌, Bool, true, false, not, List, [], ◌∷◌, length, map, refl, sym, subst, ap, ◌∙◌, Option, Some, None, Ok}
-use Rattle.std.specs.Prelude.{nat_eq, ◌||◌, ◌&&◌, bytes_eq, codes, if◌then◌else◌, slice_get}
+use Rattle.std.specs.Prelude.{option_map, nat_eq, ◌||◌, ◌&&◌, bytes_eq, codes, if◌then◌else◌, slice_get}
 use Rattle.std.specs.List.{list_all, list_any}
 use Rattle.std.specs.Option.{option_map_or}
 use Rattle.std.proofs.lemmas.Option.{slice_get_within}
@@ -84,10 +84,10 @@ none_made offset (t ∷ ts) e = rw (same_made offset t) (on (changes.is_made_at 
     on false b e go = go e
 
 -- one of two steps
-one_of : (w : World) (asked : Option VType) (held : Held) (b : Bool) (yes no : Next) → (b ≡ true → Leads w asked held yes) → Leads w asked held no
-    → Leads w asked held (if b then yes else no)
-one_of w asked held true yes no is is_not = is refl
-one_of w asked held false yes no is is_not = is_not
+one_of : (w : World) (asked : Option VType) (held : Held) (b : Bool) (one other : Next) → (b ≡ true → Leads w asked held one) → Leads w asked held other
+    → Leads w asked held (if b then one else other)
+one_of w asked held true one other is is_not = is refl
+one_of w asked held false one other is is_not = is_not
 
 made_here : (body : Body) (index : ℕ) (class : ClassId) → slice_get body.insns index ≡ Some (insn.New class) → index_from 0 body.offsets (offset_at body index) ≡ Some index
     → made_at body.insns body.offsets (offset_at body index) ≡ Some class
@@ -235,7 +235,7 @@ module _ (links : Links) (w : World) (owed : Owed w) (set : IsClassSet w.classes
         | inr of_class ↦ asks.write_field-leads w owed asked (held_by m) fresh receiver class names.slot t
             (subst (λ (u : VType). slice_get (w.fields class) names.slot ≡ Some u) (sym same) names.typed) k a.top b.top b.types f m kinds stack fits
             (may_write body.classes w (w.method m.stack.frame.method).owner class b.top (fits_asked links w body (insn.PutField class member) f after m s set (vtype.Object class) b.top of_class)) next at
-      ])))
+      ]))
 
   -- ---- casts
 
