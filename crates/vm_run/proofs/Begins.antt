@@ -1,5 +1,5 @@
 -- A task begins in a state that is never stuck: its first frame fits the one in which its method begins.
-use Rattle.std.proofs.Common.{◌≡◌, ℕ, zero, suc, ◌+◌, ◌-◌, ◌<◌, ◌≤◌, Bool, true, false, List, [], ◌∷◌, ◌++◌, length, map, refl, ap, sym, subst, ◌∙◌, arith, append_assoc, Option, Some, None, ◌⊎◌, inl, inr, eqb-true, drop, le-leb}
+use Rattle.std.proofs.Common.{◌≡◌, ℕ, zero, suc, ◌+◌, ◌-◌, ◌≤◌, Bool, true, false, List, [], ◌∷◌, ◌++◌, length, map, refl, ap, sym, subst, ◌∙◌, arith, append_assoc, Option, Some, None, ◌⊎◌, inl, inr, eqb-true, drop, le-leb}
 use Rattle.std.proofs.lemmas.List.{length-map}
 use Rattle.std.specs.Prelude.{not, ◌&&◌, ◌||◌, ◌==◌, nat_le, bytes_eq, codes, option_map, replicate, if◌then◌else◌}
 use Rattle.std.specs.List.{list_all}
@@ -18,7 +18,6 @@ use Rattle.space_ids.specs.declared.value.Value.{Value}
 use Rattle.space_ids.specs.declared.value.Value.TheVariants as value
 use Rattle.ver_frames.specs.Method.{Subject, is_static, argument_types, begins_uninit, receiver_types}
 use Rattle.ver_frames.specs.Types.{field_vtype, element_type, is_int}
-use Rattle.ver_frames.specs.declared.vtype.VType.{VType}
 use Rattle.ver_frames.specs.declared.vtype.VType.TheVariants as vtype
 use Rattle.vm_act.specs.declared.calls.Callee.{Callee}
 use Rattle.vm_act.specs.declared.ending.Thrown.{Thrown}
@@ -26,13 +25,13 @@ use Rattle.vm_act.specs.declared.ending.Thrown.TheVariants.{OutOfMemoryError, St
 use Rattle.vm_act.specs.declared.machine.Machine.{Machine}
 use Rattle.uuid.specs.declared.Uuid.{Uuid}
 use Rattle.vm_heap.specs.References.{Table}
-use Rattle.vm_heap.specs.Heap.{Cell, Ints, Store, all_cost, cell_at, cost}
+use Rattle.vm_heap.specs.Heap.{Cell, Ints, Store, all_cost, cell_at}
 use Rattle.vm_heap.specs.Tagged.{Tagged, Null, Unset}
 use Rattle.vm_stack.specs.Frames.{Frames, empty_frame, entered, frame_cost}
-use Rattle.vm_typing.specs.Fits.{Held, OfHeap, There, IsInts, Fits, AllFit, CellFits, AllCells, HeapFits, no_marks, no_method}
+use Rattle.vm_typing.specs.Fits.{Held, OfHeap, There, IsInts, Fits, AllFit, CellFits, AllCells, no_marks, no_method}
 use Rattle.vm_typing.specs.Owed.{Owed, IsCallee}
 use Rattle.vm_typing.specs.Typed.{IsTyped}
-use Rattle.vm_typing.specs.World.{World, MethodType, IsPlain, parameters}
+use Rattle.vm_typing.specs.World.{World, MethodType, parameters}
 use Rattle.vm_typing.proofs.Runs.{starts_typed}
 use Rattle.vm_world.proofs.Owing.{owed}
 use Rattle.vm_world.proofs.Subjects.{passes_both, stands}
@@ -210,6 +209,9 @@ module _ (links : Links) (own : Uuid) (id : MethodId) (m : Subject) (arguments :
     references = record { own = own; rows = []; limit = limits.references };
   }
 
+  abbrev at_first : Held
+  at_first = record { cells = copies arguments; references = record { own = own; rows = []; limit = limits.references } }
+
   typed : IsTyped world (world.method id.0).result machine
   unfolding machine all_cost
   typed =
@@ -219,9 +221,6 @@ module _ (links : Links) (own : Uuid) (id : MethodId) (m : Subject) (arguments :
       (copies_fit world at_first arguments)
       (ap (λ (t : MethodType). t.is_init) type_is ∙ normal)
     where
-      abbrev at_first : Held
-      at_first = record { cells = copies arguments; references = record { own = own; rows = []; limit = limits.references } }
-
       fits : AllFit world at_first no_marks (map (field_vtype links.classes) m.method.types.parameters) (passed_from 0 arguments)
       fits = all_fit world at_first links.classes m.method.types.parameters arguments [] given.crossing given.filled refl
 

@@ -1,5 +1,5 @@
 -- The task of a typed machine is never stuck.
-use Rattle.std.proofs.Common.{◌≡◌, ℕ, zero, suc, ◌+◌, ◌<◌, Bool, true, false, List, [], ◌∷◌, length, refl, ap, sym, subst, ◌∙◌, Option, Some, None}
+use Rattle.std.proofs.Common.{◌≡◌, ℕ, zero, suc, ◌+◌, ◌<◌, true, false, List, [], ◌∷◌, length, refl, ap, subst, ◌∙◌, Option, Some, None}
 use Rattle.std.specs.Prelude.{option_map}
 use Rattle.std.specs.Option.{option_map_or}
 use Rattle.cls_link.specs.Links.{Links}
@@ -10,7 +10,6 @@ use Rattle.ver_frames.specs.declared.vtype.VType.TheVariants as vtype
 use Rattle.vm_heap.specs.Heap.{Cell, Object, Ints, cell_at}
 use Rattle.vm_act.specs.Next.{Next, On, Ends, Asks, Stuck}
 use Rattle.vm_act.specs.Remote.{answered}
-use Rattle.vm_act.specs.declared.asked.Asked.{Asked}
 use Rattle.vm_act.specs.declared.asked.Reply.{Reply}
 use Rattle.vm_act.specs.declared.ending.Ending.{Ending}
 use Rattle.vm_act.specs.declared.ending.Ending.TheVariants as ending
@@ -19,13 +18,13 @@ use Rattle.vm_typing.specs.Fits.{Held, OfHeap, There, Pointee, held_by, no_metho
 use Rattle.vm_typing.specs.Leads.{Completes, IsGiven, IsWaiting, LeadsTo}
 use Rattle.vm_typing.specs.Runs.{KeepsTyped, Move, Replied, Steps}
 use Rattle.vm_typing.specs.Typed.{IsTyped}
-use Rattle.vm_typing.specs.World.{World, IsPlain, MethodType}
+use Rattle.vm_typing.specs.World.{World, IsPlain}
 use Rattle.vm_world.specs.Worlds.{method_type, subject_at, world_of}
 use Rattle.vm_rows.proofs.Entries.{is_entry}
 use Rattle.vm_rows.specs.Steps as insns
-use Rattle.vm_run.specs.Ends.{End, Spent, IsEndIn, end_of, returned_cell}
+use Rattle.vm_run.specs.Ends.{End, IsEndIn, end_of, returned_cell}
 use Rattle.vm_run.specs.Run.{State, Running, Waits, Over, Lost, over, after, answer, code_of, played, step, run, AreDue, IsDue, IsNotLost, IsNeverStuck}
-use Rattle.vm_run.proofs.Runs.{run_done, run_waits, run_over}
+use Rattle.vm_run.proofs.Runs.{run_over}
 
 cell-there : (links : Links) (P : Pointee → Type 0) (o : Option Cell) (fuel : ℕ) → There P (option_map (λ cell. OfHeap cell) o)
     → IsNotLost links (over (option_map returned_cell o) fuel)
@@ -51,15 +50,12 @@ pub counted : (links : Links) (frames : ℕ → ℕ → types.Frame) (number : �
 unfolding code_of
 counted links frames number known = by (subject_at links number) refl known
   where
-    abbrev type_in : Option Subject → MethodType
-    type_in o = option_map_or (λ (s : Subject). method_type s (frames number)) o no_method
-
     by : (o : Option Subject) → subject_at links number ≡ o → option_map_or (λ (s : Subject). true) o false ≡ true
         → ((world_of links frames).method number).count ≡ length (code_of links number)
     by None e has = absurd (cc)
     by (Some s) e has =
         let entry = is_entry links number s e in
-        ap (λ (o : Option Subject). (type_in o).count) e ∙ rw (entry.at, entry.code) refl
+        ap (λ (o : Option Subject). (option_map_or (λ (s : Subject). method_type s (frames number)) o no_method).count) e ∙ rw (entry.at, entry.code) refl
 
 module _ (links : Links) (frames : ℕ → ℕ → types.Frame) (asked : Option VType) (plain : (t : VType) → asked ≡ Some t → IsPlain t)
     (keeps : KeepsTyped (world_of links frames) asked (insns.step links)) where
@@ -145,10 +141,10 @@ module _ (links : Links) (frames : ℕ → ℕ → types.Frame) (asked : Option 
 
 -- what is over is never stuck
 pub over-IsNeverStuck : (links : Links) (end : End) (fuel : ℕ) → IsEndIn links.classes end → IsNeverStuck links (Over end fuel)
+unfolding played AreDue
 over-IsNeverStuck links end fuel there = record { always = always }
   where
     always : (moves : List Move) → AreDue links moves (Over end fuel) → IsNotLost links (played links moves (Over end fuel))
-    unfolding played AreDue
     always [] due = there
     always (Steps k ∷ moves) due = rw (run_over links k end fuel) (always moves (subst (AreDue links moves) (run_over links k end fuel) due))
     always (Replied given ∷ moves) due = absurd due.0

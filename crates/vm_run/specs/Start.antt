@@ -19,7 +19,7 @@ use Rattle.space_ids.specs.declared.value.Value.TheVariants as value
 use Rattle.uuid.specs.declared.Uuid.{Uuid}
 use Rattle.ver_frames.specs.Method.{is_static}
 use Rattle.vm_code.specs.Classes.{is_below_remote}
-use Rattle.vm_heap.specs.Heap.{Cell, Ints, all_cost, cost}
+use Rattle.vm_heap.specs.Heap.{Cell, Ints, all_cost}
 use Rattle.vm_heap.specs.Tagged.{Tagged, Int, Null, Local, Unset}
 use Rattle.vm_stack.specs.Frames.{Frame, empty_frame, frame_cost}
 use Rattle.vm_act.specs.declared.ending.Thrown.TheVariants.{OutOfMemoryError, StackOverflowError}

@@ -1,5 +1,5 @@
 //! Whether a task runs or is over.
-ghost use Rattle.std.specs.Prelude.{◌≡◌, ℕ, ◌+◌, ◌<◌, ◌≤◌, ◌^◌};
+ghost use Rattle.std.specs.Prelude.{◌≡◌, ℕ, ◌+◌, ◌<◌, ◌≤◌, length};
 ghost use Rattle.vm_act.specs.Next.{NotStuck};
 ghost use Rattle.vm_act.specs.Remote.{answered};
 ghost use Rattle.vm_run.specs.Ends.{end_of};
@@ -8,7 +8,8 @@ ghost use Rattle.vm_run.specs.Task.{last_end, phase_state, fuel_left, pause_at, 
 
 use crate::outcome::Pause;
 use crate::program::Program;
-use crate::run::{self, Stop};
+use crate::run::{self, Stop, instructions};
+use cls_link::LinkedInsn;
 use vm_code::{Asked, Ending, Flow, Machine, Reply};
 use vm_heap::Heap;
 
@@ -89,21 +90,25 @@ impl Phase {
         requires due { IsDue program.now.classes reply (phase_state self) }
         ensures { phase_state result ≡ answer reply (phase_state self) }
     {
-        let _linked = program.linked();
         match self {
-            Phase::Waiting(machine, _, fuel) => complete(machine, reply, fuel),
+            Phase::Waiting(machine, _, fuel) => {
+                let code = instructions(program.linked(), machine.stack.method());
+                complete(machine, code, reply, fuel)
+            }
             other => other,
         }
     }
 }
 
-// The phase of a machine that waited for this reply.
-fn complete(machine: Machine, reply: Reply, fuel: u64) -> Phase
-    requires index { machine.stack.frame.index + 1 < 2 ^ 64 }
+// The phase of a machine that waited for this reply. Among the instructions of its method there is one
+// after the one that asked.
+fn complete(machine: Machine, code: &[LinkedInsn], reply: Reply, fuel: u64) -> Phase
+    requires next { machine.stack.frame.index + 1 < length code.now }
     requires fits { NotStuck (answered reply machine) }
     ensures { phase_state result ≡ after machine.heap.cells (answered reply machine) fuel }
 {
     let mut machine = machine;
+    let _count = code.len();
     match machine.answer_with(reply) {
         Flow::Ends(ending) => Phase::Over(keep(machine, ending), fuel),
         Flow::Asks(asked) => Phase::Waiting(machine, asked, fuel),
