@@ -4,3 +4,4 @@ pub mod FieldRows
 pub mod Grown
 pub mod KindRows
 pub mod Numbered
+pub mod Told

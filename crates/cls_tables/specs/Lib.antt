@@ -3,3 +3,4 @@ pub mod Kinds
 pub mod Numbers
 pub mod Slots
 pub mod Trees
+pub mod Remote

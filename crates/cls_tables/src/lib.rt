@@ -8,6 +8,7 @@ pub use vm_heap::WordKind;
 mod choices;
 mod kinds;
 mod numbers;
+mod remote;
 mod slots;
 mod tables;
 mod trees;

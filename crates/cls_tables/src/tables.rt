@@ -4,6 +4,7 @@ ghost use Rattle.std.specs.Prelude.{◌≡◌, IfOk};
 
 use super::choices::{Choices, choose_all};
 use super::kinds::{KindRow, lay_all};
+use super::remote::tell_remote;
 use super::slots::all_slots;
 use cls_link::{ClassId, FieldSlot, Linked, MemberIndex, MethodId, Row};
 use ghost_value::{Ghost, Says};
@@ -21,6 +22,8 @@ pub struct Tables {
     kinds: KindRow,
     // What each class selects for each method.
     choices: Choices,
+    // Whether objects of each class are remote.
+    remote: Vec<bool>,
 }
 
 impl Model for Tables {
@@ -28,17 +31,19 @@ impl Model for Tables {
     ghost use Rattle.cls_link.specs.Links.{AreLinks, Links};
     ghost use Rattle.cls_tables.specs.Choices.{HaveChoices};
     ghost use Rattle.cls_tables.specs.Kinds.{HaveKinds};
+    ghost use Rattle.cls_tables.specs.Remote.{TellsRemote};
     ghost use Rattle.cls_tables.specs.Slots.{HaveSlots};
 
     ghost Value = { Links };
 
     ghost view = { λ tables. tables.links.value };
 
-    ghost invariant = { λ tables. HaveSlots tables.links.value.classes tables.slots.items × HaveKinds tables.links.value.classes tables.kinds.row.items tables.kinds.spans.items × AreLinks tables.links.value × (length tables.choices.keys.keys.items ≡ length tables.links.value.methods) × HaveChoices tables.links.value.classes tables.choices.keys.levels tables.choices.keys.keys.items tables.choices.nodes.items tables.choices.roots.items };
+    ghost invariant = { λ tables. HaveSlots tables.links.value.classes tables.slots.items × HaveKinds tables.links.value.classes tables.kinds.row.items tables.kinds.spans.items × AreLinks tables.links.value × (length tables.choices.keys.keys.items ≡ length tables.links.value.methods) × HaveChoices tables.links.value.classes tables.choices.keys.levels tables.choices.keys.keys.items tables.choices.nodes.items tables.choices.roots.items × TellsRemote tables.links.value.classes tables.remote.items };
 }
 
 impl Tables {
-    ghost use Rattle.std.specs.Prelude.{◌<◌, length, IfSome, IsSome};
+    ghost use Rattle.std.specs.Prelude.{◌<◌, ◌↔◌, length, IfSome, IsSome, IsTrue};
+    ghost use Rattle.cls_set.specs.Subtypes.{IsRemote};
     ghost use Rattle.cls_link.specs.Fields.{IsFieldSlot};
     ghost use Rattle.cls_resolve.specs.Meanings.{field_of};
     ghost use Rattle.cls_search.specs.FieldSearches.{field_at};
@@ -52,12 +57,14 @@ impl Tables {
         let slots = all_slots(alloc, linked)?;
         let kinds = lay_all(alloc, linked.set())?;
         let choices = choose_all(alloc, linked)?;
+        let remote = tell_remote(alloc, linked.set())?;
         let _methods = linked.len();
         Ok(Tables {
             links: Ghost::of::<Linked, OfLinked>(linked),
             slots,
             kinds,
             choices,
+            remote,
         })
     }
 
@@ -78,6 +85,15 @@ impl Tables {
     {
         let span = self.kinds.spans[usize::from(class.0)];
         &self.kinds.row[span.start..span.end]
+    }
+
+    /// Returns whether objects of a class are remote: it is a class, not an interface, that implements
+    /// java/rmi/Remote (Java RMI specification, 2.4). It takes constant time.
+    pub fn is_remote(&self, class: ClassId) -> bool
+        requires { class.0 < length self.now.classes }
+        ensures { IsTrue result ↔ IsRemote self.now.classes class }
+    {
+        self.remote[usize::from(class.0)]
     }
 
     /// The method that a class selects for one that was resolved: the first instance method of its name and

@@ -6,6 +6,7 @@ ghost use Rattle.std.specs.List.{position};
 ghost use Rattle.cls_link.specs.Links.{Links};
 ghost use Rattle.cls_link.specs.Numbers.{number_in};
 ghost use Rattle.cls_search.specs.MethodSearches.{method_in};
+ghost use Rattle.vm_run.specs.Run.{HasNoRemote};
 ghost use Rattle.vm_run.specs.Task.{IsOfSet};
 ghost use Rattle.sp_main.specs.Only.{IsOutOfMemory, IsReadOut, OnlyGives};
 ghost use Rattle.sp_main.specs.Runs.{AreSpelled, IsFileFault, IsNamed, IsNoProgram, IsNotRun, IsProgram, IsRefused, IsRun, IsSpelled, IsUnread, NamesMethod, Runs, is_parenthesis};
@@ -198,6 +199,7 @@ fn run_method(
     limits: Limits,
 ) -> Result<RunOutcome, Refusal>
     requires memory { limits.heap_words + 65536 < 2 ^ 32 }
+    requires plain { HasNoRemote program.now.classes }
     ensures run { IfOk result (Runs program.now method arguments.items limits) }
     ensures refused { IfErr result (IsNotRun program.now method arguments.items limits) }
     ensures only { (outcome : RunOutcome)
@@ -205,7 +207,8 @@ fn run_method(
         → OnlyGives outcome IsOutOfMemory result }
 {
     let mut task = Task::start(alloc, program, Uuid::nil(), method, arguments, limits)?;
-    // More instructions than there can be fuel for: the task ends.
+    // More instructions than there can be fuel for: the task ends, since without remote classes it asks
+    // for nothing.
     let _ = task.run(program, u64::MAX);
     let _ = task.run(program, 1);
     let told = task.outcome(alloc)?;

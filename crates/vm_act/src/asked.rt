@@ -68,8 +68,9 @@ impl Machine {
 
     /// Executes getfield of a remote object: it asks for what the field holds.
     pub fn ask_get(&mut self, slot: u32) -> Flow
-        requires { NotStuck (ask_get slot self.old) }
-        ensures { Does (ask_get slot self.old) result self.new }
+        requires fits { NotStuck (ask_get slot self.old) }
+        ensures does { Does (ask_get slot self.old) result self.new }
+        ensures method { self.new.stack.frame.method ≡ self.old.stack.frame.method }
     {
         let object = self.stack.pop();
         match object.as_pointer() {
@@ -84,8 +85,9 @@ impl Machine {
     /// Executes putfield of a remote object, whose field is of this kind: it asks that it hold the
     /// value.
     pub fn ask_put(&mut self, slot: u32, kind: WordKind) -> Flow
-        requires { NotStuck (ask_put slot kind self.old) }
-        ensures { Does (ask_put slot kind self.old) result self.new }
+        requires fits { NotStuck (ask_put slot kind self.old) }
+        ensures does { Does (ask_put slot kind self.old) result self.new }
+        ensures method { self.new.stack.frame.method ≡ self.old.stack.frame.method }
     {
         let word = self.stack.pop();
         let object = self.stack.pop();

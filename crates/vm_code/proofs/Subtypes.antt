@@ -1,9 +1,9 @@
 -- The test of a subtype passes for subtypes alone, and for each of them.
 use Rattle.std.proofs.Common.{◌≡◌, ◌↔◌, ◌⊎◌, inl, inr, ℕ, zero, suc, ◌<◌, ◌≤◌, ◌++◌, Bool, true, false, Option, Some, None, List, [], ◌∷◌, IsTrue, length, refl, sym, subst, ap, ◌∙◌, arith}
-use Rattle.std.specs.Prelude.{◌||◌, nat_eq, nat_lt, IsSomeAnd, Contains, option_to_list, slice_get}
+use Rattle.std.specs.Prelude.{◌||◌, ◌&&◌, nat_eq, nat_lt, IsSomeAnd, Contains, option_to_list, slice_get}
 use Rattle.std.specs.List.{list_any}
 use Rattle.std.specs.Option.{option_map_or}
-use Rattle.std.proofs.lemmas.Bool.{eq-eqb}
+use Rattle.std.proofs.lemmas.Bool.{eq-eqb, ltb-true}
 use Rattle.std.proofs.lemmas.List.Elements.{Contains-append_cases, Contains-append_left, Contains-append_right}
 use Rattle.cls_search.proofs.Heights.{low_ranks}
 use Rattle.cls_search.specs.Searches.{IsRanking, supertypes_of}
@@ -16,7 +16,7 @@ use Rattle.space_ids.specs.declared.ids.ClassId.{ClassId}
 use Rattle.vm_code.specs.Classes.{is_under, is_subtype}
 
 -- two tests of one fact are one
-same_test : (r s : Bool) (P : Type 0) → IsTrue r ↔ P → IsTrue s ↔ P → r ≡ s
+pub same_test : (r s : Bool) (P : Type 0) → IsTrue r ↔ P → IsTrue s ↔ P → r ≡ s
 same_test true true P f g = refl
 same_test false false P f g = refl
 same_test true false P f g = absurd (true_false (sym (g.1 (f.0 refl))))
@@ -106,6 +106,15 @@ module _ (classes : List Class) where
   under_decides set a b =
       let ranks = low_ranks classes set in
       (under_sound (length classes) a b, under_whole ranks.rank ranks.ranking (length classes) a b (ranks.low a))
+
+  -- what passes the test is a class of the set, and a subtype
+  pub subtype_sound : (a b : ClassId) → is_subtype classes a b ≡ true → (a.0 < length classes) × IsSubtype classes a b
+  unfolding is_subtype
+  subtype_sound a b e = by (nat_lt a.0 (length classes)) refl e
+    where
+      by : (inside : Bool) → nat_lt a.0 (length classes) ≡ inside → (inside && is_under (length classes) classes a b) ≡ true → (a.0 < length classes) × IsSubtype classes a b
+      by true is e = (ltb-true a.0 (length classes) is, under_sound (length classes) a b e)
+      by false is e = absurd (true_false (sym e))
 
   -- a test of a subtype is the one of the definition
   pub subtype_test : IsClassSet classes → (a b : ClassId) (r : Bool) → a.0 < length classes → IsTrue r ↔ IsSubtype classes a b → r ≡ is_subtype classes a b

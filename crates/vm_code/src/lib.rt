@@ -10,7 +10,9 @@ pub use casts::is_subtype;
 pub use cls_link::{Linked, LinkedInsn, MemberIndex, MethodId};
 pub use cls_tables::Tables;
 pub use step::act;
-pub use vm_act::{Callee, Ending, Flow, Machine, Referent, Selected, Thrown, WordKind};
+pub use vm_act::{
+    Asked, Callee, Ending, FieldValue, Flow, Machine, Referent, Reply, Selected, Thrown, WordKind,
+};
 
 mod calls;
 mod casts;

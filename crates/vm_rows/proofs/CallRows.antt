@@ -47,10 +47,12 @@ use Rattle.vm_act.specs.declared.objects.Referent.TheVariants as referent
 use Rattle.vm_code.specs.Calls as code
 use Rattle.vm_code.specs.Calls.{id_of}
 use Rattle.vm_code.specs.Methods.{callee_of, chosen, init_begins_uninit, interface_selected, object_of, selected_of, special_start}
+use Rattle.vm_heap.specs.Tagged.{Site}
 use Rattle.vm_typing.proofs.Calls as calls
 use Rattle.vm_typing.proofs.Leads.{FitsFrame-assignable}
 use Rattle.vm_typing.proofs.Referents as referents
 use Rattle.vm_typing.proofs.Uses.{IsFrameAssignable-itself}
+use Rattle.vm_typing.specs.Fits.{held_by}
 use Rattle.vm_typing.specs.Laws.{Leads}
 use Rattle.vm_typing.specs.Owed.{Owed, Passes}
 use Rattle.vm_typing.specs.Typed.{HasRoom, IsAt, with_result}
@@ -222,16 +224,16 @@ module _ (links : Links) (w : World) (owed : Owed w) (set : IsClassSet w.classes
 
   -- ---- calls of what is no `<init>`
 
-  module _ (asked : Option VType) (fresh : ℕ → ℕ) (receiver : ℕ) (f : Frame) (m : Machine) where
+  module _ (asked : Option VType) (fresh : ℕ → Site) (receiver : Site) (f : Frame) (m : Machine) where
     abbrev Goes : Next → Type 0
-    Goes = Leads w asked m.heap.cells
+    Goes = Leads w asked (held_by m)
 
     run_leads : (below arguments : List VType) (result : Option VType) (callee : Callee) → RunsAs w callee arguments result → Passes w (reverse arguments) f.stack below
         → HasRoom (w.method m.stack.frame.method).max_stack result (record f { stack = below })
         → Enters w m.stack.frame.method (m.stack.frame.index + 1) (with_result result (record f { stack = below }))
         → IsAt w asked fresh receiver f m → Goes (acts.call callee m)
     run_leads below arguments result callee runs passes room enters at =
-        calls.call-leads w owed asked m.heap.cells fresh receiver callee f below m runs.agrees runs.normal
+        calls.call-leads w owed asked (held_by m) fresh receiver callee f below m runs.agrees runs.normal
         (subst (λ (ts : List VType). Passes w (reverse ts) f.stack below) (sym runs.passed) passes)
         (subst (λ (o : Option VType). HasRoom (w.method m.stack.frame.method).max_stack o (record f { stack = below })) (sym runs.gives) room)
         (subst (λ (o : Option VType). Enters w m.stack.frame.method (m.stack.frame.index + 1) (with_result o (record f { stack = below }))) (sym runs.gives) enters) at
@@ -254,7 +256,7 @@ module _ (links : Links) (w : World) (owed : Owed w) (set : IsClassSet w.classes
     used_as : (class : ClassId) (given : List VType) (top : VType) (below : List VType) → f.stack ≡ given ++ top ∷ below → IsAssignable w.classes top (vtype.Object class)
         → IsAt w asked fresh receiver f m → IsAt w asked fresh receiver (record f { stack = given ++ vtype.Object class ∷ below }) m
     used_as class given top below stack may at = record {
-      frame = FitsFrame-assignable w owed m.heap.cells fresh receiver f (record f { stack = given ++ vtype.Object class ∷ below }) m.stack.frame
+      frame = FitsFrame-assignable w owed (held_by m) fresh receiver f (record f { stack = given ++ vtype.Object class ∷ below }) m.stack.frame
           (record {
             locals = (IsFrameAssignable-itself w.classes f).locals;
             stack = subst (λ (ts : List VType). AreAssignable w.classes ts (given ++ vtype.Object class ∷ below)) (sym stack) (stands_for class given top below may);
@@ -275,7 +277,7 @@ module _ (links : Links) (w : World) (owed : Owed w) (set : IsClassSet w.classes
         → IsAt w asked fresh receiver f m → Goes (on_referent (length method.types.parameters) next m)
     receiver_leads class method select selects next null objects arrays given top below stack to may room enters at =
         subst (λ (count : ℕ). Goes (on_referent count next m)) (length-map method.types.parameters (field_vtype w.classes))
-        (referents.receiver-leads w owed asked m.heap.cells fresh receiver class (arguments_in w method) (result_in w method) next (record f { stack = given ++ vtype.Object class ∷ below }) below m
+        (referents.receiver-leads w owed asked (held_by m) fresh receiver class (arguments_in w method) (result_in w method) next (record f { stack = given ++ vtype.Object class ∷ below }) below m
         (record { given = given; whole = refl; to = to }) null
         (λ b known under. (select b, (selects.runs b known under, objects b)))
         (λ under. (select w.object, (selects.runs w.object owed.object under, arrays)))
@@ -291,8 +293,8 @@ module _ (links : Links) (w : World) (owed : Owed w) (set : IsClassSet w.classes
       let e = named_effect (insn.Invoke kind.Static class member) f after m s member names.method names.declared (λ method. checked.call body kind.Static class method f) after s.effect in
       let p = takes_all s.body_of.classes (arguments_of body names.method) f (give_result body names.method) after e in
       let r = result_given (insn.Invoke kind.Static class member) f after m s names.method (record f { stack = p.below }) p.further in
-      subst (λ (classes : List Class). Leads w asked m.heap.cells (code.call_static classes member m)) (sym s.body_of.linked)
-      (subst (λ (o : Option Method). Leads w asked m.heap.cells (on_some (λ (method : Method). acts.invoke (chosen (callee_of w.classes false (id_of w.classes member))) m) o)) (sym names.declared)
+      subst (λ (classes : List Class). Leads w asked (held_by m) (code.call_static classes member m)) (sym s.body_of.linked)
+      (subst (λ (o : Option Method). Leads w asked (held_by m) (on_some (λ (method : Method). acts.invoke (chosen (callee_of w.classes false (id_of w.classes member))) m) o)) (sym names.declared)
       (static_leads asked fresh receiver f m member names p.below
       (record { given = p.given; whole = p.stack; to = subst (λ (ts : List VType). AreAssignable w.classes p.given ts) (arguments_are s.body_of.classes names.method) p.to }) r.0
       (next_is links w body (insn.Invoke kind.Static class member) f after m s (with_result (result_in w names.method) (record f { stack = p.below })) r.1 refl) at
@@ -305,8 +307,8 @@ module _ (links : Links) (w : World) (owed : Owed w) (set : IsClassSet w.classes
       let e = named_effect (insn.Invoke kind.Virtual class member) f after m s member names.method names.declared (λ method. checked.call body kind.Virtual class method f) after s.effect in
       let p = receives s.body_of.classes (arguments_of body names.method) class f (give_result body names.method) after e in
       let r = result_given (insn.Invoke kind.Virtual class member) f after m s names.method (record f { stack = p.below }) p.further in
-      subst (λ (classes : List Class). Leads w asked m.heap.cells (code.call_virtual classes member m)) (sym s.body_of.linked)
-      (subst (λ (o : Option Method). Leads w asked m.heap.cells (on_some (λ (method : Method). code.call_receiver w.classes method (λ below. selected_of w.classes below (id_of w.classes member)) m) o)) (sym names.declared)
+      subst (λ (classes : List Class). Leads w asked (held_by m) (code.call_virtual classes member m)) (sym s.body_of.linked)
+      (subst (λ (o : Option Method). Leads w asked (held_by m) (on_some (λ (method : Method). code.call_receiver w.classes method (λ below. selected_of w.classes below (id_of w.classes member)) m) o)) (sym names.declared)
       (receiver_leads asked fresh receiver f m class names.method (λ below. selected_of w.classes below (id_of w.classes member)) names.selects
       (code.invoke_on w.classes (λ below. selected_of w.classes below (id_of w.classes member))) tt (λ b. refl)
       (arrays_select asked fresh receiver f m (λ below. selected_of w.classes below (id_of w.classes member)) names.selects.object)
@@ -325,8 +327,8 @@ module _ (links : Links) (w : World) (owed : Owed w) (set : IsClassSet w.classes
       let met = demanded rule.Mismatch test (record f { stack = p.below }) last.0 last.1.0 in
       let r = result_given (insn.InvokeInterface count class member) f after m s names.method (record f { stack = p.below })
       (subst (λ (g : Frame). give_result body names.method g ≡ Ok after) (sym met.1) last.1.1) in
-      subst (λ (classes : List Class). Leads w asked m.heap.cells (code.call_interface classes class member m)) (sym s.body_of.linked)
-      (subst (λ (o : Option Method). Leads w asked m.heap.cells (on_some (λ (method : Method). code.call_receiver w.classes method (λ below. interface_selected w.classes below class (id_of w.classes member)) m) o)) (sym names.declared)
+      subst (λ (classes : List Class). Leads w asked (held_by m) (code.call_interface classes class member m)) (sym s.body_of.linked)
+      (subst (λ (o : Option Method). Leads w asked (held_by m) (on_some (λ (method : Method). code.call_receiver w.classes method (λ below. interface_selected w.classes below class (id_of w.classes member)) m) o)) (sym names.declared)
       (receiver_leads asked fresh receiver f m class names.method (λ below. interface_selected w.classes below class (id_of w.classes member)) names.selects
       (code.invoke_on w.classes (λ below. interface_selected w.classes below class (id_of w.classes member))) tt (λ b. refl)
       (arrays_select asked fresh receiver f m (λ below. interface_selected w.classes below class (id_of w.classes member)) names.selects.object)
@@ -335,10 +337,10 @@ module _ (links : Links) (w : World) (owed : Owed w) (set : IsClassSet w.classes
 
   -- ---- invokespecial
 
-  module _ (class : ClassId) (member : MemberIndex) (asked : Option VType) (fresh : ℕ → ℕ) (receiver : ℕ) (f after : Frame) (m : Machine)
+  module _ (class : ClassId) (member : MemberIndex) (asked : Option VType) (fresh : ℕ → Site) (receiver : Site) (f after : Frame) (m : Machine)
       (s : StandsAt links w body (insn.Invoke kind.Special class member) f after m) (at : IsAt w asked fresh receiver f m) where
     abbrev Leads_to : Next → Type 0
-    Leads_to = Leads w asked m.heap.cells
+    Leads_to = Leads w asked (held_by m)
 
     -- of what is no `<init>`
     super_leads : (names : NamesSpecial w body.class_id class member) → is_init names.method ≡ false → call_super body class names.method f ≡ Ok after
@@ -366,7 +368,7 @@ module _ (links : Links) (w : World) (owed : Owed w) (set : IsClassSet w.classes
         → AreAssignable w.classes given (reverse arguments) → OnMade body class (record f { stack = below }) after ⊎ OnThis body class (record f { stack = below }) after
         → Leads_to (acts.construct callee m)
     construct_leads arguments callee runs given below stack to (inl on) =
-        calls.construct_new-leads w owed asked m.heap.cells fresh receiver callee on.offset f.flag_this_uninit f on.below m runs.agrees runs.init
+        calls.construct_new-leads w owed asked (held_by m) fresh receiver callee on.offset f.flag_this_uninit f on.below m runs.agrees runs.init
         (record {
           given = given;
           whole = subst (λ (ts : List VType). f.stack ≡ given ++ ts) on.stack stack;
@@ -379,7 +381,7 @@ module _ (links : Links) (w : World) (owed : Owed w) (set : IsClassSet w.classes
         ∙ (ap (λ (ts : List VType). record { locals = map (changes.made_is on.offset class) f.locals; stack = ts; flag_this_uninit = f.flag_this_uninit }) (same_made_is on.offset class on.below)
         ∙ on.after))) refl) at
     construct_leads arguments callee runs given below stack to (inr on) =
-        calls.construct_this-leads w owed asked m.heap.cells fresh receiver callee false f on.below m runs.agrees runs.init
+        calls.construct_this-leads w owed asked (held_by m) fresh receiver callee false f on.below m runs.agrees runs.init
         (record {
           given = given;
           whole = subst (λ (ts : List VType). f.stack ≡ given ++ ts) on.stack stack;

@@ -24,9 +24,9 @@ use Rattle.ver_frames.specs.declared.vtype.VType.{VType}
 use Rattle.vm_act.specs.Steps.{on_some}
 use Rattle.vm_act.specs.declared.machine.Machine.{Machine}
 use Rattle.vm_code.specs.Act.{act}
-use Rattle.vm_typing.proofs.Runs.{runs_sound}
+use Rattle.vm_typing.proofs.Runs.{plays_sound, runs_sound}
 use Rattle.vm_typing.proofs.Uses.{IsFrameAssignable-itself}
-use Rattle.vm_typing.specs.Fits.{no_method}
+use Rattle.vm_typing.specs.Fits.{held_by, no_method}
 use Rattle.vm_typing.specs.Laws.{Leads}
 use Rattle.vm_typing.specs.Typed.{IsTyped}
 use Rattle.vm_typing.specs.World.{World, Enters, MethodType}
@@ -35,7 +35,7 @@ use Rattle.vm_world.proofs.Subjects.{listed, passes_both, stands}
 use Rattle.vm_world.specs.Files.{AreAsRead}
 use Rattle.vm_world.specs.Worlds.{AreTyped, IsTypedBy, method_type, subject_at, world_of}
 use Rattle.vm_rows.specs.Rows.{IsBodyOf, IsRow, StandsAt}
-use Rattle.vm_rows.specs.Steps.{AreNamed, AreNeverStuck, insn_at, step}
+use Rattle.vm_rows.specs.Steps.{AreNamed, AreNeverStuck, AreNeverStuckByReplies, insn_at, step}
 use Rattle.vm_rows.proofs.Entries.{is_entry}
 use Rattle.vm_rows.proofs.CallRows as calls
 use Rattle.vm_rows.proofs.IntRows as ints
@@ -177,17 +177,20 @@ module _ (links : Links) (frames : ℕ → ℕ → Frame) (are : AreLinks links)
       goes_on = next_enters m.stack.frame.method s e by.declared by.typing m.stack.frame.index i fine.after fine.goes_on;
     }
 
-    steps_at : (o : Option Subject) → subject_at links m.stack.frame.method ≡ o → option_map_or (λ (s : Subject). true) o false ≡ true → Leads world asked m.heap.cells (step links m)
+    steps_at : (o : Option Subject) → subject_at links m.stack.frame.method ≡ o → option_map_or (λ (s : Subject). true) o false ≡ true → Leads world asked (held_by m) (step links m)
     steps_at None e has = absurd (true_false (sym has))
     steps_at (Some s) e has =
         let by = typed m.stack.frame.method s e in
         let one = there s.linked.insns m.stack.frame.index (subst (λ (t : MethodType). m.stack.frame.index < t.count) (type_is m.stack.frame.method s e) at.inside) in
         let fine = by.typing.fine m.stack.frame.index one.0 one.1 in
-        subst (λ (o : Option LinkedInsn). Leads world asked m.heap.cells (on_some (λ i. act links i m) o)) (sym (insn_is m.stack.frame.method s e m.stack.frame.index one.0 one.1))
+        subst (λ (o : Option LinkedInsn). Leads world asked (held_by m) (on_some (λ i. act links i m) o)) (sym (insn_is m.stack.frame.method s e m.stack.frame.index one.0 one.1))
         (row (body_of s by.declared) one.0 asked at.fresh at.receiver ((world.method m.stack.frame.method).frames m.stack.frame.index) fine.after m (stands_at s e by one.0 one.1 fine) at.at)
 
-    pub steps_typed : Leads world asked m.heap.cells (step links m)
+    pub steps_typed : Leads world asked (held_by m) (step links m)
     steps_typed = steps_at (subject_at links m.stack.frame.method) refl at.at.frame.known
 
   pub never_stuck : AreNamed links frames → AreNeverStuck links frames
   never_stuck named asked m at n = runs_sound world asked (step links) (λ m at. steps_typed named asked m at) m at n
+
+  pub never_stuck_by_replies : AreNamed links frames → AreNeverStuckByReplies links frames
+  never_stuck_by_replies named asked m at moves fit = plays_sound world asked (step links) (λ m at. steps_typed named asked m at) m at moves fit

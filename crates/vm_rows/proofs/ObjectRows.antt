@@ -1,6 +1,6 @@
 -- The rows of objects, their fields, and casts.
 use Rattle.std.proofs.Common.{◌≡◌, ◌⊎◌, inl, inr, ℕ, ◌<◌, Bool, true, false, not, List, [], ◌∷◌, length, map, refl, sym, subst, ap, ◌∙◌, Option, Some, None, Ok}
-use Rattle.std.specs.Prelude.{nat_eq, ◌||◌, ◌&&◌, bytes_eq, codes, if◌then◌else◌, slice_get}
+use Rattle.std.specs.Prelude.{option_map, nat_eq, ◌||◌, ◌&&◌, bytes_eq, codes, if◌then◌else◌, slice_get}
 use Rattle.std.specs.List.{list_all, list_any}
 use Rattle.std.specs.Option.{option_map_or}
 use Rattle.std.proofs.lemmas.Option.{slice_get_within}
@@ -39,14 +39,20 @@ use Rattle.vm_act.specs.Objects as acts
 use Rattle.vm_act.specs.Steps.{on_some}
 use Rattle.vm_act.specs.declared.objects.Referent.{Referent}
 use Rattle.vm_act.specs.declared.objects.Referent.TheVariants as referent
-use Rattle.vm_code.specs.Classes.{is_instance, is_object, passes}
-use Rattle.vm_code.specs.Fields.{kinds_of, slot_of}
+use Rattle.vm_code.proofs.Remotes.{remote_sound}
+use Rattle.vm_code.specs.Classes.{is_instance, is_object, is_remote, passes}
+use Rattle.vm_code.specs.Fields.{field_kind, kind_of, kinds_of, slot_of}
 use Rattle.vm_heap.specs.declared.heap.WordKind.{WordKind}
+use Rattle.vm_act.specs.Next.{Next}
+use Rattle.vm_act.specs.Remote.{create, read_field, write_field}
+use Rattle.vm_typing.proofs.Asks as asks
 use Rattle.vm_typing.proofs.Objects as objects
 use Rattle.vm_typing.proofs.Referents as referents
+use Rattle.vm_typing.specs.Fits.{Held, held_by}
 use Rattle.vm_typing.specs.Laws.{Leads}
-use Rattle.vm_typing.specs.Owed.{CastFits, IsOne, MayWrite, Owed, Refers}
+use Rattle.vm_typing.specs.Owed.{CastFits, HasKind, IsOne, MayWrite, Owed, Refers}
 use Rattle.vm_typing.specs.World.{World, IsKnown, cleared, is_made_at}
+use Rattle.vm_world.proofs.LookUps.{has_kind}
 use Rattle.vm_rows.specs.Rows.{CastsTo, MakesObjects, NamesField, IsRow, ObjectRows}
 use Rattle.vm_rows.proofs.Stands.{fits_asked, next_is, room_for}
 use Rattle.vm_rows.proofs.Takes.{demanded, found_is, gives, passes_then, same_ok, take_last, take_then}
@@ -76,6 +82,12 @@ none_made offset (t ∷ ts) e = rw (same_made offset t) (on (changes.is_made_at 
     on : (a b : Bool) → not (a || b) ≡ true → (not b ≡ true → list_all (λ t. not (is_made_at offset t)) ts ≡ true) → (not a && list_all (λ t. not (is_made_at offset t)) ts) ≡ true
     on true b e go = absurd (true_false (sym e))
     on false b e go = go e
+
+-- one of two steps
+one_of : (w : World) (asked : Option VType) (held : Held) (b : Bool) (one other : Next) → (b ≡ true → Leads w asked held one) → Leads w asked held other
+    → Leads w asked held (if b then one else other)
+one_of w asked held true one other is is_not = is refl
+one_of w asked held false one other is is_not = is_not
 
 made_here : (body : Body) (index : ℕ) (class : ClassId) → slice_get body.insns index ≡ Some (insn.New class) → index_from 0 body.offsets (offset_at body index) ≡ Some index
     → made_at body.insns body.offsets (offset_at body index) ≡ Some class
@@ -151,15 +163,19 @@ module _ (links : Links) (w : World) (owed : Owed w) (set : IsClassSet w.classes
       let given = gives body (vtype.Uninitialized offset) (changes.map_locals (changes.cleared offset) f) after
       (subst (λ (g : Frame). give body (vtype.Uninitialized offset) (changes.map_locals (changes.cleared offset) g) ≡ Ok after) (sym test.1) first.1.1) in
       let within = slice_get_within body.insns m.stack.frame.index (insn.New class) s.is in
-      subst (λ (o : Option (List WordKind)). Leads w asked m.heap.cells (on_some (λ kinds. acts.new_object class kinds m) o))
+      let inside = subst (λ (count : ℕ). m.stack.frame.index < count) s.body_of.count within in
+      let stands = s.body_of.offsets m.stack.frame.index in
+      let names = s.body_of.made offset ∙ made_here body m.stack.frame.index class s.is (s.body_of.found m.stack.frame.index within) in
+      let none = none_made offset f.stack test.0 in
+      let room = room_for links w body (insn.New class) f after m s (length f.stack) given.0 in
+      let next = next_is links w body (insn.New class) f after m s (record f { locals = map (cleared offset) f.locals; stack = vtype.Uninitialized offset ∷ f.stack })
+      (ap (λ (locals : List VType). record f { locals = locals; stack = vtype.Uninitialized offset ∷ f.stack }) (same_cleared offset f.locals) ∙ given.1) refl in
+      subst (λ (o : Option (List WordKind)). Leads w asked (held_by m) (on_some (λ kinds. if is_remote links.classes class then create class m else acts.new_object class kinds m) o))
       (sym (ap (λ (classes : List Class). kinds_of classes class) s.body_of.linked ∙ makes.held))
-      (objects.new_object-leads w owed asked m.heap.cells fresh receiver class makes.kinds offset f m makes.known makes.of_types
-      (subst (λ (count : ℕ). m.stack.frame.index < count) s.body_of.count within) (s.body_of.offsets m.stack.frame.index)
-      (s.body_of.made offset ∙ made_here body m.stack.frame.index class s.is (s.body_of.found m.stack.frame.index within))
-      (none_made offset f.stack test.0)
-      (room_for links w body (insn.New class) f after m s (length f.stack) given.0)
-      (next_is links w body (insn.New class) f after m s (record f { locals = map (cleared offset) f.locals; stack = vtype.Uninitialized offset ∷ f.stack })
-      (ap (λ (locals : List VType). record f { locals = locals; stack = vtype.Uninitialized offset ∷ f.stack }) (same_cleared offset f.locals) ∙ given.1) refl) at)
+      (one_of w asked (held_by m) (is_remote links.classes class) (create class m) (acts.new_object class makes.kinds m)
+      (λ is. asks.create-leads w owed asked (held_by m) fresh receiver class offset f m makes.known
+      (remote_sound w.classes class (subst (λ (classes : List Class). is_remote classes class ≡ true) s.body_of.linked is)) inside stands names none room next at)
+      (objects.new_object-leads w owed asked (held_by m) fresh receiver class makes.kinds offset f m makes.known makes.of_types inside stands names none room next at))
 
   -- the field that an instruction names
   field_named : (class : ClassId) (member : MemberIndex) (names : NamesField w class member) (found : Field) → body.classes ≡ w.classes → found_or rule.Mismatch (field_at body.classes member) ≡ Ok found
@@ -174,6 +190,11 @@ module _ (links : Links) (w : World) (owed : Owed w) (set : IsClassSet w.classes
   slot_there : (class : ClassId) (member : MemberIndex) (names : NamesField w class member) → links.classes ≡ w.classes → Some names.slot ≡ slot_of links.classes (field_of member)
   slot_there class member names same = sym (ap (λ (classes : List Class). slot_of classes (field_of member)) same ∙ names.kept)
 
+  kind_there : (class : ClassId) (member : MemberIndex) (names : NamesField w class member) → links.classes ≡ w.classes
+      → Some (kind_of names.field.kind) ≡ field_kind links.classes (field_of member)
+  kind_there class member names same =
+      sym (ap (λ (classes : List Class). field_kind classes (field_of member)) same ∙ ap (λ (o : Option Field). option_map (λ (f : Field). kind_of f.kind) o) names.declared)
+
   get_row : (class : ClassId) (member : MemberIndex) → IsRow links w body (insn.GetField class member)
   unfolding effect get_field
   get_row class member asked fresh receiver f after m s at =
@@ -182,9 +203,9 @@ module _ (links : Links) (w : World) (owed : Owed w) (set : IsClassSet w.classes
       let same = field_named class member names first.0 s.body_of.classes first.1.0 in
       let a = take_then body (want.Fits (vtype.Object class)) f (give body (field_vtype body.classes first.0.kind)) after first.1.1 in
       let given = gives body (field_vtype body.classes first.0.kind) (record f { stack = a.types }) after a.further in
-      subst (λ (o : Option ℕ). Leads w asked m.heap.cells (on_some (λ slot. acts.get_field slot m) o)) (slot_there class member names s.body_of.linked)
-      (objects.get_field-leads w owed asked m.heap.cells fresh receiver class names.slot (field_vtype body.classes first.0.kind) a.top a.types f m
-      (subst (λ (t : VType). slice_get (w.fields class) names.slot ≡ Some t) (sym same) names.typed) a.stack
+      subst (λ (o : Option ℕ). Leads w asked (held_by m) (on_some (λ slot. read_field slot m) o)) (slot_there class member names s.body_of.linked)
+      (asks.read_field-leads w owed asked (held_by m) fresh receiver class names.slot (field_vtype body.classes first.0.kind)
+      (subst (λ (t : VType). slice_get (w.fields class) names.slot ≡ Some t) (sym same) names.typed) a.top a.types f m a.stack
       (fits_asked links w body (insn.GetField class member) f after m s set (vtype.Object class) a.top a.wanted)
       (room_for links w body (insn.GetField class member) f after m s (length a.types) given.0)
       (next_is links w body (insn.GetField class member) f after m s (record f { stack = field_vtype body.classes first.0.kind ∷ a.types }) given.1 refl) at)
@@ -201,15 +222,20 @@ module _ (links : Links) (w : World) (owed : Owed w) (set : IsClassSet w.classes
       let stack : f.stack ≡ a.top ∷ b.top ∷ b.types = subst (λ (types : List VType). f.stack ≡ a.top ∷ types) b.stack a.stack in
       let fits = fits_asked links w body (insn.PutField class member) f after m s set t a.top a.wanted in
       let next = next_is links w body (insn.PutField class member) f after m s (record f { stack = b.types }) (same_ok b.further) refl in
-      subst (λ (o : Option ℕ). Leads w asked m.heap.cells (on_some (λ slot. acts.put_field slot m) o)) (slot_there class member names s.body_of.linked)
+      let k : WordKind = kind_of names.field.kind in
+      let kinds : HasKind t k =
+      subst (λ (u : VType). HasKind u k) (sym same) (has_kind w.classes names.field.kind (owed.fields class names.slot (field_vtype w.classes names.field.kind) names.typed)) in
+      subst (λ (o : Option ℕ). Leads w asked (held_by m) (on_some (λ slot. on_some (λ kind. write_field slot kind m) (field_kind links.classes (field_of member))) o))
+      (slot_there class member names s.body_of.linked)
+      (subst (λ (o : Option WordKind). Leads w asked (held_by m) (on_some (λ kind. write_field names.slot kind m) o)) (kind_there class member names s.body_of.linked)
       (elim (written body.classes body class member b.top b.wanted) [
-        | inl own ↦ objects.put_field-leads w owed asked m.heap.cells fresh receiver member.class names.slot t a.top b.top b.types f m
-            (subst (λ (u : VType). slice_get (w.fields member.class) names.slot ≡ Some u) (sym same) names.own) stack fits
+        | inl own ↦ asks.write_field-leads w owed asked (held_by m) fresh receiver member.class names.slot t
+            (subst (λ (u : VType). slice_get (w.fields member.class) names.slot ≡ Some u) (sym same) names.own) k a.top b.top b.types f m kinds stack fits
             (subst (λ (u : VType). MayWrite w (w.method m.stack.frame.method).owner member.class u) (sym own.0) (sym s.body_of.owner ∙ own.1)) next at
-        | inr of_class ↦ objects.put_field-leads w owed asked m.heap.cells fresh receiver class names.slot t a.top b.top b.types f m
-            (subst (λ (u : VType). slice_get (w.fields class) names.slot ≡ Some u) (sym same) names.typed) stack fits
+        | inr of_class ↦ asks.write_field-leads w owed asked (held_by m) fresh receiver class names.slot t
+            (subst (λ (u : VType). slice_get (w.fields class) names.slot ≡ Some u) (sym same) names.typed) k a.top b.top b.types f m kinds stack fits
             (may_write body.classes w (w.method m.stack.frame.method).owner class b.top (fits_asked links w body (insn.PutField class member) f after m s set (vtype.Object class) b.top of_class)) next at
-      ])
+      ]))
 
   -- ---- casts
 
@@ -242,7 +268,7 @@ module _ (links : Links) (w : World) (owed : Owed w) (set : IsClassSet w.classes
       let casts : CastsTo w type = s.names in
       let a = take_then body want.Initialized f (give body (cast_vtype type)) after s.effect in
       let given = gives body (cast_vtype type) (record f { stack = a.types }) after a.further in
-      referents.cast-leads w owed asked m.heap.cells fresh receiver (passes links.classes type) a.top (cast_vtype type) a.types f m a.stack
+      referents.cast-leads w owed asked (held_by m) fresh receiver (passes links.classes type) a.top (cast_vtype type) a.types f m a.stack
       (initialized_wanted body.classes a.top a.wanted) (cast_refers type)
       (λ r one is. cast_fits type casts a.top r one (subst (λ (classes : List Class). passes classes type r ≡ true) s.body_of.linked is))
       (next_is links w body (insn.CheckCast type) f after m s (record f { stack = cast_vtype type ∷ a.types }) given.1 refl) at
@@ -252,7 +278,7 @@ module _ (links : Links) (w : World) (owed : Owed w) (set : IsClassSet w.classes
   instance_row type asked fresh receiver f after m s at =
       let a = take_then body want.Initialized f (give body vtype.Int) after s.effect in
       let given = gives body vtype.Int (record f { stack = a.types }) after a.further in
-      referents.answer-leads w owed asked m.heap.cells fresh receiver (is_instance links.classes type) a.top a.types f m a.stack
+      referents.answer-leads w owed asked (held_by m) fresh receiver (is_instance links.classes type) a.top a.types f m a.stack
       (initialized_wanted body.classes a.top a.wanted)
       (room_for links w body (insn.InstanceOf type) f after m s (length a.types) given.0)
       (next_is links w body (insn.InstanceOf type) f after m s (record f { stack = vtype.Int ∷ a.types }) given.1 refl) at

@@ -22,6 +22,7 @@ use Rattle.ver_frames.specs.declared.vtype.VType.TheVariants as vtype
 use Rattle.vm_heap.specs.declared.heap.WordKind.TheVariants as kind
 use Rattle.vm_typing.proofs.Referents as referents
 use Rattle.vm_typing.proofs.Returns as returns
+use Rattle.vm_typing.specs.Fits.{held_by}
 use Rattle.vm_typing.specs.Owed.{Moves, Owed, Refers}
 use Rattle.vm_act.specs.Calls as acts
 use Rattle.vm_typing.specs.Laws.{Leads}
@@ -94,7 +95,7 @@ module _ (links : Links) (w : World) (owed : Owed w) (set : IsClassSet w.classes
     where
       on : (o : Option VType) → reference_result body.result ≡ o
           → option_map_or (λ (t : VType). take body (want.Fits t) f) o (take body want.Reference f >>= λ g. Err rule.Return) ≡ Ok after
-          → Leads w asked m.heap.cells (acts.return_reference m)
+          → Leads w asked (held_by m) (acts.return_reference m)
       on None is e = absurd (no_error (passes_then (take body want.Reference f) (λ g. Err rule.Return) after e).1.1)
       on (Some t) is e =
           let a = take_last body (want.Fits t) f after e in
@@ -122,7 +123,7 @@ module _ (links : Links) (w : World) (owed : Owed w) (set : IsClassSet w.classes
       ap throwable s.body_of.classes ∙ ap (λ (o : Option ClassId). option_map_or (λ (c : ClassId). vtype.Object c) o vtype.Top) there.named in
       let may : IsAssignable w.classes a.top (vtype.Object there.class) =
       subst (λ (t : VType). IsAssignable w.classes a.top t) same (fits_asked links w body insn.Throw f after m s set (throwable body.classes) a.top a.wanted) in
-      referents.throw-leads w owed asked m.heap.cells fresh receiver there.class a.top a.types f m a.stack (refers_to w.classes a.top there.class may) may there.not_above at
+      referents.throw-leads w owed asked (held_by m) fresh receiver there.class a.top a.types f m a.stack (refers_to w.classes a.top there.class may) may there.not_above at
 
   pub rows : ReturnRows links w body
   rows = record { return_value = value_row; return_nothing = nothing_row; throw = throw_row }

@@ -16,6 +16,8 @@ use Rattle.ver_frames.specs.Types.{field_vtype}
 use Rattle.vm_code.specs.Classes.{is_subtype}
 use Rattle.vm_code.specs.Fields.{kinds_of, slot_of}
 use Rattle.vm_heap.specs.declared.heap.WordKind.{WordKind}
+use Rattle.vm_heap.specs.Tagged.{Site}
+use Rattle.vm_typing.specs.Fits.{held_by}
 use Rattle.vm_typing.specs.Owed.{HasKind, IsCallee, Selects}
 use Rattle.cf_insns.specs.declared.insn.ArrayOperation.{ArrayOperation}
 use Rattle.cf_insns.specs.declared.insn.BinaryOperator.{BinaryOperator}
@@ -175,8 +177,8 @@ pub record StandsAt (links : Links) (w : World) (body : Body) (insn : LinkedInsn
 
 -- the act of an instruction leads to a typed machine, or ends its task with what it may give
 abbrev pub IsRow : Links → World → Body → LinkedInsn → Type 0
-IsRow links w body insn = (asked : Option VType) (fresh : ℕ → ℕ) (receiver : ℕ) (f after : Frame) (m : Machine) → StandsAt links w body insn f after m
-    → IsAt w asked fresh receiver f m → Leads w asked m.heap.cells (act links insn m)
+IsRow links w body insn = (asked : Option VType) (fresh : ℕ → Site) (receiver : Site) (f after : Frame) (m : Machine) → StandsAt links w body insn f after m
+    → IsAt w asked fresh receiver f m → Leads w asked (held_by m) (act links insn m)
 
 -- Constants, local variables, and the operands as such
 pub record WordRows (links : Links) (w : World) (body : Body) : Type 0 where

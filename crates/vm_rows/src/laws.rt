@@ -17,7 +17,7 @@ ghost use Rattle.vm_typing.specs.Owed.{Owed, Selects};
 ghost use Rattle.vm_typing.specs.World.{World};
 ghost use Rattle.vm_world.specs.Worlds.{AreTyped, world_of};
 ghost use Rattle.vm_rows.specs.Rows.{Constructs, RunsAs, arguments_in, result_in, WordRows, IntRows, ReturnRows, ObjectRows, CallRows};
-ghost use Rattle.vm_rows.specs.Steps.{AreNamed, AreMembersNamed, AreNeverStuck};
+ghost use Rattle.vm_rows.specs.Steps.{AreNamed, AreMembersNamed, AreNeverStuck, AreNeverStuckByReplies};
 
 /// At a checked instruction on constants, local variables or operands as such, a machine that fits the
 /// frame there is not stuck, and goes on typed.
@@ -47,10 +47,12 @@ pub fn calls_are_let_through()
 {}
 
 /// A set that is linked and checked is never stuck: however many steps a typed machine makes by its
-/// instructions, there is a next one, or its task has ended with what it may give. What each instruction
-/// names has to be as linking says.
+/// instructions, there is a next one, or it waits for a reply of its space, or its task has ended with
+/// what it may give. So it is with each reply that fits. What each instruction names has to be as linking
+/// says.
 pub fn named_sets_are_never_stuck()
-    ensures { (links : Links) (frames : ℕ → ℕ → Frame) → AreLinks links → AreTyped links frames → AreNamed links frames → AreNeverStuck links frames }
+    ensures steps { (links : Links) (frames : ℕ → ℕ → Frame) → AreLinks links → AreTyped links frames → AreNamed links frames → AreNeverStuck links frames }
+    ensures replies { (links : Links) (frames : ℕ → ℕ → Frame) → AreLinks links → AreTyped links frames → AreNamed links frames → AreNeverStuckByReplies links frames }
 {}
 
 /// What the instructions of a linked set name is as linking says: the switches, the classes of which

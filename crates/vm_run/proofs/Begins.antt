@@ -1,5 +1,5 @@
 -- A task begins in a state that is never stuck: its first frame fits the one in which its method begins.
-use Rattle.std.proofs.Common.{◌≡◌, ℕ, zero, suc, ◌+◌, ◌-◌, ◌<◌, ◌≤◌, Bool, true, false, List, [], ◌∷◌, ◌++◌, length, map, refl, ap, sym, subst, ◌∙◌, arith, append_assoc, Option, Some, None, ◌⊎◌, inl, inr, eqb-true, drop, le-leb}
+use Rattle.std.proofs.Common.{◌≡◌, ℕ, zero, suc, ◌+◌, ◌-◌, ◌≤◌, Bool, true, false, List, [], ◌∷◌, ◌++◌, length, map, refl, ap, sym, subst, ◌∙◌, arith, append_assoc, Option, Some, None, ◌⊎◌, inl, inr, eqb-true, drop, le-leb}
 use Rattle.std.proofs.lemmas.List.{length-map}
 use Rattle.std.specs.Prelude.{not, ◌&&◌, ◌||◌, ◌==◌, nat_le, bytes_eq, codes, option_map, replicate, if◌then◌else◌}
 use Rattle.std.specs.List.{list_all}
@@ -18,7 +18,6 @@ use Rattle.space_ids.specs.declared.value.Value.{Value}
 use Rattle.space_ids.specs.declared.value.Value.TheVariants as value
 use Rattle.ver_frames.specs.Method.{Subject, is_static, argument_types, begins_uninit, receiver_types}
 use Rattle.ver_frames.specs.Types.{field_vtype, element_type, is_int}
-use Rattle.ver_frames.specs.declared.vtype.VType.{VType}
 use Rattle.ver_frames.specs.declared.vtype.VType.TheVariants as vtype
 use Rattle.vm_act.specs.declared.calls.Callee.{Callee}
 use Rattle.vm_act.specs.declared.ending.Thrown.{Thrown}
@@ -26,13 +25,13 @@ use Rattle.vm_act.specs.declared.ending.Thrown.TheVariants.{OutOfMemoryError, St
 use Rattle.vm_act.specs.declared.machine.Machine.{Machine}
 use Rattle.uuid.specs.declared.Uuid.{Uuid}
 use Rattle.vm_heap.specs.References.{Table}
-use Rattle.vm_heap.specs.Heap.{Cell, Ints, Store, all_cost, cell_at, cost}
+use Rattle.vm_heap.specs.Heap.{Cell, Ints, Store, all_cost, cell_at}
 use Rattle.vm_heap.specs.Tagged.{Tagged, Null, Unset}
 use Rattle.vm_stack.specs.Frames.{Frames, empty_frame, entered, frame_cost}
-use Rattle.vm_typing.specs.Fits.{There, IsInts, Fits, AllFit, CellFits, AllCells, HeapFits, no_marks, no_method}
+use Rattle.vm_typing.specs.Fits.{Held, OfHeap, There, IsInts, Fits, AllFit, CellFits, AllCells, no_marks, no_method}
 use Rattle.vm_typing.specs.Owed.{Owed, IsCallee}
 use Rattle.vm_typing.specs.Typed.{IsTyped}
-use Rattle.vm_typing.specs.World.{World, MethodType, IsPlain, parameters}
+use Rattle.vm_typing.specs.World.{World, MethodType, parameters}
 use Rattle.vm_typing.proofs.Runs.{starts_typed}
 use Rattle.vm_world.proofs.Owing.{owed}
 use Rattle.vm_world.proofs.Subjects.{passes_both, stands}
@@ -80,17 +79,17 @@ array_vtype classes kind e =
     let one : kind.dimensions ≡ 1 = eqb-true kind.dimensions 1 parts.0 in
     rw (one, array_int kind.element parts.1) refl
 
-module _ (w : World) (cells : List Cell) where
-  remote_null : (classes : List Class) (e : ElementType) → is_remote_element classes e ≡ true → Fits w cells no_marks (element_type classes e) Null
+module _ (w : World) (held : Held) where
+  remote_null : (classes : List Class) (e : ElementType) → is_remote_element classes e ≡ true → Fits w held no_marks (element_type classes e) Null
   unfolding element_type
   remote_null classes (element.Class name) is = by (number_of classes name) is
     where
-      by : (o : Option ClassId) → option_map_or (is_remote_interface classes) o false ≡ true → Fits w cells no_marks (option_map_or vtype.Object o vtype.Top) Null
+      by : (o : Option ClassId) → option_map_or (is_remote_interface classes) o false ≡ true → Fits w held no_marks (option_map_or vtype.Object o vtype.Top) Null
       by None e = absurd (cc)
       by (Some class) e = tt
   remote_null classes e is = absurd (cc)
 
-  remote_fits : (classes : List Class) (kind : FieldType) → is_remote_type classes kind ≡ true → Fits w cells no_marks (field_vtype classes kind) Null
+  remote_fits : (classes : List Class) (kind : FieldType) → is_remote_type classes kind ≡ true → Fits w held no_marks (field_vtype classes kind) Null
   unfolding field_vtype
   remote_fits classes kind e =
       let parts = both (kind.dimensions == 0) (is_remote_element classes kind.element) e in
@@ -98,26 +97,26 @@ module _ (w : World) (cells : List Cell) where
       rw none (remote_null classes kind.element parts.1)
 
   -- null fits each type that crosses and is no int
-  null_fits : (classes : List Class) (kind : FieldType) (b : Bool) → is_array_type kind ≡ b → is_remote_type classes kind ≡ true ⊎ (b ≡ true) → Fits w cells no_marks (field_vtype classes kind) Null
+  null_fits : (classes : List Class) (kind : FieldType) (b : Bool) → is_array_type kind ≡ b → is_remote_type classes kind ≡ true ⊎ (b ≡ true) → Fits w held no_marks (field_vtype classes kind) Null
   null_fits classes kind true is some = rw (array_vtype classes kind is) tt
   null_fits classes kind false is some = elim some [ inl remote ↦ remote_fits classes kind remote | inr never ↦ absurd (cc) ]
 
   -- an argument fits the type of its parameter, where its copy comes next
   value_fits : (classes : List Class) (kind : FieldType) (v : Value) (before following : List Cell) → crosses classes kind ≡ true → is_of_type kind v ≡ true
-      → cells ≡ before ++ (copy_of v ++ following) → Fits w cells no_marks (field_vtype classes kind) (passed_at (all_cost before) v)
+      → held.cells ≡ before ++ (copy_of v ++ following) → Fits w held no_marks (field_vtype classes kind) (passed_at (all_cost before) v)
   value_fits classes kind value.Null before following cross is are = by (is_int_type kind) refl is (is_array_type kind) refl cross
     where
-      by : (b : Bool) → is_int_type kind ≡ b → not b ≡ true → (c : Bool) → is_array_type kind ≡ c → (b || (c || is_remote_type classes kind)) ≡ true → Fits w cells no_marks (field_vtype classes kind) Null
+      by : (b : Bool) → is_int_type kind ≡ b → not b ≡ true → (c : Bool) → is_array_type kind ≡ c → (b || (c || is_remote_type classes kind)) ≡ true → Fits w held no_marks (field_vtype classes kind) Null
       by true int other c array cross = absurd (cc)
       by false int other true array cross = null_fits classes kind true array (inr refl)
       by false int other false array cross = null_fits classes kind false array (inl cross)
   value_fits classes kind (value.Int n) before following cross is are = rw (int_vtype classes kind is) tt
   value_fits classes kind (value.Ints elements) before following cross is are =
-      rw (array_vtype classes kind is) (subst (There IsInts) (sym (ap (λ cs. cell_at cs (all_cost before)) are ∙ cell_between before (Ints elements) following)) tt)
+      rw (array_vtype classes kind is) (subst (λ (o : Option Cell). There IsInts (option_map (λ cell. OfHeap cell) o)) (sym (ap (λ cs. cell_at cs (all_cost before)) are ∙ cell_between before (Ints elements) following)) tt)
   value_fits classes kind (value.Ref reference) before following cross is are = absurd (cc)
 
   all_fit : (classes : List Class) (kinds : List FieldType) (values : List Value) (before : List Cell) → list_all (crosses classes) kinds ≡ true → fill kinds values ≡ true
-      → cells ≡ before ++ copies values → AllFit w cells no_marks (map (field_vtype classes) kinds) (passed_from (all_cost before) values)
+      → held.cells ≡ before ++ copies values → AllFit w held no_marks (map (field_vtype classes) kinds) (passed_from (all_cost before) values)
   unfolding fill copies passed_from
   all_fit classes [] [] before cross filled are = tt
   all_fit classes [] (v ∷ values) before cross filled are = absurd (cc)
@@ -125,9 +124,9 @@ module _ (w : World) (cells : List Cell) where
   all_fit classes (kind ∷ kinds) (v ∷ values) before cross filled are =
       let first = both (crosses classes kind) (list_all (crosses classes) kinds) cross in
       let given = both (is_of_type kind v) (fill kinds values) filled in
-      let later : cells ≡ (before ++ copy_of v) ++ copies values = are ∙ sym (append_assoc before (copy_of v) (copies values)) in (
+      let later : held.cells ≡ (before ++ copy_of v) ++ copies values = are ∙ sym (append_assoc before (copy_of v) (copies values)) in (
         value_fits classes kind v before (copies values) first.0 given.0 are,
-        subst (λ address. AllFit w cells no_marks (map (field_vtype classes) kinds) (passed_from address values)) (all_cost-append before (copy_of v))
+        subst (λ address. AllFit w held no_marks (map (field_vtype classes) kinds) (passed_from address values)) (all_cost-append before (copy_of v))
             (all_fit classes kinds values (before ++ copy_of v) first.1 given.1 later),
       )
 
@@ -139,13 +138,13 @@ length-fill (kind ∷ kinds) [] e = absurd (cc)
 length-fill (kind ∷ kinds) (v ∷ values) e = ap (λ (n : ℕ). suc n) (length-fill kinds values (both (is_of_type kind v) (fill kinds values) e).1)
 
 -- copies of arrays are of no types that have to be met
-copies_fit : (w : World) (cells : List Cell) (values : List Value) → AllCells (CellFits w cells) (copies values)
+copies_fit : (w : World) (held : Held) (values : List Value) → AllCells (CellFits w held) (copies values)
 unfolding copies
-copies_fit w cells [] = tt
-copies_fit w cells (value.Null ∷ values) = copies_fit w cells values
-copies_fit w cells (value.Int n ∷ values) = copies_fit w cells values
-copies_fit w cells (value.Ints elements ∷ values) = (tt, copies_fit w cells values)
-copies_fit w cells (value.Ref reference ∷ values) = copies_fit w cells values
+copies_fit w held [] = tt
+copies_fit w held (value.Null ∷ values) = copies_fit w held values
+copies_fit w held (value.Int n ∷ values) = copies_fit w held values
+copies_fit w held (value.Ints elements ∷ values) = (tt, copies_fit w held values)
+copies_fit w held (value.Ref reference ∷ values) = copies_fit w held values
 
 -- what a method takes and is given, where it is not refused
 pub record Accepts (classes : List Class) (method : Method) (arguments : List Value) : Type 0 where
@@ -210,17 +209,20 @@ module _ (links : Links) (own : Uuid) (id : MethodId) (m : Subject) (arguments :
     references = record { own = own; rows = []; limit = limits.references };
   }
 
+  abbrev at_first : Held
+  at_first = record { cells = copies arguments; references = record { own = own; rows = []; limit = limits.references } }
+
   typed : IsTyped world (world.method id.0).result machine
   unfolding machine all_cost
   typed =
       starts_typed world owes callee (passed_from 0 arguments) empty_frame (limits.stack_words - frame_cost m.code.max_locals m.code.max_stack)
       (record { cells = copies arguments; free = limits.heap_words - all_cost (copies arguments) }) (record { own = own; rows = []; limit = limits.references }) agrees
-      (subst (λ ts. AllFit world (copies arguments) no_marks ts (passed_from 0 arguments)) (sym passed_is) fits)
-      (copies_fit world (copies arguments) arguments)
+      (subst (λ ts. AllFit world at_first no_marks ts (passed_from 0 arguments)) (sym passed_is) fits)
+      (copies_fit world at_first arguments)
       (ap (λ (t : MethodType). t.is_init) type_is ∙ normal)
     where
-      fits : AllFit world (copies arguments) no_marks (map (field_vtype links.classes) m.method.types.parameters) (passed_from 0 arguments)
-      fits = all_fit world (copies arguments) links.classes m.method.types.parameters arguments [] given.crossing given.filled refl
+      fits : AllFit world at_first no_marks (map (field_vtype links.classes) m.method.types.parameters) (passed_from 0 arguments)
+      fits = all_fit world at_first links.classes m.method.types.parameters arguments [] given.crossing given.filled refl
 
   running : IsNeverStuck links (Running machine limits.fuel)
   running = typed-IsNeverStuck links sound.frames (world.method id.0).result (owes.methods id.0 known).result (sound.keeps (world.method id.0).result) machine limits.fuel typed
@@ -241,7 +243,7 @@ module _ (links : Links) (own : Uuid) (id : MethodId) (m : Subject) (arguments :
   throws_within thrown k = subst (KeepsWithin links) (sym (run_over links k (Threw thrown) limits.fuel)) tt
 
   opens_within : (k : ℕ) (a b : Bool) → KeepsWithin links (run links k (if a then (if b then Running machine limits.fuel else Over (Threw StackOverflowError) limits.fuel) else Over (Threw OutOfMemoryError) limits.fuel))
-  opens_within k true true = stays_within links sound.frames sound.typed (world.method id.0).result (sound.keeps (world.method id.0).result) k machine limits.fuel typed
+  opens_within k true true = stays_within links sound.frames sound.typed (world.method id.0).result (owes.methods id.0 known).result (sound.keeps (world.method id.0).result) k machine limits.fuel typed
   opens_within k true false = throws_within StackOverflowError k
   opens_within k false b = throws_within OutOfMemoryError k
 

@@ -1,14 +1,13 @@
 -- Arguments that are copied into the heap, and passed one after another.
-use Rattle.std.proofs.Common.{◌≡◌, ℕ, zero, suc, ◌+◌, ◌-◌, ◌<◌, ◌≤◌, Bool, true, false, List, [], ◌∷◌, ◌++◌, length, get_or, take, drop, refl, ap, sym, subst, ◌∙◌, arith, add-one, append_assoc, Option, Some, None, eqb-true, ltb-true, ltb-false, lt-ltb, le-leb, leb-true}
+use Rattle.std.proofs.Common.{◌≡◌, ℕ, zero, suc, ◌+◌, ◌-◌, ◌<◌, ◌≤◌, Bool, true, false, List, [], ◌∷◌, ◌++◌, length, get_or, take, drop, refl, ap, sym, subst, ◌∙◌, arith, add-one, Some, None, eqb-true, ltb-true, lt-ltb, le-leb, leb-true}
 use Rattle.std.proofs.Math.ListN.{set}
 use Rattle.std.specs.Prelude.{ℤ, pos, ◌↔◌, ◌^◌, ◌&&◌, nat_eq, nat_lt, nat_le, if◌then◌else◌, replicate, slice_get, slice_set, option_and_then, IsSome, IsTrue}
 use Rattle.std.specs.Bool.{OnTrue}
 use Rattle.space_ids.specs.declared.value.Value.{Value}
 use Rattle.space_ids.specs.declared.value.Value.TheVariants as value
 use Rattle.vm_heap.specs.Heap.{Cell, Object, Ints, Store, all_cost, cell_at, changed_at, cost, element_at, element_of, cell_with_element, with_element, with_new}
-use Rattle.vm_heap.specs.Tagged.{Tagged}
 use Rattle.vm_typing.proofs.Kept.{cell_at-new}
-use Rattle.vm_run.specs.Start.{copies, copy_of, fill, has_room_for, have_room, is_of_type, is_short, passed_at, passed_from}
+use Rattle.vm_run.specs.Start.{copy_of, fill, has_room_for, is_of_type}
 use Rattle.cf_text.specs.declared.types.FieldType.{FieldType}
 
 cost_some : (c : Cell) → 0 < cost c

@@ -1,5 +1,5 @@
 -- The frames of a typed machine are within the limits of their methods.
-use Rattle.std.proofs.Common.{◌≡◌, ℕ, zero, suc, ◌<◌, ◌≤◌, Bool, true, false, List, [], ◌∷◌, length, refl, ap, sym, subst, ◌∙◌, arith, Option, Some, None}
+use Rattle.std.proofs.Common.{◌≡◌, ℕ, ◌+◌, ◌<◌, ◌≤◌, true, false, List, [], ◌∷◌, length, refl, ap, sym, subst, ◌∙◌, arith, Option, Some, None}
 use Rattle.std.specs.Option.{option_map_or}
 use Rattle.std.specs.Prelude.{option_map}
 use Rattle.cls_link.specs.Links.{Links}
@@ -7,23 +7,20 @@ use Rattle.ver_frames.specs.Assignable.{IsAssignable}
 use Rattle.ver_frames.specs.Frames as types
 use Rattle.ver_frames.specs.Method.{Subject}
 use Rattle.ver_frames.specs.declared.vtype.VType.{VType}
-use Rattle.vm_heap.specs.Heap.{Cell}
-use Rattle.vm_act.specs.Next.{Next, On, Ends, Asks, Stuck}
 use Rattle.vm_act.specs.declared.machine.Machine.{Machine}
 use Rattle.vm_stack.specs.Frames.{Frame}
 use Rattle.vm_typing.proofs.Leads.{length-AllZip}
-use Rattle.vm_typing.specs.Fits.{Fits, no_method}
-use Rattle.vm_typing.specs.Leads.{LeadsTo}
+use Rattle.vm_typing.specs.Fits.{Held, Fits, held_by, no_method}
 use Rattle.vm_typing.specs.Runs.{KeepsTyped}
-use Rattle.vm_typing.specs.Typed.{CallersWait, FitsFrame, IsTyped, Waits, marks_of, with_result}
-use Rattle.vm_typing.specs.World.{World, MethodType}
+use Rattle.vm_typing.specs.Typed.{CallersWait, FitsFrame, IsTyped, StandsBefore, marks_of, with_result}
+use Rattle.vm_typing.specs.Typed as waiting
+use Rattle.vm_typing.specs.World.{World, IsPlain, MethodType}
 use Rattle.vm_world.specs.Worlds.{AreTyped, method_type, subject_at, world_of}
 use Rattle.vm_rows.specs.Steps as insns
-use Rattle.vm_run.specs.Ends.{End, Spent, end_of}
 use Rattle.vm_run.specs.Limited.{IsWithinCode, AreWithinCode, KeepsWithin}
-use Rattle.vm_run.specs.Run.{State, Running, Over, Lost, over, after, step, run}
+use Rattle.vm_run.specs.Run.{State, Running, Waits, Over, Lost, run}
 use Rattle.vm_run.specs.Subjects.{declared_at, declared_of}
-use Rattle.vm_run.proofs.Runs.{run_done}
+use Rattle.vm_run.proofs.Safe.{IsSound, run-sound}
 
 -- a frame below the one with a result has no more operands
 more_with : (r : Option VType) (f : types.Frame) (count : ℕ) → length (with_result r f).stack ≤ count → length f.stack ≤ count
@@ -68,13 +65,13 @@ module _ (links : Links) (frames : ℕ → ℕ → types.Frame) (typed : AreType
         operands = omega (arith, operands, some_operands, fewer_operands);
       }
 
-  waiting_within : (cells : List Cell) (result : Option VType) (frame : Frame) → Waits world cells result frame → IsWithinCode links frame
-  waiting_within cells result frame waits =
+  waiting_within : (held : Held) (result : Option VType) (frame : Frame) → waiting.Waits world held result frame → IsWithinCode links frame
+  waiting_within held result frame waits =
       let enters = waits.enters in
       let given_locals : length frame.locals ≡ length waits.given.locals =
-      length-AllZip (Fits world cells (marks_of world frame.method waits.fresh waits.receiver)) waits.given.locals frame.locals waits.fits.locals in
+      length-AllZip (Fits world held (marks_of world frame.method waits.fresh waits.receiver)) waits.given.locals frame.locals waits.fits.locals in
       let given_operands : length frame.operands ≡ length waits.given.stack =
-      length-AllZip (Fits world cells (marks_of world frame.method waits.fresh waits.receiver)) waits.given.stack frame.operands waits.fits.operands in
+      length-AllZip (Fits world held (marks_of world frame.method waits.fresh waits.receiver)) waits.given.stack frame.operands waits.fits.operands in
       let there_locals : length ((world.method frame.method).frames frame.index).locals ≡ length (with_result result waits.given).locals =
       length-AllZip (IsAssignable links.classes) (with_result result waits.given).locals ((world.method frame.method).frames frame.index).locals enters.to.locals in
       let there_operands : length ((world.method frame.method).frames frame.index).stack ≡ length (with_result result waits.given).stack =
@@ -84,39 +81,46 @@ module _ (links : Links) (frames : ℕ → ℕ → types.Frame) (typed : AreType
       let fewer : length waits.given.stack ≤ length ((world.method frame.method).frames frame.index).stack = more_with result waits.given _ same in
       few_within frame frame.index waits.fits.known enters.inside (given_locals ∙ sym (there_locals ∙ same_locals)) (omega (arith, given_operands, fewer))
 
-  callers_within : (asked : Option VType) (cells : List Cell) (result : Option VType) (callers : List Frame) → CallersWait world asked cells result callers → AreWithinCode links callers
-  callers_within asked cells result [] waits = tt
-  callers_within asked cells result (frame ∷ []) waits = tt
-  callers_within asked cells result (frame ∷ below ∷ callers) waits =
-      (waiting_within cells result frame waits.0, callers_within asked cells (world.method frame.method).result (below ∷ callers) waits.1)
+  callers_within : (asked : Option VType) (held : Held) (result : Option VType) (callers : List Frame) → CallersWait world asked held result callers → AreWithinCode links callers
+  callers_within asked held result [] waits = tt
+  callers_within asked held result (frame ∷ []) waits = tt
+  callers_within asked held result (frame ∷ below ∷ callers) waits =
+      (waiting_within held result frame waits.0, callers_within asked held (world.method frame.method).result (below ∷ callers) waits.1)
 
   typed_within : (asked : Option VType) (m : Machine) (fuel : ℕ) → IsTyped world asked m → KeepsWithin links (Running m fuel)
   typed_within asked m fuel is =
       let fits = is.at.frame in
       let here : types.Frame = (world.method m.stack.frame.method).frames m.stack.frame.index in
       let locals : length m.stack.frame.locals ≡ length here.locals =
-      length-AllZip (Fits world m.heap.cells (marks_of world m.stack.frame.method is.fresh is.receiver)) here.locals m.stack.frame.locals fits.locals in
+      length-AllZip (Fits world (held_by m) (marks_of world m.stack.frame.method is.fresh is.receiver)) here.locals m.stack.frame.locals fits.locals in
       let operands : length m.stack.frame.operands ≡ length here.stack =
-      length-AllZip (Fits world m.heap.cells (marks_of world m.stack.frame.method is.fresh is.receiver)) here.stack m.stack.frame.operands fits.operands in (
+      length-AllZip (Fits world (held_by m) (marks_of world m.stack.frame.method is.fresh is.receiver)) here.stack m.stack.frame.operands fits.operands in (
         few_within m.stack.frame m.stack.frame.index fits.known is.inside locals (omega (arith, operands)),
-        callers_within asked m.heap.cells (world.method m.stack.frame.method).result m.stack.callers is.at.callers,
+        callers_within asked (held_by m) (world.method m.stack.frame.method).result m.stack.callers is.at.callers,
       )
 
-  over_within : (o : Option End) (fuel : ℕ) → KeepsWithin links (over o fuel)
-  over_within None fuel = tt
-  over_within (Some end) fuel = tt
+  -- a machine that waits has no more than comes in at the next instruction
+  waits_within : (asked : Option VType) (m : Machine) → StandsBefore world asked m → IsWithinCode links m.stack.frame × AreWithinCode links m.stack.callers
+  waits_within asked m is =
+      let enters = is.enters in
+      let there_locals : length ((world.method m.stack.frame.method).frames (m.stack.frame.index + 1)).locals ≡ length is.next.locals =
+      length-AllZip (IsAssignable links.classes) is.next.locals ((world.method m.stack.frame.method).frames (m.stack.frame.index + 1)).locals enters.to.locals in
+      let there_operands : length ((world.method m.stack.frame.method).frames (m.stack.frame.index + 1)).stack ≡ length is.next.stack =
+      length-AllZip (IsAssignable links.classes) is.next.stack ((world.method m.stack.frame.method).frames (m.stack.frame.index + 1)).stack enters.to.stack in
+      let few = is.operands in (
+        few_within m.stack.frame (m.stack.frame.index + 1) is.known enters.inside (is.locals ∙ sym there_locals) (omega (arith, few, there_operands)),
+        callers_within asked (held_by m) (world.method m.stack.frame.method).result m.stack.callers is.callers,
+      )
+
+  sound_within : (asked : Option VType) (plain : (t : VType) → asked ≡ Some t → IsPlain t) (keeps : KeepsTyped world asked (insns.step links)) (s : State)
+      → IsSound links frames asked plain keeps s → KeepsWithin links s
+  sound_within asked plain keeps (Running m fuel) sound = typed_within asked m fuel sound
+  sound_within asked plain keeps (Waits op m fuel) sound = waits_within asked m sound.before
+  sound_within asked plain keeps (Over end fuel) sound = tt
+  sound_within asked plain keeps Lost sound = tt
 
   -- so are those of all machines to which it leads
-  pub stays_within : (asked : Option VType) → KeepsTyped world asked (insns.step links) → (k : ℕ) (m : Machine) (fuel : ℕ) → IsTyped world asked m
-      → KeepsWithin links (run links k (Running m fuel))
-  unfolding run step
-  stays_within asked keeps zero m fuel is = typed_within asked m fuel is
-  stays_within asked keeps (suc k) m zero is = subst (KeepsWithin links) (sym (run_done links k (Some Spent) zero)) tt
-  stays_within asked keeps (suc k) m (suc fuel) is = on (λ m1 t. stays_within asked keeps k m1 fuel t) (insns.step links m) (keeps m is)
-    where
-      on : ((m1 : Machine) → IsTyped world asked m1 → KeepsWithin links (run links k (Running m1 fuel))) → (next : Next)
-          → LeadsTo world asked m.heap.cells (IsTyped world asked) next → KeepsWithin links (run links k (after m.heap.cells next fuel))
-      on go (On m1) leads = go m1 leads
-      on go (Ends e) leads = subst (KeepsWithin links) (sym (run_done links k (end_of m.heap.cells e) fuel)) (over_within (end_of m.heap.cells e) fuel)
-      on go (Asks op m1) leads = absurd leads
-      on go Stuck leads = absurd leads
+  pub stays_within : (asked : Option VType) → ((t : VType) → asked ≡ Some t → IsPlain t) → KeepsTyped world asked (insns.step links) → (k : ℕ) (m : Machine) (fuel : ℕ)
+      → IsTyped world asked m → KeepsWithin links (run links k (Running m fuel))
+  stays_within asked plain keeps k m fuel is =
+      sound_within asked plain keeps (run links k (Running m fuel)) (run-sound links frames asked plain keeps k (Running m fuel) is)

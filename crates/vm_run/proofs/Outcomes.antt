@@ -10,6 +10,7 @@ use Rattle.cls_set.specs.declared.class.Class.{Class}
 use Rattle.space_ids.specs.declared.ids.ClassId.{ClassId}
 use Rattle.space_ids.specs.declared.value.Value.TheVariants as value
 use Rattle.vm_run.specs.Run.{State, over, run, IsNotLost, IsNeverStuck}
+use Rattle.vm_run.proofs.Runs.{at_once}
 use Rattle.vm_run.specs.Task.{most_elements, outcome_of, thrown_name, threw_named, unmarshalled, IsOfSet, IsOutcome, Tells, TellsThrown}
 use Rattle.vm_run.specs.declared.outcome.Outcome.{Outcome}
 use Rattle.vm_run.specs.declared.outcome.Outcome.TheVariants as outcome
@@ -86,9 +87,9 @@ element_there cells address count index e h = there_at (cell_at cells address) c
 -- a task that is never stuck has ended with something
 pub end_there : (links : Links) (s : State) (o : Option End) (fuel : ℕ) → IsNeverStuck links s → s ≡ over o fuel → IsSome o
 unfolding run
-end_there links s o fuel safe is = of o (subst (IsNotLost links.classes) is (safe.always 0))
+end_there links s o fuel safe is = of o (subst (IsNotLost links) is (at_once links s safe))
   where
-    of : (o : Option End) → IsNotLost links.classes (over o fuel) → IsSome o
+    of : (o : Option End) → IsNotLost links (over o fuel) → IsSome o
     of None h = absurd h
     of (Some e) h = refl
 
@@ -140,9 +141,9 @@ pub record Outcomes (classes : List Class) (s : State) (told : Outcome) : Type 0
 pub is_outcome : (links : Links) (s : State) (o : Option End) (fuel : ℕ) (told : Outcome) → IsNeverStuck links s → s ≡ over o fuel
     → option_and_then (outcome_of links.classes) o ≡ Some told → Outcomes links.classes s told
 unfolding run
-is_outcome links s o fuel told safe is e = of o (subst (IsNotLost links.classes) is (safe.always 0)) is e
+is_outcome links s o fuel told safe is e = of o (subst (IsNotLost links) is (at_once links s safe)) is e
   where
-    of : (o : Option End) → IsNotLost links.classes (over o fuel) → s ≡ over o fuel → option_and_then (outcome_of links.classes) o ≡ Some told → Outcomes links.classes s told
+    of : (o : Option End) → IsNotLost links (over o fuel) → s ≡ over o fuel → option_and_then (outcome_of links.classes) o ≡ Some told → Outcomes links.classes s told
     of None h is e = absurd h
     of (Some end) h is e =
         let so = told_end links.classes end told e h in

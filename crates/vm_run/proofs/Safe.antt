@@ -1,73 +1,150 @@
 -- The task of a typed machine is never stuck.
-use Rattle.std.proofs.Common.{◌≡◌, ℕ, zero, suc, List, refl, sym, subst, Option, Some, None}
+use Rattle.std.proofs.Common.{◌≡◌, ℕ, zero, suc, ◌+◌, ◌<◌, true, false, List, [], ◌∷◌, length, refl, ap, subst, ◌∙◌, Option, Some, None}
 use Rattle.std.specs.Prelude.{option_map}
+use Rattle.std.specs.Option.{option_map_or}
 use Rattle.cls_link.specs.Links.{Links}
-use Rattle.cls_set.specs.declared.class.Class.{Class}
 use Rattle.ver_frames.specs.Frames as types
+use Rattle.ver_frames.specs.Method.{Subject}
 use Rattle.ver_frames.specs.declared.vtype.VType.{VType}
 use Rattle.ver_frames.specs.declared.vtype.VType.TheVariants as vtype
 use Rattle.vm_heap.specs.Heap.{Cell, Object, Ints, cell_at}
 use Rattle.vm_act.specs.Next.{Next, On, Ends, Asks, Stuck}
+use Rattle.vm_act.specs.Remote.{answered}
+use Rattle.vm_act.specs.declared.asked.Reply.{Reply}
 use Rattle.vm_act.specs.declared.ending.Ending.{Ending}
 use Rattle.vm_act.specs.declared.ending.Ending.TheVariants as ending
 use Rattle.vm_act.specs.declared.machine.Machine.{Machine}
-use Rattle.vm_typing.specs.Fits.{There}
-use Rattle.vm_typing.specs.Leads.{LeadsTo, IsGiven}
-use Rattle.vm_typing.specs.Runs.{KeepsTyped}
+use Rattle.vm_typing.specs.Fits.{Held, OfHeap, There, Pointee, held_by, no_method}
+use Rattle.vm_typing.specs.Leads.{Completes, IsGiven, IsWaiting, LeadsTo}
+use Rattle.vm_typing.specs.Runs.{KeepsTyped, Move, Replied, Steps}
 use Rattle.vm_typing.specs.Typed.{IsTyped}
 use Rattle.vm_typing.specs.World.{World, IsPlain}
-use Rattle.vm_world.specs.Worlds.{world_of}
+use Rattle.vm_world.specs.Worlds.{method_type, subject_at, world_of}
+use Rattle.vm_rows.proofs.Entries.{is_entry}
 use Rattle.vm_rows.specs.Steps as insns
-use Rattle.vm_run.specs.Ends.{End, Spent, end_of, returned_cell}
-use Rattle.vm_run.specs.Run.{State, Running, Over, Lost, over, after, step, run, IsNotLost, IsNeverStuck}
-use Rattle.vm_run.proofs.Runs.{run_done}
+use Rattle.vm_run.specs.Ends.{End, IsEndIn, end_of, returned_cell}
+use Rattle.vm_run.specs.Run.{State, Running, Waits, Over, Lost, over, after, answer, code_of, played, step, run, AreDue, IsDue, IsNotLost, IsNeverStuck}
+use Rattle.vm_run.proofs.Runs.{run_over}
 
-cell-there : (classes : List Class) (P : Cell → Type 0) (o : Option Cell) (fuel : ℕ) → There P o → IsNotLost classes (over (option_map returned_cell o) fuel)
-cell-there classes P None fuel there = absurd there
-cell-there classes P (Some (Object class fields)) fuel there = tt
-cell-there classes P (Some (Ints elements)) fuel there = tt
+cell-there : (links : Links) (P : Pointee → Type 0) (o : Option Cell) (fuel : ℕ) → There P (option_map (λ cell. OfHeap cell) o)
+    → IsNotLost links (over (option_map returned_cell o) fuel)
+cell-there links P None fuel there = absurd there
+cell-there links P (Some (Object class fields)) fuel there = tt
+cell-there links P (Some (Ints elements)) fuel there = tt
 
 -- a result of a type that fields and results have is there
-given-there : (w : World) (classes : List Class) (cells : List Cell) (asked : Option VType) (address : ℕ) (fuel : ℕ) → ((t : VType) → asked ≡ Some t → IsPlain t)
-    → IsGiven w asked cells (ending.ReturnedReference (Some address)) → IsNotLost classes (over (option_map returned_cell (cell_at cells address)) fuel)
-given-there w classes cells None address fuel plain given = absurd given
-given-there w classes cells (Some vtype.Top) address fuel plain given = absurd (plain vtype.Top refl)
-given-there w classes cells (Some vtype.Int) address fuel plain given = absurd given
-given-there w classes cells (Some vtype.Null) address fuel plain given = absurd given
-given-there w classes cells (Some (vtype.Object class)) address fuel plain given = cell-there classes _ (cell_at cells address) fuel given
-given-there w classes cells (Some vtype.IntArray) address fuel plain given = cell-there classes _ (cell_at cells address) fuel given
-given-there w classes cells (Some (vtype.Uninitialized offset)) address fuel plain given = absurd (plain (vtype.Uninitialized offset) refl)
-given-there w classes cells (Some vtype.UninitializedThis) address fuel plain given = absurd (plain vtype.UninitializedThis refl)
+given-there : (w : World) (links : Links) (held : Held) (asked : Option VType) (address : ℕ) (fuel : ℕ) → ((t : VType) → asked ≡ Some t → IsPlain t)
+    → IsGiven w asked held (ending.ReturnedReference (Some address)) → IsNotLost links (over (option_map returned_cell (cell_at held.cells address)) fuel)
+given-there w links held None address fuel plain given = absurd given
+given-there w links held (Some vtype.Top) address fuel plain given = absurd (plain vtype.Top refl)
+given-there w links held (Some vtype.Int) address fuel plain given = absurd given
+given-there w links held (Some vtype.Null) address fuel plain given = absurd given
+given-there w links held (Some (vtype.Object class)) address fuel plain given = cell-there links _ (cell_at held.cells address) fuel given
+given-there w links held (Some vtype.IntArray) address fuel plain given = cell-there links _ (cell_at held.cells address) fuel given
+given-there w links held (Some (vtype.Uninitialized offset)) address fuel plain given = absurd (plain (vtype.Uninitialized offset) refl)
+given-there w links held (Some vtype.UninitializedThis) address fuel plain given = absurd (plain vtype.UninitializedThis refl)
+
+-- the instructions of a method with code are as many as its type says
+pub counted : (links : Links) (frames : ℕ → ℕ → types.Frame) (number : ℕ) → (world_of links frames).has_code number ≡ true
+    → ((world_of links frames).method number).count ≡ length (code_of links number)
+unfolding code_of
+counted links frames number known = by (subject_at links number) refl known
+  where
+    by : (o : Option Subject) → subject_at links number ≡ o → option_map_or (λ (s : Subject). true) o false ≡ true
+        → ((world_of links frames).method number).count ≡ length (code_of links number)
+    by None e has = absurd (cc)
+    by (Some s) e has =
+        let entry = is_entry links number s e in
+        ap (λ (o : Option Subject). (option_map_or (λ (s : Subject). method_type s (frames number)) o no_method).count) e ∙ rw (entry.at, entry.code) refl
 
 module _ (links : Links) (frames : ℕ → ℕ → types.Frame) (asked : Option VType) (plain : (t : VType) → asked ≡ Some t → IsPlain t)
     (keeps : KeepsTyped (world_of links frames) asked (insns.step links)) where
   abbrev world : World
   world = world_of links frames
 
-  ended : (cells : List Cell) (e : Ending) (fuel : ℕ) → IsGiven world asked cells e → IsNotLost links.classes (over (end_of cells e) fuel)
-  ended cells ending.ReturnedNothing fuel given = tt
-  ended cells (ending.ReturnedInt n) fuel given = tt
-  ended cells (ending.ReturnedReference None) fuel given = tt
-  ended cells (ending.ReturnedReference (Some address)) fuel given = given-there world links.classes cells asked address fuel plain given
-  ended cells (ending.ReturnedRemote reference) fuel given = tt
-  ended cells (ending.Threw thrown) fuel given = tt
-  ended cells (ending.ThrewObject class) fuel given = given
+  abbrev Typed : Machine → Type 0
+  Typed = IsTyped world asked
 
-  never_lost : (k : ℕ) (m : Machine) (fuel : ℕ) → IsTyped world asked m → IsNotLost links.classes (run links k (Running m fuel))
-  unfolding run step
-  never_lost zero m fuel typed = tt
-  never_lost (suc k) m zero typed = subst (IsNotLost links.classes) (sym (run_done links k (Some Spent) zero)) tt
-  never_lost (suc k) m (suc fuel) typed = on (λ m1 t. never_lost k m1 fuel t) (insns.step links m) (keeps m typed)
-    where
-      on : ((m1 : Machine) → IsTyped world asked m1 → IsNotLost links.classes (run links k (Running m1 fuel))) → (next : Next)
-          → LeadsTo world asked m.heap.cells (IsTyped world asked) next → IsNotLost links.classes (run links k (after m.heap.cells next fuel))
-      on go (On m1) leads = go m1 leads
-      on go (Ends e) leads = subst (IsNotLost links.classes) (sym (run_done links k (end_of m.heap.cells e) fuel)) (ended m.heap.cells e fuel leads)
-      on go (Asks op m1) leads = absurd leads
-      on go Stuck leads = absurd leads
+  -- a state of a typed machine
+  abbrev pub IsSound : State → Type 0
+  IsSound (Running m fuel) = Typed m
+  IsSound (Waits op m fuel) = IsWaiting world asked Typed op m
+  IsSound (Over end fuel) = IsEndIn links.classes end
+  IsSound Lost = ⊥
 
-  pub typed-IsNeverStuck : (m : Machine) (fuel : ℕ) → IsTyped world asked m → IsNeverStuck links (Running m fuel)
-  typed-IsNeverStuck m fuel typed = record { always = λ k. never_lost k m fuel typed }
+  over-sound : (o : Option End) (fuel : ℕ) → IsNotLost links (over o fuel) → IsSound (over o fuel)
+  over-sound None fuel kept = kept
+  over-sound (Some end) fuel kept = kept
 
-pub over-IsNeverStuck : (links : Links) (end : End) (fuel : ℕ) → IsNotLost links.classes (Over end fuel) → IsNeverStuck links (Over end fuel)
-over-IsNeverStuck links end fuel there = record { always = λ k. subst (IsNotLost links.classes) (sym (run_done links k (Some end) fuel)) there }
+  ended : (held : Held) (e : Ending) (fuel : ℕ) → IsGiven world asked held e → IsSound (over (end_of held.cells e) fuel)
+  ended held ending.ReturnedNothing fuel given = tt
+  ended held (ending.ReturnedInt n) fuel given = tt
+  ended held (ending.ReturnedReference None) fuel given = tt
+  ended held (ending.ReturnedReference (Some address)) fuel given =
+      over-sound (option_map returned_cell (cell_at held.cells address)) fuel (given-there world links held asked address fuel plain given)
+  ended held (ending.ReturnedRemote reference) fuel given = tt
+  ended held (ending.Threw thrown) fuel given = tt
+  ended held (ending.ThrewObject class) fuel given = given
+
+  after-sound : (m : Machine) (next : Next) (fuel : ℕ) → LeadsTo world asked (held_by m) Typed next → IsSound (after m.heap.cells next fuel)
+  after-sound m (On m1) fuel leads = leads
+  after-sound m (Ends e) fuel leads = ended (held_by m) e fuel leads
+  after-sound m (Asks op m1) fuel leads = leads
+  after-sound m Stuck fuel leads = leads
+
+  completed-sound : (m : Machine) (next : Next) (fuel : ℕ) → Completes world asked (held_by m) Typed next → IsSound (after m.heap.cells next fuel)
+  completed-sound m (On m1) fuel done = done
+  completed-sound m (Ends e) fuel done = ended (held_by m) e fuel done
+  completed-sound m (Asks op m1) fuel done = absurd done
+  completed-sound m Stuck fuel done = done
+
+  -- each step leads to such a state
+  pub step-sound : (s : State) → IsSound s → IsSound (step links s)
+  unfolding step
+  step-sound (Running m zero) sound = tt
+  step-sound (Running m (suc fuel)) sound = after-sound m (insns.step links m) fuel (keeps m sound)
+  step-sound (Waits op m fuel) sound = sound
+  step-sound (Over end fuel) sound = sound
+  step-sound Lost sound = sound
+
+  pub run-sound : (k : ℕ) (s : State) → IsSound s → IsSound (run links k s)
+  unfolding run
+  run-sound zero s sound = sound
+  run-sound (suc k) s sound = run-sound k (step links s) (step-sound s sound)
+
+  -- and each reply that is due
+  pub answer-sound : (given : Reply) (s : State) → IsSound s → IsDue links.classes given s → IsSound (answer given s)
+  unfolding answer
+  answer-sound given (Running m fuel) sound due = absurd due
+  answer-sound given (Waits op m fuel) sound due = completed-sound m (answered given m) fuel (sound.completes given due)
+  answer-sound given (Over end fuel) sound due = absurd due
+  answer-sound given Lost sound due = absurd due
+
+  plays-sound : (moves : List Move) (s : State) → IsSound s → AreDue links moves s → IsSound (played links moves s)
+  unfolding played AreDue
+  plays-sound [] s sound due = sound
+  plays-sound (Steps k ∷ moves) s sound due = plays-sound moves (run links k s) (run-sound k s sound) due
+  plays-sound (Replied given ∷ moves) s sound due = plays-sound moves (answer given s) (answer-sound given s sound due.0) due.1
+
+  not-lost : (s : State) → IsSound s → IsNotLost links s
+  not-lost (Running m fuel) sound = tt
+  not-lost (Waits op m fuel) sound =
+      (sound.fits, subst (λ (n : ℕ). m.stack.frame.index + 1 < n) (counted links frames m.stack.frame.method sound.before.known) sound.before.enters.inside)
+  not-lost (Over end fuel) sound = sound
+  not-lost Lost sound = sound
+
+  pub sound-IsNeverStuck : (s : State) → IsSound s → IsNeverStuck links s
+  sound-IsNeverStuck s sound = record { always = λ moves due. not-lost (played links moves s) (plays-sound moves s sound due) }
+
+  pub typed-IsNeverStuck : (m : Machine) (fuel : ℕ) → Typed m → IsNeverStuck links (Running m fuel)
+  typed-IsNeverStuck m fuel typed = sound-IsNeverStuck (Running m fuel) typed
+
+-- what is over is never stuck
+pub over-IsNeverStuck : (links : Links) (end : End) (fuel : ℕ) → IsEndIn links.classes end → IsNeverStuck links (Over end fuel)
+unfolding played AreDue
+over-IsNeverStuck links end fuel there = record { always = always }
+  where
+    always : (moves : List Move) → AreDue links moves (Over end fuel) → IsNotLost links (played links moves (Over end fuel))
+    always [] due = there
+    always (Steps k ∷ moves) due = rw (run_over links k end fuel) (always moves (subst (AreDue links moves) (run_over links k end fuel) due))
+    always (Replied given ∷ moves) due = absurd due.0

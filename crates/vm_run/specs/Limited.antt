@@ -3,7 +3,7 @@
 use Rattle.std.specs.Prelude.{◌≡◌, ◌≤◌, Some, List, [], ◌∷◌, length}
 use Rattle.cls_link.specs.Links.{Links}
 use Rattle.vm_stack.specs.Frames.{Frame}
-use Rattle.vm_run.specs.Run.{State, Running, Over, Lost}
+use Rattle.vm_run.specs.Run.{State, Running, Waits, Over, Lost}
 use Rattle.vm_run.specs.Subjects.{Declared, declared_at}
 
 -- a frame is one of a method with code, and has no more local variables and operands than that allows
@@ -22,5 +22,6 @@ AreWithinCode links (frame ∷ below ∷ callers) = IsWithinCode links frame × 
 -- the frame of the running method of a task and those of all its callers are within max_locals and max_stack
 abbrev pub KeepsWithin : Links → State → Type 0
 KeepsWithin links (Running m fuel) = IsWithinCode links m.stack.frame × AreWithinCode links m.stack.callers
+KeepsWithin links (Waits op m fuel) = IsWithinCode links m.stack.frame × AreWithinCode links m.stack.callers
 KeepsWithin links (Over end fuel) = Unit {0}
 KeepsWithin links Lost = Unit {0}

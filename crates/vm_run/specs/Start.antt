@@ -18,8 +18,8 @@ use Rattle.space_ids.specs.declared.value.Value.{Value}
 use Rattle.space_ids.specs.declared.value.Value.TheVariants as value
 use Rattle.uuid.specs.declared.Uuid.{Uuid}
 use Rattle.ver_frames.specs.Method.{is_static}
-use Rattle.vm_code.specs.Classes.{is_subtype}
-use Rattle.vm_heap.specs.Heap.{Cell, Ints, all_cost, cost}
+use Rattle.vm_code.specs.Classes.{is_below_remote}
+use Rattle.vm_heap.specs.Heap.{Cell, Ints, all_cost}
 use Rattle.vm_heap.specs.Tagged.{Tagged, Int, Null, Local, Unset}
 use Rattle.vm_stack.specs.Frames.{Frame, empty_frame, frame_cost}
 use Rattle.vm_act.specs.declared.ending.Thrown.TheVariants.{OutOfMemoryError, StackOverflowError}
@@ -38,10 +38,6 @@ is_startable m = not (bytes_eq m.method.name (codes "<init>")) && not (length m.
 -- the method at which a task may start
 abbrev pub startable : Links → MethodId → Option Declared
 startable links id = option_and_then (λ m. if is_startable m then Some m else None) (declared_at links id)
-
--- whether a class is java/rmi/Remote, or that is among its supertypes
-abbrev pub is_below_remote : List Class → ClassId → Bool
-is_below_remote classes class = option_map_or (λ remote. is_subtype classes class remote) (number_of classes (codes "java/rmi/Remote")) false
 
 -- whether a class is a remote interface (Java RMI specification, 2.4)
 abbrev pub is_remote_interface : List Class → ClassId → Bool

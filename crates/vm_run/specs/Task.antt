@@ -1,5 +1,5 @@
 -- Tasks: a program, the space that the task belongs to, and the state of its machine.
-use Rattle.std.specs.Prelude.{◌≡◌, ℕ, ◌+◌, ◌<◌, ℤ, nat_le, if◌then◌else◌, List, [], length, Option, Some, None, codes, option_map, MatchBool}
+use Rattle.std.specs.Prelude.{◌≡◌, ℕ, suc, ◌+◌, ◌<◌, ℤ, nat_le, if◌then◌else◌, List, [], length, Option, Some, None, codes, option_map, MatchBool}
 use Rattle.cls_link.specs.Links.{Links}
 use Rattle.cls_set.specs.Classes.{name_at, number_of}
 use Rattle.cls_set.specs.declared.class.Class.{Class}
@@ -10,11 +10,11 @@ use Rattle.vm_act.specs.declared.ending.Ending.TheVariants.{ReturnedReference}
 use Rattle.vm_act.specs.declared.ending.Thrown.{Thrown}
 use Rattle.vm_act.specs.declared.ending.Thrown.TheVariants as thrown
 use Rattle.vm_run.specs.Ends.{End, ReturnedNothing, ReturnedInt, ReturnedNull, ReturnedInts, ReturnedObject, ReturnedRemote, Threw, ThrewObject, Spent, end_of}
-use Rattle.vm_run.specs.Run.{State, Running, Over, Lost, over, run}
+use Rattle.vm_run.specs.Run.{State, Running, Waits, Over, Lost, over, run}
 use Rattle.vm_run.specs.declared.outcome.Outcome.{Outcome}
 use Rattle.vm_run.specs.declared.outcome.Outcome.TheVariants as outcome
 use Rattle.vm_run.specs.declared.outcome.Pause.{Pause}
-use Rattle.vm_run.specs.declared.outcome.Pause.TheVariants.{Turn, Ended}
+use Rattle.vm_run.specs.declared.outcome.Pause.TheVariants.{Ask, Turn, Ended}
 use Rattle.vm_run.specs.declared.phase.Last.{Last}
 use Rattle.vm_run.specs.declared.phase.Last.TheVariants as last
 use Rattle.vm_run.specs.declared.phase.Phase.{Phase}
@@ -34,21 +34,24 @@ last_end last.Spent = Some Spent
 -- the state that a phase is
 abbrev pub phase_state : Phase → State
 phase_state (phase.Running machine fuel) = Running machine fuel
+phase_state (phase.Waiting machine op fuel) = Waits op machine fuel
 phase_state (phase.Over end fuel) = over (last_end end) fuel
 
 -- what a run tells of the state that it led to
 abbrev pub pause_at : State → Pause
 pause_at (Running machine fuel) = Turn
+pause_at (Waits op machine fuel) = Ask op
 pause_at (Over end fuel) = Ended
 pause_at Lost = Ended
 
--- the fuel that is left
+-- the fuel that is left; an instruction that waits for its reply has not taken its unit yet
 abbrev pub fuel_left : State → ℕ
 fuel_left (Running machine fuel) = fuel
+fuel_left (Waits op machine fuel) = suc fuel
 fuel_left (Over end fuel) = fuel
 fuel_left Lost = 0
 
--- the state in which a task ends: one step more than it has fuel for finds it spent, if nothing ended it before
+-- the state in which a task ends or asks: one step more than it has fuel for finds it spent, if nothing ended it before
 abbrev pub final_state : Links → State → State
 final_state links state = run links (fuel_left state + 1) state
 
@@ -94,6 +97,7 @@ outcome_of classes Spent = Some outcome.Spent
 -- the outcome of a task that is over
 abbrev pub outcome_at : List Class → State → Option Outcome
 outcome_at classes (Running machine fuel) = None
+outcome_at classes (Waits op machine fuel) = None
 outcome_at classes (Over end fuel) = outcome_of classes end
 outcome_at classes Lost = None
 

@@ -11,6 +11,7 @@ pub use outcome::{Outcome, Pause};
 pub use program::Program;
 pub use task::Task;
 pub use ver_check::{Accepted, Linked, MethodId, Numbered};
+pub use vm_code::{Asked, FieldValue, Reply};
 pub use vm_heap::{ClassId, ObjId, Ref, Row, Uuid, Value};
 
 mod fault;

@@ -1,12 +1,15 @@
 //! What callers see of tasks: limits, pauses and outcomes.
 
+use vm_code::Asked;
 use vm_heap::{ClassId, Value};
 
 /// What a run of a task came to.
 #[derive(Clone, Copy, Debug, PartialEq, Eq)]
 pub enum Pause {
-    /// As many instructions were made as asked, and the task has not ended.
+    /// As many instructions were made as was asked for, and the task has not ended.
     Turn,
+    /// It asks this of its space, and waits for the reply.
+    Ask(Asked),
     /// The task has ended.
     Ended,
 }

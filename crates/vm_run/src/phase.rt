@@ -1,13 +1,16 @@
 //! Whether a task runs or is over.
-ghost use Rattle.std.specs.Prelude.{◌≡◌, ℕ, ◌+◌, ◌<◌, ◌≤◌};
+ghost use Rattle.std.specs.Prelude.{◌≡◌, ℕ, ◌+◌, ◌<◌, ◌≤◌, length};
+ghost use Rattle.vm_act.specs.Next.{NotStuck};
+ghost use Rattle.vm_act.specs.Remote.{answered};
 ghost use Rattle.vm_run.specs.Ends.{end_of};
-ghost use Rattle.vm_run.specs.Run.{run, IsOver, IsNeverStuck};
+ghost use Rattle.vm_run.specs.Run.{after, answer, run, HasStopped, IsDue, IsNeverStuck};
 ghost use Rattle.vm_run.specs.Task.{last_end, phase_state, fuel_left, pause_at, final_state};
 
 use crate::outcome::Pause;
 use crate::program::Program;
-use crate::run;
-use vm_code::{Ending, Machine};
+use crate::run::{self, Stop, instructions};
+use cls_link::LinkedInsn;
+use vm_code::{Asked, Ending, Flow, Machine, Reply};
 use vm_heap::Heap;
 
 /// How a task ended.
@@ -21,15 +24,17 @@ pub enum Last {
     Spent,
 }
 
-/// A task runs on its machine with an amount of fuel left, or it is over with an amount left.
+/// A task runs on its machine with an amount of fuel left, or its machine waits for the reply to what
+/// it asked, with the amount that is left once that has come, or the task is over with an amount left.
 #[derive(Drop)]
 pub enum Phase {
     Running(Machine, u64),
+    Waiting(Machine, Asked, u64),
     Over(Last, u64),
 }
 
 impl Phase {
-    /// The phase after at most `k` instructions, fewer if the task ends.
+    /// The phase after at most `k` instructions, fewer if the task ends or asks.
     pub fn run(self, program: &Program, k: u64) -> Phase
         requires { IsNeverStuck program.now (phase_state self) }
         ensures state { phase_state result ≡ run program.now k (phase_state self) }
@@ -41,7 +46,7 @@ impl Phase {
         ensures most { fuel_left (phase_state self) ≤ fuel_left (phase_state result) + k }
         ensures turn { pause_at (phase_state result) ≡ Pause.Turn
             → fuel_left (phase_state result) + k ≡ fuel_left (phase_state self) }
-        ensures over { fuel_left (phase_state self) < k → IsOver (phase_state result) }
+        ensures stopped { fuel_left (phase_state self) < k → HasStopped (phase_state result) }
         ensures finished { fuel_left (phase_state self) < k
             → phase_state result ≡ final_state program.now (phase_state self) }
     {
@@ -56,15 +61,58 @@ impl Phase {
             Phase::Running(machine, fuel) => {
                 let most = if k < fuel { k } else { fuel };
                 let reached = run::run(machine, program, most, fuel);
-                let ending = reached.ending;
-                match ending {
-                    Some(ending) => Phase::Over(keep(reached.machine, ending), reached.fuel),
-                    None if fuel < k => Phase::Over(Last::Spent, 0),
-                    None => Phase::Running(reached.machine, reached.fuel),
+                let stop = reached.stop;
+                match stop {
+                    Stop::Ends(ending) => Phase::Over(keep(reached.machine, ending), reached.fuel),
+                    Stop::Asks(asked) => Phase::Waiting(reached.machine, asked, reached.fuel),
+                    Stop::Turn if fuel < k => Phase::Over(Last::Spent, 0),
+                    Stop::Turn => Phase::Running(reached.machine, reached.fuel),
                 }
             }
+            Phase::Waiting(machine, asked, fuel) => Phase::Waiting(machine, asked, fuel),
             Phase::Over(last, fuel) => Phase::Over(last, fuel),
         }
+    }
+
+    /// The phase after this reply, which is owed to a machine that waits.
+    pub fn answer(self, program: &Program, reply: Reply) -> Phase
+        requires safe { IsNeverStuck program.now (phase_state self) }
+        requires due { IsDue program.now.classes reply (phase_state self) }
+        ensures state { phase_state result ≡ answer reply (phase_state self) }
+        ensures never_stuck { IsNeverStuck program.now (phase_state result) }
+        ensures fuel { fuel_left (phase_state result) + 1 ≡ fuel_left (phase_state self) }
+    {
+        self.answered(program, reply)
+    }
+
+    fn answered(self, program: &Program, reply: Reply) -> Phase
+        requires safe { IsNeverStuck program.now (phase_state self) }
+        requires due { IsDue program.now.classes reply (phase_state self) }
+        ensures { phase_state result ≡ answer reply (phase_state self) }
+    {
+        match self {
+            Phase::Waiting(machine, _, fuel) => {
+                let code = instructions(program.linked(), machine.stack.method());
+                complete(machine, code, reply, fuel)
+            }
+            other => other,
+        }
+    }
+}
+
+// The phase of a machine that waited for this reply. Among the instructions of its method there is one
+// after the one that asked.
+fn complete(machine: Machine, code: &[LinkedInsn], reply: Reply, fuel: u64) -> Phase
+    requires next { machine.stack.frame.index + 1 < length code.now }
+    requires fits { NotStuck (answered reply machine) }
+    ensures { phase_state result ≡ after machine.heap.cells (answered reply machine) fuel }
+{
+    let mut machine = machine;
+    let _count = code.len();
+    match machine.answer_with(reply) {
+        Flow::Ends(ending) => Phase::Over(keep(machine, ending), fuel),
+        Flow::Asks(asked) => Phase::Waiting(machine, asked, fuel),
+        _ => Phase::Running(machine, fuel),
     }
 }
 

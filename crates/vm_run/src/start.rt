@@ -4,7 +4,8 @@ ghost use Rattle.std.specs.Option.{option_map_or};
 ghost use Rattle.std.specs.List.{list_all};
 ghost use Rattle.cls_search.specs.MethodSearches.{is_interface};
 ghost use Rattle.ver_frames.specs.Method.{is_static};
-ghost use Rattle.vm_run.specs.Start.{is_below_remote, is_remote_interface, is_int_element, is_remote_element, is_array_element, is_int_type, is_array_type, is_remote_type, crosses, takes_crossing, is_of_type, fill, refusal};
+ghost use Rattle.vm_code.specs.Classes.{is_below_remote};
+ghost use Rattle.vm_run.specs.Start.{is_remote_interface, is_int_element, is_remote_element, is_array_element, is_int_type, is_array_type, is_remote_type, crosses, takes_crossing, is_of_type, fill, refusal};
 
 use crate::fault::StartFault;
 use cls_link::{

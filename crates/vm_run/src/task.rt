@@ -5,7 +5,7 @@ ghost use Rattle.vm_heap.specs.Tagged.{most_rows};
 ghost use Rattle.vm_run.specs.Ends.{end_of, returned_at};
 ghost use Rattle.vm_run.specs.Start.{opening_state, started};
 ghost use Rattle.vm_run.specs.Limited.{KeepsWithin};
-ghost use Rattle.vm_run.specs.Run.{run, IsOver, IsNeverStuck};
+ghost use Rattle.vm_run.specs.Run.{answer, run, HasStopped, IsDue, IsOver, IsNeverStuck};
 ghost use Rattle.vm_run.specs.Task.{pause_at, fuel_left, final_state, last_end, outcome_of, outcome_at, phase_state, threw_named, unmarshalled, IsOutcome, IsOfSet};
 
 use crate::fault::StartFault;
@@ -22,7 +22,7 @@ use std::alloc::{AllocError, Global};
 use std::marker::Model;
 use std::mem;
 use std::snapshot::Snapshot;
-use vm_code::Ending;
+use vm_code::{Ending, Reply};
 use vm_heap::{Heap, Row, Uuid, Value};
 
 /// A method that runs on a machine of its own.
@@ -88,7 +88,8 @@ impl Task {
         })
     }
 
-    /// Makes at most `k` instructions, fewer if the task ends. It takes no memory.
+    /// Makes at most `k` instructions, fewer if the task ends, or asks its space for something. A task
+    /// that waits for a reply makes none. It takes no memory.
     pub fn run(&mut self, program: &Program, k: u64) -> Pause
         requires { self.old.program ≡ program.now }
         ensures task { self.new ≡ record self.old { state = run program.now k self.old.state } }
@@ -99,22 +100,38 @@ impl Task {
             → run program.now more self.new.state
             ≡ run program.now (k + more) self.old.state }
 
-        // The fuel goes down by at most `k`, and by `k` if the task has not ended.
+        // The fuel goes down by at most `k`, and by `k` if the task has not ended and does not wait.
         ensures fuel { fuel_left self.new.state ≤ fuel_left self.old.state }
         ensures most { fuel_left self.old.state ≤ fuel_left self.new.state + k }
         ensures turn { result ≡ Pause.Turn → fuel_left self.new.state + k ≡ fuel_left self.old.state }
         ensures never_stuck { IsNeverStuck program.now self.new.state }
 
-        // With more instructions than it has fuel for it ends.
-        ensures over { fuel_left self.old.state < k → IsOver self.new.state }
+        // With more instructions than it has fuel for it ends, or waits.
+        ensures stopped { fuel_left self.old.state < k → HasStopped self.new.state }
         ensures finished { fuel_left self.old.state < k → self.new.state ≡ final_state program.now self.old.state }
     {
         let phase = mem::replace(&mut self.phase, Phase::Over(Last::Spent, 0));
         self.phase = phase.run(program, k);
         match self.phase {
             Phase::Running(..) => Pause::Turn,
+            Phase::Waiting(_, asked, _) => Pause::Ask(asked),
             Phase::Over(..) => Pause::Ended,
         }
+    }
+
+    /// Completes the instruction that waits for this reply. The reply is one that fits what was asked:
+    /// an own object of the class; a value of the field's type; or an exception of a class of the set.
+    /// It takes no memory.
+    pub fn answer(&mut self, program: &Program, reply: Reply)
+        requires program { self.old.program ≡ program.now }
+        requires due { IsDue program.now.classes reply self.old.state }
+        ensures task { self.new ≡ record self.old { state = answer reply self.old.state } }
+        // An instruction that is completed has taken its unit of fuel.
+        ensures fuel { fuel_left self.new.state + 1 ≡ fuel_left self.old.state }
+        ensures never_stuck { IsNeverStuck program.now self.new.state }
+    {
+        let phase = mem::replace(&mut self.phase, Phase::Over(Last::Spent, 0));
+        self.phase = phase.answer(program, reply);
     }
 
     /// How the task ended: `None` if it has not. An array is copied. One of more than 8,000 elements,
@@ -126,7 +143,7 @@ impl Task {
         ensures of_set { IfOk result (λ told. IfSome told (IsOfSet self.now.program.classes)) }
     {
         match &self.phase {
-            Phase::Running(..) => Ok(None),
+            Phase::Running(..) | Phase::Waiting(..) => Ok(None),
             Phase::Over(last, _) => Ok(Some(self.told_last(alloc, last)?)),
         }
     }

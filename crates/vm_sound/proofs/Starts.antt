@@ -18,7 +18,7 @@ use Rattle.vm_heap.specs.Tagged.{Tagged}
 use Rattle.vm_stack.specs.Frames as stacks
 use Rattle.vm_typing.proofs.Calls.{parameters_normal}
 use Rattle.vm_typing.proofs.Runs.{starts_typed}
-use Rattle.vm_typing.specs.Fits.{AllFit, no_marks}
+use Rattle.vm_typing.specs.Fits.{AllFit, held_in, no_marks}
 use Rattle.vm_typing.specs.Runs.{KeepsTyped, started}
 use Rattle.vm_typing.specs.Typed.{IsTyped}
 use Rattle.vm_typing.specs.World.{World, MethodType}
@@ -31,9 +31,9 @@ use Rattle.vm_world.specs.Worlds as worlds
 use Rattle.vm_world.specs.Worlds.{AreTyped, method_type, world_of}
 use Rattle.vm_rows.proofs.Callees as callees
 use Rattle.vm_rows.proofs.Named.{named}
-use Rattle.vm_rows.proofs.NeverStuck.{never_stuck, steps_typed}
+use Rattle.vm_rows.proofs.NeverStuck.{never_stuck, never_stuck_by_replies, steps_typed}
 use Rattle.vm_rows.specs.Rows.{arguments_in, result_in}
-use Rattle.vm_rows.specs.Steps.{AreNamed, AreNeverStuck, step}
+use Rattle.vm_rows.specs.Steps.{AreNamed, AreNeverStuck, AreNeverStuckByReplies, step}
 use Rattle.vm_sound.proofs.Members.{members}
 use Rattle.vm_sound.specs.Sound.{AreSoundFromStart, IsNeverStuck, IsStarted, passed_types}
 
@@ -50,7 +50,11 @@ module _ (links : Links) (frames : ℕ → ℕ → Frame) (are : AreLinks links)
   runs : AreNeverStuck links frames
   runs = never_stuck links frames are typed files all_named
 
-  module _ (d : Declared) (callee : Callee) (values : List Tagged) (heap : Store) (start : IsStarted links world d callee values heap) where
+  replies : AreNeverStuckByReplies links frames
+  replies = never_stuck_by_replies links frames are typed files all_named
+
+  module _ (d : Declared) (callee : Callee) (values : List Tagged) (heap : Store) (references : Table)
+      (start : IsStarted links world d callee values heap references) where
     abbrev id : MethodId
     id = record { 0 = callee.method }
 
@@ -85,19 +89,20 @@ module _ (links : Links) (frames : ℕ → ℕ → Frame) (are : AreLinks links)
     gives : type.result ≡ result_in world d.method
     gives = ap (λ (t : MethodType). t.result) run.type ∙ callees.result_same links frames are files run.s d d.method run.classes run.method refl
 
-    is_typed : (lowest : stacks.Frame) (free : ℕ) (references : Table) → IsTyped world (result_in world d.method) (started callee values lowest free heap references)
-    is_typed lowest free references =
+    is_typed : (lowest : stacks.Frame) (free : ℕ) → IsTyped world (result_in world d.method) (started callee values lowest free heap references)
+    is_typed lowest free =
         subst (λ (r : Option VType). IsTyped world r (started callee values lowest free heap references)) gives
         (starts_typed world (owed links frames are typed files) callee values lowest free heap references
         (plain_callee_agrees links frames are files id d.method callee (ap (option_map (λ (d : Declared). d.method)) start.declared) start.normal start.has_code)
-        (subst (λ (ts : List VType). AllFit world heap.cells no_marks ts values) (sym (parameters_normal type type_normal ∙ passed)) start.values_fit)
+        (subst (λ (ts : List VType). AllFit world (held_in heap references) no_marks ts values) (sym (parameters_normal type type_normal ∙ passed)) start.values_fit)
         start.heap_fits type_normal)
 
   pub starts : AreSoundFromStart links frames
-  starts d callee values lowest free heap references start n = runs (result_in world d.method) (started callee values lowest free heap references) (is_typed d callee values heap start lowest free references) n
+  starts d callee values lowest free heap references start moves fit =
+      replies (result_in world d.method) (started callee values lowest free heap references) (is_typed d callee values heap references start lowest free) moves fit
 
   pub never : IsNeverStuck links
-  never = record { frames = frames; typed = typed; keeps = keeps; runs = runs; starts = starts }
+  never = record { frames = frames; typed = typed; keeps = keeps; runs = runs; replies = replies; starts = starts }
 
 pub checked : (links : Links) → AreLinks links → AreSafe links → IsNeverStuck links
 checked links are safe = let t = all_typed links are safe in never links t.0 are t.1 (as_read links.classes are.set)

@@ -22,8 +22,9 @@ pub fn linked_sets_name_their_members()
 {}
 
 /// A set that is linked and checked is never stuck: however many steps a typed machine makes by its
-/// instructions, there is a next one, or its task has ended with what it may give. A method that is
-/// started on values of its parameters' types is typed.
+/// instructions, there is a next one, or it waits for a reply of its space, or its task has ended with
+/// what it may give. So it is with each reply that fits. A method that is started on values of its
+/// parameters' types is typed.
 pub fn checked_sets_are_never_stuck()
     ensures { (links : Links) → AreLinks links → AreSafe links → IsNeverStuck links }
 {}

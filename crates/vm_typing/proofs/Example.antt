@@ -17,6 +17,7 @@ use Rattle.vm_stack.specs.Frames as frames
 use Rattle.vm_stack.specs.Frames.{empty_frame}
 use Rattle.vm_act.specs.declared.machine.Machine.{Machine}
 use Rattle.vm_typing.specs.World.{IsPlain, Enters}
+use Rattle.vm_typing.specs.Fits.{held_in}
 use Rattle.vm_typing.specs.Typed.{IsTyped}
 use Rattle.vm_typing.specs.Owed.{Owed, MethodOwed}
 use Rattle.vm_typing.specs.Leads.{LeadsTo}
@@ -24,6 +25,7 @@ use Rattle.vm_typing.specs.Runs.{KeepsTyped, started}
 use Rattle.vm_typing.specs.Example.{has_code, object_id, point_id, object_class, point_class, world, methods, main_frames, init_frames, main_callee, point_callee, object_callee, step, act_at, ExampleIsSound}
 use Rattle.vm_typing.proofs.Words
 use Rattle.vm_typing.proofs.Objects
+use Rattle.vm_typing.proofs.Asks
 use Rattle.vm_typing.proofs.Calls
 use Rattle.vm_typing.proofs.Returns
 use Rattle.vm_typing.proofs.Runs
@@ -122,41 +124,41 @@ asked = Some vtype.Int
 
 step_typed : (method index : ℕ) (locals operands : List Tagged) (room : ℕ) (callers : List frames.Frame) (free : ℕ) (heap : Store) (references : Table)
     → IsTyped world asked (at_machine method index locals operands room callers free heap references)
-    → LeadsTo world asked heap.cells (IsTyped world asked) (act_at method index (at_machine method index locals operands room callers free heap references))
+    → LeadsTo world asked (held_in heap references) (IsTyped world asked) (act_at method index (at_machine method index locals operands room callers free heap references))
 unfolding IsAssignable
 step_typed zero zero locals operands room callers free heap references typed =
-    Objects.new_object-leads world owed asked heap.cells typed.fresh typed.receiver point_id (kind.Int ∷ []) 0 (main_frames 0) _ (omega arith) (tt, tt) (omega arith) refl refl refl (omega arith)
+    Objects.new_object-leads world owed asked (held_in heap references) typed.fresh typed.receiver point_id (kind.Int ∷ []) 0 (main_frames 0) _ (omega arith) (tt, tt) (omega arith) refl refl refl (omega arith)
     (record { inside = omega arith; to = record { locals = tt; stack = (refl, tt); flag = λ e. e } }) typed.at
 step_typed zero (suc zero) locals operands room callers free heap references typed =
-    Words.dup-leads world owed asked heap.cells typed.fresh typed.receiver (vtype.Uninitialized 0) [] (main_frames 1) _ refl (omega arith)
+    Words.dup-leads world owed asked (held_in heap references) typed.fresh typed.receiver (vtype.Uninitialized 0) [] (main_frames 1) _ refl (omega arith)
     (record { inside = omega arith; to = record { locals = tt; stack = (refl, (refl, tt)); flag = λ e. e } }) typed.at
 step_typed zero (suc (suc zero)) locals operands room callers free heap references typed =
-    Words.constant-leads world owed asked heap.cells typed.fresh typed.receiver (pos 5) (main_frames 2) _ (omega arith)
+    Words.constant-leads world owed asked (held_in heap references) typed.fresh typed.receiver (pos 5) (main_frames 2) _ (omega arith)
     (record { inside = omega arith; to = record { locals = tt; stack = (tt, (refl, (refl, tt))); flag = λ e. e } }) typed.at
 step_typed zero (suc (suc (suc zero))) locals operands room callers free heap references typed =
-    Calls.construct_new-leads world owed asked heap.cells typed.fresh typed.receiver point_callee 0 false (main_frames 3) (vtype.Uninitialized 0 ∷ []) _
+    Calls.construct_new-leads world owed asked (held_in heap references) typed.fresh typed.receiver point_callee 0 false (main_frames 3) (vtype.Uninitialized 0 ∷ []) _
     (record { known = refl; arguments = refl; max_locals = refl; max_stack = refl; begins_uninit = refl }) refl
     (record { given = vtype.Int ∷ []; whole = refl; to = (tt, tt) }) refl
     (record { inside = omega arith; to = record { locals = tt; stack = (inr (itself point_id), tt); flag = λ e. e } }) typed.at
 step_typed zero (suc (suc (suc (suc zero)))) locals operands room callers free heap references typed =
-    Objects.get_field-leads world owed asked heap.cells typed.fresh typed.receiver point_id 0 vtype.Int (vtype.Object point_id) [] (main_frames 4) _ refl refl (inr (itself point_id)) (omega arith)
+    Asks.read_field-leads world owed asked (held_in heap references) typed.fresh typed.receiver point_id 0 vtype.Int refl (vtype.Object point_id) [] (main_frames 4) _ refl (inr (itself point_id)) (omega arith)
     (record { inside = omega arith; to = record { locals = tt; stack = (tt, tt); flag = λ e. e } }) typed.at
 step_typed zero (suc (suc (suc (suc (suc n))))) locals operands room callers free heap references typed =
     Returns.return_int-leads world owed asked typed.fresh typed.receiver [] (main_frames (suc (suc (suc (suc (suc n)))))) _ refl refl typed.at
 step_typed (suc zero) zero locals operands room callers free heap references typed =
-    Words.load_local-leads world owed asked heap.cells typed.fresh typed.receiver kind.Reference 0 vtype.UninitializedThis (init_frames 0) _ refl tt (omega arith)
+    Words.load_local-leads world owed asked (held_in heap references) typed.fresh typed.receiver kind.Reference 0 vtype.UninitializedThis (init_frames 0) _ refl tt (omega arith)
     (record { inside = omega arith; to = record { locals = (tt, (tt, tt)); stack = (tt, tt); flag = λ e. e } }) typed.at
 step_typed (suc zero) (suc zero) locals operands room callers free heap references typed =
-    Words.load_local-leads world owed asked heap.cells typed.fresh typed.receiver kind.Int 1 vtype.Int (init_frames 1) _ refl tt (omega arith)
+    Words.load_local-leads world owed asked (held_in heap references) typed.fresh typed.receiver kind.Int 1 vtype.Int (init_frames 1) _ refl tt (omega arith)
     (record { inside = omega arith; to = record { locals = (tt, (tt, tt)); stack = (tt, (tt, tt)); flag = λ e. e } }) typed.at
 step_typed (suc zero) (suc (suc zero)) locals operands room callers free heap references typed =
-    Objects.put_field-leads world owed asked heap.cells typed.fresh typed.receiver point_id 0 vtype.Int vtype.Int vtype.UninitializedThis [] (init_frames 2) _ refl refl tt refl
+    Asks.write_field-leads world owed asked (held_in heap references) typed.fresh typed.receiver point_id 0 vtype.Int refl kind.Int vtype.Int vtype.UninitializedThis [] (init_frames 2) _ tt refl tt refl
     (record { inside = omega arith; to = record { locals = (tt, (tt, tt)); stack = tt; flag = λ e. e } }) typed.at
 step_typed (suc zero) (suc (suc (suc zero))) locals operands room callers free heap references typed =
-    Words.load_local-leads world owed asked heap.cells typed.fresh typed.receiver kind.Reference 0 vtype.UninitializedThis (init_frames 3) _ refl tt (omega arith)
+    Words.load_local-leads world owed asked (held_in heap references) typed.fresh typed.receiver kind.Reference 0 vtype.UninitializedThis (init_frames 3) _ refl tt (omega arith)
     (record { inside = omega arith; to = record { locals = (tt, (tt, tt)); stack = (tt, tt); flag = λ e. e } }) typed.at
 step_typed (suc zero) (suc (suc (suc (suc zero)))) locals operands room callers free heap references typed =
-    Calls.construct_this-leads world owed asked heap.cells typed.fresh typed.receiver object_callee false (init_frames 4) [] _
+    Calls.construct_this-leads world owed asked (held_in heap references) typed.fresh typed.receiver object_callee false (init_frames 4) [] _
     (record { known = refl; arguments = refl; max_locals = refl; max_stack = refl; begins_uninit = refl }) refl
     (record { given = []; whole = refl; to = tt }) (inr (superclass point_id object_id refl))
     (record { inside = omega arith; to = record { locals = (inr (itself point_id), (tt, tt)); stack = tt; flag = λ e. e } }) typed.at

@@ -1,10 +1,11 @@
 -- If a machine fits a type frame and an operand or a local variable has a type, a small step is not stuck, and fits the frame after it.
 use Rattle.std.proofs.Common.{◌≡◌, ℕ, zero, suc, ◌+◌, ◌<◌, Bool, true, false, List, [], ◌∷◌, length, refl, ap, sym, subst, Option, Some, None, inr}
-use Rattle.std.specs.Prelude.{ℤ, nat_lt, slice_get, slice_set, if◌then◌else◌}
+use Rattle.std.specs.Prelude.{ℤ, nat_lt, slice_get, slice_set, option_and_then, if◌then◌else◌}
 use Rattle.std.specs.List.{AllZip}
 use Rattle.std.proofs.lemmas.Bool.{lt-ltb}
 use Rattle.std.proofs.lemmas.Option.{slice_get_within}
 use Rattle.space_ids.specs.declared.ids.ClassId.{ClassId}
+use Rattle.space_ids.specs.declared.ids.Ref.{Ref}
 use Rattle.cls_set.specs.Subtypes.IsSubclass.{itself}
 use Rattle.ver_frames.specs.Frames.{Frame}
 use Rattle.ver_frames.specs.Assignable.{IsObjectAssignable, IsAssignable, AreAssignable, IsFrameAssignable}
@@ -12,8 +13,9 @@ use Rattle.ver_frames.specs.declared.vtype.VType.{VType}
 use Rattle.ver_frames.specs.declared.vtype.VType.TheVariants as vtype
 use Rattle.vm_heap.specs.declared.word.Pointer.{Pointer}
 use Rattle.vm_heap.specs.declared.word.Pointer.TheVariants as pointer
-use Rattle.vm_heap.specs.Tagged.{Tagged, Int, Null, Local, Remote, Fresh, This, Unset, Head}
-use Rattle.vm_heap.specs.Heap.{Cell, Object, Ints}
+use Rattle.vm_heap.specs.Tagged.{Tagged, Site, HeapAddress, ReferenceRow, Int, Null, Local, Remote, Fresh, This, Unset, Head, object_at, pointer_at}
+use Rattle.vm_heap.specs.Heap.{Object, Ints}
+use Rattle.vm_heap.specs.References.{is_own}
 use Rattle.vm_heap.specs.declared.heap.WordKind.{WordKind}
 use Rattle.vm_heap.specs.declared.heap.WordKind.TheVariants as kind
 use Rattle.vm_stack.specs.Frames as frames
@@ -22,7 +24,7 @@ use Rattle.vm_act.specs.Next.{Next, Stuck}
 use Rattle.vm_act.specs.Steps.{on_int, on_object, on_reference, on_top, pop, pop_as, pop_int, pop_reference, push, load_as, store, is_kind, is_initialised, with_operands, go_on, jump, branch}
 use Rattle.vm_act.specs.declared.machine.Machine.{Machine}
 use Rattle.vm_typing.specs.World.{World, IsPlain, Enters}
-use Rattle.vm_typing.specs.Fits.{class_in, IsA, IsInts, IsNull, There, Points, Marks, Fits, AllFit}
+use Rattle.vm_typing.specs.Fits.{Held, Pointee, OfHeap, OfSpace, own_pointee, pointee_at, held_by, class_in, IsA, IsInts, IsNull, There, Points, Marks, Fits, AllFit}
 use Rattle.vm_typing.specs.Typed.{FitsFrame, IsAt, IsTyped, marks_of}
 use Rattle.vm_typing.specs.Owed.{Owed, Moves}
 use Rattle.vm_typing.specs.Leads.{LeadsTo}
@@ -31,61 +33,89 @@ pub There-map : {A : Type 0} (P Q : A → Type 0) (o : Option A) → ((x : A) �
 There-map P Q None to there = absurd there
 There-map P Q (Some x) to there = to x there
 
-pub Points-map : (P Q : Cell → Type 0) (cells : List Cell) (v : Tagged) → ((x : Cell) → P x → Q x) → Points P cells v → Points Q cells v
-Points-map P Q cells Null to fits = tt
-Points-map P Q cells (Local a) to fits = There-map P Q _ to fits
-Points-map P Q cells (Int n) to fits = absurd fits
-Points-map P Q cells (Remote row) to fits = absurd fits
-Points-map P Q cells (Fresh index site) to fits = absurd fits
-Points-map P Q cells (This site) to fits = absurd fits
-Points-map P Q cells Unset to fits = absurd fits
-Points-map P Q cells (Head header) to fits = absurd fits
+pub Points-map : (P Q : Pointee → Type 0) (held : Held) (v : Tagged) → ((x : Pointee) → P x → Q x) → Points P held v → Points Q held v
+Points-map P Q held Null to fits = tt
+Points-map P Q held (Local a) to fits = There-map P Q _ to fits
+Points-map P Q held (Int n) to fits = absurd fits
+Points-map P Q held (Remote row) to fits = There-map P Q _ to fits
+Points-map P Q held (Fresh index site) to fits = absurd fits
+Points-map P Q held (This site) to fits = absurd fits
+Points-map P Q held Unset to fits = absurd fits
+Points-map P Q held (Head header) to fits = absurd fits
 
-Points-null : (P : Cell → Type 0) (cells : List Cell) (v : Tagged) → IsNull v → Points P cells v
-Points-null P cells Null fits = tt
-Points-null P cells (Local a) fits = absurd fits
-Points-null P cells (Int n) fits = absurd fits
-Points-null P cells (Remote row) fits = absurd fits
-Points-null P cells (Fresh index site) fits = absurd fits
-Points-null P cells (This site) fits = absurd fits
-Points-null P cells Unset fits = absurd fits
-Points-null P cells (Head header) fits = absurd fits
+Points-null : (P : Pointee → Type 0) (held : Held) (v : Tagged) → IsNull v → Points P held v
+Points-null P held Null fits = tt
+Points-null P held (Local a) fits = absurd fits
+Points-null P held (Int n) fits = absurd fits
+Points-null P held (Remote row) fits = absurd fits
+Points-null P held (Fresh index site) fits = absurd fits
+Points-null P held (This site) fits = absurd fits
+Points-null P held Unset fits = absurd fits
+Points-null P held (Head header) fits = absurd fits
 
 -- a value of a plain type fits in each frame, and is initialised
-pub plain_fits : (w : World) (cells : List Cell) (k k' : Marks) (t : VType) (v : Tagged) → IsPlain t → Fits w cells k t v → Fits w cells k' t v
-plain_fits w cells k k' vtype.Int v plain fits = fits
-plain_fits w cells k k' (vtype.Object c) v plain fits = fits
-plain_fits w cells k k' vtype.IntArray v plain fits = fits
-plain_fits w cells k k' vtype.Top v plain fits = absurd plain
-plain_fits w cells k k' vtype.Null v plain fits = absurd plain
-plain_fits w cells k k' (vtype.Uninitialized o) v plain fits = absurd plain
-plain_fits w cells k k' vtype.UninitializedThis v plain fits = absurd plain
+pub plain_fits : (w : World) (held : Held) (k k' : Marks) (t : VType) (v : Tagged) → IsPlain t → Fits w held k t v → Fits w held k' t v
+plain_fits w held k k' vtype.Int v plain fits = fits
+plain_fits w held k k' (vtype.Object c) v plain fits = fits
+plain_fits w held k k' vtype.IntArray v plain fits = fits
+plain_fits w held k k' vtype.Top v plain fits = absurd plain
+plain_fits w held k k' vtype.Null v plain fits = absurd plain
+plain_fits w held k k' (vtype.Uninitialized o) v plain fits = absurd plain
+plain_fits w held k k' vtype.UninitializedThis v plain fits = absurd plain
 
-Points-initialised : (P : Cell → Type 0) (cells : List Cell) (v : Tagged) → Points P cells v → is_initialised v ≡ true
-Points-initialised P cells Null fits = refl
-Points-initialised P cells (Local a) fits = refl
-Points-initialised P cells (Int n) fits = absurd fits
-Points-initialised P cells (Remote row) fits = absurd fits
-Points-initialised P cells (Fresh index site) fits = absurd fits
-Points-initialised P cells (This site) fits = absurd fits
-Points-initialised P cells Unset fits = absurd fits
-Points-initialised P cells (Head header) fits = absurd fits
+Points-initialised : (P : Pointee → Type 0) (held : Held) (v : Tagged) → Points P held v → is_initialised v ≡ true
+Points-initialised P held Null fits = refl
+Points-initialised P held (Local a) fits = refl
+Points-initialised P held (Int n) fits = absurd fits
+Points-initialised P held (Remote row) fits = refl
+Points-initialised P held (Fresh index site) fits = absurd fits
+Points-initialised P held (This site) fits = absurd fits
+Points-initialised P held Unset fits = absurd fits
+Points-initialised P held (Head header) fits = absurd fits
 
-pub plain_initialised : (w : World) (cells : List Cell) (k : Marks) (t : VType) (v : Tagged) → IsPlain t → Fits w cells k t v → is_initialised v ≡ true
-plain_initialised w cells k vtype.Int (Int n) plain fits = refl
-plain_initialised w cells k vtype.Int Null plain fits = absurd fits
-plain_initialised w cells k vtype.Int (Local a) plain fits = absurd fits
-plain_initialised w cells k vtype.Int (Remote r) plain fits = absurd fits
-plain_initialised w cells k vtype.Int (Fresh index site) plain fits = absurd fits
-plain_initialised w cells k vtype.Int (This site) plain fits = absurd fits
-plain_initialised w cells k vtype.Int Unset plain fits = absurd fits
-plain_initialised w cells k vtype.Int (Head header) plain fits = absurd fits
-plain_initialised w cells k (vtype.Object c) v plain fits = Points-initialised (IsA w c) cells v fits
-plain_initialised w cells k vtype.IntArray v plain fits = Points-initialised IsInts cells v fits
-plain_initialised w cells k vtype.Top v plain fits = absurd plain
-plain_initialised w cells k vtype.Null v plain fits = absurd plain
-plain_initialised w cells k (vtype.Uninitialized o) v plain fits = absurd plain
-plain_initialised w cells k vtype.UninitializedThis v plain fits = absurd plain
+pub plain_initialised : (w : World) (held : Held) (k : Marks) (t : VType) (v : Tagged) → IsPlain t → Fits w held k t v → is_initialised v ≡ true
+plain_initialised w held k vtype.Int (Int n) plain fits = refl
+plain_initialised w held k vtype.Int Null plain fits = absurd fits
+plain_initialised w held k vtype.Int (Local a) plain fits = absurd fits
+plain_initialised w held k vtype.Int (Remote r) plain fits = absurd fits
+plain_initialised w held k vtype.Int (Fresh index site) plain fits = absurd fits
+plain_initialised w held k vtype.Int (This site) plain fits = absurd fits
+plain_initialised w held k vtype.Int Unset plain fits = absurd fits
+plain_initialised w held k vtype.Int (Head header) plain fits = absurd fits
+plain_initialised w held k (vtype.Object c) v plain fits = Points-initialised (IsA w c) held v fits
+plain_initialised w held k vtype.IntArray v plain fits = Points-initialised IsInts held v fits
+plain_initialised w held k vtype.Top v plain fits = absurd plain
+plain_initialised w held k vtype.Null v plain fits = absurd plain
+plain_initialised w held k (vtype.Uninitialized o) v plain fits = absurd plain
+plain_initialised w held k vtype.UninitializedThis v plain fits = absurd plain
+
+-- a reference of a list, by its row: it is to an object of the own space, which has the property
+pub record OwnRow (P : Pointee → Type 0) (held : Held) (row : ℕ) : Type 0 where
+  pub reference : Ref
+  pub is : slice_get held.references.rows row ≡ Some reference
+  pub own : is_own held.references reference ≡ true
+  pub fits : P (OfSpace reference.class)
+
+pub own_row : (P : Pointee → Type 0) (held : Held) (row : ℕ) → There P (pointee_at held (ReferenceRow row)) → OwnRow P held row
+own_row P held row there = at (slice_get held.references.rows row) refl there
+  where
+    to : (reference : Ref) → slice_get held.references.rows row ≡ Some reference → (b : Bool) → is_own held.references reference ≡ b
+        → There P (if b then Some (OfSpace reference.class) else None) → OwnRow P held row
+    to reference is true own there = record { reference = reference; is = is; own = own; fits = there }
+    to reference is false own there = absurd there
+
+    at : (o : Option Ref) → slice_get held.references.rows row ≡ o → There P (option_and_then (own_pointee held.references) o) → OwnRow P held row
+    at None is there = absurd there
+    at (Some reference) is there = to reference is (is_own held.references reference) refl there
+
+-- no array is a remote object
+pub no_array_away : (held : Held) (row : ℕ) → There IsInts (pointee_at held (ReferenceRow row)) → ⊥
+no_array_away held row there = (own_row IsInts held row there).fits
+
+-- an object of its site
+pub at_site : (P : Pointee → Type 0) (held : Held) (site : Site) → There P (pointee_at held site) → Points P held (object_at site)
+at_site P held (HeapAddress a) there = there
+at_site P held (ReferenceRow row) there = there
 
 pub length-AllZip : {A B : Type 0} (R : A → B → Type 0) (xs : List A) (ys : List B) → AllZip R xs ys → length ys ≡ length xs
 length-AllZip R [] [] fit = refl
@@ -117,79 +147,82 @@ AllZip-keep R (z ∷ xs) (w ∷ ys) zero x y all e fit = let same : z ≡ x = cc
 AllZip-keep R (z ∷ xs) (w ∷ ys) (suc n) x y all e fit = (all.0, AllZip-keep R xs ys n x y all.1 e fit)
 
 module _ (w : World) (owed : Owed w) where
-  pub IsA-above : (b c : ClassId) (x : Cell) → IsObjectAssignable w.classes b c → IsA w b x → IsA w c x
-  IsA-above b c x above is = (is.0, owed.further (class_in w x) b c is.0 is.1 above)
+  pub IsA-above : (b c : ClassId) (x : Pointee) → IsObjectAssignable w.classes b c → IsA w b x → IsA w c x
+  IsA-above b c x above is = (is.0, owed.further (class_in w x) b c is.0 is.1 above, is.2)
 
-  pub Ints-are : (x : Cell) → IsInts x → IsA w w.object x
-  Ints-are (Object d fs) is = absurd is
-  Ints-are (Ints is) is' = (owed.object, inr (itself w.object))
+  pub Ints-are : (x : Pointee) → IsInts x → IsA w w.object x
+  Ints-are (OfHeap (Object d fs)) is = absurd is
+  Ints-are (OfHeap (Ints is)) is' = (owed.object, inr (itself w.object), tt)
+  Ints-are (OfSpace class) is = absurd is
 
   -- a value of a type is of each type to which the type is assignable
-  pub Fits-assignable : (cells : List Cell) (k : Marks) (s t : VType) (v : Tagged) → IsAssignable w.classes s t → Fits w cells k s v → Fits w cells k t v
+  pub Fits-assignable : (held : Held) (k : Marks) (s t : VType) (v : Tagged) → IsAssignable w.classes s t → Fits w held k s v → Fits w held k t v
   unfolding IsAssignable
-  Fits-assignable cells k s vtype.Top v to fits = tt
-  Fits-assignable cells k vtype.Int vtype.Int v to fits = fits
-  Fits-assignable cells k vtype.Null vtype.Null v to fits = fits
-  Fits-assignable cells k vtype.Null (vtype.Object c) v to fits = Points-null (IsA w c) cells v fits
-  Fits-assignable cells k vtype.Null vtype.IntArray v to fits = Points-null IsInts cells v fits
-  Fits-assignable cells k (vtype.Object b) (vtype.Object c) v to fits = Points-map (IsA w b) (IsA w c) cells v (λ x. IsA-above b c x to) fits
-  Fits-assignable cells k vtype.IntArray (vtype.Object c) v to fits =
+  Fits-assignable held k s vtype.Top v to fits = tt
+  Fits-assignable held k vtype.Int vtype.Int v to fits = fits
+  Fits-assignable held k vtype.Null vtype.Null v to fits = fits
+  Fits-assignable held k vtype.Null (vtype.Object c) v to fits = Points-null (IsA w c) held v fits
+  Fits-assignable held k vtype.Null vtype.IntArray v to fits = Points-null IsInts held v fits
+  Fits-assignable held k (vtype.Object b) (vtype.Object c) v to fits = Points-map (IsA w b) (IsA w c) held v (λ x. IsA-above b c x to) fits
+  Fits-assignable held k vtype.IntArray (vtype.Object c) v to fits =
       let same : w.object ≡ c = owed.object_named c to in
-      Points-map IsInts (IsA w c) cells v (λ x is. subst (λ (d : ClassId). IsA w d x) same (Ints-are x is)) fits
-  Fits-assignable cells k vtype.IntArray vtype.IntArray v to fits = fits
-  Fits-assignable cells k (vtype.Uninitialized o) (vtype.Uninitialized q) v to fits = subst (λ (r : ℕ). Fits w cells k (vtype.Uninitialized r) v) to fits
-  Fits-assignable cells k vtype.UninitializedThis vtype.UninitializedThis v to fits = fits
-  Fits-assignable cells k s t v to fits = absurd to
+      Points-map IsInts (IsA w c) held v (λ x is. subst (λ (d : ClassId). IsA w d x) same (Ints-are x is)) fits
+  Fits-assignable held k vtype.IntArray vtype.IntArray v to fits = fits
+  Fits-assignable held k (vtype.Uninitialized o) (vtype.Uninitialized q) v to fits = subst (λ (r : ℕ). Fits w held k (vtype.Uninitialized r) v) to fits
+  Fits-assignable held k vtype.UninitializedThis vtype.UninitializedThis v to fits = fits
+  Fits-assignable held k s t v to fits = absurd to
 
-  pub AllFit-assignable : (cells : List Cell) (k : Marks) (given asked : List VType) (values : List Tagged) → AreAssignable w.classes given asked
-      → AllFit w cells k given values → AllFit w cells k asked values
-  AllFit-assignable cells k [] [] values to fits = fits
-  AllFit-assignable cells k [] (t ∷ asked) values to fits = absurd to
-  AllFit-assignable cells k (s ∷ given) [] values to fits = absurd to
-  AllFit-assignable cells k (s ∷ given) (t ∷ asked) [] to fits = fits
-  AllFit-assignable cells k (s ∷ given) (t ∷ asked) (v ∷ values) to fits =
-      (Fits-assignable cells k s t v to.0 fits.0, AllFit-assignable cells k given asked values to.1 fits.1)
+  pub AllFit-assignable : (held : Held) (k : Marks) (given asked : List VType) (values : List Tagged) → AreAssignable w.classes given asked
+      → AllFit w held k given values → AllFit w held k asked values
+  AllFit-assignable held k [] [] values to fits = fits
+  AllFit-assignable held k [] (t ∷ asked) values to fits = absurd to
+  AllFit-assignable held k (s ∷ given) [] values to fits = absurd to
+  AllFit-assignable held k (s ∷ given) (t ∷ asked) [] to fits = fits
+  AllFit-assignable held k (s ∷ given) (t ∷ asked) (v ∷ values) to fits =
+      (Fits-assignable held k s t v to.0 fits.0, AllFit-assignable held k given asked values to.1 fits.1)
 
-  pub FitsFrame-assignable : (cells : List Cell) (fresh : ℕ → ℕ) (receiver : ℕ) (given asked : Frame) (frame : frames.Frame) → IsFrameAssignable w.classes given asked
-      → FitsFrame w cells fresh receiver given frame → FitsFrame w cells fresh receiver asked frame
-  FitsFrame-assignable cells fresh receiver given asked frame to fits = record {
+  pub FitsFrame-assignable : (held : Held) (fresh : ℕ → Site) (receiver : Site) (given asked : Frame) (frame : frames.Frame) → IsFrameAssignable w.classes given asked
+      → FitsFrame w held fresh receiver given frame → FitsFrame w held fresh receiver asked frame
+  FitsFrame-assignable held fresh receiver given asked frame to fits = record {
     known = fits.known;
-    locals = AllFit-assignable cells (marks_of w frame.method fresh receiver) given.locals asked.locals frame.locals to.locals fits.locals;
-    operands = AllFit-assignable cells (marks_of w frame.method fresh receiver) given.stack asked.stack frame.operands to.stack fits.operands;
+    locals = AllFit-assignable held (marks_of w frame.method fresh receiver) given.locals asked.locals frame.locals to.locals fits.locals;
+    operands = AllFit-assignable held (marks_of w frame.method fresh receiver) given.stack asked.stack frame.operands to.stack fits.operands;
     room = fits.room;
   }
 
   -- a value of a type that a kind of instruction moves is of that kind
-  pub kind_value : (cells : List Cell) (k : Marks) (moved : WordKind) (t : VType) (v : Tagged) → Moves moved t → Fits w cells k t v → is_kind moved v ≡ true
-  kind_value cells k kind.Int vtype.Int (Int n) moves fits = refl
-  kind_value cells k kind.Reference vtype.Null Null moves fits = refl
-  kind_value cells k kind.Reference (vtype.Object c) Null moves fits = refl
-  kind_value cells k kind.Reference (vtype.Object c) (Local a) moves fits = refl
-  kind_value cells k kind.Reference vtype.IntArray Null moves fits = refl
-  kind_value cells k kind.Reference vtype.IntArray (Local a) moves fits = refl
-  kind_value cells k kind.Reference (vtype.Uninitialized o) v moves fits = rw fits.is refl
-  kind_value cells k kind.Reference vtype.UninitializedThis v moves fits = rw fits.is refl
-  kind_value cells k kind.Int vtype.Top v moves fits = absurd moves
-  kind_value cells k kind.Int vtype.Null v moves fits = absurd moves
-  kind_value cells k kind.Int (vtype.Object c) v moves fits = absurd moves
-  kind_value cells k kind.Int vtype.IntArray v moves fits = absurd moves
-  kind_value cells k kind.Int (vtype.Uninitialized o) v moves fits = absurd moves
-  kind_value cells k kind.Int vtype.UninitializedThis v moves fits = absurd moves
-  kind_value cells k kind.Reference vtype.Top v moves fits = absurd moves
-  kind_value cells k kind.Reference vtype.Int v moves fits = absurd moves
-  kind_value cells k moved t v moves fits = absurd fits
+  pub kind_value : (held : Held) (k : Marks) (moved : WordKind) (t : VType) (v : Tagged) → Moves moved t → Fits w held k t v → is_kind moved v ≡ true
+  kind_value held k kind.Int vtype.Int (Int n) moves fits = refl
+  kind_value held k kind.Reference vtype.Null Null moves fits = refl
+  kind_value held k kind.Reference (vtype.Object c) Null moves fits = refl
+  kind_value held k kind.Reference (vtype.Object c) (Local a) moves fits = refl
+  kind_value held k kind.Reference (vtype.Object c) (Remote row) moves fits = refl
+  kind_value held k kind.Reference vtype.IntArray Null moves fits = refl
+  kind_value held k kind.Reference vtype.IntArray (Local a) moves fits = refl
+  kind_value held k kind.Reference vtype.IntArray (Remote row) moves fits = refl
+  kind_value held k kind.Reference (vtype.Uninitialized o) v moves fits = rw fits.is refl
+  kind_value held k kind.Reference vtype.UninitializedThis v moves fits = rw fits.is refl
+  kind_value held k kind.Int vtype.Top v moves fits = absurd moves
+  kind_value held k kind.Int vtype.Null v moves fits = absurd moves
+  kind_value held k kind.Int (vtype.Object c) v moves fits = absurd moves
+  kind_value held k kind.Int vtype.IntArray v moves fits = absurd moves
+  kind_value held k kind.Int (vtype.Uninitialized o) v moves fits = absurd moves
+  kind_value held k kind.Int vtype.UninitializedThis v moves fits = absurd moves
+  kind_value held k kind.Reference vtype.Top v moves fits = absurd moves
+  kind_value held k kind.Reference vtype.Int v moves fits = absurd moves
+  kind_value held k moved t v moves fits = absurd fits
 
-  module _ (asked : Option VType) (heap : List Cell) (fresh : ℕ → ℕ) (receiver : ℕ) where
+  module _ (asked : Option VType) (held : Held) (fresh : ℕ → Site) (receiver : Site) where
     -- a machine that fits a type frame
     abbrev pub At : Frame → Machine → Type 0
     At = IsAt w asked fresh receiver
 
     -- what fits in its running frame
     abbrev pub FitsIn : Machine → VType → Tagged → Type 0
-    FitsIn m = Fits w m.heap.cells (marks_of w m.stack.frame.method fresh receiver)
+    FitsIn m = Fits w (held_by m) (marks_of w m.stack.frame.method fresh receiver)
 
     abbrev pub Leads : (Machine → Type 0) → Next → Type 0
-    Leads = LeadsTo w asked heap
+    Leads = LeadsTo w asked held
 
     on_top-leads : (P : Machine → Type 0) (next : Tagged → List Tagged → Next) (R : VType → Tagged → Type 0) (t : VType) (types : List VType) (values : List Tagged)
         → AllZip R (t ∷ types) values → ((value : Tagged) (below : List Tagged) → R t value → AllZip R types below → Leads P (next value below)) → Leads P (on_top next values)
@@ -214,7 +247,7 @@ module _ (w : World) (owed : Owed w) where
         → ((value : Tagged) (below : List Tagged) → FitsIn m t value → At (record f { stack = types }) (with_operands below m) → Leads P (next value (with_operands below m)))
         → Leads P (pop next m)
     pop_typed-leads P next f s t types m e to at go =
-        pop-leads P next f s types m e at (λ value below fit all. go value below (Fits-assignable m.heap.cells (marks_of w m.stack.frame.method fresh receiver) s t value to fit) all)
+        pop-leads P next f s types m e at (λ value below fit all. go value below (Fits-assignable (held_by m) (marks_of w m.stack.frame.method fresh receiver) s t value to fit) all)
 
     -- the operand on top, of a kind
     pub pop_kind-leads : (P : Machine → Type 0) (moved : WordKind) (next : Tagged → Machine → Next) (f : Frame) (t : VType) (types : List VType) (m : Machine) → f.stack ≡ t ∷ types
@@ -223,7 +256,7 @@ module _ (w : World) (owed : Owed w) where
         → Leads P (pop_as (is_kind moved) next m)
     pop_kind-leads P moved next f t types m e moves at go =
         pop-leads P (λ value m. if is_kind moved value then next value m else Stuck) f t types m e at
-        (λ value below fit all. rw (kind_value m.heap.cells (marks_of w m.stack.frame.method fresh receiver) moved t value moves fit) (go value below fit all))
+        (λ value below fit all. rw (kind_value (held_by m) (marks_of w m.stack.frame.method fresh receiver) moved t value moves fit) (go value below fit all))
 
     on_int-leads : (P : Machine → Type 0) (next : ℤ → Next) (m : Machine) (v : Tagged) → FitsIn m vtype.Int v → ((n : ℤ) → Leads P (next n)) → Leads P (on_int next v)
     on_int-leads P next m (Int n) fits go = go n
@@ -241,37 +274,37 @@ module _ (w : World) (owed : Owed w) where
         pop-leads P (λ value m. on_int (λ n. next n m) value) f vtype.Int types m e at
         (λ value below fit all. on_int-leads P (λ n. next n (with_operands below m)) m value fit (λ n. go n below all))
 
-    -- null ends it; else there is one at its address
-    pub on_object-leads : (P : Machine → Type 0) (Q : Cell → Type 0) (next : ℕ → Next) (cells : List Cell) (v : Tagged) → Points Q cells v
-        → ((a : ℕ) → Points Q cells (Local a) → Leads P (next a)) → Leads P (on_object next v)
-    on_object-leads P Q next cells Null fits go = tt
-    on_object-leads P Q next cells (Local a) fits go = go a fits
-    on_object-leads P Q next cells (Int n) fits go = absurd fits
-    on_object-leads P Q next cells (Remote row) fits go = absurd fits
-    on_object-leads P Q next cells (Fresh index site) fits go = absurd fits
-    on_object-leads P Q next cells (This site) fits go = absurd fits
-    on_object-leads P Q next cells Unset fits go = absurd fits
-    on_object-leads P Q next cells (Head header) fits go = absurd fits
+    -- null ends it; else there is an array at its address
+    pub on_array-leads : (P : Machine → Type 0) (next : ℕ → Next) (held : Held) (v : Tagged) → Points IsInts held v
+        → ((a : ℕ) → Points IsInts held (Local a) → Leads P (next a)) → Leads P (on_object next v)
+    on_array-leads P next held Null fits go = tt
+    on_array-leads P next held (Local a) fits go = go a fits
+    on_array-leads P next held (Int n) fits go = absurd fits
+    on_array-leads P next held (Remote row) fits go = absurd (no_array_away held row fits)
+    on_array-leads P next held (Fresh index site) fits go = absurd fits
+    on_array-leads P next held (This site) fits go = absurd fits
+    on_array-leads P next held Unset fits go = absurd fits
+    on_array-leads P next held (Head header) fits go = absurd fits
 
-    on_points : (P : Machine → Type 0) (Q : Cell → Type 0) (next : Pointer → Next) (cells : List Cell) (v : Tagged) → Points Q cells v
+    on_points : (P : Machine → Type 0) (Q : Pointee → Type 0) (next : Pointer → Next) (held : Held) (v : Tagged) → Points Q held v
         → ((a : Pointer) → Leads P (next a)) → Leads P (on_reference next v)
-    on_points P Q next cells Null fits go = go pointer.Null
-    on_points P Q next cells (Local a) fits go = go (pointer.Address a)
-    on_points P Q next cells (Int n) fits go = absurd fits
-    on_points P Q next cells (Remote row) fits go = absurd fits
-    on_points P Q next cells (Fresh index site) fits go = absurd fits
-    on_points P Q next cells (This site) fits go = absurd fits
-    on_points P Q next cells Unset fits go = absurd fits
-    on_points P Q next cells (Head header) fits go = absurd fits
+    on_points P Q next held Null fits go = go pointer.Null
+    on_points P Q next held (Local a) fits go = go (pointer.Address a)
+    on_points P Q next held (Int n) fits go = absurd fits
+    on_points P Q next held (Remote row) fits go = go (pointer.Row row)
+    on_points P Q next held (Fresh index site) fits go = absurd fits
+    on_points P Q next held (This site) fits go = absurd fits
+    on_points P Q next held Unset fits go = absurd fits
+    on_points P Q next held (Head header) fits go = absurd fits
 
     -- what is compared: any reference
     pub on_reference-leads : (P : Machine → Type 0) (next : Pointer → Next) (m : Machine) (t : VType) (v : Tagged) → Moves kind.Reference t → FitsIn m t v
         → ((a : Pointer) → Leads P (next a)) → Leads P (on_reference next v)
     on_reference-leads P next m vtype.Null Null moves fits go = go pointer.Null
-    on_reference-leads P next m (vtype.Object c) v moves fits go = on_points P (IsA w c) next m.heap.cells v fits go
-    on_reference-leads P next m vtype.IntArray v moves fits go = on_points P IsInts next m.heap.cells v fits go
-    on_reference-leads P next m (vtype.Uninitialized o) v moves fits go = rw fits.is (go (pointer.Address (fresh o)))
-    on_reference-leads P next m vtype.UninitializedThis v moves fits go = rw fits.is (go (pointer.Address receiver))
+    on_reference-leads P next m (vtype.Object c) v moves fits go = on_points P (IsA w c) next (held_by m) v fits go
+    on_reference-leads P next m vtype.IntArray v moves fits go = on_points P IsInts next (held_by m) v fits go
+    on_reference-leads P next m (vtype.Uninitialized o) v moves fits go = rw fits.is (go (pointer_at (fresh o)))
+    on_reference-leads P next m vtype.UninitializedThis v moves fits go = rw fits.is (go (pointer_at receiver))
     on_reference-leads P next m vtype.Top v moves fits go = absurd moves
     on_reference-leads P next m vtype.Int v moves fits go = absurd moves
     on_reference-leads P next m t v moves fits go = absurd fits
@@ -300,7 +333,7 @@ module _ (w : World) (owed : Owed w) where
         → ((v : Tagged) → FitsIn m t v → Leads P (next v)) → Leads P (load_as (is_kind moved) n next m)
     load-leads P moved next n t f m e moves at go =
         let held = AllZip-get (FitsIn m) f.locals m.stack.frame.locals n t at.frame.locals e in
-        rw (held.1.0, kind_value m.heap.cells (marks_of w m.stack.frame.method fresh receiver) moved t held.0 moves held.1.1) (go held.0 held.1.1)
+        rw (held.1.0, kind_value (held_by m) (marks_of w m.stack.frame.method fresh receiver) moved t held.0 moves held.1.1) (go held.0 held.1.1)
 
     pub load_int-leads : (P : Machine → Type 0) (next : ℤ → Next) (n : ℕ) (f : Frame) (m : Machine) → slice_get f.locals n ≡ Some vtype.Int → At f m
         → ((z : ℤ) → Leads P (next z)) → Leads P (load_as (is_kind kind.Int) n (on_int next) m)
@@ -338,7 +371,7 @@ module _ (w : World) (owed : Owed w) where
       receiver = receiver;
       inside = enters.inside;
       at = record {
-        frame = FitsFrame-assignable m.heap.cells fresh receiver f ((w.method m.stack.frame.method).frames to) (record m.stack.frame { index = to }) enters.to
+        frame = FitsFrame-assignable (held_by m) fresh receiver f ((w.method m.stack.frame.method).frames to) (record m.stack.frame { index = to }) enters.to
             record { known = at.frame.known; locals = at.frame.locals; operands = at.frame.operands; room = at.frame.room };
         heap = at.heap;
         callers = at.callers;

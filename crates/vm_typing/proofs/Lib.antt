@@ -3,6 +3,8 @@ pub mod Leads
 pub mod Words
 pub mod Objects
 pub mod Turns
+pub mod Arrivals
+pub mod Asks
 pub mod Calls
 pub mod Returns
 pub mod Referents

@@ -6,16 +6,17 @@ use Rattle.ver_frames.specs.Frames.{Frame}
 use Rattle.ver_frames.specs.Assignable.{IsAssignable, AreAssignable, IsFrameAssignable}
 use Rattle.ver_frames.specs.declared.vtype.VType.{VType}
 use Rattle.ver_frames.specs.declared.vtype.VType.TheVariants as vtype
-use Rattle.vm_heap.specs.Heap.{Cell}
 use Rattle.vm_act.specs.Next.{Next, On, Ends, Asks, Stuck, NotStuck, GoesOn, Does}
 use Rattle.vm_act.specs.Steps.{on_some}
 use Rattle.vm_act.specs.Objects.{referent_at, on_referent}
 use Rattle.vm_act.specs.declared.machine.Machine.{Machine}
 use Rattle.vm_act.specs.declared.objects.Referent.{Referent}
+use Rattle.vm_act.specs.declared.asked.Asked.{Asked}
 use Rattle.vm_act.specs.declared.ending.Ending.{Ending}
 use Rattle.vm_act.specs.declared.ending.Flow.{Flow}
 use Rattle.vm_act.specs.declared.ending.Flow.TheVariants as flow
 use Rattle.vm_typing.specs.World.{World, Enters}
+use Rattle.vm_typing.specs.Fits.{Held}
 use Rattle.vm_typing.specs.Leads.{LeadsTo, IsGiven}
 
 -- each type may stand for itself, and each frame
@@ -41,37 +42,40 @@ pub same_enters : (w : World) (number index : ℕ) (f : Frame) → index < (w.me
 same_enters w number index f inside is =
     record { inside = inside; to = subst (λ (g : Frame). IsFrameAssignable w.classes f g) (sym is) (IsFrameAssignable-itself w.classes f) }
 
-module _ (w : World) (asked : Option VType) (heap : List Cell) (P : Machine → Type 0) where
+module _ (w : World) (asked : Option VType) (held : Held) (P : Machine → Type 0) where
   -- what a function of vm_act asks
-  pub not_stuck : (next : Next) → LeadsTo w asked heap P next → NotStuck next
+  pub not_stuck : (next : Next) → LeadsTo w asked held P next → NotStuck next
   not_stuck (On m) leads = tt
   not_stuck (Ends ending) leads = tt
   not_stuck (Asks op m) leads = tt
   not_stuck Stuck leads = leads
 
   -- what it makes of a machine with which the task goes on
-  pub goes_on : (next : Next) (did : Flow) (after : Machine) → LeadsTo w asked heap P next → Does next did after → GoesOn did → P after
+  pub goes_on : (next : Next) (did : Flow) (after : Machine) → LeadsTo w asked held P next → Does next did after → GoesOn did → P after
   goes_on (On m) did after leads does goes = subst P (sym does.1) leads
   goes_on (Ends ending) did after leads does goes = absurd (subst GoesOn does goes)
-  goes_on (Asks op m) did after leads does goes = absurd leads
+  goes_on (Asks op m) did after leads does goes = absurd (subst GoesOn does.0 goes)
   goes_on Stuck did after leads does goes = absurd leads
 
   -- and what a task ends with
-  pub ends : (next : Next) (ending : Ending) (after : Machine) → LeadsTo w asked heap P next → Does next (flow.Ends ending) after → IsGiven w asked heap ending
+  pub ends : (next : Next) (ending : Ending) (after : Machine) → LeadsTo w asked held P next → Does next (flow.Ends ending) after → IsGiven w asked held ending
   ends (On m) ending after leads does = absurd does.0
-  ends (Ends other) ending after leads does = subst (IsGiven w asked heap) (same_ending other ending does) leads
+  ends (Ends other) ending after leads does = subst (IsGiven w asked held) (same_ending other ending does) leads
     where
       same_ending : (a b : Ending) → Path Flow (flow.Ends b) (flow.Ends a) → a ≡ b
       same_ending a b e = cc
-  ends (Asks op m) ending after leads does = absurd leads
+  ends (Asks op m) ending after leads does = absurd (no_ending op ending does.0)
+    where
+      no_ending : (op : Asked) (ending : Ending) → Path Flow (flow.Ends ending) (flow.Asks op) → ⊥
+      no_ending op ending e = cc
   ends Stuck ending after leads does = absurd leads
 
   -- there is what an instruction asks of an object
-  pub referent_is : (depth : ℕ) (next : Referent → Machine → Next) (m : Machine) → LeadsTo w asked heap P (on_referent depth next m)
-      → (r : Referent) × ((referent_at depth m ≡ Some r) × LeadsTo w asked heap P (next r m))
+  pub referent_is : (depth : ℕ) (next : Referent → Machine → Next) (m : Machine) → LeadsTo w asked held P (on_referent depth next m)
+      → (r : Referent) × ((referent_at depth m ≡ Some r) × LeadsTo w asked held P (next r m))
   referent_is depth next m leads = by (referent_at depth m) refl leads
     where
-      by : (o : Option Referent) → referent_at depth m ≡ o → LeadsTo w asked heap P (on_some (λ r. next r m) o)
-          → (r : Referent) × ((referent_at depth m ≡ Some r) × LeadsTo w asked heap P (next r m))
+      by : (o : Option Referent) → referent_at depth m ≡ o → LeadsTo w asked held P (on_some (λ r. next r m) o)
+          → (r : Referent) × ((referent_at depth m ≡ Some r) × LeadsTo w asked held P (next r m))
       by None is leads = absurd leads
       by (Some r) is leads = (r, (is, leads))

@@ -11,7 +11,8 @@ use Rattle.vm_heap.specs.declared.heap.WordKind.TheVariants as kind
 use Rattle.vm_stack.specs.Frames.{empty_frame}
 use Rattle.vm_act.specs.Next.{Next, On}
 use Rattle.vm_act.specs.Words.{constant, load, dup}
-use Rattle.vm_act.specs.Objects.{new_object, get_field, put_field}
+use Rattle.vm_act.specs.Objects.{new_object}
+use Rattle.vm_act.specs.Remote.{read_field, write_field}
 use Rattle.vm_act.specs.Calls.{construct, return_int, return_nothing}
 use Rattle.vm_act.specs.declared.machine.Machine.{Machine}
 use Rattle.vm_act.specs.declared.calls.Callee.{Callee}
@@ -147,13 +148,13 @@ main_at zero = new_object point_id (kind.Int ∷ [])
 main_at (suc zero) = dup
 main_at (suc (suc zero)) = constant (pos 5)
 main_at (suc (suc (suc zero))) = construct point_callee
-main_at (suc (suc (suc (suc zero)))) = get_field 0
+main_at (suc (suc (suc (suc zero)))) = read_field 0
 main_at (suc (suc (suc (suc (suc n))))) = return_int
 
 abbrev pub init_at : ℕ → Machine → Next
 init_at zero = load kind.Reference 0
 init_at (suc zero) = load kind.Int 1
-init_at (suc (suc zero)) = put_field 0
+init_at (suc (suc zero)) = write_field 0 kind.Int
 init_at (suc (suc (suc zero))) = load kind.Reference 0
 init_at (suc (suc (suc (suc zero)))) = construct object_callee
 init_at (suc (suc (suc (suc (suc n))))) = return_nothing

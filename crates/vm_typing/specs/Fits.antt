@@ -1,31 +1,68 @@
--- When a value is of a type, in a heap: "each value is of the type in its place" (JVMS 4.10.1.2 for the types).
-use Rattle.std.specs.Prelude.{◌≡◌, ℕ, false, Option, Some, None, List, [], ◌∷◌}
+-- When a value is of a type, over what its task holds: "each value is of the type in its place" (JVMS 4.10.1.2 for the types).
+use Rattle.std.specs.Prelude.{◌≡◌, ℕ, false, if◌then◌else◌, Option, Some, None, List, [], ◌∷◌, slice_get, option_map, option_and_then}
 use Rattle.std.specs.List.{AllZip}
 use Rattle.space_ids.specs.declared.ids.ClassId.{ClassId}
+use Rattle.space_ids.specs.declared.ids.Ref.{Ref}
+use Rattle.cls_set.specs.Subtypes.{IsRemote}
 use Rattle.ver_frames.specs.Assignable.{IsObjectAssignable}
 use Rattle.ver_frames.specs.declared.vtype.VType.{VType}
 use Rattle.ver_frames.specs.declared.vtype.VType.TheVariants as vtype
-use Rattle.vm_heap.specs.Tagged.{Tagged, HeapAddress, Int, Null, Local, Remote, Fresh, This, Unset, Head, IsInt}
-use Rattle.vm_heap.specs.Heap.{Cell, Object, Ints, cell_at}
+use Rattle.vm_heap.specs.Tagged.{Tagged, Site, HeapAddress, ReferenceRow, Int, Null, Local, Remote, Fresh, This, Unset, Head, IsInt}
+use Rattle.vm_heap.specs.Heap.{Cell, Object, Ints, Store, cell_at}
+use Rattle.vm_heap.specs.References.{Table, is_own}
+use Rattle.vm_act.specs.declared.machine.Machine.{Machine}
 use Rattle.vm_typing.specs.World.{World, MethodType, IsKnown}
 
+-- what a task holds beside its frames: the objects and arrays of its heap, and its list of references to remote objects
+pub record Held : Type 0 where
+  pub cells : List Cell
+  pub references : Table
+
+abbrev pub held_in : Store → Table → Held
+held_in heap references = record { cells = heap.cells; references = references }
+
+abbrev pub held_by : Machine → Held
+held_by m = held_in m.heap m.references
+
+-- what a reference may stand for: an object or an array of the heap, or a remote object of the task's own space, of which the class is known
+pub data Pointee : Type 0 where
+  OfHeap : Cell → Pointee
+  OfSpace : ClassId → Pointee
+
+abbrev pub own_pointee : Table → Ref → Option Pointee
+own_pointee table reference = if is_own table reference then Some (OfSpace reference.class) else None
+
+-- what stands at a site
+abbrev pub pointee_at : Held → Site → Option Pointee
+pointee_at held (HeapAddress address) = option_map (λ cell. OfHeap cell) (cell_at held.cells address)
+pointee_at held (ReferenceRow row) = option_and_then (own_pointee held.references) (slice_get held.references.rows row)
+
 -- the class of an object; an array is used as an object of java/lang/Object
-abbrev pub class_in : World → Cell → ClassId
-class_in w (Object class fields) = class
-class_in w (Ints elements) = w.object
+abbrev pub class_in : World → Pointee → ClassId
+class_in w (OfHeap (Object class fields)) = class
+class_in w (OfHeap (Ints elements)) = w.object
+class_in w (OfSpace class) = class
+
+-- objects of the space are those of remote classes
+abbrev pub IsPlaced : World → Pointee → Type 0
+IsPlaced w (OfHeap cell) = Unit {0}
+IsPlaced w (OfSpace class) = IsRemote w.classes class
 
 -- what may stand for an object of a class
-abbrev pub IsA : World → ClassId → Cell → Type 0
-IsA w class cell = IsKnown w (class_in w cell) × IsObjectAssignable w.classes (class_in w cell) class
+abbrev pub IsA : World → ClassId → Pointee → Type 0
+IsA w class pointee =
+    IsKnown w (class_in w pointee) × IsObjectAssignable w.classes (class_in w pointee) class × IsPlaced w pointee
 
 -- an object of this very class
-abbrev pub IsOf : World → ClassId → Cell → Type 0
-IsOf w class (Object c fields) = (c ≡ class) × IsKnown w c
-IsOf w class (Ints elements) = ⊥
+abbrev pub IsOf : World → ClassId → Pointee → Type 0
+IsOf w class (OfHeap (Object c fields)) = (c ≡ class) × IsKnown w c
+IsOf w class (OfHeap (Ints elements)) = ⊥
+IsOf w class (OfSpace c) = (c ≡ class) × IsKnown w c × IsRemote w.classes c
 
-abbrev pub IsInts : Cell → Type 0
-IsInts (Object class fields) = ⊥
-IsInts (Ints elements) = Unit {0}
+abbrev pub IsInts : Pointee → Type 0
+IsInts (OfHeap (Object class fields)) = ⊥
+IsInts (OfHeap (Ints elements)) = Unit {0}
+IsInts (OfSpace class) = ⊥
 
 -- there is one, and it has the property
 abbrev pub There : {A : Type 0} → (A → Type 0) → Option A → Type 0
@@ -42,48 +79,52 @@ IsNull (This site) = ⊥
 IsNull Unset = ⊥
 IsNull (Head header) = ⊥
 
--- null, or at its address there is one with the property
-abbrev pub Points : (Cell → Type 0) → List Cell → Tagged → Type 0
-Points P cells (Int n) = ⊥
-Points P cells Null = Unit {0}
-Points P cells (Local address) = There P (cell_at cells address)
-Points P cells (Remote row) = ⊥
-Points P cells (Fresh index site) = ⊥
-Points P cells (This site) = ⊥
-Points P cells Unset = ⊥
-Points P cells (Head header) = ⊥
+-- null, or at its site there is one with the property
+abbrev pub Points : (Pointee → Type 0) → Held → Tagged → Type 0
+Points P held (Int n) = ⊥
+Points P held Null = Unit {0}
+Points P held (Local address) = There P (pointee_at held (HeapAddress address))
+Points P held (Remote row) = There P (pointee_at held (ReferenceRow row))
+Points P held (Fresh index site) = ⊥
+Points P held (This site) = ⊥
+Points P held Unset = ⊥
+Points P held (Head header) = ⊥
 
--- what a frame's uninitialised objects are: its method, the address of what each `new` made last, by the offset of the instruction,
--- and that of the receiver of an `<init>`
+-- what a frame's uninitialised objects are: its method, the site of what each `new` made last, by the offset of the instruction, and that
+-- of the receiver of an `<init>`
 pub record Marks : Type 0 where
   pub method : MethodType
-  pub fresh : ℕ → ℕ
-  pub receiver : ℕ
+  pub fresh : ℕ → Site
+  pub receiver : Site
 
--- what the `new` at an offset made: on each offset there is one address alone, and the object is of the class that the instruction names
-pub record IsMade (w : World) (cells : List Cell) (k : Marks) (offset : ℕ) (value : Tagged) : Type 0 where
-  pub is : value ≡ Fresh (k.method.index_at offset) (HeapAddress (k.fresh offset))
+-- what the `new` at an offset made: on each offset there is one site alone, and the object is of the class that the instruction names
+pub record IsMade (w : World) (held : Held) (k : Marks) (offset : ℕ) (value : Tagged) : Type 0 where
+  pub is : value ≡ Fresh (k.method.index_at offset) (k.fresh offset)
   pub at : k.method.offset_at (k.method.index_at offset) ≡ offset
-  pub there : There (λ class. There (IsOf w class) (cell_at cells (k.fresh offset))) (k.method.made_at offset)
+  pub there : There (λ class. There (IsOf w class) (pointee_at held (k.fresh offset))) (k.method.made_at offset)
 
 -- the receiver of a running `<init>`
-pub record IsReceiver (w : World) (cells : List Cell) (k : Marks) (value : Tagged) : Type 0 where
-  pub is : value ≡ This (HeapAddress k.receiver)
-  pub there : There (IsA w k.method.owner) (cell_at cells k.receiver)
+pub record IsReceiver (w : World) (held : Held) (k : Marks) (value : Tagged) : Type 0 where
+  pub is : value ≡ This k.receiver
+  pub there : There (IsA w k.method.owner) (pointee_at held k.receiver)
 
 -- a value is of a type
-abbrev pub Fits : World → List Cell → Marks → VType → Tagged → Type 0
-Fits w cells k vtype.Top value = Unit {0}
-Fits w cells k vtype.Int value = IsInt value
-Fits w cells k vtype.Null value = IsNull value
-Fits w cells k (vtype.Object class) value = Points (IsA w class) cells value
-Fits w cells k vtype.IntArray value = Points IsInts cells value
-Fits w cells k (vtype.Uninitialized offset) value = IsMade w cells k offset value
-Fits w cells k vtype.UninitializedThis value = IsReceiver w cells k value
+abbrev pub Fits : World → Held → Marks → VType → Tagged → Type 0
+Fits w held k vtype.Top value = Unit {0}
+Fits w held k vtype.Int value = IsInt value
+Fits w held k vtype.Null value = IsNull value
+Fits w held k (vtype.Object class) value = Points (IsA w class) held value
+Fits w held k vtype.IntArray value = Points IsInts held value
+Fits w held k (vtype.Uninitialized offset) value = IsMade w held k offset value
+Fits w held k vtype.UninitializedThis value = IsReceiver w held k value
 
 -- the values and the types have one length, and each value is of the type at its index
-abbrev pub AllFit : World → List Cell → Marks → List VType → List Tagged → Type 0
-AllFit w cells k = AllZip (Fits w cells k)
+abbrev pub AllFit : World → Held → Marks → List VType → List Tagged → Type 0
+AllFit w held k = AllZip (Fits w held k)
+
+-- of no method there is an uninitialised object
+abbrev pub no_site : Site
+no_site = HeapAddress 0
 
 abbrev pub no_method : MethodType
 no_method = record {
@@ -103,17 +144,17 @@ no_method = record {
 
 -- of what stands in the heap nothing is uninitialised
 abbrev pub no_marks : Marks
-no_marks = record { method = no_method; fresh = λ offset. 0; receiver = 0 }
+no_marks = record { method = no_method; fresh = λ offset. no_site; receiver = no_site }
 
 -- the fields of an object are of their types
-abbrev pub CellFits : World → List Cell → Cell → Type 0
-CellFits w cells (Object class fields) = AllFit w cells no_marks (w.fields class) fields
-CellFits w cells (Ints elements) = Unit {0}
+abbrev pub CellFits : World → Held → Cell → Type 0
+CellFits w held (Object class fields) = AllFit w held no_marks (w.fields class) fields
+CellFits w held (Ints elements) = Unit {0}
 
 abbrev pub AllCells : (Cell → Type 0) → List Cell → Type 0
 AllCells P [] = Unit {0}
 AllCells P (cell ∷ cells) = P cell × AllCells P cells
 
 -- the heap is of its types
-abbrev pub HeapFits : World → List Cell → Type 0
-HeapFits w cells = AllCells (CellFits w cells) cells
+abbrev pub HeapFits : World → Held → Type 0
+HeapFits w held = AllCells (CellFits w held) held.cells

@@ -2,6 +2,7 @@ pub mod World
 pub mod Fits
 pub mod Typed
 pub mod Owed
+pub mod Asking
 pub mod Leads
 pub mod Laws
 pub mod Runs

@@ -1,23 +1,23 @@
 -- When a machine fits the types of the program that it runs: its running frame, those of its callers, which wait for a result, and its
--- heap.
-use Rattle.std.specs.Prelude.{◌≡◌, ℕ, ◌<◌, true, Option, Some, None, List, [], ◌∷◌, length}
+-- heap. The remote objects are those of its references.
+use Rattle.std.specs.Prelude.{◌≡◌, ℕ, ◌+◌, ◌<◌, ◌≤◌, true, Option, Some, None, List, [], ◌∷◌, length}
 use Rattle.ver_frames.specs.Frames.{Frame}
 use Rattle.ver_frames.specs.declared.vtype.VType.{VType}
-use Rattle.vm_heap.specs.Heap.{Cell}
+use Rattle.vm_heap.specs.Tagged.{Site}
 use Rattle.vm_stack.specs.Frames as frames
 use Rattle.vm_act.specs.declared.machine.Machine.{Machine}
 use Rattle.vm_typing.specs.World.{World, Enters}
-use Rattle.vm_typing.specs.Fits.{Marks, AllFit, HeapFits}
+use Rattle.vm_typing.specs.Fits.{Held, Marks, AllFit, HeapFits, held_by}
 
 -- a frame's marks, by its method's number
-abbrev pub marks_of : World → ℕ → (ℕ → ℕ) → ℕ → Marks
+abbrev pub marks_of : World → ℕ → (ℕ → Site) → Site → Marks
 marks_of w number fresh receiver = record { method = w.method number; fresh = fresh; receiver = receiver }
 
 -- a frame fits a type frame
-pub record FitsFrame (w : World) (cells : List Cell) (fresh : ℕ → ℕ) (receiver : ℕ) (f : Frame) (frame : frames.Frame) : Type 0 where
+pub record FitsFrame (w : World) (held : Held) (fresh : ℕ → Site) (receiver : Site) (f : Frame) (frame : frames.Frame) : Type 0 where
   pub known : w.has_code frame.method ≡ true
-  pub locals : AllFit w cells (marks_of w frame.method fresh receiver) f.locals frame.locals
-  pub operands : AllFit w cells (marks_of w frame.method fresh receiver) f.stack frame.operands
+  pub locals : AllFit w held (marks_of w frame.method fresh receiver) f.locals frame.locals
+  pub operands : AllFit w held (marks_of w frame.method fresh receiver) f.stack frame.operands
   pub room : frame.room ≡ (w.method frame.method).max_stack
 
 -- the frame once a result is pushed
@@ -31,31 +31,41 @@ HasRoom max_stack None f = Unit {0}
 HasRoom max_stack (Some t) f = length f.stack < max_stack
 
 -- the frame of a caller fits the type frame after its call, once the result is pushed
-pub record Waits (w : World) (cells : List Cell) (result : Option VType) (frame : frames.Frame) : Type 0 where
-  pub fresh : ℕ → ℕ
-  pub receiver : ℕ
+pub record Waits (w : World) (held : Held) (result : Option VType) (frame : frames.Frame) : Type 0 where
+  pub fresh : ℕ → Site
+  pub receiver : Site
   pub given : Frame
-  pub fits : FitsFrame w cells fresh receiver given frame
+  pub fits : FitsFrame w held fresh receiver given frame
   pub has_room : HasRoom (w.method frame.method).max_stack result given
   pub enters : Enters w frame.method frame.index (with_result result given)
 
 -- Each caller waits for the result of the method above it. The lowest frame is the empty one: what comes there is what
 -- the task gives.
-abbrev pub CallersWait : World → Option VType → List Cell → Option VType → List frames.Frame → Type 0
-CallersWait w asked cells result [] = ⊥
-CallersWait w asked cells result (frame ∷ []) = result ≡ asked
-CallersWait w asked cells result (frame ∷ below ∷ callers) =
-    Waits w cells result frame × CallersWait w asked cells (w.method frame.method).result (below ∷ callers)
+abbrev pub CallersWait : World → Option VType → Held → Option VType → List frames.Frame → Type 0
+CallersWait w asked held result [] = ⊥
+CallersWait w asked held result (frame ∷ []) = result ≡ asked
+CallersWait w asked held result (frame ∷ below ∷ callers) =
+    Waits w held result frame × CallersWait w asked held (w.method frame.method).result (below ∷ callers)
+
+-- A machine stands before the instruction after the one that it makes: it has as many local variables, and at most as many operands, as the
+-- frame that comes in there
+pub record StandsBefore (w : World) (asked : Option VType) (m : Machine) : Type 0 where
+  pub next : Frame
+  pub known : w.has_code m.stack.frame.method ≡ true
+  pub enters : Enters w m.stack.frame.method (m.stack.frame.index + 1) next
+  pub locals : length m.stack.frame.locals ≡ length next.locals
+  pub operands : length m.stack.frame.operands ≤ length next.stack
+  pub callers : CallersWait w asked (held_by m) (w.method m.stack.frame.method).result m.stack.callers
 
 -- a machine whose running frame fits a type frame
-pub record IsAt (w : World) (asked : Option VType) (fresh : ℕ → ℕ) (receiver : ℕ) (f : Frame) (m : Machine) : Type 0 where
-  pub frame : FitsFrame w m.heap.cells fresh receiver f m.stack.frame
-  pub heap : HeapFits w m.heap.cells
-  pub callers : CallersWait w asked m.heap.cells (w.method m.stack.frame.method).result m.stack.callers
+pub record IsAt (w : World) (asked : Option VType) (fresh : ℕ → Site) (receiver : Site) (f : Frame) (m : Machine) : Type 0 where
+  pub frame : FitsFrame w (held_by m) fresh receiver f m.stack.frame
+  pub heap : HeapFits w (held_by m)
+  pub callers : CallersWait w asked (held_by m) (w.method m.stack.frame.method).result m.stack.callers
 
 -- it stands at an instruction and fits the type frame there, and its task gives a result of a type
 pub record IsTyped (w : World) (asked : Option VType) (m : Machine) : Type 0 where
-  pub fresh : ℕ → ℕ
-  pub receiver : ℕ
+  pub fresh : ℕ → Site
+  pub receiver : Site
   pub inside : m.stack.frame.index < (w.method m.stack.frame.method).count
   pub at : IsAt w asked fresh receiver ((w.method m.stack.frame.method).frames m.stack.frame.index) m

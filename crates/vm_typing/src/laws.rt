@@ -4,55 +4,58 @@ ghost use Rattle.std.specs.Prelude.{◌≡◌, ℕ, Option, Some, List, codes};
 ghost use Rattle.cls_set.specs.Classes.{name_at};
 ghost use Rattle.cls_set.specs.Sets.{IsClassSet};
 ghost use Rattle.ver_frames.specs.declared.vtype.VType.{VType};
-ghost use Rattle.vm_heap.specs.Heap.{Cell};
+ghost use Rattle.vm_heap.specs.Tagged.{Site};
 ghost use Rattle.vm_typing.specs.World.{World};
+ghost use Rattle.vm_typing.specs.Fits.{Held};
 ghost use Rattle.vm_typing.specs.Owed.{Owed, SetsGive};
 ghost use Rattle.vm_typing.specs.Laws.{WordsLead, ObjectsLead, CallsLead, ReferentsLead, ReturnsLead, StepsAreMade};
-ghost use Rattle.vm_typing.specs.Runs.{StartsTyped, RunsSound};
+ghost use Rattle.vm_typing.specs.Runs.{StartsTyped, RunsSound, PlaysSound};
 ghost use Rattle.vm_typing.specs.Example.{world, ExampleIsSound};
 
 /// Loads, stores, constants, pops and copies of operands, operators on ints, branches and switches
 /// lead a typed machine to a typed one, or end the task.
 pub fn words_lead()
-    ensures { (w : World) → Owed w → (asked : Option VType) (heap : List Cell) (fresh : ℕ → ℕ) (receiver : ℕ) → WordsLead w asked heap fresh receiver }
+    ensures { (w : World) → Owed w → (asked : Option VType) (held : Held) (fresh : ℕ → Site) (receiver : Site) → WordsLead w asked held fresh receiver }
 {}
 
 /// The instructions that make objects and int arrays, and use them, lead a typed machine to a typed
-/// one, or end the task.
+/// one, or end the task, or ask its space for what is of typed words and wait for the reply.
 pub fn objects_lead()
-    ensures { (w : World) → Owed w → (asked : Option VType) (heap : List Cell) (fresh : ℕ → ℕ) (receiver : ℕ) → ObjectsLead w asked heap fresh receiver }
+    ensures { (w : World) → Owed w → (asked : Option VType) (held : Held) (fresh : ℕ → Site) (receiver : Site) → ObjectsLead w asked held fresh receiver }
 {}
 
 /// Calls of methods that are named (static ones, and an `<init>` on a new object or on the receiver
 /// of a running `<init>`) lead a typed machine to a typed one, or end the task.
 pub fn calls_lead()
-    ensures { (w : World) → Owed w → (asked : Option VType) (heap : List Cell) (fresh : ℕ → ℕ) (receiver : ℕ) → CallsLead w asked heap fresh receiver }
+    ensures { (w : World) → Owed w → (asked : Option VType) (held : Held) (fresh : ℕ → Site) (receiver : Site) → CallsLead w asked held fresh receiver }
 {}
 
 /// Calls of the method that a receiver's class selects, casts, instanceof and athrow lead a typed
 /// machine to a typed one, or end the task.
 pub fn referents_lead()
-    ensures { (w : World) → Owed w → (asked : Option VType) (heap : List Cell) (fresh : ℕ → ℕ) (receiver : ℕ) → ReferentsLead w asked heap fresh receiver }
+    ensures { (w : World) → Owed w → (asked : Option VType) (held : Held) (fresh : ℕ → Site) (receiver : Site) → ReferentsLead w asked held fresh receiver }
 {}
 
 /// A return leads to the typed machine of a caller that waits, or ends the task with a result of
 /// its type.
 pub fn returns_lead()
-    ensures { (w : World) → Owed w → (asked : Option VType) (fresh : ℕ → ℕ) (receiver : ℕ) → ReturnsLead w asked fresh receiver }
+    ensures { (w : World) → Owed w → (asked : Option VType) (fresh : ℕ → Site) (receiver : Site) → ReturnsLead w asked fresh receiver }
 {}
 
 /// If a step leads to typed machines, the function of vm_act that makes it may be called, a machine
 /// with which the task goes on is typed, and what ends the task may be given.
 pub fn steps_are_made()
-    ensures { (w : World) (asked : Option VType) (heap : List Cell) → StepsAreMade w asked heap }
+    ensures { (w : World) (asked : Option VType) (held : Held) → StepsAreMade w asked held }
 {}
 
 /// A method that is started on values of its parameters' types is typed. If each step leads a typed
 /// machine as the laws here say, the machine is never stuck, however many steps it makes, and its
-/// task ends as thrown, or with a result of the type that its method declares.
+/// task ends as thrown, or with a result of the type that its method declares. So it is whatever it is
+/// replied to what it asks of its space, if each reply is of the kind and the type that is asked.
 pub fn typed_machines_are_never_stuck()
     ensures start { (w : World) → Owed w → StartsTyped w }
     ensures run { (w : World) → RunsSound w }
+    ensures replies { (w : World) → PlaysSound w }
 {}
 
 /// Every class set gives what is owed of subclasses: java/lang/Object is above all others, and

@@ -38,7 +38,7 @@ module _ (classes : List Class) where
   of_element (element.Class name) plain = named_kind (number_of classes name) plain
   of_element e plain = absurd plain
 
-  has_kind : (type : FieldType) → IsPlain (field_vtype classes type) → HasKind (field_vtype classes type) (kind_of type)
+  pub has_kind : (type : FieldType) → IsPlain (field_vtype classes type) → HasKind (field_vtype classes type) (kind_of type)
   unfolding field_vtype
   has_kind type plain = on (type.dimensions == 0) ((type.dimensions == 1) && is_int type.element) plain
     where

@@ -17,8 +17,8 @@ unreachable-requires c =
     let few : c.args.limits.fuel < 18446744073709551616 = search rules in
     let last : c.run-2.new.self.state ≡ run c.args.program.now 1 c.run.new.self.state = ap (λ (t : Tasked). t.state) c.run-2.ensures.task in
     absurd (none_told c.in_ok-told.told c.in-None.is ((c.in_ok-told.ensures).over
-    (ended_by_one_more c.args.program.now c.run.new.self.state c.run-2.new.self.state c.args.limits.fuel 18446744073709551615
-    (λ turn. c.run.ensures.turn (c.run.ensures.pause ∙ turn) ∙ (c.in_ok-task.ensures).fuel) (omega (arith, few)) c.run.ensures.never_stuck last c.run-2.ensures.over)))
+    (ended_by_one_more c.args.program.now c.run.new.self.state c.run-2.new.self.state c.args.limits.fuel 18446744073709551615 c.requires.plain
+    (λ turn. c.run.ensures.turn (c.run.ensures.pause ∙ turn) ∙ (c.in_ok-task.ensures).fuel) (omega (arith, few)) c.run.ensures.never_stuck c.run-2.ensures.never_stuck last c.run-2.ensures.stopped)))
 
 pub returns-clause-run : goal.returns-clause-run
 returns-clause-run c =

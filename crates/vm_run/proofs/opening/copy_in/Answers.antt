@@ -1,5 +1,5 @@
 use Rattle.std.proofs.Common.{refl}
-use Rattle.vm_run.proofs.Passing.{Copied, copied_no, copied_more, copied_room, copied_cells, copied_free_all}
+use Rattle.vm_run.proofs.Passing.{copied_no, copied_more, copied_room, copied_cells, copied_free_all}
 use Rattle.vm_run.proofs.opening.copy_in.Goals as goal
 
 pub loop-argument-init : goal.loop-argument-init

@@ -1,4 +1,4 @@
-use Rattle.vm_run.proofs.Copying.{Untouched, copied_free, room_for, untouched}
+use Rattle.vm_run.proofs.Copying.{copied_free, room_for, untouched}
 use Rattle.vm_run.proofs.opening.copy_one.Goals as goal
 
 pub returns-in-Ints-clause-fits : goal.returns-in-Ints-clause-fits

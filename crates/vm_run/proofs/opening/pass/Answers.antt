@@ -1,9 +1,9 @@
-use Rattle.std.proofs.Common.{◌≡◌, ◌<◌, ◌≤◌, ◌+◌, ◌∙◌, List, ◌++◌, length, take, drop, ap, refl, arith}
+use Rattle.std.proofs.Common.{◌≡◌, ◌+◌, ◌∙◌, List, length, ap, refl, arith}
 use Rattle.std.specs.Prelude.{slice_set}
 use Rattle.vm_heap.specs.Heap.{all_cost}
 use Rattle.vm_heap.specs.Tagged.{Tagged}
 use Rattle.vm_stack.specs.Frames.{Frame, Frames}
-use Rattle.vm_run.specs.Start.{copies, copy_of, passed_from}
+use Rattle.vm_run.specs.Start.{copies, passed_from}
 use Rattle.vm_run.proofs.Passing.{copied_one, copied_within, length-passed, passed_one}
 use Rattle.vm_run.proofs.opening.pass.Goals as goal
 

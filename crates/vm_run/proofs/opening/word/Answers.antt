@@ -1,6 +1,5 @@
-use Rattle.std.proofs.Common.{◌≡◌, ◌<◌, ◌+◌, subst, ap, length, arith, [], ◌∷◌}
-use Rattle.std.specs.Prelude.{◌^◌}
-use Rattle.vm_heap.specs.Heap.{Ints, all_cost, cost}
+use Rattle.std.proofs.Common.{◌<◌, ◌+◌, ap, arith}
+use Rattle.vm_heap.specs.Heap.{all_cost, cost}
 use Rattle.vm_run.specs.Start.{copy_of}
 use Rattle.vm_run.proofs.opening.word.Goals as goal
 

@@ -1,5 +1,3 @@
-use Rattle.std.proofs.Common.{◌≡◌, ◌+◌, length, arith, refl}
-use Rattle.vm_heap.specs.Heap.{all_cost, cost}
 use Rattle.vm_run.proofs.Copying.{words_of_ints, words_of_other}
 use Rattle.vm_run.proofs.opening.words.Goals as goal
 

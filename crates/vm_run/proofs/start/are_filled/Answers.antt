@@ -1,4 +1,4 @@
-use Rattle.std.proofs.Common.{◌≡◌, ◌<◌, ◌≤◌, ◌∙◌, length, arith}
+use Rattle.std.proofs.Common.{◌∙◌, arith}
 use Rattle.vm_run.proofs.Copying.{fill_end, fill_more, fill_no, fill_other}
 use Rattle.vm_run.proofs.start.are_filled.Goals as goal
 

@@ -1,4 +1,4 @@
-use Rattle.std.proofs.Common.{◌≡◌, drop, length}
+use Rattle.std.proofs.Common.{◌≡◌, drop}
 use Rattle.vm_run.specs.Start.{fill}
 use Rattle.vm_run.proofs.start.are_filled.Given as goal
 

@@ -1,7 +1,7 @@
 use Rattle.std.proofs.Common.{ap, sym, subst, ◌∙◌}
-use Rattle.vm_run.specs.Run.{State, run, IsOver, IsNeverStuck}
+use Rattle.vm_run.specs.Run.{State, run, HasStopped, IsNeverStuck}
 use Rattle.vm_run.specs.Task.{phase_state}
-use Rattle.vm_run.proofs.Runs.{Uses, run-add, run-Uses, IsNeverStuck-run, run-IsOver, run_final}
+use Rattle.vm_run.proofs.Runs.{Uses, run-add, run-Uses, IsNeverStuck-run, run-HasStopped, run_final}
 use Rattle.vm_run.proofs.phase.Phase.run.Goals as goal
 
 pub returns : goal.returns
@@ -16,6 +16,6 @@ returns c =
       fuel = uses.fuel;
       most = uses.most;
       turn = uses.turn;
-      over = λ more. subst IsOver (sym c.after.ensures) (run-IsOver c.args.program.now c.args.k was c.requires more);
+      stopped = λ more. subst HasStopped (sym c.after.ensures) (run-HasStopped c.args.program.now c.args.k was c.requires more);
       finished = λ more. c.after.ensures ∙ run_final c.args.program.now c.args.k was c.requires more;
     }

@@ -1,7 +1,7 @@
 use Rattle.std.proofs.Common.{◌≡◌, ◌∙◌, ap, sym, subst}
 use Rattle.vm_run.specs.Run.{over, IsNeverStuck}
 use Rattle.vm_run.specs.Task.{Tasked, last_end, phase_state}
-use Rattle.vm_run.proofs.Outcomes.{Outcomes, end_there, is_outcome}
+use Rattle.vm_run.proofs.Outcomes.{end_there, is_outcome}
 use Rattle.vm_run.proofs.task.Task.outcome.Goals as goal
 
 pub told_last-requires : goal.told_last-requires

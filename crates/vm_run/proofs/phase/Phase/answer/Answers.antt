@@ -1,0 +1,13 @@
+use Rattle.std.proofs.Common.{◌+◌, ap, subst, sym, ◌∙◌}
+use Rattle.vm_run.specs.Run.{State, IsNeverStuck}
+use Rattle.vm_run.specs.Task.{fuel_left, phase_state}
+use Rattle.vm_run.proofs.Runs.{IsNeverStuck-answer, answer-fuel}
+use Rattle.vm_run.proofs.phase.Phase.answer.Goals as goal
+
+pub returns-clause-never_stuck : goal.returns-clause-never_stuck
+returns-clause-never_stuck c =
+    subst (IsNeverStuck c.args.program.now) (sym c.answered.ensures) (IsNeverStuck-answer c.args.program.now c.args.reply (phase_state c.args.self) c.requires.safe c.requires.due)
+
+pub returns-clause-fuel : goal.returns-clause-fuel
+returns-clause-fuel c =
+    ap (λ (s : State). fuel_left s + 1) c.answered.ensures ∙ answer-fuel c.args.program.now c.args.reply (phase_state c.args.self) c.requires.safe c.requires.due
