@@ -30,6 +30,7 @@ use stage::Stage;
 use std::io;
 use std::io::{BufRead, BufReader, BufWriter, ErrorKind, Write};
 
+mod calls;
 mod classes;
 mod fault;
 mod parts;

@@ -1,11 +1,11 @@
 //! A core, and the tasks in hand.
 
-ghost use Rattle.std.specs.Prelude.{◌+◌, ◌^◌, ◌<◌};
-
+use super::calls;
+use super::calls::{Answer, HandAnswer};
 use super::classes::OneClass;
 use super::fault::RowFault;
 use super::row::{Hand, Row, row_of};
-use sp_core::{CoreFault, Event, LentTask, Op, Output, Root, SpaceCore};
+use sp_core::{CoreFault, LentTask, Op, Output, Root, SpaceCore};
 use space_ids::Uuid;
 use std::alloc::{AllocError, Global};
 use std::io::Write;
@@ -36,14 +36,14 @@ impl Stage {
         match row_of(self.alloc, text)? {
             Row::Heading => {}
             Row::Core(id, fuel) => self.core = SpaceCore::new(self.alloc, id, fuel)?,
-            Row::Event(event) => put_answer(&mut said, &self.core.on(&event))?,
+            Row::Event(event) => put_answer(&mut said, &calls::event(&mut self.core, &event))?,
             Row::Root(root, times) => self.start(&mut said, &root, times)?,
             Row::Lend(task) => self.lend(&mut said, task)?,
             Row::Ran(task, made) => self.ran(task, made)?,
             Row::Commit(task, op, times) => self.commit(&mut said, task, &op, times)?,
             Row::Hand(task, hand) => self.hand(&mut said, task, &hand)?,
-            Row::Object(index) => writeln!(said, "{:?}", self.core.object(index))?,
-            Row::Ready => writeln!(said, "{:?}", self.core.ready())?,
+            Row::Object(index) => writeln!(said, "{:?}", calls::object(&self.core, index))?,
+            Row::Ready => writeln!(said, "{:?}", calls::ready(&self.core))?,
         }
         Ok(said)
     }
@@ -51,13 +51,13 @@ impl Stage {
     fn start(&mut self, said: &mut Vec<u8>, root: &Root, times: usize) -> Result<(), RowFault> {
         let mut answer = Ok(Vec::new(self.alloc));
         for _ in 0..times {
-            answer = self.core.root(root);
+            answer = calls::root(&mut self.core, root);
         }
         put_answer(said, &answer)
     }
 
     fn lend(&mut self, said: &mut Vec<u8>, task: u64) -> Result<(), RowFault> {
-        match self.core.lend(task) {
+        match calls::lend(&mut self.core, task) {
             Some(task) => {
                 writeln!(said, "{:?} after {} steps", task.record(), task.steps())?;
                 self.tasks.push(task)?;
@@ -78,13 +78,9 @@ impl Stage {
 
     fn ran(&mut self, task: u64, made: u64) -> Result<(), RowFault> {
         let mut lent = self.taken(task)?;
-        let before = lent.steps().checked_add(lent.made()).ok_or(RowFault::Bad)?;
-        if before.checked_add(made).is_none() {
-            return Err(RowFault::Bad);
-        }
-        lent.ran(made);
+        let fits = calls::ran(&mut lent, made);
         self.tasks.push(lent)?;
-        Ok(())
+        if fits { Ok(()) } else { Err(RowFault::Bad) }
     }
 
     fn commit(
@@ -97,7 +93,7 @@ impl Stage {
         let mut lent = self.taken(task)?;
         let mut answer = Err(CoreFault::NotLent);
         for _ in 0..times {
-            answer = self.core.commit(&self.classes, &mut lent, op);
+            answer = calls::commit(&mut self.core, &self.classes, &mut lent, op);
         }
         self.tasks.push(lent)?;
         match answer {
@@ -119,25 +115,16 @@ impl Stage {
     }
 }
 
-// What a core answers to a task that is given to it.
-fn given(
-    core: &mut SpaceCore,
-    alloc: Global,
-    lent: LentTask,
-    hand: &Hand,
-) -> Result<Vec<Output>, (LentTask, CoreFault)> {
+fn given(core: &mut SpaceCore, alloc: Global, lent: LentTask, hand: &Hand) -> HandAnswer {
     match hand {
-        Hand::Give => match core.give_back(lent) {
-            Ok(()) => Ok(Vec::new(alloc)),
-            Err(refused) => Err(refused),
-        },
-        Hand::Park(stand) => core.park(lent, stand),
-        Hand::Finish(stand) => core.finish(lent, stand),
+        Hand::Give => calls::give_back(core, alloc, lent),
+        Hand::Park(stand) => calls::park(core, lent, stand),
+        Hand::Finish(stand) => calls::finish(core, lent, stand),
     }
 }
 
 // Prints what a core answered to an event.
-fn put_answer(said: &mut Vec<u8>, answer: &Result<Vec<Output>, CoreFault>) -> Result<(), RowFault> {
+fn put_answer(said: &mut Vec<u8>, answer: &Answer) -> Result<(), RowFault> {
     match answer {
         Ok(outputs) => put_outputs(said, outputs),
         Err(fault) => put_fault(said, *fault),
