@@ -6,7 +6,7 @@ use super::fault::RowFault;
 use super::making::show;
 use super::row::Device;
 use dev_io::{MemSink, MemSource};
-use net_engine::{Inbound, Inflow, Outbound};
+use net_engine::{Inbound, Inflow, Outbound, WriteFailed};
 use net_frames::{Frame, Numbered};
 use std::alloc::Global;
 use std::io::Write;
@@ -42,7 +42,7 @@ pub fn received(alloc: Global, device: Device, bytes: &[u8]) -> Result<Vec<u8>, 
     let mut said = Vec::new(alloc);
     let mut ends = 0;
     for _ in 0..CALLS {
-        if ends < 2 && !put_inflow(&mut said, &inbound.next()?)? {
+        if ends < 2 && !put_inflow(&mut said, &next(&mut inbound)?)? {
             ends += 1;
         }
     }
@@ -64,6 +64,21 @@ fn put_inflow(said: &mut Vec<u8>, inflow: &Inflow) -> Result<bool, RowFault> {
     Ok(false)
 }
 
+// These two promise nothing, so that what follows them is proved without what the engine promises.
+fn next(inbound: &mut Inbound<MemSource>) -> Result<Inflow, RowFault> {
+    Ok(inbound.next()?)
+}
+
+fn send(
+    outbound: &mut Outbound<MemSink>,
+    frame: &Frame,
+) -> Result<Result<(), WriteFailed>, RowFault> {
+    if frame.body_len() > 65_536 {
+        return Err(RowFault::Bad);
+    }
+    Ok(outbound.send(frame))
+}
+
 // The first frame of the bytes, whose body is not over the limit.
 fn first_frame(alloc: Global, bytes: &[u8]) -> Result<Frame, RowFault> {
     let mut inbound = source(
@@ -74,7 +89,7 @@ fn first_frame(alloc: Global, bytes: &[u8]) -> Result<Frame, RowFault> {
         },
         bytes,
     )?;
-    match inbound.next()? {
+    match next(&mut inbound)? {
         Inflow::Frame(frame) => Ok(frame),
         _ => Err(RowFault::Bad),
     }
@@ -85,10 +100,7 @@ pub fn sent(alloc: Global, room: usize, device: Device, bytes: &[u8]) -> Result<
     let frame = first_frame(alloc, bytes)?;
     let mut outbound = sink(alloc, room, device)?;
     let mut said = Vec::new(alloc);
-    if frame.body_len() > 65_536 {
-        return Err(RowFault::Bad);
-    }
-    match outbound.send(&frame) {
+    match send(&mut outbound, &frame)? {
         Ok(()) => writeln!(said, "sent")?,
         Err(failed) => writeln!(said, "{failed}")?,
     }
@@ -103,7 +115,7 @@ pub fn cut(alloc: Global, bytes: &[u8]) -> Result<Vec<u8>, RowFault> {
     let mut inside: usize = 0;
     for length in 0..bytes.len() {
         let mut inbound = source(alloc, Device { step: 7, fail: 0 }, &bytes[..length])?;
-        match inbound.next()? {
+        match next(&mut inbound)? {
             Inflow::Closed { inside: true } => inside = inside.saturating_add(1),
             Inflow::Closed { inside: false } => {}
             _ => writeln!(said, "not the end after {length} bytes")?,
@@ -150,8 +162,8 @@ pub fn failed(alloc: Global, bytes: &[u8]) -> Result<Vec<u8>, RowFault> {
 // Whether the frame does not come of a source that fails so. Its failure is told for good.
 fn is_lost(alloc: Global, device: Device, bytes: &[u8]) -> Result<bool, RowFault> {
     let mut inbound = source(alloc, device, bytes)?;
-    let is_lost = !matches!(inbound.next()?, Inflow::Frame(_));
-    match inbound.next()? {
+    let is_lost = !matches!(next(&mut inbound)?, Inflow::Frame(_));
+    match next(&mut inbound)? {
         Inflow::ReadFailed => Ok(is_lost),
         _ => Err(RowFault::Bad),
     }
@@ -161,10 +173,7 @@ fn is_lost(alloc: Global, device: Device, bytes: &[u8]) -> Result<bool, RowFault
 // the one of the call that failed.
 fn is_cut(alloc: Global, device: Device, frame: &Frame, bytes: &[u8]) -> Result<bool, RowFault> {
     let mut outbound = sink(alloc, bytes.len(), device)?;
-    if frame.body_len() > 65_536 {
-        return Err(RowFault::Bad);
-    }
-    let sent = match outbound.send(frame) {
+    let sent = match send(&mut outbound, frame)? {
         Ok(()) => bytes.len(),
         Err(failed) => failed.sent,
     };

@@ -4,7 +4,7 @@ ghost use Rattle.std.specs.Prelude.{◌<◌};
 
 use super::fault::RowFault;
 use super::making::{remade, show};
-use net_frames::{FrameReader, Numbered, WireError, WireFault, encode};
+use net_frames::{Frame, FrameReader, Numbered, WireError, WireFault, encode};
 use std::alloc::Global;
 use std::io::Write;
 
@@ -52,6 +52,11 @@ fn fed(alloc: Global, bytes: &[u8], length: usize) -> Result<Vec<u8>, RowFault>
     Ok(said)
 }
 
+// It promises nothing, so that what follows it is proved without what the reader promises.
+fn frames_of(reader: &mut FrameReader, piece: &[u8]) -> Result<Vec<Frame>, WireError> {
+    reader.feed(piece)
+}
+
 // Feeds a piece, prints its frames, and returns its fault.
 fn feed(
     alloc: Global,
@@ -59,7 +64,7 @@ fn feed(
     piece: &[u8],
     said: &mut Vec<u8>,
 ) -> Result<Option<WireFault>, RowFault> {
-    match reader.feed(piece) {
+    match frames_of(reader, piece) {
         Ok(frames) => {
             for frame in frames {
                 show(said, &frame)?;
