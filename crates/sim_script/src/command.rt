@@ -32,7 +32,10 @@ pub enum Command<'a> {
         arguments: Vec<&'a str>,
     },
     /// The result of a root or a look-up is let go.
-    Acknowledge { space: &'a str, variable: &'a str },
+    Acknowledge {
+        space: &'a str,
+        variable: &'a str,
+    },
     /// A name is bound to the object that a variable names.
     Bind {
         space: &'a str,
@@ -46,7 +49,10 @@ pub enum Command<'a> {
         variable: &'a str,
     },
     /// A name is bound no more.
-    Unbind { space: &'a str, name: &'a str },
+    Unbind {
+        space: &'a str,
+        name: &'a str,
+    },
     /// A space asks a peer what it has bound to a name.
     Lookup {
         space: &'a str,
@@ -61,7 +67,10 @@ pub enum Command<'a> {
         event: Between,
     },
     /// This many milliseconds have passed in a space.
-    Moment { space: &'a str, moment: u64 },
+    Moment {
+        space: &'a str,
+        moment: u64,
+    },
     /// A space withdraws what nothing needs.
     Sweep(&'a str),
     /// The lowest ready task of a space makes an instruction.

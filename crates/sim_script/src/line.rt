@@ -39,11 +39,7 @@ fn command_of<'a>(
     }
 }
 
-fn root_of<'a>(
-    alloc: Global,
-    space: &'a str,
-    rest: &[&'a str],
-) -> Result<Command<'a>, LineFault> {
+fn root_of<'a>(alloc: Global, space: &'a str, rest: &[&'a str]) -> Result<Command<'a>, LineFault> {
     let [variable, fuel, class, method, arguments @ ..] = rest else {
         return Err(LineFault::Bad);
     };
@@ -62,11 +58,7 @@ fn root_of<'a>(
 }
 
 // What names names or variables.
-fn named_of<'a>(
-    verb: &str,
-    space: &'a str,
-    rest: &[&'a str],
-) -> Result<Command<'a>, LineFault> {
+fn named_of<'a>(verb: &str, space: &'a str, rest: &[&'a str]) -> Result<Command<'a>, LineFault> {
     match (verb, rest) {
         ("ack", [variable]) => Ok(Command::Acknowledge {
             space,
