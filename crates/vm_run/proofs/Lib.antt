@@ -9,3 +9,4 @@ pub mod Begins
 pub mod Sound
 pub mod Limited
 pub mod Made
+pub mod Holding
