@@ -13,7 +13,7 @@ ghost use Rattle.sp_rules.specs.State.{State, object_at, task_at};
 ghost use Rattle.sp_tasks.specs.Behaviours.{op_of, reply_of};
 ghost use Rattle.sp_tasks.specs.Rows.{at_row, is_in_hand, replied_hand, replied_row, row_of};
 ghost use Rattle.sp_core.specs.ClassSets.{is_on_store, kind_of};
-ghost use Rattle.sp_core.specs.Cores.{IsCore, Lends, is_lent, lent_as};
+ghost use Rattle.sp_core.specs.Cores.{IsCore, Lends, has_lent, is_lent, lent_as};
 ghost use Rattle.sp_core.specs.FaultNames.{Refuses, core_fault_number};
 ghost use Rattle.sp_core.specs.Hands.{committed};
 
@@ -47,14 +47,74 @@ impl SpaceCore {
         // Own references name standing objects of their class after each history that the space took.
         ensures standing { OnOk result ((g : Setting) (h : List Happening) (lent : List ℕ) → IsCore g (state_of g h) self.old → Lends self.old lent → C.tells classes.now g.classes → IsTaken g h → OwnStand g (state_of g (committed task.old op.now ∷ h))) }
     {
-        match self.refuse_commit(classes, task, op) {
+        let is_lent = self.has_lent(task);
+        self.commit_as(classes, task, op, is_lent)
+    }
+
+    /// Does the operation of a task of which the caller knows that this core lends it, as `commit` does, at
+    /// a cost that does not depend on the task's record.
+    pub fn commit_lent<C: ClassSet>(
+        &mut self,
+        classes: &C,
+        task: &mut LentTask,
+        op: &Op,
+    ) -> Result<Reply, CoreFault>
+        requires { has_lent self.old task.old ≡ true }
+        ensures accepted { OnOk result ((g : Setting) (s : State) (lent : List ℕ) → IsCore g s self.old → Lends self.old lent → C.tells classes.now g.classes → refusal g (lent_as s task.old lent) s (committed task.old op.now) ≡ None) }
+        ensures reply { IfOk result (λ reply. (g : Setting) (s : State) → IsCore g s self.old → C.tells classes.now g.classes → reply_of reply ≡ op_reply g (op_of op.now) s) }
+        ensures outputs { (g : Setting) (s : State) → (after_event g (committed task.old op.now) s).1 ≡ [] }
+        ensures state { OnOk result ((g : Setting) (s : State) → IsCore g s self.old → C.tells classes.now g.classes → IsCore g (after_event g (committed task.old op.now) s).0 self.new) }
+        ensures task { IfOk result (λ reply. task.new ≡ replied_hand (reply_of reply) task.old) }
+        ensures own { has_lent self.new task.new ≡ true }
+        ensures lent { (other : ℕ) → is_lent self.new other ≡ is_lent self.old other }
+        ensures refused { IfErr result (λ fault. (g : Setting) (s : State) (lent : List ℕ) → IsCore g s self.old → Lends self.old lent → C.tells classes.now g.classes → Refuses (refusal g (lent_as s task.old lent) s (committed task.old op.now)) fault) }
+        ensures unchanged { OnErr result ((g : Setting) (s : State) → IsCore g s self.old → IsCore g s self.new) }
+        ensures kept { OnErr result (task.new ≡ task.old) }
+
+        // Own references name standing objects of their class after each history that the space took.
+        ensures standing { OnOk result ((g : Setting) (h : List Happening) (lent : List ℕ) → IsCore g (state_of g h) self.old → Lends self.old lent → C.tells classes.now g.classes → IsTaken g h → OwnStand g (state_of g (committed task.old op.now ∷ h))) }
+    {
+        self.commit_as(classes, task, op, true)
+    }
+
+    // Does the operation of a task that this core lends, or refuses it.
+    fn commit_as<C: ClassSet>(
+        &mut self,
+        classes: &C,
+        task: &mut LentTask,
+        op: &Op,
+        is_lent: bool,
+    ) -> Result<Reply, CoreFault>
+        requires { has_lent self.old task.old ≡ is_lent }
+        ensures accepted { OnOk result ((g : Setting) (s : State) (lent : List ℕ) → IsCore g s self.old → Lends self.old lent → C.tells classes.now g.classes → refusal g (lent_as s task.old lent) s (committed task.old op.now) ≡ None) }
+        ensures reply { IfOk result (λ reply. (g : Setting) (s : State) → IsCore g s self.old → C.tells classes.now g.classes → reply_of reply ≡ op_reply g (op_of op.now) s) }
+        ensures outputs { (g : Setting) (s : State) → (after_event g (committed task.old op.now) s).1 ≡ [] }
+        ensures state { OnOk result ((g : Setting) (s : State) → IsCore g s self.old → C.tells classes.now g.classes → IsCore g (after_event g (committed task.old op.now) s).0 self.new) }
+        ensures task { IfOk result (λ reply. task.new ≡ replied_hand (reply_of reply) task.old) }
+        ensures own { is_lent ≡ true → has_lent self.new task.new ≡ true }
+        ensures lent { (other : ℕ) → is_lent self.new other ≡ is_lent self.old other }
+        ensures refused { IfErr result (λ fault. (g : Setting) (s : State) (lent : List ℕ) → IsCore g s self.old → Lends self.old lent → C.tells classes.now g.classes → Refuses (refusal g (lent_as s task.old lent) s (committed task.old op.now)) fault) }
+        ensures unchanged { OnErr result ((g : Setting) (s : State) → IsCore g s self.old → IsCore g s self.new) }
+        ensures kept { OnErr result (task.new ≡ task.old) }
+
+        // Own references name standing objects of their class after each history that the space took.
+        ensures standing { OnOk result ((g : Setting) (h : List Happening) (lent : List ℕ) → IsCore g (state_of g h) self.old → Lends self.old lent → C.tells classes.now g.classes → IsTaken g h → OwnStand g (state_of g (committed task.old op.now ∷ h))) }
+    {
+        match self.refuse_commit(classes, task, op, is_lent) {
             Some(fault) => Err(fault),
             None => Ok(self.perform(classes, task, op)?),
         }
     }
 
     // Why the operation is refused, if it is: the reason with the lowest number, but 98 first.
-    fn refuse_commit<C: ClassSet>(&self, classes: &C, task: &LentTask, op: &Op) -> Option<CoreFault>
+    fn refuse_commit<C: ClassSet>(
+        &self,
+        classes: &C,
+        task: &LentTask,
+        op: &Op,
+        is_lent: bool,
+    ) -> Option<CoreFault>
+        requires { has_lent self.now task.now ≡ is_lent }
         ensures number { result ≡ None → made self.now.store + 1 < 2 ^ 63 }
         ensures lent { result ≡ None → is_in_hand (row_of task.now.id self.now.tasks.rows) task.now ≡ true }
         ensures store { result ≡ None → is_on_store (op_of op.now) ≡ true }
@@ -65,7 +125,7 @@ impl SpaceCore {
         if self.is_worn() {
             return Some(CoreFault::WornOut);
         }
-        if !self.tasks.is_lent_as(task) {
+        if !is_lent {
             return Some(CoreFault::NotLent);
         }
         if !self.tasks.holds_op(&self.id, task.id(), op) {
@@ -126,6 +186,7 @@ impl SpaceCore {
         ensures reply { IfOk result (λ reply. (g : Setting) (s : State) → IsCore g s self.old → C.tells classes.now g.classes → reply_of reply ≡ op_reply g (op_of op.now) s) }
         ensures state { OnOk result ((g : Setting) (s : State) → IsCore g s self.old → C.tells classes.now g.classes → IsCore g (after_event g (committed task.old op.now) s).0 self.new) }
         ensures task { IfOk result (λ reply. task.new ≡ replied_hand (reply_of reply) task.old) }
+        ensures own { has_lent self.new task.new ≡ true }
         ensures lent { (other : ℕ) → is_lent self.new other ≡ is_lent self.old other }
         ensures unchanged { OnErr result ((g : Setting) (s : State) → IsCore g s self.old → IsCore g s self.new) }
         ensures kept { OnErr result (task.new ≡ task.old) }
@@ -158,6 +219,7 @@ impl SpaceCore {
         ensures reply { IfOk result (λ reply. (g : Setting) (s : State) → IsCore g s self.old → C.tells classes.now g.classes → reply_of reply ≡ op_reply g (Create class) s) }
         ensures state { OnOk result ((g : Setting) (s : State) → IsCore g s self.old → C.tells classes.now g.classes → IsCore g (after_event g (Committed task.old.id task.old.made (Create class)) s).0 self.new) }
         ensures task { IfOk result (λ reply. task.new ≡ replied_hand (reply_of reply) task.old) }
+        ensures own { has_lent self.new task.new ≡ true }
         ensures lent { (other : ℕ) → is_lent self.new other ≡ is_lent self.old other }
         ensures unchanged { OnErr result ((g : Setting) (s : State) → IsCore g s self.old → IsCore g s self.new) }
         ensures kept { OnErr result (task.new ≡ task.old) }
@@ -191,6 +253,7 @@ impl SpaceCore {
         ensures reply { IfOk result (λ reply. (g : Setting) (s : State) → IsCore g s self.old → fits_store g s (Get object slot) ≡ true → reply_of reply ≡ op_reply g (Get object slot) s) }
         ensures state { OnOk result ((g : Setting) (s : State) → IsCore g s self.old → fits_store g s (Get object slot) ≡ true → IsCore g (after_event g (Committed task.old.id task.old.made (Get object slot)) s).0 self.new) }
         ensures task { IfOk result (λ reply. task.new ≡ replied_hand (reply_of reply) task.old) }
+        ensures own { has_lent self.new task.new ≡ true }
         ensures lent { (other : ℕ) → is_lent self.new other ≡ is_lent self.old other }
         ensures unchanged { OnErr result ((g : Setting) (s : State) → IsCore g s self.old → IsCore g s self.new) }
         ensures kept { OnErr result (task.new ≡ task.old) }
@@ -222,6 +285,7 @@ impl SpaceCore {
         ensures reply { IfOk result (λ reply. (g : Setting) (s : State) → reply_of reply ≡ op_reply g (Put object slot value.now) s) }
         ensures state { OnOk result ((g : Setting) (s : State) → IsCore g s self.old → holds_op g (task_at s task.old.id) (Put object slot value.now) ≡ true → fits_store g s (Put object slot value.now) ≡ true → IsCore g (after_event g (Committed task.old.id task.old.made (Put object slot value.now)) s).0 self.new) }
         ensures task { IfOk result (λ reply. task.new ≡ replied_hand (reply_of reply) task.old) }
+        ensures own { has_lent self.new task.new ≡ true }
         ensures lent { (other : ℕ) → is_lent self.new other ≡ is_lent self.old other }
         ensures unchanged { OnErr result ((g : Setting) (s : State) → IsCore g s self.old → IsCore g s self.new) }
         ensures kept { OnErr result (task.new ≡ task.old) }

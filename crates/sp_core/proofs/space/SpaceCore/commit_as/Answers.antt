@@ -7,7 +7,7 @@ use Rattle.sp_core.specs.Cores.{lent_as}
 use Rattle.sp_core.specs.Hands.{committed}
 use Rattle.sp_core.proofs.CommitLemmas.{commit-outputs}
 use Rattle.sp_core.proofs.CoreLemmas.{refused-none}
-use Rattle.sp_core.proofs.space.SpaceCore.commit.Goals as goal
+use Rattle.sp_core.proofs.space.SpaceCore.commit_as.Goals as goal
 
 pub returns-in_err-perform-in-None-clause-outputs : goal.returns-in_err-perform-in-None-clause-outputs
 returns-in_err-perform-in-None-clause-outputs g c = λ g' s. commit-outputs g' s c.args.task.now.id c.args.task.now.made (op_of c.args.op.now)
