@@ -38,6 +38,7 @@ impl SpaceCore {
         ensures state { OnOk result ((g : Setting) (s : State) → IsCore g s self.old → IsCore g (after_event g (given_back task) s).0 self.new) }
         ensures others { OnOk result ((other : ℕ) → is_lent self.new other ≡ (not (other == task.id) && is_lent self.old other)) }
         ensures refused { IfErr result (λ back. (g : Setting) (s : State) (lent : List ℕ) → IsCore g s self.old → Lends self.old lent → Refuses (refusal g (lent_as s task lent) s (given_back task)) back.1) }
+        ensures fault { IfErr result (λ back. back.1 ≡ CoreFault.NotLent) }
         ensures task { IfErr result (λ back. back.0 ≡ task) }
         ensures unchanged { IfErr result (λ _. self.new ≡ self.old) }
 

@@ -37,6 +37,13 @@ impl SpaceCore {
         })
     }
 
+    /// How many tasks started: the last id that was given, 0 before the first.
+    pub fn tasks_made(&self) -> u64
+        ensures { (g : Setting) (s : State) → IsCore g s self.now → result ≡ s.tasks_made }
+    {
+        self.tasks.made()
+    }
+
     /// The lowest task that may go on and is not lent. It looks at each that is lent before that one.
     pub fn ready(&self) -> Option<u64>
         ensures { (g : Setting) (s : State) (lent : List ℕ) → IsCore g s self.now → Lends self.now lent → result ≡ lowest_ready lent s }
