@@ -37,7 +37,7 @@ use Rattle.vm_run.specs.declared.outcome.Outcome.{Outcome}
 use Rattle.vm_run.specs.declared.outcome.Outcome.TheVariants as outcome
 use Rattle.vm_run.proofs.Runs.{IsNeverStuck-answer, IsNeverStuck-step, IsQuiet, answered_quiet, at_once}
 use Rattle.sp_behaviours.specs.Behaviours.{after_reply, asking, behaviour_at, behaviour_of, by_next, by_reply, field_value, held_of, made_of, op_of, reply_of, told, told_end, told_ending, told_some, written_of}
-use Rattle.sp_behaviours.specs.Follows.{Follows, HoldsAs, PlaysOn, stand_before, stand_of}
+use Rattle.sp_behaviours.specs.Follows.{Follows, HoldsAs, HoldsAsked, PlaysOn, stand_before, stand_of}
 use Rattle.sp_behaviours.proofs.Coming.{Arrives, Comes, Overflows, comes, stays-within}
 use Rattle.sp_behaviours.proofs.OwnSteps.{IsGiven, IsThrown, answer-gives, answer-throws, stand-is, step-asks, step-ends, step-over, step-plain}
 use Rattle.sp_behaviours.proofs.Stays.{Stays, goes, pushes, step-stays}
@@ -73,10 +73,11 @@ module _ (links : Links) (g : Setting) (t : Task) (m : Machine) (fuel : ℕ) (f 
       over-follows links g (tasks.step t) (end_of m.heap.cells ending) fuel (ap (λ (u : Task). u.behaviour) e) (ap (λ (u : Task). u.fuel) e) safe
   next-follows (Asks op m') b stays safe =
       let e = step-asks t (op_of op) (λ given. by_reply links.classes (behaviour_of links fuel) m' (reply_of op given)) fuel b f in
+      let held : HoldsAs g (tasks.step t).held m'.references = hold-on g t.held (tasks.step t).held m.references m'.references (ap (λ (u : Task). u.held) e) stays.0 holds in
       record {
         behaviour = ap (λ (u : Task). u.behaviour) e ∙ b;
         fuel = ap (λ (u : Task). u.fuel) e ∙ f;
-        held = hold-on g t.held (tasks.step t).held m.references m'.references (ap (λ (u : Task). u.held) e) stays holds;
+        held = (held, subst (λ (rows : List Ref). HoldsAsked rows op) held.rows stays.1);
         never_stuck = safe;
       }
   next-follows Stuck b stays safe = absurd (at_once links Lost safe)
@@ -222,11 +223,11 @@ module _ (links : Links) (g : Setting) (t : Task) (op : Asked) (m : Machine) (fu
   plain-reply v given none e stays safe =
       let is = answer-gives g v t fuel follows.fuel in
       let same : with_references t.held (references_in v) ≡ t.held = ap (with_references t.held) none in
-      let fits = stays-within g t.held m.references follows.held in
+      let fits = stays-within g t.held m.references follows.held.0 in
       let b : (replied v).behaviour ≡ after_reply links.classes cells go (answered given m) =
       is.behaviour ∙ (λ j. tasks.within_limit g (same j) (taken v given e j)) ∙ ap (λ b. if b then after_reply links.classes cells go (answered given m) else rules.Over (rules.Threw g.classes.out_of_memory)) fits in
       reply-follows links g (replied v) cells fuel (answered given m) b is.fuel
-      (subst (λ held. GoesOn g held (answered given m)) (sym (is.held ∙ same)) (from-stays g t.held m.references (answered given m) follows.held (answered_quiet given m) stays)) safe
+      (subst (λ held. GoesOn g held (answered given m)) (sym (is.held ∙ same)) (from-stays g t.held m.references (answered given m) follows.held.0 (answered_quiet given m) stays)) safe
 
   -- one that brings a reference
   module _ (v : Option Value) (given : Reply) (r : Ref) (next : ℕ → Machine → Next) (one : references_in v ≡ r ∷ []) (e : reply_of op v ≡ Some given)
@@ -265,7 +266,7 @@ module _ (links : Links) (g : Setting) (t : Task) (op : Asked) (m : Machine) (fu
     held-reply : IsNeverStuck links (after cells (answered given m) fuel) → Follows links g (replied v) (after cells (answered given m) fuel)
     held-reply safe =
         subst (λ n. Follows links g (replied v) (after cells n fuel)) (sym held)
-        (by-row (row_for r m.references) (comes g t.held m.references r follows.held) behaves (subst IsQuiet held (answered_quiet given m))
+        (by-row (row_for r m.references) (comes g t.held m.references r follows.held.0) behaves (subst IsQuiet held (answered_quiet given m))
         (subst (λ n. IsNeverStuck links (after cells n fuel)) held safe))
 
   made-reply : (v : Option Value) (r : Ref) → references_in v ≡ r ∷ [] → reply_of op v ≡ Some (reply.Made r) → IsNeverStuck links (after cells (answered (reply.Made r) m) fuel)
