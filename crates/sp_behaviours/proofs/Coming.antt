@@ -1,12 +1,10 @@
 -- References that come: those of a machine's table and those that a task of the rules holds are the same.
-use Rattle.std.proofs.Common.{◌≡◌, ℕ, zero, suc, ◌+◌, ◌≤◌, ◌<◌, Bool, true, false, cond, List, [], ◌∷◌, ◌++◌, length, refl, ap, sym, subst, ◌∙◌, arith, length-append, Option, Some, None}
+use Rattle.std.proofs.Common.{◌≡◌, ℕ, ◌+◌, ◌≤◌, Bool, true, false, cond, List, [], ◌∷◌, ◌++◌, length, refl, ap, sym, subst, ◌∙◌, arith, length-append, Option, Some, None}
 use Rattle.std.specs.Prelude.{◌||◌, nat_le, nat_lt, is_some, if◌then◌else◌}
-use Rattle.std.specs.List.{list_any, position, position_from, position_or_len}
+use Rattle.std.specs.List.{list_any, position_from}
 use Rattle.std.proofs.lemmas.Bool.Decides.{nat_tests}
 use Rattle.std.proofs.lemmas.Iterator.Adapters.{position_from-zero}
 use Rattle.space_ids.specs.declared.ids.Ref.{Ref}
-use Rattle.space_ids.specs.declared.value.Value.{Value}
-use Rattle.space_ids.specs.declared.value.Value.TheVariants as value
 use Rattle.vm_heap.specs.References.{Table, is_same_reference, new_row, row_for, row_of, row_or_new, with_new_row, with_reference, with_reference_unless}
 use Rattle.sp_rules.specs.Classes.{Setting}
 use Rattle.sp_rules.specs.References as rules

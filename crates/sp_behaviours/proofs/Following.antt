@@ -1,9 +1,7 @@
 -- A task that follows a machine goes on following it: through each instruction, and through each reply that is due.
-use Rattle.std.proofs.Common.{◌≡◌, ℕ, zero, suc, ◌+◌, Bool, true, false, List, [], ◌∷◌, length, ◌≤◌, refl, ap, sym, subst, ◌∙◌, arith, Option, Some, None}
-use Rattle.std.specs.Prelude.{nat_le, codes, option_map, if◌then◌else◌}
+use Rattle.std.proofs.Common.{◌≡◌, ℕ, zero, suc, ◌+◌, Bool, List, [], ◌∷◌, length, ◌≤◌, refl, ap, sym, subst, ◌∙◌, arith, Option, Some, None}
+use Rattle.std.specs.Prelude.{option_map, if◌then◌else◌}
 use Rattle.cls_link.specs.Links.{Links}
-use Rattle.cls_set.specs.Classes.{number_of}
-use Rattle.cls_set.specs.declared.class.Class.{Class}
 use Rattle.space_ids.specs.declared.ids.ClassId.{ClassId}
 use Rattle.space_ids.specs.declared.ids.Ref.{Ref}
 use Rattle.space_ids.specs.declared.value.Value.{Value}
@@ -16,30 +14,28 @@ use Rattle.sp_rules.specs.Tasks.{Task}
 use Rattle.vm_heap.specs.Heap.{Cell}
 use Rattle.vm_heap.specs.References as heap
 use Rattle.vm_heap.specs.References.{Table, row_for}
-use Rattle.vm_heap.specs.Tagged.{Tagged, Fresh, Int, Null, ReferenceRow, Remote}
+use Rattle.vm_heap.specs.Tagged.{Fresh, Int, Null, ReferenceRow, Remote}
 use Rattle.vm_act.specs.Next.{Next, On, Ends, Asks, Stuck}
 use Rattle.vm_act.specs.Remote.{answered, on_held, on_row}
 use Rattle.vm_act.specs.Steps.{go_on, push}
 use Rattle.vm_act.specs.declared.asked.Asked.{Asked}
 use Rattle.vm_act.specs.declared.asked.Asked.TheVariants as asked
-use Rattle.vm_act.specs.declared.asked.FieldValue.{FieldValue}
 use Rattle.vm_act.specs.declared.asked.FieldValue.TheVariants as field
 use Rattle.vm_act.specs.declared.asked.Reply.{Reply}
 use Rattle.vm_act.specs.declared.asked.Reply.TheVariants as reply
-use Rattle.vm_act.specs.declared.ending.Ending.TheVariants as ending
 use Rattle.vm_act.specs.declared.ending.Thrown.TheVariants as thrown
 use Rattle.vm_act.specs.declared.machine.Machine.{Machine}
 use Rattle.vm_rows.specs.Steps as insns
-use Rattle.vm_run.specs.Ends.{End, Spent, Threw, ThrewObject, end_of}
+use Rattle.vm_run.specs.Ends.{End, Threw, ThrewObject, end_of}
 use Rattle.vm_run.specs.Run.{State, Running, Waits, Over, Lost, after, answer, made, made_in, over, run, step, IsDue, IsNeverStuck}
-use Rattle.vm_run.specs.Task.{fuel_left, outcome_at}
+use Rattle.vm_run.specs.Task.{outcome_at}
 use Rattle.vm_run.specs.declared.outcome.Outcome.{Outcome}
 use Rattle.vm_run.specs.declared.outcome.Outcome.TheVariants as outcome
 use Rattle.vm_run.proofs.Runs.{IsNeverStuck-answer, IsNeverStuck-step, IsQuiet, answered_quiet, at_once}
-use Rattle.sp_behaviours.specs.Behaviours.{after_reply, asking, behaviour_at, behaviour_of, by_next, by_reply, field_value, held_of, made_of, op_of, reply_of, told, told_end, told_ending, told_some, written_of}
+use Rattle.sp_behaviours.specs.Behaviours.{after_reply, asking, behaviour_of, by_next, by_reply, op_of, reply_of, told, told_end, told_ending, told_some}
 use Rattle.sp_behaviours.specs.Follows.{Follows, HoldsAs, HoldsAsked, PlaysOn, stand_before, stand_of}
-use Rattle.sp_behaviours.proofs.Coming.{Arrives, Comes, Overflows, comes, stays-within}
-use Rattle.sp_behaviours.proofs.OwnSteps.{IsGiven, IsThrown, answer-gives, answer-throws, stand-is, step-asks, step-ends, step-over, step-plain}
+use Rattle.sp_behaviours.proofs.Coming.{Comes, comes, stays-within}
+use Rattle.sp_behaviours.proofs.OwnSteps.{answer-gives, answer-throws, stand-is, step-asks, step-ends, step-over, step-plain}
 use Rattle.sp_behaviours.proofs.Stays.{Stays, goes, pushes, step-stays}
 
 -- ---- one instruction

@@ -24,7 +24,6 @@ use Rattle.cls_link.specs.declared.linked_code.LinkedSwitch.{LinkedSwitch}
 use Rattle.cls_link.specs.declared.linked_code.LinkedSwitch.TheVariants as switch
 use Rattle.cls_link.specs.declared.linked_code.MethodId.{MethodId}
 use Rattle.cls_resolve.specs.Meanings.{field_of, method_of}
-use Rattle.cls_resolve.specs.declared.named.CastType.{CastType}
 use Rattle.cls_resolve.specs.declared.named.MemberIndex.{MemberIndex}
 use Rattle.cls_search.specs.MethodSearches.{method_in}
 use Rattle.cls_set.specs.declared.class.Class.{Class}
@@ -37,15 +36,15 @@ use Rattle.vm_heap.specs.declared.heap.WordKind.{WordKind}
 use Rattle.vm_heap.specs.declared.word.Pointer.{Pointer}
 use Rattle.vm_heap.specs.declared.word.Pointer.TheVariants as pointer
 use Rattle.vm_stack.specs.Frames.{Frame, Frames, at_index, entered, frame_cost, initialised, pushed, with_local}
-use Rattle.vm_act.specs.Arrays.{array_length, array_load, array_store, index_in, new_array, on_array, sized}
+use Rattle.vm_act.specs.Arrays.{index_in, on_array, sized}
 use Rattle.vm_act.specs.Calls.{are_passed, begin_receiver, construct, enter, invoke, leave, left, on_receiver, on_returned, return_int, return_nothing, return_reference, unchanged}
 use Rattle.vm_act.specs.Calls as acts
 use Rattle.vm_act.specs.Next.{Next, On, Ends, Asks, Stuck}
 use Rattle.vm_act.specs.Objects.{answer, cast, get_field, make, new_object, on_referent, put_at, put_field, referent_at, throw}
 use Rattle.vm_act.specs.Remote.{ask_get, ask_put, create, is_remote_at, on_own, on_own_or_this, on_own_row, on_remote_site, put_to, read_field, stored_as, write_field, write_stored}
 use Rattle.vm_act.specs.Steps.{branch, go_on, is_initialised, is_int, is_kind, jump, load_as, on_int, on_object, on_own_address, on_own_object, on_reference, on_some, on_top, on_uninitialised, pop, pop_as, pop_int, pop_object, pop_reference, push, store, where_true, with_operands}
-use Rattle.vm_act.specs.Switches.{lookup_switch, lookup_target, table_switch, table_target}
-use Rattle.vm_act.specs.Words.{are_same, constant, dup, dup2, dup2_x1, dup2_x2, dup_x1, dup_x2, if_null, if_same, increment, is_wanted, load, null, pop_one, pop_two, store_top, swap}
+use Rattle.vm_act.specs.Switches.{lookup_target, table_target}
+use Rattle.vm_act.specs.Words.{are_same, if_null, if_same, increment, is_wanted, load, store_top}
 use Rattle.vm_act.specs.declared.asked.Asked.TheVariants as asked
 use Rattle.vm_act.specs.declared.asked.FieldValue.{FieldValue}
 use Rattle.vm_act.specs.declared.calls.Callee.{Callee}
@@ -57,7 +56,7 @@ use Rattle.vm_act.specs.declared.ending.Thrown.TheVariants as thrown
 use Rattle.vm_act.specs.declared.machine.Machine.{Machine}
 use Rattle.vm_act.specs.declared.objects.Referent.{Referent}
 use Rattle.vm_act.specs.declared.objects.Referent.TheVariants as referent
-use Rattle.vm_code.specs.Act.{act, act_on_array, check_cast, get_field_of, instance_of, is_equal, new_of, put_field_of, rearrange, return_value, switch_at, switch_by, switch_of, throw_top, word_kind}
+use Rattle.vm_code.specs.Act.{act, act_on_array, get_field_of, is_equal, new_of, put_field_of, rearrange, return_value, switch_at, switch_by, word_kind}
 use Rattle.vm_code.specs.Calls.{call_interface, call_receiver, call_special, call_special_of, call_static, call_super, call_virtual, construct_chosen, current_class, id_of, invoke_on, invoke_unless_null}
 use Rattle.vm_code.specs.Calls as calls
 use Rattle.vm_code.specs.Classes.{is_instance, is_remote, passes}

@@ -1,5 +1,5 @@
 -- The laws of tasks that follow machines, each the contract of a function of this crate.
-use Rattle.std.specs.Prelude.{◌≡◌, ◌≢◌, ◌+◌, ℕ, List, Option, Some, None, Result, Ok}
+use Rattle.std.specs.Prelude.{◌≡◌, ◌+◌, ℕ, List, Option, Some, Ok}
 use Rattle.cls_link.specs.Links.{Links}
 use Rattle.space_ids.specs.declared.ids.ClassId.{ClassId}
 use Rattle.space_ids.specs.declared.value.Value.{Value}
