@@ -1,12 +1,10 @@
 -- References that come: those of a machine's table and those that a task of the rules holds are the same.
-use Rattle.std.proofs.Common.{◌≡◌, ℕ, zero, suc, ◌+◌, ◌≤◌, ◌<◌, Bool, true, false, cond, List, [], ◌∷◌, ◌++◌, length, refl, ap, sym, subst, ◌∙◌, arith, length-append, Option, Some, None}
+use Rattle.std.proofs.Common.{◌≡◌, ℕ, ◌+◌, ◌≤◌, Bool, true, false, cond, List, [], ◌∷◌, ◌++◌, length, refl, ap, sym, subst, ◌∙◌, arith, length-append, Option, Some, None}
 use Rattle.std.specs.Prelude.{◌||◌, nat_le, nat_lt, is_some, if◌then◌else◌}
-use Rattle.std.specs.List.{list_any, position, position_from, position_or_len}
+use Rattle.std.specs.List.{list_any, position_from}
 use Rattle.std.proofs.lemmas.Bool.Decides.{nat_tests}
 use Rattle.std.proofs.lemmas.Iterator.Adapters.{position_from-zero}
 use Rattle.space_ids.specs.declared.ids.Ref.{Ref}
-use Rattle.space_ids.specs.declared.value.Value.{Value}
-use Rattle.space_ids.specs.declared.value.Value.TheVariants as value
 use Rattle.vm_heap.specs.References.{Table, is_same_reference, new_row, row_for, row_of, row_or_new, with_new_row, with_reference, with_reference_unless}
 use Rattle.sp_rules.specs.Classes.{Setting}
 use Rattle.sp_rules.specs.References as rules
@@ -22,15 +20,30 @@ row-any : (rows : List Ref) (r : Ref) → is_some (row_of rows r) ≡ rules.is_r
 unfolding row_of
 row-any rows r = ap is_some (position_from-zero (is_same_reference r) rows) ∙ from-any (is_same_reference r) 0 rows
 
+-- numbers, and tests of them
+next-below : (a b : ℕ) → nat_le (a + 1) b ≡ nat_lt a b
+next-below a b = grind (arith, nat_tests)
+
+le-test : (a b : ℕ) → a ≤ b → nat_le a b ≡ true
+le-test a b le = grind (arith, nat_tests)
+
+test-le : (a b : ℕ) → nat_le a b ≡ true → a ≤ b
+test-le a b is = grind (arith, nat_tests)
+
+pub over-more : (a b n : ℕ) → a ≤ b → nat_le a n ≡ false → nat_le b n ≡ false
+over-more a b n le over = grind (arith, nat_tests)
+
 -- one more is within a limit where there is room for a new row
 room-is : (held : List Ref) (r : Ref) (limit : ℕ) → nat_le (length (held ++ r ∷ [])) limit ≡ nat_lt (length held) limit
-room-is held r limit = ap (λ n. nat_le n limit) (length-append held (r ∷ [])) ∙ grind (arith, nat_tests)
+room-is held r limit =
+    let more : length (held ++ r ∷ []) ≡ length held + 1 = omega (arith, length-append held (r ∷ [])) in
+    ap (λ n. nat_le n limit) more ∙ next-below (length held) limit
 
 within-is : (held : List Ref) (limit : ℕ) → length held ≤ limit → nat_le (length held) limit ≡ true
-within-is held limit within = grind (arith, nat_tests)
+within-is held limit within = le-test (length held) limit within
 
 within-from : (held : List Ref) (limit : ℕ) → nat_le (length held) limit ≡ true → length held ≤ limit
-within-from held limit is = grind (arith, nat_tests)
+within-from held limit is = test-le (length held) limit is
 
 -- what comes of a reference: it has a row, and is held, within the limit; or it has none, and is one too many
 pub record Arrives (g : Setting) (held : List Ref) (table : Table) : Type 0 where
@@ -65,7 +78,9 @@ comes g held table r holds = by (row_of table.rows r) (row-any table.rows r ∙ 
 
     new : (b : Bool) → nat_lt (length table.rows) table.limit ≡ b
         → Comes g (held ++ r ∷ []) (if b then record table { rows = table.rows ++ r ∷ [] } else table) (if b then Some (length table.rows) else None)
-    new b here = more b (sym (λ j. nat_lt (length (holds.rows j)) (holds.limit j)) ∙ here) here
+    new b here =
+        let same : nat_lt (length table.rows) table.limit ≡ nat_lt (length held) g.limits.references = λ j. nat_lt (length (holds.rows j)) (holds.limit j) in
+        more b (sym same ∙ here) here
 
     by : (o : Option ℕ) → is_some o ≡ rules.is_reference_in held r
         → Comes g (if rules.is_reference_in held r then held else held ++ r ∷ []) (with_reference_unless r table o) (row_or_new table o)

@@ -1,9 +1,7 @@
 -- A task that follows a machine goes on following it: through each instruction, and through each reply that is due.
-use Rattle.std.proofs.Common.{◌≡◌, ℕ, zero, suc, ◌+◌, Bool, true, false, List, [], ◌∷◌, length, ◌≤◌, refl, ap, sym, subst, ◌∙◌, arith, Option, Some, None}
-use Rattle.std.specs.Prelude.{nat_le, codes, option_map, if◌then◌else◌}
+use Rattle.std.proofs.Common.{◌≡◌, ℕ, zero, suc, ◌+◌, Bool, List, [], ◌∷◌, length, ◌≤◌, refl, ap, sym, subst, ◌∙◌, arith, Option, Some, None}
+use Rattle.std.specs.Prelude.{option_map, if◌then◌else◌}
 use Rattle.cls_link.specs.Links.{Links}
-use Rattle.cls_set.specs.Classes.{number_of}
-use Rattle.cls_set.specs.declared.class.Class.{Class}
 use Rattle.space_ids.specs.declared.ids.ClassId.{ClassId}
 use Rattle.space_ids.specs.declared.ids.Ref.{Ref}
 use Rattle.space_ids.specs.declared.value.Value.{Value}
@@ -16,30 +14,28 @@ use Rattle.sp_rules.specs.Tasks.{Task}
 use Rattle.vm_heap.specs.Heap.{Cell}
 use Rattle.vm_heap.specs.References as heap
 use Rattle.vm_heap.specs.References.{Table, row_for}
-use Rattle.vm_heap.specs.Tagged.{Tagged, Fresh, Int, Null, ReferenceRow, Remote}
+use Rattle.vm_heap.specs.Tagged.{Fresh, Int, Null, ReferenceRow, Remote}
 use Rattle.vm_act.specs.Next.{Next, On, Ends, Asks, Stuck}
 use Rattle.vm_act.specs.Remote.{answered, on_held, on_row}
 use Rattle.vm_act.specs.Steps.{go_on, push}
 use Rattle.vm_act.specs.declared.asked.Asked.{Asked}
 use Rattle.vm_act.specs.declared.asked.Asked.TheVariants as asked
-use Rattle.vm_act.specs.declared.asked.FieldValue.{FieldValue}
 use Rattle.vm_act.specs.declared.asked.FieldValue.TheVariants as field
 use Rattle.vm_act.specs.declared.asked.Reply.{Reply}
 use Rattle.vm_act.specs.declared.asked.Reply.TheVariants as reply
-use Rattle.vm_act.specs.declared.ending.Ending.TheVariants as ending
 use Rattle.vm_act.specs.declared.ending.Thrown.TheVariants as thrown
 use Rattle.vm_act.specs.declared.machine.Machine.{Machine}
 use Rattle.vm_rows.specs.Steps as insns
-use Rattle.vm_run.specs.Ends.{End, Spent, Threw, ThrewObject, end_of}
+use Rattle.vm_run.specs.Ends.{End, Threw, ThrewObject, end_of}
 use Rattle.vm_run.specs.Run.{State, Running, Waits, Over, Lost, after, answer, made, made_in, over, run, step, IsDue, IsNeverStuck}
-use Rattle.vm_run.specs.Task.{fuel_left, outcome_at}
+use Rattle.vm_run.specs.Task.{outcome_at}
 use Rattle.vm_run.specs.declared.outcome.Outcome.{Outcome}
 use Rattle.vm_run.specs.declared.outcome.Outcome.TheVariants as outcome
 use Rattle.vm_run.proofs.Runs.{IsNeverStuck-answer, IsNeverStuck-step, IsQuiet, answered_quiet, at_once}
-use Rattle.sp_behaviours.specs.Behaviours.{after_reply, asking, behaviour_at, behaviour_of, by_next, by_reply, field_value, held_of, made_of, op_of, reply_of, told, told_end, told_ending, told_some, written_of}
-use Rattle.sp_behaviours.specs.Follows.{Follows, HoldsAs, PlaysOn, stand_before, stand_of}
-use Rattle.sp_behaviours.proofs.Coming.{Arrives, Comes, Overflows, comes, stays-within}
-use Rattle.sp_behaviours.proofs.OwnSteps.{IsGiven, IsThrown, answer-gives, answer-throws, stand-is, step-asks, step-ends, step-over, step-plain}
+use Rattle.sp_behaviours.specs.Behaviours.{after_reply, asking, behaviour_of, by_next, by_reply, op_of, reply_of, told, told_end, told_ending, told_some}
+use Rattle.sp_behaviours.specs.Follows.{Follows, HoldsAs, HoldsAsked, PlaysOn, stand_before, stand_of}
+use Rattle.sp_behaviours.proofs.Coming.{Comes, comes, stays-within}
+use Rattle.sp_behaviours.proofs.OwnSteps.{answer-gives, answer-throws, stand-is, step-asks, step-ends, step-over, step-plain}
 use Rattle.sp_behaviours.proofs.Stays.{Stays, goes, pushes, step-stays}
 
 -- ---- one instruction
@@ -73,10 +69,11 @@ module _ (links : Links) (g : Setting) (t : Task) (m : Machine) (fuel : ℕ) (f 
       over-follows links g (tasks.step t) (end_of m.heap.cells ending) fuel (ap (λ (u : Task). u.behaviour) e) (ap (λ (u : Task). u.fuel) e) safe
   next-follows (Asks op m') b stays safe =
       let e = step-asks t (op_of op) (λ given. by_reply links.classes (behaviour_of links fuel) m' (reply_of op given)) fuel b f in
+      let held : HoldsAs g (tasks.step t).held m'.references = hold-on g t.held (tasks.step t).held m.references m'.references (ap (λ (u : Task). u.held) e) stays.0 holds in
       record {
         behaviour = ap (λ (u : Task). u.behaviour) e ∙ b;
         fuel = ap (λ (u : Task). u.fuel) e ∙ f;
-        held = hold-on g t.held (tasks.step t).held m.references m'.references (ap (λ (u : Task). u.held) e) stays holds;
+        held = (held, subst (λ (rows : List Ref). HoldsAsked rows op) held.rows stays.1);
         never_stuck = safe;
       }
   next-follows Stuck b stays safe = absurd (at_once links Lost safe)
@@ -133,6 +130,29 @@ steps-made links g t s (suc k) f =
     let here : (tasks.step t).made ≡ t.made + made_in links s = made-one links g t s f in
     let more : (tasks.steps k (tasks.step t)).made ≡ (tasks.step t).made + made links k (step links s) = steps-made links g (tasks.step t) (step links s) k (step-follows links g t s f) in
     omega (arith, here, more)
+
+-- what waits for a reply stands where it stood
+pub asks-unchanged : (links : Links) (g : Setting) (t : Task) (s : State) (op : Asked) (m : Machine) (fuel : ℕ) → Follows links g t s → step links s ≡ Waits op m fuel → tasks.step t ≡ t
+unfolding step behaviour_of
+asks-unchanged links g t (Running m' zero) op m fuel f e = absurd (cc)
+asks-unchanged links g t (Running m' (suc fuel')) op m fuel f e = by (insns.step links m') f.behaviour e
+  where
+    by-end : (o : Option End) → over o fuel' ≡ Waits op m fuel → ⊥
+    by-end None is = absurd (cc)
+    by-end (Some end) is = absurd (cc)
+
+    by : (n : Next) → t.behaviour ≡ by_next links.classes m'.heap.cells (behaviour_of links fuel') n → after m'.heap.cells n fuel' ≡ Waits op m fuel → tasks.step t ≡ t
+    by (On x) b is = absurd (cc)
+    by (Ends ending) b is = absurd (by-end (end_of m'.heap.cells ending) is)
+    by (Asks asked x) b is = step-asks t (op_of asked) (λ given. by_reply links.classes (behaviour_of links fuel') x (reply_of asked given)) fuel' b f.fuel
+    by Stuck b is = absurd (cc)
+asks-unchanged links g t (Waits asked m' fuel') op m fuel f e = step-asks t (op_of asked) (λ given. by_reply links.classes (behaviour_of links fuel') m' (reply_of asked given)) fuel' f.behaviour f.fuel
+asks-unchanged links g t (Over end fuel') op m fuel f e = absurd (cc)
+asks-unchanged links g t Lost op m fuel f e = absurd (cc)
+
+pub asks-stay : (links : Links) (g : Setting) (t : Task) (s : State) (op : Asked) (m : Machine) (fuel : ℕ) → Follows links g t s → run links 1 s ≡ Waits op m fuel → tasks.step t ≡ t
+unfolding run
+asks-stay links g t s op m fuel f e = asks-unchanged links g t s op m fuel f e
 
 -- ---- where it stands
 
@@ -199,11 +219,11 @@ module _ (links : Links) (g : Setting) (t : Task) (op : Asked) (m : Machine) (fu
   plain-reply v given none e stays safe =
       let is = answer-gives g v t fuel follows.fuel in
       let same : with_references t.held (references_in v) ≡ t.held = ap (with_references t.held) none in
-      let fits = stays-within g t.held m.references follows.held in
+      let fits = stays-within g t.held m.references follows.held.0 in
       let b : (replied v).behaviour ≡ after_reply links.classes cells go (answered given m) =
       is.behaviour ∙ (λ j. tasks.within_limit g (same j) (taken v given e j)) ∙ ap (λ b. if b then after_reply links.classes cells go (answered given m) else rules.Over (rules.Threw g.classes.out_of_memory)) fits in
       reply-follows links g (replied v) cells fuel (answered given m) b is.fuel
-      (subst (λ held. GoesOn g held (answered given m)) (sym (is.held ∙ same)) (from-stays g t.held m.references (answered given m) follows.held (answered_quiet given m) stays)) safe
+      (subst (λ held. GoesOn g held (answered given m)) (sym (is.held ∙ same)) (from-stays g t.held m.references (answered given m) follows.held.0 (answered_quiet given m) stays)) safe
 
   -- one that brings a reference
   module _ (v : Option Value) (given : Reply) (r : Ref) (next : ℕ → Machine → Next) (one : references_in v ≡ r ∷ []) (e : reply_of op v ≡ Some given)
@@ -242,7 +262,7 @@ module _ (links : Links) (g : Setting) (t : Task) (op : Asked) (m : Machine) (fu
     held-reply : IsNeverStuck links (after cells (answered given m) fuel) → Follows links g (replied v) (after cells (answered given m) fuel)
     held-reply safe =
         subst (λ n. Follows links g (replied v) (after cells n fuel)) (sym held)
-        (by-row (row_for r m.references) (comes g t.held m.references r follows.held) behaves (subst IsQuiet held (answered_quiet given m))
+        (by-row (row_for r m.references) (comes g t.held m.references r follows.held.0) behaves (subst IsQuiet held (answered_quiet given m))
         (subst (λ n. IsNeverStuck links (after cells n fuel)) held safe))
 
   made-reply : (v : Option Value) (r : Ref) → references_in v ≡ r ∷ [] → reply_of op v ≡ Some (reply.Made r) → IsNeverStuck links (after cells (answered (reply.Made r) m) fuel)

@@ -1,12 +1,11 @@
 -- Tasks as the rules have them: what one instruction and one reply make of each.
-use Rattle.std.proofs.Common.{◌≡◌, ℕ, zero, suc, ◌+◌, ◌-◌, List, refl, ap, sym, ◌∙◌, arith, Option, Some, None}
+use Rattle.std.proofs.Common.{◌≡◌, ℕ, suc, ◌+◌, ◌-◌, ap, ◌∙◌, arith, Option}
 use Rattle.space_ids.specs.declared.ids.ClassId.{ClassId}
-use Rattle.space_ids.specs.declared.ids.Ref.{Ref}
 use Rattle.space_ids.specs.declared.value.Value.{Value}
-use Rattle.sp_rules.specs.Behaviours.{Behaviour, Plain, Asks, Ends, Over, Op, Outcome, Threw, Reply, Gives, Throws}
+use Rattle.sp_rules.specs.Behaviours.{Behaviour, Plain, Asks, Ends, Over, Op, Outcome, Threw, Gives, Throws}
 use Rattle.sp_rules.specs.Classes.{Setting}
 use Rattle.sp_rules.specs.References.{references_in, with_references}
-use Rattle.sp_rules.specs.Tasks.{Task, Stand, after_own, after_reply, answer, ended_with, pay_with, stand, stand_at, step, step_at, with_value, within_limit}
+use Rattle.sp_rules.specs.Tasks.{Task, after_own, after_reply, answer, ended_with, pay_with, stand, stand_at, step, step_at, with_value, within_limit}
 
 -- an instruction of its own
 pub step-plain : (t : Task) (next : Behaviour) (fuel : ℕ) → t.behaviour ≡ Plain next → t.fuel ≡ suc fuel → step t ≡ record t { behaviour = next; fuel = fuel; made = t.made + 1 }

@@ -1,7 +1,6 @@
 -- A task that starts follows its machine as that begins.
-use Rattle.std.proofs.Common.{◌≡◌, ℕ, zero, suc, ◌+◌, ◌≤◌, ◌<◌, Bool, true, false, List, [], ◌∷◌, ◌++◌, length, refl, ap, sym, subst, ◌∙◌, arith, length-append, Option, Some, None}
+use Rattle.std.proofs.Common.{◌≡◌, ℕ, ◌≤◌, Bool, true, false, List, [], ◌∷◌, ◌++◌, length, refl, ap, sym, subst, ◌∙◌, arith, length-append, Option, Some, None}
 use Rattle.std.specs.Prelude.{◌&&◌, nat_le, option_map, Result, Ok, Err, if◌then◌else◌}
-use Rattle.std.proofs.lemmas.Bool.Decides.{nat_tests}
 use Rattle.cf_reader.specs.declared.class_file.Code.{Code}
 use Rattle.cls_link.specs.Links.{Links}
 use Rattle.cls_link.specs.declared.linked_code.MethodId.{MethodId}
@@ -12,13 +11,13 @@ use Rattle.uuid.specs.declared.Uuid.{Uuid}
 use Rattle.sp_rules.specs.Behaviours as rules
 use Rattle.sp_rules.specs.Classes.{Setting}
 use Rattle.sp_rules.specs.References.{is_reference_in, references_of, with_reference, with_references}
-use Rattle.sp_rules.specs.Tasks.{Task, start, within_limit}
+use Rattle.sp_rules.specs.Tasks.{start, within_limit}
 use Rattle.vm_heap.specs.References as heap
 use Rattle.vm_heap.specs.References.{Table, row_for}
 use Rattle.vm_act.specs.declared.ending.Thrown.TheVariants.{OutOfMemoryError, StackOverflowError}
 use Rattle.vm_run.specs.Ends.{Threw}
 use Rattle.vm_run.specs.Run.{State, Running, Over, IsNeverStuck}
-use Rattle.vm_run.specs.Start.{has_row, have_room, have_rows, is_row, no_references, opening_machine, opening_state, refusal, startable, started, with_arguments}
+use Rattle.vm_run.specs.Start.{have_room, have_rows, is_row, no_references, opening_machine, opening_state, refusal, startable, started, with_arguments}
 use Rattle.vm_run.specs.Subjects.{Declared}
 use Rattle.vm_run.specs.Task.{Tasked, fuel_left}
 use Rattle.vm_run.specs.declared.fault.StartFault.{StartFault}
@@ -28,7 +27,7 @@ use Rattle.vm_run.specs.declared.outcome.Outcome.TheVariants as outcome
 use Rattle.vm_stack.specs.Frames.{frame_cost}
 use Rattle.sp_behaviours.specs.Behaviours.{behaviour, behaviour_at, limits_of, of_started, told_some}
 use Rattle.sp_behaviours.specs.Follows.{Follows, HoldsAs, HoldsIn, PlaysOn}
-use Rattle.sp_behaviours.proofs.Coming.{Arrives, Comes, Overflows, comes, stays-within}
+use Rattle.sp_behaviours.proofs.Coming.{Arrives, Comes, Overflows, comes, over-more, stays-within}
 
 -- ---- the references of arguments
 
@@ -44,11 +43,7 @@ grows held (r ∷ rs) =
     omega (arith, one, more)
 
 still-over : (held new : List Ref) (limit : ℕ) → nat_le (length held) limit ≡ false → nat_le (length (with_references held new)) limit ≡ false
-still-over held new limit over = by (nat_le (length (with_references held new)) limit) refl
-  where
-    by : (b : Bool) → nat_le (length (with_references held new)) limit ≡ b → b ≡ false
-    by false is = refl
-    by true is = let more = grows held new in absurd (grind (arith, nat_tests))
+still-over held new limit over = over-more (length held) (length (with_references held new)) limit (grows held new) over
 
 abbrev AllCome : Setting → List Ref → Table → Bool → Type 0
 AllCome g held table true = Arrives g held table

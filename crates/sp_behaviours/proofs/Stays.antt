@@ -1,7 +1,9 @@
 -- An instruction of a task's own leaves the references by which the task has come, and so does one that asks.
-use Rattle.std.proofs.Common.{◌≡◌, ℕ, Bool, true, false, List, [], ◌∷◌, length, refl, Option, Some, None}
-use Rattle.std.specs.Prelude.{ℤ, pos, negsuc, nat_lt, nat_le, replicate, slice_get, ◌+◌, ◌-◌, if◌then◌else◌}
+use Rattle.std.proofs.Common.{◌≡◌, ℕ, zero, suc, Bool, true, false, List, [], ◌∷◌, length, refl, ap, ◌∙◌, arith, Option, Some, None}
+use Rattle.std.specs.Prelude.{ℤ, pos, negsuc, nat_lt, nat_le, replicate, slice_get, ◌+◌, ◌-◌, ◌||◌, if◌then◌else◌}
 use Rattle.std.specs.Int.{int_wrapping_add}
+use Rattle.std.specs.Str.{bytes_eq}
+use Rattle.std.proofs.lemmas.Cmp.{nat_list_eq_equiv}
 use mir.Syntax.{w32}
 use Rattle.cf_insns.specs.declared.insn.ArrayOperation.{ArrayOperation}
 use Rattle.cf_insns.specs.declared.insn.ArrayOperation.TheVariants as array
@@ -22,7 +24,6 @@ use Rattle.cls_link.specs.declared.linked_code.LinkedSwitch.{LinkedSwitch}
 use Rattle.cls_link.specs.declared.linked_code.LinkedSwitch.TheVariants as switch
 use Rattle.cls_link.specs.declared.linked_code.MethodId.{MethodId}
 use Rattle.cls_resolve.specs.Meanings.{field_of, method_of}
-use Rattle.cls_resolve.specs.declared.named.CastType.{CastType}
 use Rattle.cls_resolve.specs.declared.named.MemberIndex.{MemberIndex}
 use Rattle.cls_search.specs.MethodSearches.{method_in}
 use Rattle.cls_set.specs.declared.class.Class.{Class}
@@ -35,15 +36,15 @@ use Rattle.vm_heap.specs.declared.heap.WordKind.{WordKind}
 use Rattle.vm_heap.specs.declared.word.Pointer.{Pointer}
 use Rattle.vm_heap.specs.declared.word.Pointer.TheVariants as pointer
 use Rattle.vm_stack.specs.Frames.{Frame, Frames, at_index, entered, frame_cost, initialised, pushed, with_local}
-use Rattle.vm_act.specs.Arrays.{array_length, array_load, array_store, index_in, new_array, on_array, sized}
+use Rattle.vm_act.specs.Arrays.{index_in, on_array, sized}
 use Rattle.vm_act.specs.Calls.{are_passed, begin_receiver, construct, enter, invoke, leave, left, on_receiver, on_returned, return_int, return_nothing, return_reference, unchanged}
 use Rattle.vm_act.specs.Calls as acts
 use Rattle.vm_act.specs.Next.{Next, On, Ends, Asks, Stuck}
 use Rattle.vm_act.specs.Objects.{answer, cast, get_field, make, new_object, on_referent, put_at, put_field, referent_at, throw}
 use Rattle.vm_act.specs.Remote.{ask_get, ask_put, create, is_remote_at, on_own, on_own_or_this, on_own_row, on_remote_site, put_to, read_field, stored_as, write_field, write_stored}
 use Rattle.vm_act.specs.Steps.{branch, go_on, is_initialised, is_int, is_kind, jump, load_as, on_int, on_object, on_own_address, on_own_object, on_reference, on_some, on_top, on_uninitialised, pop, pop_as, pop_int, pop_object, pop_reference, push, store, where_true, with_operands}
-use Rattle.vm_act.specs.Switches.{lookup_switch, lookup_target, table_switch, table_target}
-use Rattle.vm_act.specs.Words.{are_same, constant, dup, dup2, dup2_x1, dup2_x2, dup_x1, dup_x2, if_null, if_same, increment, is_wanted, load, null, pop_one, pop_two, store_top, swap}
+use Rattle.vm_act.specs.Switches.{lookup_target, table_target}
+use Rattle.vm_act.specs.Words.{are_same, if_null, if_same, increment, is_wanted, load, store_top}
 use Rattle.vm_act.specs.declared.asked.Asked.TheVariants as asked
 use Rattle.vm_act.specs.declared.asked.FieldValue.{FieldValue}
 use Rattle.vm_act.specs.declared.calls.Callee.{Callee}
@@ -55,7 +56,7 @@ use Rattle.vm_act.specs.declared.ending.Thrown.TheVariants as thrown
 use Rattle.vm_act.specs.declared.machine.Machine.{Machine}
 use Rattle.vm_act.specs.declared.objects.Referent.{Referent}
 use Rattle.vm_act.specs.declared.objects.Referent.TheVariants as referent
-use Rattle.vm_code.specs.Act.{act, act_on_array, check_cast, get_field_of, instance_of, is_equal, new_of, put_field_of, rearrange, return_value, switch_at, switch_by, switch_of, throw_top, word_kind}
+use Rattle.vm_code.specs.Act.{act, act_on_array, get_field_of, is_equal, new_of, put_field_of, rearrange, return_value, switch_at, switch_by, word_kind}
 use Rattle.vm_code.specs.Calls.{call_interface, call_receiver, call_special, call_special_of, call_static, call_super, call_virtual, construct_chosen, current_class, id_of, invoke_on, invoke_unless_null}
 use Rattle.vm_code.specs.Calls as calls
 use Rattle.vm_code.specs.Classes.{is_instance, is_remote, passes}
@@ -64,12 +65,24 @@ use Rattle.vm_code.specs.Ints.{binary, if_compare, if_zero, push_result, unary}
 use Rattle.vm_code.specs.Methods.{callee_of, chosen, init_begins_uninit, interface_selected, is_init, object_of, selected_of, special_start}
 use Rattle.vm_code.specs.Operators.{binary_result, condition_holds, unary_result}
 use Rattle.vm_rows.specs.Steps as insns
+use Rattle.sp_rules.specs.References.{is_reference_in, is_same_reference}
+use Rattle.sp_behaviours.specs.Follows.{HoldsAsked}
 
--- the machine that goes on, or that asks, has these references
+same_as_itself : (r : Ref) → is_same_reference r r ≡ true
+same_as_itself r = let e : bytes_eq r.space r.space ≡ true = nat_list_eq_equiv.refl r.space in rw e grind arith
+
+-- the reference of a row is among all of them
+among : (rows : List Ref) (row : ℕ) (r : Ref) → slice_get rows row ≡ Some r → is_reference_in rows r ≡ true
+among [] row r found = absurd (cc)
+among (x ∷ xs) zero r found =
+    let same : x ≡ r = cc in (λ j. is_same_reference r (same j) || is_reference_in xs r) ∙ ap (λ b. b || is_reference_in xs r) (same_as_itself r)
+among (x ∷ xs) (suc n) r found = let rest = among xs n r found in elim (is_same_reference r x) as (λ b. (b || is_reference_in xs r) ≡ true) [ true ↦ refl | false ↦ rest ]
+
+-- the machine that goes on, or that asks, has these references, and it asks of one of them
 abbrev pub Stays : Table → Next → Type 0
 Stays table (On m) = m.references ≡ table
 Stays table (Ends ending) = Unit {0}
-Stays table (Asks op m) = m.references ≡ table
+Stays table (Asks op m) = (m.references ≡ table) × HoldsAsked m.references.rows op
 Stays table Stuck = Unit {0}
 
 -- so it is after each machine that has them
@@ -79,13 +92,17 @@ Keeps table next = (m : Machine) → m.references ≡ table → Stays table (nex
 module _ (table : Table) where
   -- ---- what instructions are made of
 
-  choice : (b : Bool) (yes no : Next) → Stays table yes → Stays table no → Stays table (if b then yes else no)
-  choice true yes no y n = y
-  choice false yes no y n = n
+  choice : (b : Bool) (one other : Next) → Stays table one → Stays table other → Stays table (if b then one else other)
+  choice true one other first second = first
+  choice false one other first second = second
 
   some : {A : Type 0} (next : A → Next) (o : Option A) → ((x : A) → Stays table (next x)) → Stays table (on_some next o)
   some next None stays = tt
   some next (Some x) stays = stays x
+
+  some_is : {A : Type 0} (next : A → Next) (o : Option A) → ((x : A) → o ≡ Some x → Stays table (next x)) → Stays table (on_some next o)
+  some_is next None stays = tt
+  some_is next (Some x) stays = stays x refl
 
   whether : (b : Bool) (next : Next) → Stays table next → Stays table (where_true b next)
   whether b next stays = choice b next Stuck stays tt
@@ -330,16 +347,17 @@ module _ (table : Table) where
   new-keeps : (classes : List Class) (class : ClassId) → Keeps table (new_of classes class)
   new-keeps classes class m is =
       some (λ kinds. if is_remote classes class then create class m else new_object class kinds m) (kinds_of classes class) (λ kinds.
-      choice (is_remote classes class) (create class m) (new_object class kinds m) is
+      choice (is_remote classes class) (create class m) (new_object class kinds m) (is, tt)
       (makes (new_cell class kinds) (push (Fresh m.stack.frame.index (HeapAddress (all_cost m.heap.cells))) go_on) (pushes (Fresh m.stack.frame.index (HeapAddress (all_cost m.heap.cells))) go_on goes) m is))
 
   -- ---- remote objects
 
-  own_row : (next : Ref → Next) (m : Machine) (row : ℕ) → ((r : Ref) → Stays table (next r)) → Stays table (on_own_row next m row)
+  own_row : (next : Ref → Next) (m : Machine) (row : ℕ) → ((r : Ref) → is_reference_in m.references.rows r ≡ true → Stays table (next r)) → Stays table (on_own_row next m row)
   own_row next m row stays =
-      some (λ r. where_true (is_own m.references r) (next r)) (slice_get m.references.rows row) (λ r. whether (is_own m.references r) (next r) (stays r))
+      some_is (λ r. where_true (is_own m.references r) (next r)) (slice_get m.references.rows row)
+      (λ r found. whether (is_own m.references r) (next r) (stays r (among m.references.rows row r found)))
 
-  owns : (next : Ref → Next) (m : Machine) (v : Tagged) → ((r : Ref) → Stays table (next r)) → Stays table (on_own next m v)
+  owns : (next : Ref → Next) (m : Machine) (v : Tagged) → ((r : Ref) → is_reference_in m.references.rows r ≡ true → Stays table (next r)) → Stays table (on_own next m v)
   owns next m (Remote row) stays = own_row next m row stays
   owns next m v stays = tt
 
@@ -347,26 +365,26 @@ module _ (table : Table) where
   remote_site next (HeapAddress address) stays = tt
   remote_site next (ReferenceRow row) stays = stays row
 
-  owns_or_this : (next : Ref → Next) (m : Machine) (v : Tagged) → ((r : Ref) → Stays table (next r)) → Stays table (on_own_or_this next m v)
+  owns_or_this : (next : Ref → Next) (m : Machine) (v : Tagged) → ((r : Ref) → is_reference_in m.references.rows r ≡ true → Stays table (next r)) → Stays table (on_own_or_this next m v)
   owns_or_this next m (Remote row) stays = own_row next m row stays
   owns_or_this next m (This site) stays = remote_site (on_own_row next m) site (λ row. own_row next m row stays)
   owns_or_this next m v stays = tt
 
   ask_get-keeps : (slot : ℕ) → Keeps table (ask_get slot)
   ask_get-keeps slot =
-      pops (λ object m. on_own (λ r. Asks (asked.Get r slot) m) m object) (λ object m is. owns (λ r. Asks (asked.Get r slot) m) m object (λ r. is))
+      pops (λ object m. on_own (λ r. Asks (asked.Get r slot) m) m object) (λ object m is. owns (λ r. Asks (asked.Get r slot) m) m object (λ r held. (is, held)))
 
-  stored-stays : (object : Ref) (slot : ℕ) (m : Machine) → m.references ≡ table → (stored : Option FieldValue) → Stays table (write_stored object slot m stored)
-  stored-stays object slot m is None = tt
-  stored-stays object slot m is (Some v) = is
+  stored-stays : (object : Ref) (slot : ℕ) (m : Machine) → m.references ≡ table → is_reference_in m.references.rows object ≡ true → (stored : Option FieldValue) → Stays table (write_stored object slot m stored)
+  stored-stays object slot m is held None = tt
+  stored-stays object slot m is held (Some v) = (is, held)
 
-  put_to-stays : (object : Ref) (slot : ℕ) (v : Tagged) → Keeps table (put_to object slot v)
-  put_to-stays object slot v m is = some (write_stored object slot m) (stored_as m v) (stored-stays object slot m is)
+  put_to-stays : (object : Ref) (slot : ℕ) (v : Tagged) (m : Machine) → m.references ≡ table → is_reference_in m.references.rows object ≡ true → Stays table (put_to object slot v m)
+  put_to-stays object slot v m is held = some (write_stored object slot m) (stored_as m v) (stored-stays object slot m is held)
 
   ask_put-keeps : (slot : ℕ) (kind : WordKind) → Keeps table (ask_put slot kind)
   ask_put-keeps slot kind =
       pops_as (is_kind kind) (λ v. pop (λ object m. on_own_or_this (λ r. put_to r slot v m) m object)) (λ v.
-      pops (λ object m. on_own_or_this (λ r. put_to r slot v m) m object) (λ object m is. owns_or_this (λ r. put_to r slot v m) m object (λ r. put_to-stays r slot v m is)))
+      pops (λ object m. on_own_or_this (λ r. put_to r slot v m) m object) (λ object m is. owns_or_this (λ r. put_to r slot v m) m object (λ r held. put_to-stays r slot v m is held)))
 
   get-keeps : (classes : List Class) (field : MemberIndex) → Keeps table (get_field_of classes field)
   get-keeps classes field m is =
@@ -451,9 +469,9 @@ module _ (table : Table) where
       referents (length method.types.parameters) (invoke_unless_null (selected_of links.classes (special_start links.classes current named) id))
       (unless_null-keeps (selected_of links.classes (special_start links.classes current named) id)) m is)
 
-  picks : (b : Bool) (yes no : Machine → Next) → Keeps table yes → Keeps table no → Keeps table (if b then yes else no)
-  picks true yes no y n = y
-  picks false yes no y n = n
+  picks : (b : Bool) (one other : Machine → Next) → Keeps table one → Keeps table other → Keeps table (if b then one else other)
+  picks true one other first second = first
+  picks false one other first second = second
 
   special_of-keeps : (links : Links) (named : ClassId) (member : MemberIndex) (method : Method) → Keeps table (call_special_of links named member method)
   special_of-keeps links named member method =

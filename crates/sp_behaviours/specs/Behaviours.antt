@@ -17,7 +17,6 @@ use Rattle.vm_act.specs.declared.asked.FieldValue.{FieldValue}
 use Rattle.vm_act.specs.declared.asked.FieldValue.TheVariants as field
 use Rattle.vm_act.specs.declared.asked.Reply.{Reply}
 use Rattle.vm_act.specs.declared.asked.Reply.TheVariants as reply
-use Rattle.vm_act.specs.declared.ending.Ending.{Ending}
 use Rattle.vm_act.specs.declared.machine.Machine.{Machine}
 use Rattle.vm_rows.specs.Steps.{step}
 use Rattle.vm_run.specs.Ends.{End, end_of}

@@ -1,6 +1,6 @@
 -- A task of the rules of spaces stands where a machine stands: it does from there on what the machine does, with its fuel, and holds the
 -- references by which the machine has come. (This project's own rule.)
-use Rattle.std.specs.Prelude.{◌≡◌, ◌≤◌, ℕ, zero, suc, List, length, Some, codes}
+use Rattle.std.specs.Prelude.{◌≡◌, ◌≤◌, ℕ, true, zero, suc, List, length, Some, codes}
 use Rattle.cls_link.specs.Links.{Links}
 use Rattle.cls_set.specs.Classes.{number_of}
 use Rattle.space_ids.specs.declared.ids.Ref.{Ref}
@@ -8,8 +8,11 @@ use Rattle.space_ids.specs.declared.value.Value.{Value}
 use Rattle.uuid.specs.declared.Uuid.{Uuid}
 use Rattle.sp_rules.specs.Behaviours as rules
 use Rattle.sp_rules.specs.Classes.{Limits, Setting}
+use Rattle.sp_rules.specs.References.{is_reference_in}
 use Rattle.sp_rules.specs.Tasks.{Task, Stand, Runs, AsksFor, HasEnded}
 use Rattle.vm_act.specs.Next.{Next, On, Ends, Asks, Stuck}
+use Rattle.vm_act.specs.declared.asked.Asked.{Asked}
+use Rattle.vm_act.specs.declared.asked.Asked.TheVariants as asked
 use Rattle.vm_heap.specs.References.{Table}
 use Rattle.vm_rows.specs.Steps as insns
 use Rattle.vm_run.specs.Run.{State, Running, Waits, Over, Lost, IsNeverStuck}
@@ -29,10 +32,16 @@ pub record HoldsAs (g : Setting) (held : List Ref) (table : Table) : Type 0 wher
   pub limit : table.limit ≡ g.limits.references
   pub within : length held ≤ g.limits.references
 
+-- The object of which a field is asked for is one to which a reference is held.
+abbrev pub HoldsAsked : List Ref → Asked → Type 0
+HoldsAsked held (asked.Create class) = Unit {0}
+HoldsAsked held (asked.Get object slot) = is_reference_in held object ≡ true
+HoldsAsked held (asked.Put object slot value) = is_reference_in held object ≡ true
+
 -- A task that is over holds nothing on its machine.
 abbrev pub HoldsIn : Setting → List Ref → State → Type 0
 HoldsIn g held (Running m fuel) = HoldsAs g held m.references
-HoldsIn g held (Waits op m fuel) = HoldsAs g held m.references
+HoldsIn g held (Waits op m fuel) = HoldsAs g held m.references × HoldsAsked held op
 HoldsIn g held (Over end fuel) = Unit {0}
 HoldsIn g held Lost = Unit {0}
 

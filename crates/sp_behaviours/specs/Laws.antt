@@ -1,5 +1,5 @@
 -- The laws of tasks that follow machines, each the contract of a function of this crate.
-use Rattle.std.specs.Prelude.{◌≡◌, ◌≢◌, ◌+◌, ℕ, List, Option, Some, None, Result, Ok}
+use Rattle.std.specs.Prelude.{◌≡◌, ◌+◌, ℕ, List, Option, Some, Ok}
 use Rattle.cls_link.specs.Links.{Links}
 use Rattle.space_ids.specs.declared.ids.ClassId.{ClassId}
 use Rattle.space_ids.specs.declared.value.Value.{Value}
@@ -15,7 +15,7 @@ use Rattle.vm_run.specs.Start.{started}
 use Rattle.vm_run.specs.Task.{Tasked, outcome_at}
 use Rattle.vm_run.specs.declared.outcome.Outcome.{Outcome}
 use Rattle.sp_behaviours.specs.Behaviours.{limits_of, reply_of, told}
-use Rattle.sp_behaviours.specs.Follows.{Follows, PlaysOn, stand_of}
+use Rattle.sp_behaviours.specs.Follows.{Follows, HoldsAsked, PlaysOn, stand_of}
 
 -- A task stands where the machine that it follows stands.
 abbrev pub StandsAreThose : Type 0
@@ -29,6 +29,14 @@ EndsAreTold = (links : Links) (g : Setting) (t : tasks.Task) (s : State) (outcom
 -- It follows its machine through instructions of its own, up to one that asks or that ends it.
 abbrev pub StepsFollow : Type 0
 StepsFollow = (links : Links) (g : Setting) (t : tasks.Task) (s : State) (k : ℕ) → Follows links g t s → Follows links g (tasks.steps k t) (run links k s)
+
+-- An instruction that asks is not made before the reply comes: the task stands at it as it stood.
+abbrev pub AsksStay : Type 0
+AsksStay = (links : Links) (g : Setting) (t : tasks.Task) (s : State) (op : Asked) (m : Machine) (fuel : ℕ) → Follows links g t s → run links 1 s ≡ Waits op m fuel → tasks.step t ≡ t
+
+-- What it asks of an object is asked of one that it holds.
+abbrev pub AskedIsHeld : Type 0
+AskedIsHeld = (links : Links) (g : Setting) (t : tasks.Task) (op : Asked) (m : Machine) (fuel : ℕ) → Follows links g t (Waits op m fuel) → HoldsAsked t.held op
 
 -- They are as many in the rules as on the machine.
 abbrev pub StepsAreCounted : Type 0

@@ -1,6 +1,6 @@
 //! The laws of tasks that follow machines.
 
-ghost use Rattle.sp_behaviours.specs.Laws.{EndsAreTold, StandsAreThose, StartsFollow, StepsAreCounted, StepsFollow, ThrowsFollow, ValuesFollow};
+ghost use Rattle.sp_behaviours.specs.Laws.{AskedIsHeld, AsksStay, EndsAreTold, StandsAreThose, StartsFollow, StepsAreCounted, StepsFollow, ThrowsFollow, ValuesFollow};
 
 /// A task of a space that follows a machine stands where the machine stands: before an instruction of
 /// its own, at one that asks the space, or at its end, which is what the machine tells.
@@ -9,9 +9,12 @@ pub fn tasks_stand_where_machines_stand()
     ensures ends { EndsAreTold }
 {}
 
-/// It follows the machine through any number of its own instructions, and makes as many of them.
+/// It follows the machine through any number of its own instructions, and makes as many of them. One that
+/// asks the space is not made before the reply comes, and asks of an object that the task holds.
 pub fn instructions_are_followed()
     ensures follows { StepsFollow }
+    ensures asks { AsksStay }
+    ensures held { AskedIsHeld }
     ensures counted { StepsAreCounted }
 {}
 
