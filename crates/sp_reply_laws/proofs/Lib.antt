@@ -1,0 +1,2 @@
+mod StoreRules
+mod StoreLemmas
