@@ -1,2 +1,3 @@
 mod StoreRules
 mod StoreLemmas
+mod FieldLemmas
