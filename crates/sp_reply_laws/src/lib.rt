@@ -2,4 +2,5 @@
 //! a function. There is no other code here.
 #![tactic(auto)]
 
+pub mod replies;
 pub mod stores;
