@@ -1,6 +1,6 @@
 -- What a field of a standing object is: a value of its kind, and if it is a reference, one to a standing object of a remote class.
 use mathlib.Core.Path.{sym, ap, subst, ◌∙◌}
-use Rattle.std.specs.Prelude.{◌≡◌, refl, ℕ, zero, suc, ◌<◌, ◌==◌, ◌&&◌, ◌||◌, Bool, true, false, length, List, [], ◌∷◌, ◌++◌, Option, None, Some, find, map, unwrap_or, if◌then◌else◌}
+use Rattle.std.specs.Prelude.{◌≡◌, refl, ℕ, zero, suc, ◌<◌, ◌==◌, ◌||◌, Bool, true, false, length, List, [], ◌∷◌, ◌++◌, Option, None, Some, map, unwrap_or, if◌then◌else◌}
 use Rattle.std.specs.List.{list_any}
 use Rattle.std.specs.Str.{bytes_eq}
 use Rattle.std.proofs.Common.{arith}
@@ -18,7 +18,7 @@ use Rattle.sp_rules.specs.Lists.{numbers_below}
 use Rattle.sp_rules.specs.Origins.{IsRight, OwnStand}
 use Rattle.sp_rules.specs.References.{references_of, reference_of, foreign_ids, is_id, is_same_reference, is_reference_in}
 use Rattle.sp_rules.specs.Space.{state_of}
-use Rattle.sp_rules.specs.State.{State, Living, Object, object_at, standing, task_at, last_written}
+use Rattle.sp_rules.specs.State.{State, Living, Object, object_at, standing, last_written}
 use Rattle.sp_rules.proofs.AllLemmas.{all-found, found-is}
 use Rattle.sp_rules.proofs.OwnLemmas.{and-left, and-right, own_references_stand}
 use Rattle.sp_rules.proofs.SweepLemmas.{one-id}

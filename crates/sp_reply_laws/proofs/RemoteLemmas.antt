@@ -1,8 +1,8 @@
 -- The fields of a remote class are ints and references of interfaces, where files keep the rule on them.
-use Rattle.std.proofs.Common.{◌≡◌, ◌≢◌, ◌⊎◌, inl, inr, ℕ, zero, suc, ◌<◌, Bool, true, false, not, Option, Some, None, List, [], ◌∷◌, ◌++◌, length, map, get_or, refl, sym, subst, ap, ◌∙◌, arith}
+use Rattle.std.proofs.Common.{◌≡◌, ◌⊎◌, inl, inr, ℕ, zero, suc, ◌<◌, Bool, true, false, Option, Some, None, List, [], ◌∷◌, ◌++◌, length, map, refl, sym, subst, ap, ◌∙◌, arith}
 use Rattle.std.specs.Prelude.{◌==◌, ◌&&◌, if◌then◌else◌, Contains, IsSomeAnd, bit_and, codes, slice_get}
 use Rattle.std.specs.Option.{option_map_or}
-use Rattle.std.proofs.lemmas.Bool.{eqb-true, eq-eqb}
+use Rattle.std.proofs.lemmas.Bool.{eqb-true}
 use Rattle.std.proofs.lemmas.List.{get_or-map, length-map}
 use Rattle.std.proofs.lemmas.List.Elements.{Contains-append_right}
 use Rattle.std.proofs.lemmas.List.Sorted.{Contains-permutation, IsPermutation-sym}
@@ -33,7 +33,7 @@ use Rattle.ver_frames.specs.Types.{element_type, field_vtype, is_int}
 use Rattle.ver_frames.specs.declared.vtype.VType.{VType}
 use Rattle.ver_frames.specs.declared.vtype.VType.TheVariants as vtype
 use Rattle.vm_world.specs.Files.{own_types, types_of, types_up}
-use Rattle.sp_reply_laws.specs.Told.{AreRemoteFields, CanBeHeld, RemoteFieldsAreHeld}
+use Rattle.sp_reply_laws.specs.Told.{CanBeHeld, RemoteFieldsAreHeld}
 
 abbrev remote_name : List ℕ
 remote_name = codes "java/rmi/Remote"

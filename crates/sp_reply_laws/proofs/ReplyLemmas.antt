@@ -1,6 +1,6 @@
 -- The replies of the rules fit what a machine asks.
-use mathlib.Core.Path.{sym, ap, subst, ◌∙◌}
-use Rattle.std.specs.Prelude.{◌≡◌, refl, ℕ, ◌<◌, Bool, true, false, length, IsSome, IsSomeAnd, List, Option, None, Some, unwrap_or, slice_get, if◌then◌else◌}
+use mathlib.Core.Path.{sym, subst}
+use Rattle.std.specs.Prelude.{◌≡◌, refl, ℕ, ◌<◌, Bool, true, false, length, IsSome, List, Option, None, Some, slice_get, if◌then◌else◌}
 use Rattle.std.specs.Str.{bytes_eq}
 use Rattle.std.proofs.Common.{inl}
 use Rattle.std.proofs.lemmas.Bool.{true≢false}
@@ -16,24 +16,23 @@ use Rattle.space_ids.specs.declared.value.Value.{Value}
 use Rattle.space_ids.specs.declared.value.Value.TheVariants as values
 use Rattle.sp_behaviours.specs.Behaviours.{held_of, op_of}
 use Rattle.sp_rules.specs.Behaviours as rules
-use Rattle.sp_rules.specs.Classes.{Setting, Kind, IntKind, ReferenceKind, blank, fits_kind, field_kind}
+use Rattle.sp_rules.specs.Classes.{Setting, IntKind, ReferenceKind, fits_kind, field_kind}
 use Rattle.sp_rules.specs.Events.{Event}
 use Rattle.sp_rules.specs.Laws.{AllOf}
 use Rattle.sp_rules.specs.LivingTasks
 use Rattle.sp_rules.specs.Origins.{OwnStand}
 use Rattle.sp_rules.specs.References.{reference_of}
 use Rattle.sp_rules.specs.Space.{state_of}
-use Rattle.sp_rules.specs.State.{State, Object, object_at, last_written}
+use Rattle.sp_rules.specs.State.{State, Object, object_at}
 use Rattle.sp_rules.proofs.OwnLemmas.{own_references_stand}
 use Rattle.ver_frames.specs.declared.vtype.VType.{VType}
 use Rattle.ver_frames.specs.declared.vtype.VType.TheVariants as vtype
-use Rattle.vm_act.specs.declared.asked.Asked.{Asked}
 use Rattle.vm_act.specs.declared.asked.Asked.TheVariants as asked
 use Rattle.vm_act.specs.declared.asked.FieldValue.{FieldValue}
 use Rattle.vm_act.specs.declared.asked.FieldValue.TheVariants as field
 use Rattle.vm_heap.specs.References.{Table}
-use Rattle.vm_run.specs.Run.{IsAsked, IsReply, fields_world}
-use Rattle.vm_typing.specs.Asking.{IsOwnObject, ValueFits}
+use Rattle.vm_run.specs.Run.{IsReply, fields_world}
+use Rattle.vm_typing.specs.Asking.{ValueFits}
 use Rattle.vm_typing.specs.Fits.{There}
 use Rattle.vm_world.specs.Files.{types_of}
 use Rattle.sp_reply_laws.specs.Replies.{AskedObjectsStand, FitsAsked, IsAskedOf, RepliesFit}

@@ -16,11 +16,11 @@ use Rattle.sp_rules.specs.References.{is_id, is_id_in}
 use Rattle.sp_rules.specs.Refusals
 use Rattle.sp_rules.specs.Refusals.{first_refusal, checks, refusal}
 use Rattle.sp_rules.specs.Space
-use Rattle.sp_rules.specs.State.{State, Object, Stored, Made, Written, Gone, standing, last_written, opening, object_at, task_at}
+use Rattle.sp_rules.specs.State.{State, Object, Stored, Made, Written, Gone, standing, last_written, opening, task_at}
 use Rattle.sp_rules.proofs.AllLemmas.{some-none, all-found, found-is}
 use Rattle.sp_rules.proofs.OwnLemmas.{unrefused, first-of, not-false, some-same, own-only}
 use Rattle.sp_rules.proofs.SweepLemmas.{one-id, store_left}
-use Rattle.sp_reply_laws.specs.Stores.{StoreFits, StoresFit}
+use Rattle.sp_reply_laws.specs.Stores.{StoresFit}
 use Rattle.sp_reply_laws.proofs.StoreRules
 use Rattle.sp_reply_laws.proofs.StoreRules.{stored_by, leaves_store}
 
@@ -53,12 +53,6 @@ found-left : (keep : ObjId → Bool) (os : List Object) (id : ObjId) (o : Object
 found-left keep [] id o e = e
 found-left keep (p ∷ os) id o e = pick (keep p.id) refl e (found-left keep os id o)
   where
-    is : Object → Bool
-    is q = is_id q.id id
-
-    rest : List Object
-    rest = filter (λ (q : Object). keep q.id) os
-
     with-kept : (b : Bool) → cond b (Some p) (find (λ (q : Object). is_id q.id id) (filter (λ (q : Object). keep q.id) os)) ≡ Some o
         → (find (λ (q : Object). is_id q.id id) (filter (λ (q : Object). keep q.id) os) ≡ Some o → find (λ (q : Object). is_id q.id id) os ≡ Some o)
         → cond b (Some p) (find (λ (q : Object). is_id q.id id) os) ≡ Some o

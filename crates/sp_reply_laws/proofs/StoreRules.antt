@@ -1,6 +1,6 @@
 -- What is kept of the remote instances changes by Sweeps and by operations on them alone: each other rule leaves it as it was.
 use mathlib.Core.Path.{sym, ap, ◌∙◌}
-use Rattle.std.specs.Prelude.{◌≡◌, refl, ℕ, ◌+◌, ◌==◌, not, ◌||◌, ◌&&◌, nat_le, nat_lt, is_none, is_some, Bool, true, false, List, [], ◌∷◌, ◌++◌, Option, None, Some, Result, Ok, Err, filter, find, length, map, ◌⊎◌, if◌then◌else◌}
+use Rattle.std.specs.Prelude.{◌≡◌, refl, ℕ, ◌+◌, not, ◌||◌, ◌&&◌, nat_le, nat_lt, is_none, Bool, true, false, List, [], ◌∷◌, Option, None, Some, Result, Ok, Err, filter, find, length, map, ◌⊎◌, if◌then◌else◌}
 use Rattle.std.specs.List.{list_any}
 use Rattle.space_ids.specs.declared.ids.ClassId.{ClassId}
 use Rattle.dgc_client.specs.History as lease_events
@@ -95,33 +95,9 @@ go_out_keeps {P = P} F {s = s} turn conn q e = goes q.asked
     goes (LooksUp number task name) = send_keeps F turn conn _ (F.frame s _ refl e)
     goes (Tells call group) = each_keeps F _ _ (λ t part h. part_keeps F turn conn call part h) e
 
-dial_keeps : {g : Setting} {P : State → Type 0} (F : IsStored g P) {s : State} (peer : Uuid) → P s → P (Requests.dial peer s)
-unfolding Requests.dial
-dial_keeps F {s = s} peer e = if_keeps F (is_some (connection_to s peer) || State.is_dialling s peer) e (F.frame s _ refl e)
-
-ask_keeps : {g : Setting} {P : State → Type 0} (F : IsStored g P) {s : State} (q : Request) → P s → P (Requests.ask s q)
-unfolding Requests.ask
-ask_keeps F {s = s} q e = some_keeps F (Requests.hello_came (connection_to s q.peer)) _ (dial_keeps F q.peer (F.frame s _ refl e)) (λ conn is. go_out_keeps F _ conn q e)
-
 flush_keeps : {g : Setting} {P : State → Type 0} (F : IsStored g P) {s : State} (peer : Uuid) (conn : ℕ) → P s → P (Requests.flush_waiting peer conn s)
 unfolding Requests.flush_waiting
 flush_keeps F {s = s} peer conn e = each_keeps F _ _ (λ t r h. go_out_keeps F _ conn r h) (F.frame s _ refl e)
-
-make_group_keeps : {g : Setting} {P : State → Type 0} (F : IsStored g P) {s : State} (b : Group) → P s → P (Requests.make_group s b)
-unfolding Requests.make_group
-make_group_keeps F {s = s} b e = ask_keeps F _ (F.frame s _ refl e)
-
-make_due_keeps : {g : Setting} {P : State → Type 0} (F : IsStored g P) {s : State} → P s → P (Requests.make_due s)
-unfolding Requests.make_due
-make_due_keeps F e = each_keeps F _ _ (λ t b h. make_group_keeps F b h) e
-
-ask_fresh_keeps : {g : Setting} {P : State → Type 0} (F : IsStored g P) {s : State} → P s → P (Requests.ask_fresh s)
-unfolding Requests.ask_fresh
-ask_fresh_keeps F {s = s} e = each_keeps F _ _ (λ t q h. ask_keeps F q h) (F.frame s _ refl e)
-
-settle_keeps : {g : Setting} {P : State → Type 0} (F : IsStored g P) {s : State} → P s → P (Requests.settle s)
-unfolding Requests.settle
-settle_keeps F e = ask_fresh_keeps F (make_due_keeps F e)
 
 -- ---- tasks
 
