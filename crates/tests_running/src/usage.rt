@@ -101,7 +101,7 @@ impl Write for Broken {
 }
 
 // What a command comes to that cannot write its answer: its status, and what it wrote of faults.
-fn broken(alloc: Global, line: &str) -> Result<(u8, Vec<u8>), AllocError> {
+fn status_of(alloc: Global, line: &str) -> Result<(u8, Vec<u8>), AllocError> {
     let words = words_of(alloc, line)?;
     let mut err = Vec::new(alloc);
     let folder = EmptyFolder { alloc };
@@ -118,7 +118,7 @@ fn broken(alloc: Global, line: &str) -> Result<(u8, Vec<u8>), AllocError> {
 
 #[test]
 fn an_answer_that_cannot_be_written_is_a_failure(rt: HostRuntime) -> Result<(), Fail> {
-    let (status, err) = broken(rt.alloc(), "--version")?;
+    let (status, err) = status_of(rt.alloc(), "--version")?;
     assert_eq!(rt; status, 3);
     assert!(rt; err.is_empty());
     Ok(())
