@@ -1,9 +1,9 @@
 //! Operations on the store, for which lent tasks ask.
 
-ghost use Rattle.std.specs.Prelude.{◌≡◌, ◌<◌, ◌+◌, ◌^◌, ◌∷◌, ℕ, List, [], true, false, None, Some, IfOk, IfErr, OnOk, OnErr, is_some, map, option_and_then, option_map, slice_get};
-ghost use Rattle.sp_store.specs.Stores.{field_after, made};
+ghost use Rattle.std.specs.Prelude.{◌≡◌, ◌<◌, ◌+◌, ◌^◌, ◌∷◌, ℕ, List, [], true, false, None, Some, IfOk, IfErr, OnOk, OnErr, is_some, option_and_then, option_map};
+ghost use Rattle.sp_store.specs.Stores.{blanks, field_after, made};
 ghost use Rattle.sp_rules.specs.Behaviours.{Create, Get, Put};
-ghost use Rattle.sp_rules.specs.Classes.{Setting, blank, field_kind, fits_kind};
+ghost use Rattle.sp_rules.specs.Classes.{Classes, Setting, blank, field_kind, fits_kind};
 ghost use Rattle.sp_rules.specs.Events.{Event as Happening, Committed};
 ghost use Rattle.sp_rules.specs.LivingTasks.{op_reply};
 ghost use Rattle.sp_rules.specs.Origins.{IsTaken, OwnStand};
@@ -106,7 +106,7 @@ impl SpaceCore {
         ensures { (g : Setting) (s : State) → IsCore g s self.now → C.tells classes.now g.classes → option_map kind_of result ≡ option_and_then (λ o. field_kind g.classes o.class slot) (object_at s object) }
     {
         match self.store.class_of(object) {
-            Some(class) => kind_in(classes.fields(class), slot),
+            Some(class) => classes.field_kind(class, slot),
             None => None,
         }
     }
@@ -163,7 +163,7 @@ impl SpaceCore {
         ensures kept { OnErr result (task.new ≡ task.old) }
     {
         let reply = self.creation(classes, class);
-        let fields = blanks_of(self.alloc, classes.fields(class))?;
+        let fields = blanks_of(self.alloc, classes, class)?;
         self.store.reserve(1)?;
         self.answer(task, &reply)?;
         let _ = self.store.create_reserved(class, fields);
@@ -247,17 +247,6 @@ impl SpaceCore {
     }
 }
 
-// The kind of the field in this slot.
-fn kind_in(kinds: &[FieldKind], slot: usize) -> Option<FieldKind>
-    ensures { option_map kind_of result ≡ slice_get (map kind_of kinds.now) slot }
-{
-    if slot < kinds.len() {
-        Some(kinds[slot])
-    } else {
-        None
-    }
-}
-
 // Whether a field of this kind can hold the value.
 fn fits(kind: FieldKind, value: &Value) -> bool
     ensures { result ≡ fits_kind (kind_of kind) value.now }
@@ -269,22 +258,26 @@ fn fits(kind: FieldKind, value: &Value) -> bool
     }
 }
 
-// What the fields of a new object hold: 0 or null.
-fn blanks_of(alloc: Global, kinds: &[FieldKind]) -> Result<Vec<Value>, AllocError>
-    ensures { IfOk result (λ values. values.items ≡ map (λ kind. blank (Some (kind_of kind))) kinds.now) }
+// What the fields of a new object of the class hold: 0 or null.
+fn blanks_of<C: ClassSet>(
+    alloc: Global,
+    classes: &C,
+    class: ClassId,
+) -> Result<Vec<Value>, AllocError>
+    ensures { IfOk result (λ values. (c : Classes) → C.tells classes.now c → values.items ≡ blanks c class) }
 {
     let mut values = Vec::new(alloc);
-    for kind in kinds {
-        values.push(blank_of(*kind))?;
+    for slot in 0..classes.field_count(class) {
+        values.push(blank_of(classes.field_kind(class, slot)))?;
     }
     Ok(values)
 }
 
-fn blank_of(kind: FieldKind) -> Value
-    ensures { result ≡ blank (Some (kind_of kind)) }
+fn blank_of(kind: Option<FieldKind>) -> Value
+    ensures { result ≡ blank (option_map kind_of kind) }
 {
     match kind {
-        FieldKind::Int => Value::Int(0),
-        FieldKind::Reference => Value::Null,
+        Some(FieldKind::Int) => Value::Int(0),
+        Some(FieldKind::Reference) | None => Value::Null,
     }
 }
