@@ -10,3 +10,5 @@ pub mod Sound
 pub mod Limited
 pub mod Made
 pub mod Holding
+pub mod Refused
+pub mod Views

@@ -105,6 +105,11 @@ refusal classes own method arguments =
     if not (takes_crossing classes method.types) then Some fault.BadSignature
     else (if is_static method && fill classes own method.types.parameters arguments then None else Some fault.BadArgument)
 
+-- why no task of a space starts at a method with these arguments, if none does
+abbrev pub start_fault : Links → Uuid → MethodId → List Value → Option StartFault
+start_fault links own id arguments =
+    option_map_or (λ (m : Declared). refusal links.classes own m.method arguments) (startable links id) (Some fault.AbsentMethod)
+
 -- what an argument puts into the heap: an array is passed by copy
 abbrev pub copy_of : Value → List Cell
 copy_of value.Null = []

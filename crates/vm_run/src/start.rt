@@ -5,14 +5,33 @@ ghost use Rattle.std.specs.List.{list_all};
 ghost use Rattle.cls_search.specs.MethodSearches.{is_interface};
 ghost use Rattle.ver_frames.specs.Method.{is_static};
 ghost use Rattle.vm_code.specs.Classes.{is_below_remote, is_remote};
-ghost use Rattle.vm_run.specs.Start.{is_remote_interface, is_int_element, is_remote_element, is_array_element, is_int_type, is_array_type, is_remote_type, crosses, takes_crossing, is_of_type, is_own_object, fill, refusal};
+ghost use Rattle.vm_run.specs.Start.{is_remote_interface, is_int_element, is_remote_element, is_array_element, is_int_type, is_array_type, is_remote_type, crosses, takes_crossing, is_of_type, is_own_object, fill, refusal, start_fault};
 
 use crate::fault::StartFault;
+use crate::found::find;
 use cls_link::{
-    ClassId, ClassSet, ElementType, FieldType, Flags, Method, MethodDescriptor, Shared,
+    ClassId, ClassSet, ElementType, FieldType, Flags, Linked, Method, MethodDescriptor, MethodId,
+    Shared,
 };
 use vm_code::is_subtype;
 use vm_heap::{Ref, Uuid, Value};
+
+/// Why no task of the space starts at the method of this number with these arguments: the lowest fault
+/// that fits.
+#[tactic(auto, using(crate::proofs::Refused::fault_found, crate::proofs::Refused::fault_absent))]
+pub fn refuses_start(
+    linked: &Linked,
+    own: &Uuid,
+    id: MethodId,
+    arguments: &[Value],
+) -> Option<StartFault>
+    ensures { result ≡ start_fault linked.now own.now id arguments.now }
+{
+    match find(linked, id) {
+        Some(found) => refuses(linked.set(), own, found.method, arguments),
+        None => Some(StartFault::AbsentMethod),
+    }
+}
 
 /// Why the method is not started with these arguments: the lowest fault that fits.
 pub fn refuses(
