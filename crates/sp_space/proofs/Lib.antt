@@ -1,0 +1,2 @@
+pub mod RowsAfter
+pub mod StandLemmas
