@@ -11,7 +11,7 @@ use Rattle.cls_order.specs.declared.fault.SetFault.TheVariants.{Broken, Memory}
 use Rattle.cls_order.specs.declared.fault.SetRule.{SetRule}
 use Rattle.cls_order.specs.declared.fault.SetRule.TheVariants as rules
 use Rattle.cls_set.specs.declared.rules.ClassRule.{ClassRule}
-use Rattle.cls_set.specs.declared.rules.ClassRule.TheVariants.{BadSuper, FinalSuper, RemoteField, RemoteMethod, Override, NotYet}
+use Rattle.cls_set.specs.declared.rules.ClassRule.TheVariants.{BadSuper, FinalSuper, RemoteField, RemoteMethod, Override}
 use Rattle.cls_set.specs.Faults.{IsFirstToBreak, IsKept, Keeps}
 use Rattle.cls_set.specs.Rules.{CanBeKept, CanCross, Clashes, Has, HasFieldNotKept, HasMethodNotCrossing, HasSuperclass, HasSuperinterface, IsBelowRemote, IsItOrAbove, IsSuperclass}
 use Rattle.cls_order.specs.declared.class.Class.{Class}
@@ -33,7 +33,6 @@ set_rule FinalSuper = rules.FinalSuper
 set_rule RemoteField = rules.RemoteField
 set_rule RemoteMethod = rules.RemoteMethod
 set_rule Override = rules.Override
-set_rule NotYet = rules.NotYet
 
 -- the direct superclass has one of the mask's flags
 abbrev pub ExtendsOneWith : List Origin → ClassFile → ℕ → Type 0

@@ -16,4 +16,3 @@ pub mod CommandRows
 pub mod Ended
 pub mod Only
 pub mod Named
-mod Plain
