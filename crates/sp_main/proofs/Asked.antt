@@ -3,7 +3,7 @@ use Rattle.std.proofs.Common.{◌≡◌, ℕ, List, [], Option, Some, Result, Ok
 use Rattle.std.specs.List.{AllZip}
 use Rattle.std.specs.Prelude.{unwrap_or}
 use Rattle.clap.specs.Walk.{Row, first_of}
-use Rattle.sp_main.specs.Arguments.{Spells}
+use Rattle.sp_arguments.specs.Arguments.{Spells}
 use Rattle.sp_main.specs.CommandLine.{AreRunWords, RunWords}
 use Rattle.sp_main.specs.Requests.{Found, IsAsked, IsCheckRequest, IsRefusing, IsRunRequest, check, run}
 use Rattle.sp_main.specs.declared.words.Request.{Request}

@@ -7,13 +7,13 @@ use Rattle.sp_main.specs.RefusalTexts.{TellsRefusal, TellsUnreadable}
 use Rattle.sp_main.specs.Replies.{Fails, IsReply, Replies, accepted, limits_of, mistaken, ran, refused, rejected, replied, told, unreadable, unwritten}
 use Rattle.sp_main.specs.Reports.{IsTold, LeavesOther, line_of}
 use Rattle.sp_main.specs.Requests.{IsRequest, run_words}
-use Rattle.sp_main.specs.Runs.{IsNoProgram, IsProgram, IsRefused, IsRun}
+use Rattle.sp_runs.specs.Runs.{IsNoProgram, IsProgram, IsRefused, IsRun}
 use Rattle.sp_main.specs.Statuses.{code_of, outcome_status, refusal_status}
 use Rattle.sp_main.specs.Texts.{accepted_text, outcome_text}
-use Rattle.sp_main.specs.declared.refusal.Refusal.{Refusal}
+use Rattle.sp_runs.specs.declared.refusal.Refusal.{Refusal}
 use Rattle.sp_main.specs.declared.report.Report.{Report}
-use Rattle.sp_main.specs.declared.running.ClassBytes.{ClassBytes}
-use Rattle.sp_main.specs.declared.running.RunOutcome.{RunOutcome}
+use Rattle.sp_runs.specs.declared.running.ClassBytes.{ClassBytes}
+use Rattle.sp_runs.specs.declared.running.RunOutcome.{RunOutcome}
 use Rattle.sp_main.specs.declared.status.Status.{Status}
 use Rattle.sp_main.specs.declared.status.Status.TheVariants.{Done, Failed}
 use Rattle.sp_main.specs.declared.words.Request.{Request}
