@@ -12,6 +12,7 @@ ghost use Rattle.sp_runs.specs.Only.{IsOutOfMemory, IsReadOut, OnlyGives};
 ghost use Rattle.sp_runs.specs.Runs.{AreSpelled, HasRemote, IsFileFault, IsNamed, IsNoProgram, IsNotRun, IsOfStart, IsProgram, IsRefused, IsRun, IsSpelled, IsUnread, NamesMethod, Runs, is_parenthesis};
 
 use crate::Refusal;
+use crate::in_space::{has_remote, run_in_space};
 use cf_load::LoadFault;
 use cf_reader::{ClassFile, Text, read_class};
 use cls_link::{Linked, MethodId, link};
@@ -53,7 +54,8 @@ pub enum RunOutcome {
 /// Runs the static method of this name and descriptor, as `f(I)I`, over the class set of the files,
 /// and returns how it ended. Method resolution finds it, so the class may inherit it (JVMS 5.4.3.3).
 /// The first refusal counts: files in order, then the set, links, checks, and the start. It may be out of
-/// memory instead of any answer. The limits' heap words are below 2^32 - 2^16.
+/// memory instead of any answer. The limits' heap words are below 2^32 - 2^16. In a set with remote classes
+/// the method is the only root of a space of id 0.
 pub fn run_classes(
     alloc: Global,
     files: &[ClassBytes],
@@ -81,6 +83,9 @@ pub fn run_classes(
     let Some(method) = found else {
         return Err(Refusal::Start(StartFault::AbsentMethod));
     };
+    if has_remote(&program) {
+        return run_in_space(alloc, &program, method, arguments, limits);
+    }
     run_method(alloc, &program, method, arguments, limits)
 }
 
