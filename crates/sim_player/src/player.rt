@@ -24,7 +24,7 @@ pub struct Player<S> {
     text: Vec<u8>,
 }
 
-impl<S: Played> Player<S> {
+impl<S: Played + Drop> Player<S> {
     /// Returns a script of which no command was played, over a space to which nothing has happened.
     pub fn new(alloc: Global, space: S) -> Player<S> {
         Player {

@@ -6,7 +6,7 @@ use std::alloc::Global;
 
 /// Plays a script over a space to which nothing has happened, and returns the lines that it shows. Its
 /// lines are parted by newlines. `ScriptFault::BadLine` for the first line that is bad.
-pub fn play_script<S: Played>(
+pub fn play_script<S: Played + Drop>(
     alloc: Global,
     space: S,
     script: &[u8],
@@ -26,7 +26,7 @@ pub fn play_script<S: Played>(
 }
 
 // Plays a line, which is bad if it is no text in UTF-8.
-fn play_line<S: Played>(
+fn play_line<S: Played + Drop>(
     alloc: Global,
     player: &mut Player<S>,
     line: &[u8],

@@ -59,7 +59,8 @@ impl Variables {
     // A root of this task has this variable.
     pub fn add(&mut self, name: &str, task: u64) -> Result<(), PlayFault> {
         let index = self.rows.len();
-        self.names.insert(String::from_str(self.alloc, name)?, index)?;
+        self.names
+            .insert(String::from_str(self.alloc, name)?, index)?;
         self.tasks.insert(task, index)?;
         self.rows.push(Variable {
             name: String::from_str(self.alloc, name)?,

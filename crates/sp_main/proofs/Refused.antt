@@ -2,7 +2,7 @@
 use Rattle.std.proofs.Common.{ℕ, List}
 use Rattle.std.proofs.lemmas.Option.{slice_get_within}
 use Rattle.sp_main.specs.RefusalTexts.{IsRefusalOf}
-use Rattle.sp_runs.specs.Runs.{IsNoProgram, IsRefused, IsUnread, absent, at_fault, no_memory, no_memory_to_read, no_program, no_set, not_linked, not_safe, not_started, unread}
+use Rattle.sp_runs.specs.Runs.{IsNoProgram, IsOfStart, IsRefused, IsUnread, absent, at_fault, no_memory, no_memory_to_read, no_program, no_set, not_linked, not_safe, not_started, unread}
 use Rattle.sp_runs.specs.declared.refusal.Refusal.{Refusal}
 use Rattle.sp_runs.specs.declared.refusal.Refusal.TheVariants as refusal
 use Rattle.sp_runs.specs.declared.running.ClassBytes.{ClassBytes}
@@ -25,3 +25,8 @@ refused_file files class text arguments limits r (no_program refused why) = no_p
 refused_file files class text arguments limits r (absent program is named) = tt
 refused_file files class text arguments limits r (not_started program method fault is named why) = tt
 refused_file files class text arguments limits r no_memory = tt
+
+pub start_file : (files : List ClassBytes) (r : Refusal) → IsOfStart r → IsRefusalOf files r
+start_file files (refusal.Start fault) is = tt
+start_file files refusal.Memory is = tt
+start_file files r is = absurd is

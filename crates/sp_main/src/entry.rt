@@ -13,7 +13,8 @@ use super::texts::{
 };
 use super::words::{Request, RunRequest, SimRequest, request_of};
 use super::{
-    ClassBytes, Content, Folder, FolderFault, Report, Status, check_classes, program_of, run_classes,
+    ClassBytes, Content, Folder, FolderFault, Report, Status, check_classes, program_of,
+    run_classes,
 };
 use cf_reader::MAX_LEN;
 use dev_io::{ReadError, StdSource, read_bytes};

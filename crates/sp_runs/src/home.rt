@@ -1,5 +1,7 @@
 //! A space with the program that its tasks run.
 
+ghost use Rattle.std.specs.Prelude.{◌+◌, ◌<◌, ◌^◌};
+
 use crate::running::find_named;
 use sim_player::{Played, Start};
 use sp_classes::SpaceClasses;
@@ -18,13 +20,16 @@ pub struct Home<'a> {
 }
 
 impl<'a> Home<'a> {
-    /// Returns the space of this id, to which nothing has happened. Its tasks keep within these limits.
+    /// Returns the space of this id, to which nothing has happened. Its tasks keep within these limits, of
+    /// which the heap words are below 2^32 - 2^16.
     pub fn new(
         alloc: Global,
         program: &'a Program,
         id: Uuid,
         limits: Limits,
-    ) -> Result<Home<'a>, AllocError> {
+    ) -> Result<Home<'a>, AllocError>
+        requires memory { limits.heap_words + 65536 < 2 ^ 32 }
+    {
         Ok(Home {
             alloc,
             program,

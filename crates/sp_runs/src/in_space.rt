@@ -89,7 +89,9 @@ fn refusal_of(fault: CoreFault) -> Refusal
         CoreFault::Start(sp_core::StartFault::BadSignature) => {
             Refusal::Start(StartFault::BadSignature)
         }
-        CoreFault::Start(sp_core::StartFault::BadArgument) => Refusal::Start(StartFault::BadArgument),
+        CoreFault::Start(sp_core::StartFault::BadArgument) => Refusal::Start(
+            StartFault::BadArgument,
+        ),
         _ => Refusal::Memory,
     }
 }
