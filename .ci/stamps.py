@@ -6,6 +6,7 @@ import hashlib
 import os
 import re
 
+import kit
 from edit_text import FOLDERS, public_text
 from kit import rt
 
@@ -58,8 +59,8 @@ def line_of(crate, root):
 
 def stamp(crate, root):
     """Returns a sum of all that a trial of the crate's edits reads: these tools, its own files and edits, its line of crates.txt, of the libraries
-    below the public text, the definitions and the proofs that it cites, and the kit; all without lines of comment."""
-    sum = hashlib.sha256(repr((rt.rtlib.text_of(f"{rt.KIT}/KIT-ID"), line_of(crate, root))).encode())
+    below the public text, the definitions and the proofs that it cites, and the kit's logic; all without lines of comment."""
+    sum = hashlib.sha256(repr((kit.logic(), line_of(crate, root))).encode())
     read = [f"{os.path.dirname(os.path.abspath(__file__))}/{it}" for it in TOOLS]
     read += [file for part in OWN for file in files_below(f"{crate.folder}/{part}")]
     read += [file for below in crate.below() for file in files_below(f"{below.folder}/specs")]

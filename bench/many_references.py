@@ -6,15 +6,15 @@ less that of a set of three, with the bytes of its files and the ratio to the si
 by halves among the members of a class, so the ratio is a little above 2: the status is 1 if one is above 2.3. It builds
 the program if that is older than its sources, and needs no network.
 
-With three words, a folder, a shape and how many, it writes such a set into the folder:
+With three words, a folder, a shape and a number N, it writes such a set into the folder:
 
-- members: an interface of so many abstract methods, and a class whose code names a third of them once each, the last
+- members: an interface of N abstract methods, and a class whose code names a third of them once each, the last
   ones first.
-- fields: the same of a class with so many fields.
+- fields: the same of a class with N fields.
 - one_name: as members, but all methods have one name of 65,535 bytes, and each has a descriptor of its own.
-- diamonds: a ladder of so many rungs of two interfaces, each of which extends both of the rung below, and a class T
+- diamonds: a ladder of N rungs of two interfaces, each of which extends both of the rung below, and a class T
   that implements the two of the top rung. None of them declares the method that is asked for.
-- news: a class with a name of 65,535 bytes, and classes whose methods name it in `new` so many times in all.
+- news: a class with a name of 65,535 bytes, and classes whose methods name it in `new` N times in all.
 """
 
 import os

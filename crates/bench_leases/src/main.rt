@@ -1,11 +1,12 @@
-//! What bench/leases measures. The first argument is a scenario of the client's leases or of the
-//! owner's reference lists, and the second its size; the third says how many events touch one
-//! reference, or how many moments come. Prints how many calls were answered. Without arguments it
+//! What bench/leases measures. The first argument is a scenario of the client's leases, of the
+//! owner's reference lists or of its names, and the second its size; the third says how many events
+//! touch one reference or one name, or how many moments come. Prints how many calls were answered. Without arguments it
 //! runs each scenario at a small size.
 #![tactic(auto)]
 
 use dgc_client::{Clients, ForeignId};
 use dgc_list::RefList;
+use sp_registry::{BindFault, Registry};
 use space_ids::ObjId;
 use std::alloc::{AllocError, Global};
 use std::process::ExitCode;
@@ -42,6 +43,8 @@ enum Scenario {
     Renewals,
     /// One client's leases of `size` objects end at one moment.
     Ends,
+    /// `size` names are bound, and each event unbinds, binds, rebinds and looks up one of them.
+    Names,
     /// Each of these.
     All,
 }
@@ -54,6 +57,7 @@ fn scenario_of(word: &str) -> Scenario {
         "clients" => Scenario::Clients,
         "renewals" => Scenario::Renewals,
         "ends" => Scenario::Ends,
+        "names" => Scenario::Names,
         _ => Scenario::All,
     }
 }
@@ -95,6 +99,7 @@ fn answers_of(alloc: Global, words: Words) -> Result<u64, AllocError> {
         Scenario::Clients => clients(alloc, words.size),
         Scenario::Renewals => renewals(alloc, words.size),
         Scenario::Ends => ends(alloc, words.size),
+        Scenario::Names => names(alloc, words.size, words.events),
         Scenario::All => all(alloc, words.size),
     }
 }
@@ -103,7 +108,9 @@ fn all(alloc: Global, size: u64) -> Result<u64, AllocError> {
     let leases = held(alloc, size)?
         .wrapping_add(touched(alloc, size, size)?)
         .wrapping_add(moments(alloc, size, size)?);
-    let lists = clients(alloc, size)?.wrapping_add(renewals(alloc, size)?);
+    let lists = clients(alloc, size)?
+        .wrapping_add(renewals(alloc, size)?)
+        .wrapping_add(names(alloc, size, size)?);
     Ok(leases.wrapping_add(lists).wrapping_add(ends(alloc, size)?))
 }
 
@@ -210,4 +217,37 @@ fn ends(alloc: Global, size: u64) -> Result<u64, AllocError> {
     }
     list.moment(600_000);
     Ok(size)
+}
+
+// Binds `size` names, and then unbinds and binds one of them again, rebinds it and looks it up.
+// Returns how often a name was found.
+fn names(alloc: Global, size: u64, events: u64) -> Result<u64, AllocError> {
+    let mut names = Registry::new(alloc)?;
+    for index in 0..size {
+        let name = format!(in alloc; "name.{index}")?;
+        changed(names.bind(name.as_bytes(), Some(ObjId(index))))?;
+    }
+    let mut found: u64 = 0;
+    for event in 0..events {
+        let name = format!(in alloc; "name.{}", event.wrapping_mul(7919) % size.max(1))?;
+        found = found.wrapping_add(touch(&mut names, name.as_bytes(), ObjId(event))?);
+    }
+    Ok(found)
+}
+
+// Unbinds a name, binds it, rebinds it and looks it up. Returns how often it was found.
+fn touch(names: &mut Registry, name: &[u8], object: ObjId) -> Result<u64, AllocError> {
+    let was_bound = names.unbind(name).is_ok();
+    changed(names.bind(name, Some(object)))?;
+    changed(names.rebind(name, Some(ObjId(1))))?;
+    let is_found = names.lookup(name).is_some() && names.count_of(ObjId(1)) > 0;
+    Ok(u64::from(was_bound).wrapping_add(u64::from(is_found)))
+}
+
+// A change that is denied is none; out of memory it is an error.
+fn changed(change: Result<(), BindFault>) -> Result<(), AllocError> {
+    match change {
+        Err(BindFault::Memory) => Err(AllocError),
+        _ => Ok(()),
+    }
 }

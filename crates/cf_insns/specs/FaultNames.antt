@@ -1,4 +1,4 @@
--- The number and the name of each rule, and the numbers of faults.
+-- The number and the name of each rule on code, and the numbers of faults. (This project's own.)
 use Rattle.std.specs.Prelude.{ℕ, List, codes}
 use Rattle.cf_insns.specs.declared.fault.CodeFault.TheVariants as code_fault
 use Rattle.cf_insns.specs.declared.fault.CodeFault.{CodeFault}

@@ -1,4 +1,4 @@
--- 'Instruction format' (JVMS 6.1, 6.5): of how many bytes an instruction is made, whatever their values say beyond that.
+-- 'Instruction format' (JVMS 6.4, 6.5): of how many bytes an instruction is made, whatever their values say beyond that.
 use Rattle.std.specs.Prelude.{◌≡◌, ◌≤◌, ◌+◌, ◌-◌, ◌*◌, ◌%◌, ◌||◌, ◌&&◌, nat_le, ◌==◌, if◌then◌else◌, ℕ, Bool, ℤ, pos, negsuc, ◌-ℤ◌, List, ◌∷◌, ◌++◌, length, Option, Some, None}
 use Rattle.cf_insns.specs.declared.opcode.TheConstants as op
 use Rattle.cf_insns.specs.Operands.{IsInt}

@@ -1,4 +1,4 @@
--- 'Multibyte data items are always stored in big-endian order, where the high bytes come first' (JVMS 4, 6.1): the numbers after an opcode,
+-- 'Multibyte data items are always stored in big-endian order, where the high bytes come first' (JVMS 4, 2.11): the numbers after an opcode,
 -- of one, two or four bytes. Signed ones are in two's complement.
 use Rattle.std.specs.Prelude.{ℕ, ℤ, List, [], ◌∷◌, ◌++◌, Result, Ok, Err}
 use Rattle.std.specs.Int.{w8, w16, w32, cast_signed}

@@ -1,5 +1,5 @@
 -- What is read of the bytes of code from the left, as the code of this crate reads them: instructions, or the first broken rule. Laws say
--- that this is the relation `IsListing`, and that a rule is broken at the offset that is named.
+-- that this is the relation `IsListing`, and that a rule is broken at the offset that is named. (This project's own; JVMS 4.9.1: `Listing`.)
 use Rattle.std.specs.Prelude.{◌≡◌, ◌++◌, ℕ, zero, suc, ◌+◌, List, [], ◌∷◌, Option, Some, None, Result, Ok, Err}
 use Rattle.cf_insns.specs.declared.fault.CodeRule.{CodeRule}
 use Rattle.cf_insns.specs.declared.fault.CodeRule.TheVariants.{Target}
@@ -26,7 +26,7 @@ listing_from zero offset (opcode ∷ bytes) =
     listed offset (instruction offset opcode bytes) (λ operands. listing_from operands (offset + 1) bytes)
 listing_from (suc skipped) offset (operand ∷ bytes) = listing_from skipped (offset + 1) bytes
 
--- what a listing is read as, by what is astray in it
+-- what a listing is read as: itself, or a fault at the first instruction whose branch goes astray
 abbrev pub if_none_astray : Listing → Option ℕ → Result Listing CodeFault
 if_none_astray listing None = Ok listing
 if_none_astray listing (Some offset) = Err (Broken Target offset)

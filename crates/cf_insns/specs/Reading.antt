@@ -1,5 +1,5 @@
 -- What is read of the bytes of one instruction from the left, as the code of this crate reads them, or the first rule that they break. Laws
--- say that this is the relation `Spells`, and that the rule is broken.
+-- say that this is the relation `Spells`, and that the rule is broken. (This project's own; JVMS 6.5: `Spelling`.)
 use Rattle.std.specs.Prelude.{ℕ, suc, ◌+◌, ◌-◌, ◌*◌, ℤ, pos, negsuc, ◌-ℤ◌, ◌&&◌, nat_le, nat_lt, ◌==◌, if◌then◌else◌, Bool, true, List, [], ◌∷◌, drop, length, Option, Some, None, Result, Ok, Err, ok_or, int_lt}
 use Rattle.cf_insns.specs.declared.fault.CodeRule.{CodeRule}
 use Rattle.cf_insns.specs.declared.fault.CodeRule.TheVariants.{Opcode, Cut, Padding, Keys, OutOfProfile}

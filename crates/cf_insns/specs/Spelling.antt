@@ -1,4 +1,4 @@
--- 'The format of an instruction: the mnemonic is the opcode, and its operands follow' (JVMS 6.1, 6.5): how instructions are spelled, a rule
+-- 'The format of an instruction: the mnemonic is the opcode, and its operands follow' (JVMS 6.4, 6.5): how instructions are spelled, a rule
 -- a form. Some have several spellings. The spelling of a switch depends on its offset, which decides the length of its padding.
 use Rattle.std.specs.Prelude.{◌≡◌, ℕ, ◌+◌, ◌≤◌, ℤ, pos, ◌-ℤ◌, ◌<ℤ◌, List, [], ◌∷◌, ◌++◌, length}
 use Rattle.cf_insns.specs.declared.insn.Insn.{Insn}

@@ -1,4 +1,4 @@
--- Why reading one instruction stops.
+-- Why reading one instruction stops: the rule that its reading names is broken, or memory ran out. (This project's own.)
 use Rattle.std.specs.Prelude.{◌≡◌, ℕ, Result, Err}
 use Rattle.cf_insns.specs.declared.fault.CodeFault.{CodeFault}
 use Rattle.cf_insns.specs.declared.fault.CodeFault.TheVariants as fault

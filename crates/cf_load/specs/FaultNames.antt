@@ -1,4 +1,4 @@
--- The number of each fault.
+-- The number of each fault of loading a class file. (This project's own.)
 use Rattle.std.specs.Prelude.{ℕ}
 use Rattle.cf_load.specs.declared.load_fault.LoadFault.TheVariants as load_fault
 use Rattle.cf_load.specs.declared.load_fault.LoadFault.{LoadFault}

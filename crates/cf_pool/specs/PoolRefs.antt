@@ -1,4 +1,4 @@
--- What the look-ups of a pool lend, apart from its address in memory.
+-- What the look-ups of a pool lend of a NameAndType and of a member, apart from where it lies in memory. (This project's own.)
 use Rattle.cf_pool.specs.declared.pool.NameAndTypeRef.{NameAndTypeRef}
 use Rattle.cf_pool.specs.declared.pool.MemberRef.{MemberRef}
 use Rattle.cf_pool.specs.Pools.{NamedMember, NamedType}

@@ -1,4 +1,4 @@
--- The class file that a layout says, once its demands hold.
+-- The class file that a layout says, once its demands hold, as the code builds it; `Says` states what it is. (This project's own.)
 use Rattle.std.specs.Prelude.{ℕ, ℤ, List, [], ◌∷◌, Option, Some, None, Result, Ok, Err, codes, if◌then◌else◌}
 use Rattle.cf_text.specs.declared.fault.ReadFault.{ReadFault}
 use Rattle.cf_text.specs.declared.fault.ReadFault.TheVariants.{Broken}

@@ -1,4 +1,5 @@
--- The class file that a layout says, part by part.
+-- The class file that a layout says, part by part: its names and flags, its fields with their constants, and its methods with their code
+-- (JVMS 4.1, 4.3, 4.5, 4.6, 4.7.2 to 4.7.4).
 use Rattle.std.specs.Prelude.{◌≡◌, ℕ, ℤ, List, [], ◌∷◌, Option, Some, None, codes}
 use Rattle.cf_pool.specs.declared.pool.Entry.{Entry}
 use Rattle.cf_text.specs.Descriptors.{IsFieldType, IsMethodType}

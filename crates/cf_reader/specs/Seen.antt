@@ -1,4 +1,4 @@
--- The table of the members that stood before, against the members.
+-- The table by which a second member of one name and descriptor is found: it has those of the members before. (This project's own.)
 use Rattle.std.specs.Prelude.{◌≡◌, ℕ, Bool, ◌&&◌, List, Some}
 use Rattle.std.specs.List.{list_any}
 use Rattle.std.specs.declared.cmp.Ordering.{Ordering}

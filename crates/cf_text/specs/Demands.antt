@@ -1,4 +1,4 @@
--- What is demanded of a file whose layout is known, in order.
+-- What is demanded of a file whose layout is known, in order: the first demand that does not hold is the fault. (This project's own.)
 use Rattle.std.specs.Prelude.{ℕ, ◌+◌, Bool, true, false, List, [], ◌∷◌, ◌++◌, Option, Some, None, Result, Ok, Err, if◌then◌else◌}
 use Rattle.cf_text.specs.declared.fault.Rule.{Rule}
 use Rattle.cf_text.specs.declared.fault.ReadFault.{ReadFault}

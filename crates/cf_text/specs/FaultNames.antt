@@ -1,4 +1,4 @@
--- The name of each rule, and the numbers of faults.
+-- The name of each rule on class files, and the numbers of faults. (This project's own.)
 use Rattle.std.specs.Prelude.{ℕ, List, codes}
 use Rattle.cf_text.specs.Order.{number_of}
 use Rattle.cf_text.specs.declared.fault.ReadFault.TheVariants as read_fault

@@ -1,5 +1,5 @@
 -- Formats: what bytes spell between two positions, and how they fail to, as relations by cases. A format is apart from
--- reading: it says what stands, and not how it is looked for.
+-- reading: it says what stands, and not how it is looked for. (This project's own; that numbers are big-endian is JVMS 4.)
 use Rattle.std.specs.Prelude.{◌≡◌, ◌≤◌, ◌<◌, ◌+◌, ℕ, zero, suc, Bool, true, false, ◌⊎◌, List, [], ◌∷◌, length, take, drop, Result, Ok, Err}
 use Rattle.byteorder.specs.Endian.{big_number}
 use Rattle.cf_text.specs.declared.fault.Rule.{Rule}

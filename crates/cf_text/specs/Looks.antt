@@ -1,4 +1,5 @@
 -- Looks: what is found, or how nothing is, as relations by cases. A look is a format without the position at which it ends.
+-- (This project's own.)
 use Rattle.std.specs.Prelude.{◌≡◌, ℕ, Bool, true, false, ◌⊎◌, List, Option, Some, None, Result, Ok, Err}
 use Rattle.cf_text.specs.declared.fault.Rule.{Rule}
 use Rattle.cf_text.specs.declared.fault.ReadFault.{ReadFault}

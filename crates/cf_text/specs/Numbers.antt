@@ -1,4 +1,4 @@
--- Numbers and runs of bytes from a position on.
+-- Numbers and runs of bytes from a position on, as they are read: 'multibyte data items are always stored in big-endian order' (JVMS 4).
 use Rattle.std.specs.Prelude.{◌+◌, ℕ, List, length, take, drop, Result, Ok, Err, nat_le, if◌then◌else◌}
 use Rattle.std.specs.Prelude.{ℤ}
 use Rattle.std.specs.Int.{w32, cast_signed}

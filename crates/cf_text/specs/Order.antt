@@ -1,4 +1,4 @@
--- The order of demands: by position, and at one position by the rules' numbers.
+-- The order of demands: by position, and at one position by the rules' numbers. (This project's own.)
 use Rattle.std.specs.Prelude.{◌≡◌, ◌<◌, ◌≤◌, ◌⊎◌, ℕ, List, [], ◌∷◌}
 use Rattle.std.specs.List.{AllByRecursion}
 use Rattle.cf_text.specs.declared.fault.Rule.{Rule}

@@ -1,4 +1,4 @@
--- Reading, step by step: the value that is read, or the first fault.
+-- Reading, step by step: the value that is read, or the first fault. (This project's own.)
 use Rattle.std.specs.Prelude.{◌≡◌, ℕ, zero, suc, List, [], ◌∷◌, Result, Ok, Err}
 use Rattle.cf_text.specs.declared.fault.ReadFault.{ReadFault}
 use Rattle.cf_text.specs.declared.fault.ReadFault.TheVariants.{Broken, Memory}

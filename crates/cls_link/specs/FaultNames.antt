@@ -1,4 +1,4 @@
--- The numbers of faults.
+-- The numbers of the faults of linking. (This project's own.)
 use Rattle.std.specs.Prelude.{ℕ}
 use Rattle.cls_resolve.specs.RuleNames.{link_rule_number}
 use Rattle.cls_link.specs.declared.fault.LinkFault.TheVariants as link_fault

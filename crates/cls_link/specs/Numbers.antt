@@ -1,4 +1,4 @@
--- How the number of a method is found.
+-- How the number of a method is found: it comes after those of the classes before its own. (This project's own.)
 use Rattle.std.specs.Prelude.{ℕ, ◌+◌, List, [], ◌∷◌, length, take}
 use Rattle.cls_set.specs.declared.class.Class.{Class}
 use Rattle.cls_link.specs.declared.linked_code.MethodId.{MethodId}

@@ -1,4 +1,4 @@
--- How a set is built.
+-- How a set is built: its entries while they are sorted and resolved, and the fault that each step names. (This project's own.)
 use Rattle.std.specs.Prelude.{◌≡◌, ◌⊎◌, ℕ, suc, None, Contains, List, [], ◌∷◌, map}
 use Rattle.std.specs.List.{Any}
 use Rattle.std.specs.List.Sorted.{IsSortedBy}
@@ -60,7 +60,7 @@ IsClassFault names file (Broken AbsentClass n) = (n ≡ file.name) × HasAbsent 
 IsClassFault names file (Broken rule n) = ⊥
 IsClassFault names file Memory = Unit {0}
 
--- the first of the classes by name that has, unless memory ran out
+-- the first class by name that mentions an absent class, unless memory ran out
 abbrev pub IsAbsentFault : List (List ℕ) → List Origin → SetFault → Type 0
 IsAbsentFault names classes (Broken AbsentClass n) = IsFirstAbsent names classes n
 IsAbsentFault names classes (Broken rule n) = ⊥
@@ -76,13 +76,13 @@ IsCycleFault classes Memory = Unit {0}
 abbrev pub NamesAbsent : List (List ℕ) → FieldType → Type 0
 NamesAbsent names type = (name : List ℕ) × TypeNames type name × (Contains names name → ⊥)
 
--- a method descriptor does
+-- a method descriptor names a class of none of these names
 pub record DescriptorNamesAbsent (names : List (List ℕ)) (types : MethodDescriptor) : Type 0 where
   pub name : List ℕ
   pub named : DescriptorNames types name
   pub absent : Contains names name → ⊥
 
--- the descriptor of a member does
+-- the descriptor of a field or of a method names a class of none of these names
 abbrev pub MembersNameAbsent : List (List ℕ) → ClassFile → Type 0
 MembersNameAbsent names file =
     Any (λ (field : Field). NamesAbsent names field.kind) file.fields ⊎ Any (λ (method : Method). DescriptorNamesAbsent names method.types) file.methods

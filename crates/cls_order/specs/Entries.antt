@@ -1,4 +1,4 @@
--- How a set keeps its classes: in the order of their names, with ranks and tables of supertypes.
+-- How a set keeps its classes: in the order of their names, with ranks and tables of supertypes. (This project's own.)
 use Rattle.std.specs.Prelude.{◌≡◌, ◌<◌, ◌↔◌, ℕ, Bool, false, Option, Some, None, List, [], All, IsSomeAnd, IsTrue, length, map, slice_get, slice_index_or}
 use Rattle.std.specs.List.Sorted.{IsStrictlySortedBy}
 use Rattle.cls_order.specs.declared.class.Class.{Class}
@@ -48,7 +48,7 @@ pub record AreEntries (entries : List Entry) (told : List (List Bool)) : Type 0 
   pub ranked : All (IsRanked entries) entries
   pub tables : HaveTables (classes_of entries) told
 
--- what ranking classes comes to
+-- what ranking classes comes to: the first class that is its own supertype, or ranks for all
 abbrev pub AreRanks : List Class → List Entry → Option ℕ → Type 0
 AreRanks classes entries (Some k) = IsFirstOwn classes k
 AreRanks classes entries None = All (IsRanked entries) entries

@@ -1,4 +1,4 @@
--- The number and the name of each rule, and the numbers of faults.
+-- The number and the name of each rule on class sets, and the numbers of faults. (This project's own.)
 use Rattle.std.specs.Prelude.{ℕ, List, codes}
 use Rattle.cls_order.specs.declared.fault.SetFault.TheVariants as set_fault
 use Rattle.cls_order.specs.declared.fault.SetFault.{SetFault}
@@ -16,7 +16,6 @@ set_rule_number set_rule.RemoteField = 35
 set_rule_number set_rule.RemoteMethod = 36
 set_rule_number set_rule.Override = 37
 set_rule_number set_rule.TooMany = 38
-set_rule_number set_rule.NotYet = 39
 
 -- the name of a rule
 abbrev pub set_rule_name : SetRule → List ℕ
@@ -29,7 +28,6 @@ set_rule_name set_rule.RemoteField = codes "RemoteField"
 set_rule_name set_rule.RemoteMethod = codes "RemoteMethod"
 set_rule_name set_rule.Override = codes "Override"
 set_rule_name set_rule.TooMany = codes "TooMany"
-set_rule_name set_rule.NotYet = codes "NotYet"
 
 -- the number of a fault
 abbrev pub set_fault_number : SetFault → ℕ

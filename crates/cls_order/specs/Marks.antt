@@ -1,4 +1,4 @@
--- Which classes are marked, or below one that is.
+-- Which classes are marked, or below one that is. (This project's own.)
 use Rattle.std.specs.Prelude.{◌<◌, ◌⊎◌, ℕ, Bool, false, Option, Some, None, List, All, Contains, IsTrue, length, slice_get, slice_index_or}
 use Rattle.std.specs.List.Sorted.{IsSortedBy}
 use Rattle.std.specs.Ordering.{is_lt, nat_cmp}

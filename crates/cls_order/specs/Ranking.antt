@@ -1,4 +1,4 @@
--- How far a pass is that ranks classes.
+-- How far a pass has come that ranks each class above its direct supertypes. (This project's own.)
 use Rattle.std.specs.Prelude.{◌≡◌, ◌<◌, ℕ, List, Some, All, length, slice_get, slice_index_or}
 use Rattle.space_ids.specs.declared.ids.ClassId.{ClassId}
 use Rattle.cls_order.specs.declared.entries.Entry.{Entry}
@@ -7,7 +7,7 @@ use Rattle.cls_order.specs.Entries.{classes_of}
 use Rattle.cls_order.specs.Marks.{rank_at, IsMarked}
 use Rattle.cls_order.specs.Walks.{ups_at}
 
--- the classes that have ranks have them below this one, each above its direct supertypes, which have theirs
+-- each class that has a rank has one below this one, and above those of its direct supertypes, which have theirs
 pub record IsPass (entries : List Entry) (rank : ℕ) (pass : Pass) : Type 0 where
   pub met : length pass.met.items ≡ length entries
   pub ranked : length pass.ranked.items ≡ length entries

@@ -1,4 +1,5 @@
--- ---- direct supertypes
+-- The direct superclass and the direct superinterfaces of a class (JVMS 4.1), the subclasses and the subtypes to which they lead
+-- (JVMS 4.10.1.2; 6.5: checkcast), and remote classes (Java RMI specification, 2.4).
 use Rattle.std.specs.Prelude.{◌≡◌, ◌⊎◌, Some, List, Contains, IsSomeAnd, slice_get, codes}
 use Rattle.cls_order.specs.declared.class.Class.{Class}
 use Rattle.space_ids.specs.declared.ids.ClassId.{ClassId}

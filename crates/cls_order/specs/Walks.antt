@@ -1,4 +1,4 @@
--- ---- what a walk has met
+-- What a walk from a class up through its supertypes has met, and in which order. (This project's own.)
 use Rattle.std.specs.Prelude.{◌≡◌, ◌<◌, ◌↔◌, ℕ, Bool, true, false, Option, Some, None, List, [], ◌∷◌, ◌++◌, All, IsTrue, set, length, count_by, cond, slice_get, slice_index_or, option_to_list}
 use Rattle.cls_order.specs.declared.class.Class.{Class}
 use Rattle.space_ids.specs.declared.ids.ClassId.{ClassId}
@@ -7,7 +7,7 @@ use Rattle.cls_order.specs.Subtypes.{IsProperSubtype}
 
 -- ---- what a walk has met
 
--- the classes that a walk has met: whether it has, by number, and in the order in which it has
+-- the classes that a walk has met: whether it has met each, by number, and all that it has, in their order
 abbrev pub Met : Type 0
 Met = List Bool × List ClassId
 
@@ -18,7 +18,7 @@ met_by walk = (walk.met.items, walk.order.items)
 abbrev pub WasMet : Met → ClassId → Type 0
 WasMet met class = IsTrue (slice_index_or met.0 class.0 false)
 
--- a class more
+-- one more class is met
 abbrev pub meet_one : Met → ClassId → Met
 meet_one met class = cond (slice_index_or met.0 class.0 false) met (set met.0 class.0 true, met.1 ++ class ∷ [])
 
@@ -51,7 +51,7 @@ pub record IsWalked (classes : List Class) (from : ClassId) (walk : Walk) : Type
 abbrev pub IsOwn : List Class → ℕ → Type 0
 IsOwn classes k = IsProperSubtype classes (record { 0 = k }) (record { 0 = k })
 
--- it is, and none before it is
+-- a class is its own supertype, and none before it is
 pub record IsFirstOwn (classes : List Class) (k : ℕ) : Type 0 where
   pub within : k < length classes
   pub own : IsOwn classes k

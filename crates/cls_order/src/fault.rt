@@ -32,8 +32,6 @@ pub enum SetRule {
     Override = 37,
     /// The set has more classes than this project's profile takes.
     TooMany = 38,
-    /// The class is remote: it, and no interface, is below java/rmi/Remote. Such classes come later.
-    NotYet = 39,
 }
 
 impl fmt::Display for SetRule {
@@ -50,7 +48,6 @@ impl fmt::Display for SetRule {
             SetRule::RemoteMethod => "RemoteMethod",
             SetRule::Override => "Override",
             SetRule::TooMany => "TooMany",
-            SetRule::NotYet => "NotYet",
         })
     }
 }

@@ -10,9 +10,9 @@ use super::drafts::{Draft, Index};
 use super::entries::Entry;
 use std::alloc::{AllocError, Global};
 
-// How far the pass is: which classes it has come to, which have their rank, and how many of its direct
-// supertypes each class has behind it, by index; and the classes in whose supertypes it is, each a direct
-// supertype of the one before it.
+// How far the pass is: which classes it has come to, which have their rank, and of each class how many
+// of its direct supertypes it has gone through, by index; and the classes in whose supertypes it is, each
+// a direct supertype of the one before it.
 #[derive(Drop)]
 pub(crate) struct Pass {
     pub(crate) met: Vec<bool>,

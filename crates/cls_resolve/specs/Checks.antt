@@ -1,4 +1,4 @@
--- How the rules on members are looked for.
+-- How the rules on members are looked for, a check for each; `LinkRules` states them. (This project's own.)
 use Rattle.std.specs.Prelude.{◌≡◌, ◌≢◌, ◌⊎◌, ℕ, true, false, Option, Some, None, Result, Ok, Err, List, [], ◌∷◌, IsTrue}
 use Rattle.cf_pool.specs.declared.pool.MemberKind.{MemberKind}
 use Rattle.cf_pool.specs.declared.pool.MemberKind.TheVariants as kind

@@ -1,4 +1,4 @@
--- The number and the name of each rule.
+-- The number and the name of each rule on what instructions name. (This project's own.)
 use Rattle.std.specs.Prelude.{ℕ, List, codes}
 use Rattle.cf_insns.specs.FaultNames.{code_rule_number, code_rule_name}
 use Rattle.cls_resolve.specs.declared.rule.LinkRule.TheVariants as link_rule

@@ -12,14 +12,14 @@ use Rattle.cls_order.specs.declared.fault.SetFault.TheVariants.{Broken, Memory}
 use Rattle.cls_order.specs.declared.fault.SetRule.{SetRule}
 use Rattle.cls_order.specs.declared.fault.SetRule.TheVariants as rules
 use Rattle.cls_set.specs.declared.rules.ClassRule.{ClassRule}
-use Rattle.cls_set.specs.declared.rules.ClassRule.TheVariants.{BadSuper, FinalSuper, RemoteField, RemoteMethod, Override, NotYet}
+use Rattle.cls_set.specs.declared.rules.ClassRule.TheVariants.{BadSuper, FinalSuper, RemoteField, RemoteMethod, Override}
 use Rattle.cls_order.specs.Building.{origins_of, IsFaultOf}
 use Rattle.cls_set.specs.ClassRules.{set_rule, AreOf, IsFirstRuleFault, IsRuleFault, KeepBelow}
 use Rattle.cls_set.specs.Faults.{IsFirstToBreak, IsKept, IsSetFault, Keeps, MakeASet}
 use Rattle.cls_order.specs.Entries.{classes_of, AreEntries, HaveTables}
 use Rattle.cls_order.specs.FaultNames.{set_rule_number}
 use Rattle.cls_order.specs.Sets.{Origin, origin, origins, HasClasses}
-use Rattle.cls_set.proofs.Broken.{all_before, below_object, extended, first_held, implemented, kept_held, last_before, rooted}
+use Rattle.cls_set.proofs.Broken.{all_before, below_object, extended, first_held, implemented, kept_held, rooted}
 use Rattle.cls_order.proofs.Origins.{origins_of_classes}
 use Rattle.cls_set.proofs.Built.{built_in_stands, length_origins}
 use Rattle.cls_order.proofs.Heights.{long_classes}
@@ -51,7 +51,6 @@ module _ (files : List ClassFile) (entries : List Entry) (of : AreOf files entri
   kept_at rules.RemoteField n l few f = kept rules.RemoteField (f RemoteField l)
   kept_at rules.RemoteMethod n l few f = kept rules.RemoteMethod (f RemoteMethod l)
   kept_at rules.Override n l few f = kept rules.Override (f Override l)
-  kept_at rules.NotYet n l few f = kept rules.NotYet (f NotYet l)
 
   rule_broken : (rule : ClassRule) (name : List ℕ) → IsFirstToBreak (origins_of entries) (set_rule rule) name
       → (set_rule_number rules.TooMany < set_rule_number (set_rule rule) → IsKept files rules.TooMany) → KeepBelow (origins_of entries) (set_rule_number (set_rule rule)) → IsSetFault files (Broken (set_rule rule) name)
@@ -60,7 +59,6 @@ module _ (files : List ClassFile) (entries : List Entry) (of : AreOf files entri
   rule_broken RemoteField name first few before = (broken rules.RemoteField name first, λ other l. kept_at other (set_rule_number rules.RemoteField) l few before)
   rule_broken RemoteMethod name first few before = (broken rules.RemoteMethod name first, λ other l. kept_at other (set_rule_number rules.RemoteMethod) l few before)
   rule_broken Override name first few before = (broken rules.Override name first, λ other l. kept_at other (set_rule_number rules.Override) l few before)
-  rule_broken NotYet name first few before = (broken rules.NotYet name first, λ other l. kept_at other (set_rule_number rules.NotYet) l few before)
 
   pub rule_fault : (fault : SetFault) → IsFirstRuleFault (origins_of entries) fault → IsSetFault files fault
   rule_fault Memory h = tt
@@ -98,13 +96,8 @@ module _ (files : List ClassFile) (entries : List Entry) (of : AreOf files entri
   few_origins : length entries ≤ 4096 → IsKept files rules.TooMany
   few_origins few = let whole = all_long in omega (arith, whole, few)
 
-  pub remote_fault : KeepBelow (origins_of entries) (set_rule_number rules.TooMany) → length entries ≤ 4096 → (fault : SetFault) → IsRuleFault (origins_of entries) rules.NotYet fault → IsSetFault files fault
-  remote_fault before few Memory h = tt
-  remote_fault before few (Broken r name) h =
-      subst (λ r. IsSetFault files (Broken r name)) (sym h.0) (rule_broken NotYet name h.1 (λ _. few_origins few) (last_before (origins_of entries) before))
-
-  pub make_a_set : KeepBelow (origins_of entries) (set_rule_number rules.TooMany) → length entries ≤ 4096 → Keeps (origins_of entries) rules.NotYet → MakeASet files
-  make_a_set before few last rule = kept_at rule (suc (set_rule_number rule)) (omega arith) (λ _. few_origins few) (λ c l. all_before (origins_of entries) before last c)
+  pub make_a_set : KeepBelow (origins_of entries) (set_rule_number rules.TooMany) → length entries ≤ 4096 → MakeASet files
+  make_a_set before few rule = kept_at rule (suc (set_rule_number rule)) (omega arith) (λ _. few_origins few) (λ c l. all_before (origins_of entries) before c)
 
   pub has_classes : HasClasses files (classes_of entries)
   has_classes = subst (IsPermutation (origins files)) (sym (origins_of_classes entries)) of.held

@@ -13,7 +13,7 @@ use Rattle.cls_order.specs.declared.entries.Entry.{Entry}
 use Rattle.cls_order.specs.declared.fault.SetFault.{SetFault}
 use Rattle.cls_order.specs.declared.fault.SetFault.TheVariants.{Broken, Memory}
 use Rattle.cls_order.specs.declared.fault.SetRule.{SetRule}
-use Rattle.cls_order.specs.declared.fault.SetRule.TheVariants.{BadSuper, FinalSuper, RemoteField, RemoteMethod, Override, TooMany, NotYet}
+use Rattle.cls_order.specs.declared.fault.SetRule.TheVariants.{BadSuper, FinalSuper, RemoteField, RemoteMethod, Override, TooMany}
 use Rattle.cls_set.specs.declared.rules.ClassRule.{ClassRule}
 use Rattle.cls_set.specs.declared.rules.ClassRule.TheVariants as class_rules
 use Rattle.cf_reader.specs.declared.flags.TheConstants.Flags.{FINAL, INTERFACE}
@@ -138,7 +138,6 @@ more_broken xs ys also back file rule (rules.Breaks.remote_method upper r above 
     rules.Breaks.remote_method upper (r.0, below_more xs ys also file.name r.1) (it_or_above_more xs ys also file upper above)
     (record { of_interface = h.of_interface; method = h.method; declared = h.declared; type = h.type; used = h.used; not_crossing = λ k. h.not_crossing (crosses_more ys xs back h.type k) })
 more_broken xs ys also back file rule (rules.Breaks.override o) = rules.Breaks.override (overrides_more xs ys also file o)
-more_broken xs ys also back file rule (rules.Breaks.remote n h) = rules.Breaks.remote n (below_more xs ys also file.name h)
 
 module _ (xs ys : List Origin) (forth : (o : Origin) → Contains xs o → Contains ys o) (back : (o : Origin) → Contains ys o → Contains xs o) (rule : SetRule) where
   pub first_held : (name : List ℕ) → IsFirstToBreak xs rule name → IsFirstToBreak ys rule name
@@ -220,7 +219,6 @@ IsWay classes file FinalSuper = ExtendsOneWith classes file FINAL
 IsWay classes file RemoteField = (upper : ClassFile) × IsRemoteClass classes file × IsItOrAbove classes file upper × HasFieldNotKept classes upper
 IsWay classes file RemoteMethod = (upper : ClassFile) × IsRemoteInterface classes file × IsItOrAbove classes file upper × HasMethodNotCrossing classes upper
 IsWay classes file Override = OverridesBadly classes file
-IsWay classes file NotYet = (¬ Has file.flags.bits INTERFACE) × IsBelowRemote classes file.name
 IsWay classes file _ = ⊥
 
 pub way : (classes : List Origin) (file : ClassFile) (rule : SetRule) → Breaks classes file rule → IsWay classes file rule
@@ -232,7 +230,6 @@ way classes file rule (rules.Breaks.final_extended sup h i) = (sup, h, i)
 way classes file rule (rules.Breaks.remote_field upper r above h) = (upper, r, above, h)
 way classes file rule (rules.Breaks.remote_method upper r above h) = (upper, r, above, h)
 way classes file rule (rules.Breaks.override o) = o
-way classes file rule (rules.Breaks.remote n h) = (n, h)
 
 pub rooted_badly : (classes : List Origin) (file : ClassFile) → IsBadlyRooted file → Breaks classes file BadSuper
 rooted_badly classes file (inl h) = rules.Breaks.second_root h.0 h.1
@@ -255,7 +252,6 @@ none_before classes class_rules.FinalSuper l = absurd (omega (arith, l))
 none_before classes class_rules.RemoteField l = absurd (omega (arith, l))
 none_before classes class_rules.RemoteMethod l = absurd (omega (arith, l))
 none_before classes class_rules.Override l = absurd (omega (arith, l))
-none_before classes class_rules.NotYet l = absurd (omega (arith, l))
 
 pub one_before : (classes : List Origin) → Keeps classes BadSuper → KeepBelow classes (set_rule_number FinalSuper)
 one_before classes a class_rules.BadSuper l = a
@@ -263,7 +259,6 @@ one_before classes a class_rules.FinalSuper l = absurd (omega (arith, l))
 one_before classes a class_rules.RemoteField l = absurd (omega (arith, l))
 one_before classes a class_rules.RemoteMethod l = absurd (omega (arith, l))
 one_before classes a class_rules.Override l = absurd (omega (arith, l))
-one_before classes a class_rules.NotYet l = absurd (omega (arith, l))
 
 pub two_before : (classes : List Origin) → Keeps classes BadSuper → Keeps classes FinalSuper → KeepBelow classes (set_rule_number RemoteField)
 two_before classes a b class_rules.BadSuper l = a
@@ -271,7 +266,6 @@ two_before classes a b class_rules.FinalSuper l = b
 two_before classes a b class_rules.RemoteField l = absurd (omega (arith, l))
 two_before classes a b class_rules.RemoteMethod l = absurd (omega (arith, l))
 two_before classes a b class_rules.Override l = absurd (omega (arith, l))
-two_before classes a b class_rules.NotYet l = absurd (omega (arith, l))
 
 pub three_before : (classes : List Origin) → Keeps classes BadSuper → Keeps classes FinalSuper → Keeps classes RemoteField → KeepBelow classes (set_rule_number RemoteMethod)
 three_before classes a b c class_rules.BadSuper l = a
@@ -279,7 +273,6 @@ three_before classes a b c class_rules.FinalSuper l = b
 three_before classes a b c class_rules.RemoteField l = c
 three_before classes a b c class_rules.RemoteMethod l = absurd (omega (arith, l))
 three_before classes a b c class_rules.Override l = absurd (omega (arith, l))
-three_before classes a b c class_rules.NotYet l = absurd (omega (arith, l))
 
 pub four_before : (classes : List Origin) → Keeps classes BadSuper → Keeps classes FinalSuper → Keeps classes RemoteField → Keeps classes RemoteMethod → KeepBelow classes (set_rule_number Override)
 four_before classes a b c d class_rules.BadSuper l = a
@@ -287,7 +280,6 @@ four_before classes a b c d class_rules.FinalSuper l = b
 four_before classes a b c d class_rules.RemoteField l = c
 four_before classes a b c d class_rules.RemoteMethod l = d
 four_before classes a b c d class_rules.Override l = absurd (omega (arith, l))
-four_before classes a b c d class_rules.NotYet l = absurd (omega (arith, l))
 
 pub five_before : (classes : List Origin) → Keeps classes BadSuper → Keeps classes FinalSuper → Keeps classes RemoteField → Keeps classes RemoteMethod → Keeps classes Override → KeepBelow classes (set_rule_number TooMany)
 five_before classes a b c d e class_rules.BadSuper l = a
@@ -295,32 +287,16 @@ five_before classes a b c d e class_rules.FinalSuper l = b
 five_before classes a b c d e class_rules.RemoteField l = c
 five_before classes a b c d e class_rules.RemoteMethod l = d
 five_before classes a b c d e class_rules.Override l = e
-five_before classes a b c d e class_rules.NotYet l = absurd (omega (arith, l))
 
-pub all_before : (classes : List Origin) → KeepBelow classes (set_rule_number TooMany) → Keeps classes NotYet → (rule : ClassRule) → Keeps classes (set_rule rule)
-all_before classes before last class_rules.BadSuper = before class_rules.BadSuper (omega arith)
-all_before classes before last class_rules.FinalSuper = before class_rules.FinalSuper (omega arith)
-all_before classes before last class_rules.RemoteField = before class_rules.RemoteField (omega arith)
-all_before classes before last class_rules.RemoteMethod = before class_rules.RemoteMethod (omega arith)
-all_before classes before last class_rules.Override = before class_rules.Override (omega arith)
-all_before classes before last class_rules.NotYet = last
-
-pub last_before : (classes : List Origin) → KeepBelow classes (set_rule_number TooMany) → KeepBelow classes (set_rule_number NotYet)
-last_before classes before class_rules.BadSuper l = before class_rules.BadSuper (omega arith)
-last_before classes before class_rules.FinalSuper l = before class_rules.FinalSuper (omega arith)
-last_before classes before class_rules.RemoteField l = before class_rules.RemoteField (omega arith)
-last_before classes before class_rules.RemoteMethod l = before class_rules.RemoteMethod (omega arith)
-last_before classes before class_rules.Override l = before class_rules.Override (omega arith)
-last_before classes before class_rules.NotYet l = absurd (omega (arith, l))
+pub all_before : (classes : List Origin) → KeepBelow classes (set_rule_number TooMany) → (rule : ClassRule) → Keeps classes (set_rule rule)
+all_before classes before class_rules.BadSuper = before class_rules.BadSuper (omega arith)
+all_before classes before class_rules.FinalSuper = before class_rules.FinalSuper (omega arith)
+all_before classes before class_rules.RemoteField = before class_rules.RemoteField (omega arith)
+all_before classes before class_rules.RemoteMethod = before class_rules.RemoteMethod (omega arith)
+all_before classes before class_rules.Override = before class_rules.Override (omega arith)
 
 pub final_way : (classes : List Origin) (file : ClassFile) (r : Bool) → IsTrue r ↔ ExtendsOneWith classes file FINAL → IsTrue r ↔ Breaks classes file FinalSuper
 final_way classes file r h = (λ e. let x = h.0 e in rules.Breaks.final_extended x.0 x.1 x.2, λ b. h.1 (way classes file FinalSuper b))
 
 pub override_way : (classes : List Origin) (file : ClassFile) (r : Bool) → IsTrue r ↔ OverridesBadly classes file → IsTrue r ↔ Breaks classes file Override
 override_way classes file r h = (λ e. rules.Breaks.override (h.0 e), λ b. h.1 (way classes file Override b))
-
-pub remote_way : (classes : List Origin) (file : ClassFile) (r : Bool) → (¬ Has file.flags.bits INTERFACE) → IsTrue r ↔ IsBelowRemote classes file.name → IsTrue r ↔ Breaks classes file NotYet
-remote_way classes file r none h = (λ e. rules.Breaks.remote none (h.0 e), λ b. h.1 (way classes file NotYet b).1)
-
-pub not_remote : (classes : List Origin) (file : ClassFile) (r : Bool) → r ≡ false → Has file.flags.bits INTERFACE → IsTrue r ↔ Breaks classes file NotYet
-not_remote classes file r off h = (λ e. absurd (true_false (sym e ∙ off)), λ b. absurd ((way classes file NotYet b).0 h))

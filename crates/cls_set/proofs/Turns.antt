@@ -5,7 +5,7 @@ use Rattle.cf_reader.specs.declared.class_file.ClassFile.{ClassFile}
 use Rattle.cls_order.specs.declared.fault.SetFault.{SetFault}
 use Rattle.cls_order.specs.declared.fault.SetFault.TheVariants.{Broken, Memory}
 use Rattle.cls_order.specs.declared.fault.SetRule.{SetRule}
-use Rattle.cls_order.specs.declared.fault.SetRule.TheVariants.{Duplicate, AbsentClass, Cycle, BadSuper, FinalSuper, RemoteField, RemoteMethod, Override, TooMany, NotYet}
+use Rattle.cls_order.specs.declared.fault.SetRule.TheVariants.{Duplicate, AbsentClass, Cycle, BadSuper, FinalSuper, RemoteField, RemoteMethod, Override, TooMany}
 use Rattle.cls_order.specs.FaultNames.{set_rule_number}
 use Rattle.cls_set.specs.Faults.{IsKept, IsSetFault, MakeASet}
 use Rattle.cls_order.proofs.Walks.{before}
@@ -23,8 +23,7 @@ rule_at n =
     (cond (nat_eq n 34) FinalSuper
     (cond (nat_eq n 35) RemoteField
     (cond (nat_eq n 36) RemoteMethod
-    (cond (nat_eq n 37) Override
-    (cond (nat_eq n 38) TooMany NotYet))))))))
+    (cond (nat_eq n 37) Override TooMany)))))))
 
 rule_of_number : (r : SetRule) → rule_at (set_rule_number r) ≡ r
 rule_of_number Duplicate = refl
@@ -36,7 +35,6 @@ rule_of_number FinalSuper = refl
 rule_of_number RemoteField = refl
 rule_of_number RemoteMethod = refl
 rule_of_number Override = refl
-rule_of_number NotYet = refl
 
 same_rule : (a b : SetRule) → set_rule_number a ≡ set_rule_number b → a ≡ b
 same_rule a b e = sym (rule_of_number a) ∙ (ap rule_at e ∙ rule_of_number b)
@@ -58,7 +56,6 @@ lowest RemoteField = omega arith
 lowest RemoteMethod = omega arith
 lowest Override = omega arith
 lowest TooMany = omega arith
-lowest NotYet = omega arith
 
 -- files that make a set have no fault
 pub only_memory : (files : List ClassFile) → MakeASet files → (fault : SetFault) → IsSetFault files fault → fault ≡ Memory
@@ -72,4 +69,3 @@ only_memory files make (Broken FinalSuper name) h = absurd (make FinalSuper h.0.
 only_memory files make (Broken RemoteField name) h = absurd (make RemoteField h.0.class h.0.stands h.0.broken)
 only_memory files make (Broken RemoteMethod name) h = absurd (make RemoteMethod h.0.class h.0.stands h.0.broken)
 only_memory files make (Broken Override name) h = absurd (make Override h.0.class h.0.stands h.0.broken)
-only_memory files make (Broken NotYet name) h = absurd (make NotYet h.0.class h.0.stands h.0.broken)

@@ -97,10 +97,6 @@ marked_within [] k e = absurd (true_false (sym e))
 marked_within (x ∷ xs) zero e = omega arith
 marked_within (x ∷ xs) (suc k) e = let rest = marked_within xs k e in omega (arith, rest)
 
--- a test of what says the same as another fact
-pub tells_more : {P Q : Type 0} (b : Bool) → IsTrue b ↔ P → P ↔ Q → IsTrue b ↔ Q
-tells_more b h e = (λ t. e.0 (h.0 t), λ q. h.1 (e.1 q))
-
 pub both_tell : {P Q R : Type 0} (b : Bool) → IsTrue b ↔ (P × R) → P ↔ Q → IsTrue b ↔ (Q × R)
 both_tell b h e = (λ t. let x = h.0 t in (e.0 x.0, x.1), λ y. h.1 (e.1 y.0, y.1))
 

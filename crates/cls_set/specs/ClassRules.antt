@@ -1,4 +1,4 @@
--- How the rules on each class are looked for.
+-- How the rules on each class are looked for; `Rules` states them. (This project's own.)
 use Rattle.std.specs.Prelude.{◌≡◌, ◌≢◌, ◌<◌, ◌⊎◌, ◌↔◌, ℕ, Bool, Some, None, List, Contains, IsPermutation, codes, slice_get}
 use Rattle.std.specs.List.{Any}
 use Rattle.cf_reader.specs.declared.class_file.ClassFile.{ClassFile}
@@ -11,7 +11,7 @@ use Rattle.cls_order.specs.declared.fault.SetFault.TheVariants.{Broken, Memory}
 use Rattle.cls_order.specs.declared.fault.SetRule.{SetRule}
 use Rattle.cls_order.specs.declared.fault.SetRule.TheVariants as rules
 use Rattle.cls_set.specs.declared.rules.ClassRule.{ClassRule}
-use Rattle.cls_set.specs.declared.rules.ClassRule.TheVariants.{BadSuper, FinalSuper, RemoteField, RemoteMethod, Override, NotYet}
+use Rattle.cls_set.specs.declared.rules.ClassRule.TheVariants.{BadSuper, FinalSuper, RemoteField, RemoteMethod, Override}
 use Rattle.cls_set.specs.Faults.{IsFirstToBreak, IsKept, Keeps}
 use Rattle.cls_set.specs.Rules.{CanBeKept, CanCross, Clashes, Has, HasFieldNotKept, HasMethodNotCrossing, HasSuperclass, HasSuperinterface, IsBelowRemote, IsItOrAbove, IsSuperclass}
 use Rattle.cls_order.specs.declared.class.Class.{Class}
@@ -33,7 +33,6 @@ set_rule FinalSuper = rules.FinalSuper
 set_rule RemoteField = rules.RemoteField
 set_rule RemoteMethod = rules.RemoteMethod
 set_rule Override = rules.Override
-set_rule NotYet = rules.NotYet
 
 -- the direct superclass has one of the mask's flags
 abbrev pub ExtendsOneWith : List Origin → ClassFile → ℕ → Type 0
@@ -80,12 +79,12 @@ pub record IsMethodNotCrossing (classes : List Origin) (method : Method) : Type 
   pub used : Contains method.types.parameters type ⊎ (method.types.result ≡ Some type)
   pub not_crossing : ¬ CanCross classes type
 
--- a class says what no remote class or interface may have or inherit
+-- a class declares what no remote class or interface may have or inherit
 abbrev pub IsUnfit : MemberKind → List Origin → ClassFile → Type 0
 IsUnfit Fields classes file = HasFieldNotKept classes file
 IsUnfit Methods classes file = HasMethodNotCrossing classes file
 
--- by number, which classes do or inherit it
+-- by number, which classes declare or inherit it
 pub record AreUnfit (kind : MemberKind) (entries : List Entry) (told : List Bool) : Type 0 where
   pub each : (k : ℕ) (c : Class) → slice_get (classes_of entries) k ≡ Some c
       → IsMarked told k ↔ ((upper : ClassFile) × IsItOrAbove (origins_of entries) c.file upper × IsUnfit kind (origins_of entries) upper)
@@ -106,13 +105,13 @@ IsRuleFault classes rule Memory = Unit {0}
 abbrev pub KeepBelow : List Origin → ℕ → Type 0
 KeepBelow classes n = (rule : ClassRule) → set_rule_number (set_rule rule) < n → Keeps classes (set_rule rule)
 
--- the first that a class breaks of these rules that are looked for before the classes are counted, and the first class that does
+-- of the rules that are looked for before the classes are counted, the first that a class breaks, and the first class that breaks it
 abbrev pub IsFirstRuleFault : List Origin → SetFault → Type 0
 IsFirstRuleFault classes Memory = Unit {0}
 IsFirstRuleFault classes (Broken r name) =
     (rule : ClassRule) × (r ≡ set_rule rule) × (set_rule_number r < set_rule_number rules.TooMany) × IsFirstToBreak classes r name × KeepBelow classes (set_rule_number r)
 
--- entries of the classes of these files, whose supertypes are known; the rules that are looked for before are kept
+-- entries of the classes of these files, whose supertypes are known; the rules that are looked for before BadSuper are kept
 pub record AreOf (files : List ClassFile) (entries : List Entry) : Type 0 where
   pub known : AreArranged entries
   pub held : IsPermutation (origins files) (origins_of entries)

@@ -1,6 +1,5 @@
--- An order of the members of a class by their names and descriptors, in which they are searched. Of a name and a
--- descriptor the shorter one is compared first: so a long text that many members share is compared only where the
--- other one is the same too.
+-- An order of the members of a class by their names and descriptors, in which they are searched. Of a name and a descriptor the shorter
+-- one is compared first: so a long text that many members share is compared only where the other one is the same too. (This project's own.)
 use Rattle.std.specs.Prelude.{◌≡◌, ◌<◌, ◌&&◌, ℕ, Bool, true, false, Option, Some, None, List, [], All, Contains}
 use Rattle.std.specs.Prelude.{bytes_eq, if◌then◌else◌, length, map, nat_le, slice_get, slice_index_or}
 use Rattle.std.specs.List.{position}

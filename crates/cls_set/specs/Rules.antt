@@ -9,7 +9,7 @@ use Rattle.cf_reader.specs.declared.class_file.Field.{Field}
 use Rattle.cf_reader.specs.declared.class_file.Method.{Method}
 use Rattle.cf_reader.specs.declared.flags.TheConstants.Flags.{PUBLIC, PRIVATE, PROTECTED, STATIC, FINAL, INTERFACE}
 use Rattle.cls_order.specs.declared.fault.SetRule.{SetRule}
-use Rattle.cls_order.specs.declared.fault.SetRule.TheVariants.{BadSuper, FinalSuper, RemoteField, RemoteMethod, Override, NotYet}
+use Rattle.cls_order.specs.declared.fault.SetRule.TheVariants.{BadSuper, FinalSuper, RemoteField, RemoteMethod, Override}
 use Rattle.cls_order.specs.Sets.{Origin, IsSupertypeByName}
 
 -- one of a flag's bits is set
@@ -140,5 +140,3 @@ pub data Breaks (classes : List Origin) (file : ClassFile) : SetRule → Type 0 
   remote_method : (upper : ClassFile) → IsRemoteInterface classes file → IsItOrAbove classes file upper → HasMethodNotCrossing classes upper → Breaks classes file RemoteMethod
   -- a method that overrides or hides one which it may not
   override : OverridesBadly classes file → Breaks classes file Override
-  -- a remote class
-  remote : ¬ Has file.flags.bits INTERFACE → IsBelowRemote classes file.name → Breaks classes file NotYet

@@ -4,7 +4,7 @@ use super::arranging::arrange;
 use super::members::{Member, find_number, number_classes};
 use super::ordering::{find_member, orders};
 use super::remote::MemberKind;
-use super::rules::{ClassRule, find_facts, refuse, refuse_broken};
+use super::rules::{find_facts, refuse_broken};
 use super::{Class, ClassId, SetFault};
 use cf_reader::{ClassFile, Row, Text};
 use cls_order::{is_in, last_name, refuse_many, tables};
@@ -54,8 +54,8 @@ impl ClassSet {
     ///
     /// Faults are looked for in the order of their numbers, each over all classes: `Duplicate`,
     /// `AbsentClass`, `Cycle`, `BadSuper`, `FinalSuper`, `RemoteField`, `RemoteMethod`, `Override`,
-    /// `TooMany` (more than 4,096 classes with the built-in ones), `NotYet`. The fault names the
-    /// first class at fault by name; `TooMany` names the class of the last file.
+    /// `TooMany` (more than 4,096 classes with the built-in ones). The fault names the first class
+    /// at fault by name; `TooMany` names the class of the last file.
     pub fn build(alloc: Global, files: Vec<ClassFile>) -> Result<ClassSet, SetFault>
         // They were read, so that each is well formed.
         requires { All IsWellFormed files.items }
@@ -70,7 +70,6 @@ impl ClassSet {
         let facts = find_facts(alloc, entries.as_slice())?;
         refuse_broken(entries.as_slice(), &facts)?;
         refuse_many(entries.len(), last)?;
-        refuse(entries.as_slice(), &facts, ClassRule::NotYet)?;
         let tables = tables(alloc, entries.as_slice())?;
         let fields = orders(alloc, entries.as_slice(), MemberKind::Fields)?;
         let members = number_classes(alloc, entries)?;

@@ -21,13 +21,12 @@ use std::alloc::{AllocError, Global};
 
 // A rule that is looked for class by class.
 #[derive(Clone, Copy, Debug, PartialEq, Eq)]
-pub(crate) enum ClassRule {
+enum ClassRule {
     BadSuper,
     FinalSuper,
     RemoteField,
     RemoteMethod,
     Override,
-    NotYet,
 }
 
 impl ClassRule {
@@ -40,7 +39,6 @@ impl ClassRule {
             ClassRule::RemoteField => SetRule::RemoteField,
             ClassRule::RemoteMethod => SetRule::RemoteMethod,
             ClassRule::Override => SetRule::Override,
-            ClassRule::NotYet => SetRule::NotYet,
         }
     }
 }
@@ -163,12 +161,11 @@ fn breaks(entries: &[Entry], facts: &Facts, index: usize, rule: ClassRule) -> bo
         ClassRule::RemoteField => !class.is_interface() && facts.has_unfit_field(index),
         ClassRule::RemoteMethod => class.is_interface() && facts.has_unfit_method(index),
         ClassRule::Override => overrides_badly(entries, facts.orders.as_slice(), index),
-        ClassRule::NotYet => !class.is_interface() && facts.is_remote(index),
     }
 }
 
 // Refuses the first class that breaks the rule.
-pub(crate) fn refuse(entries: &[Entry], facts: &Facts, rule: ClassRule) -> Result<(), SetFault>
+fn refuse(entries: &[Entry], facts: &Facts, rule: ClassRule) -> Result<(), SetFault>
     requires arranged { AreArranged entries.now }
     requires facts { AreFacts entries.now facts.now }
     ensures ok { OnOk result (Keeps (origins_of entries.now) (set_rule rule)) }
@@ -183,8 +180,7 @@ pub(crate) fn refuse(entries: &[Entry], facts: &Facts, rule: ClassRule) -> Resul
     Ok(())
 }
 
-// Refuses the first class that breaks the first of the rules on each class that are looked for before
-// the classes are counted.
+// Refuses the first class that breaks the first of the rules on each class.
 pub(crate) fn refuse_broken(entries: &[Entry], facts: &Facts) -> Result<(), SetFault>
     requires arranged { AreArranged entries.now }
     requires facts { AreFacts entries.now facts.now }

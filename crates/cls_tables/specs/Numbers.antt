@@ -1,4 +1,5 @@
 -- Numbers of names with descriptors: two methods have the same one exactly where both their names and their descriptors are the same.
+-- (This project's own.)
 use Rattle.std.specs.Prelude.{◌≡◌, ◌&&◌, ◌-◌, ◌/◌, ◌<◌, ◌≤◌, ℕ, zero, suc, Bool, Some, List, bytes_eq, length, slice_index_or}
 use Rattle.std.specs.Borrow.{Bor}
 use Rattle.std.specs.List.{position_or_len}
@@ -11,7 +12,7 @@ use Rattle.cls_link.specs.Links.{method_at}
 abbrev pub Key : Type 0
 Key = Bor (List ℕ) × Bor (List ℕ)
 
--- whether these are a key's
+-- whether this name and this descriptor are a key's
 abbrev pub is_key : List ℕ → List ℕ → Key → Bool
 is_key name descriptor key = bytes_eq name key.0.now && bytes_eq descriptor key.1.now
 

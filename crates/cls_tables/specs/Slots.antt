@@ -1,4 +1,5 @@
--- The slots of fields in tables: "the fields of an object of a class", those of its superclasses first, by class and then as declared.
+-- The slots of fields in tables: those of the fields that a class declares come after those of its superclasses, in the order of the
+-- declarations. (This project's own; JVMS 2.7 leaves the structure of objects open.)
 use Rattle.std.specs.Prelude.{◌≡◌, ◌+◌, ◌<◌, ℕ, suc, Option, Some, None, List, [], ◌∷◌, if◌then◌else◌, count_by, length, slice_get, slice_index_or}
 use Rattle.cf_reader.specs.declared.class_file.Field.{Field}
 use Rattle.cls_set.specs.declared.class.Class.{Class}
@@ -19,7 +20,7 @@ pub record HasSlots (classes : List Class) (class : ClassId) (slots : List (Opti
   pub counted : CountsFields classes class (first + count_by is_instance c.file.fields)
   pub is : slots ≡ slots_from first c.file.fields
 
--- those of each class, by class number
+-- the slots of each class, by class number
 pub record HaveSlots (classes : List Class) (rows : List (List (Option FieldSlot))) : Type 0 where
   pub one_each : length rows ≡ length classes
   pub slots : (class : ClassId) → class.0 < length classes → HasSlots classes class (slice_index_or rows class.0 [])

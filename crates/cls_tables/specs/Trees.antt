@@ -1,4 +1,4 @@
--- Binary trees by the bits of keys, the lowest first, in a row of nodes.
+-- Binary trees by the bits of keys, the lowest first, in a row of nodes. (This project's own.)
 use Rattle.std.specs.Prelude.{◌≡◌, ◌==◌, ◌&&◌, ◌%◌, ◌/◌, ℕ, zero, suc, Bool, true, Option, Some, None, List, if◌then◌else◌, nat_eq, slice_get}
 use Rattle.cls_tables.specs.declared.trees.Node.{Node}
 

@@ -37,8 +37,12 @@ impl ClassSet for OneClass {
         class == self.class
     }
 
-    fn fields(&self, _: ClassId) -> &[FieldKind] {
-        &self.kinds
+    fn field_count(&self, _: ClassId) -> usize {
+        self.kinds.len()
+    }
+
+    fn field_kind(&self, _: ClassId, slot: usize) -> Option<FieldKind> {
+        self.kinds.get(slot).copied()
     }
 
     fn out_of_memory(&self) -> ClassId {

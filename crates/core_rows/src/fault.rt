@@ -24,7 +24,7 @@ impl<T: Drop> From<AllocFailed<T>> for RowFault {
     }
 }
 
-// A writer in memory fails for want of room alone.
+// A writer in memory fails only if it has no room.
 impl From<io::Error> for RowFault {
     fn from(_: io::Error) -> RowFault {
         RowFault::Memory

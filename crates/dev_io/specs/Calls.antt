@@ -1,4 +1,4 @@
--- How a device over memory counts its calls: the call that is chosen to fail, and each after it, fails.
+-- How a device over memory counts its calls: the call that is chosen to fail, and each after it, fails. (This project's own.)
 use Rattle.std.specs.Prelude.{ℕ, ◌-◌, zero, suc, Bool, true, false}
 use Rattle.dev_io.specs.declared.calls.Calls.{Calls}
 use Rattle.dev_io.specs.declared.calls.Calls.TheVariants.{Unlimited, Left, Failed}

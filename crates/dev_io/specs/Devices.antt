@@ -1,4 +1,4 @@
--- Devices over memory: their bytes, and how many of them a call moves.
+-- Devices over memory: their bytes, and how many of them a call moves. (This project's own.)
 use Rattle.std.specs.Prelude.{ℕ, List}
 use Rattle.dev_io.specs.declared.calls.Calls.{Calls}
 

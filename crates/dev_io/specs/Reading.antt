@@ -1,4 +1,4 @@
--- What a source gives: each read takes its bytes off the front of what the source has left.
+-- What a source gives: each read takes its bytes off the front of what the source has left. (This project's own.)
 use Rattle.std.specs.Prelude.{◌≡◌, ◌≤◌, ◌<◌, ℕ, Bool, true, false, List, ◌++◌, length, Option}
 use Rattle.std.specs.Io.KnownBytes.{Consumes, IsAtEnd}
 

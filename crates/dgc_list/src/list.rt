@@ -57,7 +57,7 @@ impl RefList {
     }
 
     /// Takes back the room that was made for a client at those of these objects at which nothing is
-    /// remembered of it: an event that made room and was refused leaves nothing behind.
+    /// remembered of it: an event that made room and was refused changes nothing.
     pub fn release(&mut self, client: &Uuid, objects: &[ObjId])
         ensures { (h : List Call) → IsAfter h self.old → IsAfter h self.new }
     {

@@ -9,8 +9,13 @@ use std::alloc::{AllocError, Global};
 use uuid::Uuid;
 
 // Binds `a` and `b`, and then `b` and `c` whether they are bound or not.
-fn names(alloc: Global, tally: &mut Tally) {
-    let mut names = Registry::new(alloc);
+fn names(alloc: Global, tally: &mut Tally) -> Result<(), AllocError> {
+    let mut made = Registry::new(alloc);
+    if made.is_err() {
+        tally.want();
+        made = Registry::new(alloc);
+    }
+    let mut names = made?;
     for (name, object) in [(b"a", 1), (b"b", 2)] {
         let mut answer = names.bind(name, Some(ObjId(object)));
         if answer == Err(BindFault::Memory) {
@@ -28,10 +33,11 @@ fn names(alloc: Global, tally: &mut Tally) {
         tally.answer(answer == Ok(()));
     }
     let owed = [(b"a", 1), (b"b", 3), (b"c", 4)];
-    tally.answer(names.list().len() == owed.len());
-    for (binding, (name, object)) in names.list().iter().zip(owed) {
+    tally.answer(names.list().len() == owed.len() && names.count_of(ObjId(3)) == 1);
+    for (binding, (name, object)) in names.list().zip(owed) {
         tally.answer(binding.name.is(name) && binding.object == ObjId(object));
     }
+    Ok(())
 }
 
 const OBJECTS: [ObjId; 2] = [ObjId(1), ObjId(2)];
@@ -107,7 +113,7 @@ fn leases(alloc: Global, tally: &mut Tally) {
 
 /// Plays names, reference lists and leases.
 pub fn play(alloc: Global, tally: &mut Tally) -> Result<(), AllocError> {
-    names(alloc, tally);
+    names(alloc, tally)?;
     lists(alloc, tally);
     leases(alloc, tally);
     Ok(())

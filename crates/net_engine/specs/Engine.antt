@@ -1,4 +1,4 @@
--- What an engine holds, and what a call of it leaves.
+-- What an engine holds, a sender of frames or a receiver, and what a call of it leaves. (This project's own.)
 use Rattle.std.specs.Prelude.{◌≡◌, ℕ, ◌+◌, ◌<◌, ◌≤◌, ◌↔◌, List, [], ◌∷◌, length, Option, None, Some, Result, Ok, Err, Bool, IsTrue, MatchOption}
 use Rattle.std.specs.Io.KnownBytes.{prepend_known, Keeps, Consumes, IsAtEnd}
 use Rattle.std.specs.declared.alloc.AllocError.{AllocError}

@@ -1,4 +1,4 @@
--- A stream of frames: what its bytes say, in whatever pieces they come.
+-- A stream of frames: what its bytes say, in whatever pieces they come. (This project's own.)
 use Rattle.std.specs.Prelude.{◌≡◌, ◌≢◌, ℕ, ◌+◌, ◌<◌, ◌≤◌, ◌⊎◌, List, [], ◌∷◌, ◌++◌, length, take, drop, slice_index, Option, None, Some, Result, Ok, Err, nat_lt, if◌then◌else◌}
 use Rattle.byteorder.specs.Endian.{big_number}
 use Rattle.net_message.specs.declared.fault.WireFault.{WireFault}

@@ -1,4 +1,4 @@
--- The number of each fault.
+-- The number of each fault of the wire. (This project's own.)
 use Rattle.std.specs.Prelude.{ℕ}
 use Rattle.net_message.specs.declared.fault.WireFault.TheVariants as wire_fault
 use Rattle.net_message.specs.declared.fault.WireFault.{WireFault}

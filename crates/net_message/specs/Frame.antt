@@ -1,4 +1,4 @@
--- What making a frame of a message answers.
+-- What making a frame of a message answers: the frame, or a fault if a field is out of its range. (This project's own.)
 use Rattle.std.specs.Prelude.{◌≡◌, Result, Ok, Err}
 use Rattle.net_message.specs.declared.fault.WireFault.{WireFault}
 use Rattle.net_message.specs.declared.fault.WireFault.TheVariants as faults

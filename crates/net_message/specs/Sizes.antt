@@ -1,4 +1,4 @@
--- How many bytes values and bodies take, by counting their fields.
+-- How many bytes values and bodies take, by counting their fields. (This project's own.)
 use Rattle.std.specs.Prelude.{ℕ, ◌+◌, ◌*◌, List, [], ◌∷◌, length, Option, Some, None}
 use Rattle.space_ids.specs.declared.value.Value.{Value}
 use Rattle.space_ids.specs.declared.value.Value.TheVariants as values

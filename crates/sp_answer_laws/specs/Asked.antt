@@ -1,4 +1,4 @@
--- What a space asked of others stands among its requests until its answer comes (Java RMI specification, 3.2: a remote call waits for its result; 9.1: dirty and clean calls; that they stand in one list is this project's own rule).
+-- What a space asked of others stands among its requests until its answer comes (Java RMI specification, 3.1: a remote call waits for its result; 9.1: dirty and clean calls; that they stand in one list is this project's own rule).
 use Rattle.std.specs.Prelude.{◌≡◌, ◌≤◌, ℕ, ◌==◌, ◌&&◌, not, Bool, true, false, List}
 use Rattle.std.specs.List.{list_any}
 use Rattle.net_message.specs.declared.message.Message.{Message}

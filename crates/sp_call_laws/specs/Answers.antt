@@ -1,4 +1,4 @@
--- What is answered to a call is what its task ended with (Java RMI specification, 3.2: a result or an exception is returned to the caller).
+-- What is answered to a call is what its task ended with (Java RMI specification, 3.1: a result or an exception is returned to the caller).
 use Rattle.std.specs.Prelude.{◌≡◌, ◌⊎◌, ℕ, List, Some}
 use Rattle.net_message.specs.declared.message.Message.{Message}
 use Rattle.net_message.specs.declared.message.Message.TheVariants as message

@@ -1,4 +1,4 @@
--- How a call ends: with its callee's answer, as the frame says it, or with an exception of a failure, and with nothing else (Java RMI specification, A.2: ConnectException, MarshalException, UnmarshalException; 3.2 on results).
+-- How a call ends: with its callee's answer, as the frame says it, or with an exception of a failure, and with nothing else (Java RMI specification, appendix A: ConnectException, MarshalException, UnmarshalException; 3.1 on results).
 use Rattle.std.specs.List.{list_any}
 use Rattle.std.specs.Prelude.{◌≡◌, ◌⊎◌, ℕ, true, false, List, [], ◌∷◌, Option, Some, find, if◌then◌else◌}
 use Rattle.net_message.specs.declared.message.Message.{Message}

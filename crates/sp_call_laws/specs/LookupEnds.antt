@@ -1,4 +1,4 @@
--- How a lookup ends: as its answer says, or with an exception of a failure (Java RMI specification, 6.1: a lookup gives the reference that is bound, or throws NotBoundException; A.2 on failures).
+-- How a lookup ends: as its answer says, or with an exception of a failure (Java RMI specification, 6.1: a lookup gives the reference that is bound, or throws NotBoundException; appendix A on failures).
 use Rattle.std.specs.Prelude.{◌≡◌, ◌⊎◌, ℕ, List, [], ◌∷◌}
 use Rattle.sp_rules.specs.Behaviours.{Outcome, Returned, Threw, Spent, GivesBack, Throws}
 use Rattle.sp_rules.specs.Classes.{Setting}

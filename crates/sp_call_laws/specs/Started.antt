@@ -1,4 +1,4 @@
--- A Call starts one task at most: the tasks that were started by a call of one number on one connection are one, whenever they live (this project's own rule; a call of a remote method runs once at most by the Java RMI specification, 3.2).
+-- A Call starts one task at most: the tasks that were started by a call of one number on one connection are one, whenever they live (this project's own rule; a call of a remote method runs once at most by the Java RMI specification, 3.1).
 use Rattle.std.specs.Prelude.{◌≡◌, ℕ, ◌++◌, List, Some}
 use Rattle.sp_rules.specs.Classes.{Setting}
 use Rattle.sp_rules.specs.Events.{Event}

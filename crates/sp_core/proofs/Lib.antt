@@ -2,6 +2,7 @@ pub mod CommitLemmas
 pub mod CoreLemmas
 pub mod FinishLemmas
 pub mod HandLemmas
+pub mod LentLemmas
 pub mod OpLemmas
 pub mod OwnValueLemmas
 pub mod ParkLemmas

@@ -1,15 +1,13 @@
-use Rattle.std.proofs.Common.{◌≡◌, ℕ, zero, suc, ◌<◌, Bool, true, false, cond, List, [], ◌∷◌, ◌++◌, Option, None, Some, refl, sym, ap, subst, ◌∙◌, map, length, arith}
-use Rattle.std.specs.Prelude.{◌==◌, drop, option_map, slice_get, unwrap_or}
+use Rattle.std.proofs.Common.{◌≡◌, ℕ, zero, suc, ◌+◌, ◌<◌, Bool, true, false, cond, List, [], ◌∷◌, ◌++◌, Option, None, Some, refl, sym, ap, subst, ◌∙◌, map, length, arith}
+use Rattle.std.specs.Prelude.{◌==◌, drop, slice_get, unwrap_or}
 use Rattle.std.specs.Str.{bytes_eq}
 use Rattle.std.proofs.lemmas.Bool.{eqb-true, eq-eqb, false≢true}
 use Rattle.std.proofs.lemmas.List.{length-append, map-append}
 use Rattle.std.proofs.lemmas.Grind.{flat_map-append}
-use Rattle.space_ids.specs.declared.ids.ClassId.{ClassId}
 use Rattle.space_ids.specs.declared.ids.ObjId.{ObjId}
 use Rattle.space_ids.specs.declared.ids.Ref.{Ref}
 use Rattle.space_ids.specs.declared.value.Value.{Value}
-use Rattle.sp_store.specs.Stores.{blanks}
-use Rattle.sp_rules.specs.Classes.{Classes, Kind, IntKind, IntArrayKind, ReferenceKind, VoidKind, Setting, blank}
+use Rattle.sp_rules.specs.Classes.{Kind, IntKind, IntArrayKind, ReferenceKind, VoidKind, Setting, blank}
 use Rattle.sp_rules.specs.Lists.{numbers_below}
 use Rattle.sp_rules.specs.References.{foreign_id, foreign_ids, is_id, is_reference_in, reference_of, references_of, with_reference, with_references}
 use Rattle.sp_core.specs.Cores.{AreOwn}
@@ -130,26 +128,7 @@ nth-slot f (suc n) slot lt =
 
 -- ---- blank fields
 
-below-more : (n : ℕ) → numbers_below (suc n) ≡ 0 ∷ map (λ k. suc k) (numbers_below n)
-below-more zero = refl
-below-more (suc n) = ap (λ ks. ks ++ suc n ∷ []) (below-more n) ∙ ap (λ ks. 0 ∷ ks) (sym (map-append (λ k. suc k) (numbers_below n) (n ∷ [])))
-
-map-twice : {A B C : Type 0} (f : B → C) (e : A → B) (xs : List A) → map f (map e xs) ≡ map (λ x. f (e x)) xs
-map-twice f e [] = refl
-map-twice f e (x ∷ xs) = ap (λ ys. f (e x) ∷ ys) (map-twice f e xs)
-
-slots-are : (of : Option Kind → Value) (ks : List Kind) → map (λ slot. of (slice_get ks slot)) (numbers_below (length ks)) ≡ map (λ k. of (Some k)) ks
-slots-are of [] = refl
-slots-are of (k ∷ ks) =
-    ap (map (λ slot. of (slice_get (k ∷ ks) slot))) (below-more (length ks))
-    ∙ ap (λ vs. of (Some k) ∷ vs) (map-twice (λ slot. of (slice_get (k ∷ ks) slot)) (λ n. suc n) (numbers_below (length ks)) ∙ slots-are of ks)
-
-pub blanks-are : {A : Type 0} (kind : A → Kind) (kinds : List A) (classes : Classes) (class : ClassId) → map kind kinds ≡ classes.fields class
-    → map (λ k. blank (Some (kind k))) kinds ≡ blanks classes class
-blanks-are kind kinds classes class told =
-    sym (map-twice (λ k. blank (Some k)) kind kinds) ∙ ap (map (λ k. blank (Some k))) told ∙ sym (slots-are (λ o. blank o) (classes.fields class))
-
-pub slice-map : {A B : Type 0} (f : A → B) (xs : List A) (i : ℕ) → slice_get (map f xs) i ≡ option_map f (slice_get xs i)
-slice-map f [] i = refl
-slice-map f (x ∷ xs) zero = refl
-slice-map f (x ∷ xs) (suc i) = slice-map f xs i
+pub blanks-more : (f : ℕ → Value) (slot : ℕ) (vs : List Value) → vs ≡ map f (numbers_below slot) → vs ++ f slot ∷ [] ≡ map f (numbers_below (slot + 1))
+blanks-more f slot vs so-far =
+    let next : suc slot ≡ slot + 1 = omega arith in
+    ap (λ ws. ws ++ f slot ∷ []) so-far ∙ sym (map-append f (numbers_below slot) (slot ∷ [])) ∙ ap (λ n. map f (numbers_below n)) next

@@ -1,5 +1,5 @@
 use Rattle.std.proofs.Common.{◌≡◌, ℕ, zero, suc, ◌+◌, ◌<◌, ◌≤◌, Bool, true, false, cond, nat_eq, List, [], ◌∷◌, ◌++◌, Option, None, Some, refl, sym, ap, subst, ◌∙◌, map, filter, length, get_or, take, arith}
-use Rattle.std.specs.Prelude.{nat_le, nat_lt, not, is_some, ◌==◌, ◌&&◌, ◌||◌, option_map}
+use Rattle.std.specs.Prelude.{nat_le, nat_lt, not, is_some, unwrap_or, ◌==◌, ◌&&◌, ◌||◌, option_map}
 use Rattle.std.specs.List.{list_any, list_all}
 use Rattle.std.specs.Str.{bytes_eq}
 use Rattle.std.proofs.lemmas.Bool.{ne_eqb, false≢true}
@@ -25,7 +25,7 @@ use Rattle.sp_rules.specs.Tasks.{start}
 use Rattle.sp_rules.specs.Runs.{AreRecorded}
 use Rattle.sp_rules.proofs.RecordLemmas.{on_recorded}
 use Rattle.sp_tasks.specs.Rows.{TaskRow, TaskTable, row_of, started_row}
-use Rattle.sp_core.specs.Cores.{AreOwn, IsAlone, IsCore, seen, seen_row}
+use Rattle.sp_core.specs.Cores.{AreOwn, IsAlone, IsCore, is_lent, seen, seen_row}
 use Rattle.sp_core.specs.FaultNames.{start_refusal}
 use Rattle.sp_core.specs.Roots.{root_number}
 use Rattle.sp_core.specs.declared.fault.StartFault.{StartFault}
@@ -240,6 +240,18 @@ rooted g s core tasks method arguments fuel is standing-all more rows =
       }),
       ap (λ (p : State × List Output). p.1) after ∙ (λ j. Started (sym number j) ∷ Ready (sym number j) ∷ []),
     )
+
+-- the task that starts is not lent, and which others are lent stays
+flag-added : (other id : ℕ) (new : TaskRow) (rows : List (ℕ × TaskRow)) → new.lent ≡ false
+    → unwrap_or (option_map (λ (row : TaskRow). row.lent) (row_of other (rows ++ (id, new) ∷ []))) false ≡ unwrap_or (option_map (λ (row : TaskRow). row.lent) (row_of other rows)) false
+flag-added other id new [] free = elim (nat_eq other id) as (λ b. unwrap_or (option_map (λ (row : TaskRow). row.lent) (cond b (Some new) None)) false ≡ false) [ true ↦ free | false ↦ refl ]
+flag-added other id new (e ∷ es) free =
+    elim (nat_eq other e.0) as (λ b. unwrap_or (option_map (λ (row : TaskRow). row.lent) (cond b (Some e.1) (row_of other (es ++ (id, new) ∷ [])))) false
+    ≡ unwrap_or (option_map (λ (row : TaskRow). row.lent) (cond b (Some e.1) (row_of other es))) false) [ true ↦ refl | false ↦ flag-added other id new es free ]
+
+pub lent-started : (core new : SpaceCore) (id : ℕ) (row : TaskRow) → row.lent ≡ false → new.tasks.rows ≡ core.tasks.rows ++ (id, row) ∷ [] → (other : ℕ) → is_lent new other ≡ is_lent core other
+lent-started core new id row free rows other =
+    ap (λ (es : List (ℕ × TaskRow)). unwrap_or (option_map (λ (r : TaskRow). r.lent) (row_of other es)) false) rows ∙ flag-added other id row core.tasks.rows free
 
 -- ---- loops
 

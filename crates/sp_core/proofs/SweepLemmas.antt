@@ -1,8 +1,7 @@
-use Rattle.std.proofs.Common.{◌≡◌, ℕ, ◌+◌, ◌<◌, Bool, true, false, cond, List, [], ◌∷◌, ◌++◌, Option, None, Some, refl, sym, ap, subst, ◌∙◌, map, filter, length, get_or, take}
+use Rattle.std.proofs.Common.{◌≡◌, ℕ, Bool, true, false, cond, List, [], ◌∷◌, ◌++◌, Option, None, Some, refl, sym, ap, subst, ◌∙◌, map, filter, length, append_assoc}
 use Rattle.std.specs.Prelude.{nat_lt, not, ◌==◌, ◌&&◌, ◌||◌, option_map}
 use Rattle.std.specs.List.{list_any}
 use Rattle.std.proofs.lemmas.Bool.{eqb-true, eq-eqb, ne_eqb, eqb-false}
-use Rattle.std.proofs.lemmas.List.{take_more}
 use Rattle.std.proofs.lemmas.List.Folds.{list_any-append}
 use Rattle.dgc_client.specs.Table as client
 use Rattle.dgc_list.specs.History as owner
@@ -304,11 +303,13 @@ store-same g s core store same is = subst (λ (st : Store). IsCore g s (record c
 
 -- ---- loops
 
-pub bound-more : (xs : List Binding) (i : ℕ) (d : Binding) (id : ObjId) (a b c : Bool) → i < length xs
-    → b ≡ (a || list_any (λ (x : Binding). is_id x.object id) (take i xs)) → c ≡ (b || is_id_in ((get_or xs i d).object ∷ []) id)
-    → c ≡ (a || list_any (λ (x : Binding). is_id x.object id) (take (i + 1) xs))
-bound-more xs i d id a b c within so_far now =
+pub bound-more : (ys : List Binding) (y : Binding) (id : ObjId) (a b c : Bool) → b ≡ (a || list_any (λ (x : Binding). is_id x.object id) ys)
+    → c ≡ (b || is_id_in (y.object ∷ []) id) → c ≡ (a || list_any (λ (x : Binding). is_id x.object id) (ys ++ y ∷ []))
+bound-more ys y id a b c so_far now =
     let p : Binding → Bool = λ x. is_id x.object id in
-    now ∙ (λ j. so_far j || (flip id (get_or xs i d).object j || false))
-    ∙ or-or a (list_any p (take i xs)) (list_any p (get_or xs i d ∷ []))
-    ∙ ap (λ t. a || t) (sym (ap (list_any p) (take_more xs i d within) ∙ list_any-append p (take i xs) (get_or xs i d ∷ [])))
+    now ∙ (λ j. so_far j || (flip id y.object j || false))
+    ∙ or-or a (list_any p ys) (list_any p (y ∷ []))
+    ∙ ap (λ t. a || t) (sym (list_any-append p ys (y ∷ [])))
+
+pub order-more : (ys : List Binding) (y : Binding) (it next all : List Binding) → it ≡ y ∷ next → ys ++ it ≡ all → (ys ++ y ∷ []) ++ next ≡ all
+order-more ys y it next all first whole = append_assoc ys (y ∷ []) next ∙ ap (λ bs. ys ++ bs) (sym first) ∙ whole

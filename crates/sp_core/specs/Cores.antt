@@ -15,7 +15,7 @@ use Rattle.sp_rules.specs.State.{State, Living, KeptResult, Object, OfRoot, Root
 use Rattle.sp_store.specs.Stores as stores
 use Rattle.sp_store.specs.Stores.{made, holds_of}
 use Rattle.sp_tasks.specs.Recorded.{Recorded}
-use Rattle.sp_tasks.specs.Rows.{TaskRow, Hand, row_of}
+use Rattle.sp_tasks.specs.Rows.{TaskRow, Hand, is_in_hand, row_of}
 use Rattle.sp_tasks.specs.Same.{is_recorded}
 use Rattle.sp_core.specs.Hands.{turned}
 use Rattle.sp_core.specs.declared.space.SpaceCore.{SpaceCore}
@@ -92,6 +92,10 @@ pub record IsCore (g : Setting) (s : State) (core : SpaceCore) : Type 0 where
 -- whether a core lends a task
 abbrev pub is_lent : SpaceCore → ℕ → Bool
 is_lent core id = unwrap_or (option_map (λ (row : TaskRow). row.lent) (row_of id core.tasks.rows)) false
+
+-- whether the task in hand is the one that a core lends under its id: its record is what the core keeps of it
+abbrev pub has_lent : SpaceCore → Hand → Bool
+has_lent core hand = is_in_hand (row_of hand.id core.tasks.rows) hand
 
 -- These are the tasks that a core lends.
 abbrev pub Lends : SpaceCore → List ℕ → Type 0

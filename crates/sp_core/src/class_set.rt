@@ -1,7 +1,7 @@
 //! What a core asks of a class set.
 
-ghost use Rattle.std.specs.Prelude.{◌≡◌, map};
-ghost use Rattle.sp_rules.specs.Classes.{Classes};
+ghost use Rattle.std.specs.Prelude.{◌≡◌, length, option_map};
+ghost use Rattle.sp_rules.specs.Classes.{Classes, field_kind};
 ghost use Rattle.sp_core.specs.ClassSets.{kind_of};
 
 use space_ids::ClassId;
@@ -25,9 +25,14 @@ pub trait ClassSet {
     fn is_remote(&self, class: ClassId) -> bool
         ensures { (c : Classes) → tells self.now c → result ≡ c.is_remote class };
 
-    /// The kinds of the fields of a remote class, inherited ones too, by slot.
-    fn fields(&self, class: ClassId) -> &[FieldKind]
-        ensures { (c : Classes) → tells self.now c → map kind_of result.now ≡ c.fields class };
+    /// How many fields an instance of a remote class has, inherited ones too. Their slots are the numbers
+    /// below this one.
+    fn field_count(&self, class: ClassId) -> usize
+        ensures { (c : Classes) → tells self.now c → result ≡ length (c.fields class) };
+
+    /// What the field in this slot holds, or `None` if an instance of the class has none there.
+    fn field_kind(&self, class: ClassId, slot: usize) -> Option<FieldKind>
+        ensures { (c : Classes) → tells self.now c → option_map kind_of result ≡ field_kind c class slot };
 
     /// The class that a task throws if no more objects may stand: java.lang.OutOfMemoryError.
     fn out_of_memory(&self) -> ClassId

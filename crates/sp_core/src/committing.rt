@@ -1,9 +1,9 @@
 //! Operations on the store, for which lent tasks ask.
 
-ghost use Rattle.std.specs.Prelude.{◌≡◌, ◌<◌, ◌+◌, ◌^◌, ◌∷◌, ℕ, List, [], true, false, None, Some, IfOk, IfErr, OnOk, OnErr, is_some, map, option_and_then, option_map, slice_get};
-ghost use Rattle.sp_store.specs.Stores.{field_after, made};
+ghost use Rattle.std.specs.Prelude.{◌≡◌, ◌<◌, ◌+◌, ◌^◌, ◌∷◌, ℕ, List, [], true, false, None, Some, IfOk, IfErr, OnOk, OnErr, is_some, option_and_then, option_map};
+ghost use Rattle.sp_store.specs.Stores.{blanks, field_after, made};
 ghost use Rattle.sp_rules.specs.Behaviours.{Create, Get, Put};
-ghost use Rattle.sp_rules.specs.Classes.{Setting, blank, field_kind, fits_kind};
+ghost use Rattle.sp_rules.specs.Classes.{Classes, Setting, blank, field_kind, fits_kind};
 ghost use Rattle.sp_rules.specs.Events.{Event as Happening, Committed};
 ghost use Rattle.sp_rules.specs.LivingTasks.{op_reply};
 ghost use Rattle.sp_rules.specs.Origins.{IsTaken, OwnStand};
@@ -13,7 +13,7 @@ ghost use Rattle.sp_rules.specs.State.{State, object_at, task_at};
 ghost use Rattle.sp_tasks.specs.Behaviours.{op_of, reply_of};
 ghost use Rattle.sp_tasks.specs.Rows.{at_row, is_in_hand, replied_hand, replied_row, row_of};
 ghost use Rattle.sp_core.specs.ClassSets.{is_on_store, kind_of};
-ghost use Rattle.sp_core.specs.Cores.{IsCore, Lends, is_lent, lent_as};
+ghost use Rattle.sp_core.specs.Cores.{IsCore, Lends, has_lent, is_lent, lent_as};
 ghost use Rattle.sp_core.specs.FaultNames.{Refuses, core_fault_number};
 ghost use Rattle.sp_core.specs.Hands.{committed};
 
@@ -47,14 +47,74 @@ impl SpaceCore {
         // Own references name standing objects of their class after each history that the space took.
         ensures standing { OnOk result ((g : Setting) (h : List Happening) (lent : List ℕ) → IsCore g (state_of g h) self.old → Lends self.old lent → C.tells classes.now g.classes → IsTaken g h → OwnStand g (state_of g (committed task.old op.now ∷ h))) }
     {
-        match self.refuse_commit(classes, task, op) {
+        let is_own = self.has_lent(task);
+        self.commit_as(classes, task, op, is_own)
+    }
+
+    /// Does the operation of a task of which the caller knows that this core lends it, as `commit` does, at
+    /// a cost that does not depend on the task's record.
+    pub fn commit_lent<C: ClassSet>(
+        &mut self,
+        classes: &C,
+        task: &mut LentTask,
+        op: &Op,
+    ) -> Result<Reply, CoreFault>
+        requires { has_lent self.old task.old ≡ true }
+        ensures accepted { OnOk result ((g : Setting) (s : State) (lent : List ℕ) → IsCore g s self.old → Lends self.old lent → C.tells classes.now g.classes → refusal g (lent_as s task.old lent) s (committed task.old op.now) ≡ None) }
+        ensures reply { IfOk result (λ reply. (g : Setting) (s : State) → IsCore g s self.old → C.tells classes.now g.classes → reply_of reply ≡ op_reply g (op_of op.now) s) }
+        ensures outputs { (g : Setting) (s : State) → (after_event g (committed task.old op.now) s).1 ≡ [] }
+        ensures state { OnOk result ((g : Setting) (s : State) → IsCore g s self.old → C.tells classes.now g.classes → IsCore g (after_event g (committed task.old op.now) s).0 self.new) }
+        ensures task { IfOk result (λ reply. task.new ≡ replied_hand (reply_of reply) task.old) }
+        ensures own { has_lent self.new task.new ≡ true }
+        ensures lent { (other : ℕ) → is_lent self.new other ≡ is_lent self.old other }
+        ensures refused { IfErr result (λ fault. (g : Setting) (s : State) (lent : List ℕ) → IsCore g s self.old → Lends self.old lent → C.tells classes.now g.classes → Refuses (refusal g (lent_as s task.old lent) s (committed task.old op.now)) fault) }
+        ensures unchanged { OnErr result ((g : Setting) (s : State) → IsCore g s self.old → IsCore g s self.new) }
+        ensures kept { OnErr result (task.new ≡ task.old) }
+
+        // Own references name standing objects of their class after each history that the space took.
+        ensures standing { OnOk result ((g : Setting) (h : List Happening) (lent : List ℕ) → IsCore g (state_of g h) self.old → Lends self.old lent → C.tells classes.now g.classes → IsTaken g h → OwnStand g (state_of g (committed task.old op.now ∷ h))) }
+    {
+        self.commit_as(classes, task, op, true)
+    }
+
+    // Does the operation of a task that this core lends, or refuses it.
+    fn commit_as<C: ClassSet>(
+        &mut self,
+        classes: &C,
+        task: &mut LentTask,
+        op: &Op,
+        is_own: bool,
+    ) -> Result<Reply, CoreFault>
+        requires { has_lent self.old task.old ≡ is_own }
+        ensures accepted { OnOk result ((g : Setting) (s : State) (lent : List ℕ) → IsCore g s self.old → Lends self.old lent → C.tells classes.now g.classes → refusal g (lent_as s task.old lent) s (committed task.old op.now) ≡ None) }
+        ensures reply { IfOk result (λ reply. (g : Setting) (s : State) → IsCore g s self.old → C.tells classes.now g.classes → reply_of reply ≡ op_reply g (op_of op.now) s) }
+        ensures outputs { (g : Setting) (s : State) → (after_event g (committed task.old op.now) s).1 ≡ [] }
+        ensures state { OnOk result ((g : Setting) (s : State) → IsCore g s self.old → C.tells classes.now g.classes → IsCore g (after_event g (committed task.old op.now) s).0 self.new) }
+        ensures task { IfOk result (λ reply. task.new ≡ replied_hand (reply_of reply) task.old) }
+        ensures own { is_own ≡ true → has_lent self.new task.new ≡ true }
+        ensures lent { (other : ℕ) → is_lent self.new other ≡ is_lent self.old other }
+        ensures refused { IfErr result (λ fault. (g : Setting) (s : State) (lent : List ℕ) → IsCore g s self.old → Lends self.old lent → C.tells classes.now g.classes → Refuses (refusal g (lent_as s task.old lent) s (committed task.old op.now)) fault) }
+        ensures unchanged { OnErr result ((g : Setting) (s : State) → IsCore g s self.old → IsCore g s self.new) }
+        ensures kept { OnErr result (task.new ≡ task.old) }
+
+        // Own references name standing objects of their class after each history that the space took.
+        ensures standing { OnOk result ((g : Setting) (h : List Happening) (lent : List ℕ) → IsCore g (state_of g h) self.old → Lends self.old lent → C.tells classes.now g.classes → IsTaken g h → OwnStand g (state_of g (committed task.old op.now ∷ h))) }
+    {
+        match self.refuse_commit(classes, task, op, is_own) {
             Some(fault) => Err(fault),
             None => Ok(self.perform(classes, task, op)?),
         }
     }
 
     // Why the operation is refused, if it is: the reason with the lowest number, but 98 first.
-    fn refuse_commit<C: ClassSet>(&self, classes: &C, task: &LentTask, op: &Op) -> Option<CoreFault>
+    fn refuse_commit<C: ClassSet>(
+        &self,
+        classes: &C,
+        task: &LentTask,
+        op: &Op,
+        is_own: bool,
+    ) -> Option<CoreFault>
+        requires { has_lent self.now task.now ≡ is_own }
         ensures number { result ≡ None → made self.now.store + 1 < 2 ^ 63 }
         ensures lent { result ≡ None → is_in_hand (row_of task.now.id self.now.tasks.rows) task.now ≡ true }
         ensures store { result ≡ None → is_on_store (op_of op.now) ≡ true }
@@ -65,7 +125,7 @@ impl SpaceCore {
         if self.is_worn() {
             return Some(CoreFault::WornOut);
         }
-        if !self.tasks.is_lent_as(task) {
+        if !is_own {
             return Some(CoreFault::NotLent);
         }
         if !self.tasks.holds_op(&self.id, task.id(), op) {
@@ -106,7 +166,7 @@ impl SpaceCore {
         ensures { (g : Setting) (s : State) → IsCore g s self.now → C.tells classes.now g.classes → option_map kind_of result ≡ option_and_then (λ o. field_kind g.classes o.class slot) (object_at s object) }
     {
         match self.store.class_of(object) {
-            Some(class) => kind_in(classes.fields(class), slot),
+            Some(class) => classes.field_kind(class, slot),
             None => None,
         }
     }
@@ -126,6 +186,7 @@ impl SpaceCore {
         ensures reply { IfOk result (λ reply. (g : Setting) (s : State) → IsCore g s self.old → C.tells classes.now g.classes → reply_of reply ≡ op_reply g (op_of op.now) s) }
         ensures state { OnOk result ((g : Setting) (s : State) → IsCore g s self.old → C.tells classes.now g.classes → IsCore g (after_event g (committed task.old op.now) s).0 self.new) }
         ensures task { IfOk result (λ reply. task.new ≡ replied_hand (reply_of reply) task.old) }
+        ensures own { has_lent self.new task.new ≡ true }
         ensures lent { (other : ℕ) → is_lent self.new other ≡ is_lent self.old other }
         ensures unchanged { OnErr result ((g : Setting) (s : State) → IsCore g s self.old → IsCore g s self.new) }
         ensures kept { OnErr result (task.new ≡ task.old) }
@@ -158,12 +219,13 @@ impl SpaceCore {
         ensures reply { IfOk result (λ reply. (g : Setting) (s : State) → IsCore g s self.old → C.tells classes.now g.classes → reply_of reply ≡ op_reply g (Create class) s) }
         ensures state { OnOk result ((g : Setting) (s : State) → IsCore g s self.old → C.tells classes.now g.classes → IsCore g (after_event g (Committed task.old.id task.old.made (Create class)) s).0 self.new) }
         ensures task { IfOk result (λ reply. task.new ≡ replied_hand (reply_of reply) task.old) }
+        ensures own { has_lent self.new task.new ≡ true }
         ensures lent { (other : ℕ) → is_lent self.new other ≡ is_lent self.old other }
         ensures unchanged { OnErr result ((g : Setting) (s : State) → IsCore g s self.old → IsCore g s self.new) }
         ensures kept { OnErr result (task.new ≡ task.old) }
     {
         let reply = self.creation(classes, class);
-        let fields = blanks_of(self.alloc, classes.fields(class))?;
+        let fields = blanks_of(self.alloc, classes, class)?;
         self.store.reserve(1)?;
         self.answer(task, &reply)?;
         let _ = self.store.create_reserved(class, fields);
@@ -191,6 +253,7 @@ impl SpaceCore {
         ensures reply { IfOk result (λ reply. (g : Setting) (s : State) → IsCore g s self.old → fits_store g s (Get object slot) ≡ true → reply_of reply ≡ op_reply g (Get object slot) s) }
         ensures state { OnOk result ((g : Setting) (s : State) → IsCore g s self.old → fits_store g s (Get object slot) ≡ true → IsCore g (after_event g (Committed task.old.id task.old.made (Get object slot)) s).0 self.new) }
         ensures task { IfOk result (λ reply. task.new ≡ replied_hand (reply_of reply) task.old) }
+        ensures own { has_lent self.new task.new ≡ true }
         ensures lent { (other : ℕ) → is_lent self.new other ≡ is_lent self.old other }
         ensures unchanged { OnErr result ((g : Setting) (s : State) → IsCore g s self.old → IsCore g s self.new) }
         ensures kept { OnErr result (task.new ≡ task.old) }
@@ -222,6 +285,7 @@ impl SpaceCore {
         ensures reply { IfOk result (λ reply. (g : Setting) (s : State) → reply_of reply ≡ op_reply g (Put object slot value.now) s) }
         ensures state { OnOk result ((g : Setting) (s : State) → IsCore g s self.old → holds_op g (task_at s task.old.id) (Put object slot value.now) ≡ true → fits_store g s (Put object slot value.now) ≡ true → IsCore g (after_event g (Committed task.old.id task.old.made (Put object slot value.now)) s).0 self.new) }
         ensures task { IfOk result (λ reply. task.new ≡ replied_hand (reply_of reply) task.old) }
+        ensures own { has_lent self.new task.new ≡ true }
         ensures lent { (other : ℕ) → is_lent self.new other ≡ is_lent self.old other }
         ensures unchanged { OnErr result ((g : Setting) (s : State) → IsCore g s self.old → IsCore g s self.new) }
         ensures kept { OnErr result (task.new ≡ task.old) }
@@ -247,17 +311,6 @@ impl SpaceCore {
     }
 }
 
-// The kind of the field in this slot.
-fn kind_in(kinds: &[FieldKind], slot: usize) -> Option<FieldKind>
-    ensures { option_map kind_of result ≡ slice_get (map kind_of kinds.now) slot }
-{
-    if slot < kinds.len() {
-        Some(kinds[slot])
-    } else {
-        None
-    }
-}
-
 // Whether a field of this kind can hold the value.
 fn fits(kind: FieldKind, value: &Value) -> bool
     ensures { result ≡ fits_kind (kind_of kind) value.now }
@@ -269,22 +322,26 @@ fn fits(kind: FieldKind, value: &Value) -> bool
     }
 }
 
-// What the fields of a new object hold: 0 or null.
-fn blanks_of(alloc: Global, kinds: &[FieldKind]) -> Result<Vec<Value>, AllocError>
-    ensures { IfOk result (λ values. values.items ≡ map (λ kind. blank (Some (kind_of kind))) kinds.now) }
+// What the fields of a new object of the class hold: 0 or null.
+fn blanks_of<C: ClassSet>(
+    alloc: Global,
+    classes: &C,
+    class: ClassId,
+) -> Result<Vec<Value>, AllocError>
+    ensures { IfOk result (λ values. (c : Classes) → C.tells classes.now c → values.items ≡ blanks c class) }
 {
     let mut values = Vec::new(alloc);
-    for kind in kinds {
-        values.push(blank_of(*kind))?;
+    for slot in 0..classes.field_count(class) {
+        values.push(blank_of(classes.field_kind(class, slot)))?;
     }
     Ok(values)
 }
 
-fn blank_of(kind: FieldKind) -> Value
-    ensures { result ≡ blank (Some (kind_of kind)) }
+fn blank_of(kind: Option<FieldKind>) -> Value
+    ensures { result ≡ blank (option_map kind_of kind) }
 {
     match kind {
-        FieldKind::Int => Value::Int(0),
-        FieldKind::Reference => Value::Null,
+        Some(FieldKind::Int) => Value::Int(0),
+        Some(FieldKind::Reference) | None => Value::Null,
     }
 }

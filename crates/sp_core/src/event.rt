@@ -8,7 +8,7 @@ use space_ids::{ObjId, Row, Value};
 /// An event of a space.
 #[derive(Debug, Drop)]
 pub enum Event {
-    /// So many milliseconds have passed since some beginning.
+    /// This many milliseconds have passed since the space began to count.
     Moment(u64),
     /// The objects without a reason to stay are to be withdrawn.
     Sweep,

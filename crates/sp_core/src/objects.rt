@@ -1,14 +1,12 @@
 //! What a core shows of its objects and its tasks.
 
-ghost use Rattle.std.specs.Prelude.{◌≡◌, ℕ, List, filter, length, option_map, slice_get};
-ghost use Rattle.sp_rules.specs.References.{is_id};
+ghost use Rattle.std.specs.Prelude.{◌≡◌, ℕ, List, option_map, slice_get};
 ghost use Rattle.sp_rules.specs.Classes.{Setting};
 ghost use Rattle.sp_rules.specs.State.{State, standing};
 ghost use Rattle.sp_core.specs.Cores.{IsCore, Lends};
 ghost use Rattle.sp_core.specs.Shown.{lowest_ready, shown, shown_of};
 
 use crate::SpaceCore;
-use sp_registry::Binding;
 use space_ids::{ClassId, ObjId};
 
 /// What a core shows of a standing object: its id and class, how many names are bound to it, and how many
@@ -22,7 +20,7 @@ pub struct Shown {
 }
 
 impl SpaceCore {
-    /// The standing object at an index, in the order of ids. It looks at each name.
+    /// The standing object at an index, in the order of ids.
     pub fn object(&self, index: usize) -> Option<Shown>
         ensures { (g : Setting) (s : State) → IsCore g s self.now → option_map shown_of result ≡ option_map (shown s) (slice_get (standing s.store) index) }
     {
@@ -32,9 +30,16 @@ impl SpaceCore {
         Some(Shown {
             id,
             class,
-            names: bound_to(self.names.list(), id),
+            names: self.names.count_of(id),
             entries: self.entries.entries_of(id),
         })
+    }
+
+    /// How many tasks started: the last id that was given, 0 before the first.
+    pub fn tasks_made(&self) -> u64
+        ensures { (g : Setting) (s : State) → IsCore g s self.now → result ≡ s.tasks_made }
+    {
+        self.tasks.made()
     }
 
     /// The lowest task that may go on and is not lent. It looks at each that is lent before that one.
@@ -43,14 +48,4 @@ impl SpaceCore {
     {
         self.tasks.ready()
     }
-}
-
-// How many of the bindings are to the object.
-fn bound_to(bindings: &[Binding], id: ObjId) -> usize
-    ensures { result ≡ length (filter (λ binding. is_id binding.object id) bindings.now) }
-{
-    bindings
-        .iter()
-        .filter(|binding| binding.object == id)
-        .count()
 }

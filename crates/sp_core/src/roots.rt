@@ -9,7 +9,7 @@ ghost use Rattle.sp_rules.specs.Refusals.{checks, first_refusal, refusal, refusa
 ghost use Rattle.sp_rules.specs.Origins.{IsTaken, OwnStand};
 ghost use Rattle.sp_rules.specs.Space.{on as after_event, state_of};
 ghost use Rattle.sp_rules.specs.State.{State};
-ghost use Rattle.sp_core.specs.Cores.{IsCore};
+ghost use Rattle.sp_core.specs.Cores.{IsCore, is_lent};
 ghost use Rattle.sp_core.specs.Events.{output_of};
 ghost use Rattle.sp_rules.specs.Events.{Event as Happening, Started, Ready};
 ghost use Rattle.sp_core.specs.FaultNames.{Refuses, core_fault_number};
@@ -32,6 +32,7 @@ impl SpaceCore {
         ensures state { OnOk result ((g : Setting) (s : State) → IsCore g s self.old → IsTold g root.now → IsCore g (after_event g (event_of_root root.now) s).0 self.new) }
         ensures refused { IfErr result (λ fault. (g : Setting) (s : State) (lent : List ℕ) → IsCore g s self.old → IsTold g root.now → Refuses (refusal g lent s (event_of_root root.now)) fault) }
         ensures unchanged { OnErr result ((g : Setting) (s : State) → IsCore g s self.old → IsCore g s self.new) }
+        ensures lent { (other : ℕ) → is_lent self.new other ≡ is_lent self.old other }
 
         // Own references name standing objects of their class after each history that the space took.
         ensures standing { OnOk result ((g : Setting) (h : List Happening) → IsCore g (state_of g h) self.old → IsTold g root.now → IsTaken g h → OwnStand g (state_of g (event_of_root root.now ∷ h))) }
@@ -95,6 +96,7 @@ impl SpaceCore {
         ensures outputs { IfOk result (λ outputs. (g : Setting) (s : State) → IsCore g s self.old → map output_of outputs.items ≡ (after_event g (event_of_root root.now) s).1) }
         ensures state { OnOk result ((g : Setting) (s : State) → IsCore g s self.old → IsCore g (after_event g (event_of_root root.now) s).0 self.new) }
         ensures unchanged { OnErr result ((g : Setting) (s : State) → IsCore g s self.old → IsCore g s self.new) }
+        ensures lent { (other : ℕ) → is_lent self.new other ≡ is_lent self.old other }
     {
         let id = self.tasks.made() + 1;
         let outputs = started(self.alloc, id)?;

@@ -11,7 +11,7 @@ ghost use Rattle.sp_rules.specs.Refusals.{checks, first_refusal, is_worn, refusa
 ghost use Rattle.sp_rules.specs.Origins.{IsTaken, OwnStand};
 ghost use Rattle.sp_rules.specs.Space.{on as after_event, state_of};
 ghost use Rattle.sp_rules.specs.State.{Object, State, opening};
-ghost use Rattle.sp_core.specs.Cores.{IsCore};
+ghost use Rattle.sp_core.specs.Cores.{IsCore, is_lent};
 ghost use Rattle.sp_rules.specs.Events.{Event as Happening, Moment, Sweep, RootAck, Bind, Rebind, Unbind};
 ghost use Rattle.sp_core.specs.Events.{event_of, is_late, output_of, told};
 ghost use Rattle.sp_core.specs.FaultNames.{Refuses, core_fault_number};
@@ -62,7 +62,7 @@ impl SpaceCore {
             id,
             moment: 0,
             store: Store::new(alloc, id),
-            names: Registry::new(alloc),
+            names: Registry::new(alloc)?,
             entries: RefList::new(alloc),
             leases: Clients::new(alloc),
             fuel,
@@ -80,6 +80,7 @@ impl SpaceCore {
         ensures state { OnOk result ((g : Setting) (s : State) → IsCore g s self.old → IsCore g (after_event g (event_of event.now) s).0 self.new) }
         ensures refused { IfErr result (λ fault. (g : Setting) (s : State) (lent : List ℕ) → IsCore g s self.old → Refuses (refusal g lent s (event_of event.now)) fault) }
         ensures unchanged { OnErr result ((g : Setting) (s : State) → IsCore g s self.old → IsCore g s self.new) }
+        ensures lent { (other : ℕ) → is_lent self.new other ≡ is_lent self.old other }
 
         // Own references in tasks, fields and results name standing objects of their class after each
         // history that the space took; a sweep withdraws exactly what has no reason to stay.
@@ -98,6 +99,7 @@ impl SpaceCore {
         ensures outputs { IfOk result (λ outputs. (g : Setting) (s : State) → IsCore g s self.old → map output_of outputs.items ≡ (after_event g (event_of event.now) s).1) }
         ensures state { OnOk result ((g : Setting) (s : State) → IsCore g s self.old → IsCore g (after_event g (event_of event.now) s).0 self.new) }
         ensures unchanged { OnErr result ((g : Setting) (s : State) → IsCore g s self.old → IsCore g s self.new) }
+        ensures lent { (other : ℕ) → is_lent self.new other ≡ is_lent self.old other }
     {
         let mut outputs = Vec::with_capacity(self.alloc, 1)?;
         if let Some(output) = self.happen(event)? {
@@ -112,6 +114,7 @@ impl SpaceCore {
         ensures outputs { IfOk result (λ output. (g : Setting) (s : State) → IsCore g s self.old → (after_event g (event_of event.now) s).1 ≡ told output) }
         ensures state { OnOk result ((g : Setting) (s : State) → IsCore g s self.old → IsCore g (after_event g (event_of event.now) s).0 self.new) }
         ensures unchanged { OnErr result ((g : Setting) (s : State) → IsCore g s self.old → IsCore g s self.new) }
+        ensures lent { (other : ℕ) → is_lent self.new other ≡ is_lent self.old other }
     {
         match event {
             Event::Moment(moment) => {
@@ -134,6 +137,7 @@ impl SpaceCore {
         requires { moment < 2 ^ 63 }
         ensures outputs { (g : Setting) (s : State) → IsCore g s self.old → (after_event g (Moment moment) s).1 ≡ [] }
         ensures state { (g : Setting) (s : State) → IsCore g s self.old → IsCore g (after_event g (Moment moment) s).0 self.new }
+        ensures lent { (other : ℕ) → is_lent self.new other ≡ is_lent self.old other }
     {
         if moment < self.moment {
             return;
@@ -148,6 +152,7 @@ impl SpaceCore {
         ensures outputs { IfOk result (λ output. (g : Setting) (s : State) → IsCore g s self.old → (after_event g Sweep s).1 ≡ told output) }
         ensures state { OnOk result ((g : Setting) (s : State) → IsCore g s self.old → IsCore g (after_event g Sweep s).0 self.new) }
         ensures unchanged { OnErr result ((g : Setting) (s : State) → IsCore g s self.old → IsCore g s self.new) }
+        ensures lent { (other : ℕ) → is_lent self.new other ≡ is_lent self.old other }
     {
         let gone = self.without_reason()?;
         self.store.withdraw(self.alloc, &gone)?;
@@ -169,7 +174,7 @@ impl SpaceCore {
         ensures { IfOk result (λ needed. (g : Setting) (s : State) (id : ObjId) → IsCore g s self.now → is_id_in needed id ≡ (is_bound s id || (is_held_by_tasks g s id || is_in_a_result g s id))) }
     {
         let mut needed = IdSet::new(self.alloc);
-        insert_bound(self.names.list(), &mut needed)?;
+        insert_bound(&self.names, &mut needed)?;
         self.tasks.insert_own(&self.id, &mut needed)?;
         self.results.insert_own(&self.id, &mut needed)?;
         Ok(needed)
@@ -179,6 +184,7 @@ impl SpaceCore {
     fn on_root_ack(&mut self, task: u64)
         ensures outputs { (g : Setting) (s : State) → IsCore g s self.old → (after_event g (RootAck task) s).1 ≡ [] }
         ensures state { (g : Setting) (s : State) → IsCore g s self.old → IsCore g (after_event g (RootAck task) s).0 self.new }
+        ensures lent { (other : ℕ) → is_lent self.new other ≡ is_lent self.old other }
     {
         self.results.release(task);
     }
@@ -188,6 +194,7 @@ impl SpaceCore {
         ensures outputs { IfOk result (λ output. (g : Setting) (s : State) → IsCore g s self.old → (after_event g (Bind name.now value.now) s).1 ≡ told output) }
         ensures state { OnOk result ((g : Setting) (s : State) → IsCore g s self.old → IsCore g (after_event g (Bind name.now value.now) s).0 self.new) }
         ensures unchanged { OnErr result ((g : Setting) (s : State) → IsCore g s self.old → IsCore g s self.new) }
+        ensures lent { (other : ℕ) → is_lent self.new other ≡ is_lent self.old other }
     {
         let own = self.own_object(value);
         match self.names.bind(name, own) {
@@ -201,6 +208,7 @@ impl SpaceCore {
         ensures outputs { IfOk result (λ output. (g : Setting) (s : State) → IsCore g s self.old → (after_event g (Rebind name.now value.now) s).1 ≡ told output) }
         ensures state { OnOk result ((g : Setting) (s : State) → IsCore g s self.old → IsCore g (after_event g (Rebind name.now value.now) s).0 self.new) }
         ensures unchanged { OnErr result ((g : Setting) (s : State) → IsCore g s self.old → IsCore g s self.new) }
+        ensures lent { (other : ℕ) → is_lent self.new other ≡ is_lent self.old other }
     {
         let own = self.own_object(value);
         match self.names.rebind(name, own) {
@@ -213,6 +221,7 @@ impl SpaceCore {
     fn on_unbind(&mut self, name: &[u8]) -> Option<Output>
         ensures outputs { (g : Setting) (s : State) → IsCore g s self.old → (after_event g (Unbind name.now) s).1 ≡ told result }
         ensures state { (g : Setting) (s : State) → IsCore g s self.old → IsCore g (after_event g (Unbind name.now) s).0 self.new }
+        ensures lent { (other : ℕ) → is_lent self.new other ≡ is_lent self.old other }
     {
         match self.names.unbind(name) {
             Ok(()) => None,

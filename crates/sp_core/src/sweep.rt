@@ -10,16 +10,16 @@ ghost use Rattle.sp_core.specs.Sweeps.{forgotten, withdrawn};
 
 use crate::Output;
 use dgc_list::RefList;
-use sp_registry::Binding;
+use sp_registry::Registry;
 use sp_store::IdSet;
 use space_ids::{ObjId, Row};
 use std::alloc::{AllocError, Global};
 
 // Adds the ids of the objects to which names are bound.
-pub(crate) fn insert_bound(bindings: &[Binding], needed: &mut IdSet) -> Result<(), AllocError>
-    ensures { OnOk result ((id : ObjId) → is_id_in needed.new id ≡ (is_id_in needed.old id || list_any (λ binding. is_id binding.object id) bindings.now)) }
+pub(crate) fn insert_bound(names: &Registry, needed: &mut IdSet) -> Result<(), AllocError>
+    ensures { OnOk result ((id : ObjId) → is_id_in needed.new id ≡ (is_id_in needed.old id || list_any (λ binding. is_id binding.object id) names.now.bindings)) }
 {
-    for binding in bindings {
+    for binding in names.list() {
         needed.insert(binding.object)?;
     }
     Ok(())

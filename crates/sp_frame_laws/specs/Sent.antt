@@ -1,4 +1,4 @@
--- Of what kind the outputs of a space are, and with which exceptions calls are refused: NoSuchObjectException, UnmarshalException, ServerError, NotBoundException (Java RMI specification, A.2; frames are this project's own protocol).
+-- Of what kind the outputs of a space are, and with which exceptions calls are refused: NoSuchObjectException, UnmarshalException, ServerError, NotBoundException (Java RMI specification, appendix A; frames are this project's own protocol).
 use Rattle.std.specs.Prelude.{◌≡◌, ◌⊎◌, Bool, true, false}
 use Rattle.net_message.specs.declared.message.Message.{Message}
 use Rattle.net_message.specs.declared.message.Message.TheVariants as message

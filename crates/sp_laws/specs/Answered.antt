@@ -1,4 +1,4 @@
--- Requests and frames stand with their connections: what is out went to the peer that was dialled and said Hello, what is parked came on a connection whose Hello came, and a call or lookup is answered exactly while its result is parked (this project's own protocol; a remote call returns once by the Java RMI specification, 3.2).
+-- Requests and frames stand with their connections: what is out went to the peer that was dialled and said Hello, what is parked came on a connection whose Hello came, and a call or lookup is answered exactly while its result is parked (this project's own protocol; a remote call returns once by the Java RMI specification, 3.1).
 use Rattle.std.specs.Prelude.{◌≡◌, ℕ, ◌≤◌, ◌==◌, ◌&&◌, ◌||◌, not, Bool, true, false, is_some, is_none, List, Option, Some, find}
 use Rattle.uuid.specs.declared.Uuid.{Uuid}
 use Rattle.sp_rules.specs.Classes.{Setting}

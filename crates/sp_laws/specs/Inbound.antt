@@ -1,4 +1,4 @@
--- Calls that come: each occurs once, as a parked frame, as a living task or as a result that is held until its Ack (this project's own rule; a call of a remote method runs once by the Java RMI specification, 3.2).
+-- Calls that come: each occurs once, as a parked frame, as a living task or as a result that is held until its Ack (this project's own rule; a call of a remote method runs once by the Java RMI specification, 3.1).
 use Rattle.std.specs.Prelude.{◌≡◌, ℕ, ◌+◌, ◌≤◌, ◌==◌, ◌&&◌, ◌||◌, ◌++◌, Bool, true, false, List, [], ◌∷◌, Some}
 use Rattle.sp_rules.specs.Classes.{Setting}
 use Rattle.sp_rules.specs.Events.{Event, Opened}

@@ -1,5 +1,5 @@
 -- Calls that wait: each task that waits for a reply has asked for one call of its own, and each call and lookup has a number of its own
--- (this project's own rule; a remote call returns once by the Java RMI specification, 3.2).
+-- (this project's own rule; a remote call returns once by the Java RMI specification, 3.1).
 use Rattle.std.specs.Prelude.{◌≡◌, ℕ, ◌+◌, ◌≤◌, ◌==◌, ◌++◌, Bool, true, false, List, Some}
 use Rattle.sp_rules.specs.Classes.{Setting}
 use Rattle.sp_rules.specs.Events.{Event}

@@ -16,4 +16,4 @@ pub mod CommandRows
 pub mod Ended
 pub mod Only
 pub mod Named
-mod Plain
+pub mod Remote

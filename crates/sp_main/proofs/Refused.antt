@@ -5,7 +5,7 @@ use Rattle.std.proofs.lemmas.Option.{slice_get_within}
 use Rattle.cls_link.specs.Links.{Links}
 use Rattle.cls_link.specs.declared.linked_code.MethodId.{MethodId}
 use Rattle.sp_main.specs.RefusalTexts.{IsRefusalOf}
-use Rattle.sp_main.specs.Runs.{IsNoProgram, IsNotRun, IsProgram, IsRefused, IsUnread, NamesMethod, absent, at_fault, no_memory, no_memory_to_read, no_program, no_set, not_linked, not_safe, not_started, unread}
+use Rattle.sp_main.specs.Runs.{IsNoProgram, IsNotRun, IsProgram, IsRefused, IsUnread, NamesMethod, absent, at_fault, no_memory, no_memory_to_read, no_plain, no_program, no_set, not_linked, not_safe, not_started, unread}
 use Rattle.sp_main.specs.declared.refusal.Refusal.{Refusal}
 use Rattle.sp_main.specs.declared.refusal.Refusal.TheVariants as refusal
 use Rattle.sp_main.specs.declared.running.ClassBytes.{ClassBytes}
@@ -31,6 +31,7 @@ unread_file files r no_memory_to_read = tt
 pub no_program_file : (files : List ClassBytes) (r : Refusal) → IsNoProgram files r → IsRefusalOf files r
 no_program_file files r (unread refused why) = unread_file files refused why
 no_program_file files r (no_set classes fault spelled why) = tt
+no_program_file files r (no_plain classes set name spelled makes has is why) = tt
 no_program_file files r (not_linked classes set fault spelled has is why) = tt
 no_program_file files r (not_safe classes linked fault spelled has is why) = tt
 

@@ -1,4 +1,4 @@
--- The command line: what its parser is told, and what arguments ask for.
+-- The command line: what its parser is told, and what arguments ask for. (This project's own.)
 use Rattle.std.specs.Prelude.{◌≡◌, ◌≢◌, ◌⊎◌, ◌<◌, ◌^◌, ◌∷◌, [], ℕ, true, false, List, Option, Some, None, codes, unwrap_or}
 use Rattle.std.specs.List.{AllZip}
 use Rattle.std.specs.Str.Parse.{IsNumeral, digits_value}

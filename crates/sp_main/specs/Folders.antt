@@ -1,4 +1,4 @@
--- What a folder tells of its files.
+-- What a folder tells of its files: their paths, and the bytes of each. (This project's own; POSIX 3.170 and 4.13 for names of entries.)
 use Rattle.std.specs.Prelude.{◌≡◌, ◌<◌, ◌==◌, ◌++◌, ◌∷◌, [], ⊤, if◌then◌else◌, ℕ, false, List, Option, String, All, IfSome, codes, eqb, length, string_bytes, take}
 use Rattle.std.specs.List.{ends_with, list_any}
 use Rattle.std.specs.Global.{Global}

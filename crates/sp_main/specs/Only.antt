@@ -1,4 +1,4 @@
--- What else may be answered, if one answer is right: that memory ran out.
+-- What else may be answered, if one answer is right: that memory ran out. (This project's own.)
 use Rattle.std.specs.Prelude.{◌≡◌, Result, Ok, Err}
 use Rattle.cf_load.specs.declared.load_fault.LoadFault.{LoadFault}
 use Rattle.cf_load.specs.declared.load_fault.LoadFault.TheVariants as load
@@ -18,6 +18,7 @@ IsReadOut fault = fault ≡ load.Read read.Memory
 abbrev pub IsOutOfMemory : Refusal → Type 0
 IsOutOfMemory (refusal.File index fault) = IsReadOut fault
 IsOutOfMemory (refusal.Set fault) = fault ≡ set.Memory
+IsOutOfMemory (refusal.Remote class) = ⊥
 IsOutOfMemory (refusal.Link fault) = fault ≡ link.Memory
 IsOutOfMemory (refusal.Check fault) = fault ≡ check.Memory
 IsOutOfMemory (refusal.Start fault) = fault ≡ start.Memory

@@ -1,4 +1,4 @@
--- What the program answers to its command line.
+-- What the program answers to its command line. (This project's own.)
 use Rattle.std.specs.Prelude.{◌≡◌, ◌⊎◌, ℕ, List, Option, codes, length, unwrap_or}
 use Rattle.cls_link.specs.Links.{Links}
 use Rattle.sp_main.specs.CommandLine.{AsksCheck, AsksRun, AsksText, IsUsageFault, RunWords}

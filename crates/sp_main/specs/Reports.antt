@@ -1,4 +1,4 @@
--- What a report leaves on the two outputs.
+-- What a report leaves on the two outputs. (This project's own.)
 use Rattle.std.specs.Prelude.{◌≡◌, ◌⊎◌, ◌<◌, ◌++◌, ◌∷◌, [], ℕ, List, Option, length, take}
 use Rattle.std.specs.Io.KnownBytes.{Appends}
 use Rattle.sp_main.specs.declared.status.Status.{Status}

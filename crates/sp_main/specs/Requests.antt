@@ -1,4 +1,4 @@
--- What the program makes of its arguments: a request for what they ask.
+-- What the program makes of its arguments: a request for what they ask. (This project's own.)
 use Rattle.std.specs.Prelude.{◌≡◌, ◌≢◌, ◌⊎◌, ℕ, List, false, Option, Some, codes}
 use Rattle.clap.specs.Simple.{Shape, shape_of}
 use Rattle.clap.specs.Walk.{Row, Rule, first_of, rule_of}

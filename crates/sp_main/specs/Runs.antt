@@ -1,5 +1,5 @@
 -- What it means that class files run: from their bytes to how the method ends, each layer by its own definition.
-use Rattle.std.specs.Prelude.{◌≡◌, ◌≢◌, ◌+◌, ◌==◌, ℕ, Bool, MatchBool, Option, Some, None, Ok, Err, List, take, drop, length, nat_le, slice_get, option_map}
+use Rattle.std.specs.Prelude.{◌≡◌, ◌≢◌, ◌+◌, ◌<◌, ◌==◌, ℕ, Bool, MatchBool, Option, Some, None, Ok, Err, List, take, drop, length, nat_le, slice_get, option_map}
 use Rattle.std.specs.List.{AllZip, position}
 use Rattle.cf_reader.specs.declared.class_file.ClassFile.{ClassFile}
 use Rattle.cf_layout.specs.declared.items.Layout.{Layout}
@@ -16,6 +16,7 @@ use Rattle.cls_search.specs.declared.methods.MethodIndex.{MethodIndex}
 use Rattle.cls_set.specs.Classes as sets
 use Rattle.cls_set.specs.Faults.{IsSetFault, MakeASet}
 use Rattle.cls_set.specs.Sets.{HasClasses, IsClassSet}
+use Rattle.cls_set.specs.Subtypes.{IsRemote}
 use Rattle.cls_set.specs.declared.fault.SetFault.{SetFault}
 use Rattle.cls_set.specs.declared.class.Class.{Class}
 use Rattle.sp_main.specs.declared.running.ClassBytes.{ClassBytes}
@@ -34,7 +35,7 @@ use Rattle.space_ids.specs.declared.value.Value.{Value}
 use Rattle.space_ids.specs.declared.value.Value.TheVariants as value
 use Rattle.vm_run.specs.Ends.{End, ReturnedNothing, ReturnedInt, ReturnedNull, ReturnedInts, ReturnedObject, ReturnedRemote, Threw, ThrewObject, Spent}
 use Rattle.vm_run.specs.Limited.{KeepsWithin}
-use Rattle.vm_run.specs.Run.{Over, made, run, IsNeverStuck}
+use Rattle.vm_run.specs.Run.{HasNoRemote, Over, made, run, IsNeverStuck}
 use Rattle.vm_run.specs.Start.{started}
 use Rattle.vm_run.specs.Task.{Tasked, most_elements, thrown_name, unmarshalled}
 use Rattle.vm_run.specs.declared.outcome.Outcome.{Outcome}
@@ -75,6 +76,8 @@ pub record IsProgram (files : List ClassBytes) (program : Links) : Type 0 where
   -- they break no rule on sets
   pub makes_a_set : MakeASet classes
   pub set : HasClasses classes program.classes
+  -- none of them is remote
+  pub plain : HasNoRemote program.classes
   -- and their code none on what it names
   pub sound : AreSound program.classes
   pub linked : AreLinks program
@@ -141,16 +144,25 @@ pub record IsRun (files : List ClassBytes) (class text : List ℕ) (arguments : 
   pub named : NamesMethod program class text (Some method)
   pub runs : Runs program method arguments limits outcome
 
+-- a class of this name is remote, and none before it is; or memory ran out
+abbrev pub IsRemoteClass : List Class → Refusal → Type 0
+IsRemoteClass classes (refusal.Remote name) = (class : ClassId) × (sets.name_at classes class ≡ Some name) × IsRemote classes class
+    × ((other : ClassId) → other.0 < class.0 → ¬ IsRemote classes other)
+IsRemoteClass classes refusal.Memory = Unit {0}
+IsRemoteClass classes _ = ⊥
+
 -- why files are not read: the first at fault, and those before it spell class files
 pub data IsUnread (files : List ClassBytes) : Refusal → Type 0 where
   at_fault : (index : ℕ) (file : ClassBytes) (fault : LoadFault) (before : List ClassFile) → slice_get files index ≡ Some file → AreSpelled (take index files) before
       → IsFileFault file.content fault → IsUnread files (refusal.File index fault)
   no_memory_to_read : IsUnread files refusal.Memory
 
--- why files make no program: the first of reading, set, links and checks that refuses them
+-- why files make no program: the first of reading, set, remote classes, links and checks that refuses them
 pub data IsNoProgram (files : List ClassBytes) : Refusal → Type 0 where
   unread : (refused : Refusal) → IsUnread files refused → IsNoProgram files refused
   no_set : (classes : List ClassFile) (fault : SetFault) → AreSpelled files classes → IsSetFault classes fault → IsNoProgram files (refusal.Set fault)
+  no_plain : (classes : List ClassFile) (set : List Class) (name : List ℕ) → AreSpelled files classes → MakeASet classes → HasClasses classes set → IsClassSet set
+      → IsRemoteClass set (refusal.Remote name) → IsNoProgram files (refusal.Remote name)
   not_linked : (classes : List ClassFile) (set : List Class) (fault : LinkFault) → AreSpelled files classes → HasClasses classes set → IsClassSet set
       → IsLinkFault set fault → IsNoProgram files (refusal.Link fault)
   not_safe : (classes : List ClassFile) (linked : Links) (fault : CheckFault) → AreSpelled files classes → HasClasses classes linked.classes → AreLinks linked

@@ -1,4 +1,4 @@
--- The exit statuses: their numbers, and which goes with which answer.
+-- The exit statuses: their numbers, and which goes with which answer. (This project's own.)
 use Rattle.std.specs.Prelude.{ℕ}
 use Rattle.cf_load.specs.declared.load_fault.LoadFault.{LoadFault}
 use Rattle.cf_load.specs.declared.load_fault.LoadFault.TheVariants.{Device, Read}
@@ -30,6 +30,7 @@ file_status (Read fault) = Refused
 abbrev pub refusal_status : Refusal → Status
 refusal_status (refusal.File index fault) = file_status fault
 refusal_status (refusal.Set fault) = Refused
+refusal_status (refusal.Remote class) = Refused
 refusal_status (refusal.Link fault) = Refused
 refusal_status (refusal.Check fault) = Refused
 refusal_status (refusal.Start fault) = Failed

@@ -1,4 +1,4 @@
--- What is printed of how a method ended, and of a class set that is accepted.
+-- What is printed of how a method ended, and of a class set that is accepted. (This project's own.)
 use Rattle.std.specs.Prelude.{◌++◌, ◌∷◌, [], ℕ, ℤ, Some, None, List, codes}
 use Rattle.std.specs.Fmt.{decimal, signed_decimal}
 use Rattle.sp_main.specs.declared.running.RunOutcome.{RunOutcome}

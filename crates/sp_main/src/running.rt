@@ -1,7 +1,7 @@
 //! From the bytes of class files to how a method ends: reading, sets, linking, checking and running,
 //! without any input or output.
 
-ghost use Rattle.std.specs.Prelude.{◌≡◌, ◌+◌, ◌-◌, ◌^◌, ◌<◌, ◌≤◌, List, length, IfOk, IfErr, IfSome, IsSome};
+ghost use Rattle.std.specs.Prelude.{◌≡◌, ◌+◌, ◌-◌, ◌^◌, ◌<◌, ◌≤◌, List, length, IfOk, IfErr, IfSome, IsSome, OnOk};
 ghost use Rattle.std.specs.List.{position};
 ghost use Rattle.cls_link.specs.Links.{Links};
 ghost use Rattle.cls_link.specs.Numbers.{number_in};
@@ -9,7 +9,7 @@ ghost use Rattle.cls_search.specs.MethodSearches.{method_in};
 ghost use Rattle.vm_run.specs.Run.{HasNoRemote};
 ghost use Rattle.vm_run.specs.Task.{IsOfSet};
 ghost use Rattle.sp_main.specs.Only.{IsOutOfMemory, IsReadOut, OnlyGives};
-ghost use Rattle.sp_main.specs.Runs.{AreSpelled, IsFileFault, IsNamed, IsNoProgram, IsNotRun, IsProgram, IsRefused, IsRun, IsSpelled, IsUnread, NamesMethod, Runs, is_parenthesis};
+ghost use Rattle.sp_main.specs.Runs.{AreSpelled, IsFileFault, IsNamed, IsNoProgram, IsNotRun, IsProgram, IsRefused, IsRemoteClass, IsRun, IsSpelled, IsUnread, NamesMethod, Runs, is_parenthesis};
 
 use super::refusal::Refusal;
 use cf_load::LoadFault;
@@ -17,7 +17,7 @@ use cf_reader::{ClassFile, Text, read_class};
 use cls_link::{Linked, MethodId, link};
 use cls_resolve::MemberIndex;
 use cls_search::{MethodIndex, find_method};
-use cls_set::ClassSet;
+use cls_set::{ClassId, ClassSet};
 use std::alloc::{AllocError, Global};
 use ver_check::{Accepted, accept};
 use vm_heap::{Uuid, Value};
@@ -52,7 +52,7 @@ pub enum RunOutcome {
 
 /// Runs the static method of this name and descriptor, as `f(I)I`, over the class set of the files,
 /// and returns how it ended. Method resolution finds it, so the class may inherit it (JVMS 5.4.3.3).
-/// The first refusal counts: files in order, then the set, links, checks,
+/// The first refusal counts: files in order, then the set, the first remote class by name, links, checks,
 /// and the start. It may be out of memory instead of any answer. The limits' heap words are
 /// below 2^32 - 2^16.
 pub fn run_classes(
@@ -85,7 +85,8 @@ pub fn run_classes(
 }
 
 /// Reads, links and checks the class set of the files, and returns how many files there are. The
-/// first refusal counts: files in order, then the set, links and checks. Nothing of it runs.
+/// first refusal counts: files in order, then the set, the first remote class by name, links and checks.
+/// Nothing of it runs.
 pub fn check_classes(alloc: Global, files: &[ClassBytes]) -> Result<usize, Refusal>
     ensures accepted { IfOk result (λ count. count ≡ length files.now) }
     ensures program { IfOk result (λ _. (program : Links) × IsProgram files.now program) }
@@ -97,7 +98,7 @@ pub fn check_classes(alloc: Global, files: &[ClassBytes]) -> Result<usize, Refus
     Ok(files.len())
 }
 
-// The files' class set, read, linked and checked.
+// The files' class set without remote classes, read, linked and checked.
 fn accepted_of(alloc: Global, files: &[ClassBytes]) -> Result<Accepted, Refusal>
     ensures program { IfOk result (IsProgram files.now) }
     ensures refused { IfErr result (IsNoProgram files.now) }
@@ -105,8 +106,23 @@ fn accepted_of(alloc: Global, files: &[ClassBytes]) -> Result<Accepted, Refusal>
 {
     let classes = read_files(alloc, files)?;
     let set = ClassSet::build(alloc, classes)?;
+    refuse_remote(&set)?;
     let linked = link(alloc, set)?;
     Ok(accept(alloc, linked)?)
+}
+
+// Refuses the first remote class by name.
+fn refuse_remote(set: &ClassSet) -> Result<(), Refusal>
+    ensures plain { OnOk result (HasNoRemote set.now) }
+    ensures refused { IfErr result (IsRemoteClass set.now) }
+{
+    for number in 0..set.len() {
+        let class = ClassId(number as u16);
+        if set.is_remote(class) {
+            return Err(Refusal::Remote(set.name(class).copy()?));
+        }
+    }
+    Ok(())
 }
 
 fn read_files(alloc: Global, files: &[ClassBytes]) -> Result<Vec<ClassFile>, Refusal>

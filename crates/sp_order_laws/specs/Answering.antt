@@ -1,4 +1,4 @@
--- Frames and their answers: a Call or a Lookup is answered by a Returned, a Threw or a Spent, a dirty or clean call by a Lease or a Cleaned, and a Returned by an Ack (Java RMI specification, 3.2: a remote call returns once; 9.1: dirty and clean calls; Ack is this project's own).
+-- Frames and their answers: a Call or a Lookup is answered by a Returned, a Threw or a Spent, a dirty or clean call by a Lease or a Cleaned, and a Returned by an Ack (Java RMI specification, 3.1: a remote call returns once; 9.1: dirty and clean calls; Ack is this project's own).
 use Rattle.std.specs.Prelude.{ℕ, ◌+◌, ◌≤◌, ◌==◌, ◌&&◌, not, Bool, false, List, [], ◌∷◌}
 use Rattle.std.specs.List.{flat_map}
 use Rattle.net_message.specs.declared.message.Message.{Message}

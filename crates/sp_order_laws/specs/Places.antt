@@ -1,4 +1,4 @@
--- Where calls, dirty and clean calls, and results are on their way between two spaces: in one part of the world at a time (Java RMI specification, 3.2: a remote call returns once; 9.1: dirty and clean calls; that a result is acknowledged is this project's own protocol).
+-- Where calls, dirty and clean calls, and results are on their way between two spaces: in one part of the world at a time (Java RMI specification, 3.1: a remote call returns once; 9.1: dirty and clean calls; that a result is acknowledged is this project's own protocol).
 use Rattle.std.specs.Prelude.{◌≡◌, ℕ, ◌+◌, ◌≤◌, ◌&&◌, List, ◌++◌, Option, Some, slice_get}
 use Rattle.space_ids.specs.declared.value.Value.{Value}
 use Rattle.net_message.specs.declared.message.Message.TheVariants as message

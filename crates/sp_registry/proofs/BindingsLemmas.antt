@@ -1,59 +1,18 @@
-use Rattle.std.proofs.Common.{◌≡◌, ℕ, zero, suc, ◌<◌, ◌≤◌, Bool, true, false, cond, List, [], ◌∷◌, ◌++◌, length, get_or, set, Option, None, Some, Ok, Err, subst, refl, sym, ap, ◌∙◌, arith}
+use Rattle.std.proofs.Common.{◌≡◌, ℕ, Bool, true, false, cond, List, [], ◌∷◌, ◌++◌, Option, None, Some, Ok, Err, subst, refl, sym, ap, ◌∙◌}
 use Rattle.std.specs.Prelude.{if◌then◌else◌, is_some, IsSome, map}
-use Rattle.std.specs.List.{position, position_or_len, remove}
 use Rattle.std.specs.Str.{bytes_eq}
 use Rattle.std.proofs.lemmas.Bool.Decides.{same_from_decides, Decides-like}
-use Rattle.std.proofs.lemmas.List.Quantifiers.{position-Some}
-use Rattle.std.proofs.lemmas.Bool.Decides.{nat_tests}
-use Rattle.std.proofs.lemmas.List.Recursion.{found_at}
 use Rattle.std.proofs.lemmas.Slice.Eq.{bytes_eq-Decides}
 use Rattle.space_ids.specs.declared.ids.ObjId.{ObjId}
 use Rattle.sp_registry.specs.declared.registry.Binding.{Binding}
 use Rattle.sp_registry.specs.declared.fault.RegistryFault.TheVariants.{AlreadyBound}
-use Rattle.sp_registry.specs.Bindings.{allowed, bind, is_of, lookup, rebound, unbound, IsIndexOf, HasNamesOnce}
+use Rattle.sp_registry.specs.Bindings.{allowed, bind, is_of, lookup, rebound, unbound, HasNamesOnce}
 
 pub bytes_eq-refl : (a : List ℕ) → bytes_eq a a ≡ true
 bytes_eq-refl a = (bytes_eq-Decides a a).1 refl
 
 pub bytes_eq-sym : (a b : List ℕ) → bytes_eq a b ≡ bytes_eq b a
 bytes_eq-sym a b = same_from_decides (bytes_eq a b) (bytes_eq b a) (bytes_eq-Decides a b) (Decides-like (bytes_eq b a) sym sym (bytes_eq-Decides b a))
-
--- a name that stands nowhere is not bound
-pub lookup-absent : (bindings : List Binding) (name : List ℕ) → length bindings ≤ position_or_len (is_of name) bindings → lookup bindings name ≡ None
-lookup-absent [] name h = refl
-lookup-absent (b ∷ bs) name h = grind (arith, lookup-absent bs name)
-
-rebound-here : (bindings : List Binding) (name : List ℕ) (object : ObjId) (i : ℕ) (d : Binding) → i < length bindings
-    → ((k : ℕ) → k < i → is_of name (get_or bindings k d) ≡ false) → is_of name (get_or bindings i d) ≡ true
-    → rebound bindings name object ≡ set bindings i (record (get_or bindings i d) { object = object })
-rebound-here [] name object i d l before here = absurd (omega arith)
-rebound-here (b ∷ bs) name object zero d l before here = rw here refl
-rebound-here (b ∷ bs) name object (suc i) d l before here =
-    rw (before 0 (omega arith)) (ap (λ rest. b ∷ rest) (rebound-here bs name object i d (omega arith) (λ k h. before (suc k) (omega arith)) here))
-
-unbound-here : (bindings : List Binding) (name : List ℕ) (i : ℕ) (d : Binding) → i < length bindings
-    → ((k : ℕ) → k < i → is_of name (get_or bindings k d) ≡ false) → is_of name (get_or bindings i d) ≡ true
-    → unbound bindings name ≡ remove bindings i
-unbound-here [] name i d l before here = absurd (omega arith)
-unbound-here (b ∷ bs) name zero d l before here = rw here refl
-unbound-here (b ∷ bs) name (suc i) d l before here =
-    rw (before 0 (omega arith)) (ap (λ rest. b ∷ rest) (unbound-here bs name i d (omega arith) (λ k h. before (suc k) (omega arith)) here))
-
-pub index-found : (bindings : List Binding) (name : List ℕ) (i : ℕ) → position (is_of name) bindings ≡ Some i → IsIndexOf bindings name i
-index-found [] name i h = absurd (let e : ◌≡◌ {A = Option ℕ} None (Some i) = h in cc)
-index-found (d ∷ rest) name i h =
-    let bs : List Binding = d ∷ rest in
-    let at : (x : Binding) → (i < length bs) × (is_of name (get_or bs i x) ≡ true) × ((k : ℕ) → k < i → is_of name (get_or bs k x) ≡ false) =
-    λ x. position-Some (is_of name) bs i x h in
-    record {
-      within = (at d).0;
-      bound = λ x. found_at (λ xs. lookup xs name) (is_of name) (λ b. Some b.object) None refl (λ _ _. refl) bs i x (at x).0 (at x).2 (at x).1;
-      rebinds = λ x object. rebound-here bs name object i x (at x).0 (at x).2 (at x).1;
-      unbinds = unbound-here bs name i d (at d).0 (at d).2 (at d).1;
-    }
-
-pub none-found : (bindings : List Binding) (name : List ℕ) → position (is_of name) bindings ≡ None → lookup bindings name ≡ None
-none-found bs name h = lookup-absent bs name (grind (arith, nat_tests))
 
 -- what a name is bound to in bindings with one more at the end
 pub lookup-append : (bindings : List Binding) (name : List ℕ) (other : Binding)
@@ -159,3 +118,10 @@ names-rebound (b ∷ bs) name object is_bound =
 pub bind-bound : (bindings : List Binding) (name : List ℕ) (object : Option ObjId) (own found : ObjId) → allowed name object ≡ Ok own
     → lookup bindings name ≡ Some found → bind bindings name object ≡ Err AlreadyBound
 bind-bound bindings name object own found may bound = rw (may, bound) refl
+
+-- a name that is not bound is not taken away
+pub unbound-absent : (bindings : List Binding) (name : List ℕ) → lookup bindings name ≡ None → unbound bindings name ≡ bindings
+unbound-absent [] name absent = refl
+unbound-absent (b ∷ bs) name absent =
+    let parts = unbound-parts (bytes_eq b.name name) b.object (lookup bs name) absent in
+    rw parts.0 (ap (λ rest. b ∷ rest) (unbound-absent bs name parts.1))

@@ -1,1 +1,3 @@
 pub mod BindingsLemmas
+pub mod CountsLemmas
+pub mod TableLemmas

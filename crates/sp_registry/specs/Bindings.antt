@@ -10,10 +10,9 @@ use Rattle.sp_registry.specs.declared.fault.BindFault.TheVariants.{Memory, Denie
 use Rattle.sp_registry.specs.declared.registry.Binding.{Binding}
 use Rattle.sp_registry.specs.Names.{is_name}
 
--- what a registry is seen as: its bindings, in the order in which the names were bound, and for how many more there is room
+-- what a registry is seen as: its bindings, in the order in which the names were bound
 pub record Names : Type 0 where
   pub bindings : List Binding
-  pub room : ℕ
 
 -- whether the binding is of that name
 abbrev pub is_of : List ℕ → Binding → Bool

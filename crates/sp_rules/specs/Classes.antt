@@ -1,4 +1,4 @@
--- What a space asks of its class set, and what is settled when a space is made. A remote interface is java/rmi/Remote or extends it; a remote class is a class that implements one (Java RMI specification, 2.3 and 4.1).
+-- What a space asks of its class set, and what is settled when a space is made. A remote interface is java/rmi/Remote or extends it; a remote class is a class that implements one (Java RMI specification, 2.4 and 4.1).
 use Rattle.std.specs.Prelude.{ℕ, Bool, true, false, List, [], ◌∷◌, Option, None, Some, ◌&&◌, pos, slice_get, if◌then◌else◌}
 use Rattle.space_ids.specs.declared.ids.ClassId.{ClassId}
 use Rattle.uuid.specs.declared.Uuid.{Uuid}
@@ -110,7 +110,7 @@ fits_field (Some k) v = fits_kind k v
 abbrev pub field_kind : Classes → ClassId → ℕ → Option Kind
 field_kind classes class slot = slice_get (classes.fields class) slot
 
--- An Error that a callee throws reaches its caller as ServerError, a RemoteException as ServerException, any other class as itself (Java RMI specification, A.2).
+-- An Error that a callee throws reaches its caller as ServerError, a RemoteException as ServerException, any other class as itself (Java RMI specification, appendix A).
 abbrev pub told_class : Classes → ClassId → ClassId
 told_class classes class =
     if classes.is_error class then classes.server_error

@@ -1,4 +1,4 @@
--- Failures and ends of connections: dirty and clean calls fail, calls end with an exception, results are held on (Java RMI specification, A.2: ConnectException, MarshalException, UnmarshalException). A failure removes no entry and no name.
+-- Failures and ends of connections: dirty and clean calls fail, calls end with an exception, results are held on (Java RMI specification, appendix A: ConnectException, MarshalException, UnmarshalException). A failure removes no entry and no name.
 use Rattle.std.specs.Prelude.{ℕ, ◌+◌, ◌==◌, ◌&&◌, ◌||◌, not, Bool, true, false, List, [], ◌∷◌, Option, None, Some, is_none, filter, map, take, if◌then◌else◌}
 use Rattle.std.specs.List.{list_any, flat_map}
 use Rattle.space_ids.specs.declared.ids.ClassId.{ClassId}

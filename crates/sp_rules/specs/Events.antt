@@ -8,7 +8,7 @@ use Rattle.space_ids.specs.declared.value.Value.{Value}
 use Rattle.sp_rules.specs.Behaviours.{Outcome, Op}
 
 pub data Event : Type 0 where
-  -- `moment` milliseconds have passed since some beginning
+  -- `moment` milliseconds have passed since the space began to count
   Moment : (moment : ℕ) → Event
   -- objects without a reason to stay are withdrawn
   Sweep : Event

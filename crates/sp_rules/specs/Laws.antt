@@ -1,4 +1,4 @@
--- The laws of spaces and worlds, in the terms of the rules; each is the contract of a function of this crate.
+-- The laws of spaces and worlds, in the terms of the rules; each is the contract of a function of this crate. (This project's own.)
 use Rattle.std.specs.Prelude.{◌+◌, None, Some, map, ◌≡◌, ◌≤◌, ◌⊎◌, ℕ, Bool, true, false, List, [], ◌∷◌, ◌++◌, Option, option_map, slice_get, filter, not, Result, Ok, Err, fold, nat_lt, if◌then◌else◌}
 use Rattle.dgc_list.specs.History as owner
 use Rattle.dgc_list.specs.Remembered.{blank}

@@ -1,5 +1,5 @@
 -- Operations on lists with which the rules of a space are written: something is done for each of a list in turn, one row of a table is
--- changed. (No rule of a space stands here.)
+-- changed. (This project's own; no rule of a space stands here.)
 use Rattle.std.specs.Prelude.{ℕ, zero, suc, ◌+◌, Bool, List, [], ◌∷◌, ◌++◌, Option, None, Some, fold, if◌then◌else◌}
 
 -- what is left of a state after something is done for each of these, in turn

@@ -1,4 +1,4 @@
--- Tasks: how they start, ask and go on, and end, and what becomes of their results (Java RMI specification, 3.2 and A.2; fuel is this project's own rule).
+-- Tasks: how they start, ask and go on, and end, and what becomes of their results (Java RMI specification, 3.1 and appendix A; fuel is this project's own rule).
 use Rattle.std.specs.Prelude.{ℕ, ◌+◌, ◌==◌, not, nat_le, Bool, true, false, List, [], ◌∷◌, ◌++◌, Option, None, Some, filter, length, unwrap_or, if◌then◌else◌}
 use Rattle.net_message.specs.declared.message.Message.{Message}
 use Rattle.net_message.specs.declared.message.Message.TheVariants as message

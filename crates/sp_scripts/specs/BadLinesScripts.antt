@@ -1,4 +1,5 @@
 -- Lines that are refused: scripts of spaces, each with what it shows and how its roots and lookups end.
+-- (This project's own worked examples: docs/SCRIPTS.md.)
 use Rattle.std.specs.Prelude.{◌≡◌, List, [], ◌∷◌, Some, pos}
 use Rattle.space_ids.specs.declared.value.Value.TheVariants as values
 use Rattle.sp_scripts.specs.Names.{counter_bump, counter_make}

@@ -1,4 +1,5 @@
 -- Dirty and clean calls, leases and their ends: scripts of spaces, each with what it shows and how its roots and lookups end.
+-- (This project's own worked examples: docs/SCRIPTS.md.)
 use Rattle.std.specs.Prelude.{◌≡◌, List, [], ◌∷◌, None, Some, pos}
 use Rattle.space_ids.specs.declared.value.Value.TheVariants as values
 use Rattle.sp_rules.specs.Behaviours.{Returned, Threw}

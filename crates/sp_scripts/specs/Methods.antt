@@ -1,4 +1,5 @@
 -- What the methods of the scripts' remote classes do, as behaviours: instructions of their own, what they ask for, and how they end.
+-- (This project's own worked examples: docs/SCRIPTS.md.)
 use Rattle.std.specs.Prelude.{ℕ, zero, suc, ◌+◌, ◌==◌, ◌&&◌, ◌||◌, not, nat_le, Bool, true, false, List, [], ◌∷◌, Option, None, Some, ℤ, pos, negsuc, ◌+ℤ◌, length, if◌then◌else◌}
 use Rattle.std.specs.Str.{bytes_eq}
 use Rattle.uuid.specs.declared.Uuid.{Uuid}

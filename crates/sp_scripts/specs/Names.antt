@@ -1,5 +1,5 @@
 -- The numbers of the classes and methods of which the scripts are played: small remote classes, each with the static methods that scripts
--- start. (Methods and Programs say in words what each method does.)
+-- start; `Methods` and `Programs` say what each method does. (This project's own worked examples: docs/SCRIPTS.md.)
 use Rattle.std.specs.Prelude.{ℕ}
 use Rattle.space_ids.specs.declared.ids.ClassId.{ClassId}
 

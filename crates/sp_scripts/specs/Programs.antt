@@ -1,4 +1,4 @@
--- The static methods that scripts start, and the class set of the scripts.
+-- The static methods that scripts start, and the class set of the scripts. (This project's own worked examples: docs/SCRIPTS.md.)
 use Rattle.std.specs.Prelude.{ℕ, zero, suc, ◌-◌, ◌==◌, ◌&&◌, ◌||◌, not, nat_lt, nat_le, Bool, false, List, [], ◌∷◌, ◌++◌, Option, None, Some, pos, if◌then◌else◌}
 use Rattle.std.specs.Str.{bytes_eq}
 use Rattle.uuid.specs.declared.Uuid.{Uuid}

@@ -8,6 +8,6 @@ pub record Recorded : Type 0 where
   pub began : rules.Beginning
   pub given : List rules.Given
 
--- a reply to an operation on the store, after so many of the task's own instructions
+-- a reply to an operation on the store, after this number of the task's own instructions
 abbrev pub with_given : ℕ → Reply → Recorded → Recorded
 with_given steps reply past = record past { given = past.given ++ record { steps = steps; lent = false; reply = reply } ∷ [] }

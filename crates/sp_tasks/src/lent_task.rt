@@ -30,7 +30,7 @@ impl Model for LentTask {
 }
 
 impl LentTask {
-    // The task of this id and record, after so many instructions since its last reply.
+    // The task of this id and record, after this number of instructions since its last reply.
     pub(crate) fn new(id: u64, past: Record, steps: u64) -> LentTask
         ensures { result ≡ record { id = id; past = past; steps = steps; made = 0 } }
     {
@@ -71,7 +71,7 @@ impl LentTask {
         self.made
     }
 
-    /// Enters that its machine made so many more instructions.
+    /// Adds to the instructions that its machine has made.
     pub fn ran(&mut self, made: u64)
         requires { self.old.steps + self.old.made + made < 2 ^ 64 }
         ensures { self.new ≡ record self.old { made = self.old.made + made } }

@@ -12,8 +12,8 @@ use space_ids::{Row, Value};
 use std::alloc::{AllocError, Global};
 use std::marker::Model;
 
-/// The record of a living task: how it began, and each reply that it was given, after so many
-/// instructions of its own.
+/// The record of a living task: how it began, and each reply that it was given, with the number
+/// of its own instructions before it.
 #[derive(Debug, Drop)]
 pub struct Record {
     method: u32,
@@ -68,8 +68,8 @@ impl Record {
             && same_givens(&self.given, &other.given)
     }
 
-    // Enters a reply to an operation on the store, after so many instructions. At out of memory
-    // nothing happens.
+    // Enters a reply to an operation on the store, and how many instructions came before it. If
+    // memory runs out, nothing changes.
     pub(crate) fn enter(&mut self, steps: u64, reply: Reply) -> Result<(), AllocError>
         ensures ok { OnOk result (self.new ≡ with_given steps (reply_of reply) self.old) }
         ensures err { OnErr result (self.new ≡ self.old) }

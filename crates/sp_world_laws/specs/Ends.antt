@@ -1,4 +1,4 @@
--- How calls end in worlds: by what the other end of the connection answered, which is the outcome of the task that the call started there or an exception of a call that starts none, or by a failure (Java RMI specification, 3.2 on results and A.2 on exceptions).
+-- How calls end in worlds: by what the other end of the connection answered, which is the outcome of the task that the call started there or an exception of a call that starts none, or by a failure (Java RMI specification, 3.1 on results and A.2 on exceptions).
 use Rattle.std.specs.List.{list_any}
 use Rattle.std.specs.Prelude.{◌≡◌, ◌⊎◌, ℕ, true, List, [], ◌∷◌, ◌++◌, Some, slice_get, find}
 use Rattle.net_message.specs.declared.message.Message.{Message}

@@ -11,7 +11,7 @@ use Rattle.sp_scripts.specs.Scripts.{possible, spaces_from}
 use Rattle.sp_answer_laws.specs.Unbroken.{AreOfOneKind, NothingFails}
 use Rattle.sp_world_runs.specs.Runs.{has_passed, is_passing}
 
--- the events by which a world settles: at each time the first that is possible, at most so many
+-- the events by which a world settles: at each time the first that is possible, at most this number of them
 unfoldable pub settling : ℕ → World → List WorldEvent
 settling zero w = []
 settling (suc n) w = elim (possible w) [ None ↦ [] | Some e ↦ e ∷ settling n (after w e) ]

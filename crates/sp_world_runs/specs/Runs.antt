@@ -1,4 +1,5 @@
--- Runs that meet the premises of the laws of worlds: one in which a reference passes through a third space, and its object is as the machine keeps it in each world; one in which a frame is lost, and calls end.
+-- Runs that meet the premises of the laws of worlds: one in which a reference passes through a third space, and its object is as the
+-- machine keeps it in each world; one in which a frame is lost, and calls end. (This project's own.)
 use Rattle.std.specs.Prelude.{◌≡◌, ℕ, ◌==◌, ◌&&◌, nat_lt, Bool, true, false, [], None, map, slice_get}
 use Rattle.std.specs.List.{list_any}
 use Rattle.space_ids.specs.declared.ids.ObjId.{ObjId}

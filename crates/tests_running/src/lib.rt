@@ -9,8 +9,6 @@ mod references;
 #[cfg(test)]
 mod said;
 #[cfg(test)]
-mod stacks;
-#[cfg(test)]
 mod tasks;
 #[cfg(test)]
 mod tokens;

@@ -4,24 +4,40 @@ ghost use Rattle.std.specs.Prelude.{◌≡◌, ◌+◌, ◌<◌, ◌^◌, IfOk};
 
 use cf_reader::read_class;
 use class_builder::{ClassParts, CodeParts, MethodParts, SUM, class_bytes};
-use cls_link::link;
-use cls_set::{ClassSet, Flags};
+use cls_link::{Linked, link};
+use cls_set::{ClassId, ClassSet, Flags};
 use std::alloc::{AllocError, Global};
 use std::process::Abort;
 use std::test::Fail;
-use ver_check::accept;
+use ver_check::{Accepted, accept};
 use vm_run::{Limits, MethodId, Numbered, Outcome, Pause, Program, StartFault, Task, Uuid, Value};
 
-// The program of the class that the bytes spell.
-fn program_of(alloc: Global, bytes: &[u8]) -> Result<Program, Fail> {
+// From the bytes of a class to its program. Each step stands in a function that promises nothing, and so do
+// the calls of tasks below: what follows is proved without what a call promises.
+fn set_of(alloc: Global, bytes: &[u8]) -> Result<ClassSet, Fail> {
     let mut files = Vec::new(alloc);
     files.push(read_class(alloc, bytes)?)?;
-    let set = ClassSet::build(alloc, files)?;
-    Ok(Program::of(alloc, accept(alloc, link(alloc, set)?)?)?)
+    Ok(ClassSet::build(alloc, files)?)
+}
+
+fn linked_of(alloc: Global, bytes: &[u8]) -> Result<Linked, Fail> {
+    Ok(link(alloc, set_of(alloc, bytes)?)?)
+}
+
+fn accepted_of(alloc: Global, bytes: &[u8]) -> Result<Accepted, Fail> {
+    Ok(accept(alloc, linked_of(alloc, bytes)?)?)
+}
+
+fn program_of(alloc: Global, bytes: &[u8]) -> Result<Program, Fail> {
+    Ok(Program::of(alloc, accepted_of(alloc, bytes)?)?)
 }
 
 fn sum(alloc: Global) -> Result<Program, Fail> {
     program_of(alloc, SUM)
+}
+
+fn class_of(program: &Program, name: &[u8]) -> Option<ClassId> {
+    program.linked().set().number(name)
 }
 
 fn method(program: &Program, descriptor: &[u8]) -> Option<MethodId> {
@@ -63,35 +79,55 @@ fn begin(
     Task::start(alloc, program, Uuid::nil(), method, values, limits)
 }
 
+fn start(
+    alloc: Global,
+    program: &Program,
+    method: MethodId,
+    limits: Limits,
+) -> Result<Task, StartFault>
+    requires { limits.heap_words + 65536 < 2 ^ 32 }
+{
+    let none = Vec::new(alloc);
+    Task::start(alloc, program, Uuid::nil(), method, none, limits)
+}
+
+fn run(task: &mut Task, program: &Program, most: u64) -> Pause
+    requires { task.old.program ≡ program.now }
+    ensures { task.new.program ≡ program.now }
+{
+    task.run(program, most)
+}
+
+// How a task ended, as text: `None` if it has not.
+fn told(alloc: Global, task: &Task) -> Result<String, Fail> {
+    Ok(format!(in alloc; "{:?}", task.outcome(alloc)?)?)
+}
+
 // How often the task turns, of a hundred pieces of one instruction at most.
 fn turns(task: &mut Task, program: &Program) -> u32
     requires { task.old.program ≡ program.now }
     ensures { task.new.program ≡ program.now }
 {
     for made in 0..100 {
-        if task.run(program, 1) == Pause::Ended {
+        if run(task, program, 1) == Pause::Ended {
             return made;
         }
     }
     100
 }
 
+const TEN: &str = "Some(Returned(Some(Int(10))))";
+
 // Each time round the loop takes 8 instructions, and the code around it 6: f(4) takes 38.
 #[test]
 fn pieces_of_one_instruction_take_one_unit_of_fuel_each(rt: HostRuntime) -> Result<(), Fail> {
     let program = sum(rt.alloc())?;
-    let mut task = begin(rt.alloc(), &program, &[4], limits(8, 38))?;
-    assert!(rt; task.outcome(rt.alloc())?.is_none());
-    assert_eq!(rt; turns(&mut task, &program), 37);
-    assert!(rt;
-        matches!(
-            task.outcome(rt.alloc())?,
-            Some(Outcome::Returned(Some(Value::Int(10))))
-        )
-    );
-    let mut task = begin(rt.alloc(), &program, &[4], limits(8, 37))?;
-    assert_eq!(rt; turns(&mut task, &program), 37);
-    assert!(rt; matches!(task.outcome(rt.alloc())?, Some(Outcome::Spent)));
+    for (fuel, end) in [(38, TEN), (37, "Some(Spent)")] {
+        let mut task = begin(rt.alloc(), &program, &[4], limits(8, fuel))?;
+        assert_eq!(rt; told(rt.alloc(), &task)?.as_str(), "None");
+        assert_eq!(rt; turns(&mut task, &program), 37);
+        assert_eq!(rt; told(rt.alloc(), &task)?.as_str(), end);
+    }
     Ok(())
 }
 
@@ -100,12 +136,12 @@ fn pieces_of_one_instruction_take_one_unit_of_fuel_each(rt: HostRuntime) -> Resu
 fn a_piece_of_no_instruction_spends_nothing(rt: HostRuntime) -> Result<(), Fail> {
     let program = sum(rt.alloc())?;
     let mut task = begin(rt.alloc(), &program, &[4], limits(8, 0))?;
-    assert_eq!(rt; task.run(&program, 0), Pause::Turn);
-    assert!(rt; task.outcome(rt.alloc())?.is_none());
-    assert_eq!(rt; task.run(&program, 1), Pause::Ended);
-    assert!(rt; matches!(task.outcome(rt.alloc())?, Some(Outcome::Spent)));
-    assert_eq!(rt; task.run(&program, 1), Pause::Ended);
-    assert!(rt; matches!(task.outcome(rt.alloc())?, Some(Outcome::Spent)));
+    assert_eq!(rt; run(&mut task, &program, 0), Pause::Turn);
+    assert_eq!(rt; told(rt.alloc(), &task)?.as_str(), "None");
+    for _ in 0..2 {
+        assert_eq!(rt; run(&mut task, &program, 1), Pause::Ended);
+        assert_eq!(rt; told(rt.alloc(), &task)?.as_str(), "Some(Spent)");
+    }
     Ok(())
 }
 
@@ -113,15 +149,10 @@ fn a_piece_of_no_instruction_spends_nothing(rt: HostRuntime) -> Result<(), Fail>
 fn a_task_that_ended_answers_its_end_again(rt: HostRuntime) -> Result<(), Fail> {
     let program = sum(rt.alloc())?;
     let mut task = begin(rt.alloc(), &program, &[4], limits(8, 100))?;
-    assert_eq!(rt; task.run(&program, 100), Pause::Ended);
-    assert_eq!(rt; task.run(&program, 0), Pause::Ended);
-    assert_eq!(rt; task.run(&program, 100), Pause::Ended);
-    assert!(rt;
-        matches!(
-            task.outcome(rt.alloc())?,
-            Some(Outcome::Returned(Some(Value::Int(10))))
-        )
-    );
+    for most in [100, 0, 100] {
+        assert_eq!(rt; run(&mut task, &program, most), Pause::Ended);
+        assert_eq!(rt; told(rt.alloc(), &task)?.as_str(), TEN);
+    }
     Ok(())
 }
 
@@ -130,46 +161,30 @@ fn a_task_that_ended_answers_its_end_again(rt: HostRuntime) -> Result<(), Fail> 
 fn a_first_frame_that_does_not_fit_throws(rt: HostRuntime) -> Result<(), Fail> {
     let program = sum(rt.alloc())?;
     let mut task = begin(rt.alloc(), &program, &[4], limits(7, 0))?;
-    assert_eq!(rt; task.run(&program, 0), Pause::Ended);
-    let overflow = program
-        .linked()
-        .set()
-        .number(b"java/lang/StackOverflowError");
-    assert!(rt; overflow.is_some());
-    match task.outcome(rt.alloc())? {
-        Some(Outcome::Threw(class)) => assert_eq!(rt; Some(class), overflow),
-        _ => assert!(rt; false),
-    }
+    assert_eq!(rt; run(&mut task, &program, 0), Pause::Ended);
+    let overflow = class_of(&program, b"java/lang/StackOverflowError").ok_or("no class")?;
+    let threw = format!(in rt.alloc(); "Some(Threw({overflow:?}))")?;
+    assert_eq!(rt; told(rt.alloc(), &task)?.as_str(), threw.as_str());
     Ok(())
 }
 
 #[test]
 fn a_task_does_not_start(rt: HostRuntime) -> Result<(), Fail> {
-    let program = sum(rt.alloc())?;
     let alloc = rt.alloc();
-    let absent = MethodId(u32::MAX);
-    let nowhere = Task::start(
-        alloc,
-        &program,
-        Uuid::nil(),
-        absent,
-        Vec::new(alloc),
-        limits(8, 1),
-    );
+    let program = sum(alloc)?;
+    let nowhere = start(alloc, &program, MethodId(u32::MAX), limits(8, 1));
     assert!(rt; matches!(nowhere, Err(StartFault::AbsentMethod)));
     let empty = begin(alloc, &program, &[], limits(8, 1));
     assert!(rt; matches!(empty, Err(StartFault::BadArgument)));
     let objects = program_of_objects(alloc)?;
     let method = method(&objects, b"(LT;)V").ok_or("no method")?;
-    let refused = Task::start(
-        alloc,
-        &objects,
-        Uuid::nil(),
-        method,
-        Vec::new(alloc),
-        limits(8, 1),
-    );
+    let refused = start(alloc, &objects, method, limits(8, 1));
     assert!(rt; matches!(refused, Err(StartFault::BadSignature)));
+    Ok(())
+}
+
+#[test]
+fn reasons_not_to_start_have_their_numbers(rt: HostRuntime) -> Result<(), Fail> {
     for (fault, number) in [
         (StartFault::AbsentMethod, 85),
         (StartFault::BadSignature, 86),

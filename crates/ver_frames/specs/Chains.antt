@@ -1,5 +1,5 @@
 -- Lists of types that share their fronts, as the frames of one method do. Each type stands at a node of one row, which names the node of
--- the type before it. A list is given by the node of its last type and by its length.
+-- the type before it. A list is given by the node of its last type and by its length. (This project's own.)
 use Rattle.std.specs.Prelude.{◌≡◌, ℕ, zero, suc, List, [], ◌∷◌, ◌++◌, slice_get, IsSomeAnd}
 use Rattle.std.specs.List.{AllByRecursion}
 use Rattle.std.specs.Option.{option_map_or}

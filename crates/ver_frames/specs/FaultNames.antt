@@ -1,4 +1,4 @@
--- The number and the name of each rule, and the numbers of faults.
+-- The number and the name of each rule on declared frames, and the numbers of faults. (This project's own.)
 use Rattle.std.specs.Prelude.{ℕ, List, codes}
 use Rattle.ver_frames.specs.declared.fault.StackMapFault.TheVariants as stack_map_fault
 use Rattle.ver_frames.specs.declared.fault.StackMapFault.{StackMapFault}

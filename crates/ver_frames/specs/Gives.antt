@@ -1,4 +1,4 @@
--- What the answer of reading a StackMapTable says: what its definition reads, or the first fault, unless memory ran out.
+-- What the answer of reading a StackMapTable (JVMS 4.7.4) says: what its definition reads, or the first fault, unless memory ran out.
 use Rattle.std.specs.Prelude.{◌≡◌, Option, Some, None, Result, Ok, Err}
 use Rattle.ver_frames.specs.declared.fault.StackMapFault.{StackMapFault}
 use Rattle.ver_frames.specs.declared.fault.StackMapFault.TheVariants as fault

@@ -1,4 +1,4 @@
--- The number and the name of each rule, and the numbers of faults.
+-- The number and the name of each rule of type checking, and the numbers of faults. (This project's own.)
 use Rattle.std.specs.Prelude.{ℕ, List, codes}
 use Rattle.ver_rules.specs.declared.fault.CheckFault.TheVariants as check_fault
 use Rattle.ver_rules.specs.declared.fault.CheckFault.{CheckFault}

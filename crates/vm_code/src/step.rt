@@ -16,7 +16,7 @@ use vm_act::{Flow, Machine};
 
 /// Executes an instruction of the running method, and returns what it did. The heap stays with
 /// areturn, where a task that ends leaves what it returns.
-// Behind a reference, so that each arm reads the fields that it needs and no other.
+// By reference, so that each arm reads the fields that it needs and no other.
 #[inline(always)]
 pub fn act(machine: &mut Machine, linked: &Linked, tables: &Tables, insn: &LinkedInsn) -> Flow
     requires index { machine.old.stack.frame.index + 1 < 2 ^ 64 }

@@ -1,5 +1,5 @@
 -- The references to remote objects that a task has come by: each stands once, in the order in which they came, and a task's values name
--- them by their rows. A task may come by a limited number of them.
+-- them by their rows. A task may come by a limited number of them. (This project's own; Java RMI specification, 2.6, on references.)
 use Rattle.std.specs.Prelude.{◌≡◌, ◌≤◌, ◌<◌, ℕ, Bool, List, [], ◌∷◌, ◌++◌, length, Option, Some, None, nat_lt, ◌&&◌, ◌==◌, if◌then◌else◌, slice_get}
 use Rattle.std.specs.List.{position}
 use Rattle.std.specs.Str.{bytes_eq}

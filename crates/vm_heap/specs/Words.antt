@@ -1,5 +1,5 @@
 -- Values in a row, and the words that stand for them one by one. What changes in the values while no word does stands here too: it
--- costs nothing when it runs.
+-- costs nothing when it runs. (This project's own.)
 use Rattle.std.specs.Prelude.{◌≡◌, ℕ, ◌-◌, List, length, ◌++◌, map, take, drop, replicate}
 use Rattle.std.specs.List.{AllZip}
 use Rattle.vm_heap.specs.Tagged.{Tagged, Unset, IsWord, after_init}

@@ -1,7 +1,11 @@
 -- A task begins in a state that is never stuck: its first frame fits the one in which its method begins.
+use Rattle.ver_frames.specs.declared.vtype.VType.{VType}
 use Rattle.std.proofs.Common.{◌≡◌, ℕ, zero, suc, ◌+◌, ◌-◌, ◌≤◌, Bool, true, false, List, [], ◌∷◌, ◌++◌, length, map, refl, ap, sym, subst, ◌∙◌, arith, append_assoc, Option, Some, None, ◌⊎◌, inl, inr, eqb-true, drop, le-leb}
+use Rattle.std.proofs.lemmas.Bool.{eq-eqb}
 use Rattle.std.proofs.lemmas.List.{length-map}
-use Rattle.std.specs.Prelude.{not, ◌&&◌, ◌||◌, ◌==◌, nat_le, bytes_eq, codes, option_map, replicate, if◌then◌else◌}
+use Rattle.std.proofs.lemmas.List.Elements.{All-head, All-rest}
+use Rattle.std.proofs.lemmas.Option.{slice_get_within}
+use Rattle.std.specs.Prelude.{IsSome, IsSomeAnd, bit_and, nat_eq, slice_get, not, ◌&&◌, ◌||◌, ◌==◌, nat_le, bytes_eq, codes, option_map, replicate, if◌then◌else◌}
 use Rattle.std.specs.List.{list_all}
 use Rattle.std.specs.Option.{option_map_or}
 use Rattle.cf_text.specs.declared.types.ElementType.{ElementType}
@@ -11,7 +15,7 @@ use Rattle.cf_reader.specs.declared.class_file.Code.{Code}
 use Rattle.cf_reader.specs.declared.class_file.Method.{Method}
 use Rattle.cls_link.specs.Links.{Links, AreLinks}
 use Rattle.cls_link.specs.declared.linked_code.MethodId.{MethodId}
-use Rattle.cls_set.specs.Classes.{number_of}
+use Rattle.cls_set.specs.Classes.{number_of, IsInterface}
 use Rattle.cls_set.specs.declared.class.Class.{Class}
 use Rattle.space_ids.specs.declared.ids.ClassId.{ClassId}
 use Rattle.space_ids.specs.declared.value.Value.{Value}
@@ -20,36 +24,44 @@ use Rattle.ver_frames.specs.Method.{Subject, is_static, argument_types, begins_u
 use Rattle.ver_frames.specs.Types.{field_vtype, element_type, is_int}
 use Rattle.ver_frames.specs.declared.vtype.VType.TheVariants as vtype
 use Rattle.vm_act.specs.declared.calls.Callee.{Callee}
-use Rattle.vm_act.specs.declared.ending.Thrown.{Thrown}
 use Rattle.vm_act.specs.declared.ending.Thrown.TheVariants.{OutOfMemoryError, StackOverflowError}
 use Rattle.vm_act.specs.declared.machine.Machine.{Machine}
 use Rattle.uuid.specs.declared.Uuid.{Uuid}
-use Rattle.vm_heap.specs.References.{Table}
+use Rattle.vm_heap.specs.References.{Table, is_own, row_of}
 use Rattle.vm_heap.specs.Heap.{Cell, Ints, Store, all_cost, cell_at}
-use Rattle.vm_heap.specs.Tagged.{Tagged, Null, Unset}
+use Rattle.vm_heap.specs.Tagged.{Tagged, Null, ReferenceRow, Remote, Unset}
 use Rattle.vm_stack.specs.Frames.{Frames, empty_frame, entered, frame_cost}
-use Rattle.vm_typing.specs.Fits.{Held, OfHeap, There, IsInts, Fits, AllFit, CellFits, AllCells, no_marks, no_method}
+use Rattle.vm_typing.specs.Fits.{Held, OfHeap, OfSpace, pointee_at, There, IsInts, Fits, AllFit, CellFits, AllCells, no_marks, no_method}
 use Rattle.vm_typing.specs.Owed.{Owed, IsCallee}
+use Rattle.vm_typing.specs.Runs.{Move, Steps}
 use Rattle.vm_typing.specs.Typed.{IsTyped}
-use Rattle.vm_typing.specs.World.{World, MethodType, parameters}
+use Rattle.vm_typing.specs.World.{IsKnown, IsPlain, World, MethodType, parameters}
+use Rattle.cf_reader.specs.declared.flags.TheConstants.Flags.{INTERFACE}
+use Rattle.cls_search.specs.MethodSearches.{is_interface}
+use Rattle.cls_set.proofs.Hierarchy.{some_of}
+use Rattle.cls_set.specs.Subtypes.{IsRemote}
+use Rattle.space_ids.specs.declared.ids.Ref.{Ref}
+use Rattle.vm_code.proofs.Remotes.{remote_sound}
+use Rattle.vm_code.specs.Classes.{is_below_remote, is_remote}
+use Rattle.vm_typing.proofs.Arrivals.{known_there}
 use Rattle.vm_typing.proofs.Runs.{starts_typed}
 use Rattle.vm_world.proofs.Owing.{owed}
 use Rattle.vm_world.proofs.Subjects.{passes_both, stands}
 use Rattle.vm_world.specs.Worlds.{subject_at, is_init, method_type, world_of}
 use Rattle.vm_run.specs.Ends.{Threw}
 use Rattle.vm_run.specs.Limited.{KeepsWithin}
-use Rattle.vm_run.specs.Run.{Running, Over, run, IsNeverStuck}
+use Rattle.vm_run.specs.Run.{State, Running, Over, played, run, AreDue, IsNeverStuck}
 use Rattle.vm_run.specs.Sound.{IsSoundSet}
-use Rattle.vm_run.specs.Start.{crosses, copies, copy_of, fill, have_room, is_startable, is_array_element, is_array_type, is_int_element, is_int_type, is_of_type, is_remote_element, is_remote_interface, is_remote_type, opening_frame, opening_state, passed_at, passed_from, refusal, startable, takes_crossing}
+use Rattle.vm_run.specs.Start.{crosses, copies, copy_of, fill, have_room, is_startable, is_array_element, is_array_type, is_int_element, is_int_type, is_of_type, is_remote_element, is_remote_interface, is_remote_type, is_own_object, have_rows, no_references, opening_frame, opening_machine, opening_state, passed_at, passed_from, remote_at, with_arguments, AreHeld, IsHeld, refusal, startable, takes_crossing}
 use Rattle.vm_run.specs.Subjects.{Declared, declared_at, declared_of, shown}
 use Rattle.vm_run.specs.declared.fault.StartFault.{StartFault}
 use Rattle.vm_run.specs.declared.fault.StartFault.TheVariants as fault
 use Rattle.vm_run.specs.declared.found.Found.{Found}
 use Rattle.vm_run.specs.declared.limits.Limits.{Limits}
 use Rattle.vm_run.proofs.Copying.{all_cost-append, cell_between}
-use Rattle.vm_run.proofs.Limited.{stays_within}
-use Rattle.vm_run.proofs.Runs.{run_over}
-use Rattle.vm_run.proofs.Safe.{typed-IsNeverStuck, over-IsNeverStuck}
+use Rattle.vm_run.proofs.Holding.{are_held, own_stays}
+use Rattle.vm_run.proofs.Limited.{sound_within}
+use Rattle.vm_run.proofs.Safe.{IsSound, plays-sound, sound-IsNeverStuck}
 
 both : (a b : Bool) → (a && b) ≡ true → (a ≡ true) × (b ≡ true)
 both true b e = (refl, e)
@@ -79,6 +91,26 @@ array_vtype classes kind e =
     let one : kind.dimensions ≡ 1 = eqb-true kind.dimensions 1 parts.0 in
     rw (one, array_int kind.element parts.1) refl
 
+-- a class of the set that is an interface
+interface_is : (classes : List Class) (class : ClassId) → is_interface classes class ≡ true → IsSomeAnd (slice_get classes class.0) IsInterface
+interface_is classes class e = at (slice_get classes class.0) e
+  where
+    other : (n : ℕ) → not (nat_eq n 0) ≡ true → n ≡ 0 → ⊥
+    other n e none = let same : nat_eq n 0 ≡ true = eq-eqb n 0 none in absurd (cc)
+
+    at : (o : Option Class) → option_map_or (λ (c : Class). not (nat_eq (bit_and c.file.flags.bits INTERFACE) 0)) o false ≡ true → IsSomeAnd o IsInterface
+    at None e = absurd (cc)
+    at (Some c) e = other (bit_and c.file.flags.bits INTERFACE) e
+
+-- the task has come by each of the values that is a reference, one value after the other
+abbrev EachHeld : Table → List Value → Type 0
+EachHeld table [] = Unit {0}
+EachHeld table (v ∷ values) = IsHeld table v × EachHeld table values
+
+each_held : (table : Table) (values : List Value) → AreHeld table values → EachHeld table values
+each_held table [] all = tt
+each_held table (v ∷ values) all = (All-head (IsHeld table) v values all, each_held table values (All-rest (IsHeld table) v values (v ∷ values) refl all))
+
 module _ (w : World) (held : Held) where
   remote_null : (classes : List Class) (e : ElementType) → is_remote_element classes e ≡ true → Fits w held no_marks (element_type classes e) Null
   unfolding element_type
@@ -101,41 +133,82 @@ module _ (w : World) (held : Held) where
   null_fits classes kind true is some = rw (array_vtype classes kind is) tt
   null_fits classes kind false is some = elim some [ inl remote ↦ remote_fits classes kind remote | inr never ↦ absurd (cc) ]
 
-  -- an argument fits the type of its parameter, where its copy comes next
-  value_fits : (classes : List Class) (kind : FieldType) (v : Value) (before following : List Cell) → crosses classes kind ≡ true → is_of_type kind v ≡ true
-      → held.cells ≡ before ++ (copy_of v ++ following) → Fits w held no_marks (field_vtype classes kind) (passed_at (all_cost before) v)
-  value_fits classes kind value.Null before following cross is are = by (is_int_type kind) refl is (is_array_type kind) refl cross
+  -- a reference to an own object fits each remote interface
+  object_fits : (reference : Ref) (row : ℕ) → pointee_at held (ReferenceRow row) ≡ Some (OfSpace reference.class) → IsRemote w.classes reference.class
+      → (e : ElementType) → is_remote_element w.classes e ≡ true → Fits w held no_marks (element_type w.classes e) (Remote row)
+  unfolding element_type
+  object_fits reference row there remote (element.Class name) is = by (number_of w.classes name) is
     where
-      by : (b : Bool) → is_int_type kind ≡ b → not b ≡ true → (c : Bool) → is_array_type kind ≡ c → (b || (c || is_remote_type classes kind)) ≡ true → Fits w held no_marks (field_vtype classes kind) Null
-      by true int other c array cross = absurd (cc)
-      by false int other true array cross = null_fits classes kind true array (inr refl)
-      by false int other false array cross = null_fits classes kind false array (inl cross)
-  value_fits classes kind (value.Int n) before following cross is are = rw (int_vtype classes kind is) tt
-  value_fits classes kind (value.Ints elements) before following cross is are =
-      rw (array_vtype classes kind is) (subst (λ (o : Option Cell). There IsInts (option_map (λ cell. OfHeap cell) o)) (sym (ap (λ cs. cell_at cs (all_cost before)) are ∙ cell_between before (Ints elements) following)) tt)
-  value_fits classes kind (value.Ref reference) before following cross is are = absurd (cc)
+      known : IsKnown w reference.class
+      known = let c = some_of (slice_get w.classes reference.class.0) (λ c. ¬ IsInterface c) remote.is_class in slice_get_within w.classes reference.class.0 c.0 c.1
 
-  all_fit : (classes : List Class) (kinds : List FieldType) (values : List Value) (before : List Cell) → list_all (crosses classes) kinds ≡ true → fill kinds values ≡ true
-      → held.cells ≡ before ++ copies values → AllFit w held no_marks (map (field_vtype classes) kinds) (passed_from (all_cost before) values)
+      by : (o : Option ClassId) → option_map_or (is_remote_interface w.classes) o false ≡ true → Fits w held no_marks (option_map_or vtype.Object o vtype.Top) (Remote row)
+      by None e = absurd (cc)
+      by (Some class) e =
+          let interface = interface_is w.classes class (both (is_interface w.classes class) (is_below_remote w.classes class) e).0 in
+          rw there (known, inl interface, remote)
+  object_fits reference row there remote e is = absurd (cc)
+
+  reference_fits : (own : Uuid) → held.references.own ≡ own → (kind : FieldType) (reference : Ref) → is_of_type w.classes own kind (value.Ref reference) ≡ true
+      → IsSome (row_of held.references.rows reference) → Fits w held no_marks (field_vtype w.classes kind) (remote_at (row_of held.references.rows reference))
+  unfolding field_vtype
+  reference_fits own same kind reference is some = by (row_of held.references.rows reference) refl some
+    where
+      parts : (is_remote_type w.classes kind ≡ true) × (is_own_object w.classes own reference ≡ true)
+      parts = both (is_remote_type w.classes kind) (is_own_object w.classes own reference) is
+
+      object : (bytes_eq reference.space own ≡ true) × (is_remote w.classes reference.class ≡ true)
+      object = both (bytes_eq reference.space own) (is_remote w.classes reference.class) parts.1
+
+      types : (kind.dimensions == 0 ≡ true) × (is_remote_element w.classes kind.element ≡ true)
+      types = both (kind.dimensions == 0) (is_remote_element w.classes kind.element) parts.0
+
+      by : (o : Option ℕ) → row_of held.references.rows reference ≡ o → IsSome o
+          → Fits w held no_marks (if kind.dimensions == 0 then element_type w.classes kind.element else (if (kind.dimensions == 1) && is_int kind.element then vtype.IntArray else vtype.Top)) (remote_at o)
+      by None e some = absurd (cc)
+      by (Some row) e some =
+          let none : kind.dimensions ≡ 0 = eqb-true kind.dimensions 0 types.0 in
+          let own_one : is_own held.references reference ≡ true = subst (λ o. bytes_eq reference.space o ≡ true) (sym same) object.0 in
+          rw none (object_fits reference row (known_there held reference row e own_one) (remote_sound w.classes reference.class object.1) kind.element types.1)
+
+  -- an argument fits the type of its parameter, where its copy comes next
+  value_fits : (own : Uuid) → held.references.own ≡ own → (kind : FieldType) (v : Value) (before following : List Cell) → crosses w.classes kind ≡ true
+      → is_of_type w.classes own kind v ≡ true → held.cells ≡ before ++ (copy_of v ++ following) → IsHeld held.references v
+      → Fits w held no_marks (field_vtype w.classes kind) (passed_at (all_cost before) held.references v)
+  value_fits own same kind value.Null before following cross is are known = by (is_int_type kind) refl is (is_array_type kind) refl cross
+    where
+      by : (b : Bool) → is_int_type kind ≡ b → not b ≡ true → (c : Bool) → is_array_type kind ≡ c → (b || (c || is_remote_type w.classes kind)) ≡ true → Fits w held no_marks (field_vtype w.classes kind) Null
+      by true int other c array cross = absurd (cc)
+      by false int other true array cross = null_fits w.classes kind true array (inr refl)
+      by false int other false array cross = null_fits w.classes kind false array (inl cross)
+  value_fits own same kind (value.Int n) before following cross is are known = rw (int_vtype w.classes kind is) tt
+  value_fits own same kind (value.Ints elements) before following cross is are known =
+      rw (array_vtype w.classes kind is)
+      (subst (λ (o : Option Cell). There IsInts (option_map (λ cell. OfHeap cell) o)) (sym (ap (λ cs. cell_at cs (all_cost before)) are ∙ cell_between before (Ints elements) following)) tt)
+  value_fits own same kind (value.Ref reference) before following cross is are known = reference_fits own same kind reference is known
+
+  all_fit : (own : Uuid) → held.references.own ≡ own → (kinds : List FieldType) (values : List Value) (before : List Cell) → list_all (crosses w.classes) kinds ≡ true
+      → fill w.classes own kinds values ≡ true → held.cells ≡ before ++ copies values → EachHeld held.references values
+      → AllFit w held no_marks (map (field_vtype w.classes) kinds) (passed_from (all_cost before) held.references values)
   unfolding fill copies passed_from
-  all_fit classes [] [] before cross filled are = tt
-  all_fit classes [] (v ∷ values) before cross filled are = absurd (cc)
-  all_fit classes (kind ∷ kinds) [] before cross filled are = absurd (cc)
-  all_fit classes (kind ∷ kinds) (v ∷ values) before cross filled are =
-      let first = both (crosses classes kind) (list_all (crosses classes) kinds) cross in
-      let given = both (is_of_type kind v) (fill kinds values) filled in
+  all_fit own same [] [] before cross filled are known = tt
+  all_fit own same [] (v ∷ values) before cross filled are known = absurd (cc)
+  all_fit own same (kind ∷ kinds) [] before cross filled are known = absurd (cc)
+  all_fit own same (kind ∷ kinds) (v ∷ values) before cross filled are known =
+      let first = both (crosses w.classes kind) (list_all (crosses w.classes) kinds) cross in
+      let given = both (is_of_type w.classes own kind v) (fill w.classes own kinds values) filled in
       let later : held.cells ≡ (before ++ copy_of v) ++ copies values = are ∙ sym (append_assoc before (copy_of v) (copies values)) in (
-        value_fits classes kind v before (copies values) first.0 given.0 are,
-        subst (λ address. AllFit w held no_marks (map (field_vtype classes) kinds) (passed_from address values)) (all_cost-append before (copy_of v))
-            (all_fit classes kinds values (before ++ copy_of v) first.1 given.1 later),
+        value_fits own same kind v before (copies values) first.0 given.0 are known.0,
+        subst (λ address. AllFit w held no_marks (map (field_vtype w.classes) kinds) (passed_from address held.references values)) (all_cost-append before (copy_of v))
+            (all_fit own same kinds values (before ++ copy_of v) first.1 given.1 later known.1),
       )
 
-length-fill : (kinds : List FieldType) (values : List Value) → fill kinds values ≡ true → length values ≡ length kinds
+length-fill : (classes : List Class) (own : Uuid) (kinds : List FieldType) (values : List Value) → fill classes own kinds values ≡ true → length values ≡ length kinds
 unfolding fill
-length-fill [] [] e = refl
-length-fill [] (v ∷ values) e = absurd (cc)
-length-fill (kind ∷ kinds) [] e = absurd (cc)
-length-fill (kind ∷ kinds) (v ∷ values) e = ap (λ (n : ℕ). suc n) (length-fill kinds values (both (is_of_type kind v) (fill kinds values) e).1)
+length-fill classes own [] [] e = refl
+length-fill classes own [] (v ∷ values) e = absurd (cc)
+length-fill classes own (kind ∷ kinds) [] e = absurd (cc)
+length-fill classes own (kind ∷ kinds) (v ∷ values) e = ap (λ (n : ℕ). suc n) (length-fill classes own kinds values (both (is_of_type classes own kind v) (fill classes own kinds values) e).1)
 
 -- copies of arrays are of no types that have to be met
 copies_fit : (w : World) (held : Held) (values : List Value) → AllCells (CellFits w held) (copies values)
@@ -147,10 +220,10 @@ copies_fit w held (value.Ints elements ∷ values) = (tt, copies_fit w held valu
 copies_fit w held (value.Ref reference ∷ values) = copies_fit w held values
 
 -- what a method takes and is given, where it is not refused
-pub record Accepts (classes : List Class) (method : Method) (arguments : List Value) : Type 0 where
+pub record Accepts (classes : List Class) (own : Uuid) (method : Method) (arguments : List Value) : Type 0 where
   pub static : is_static method ≡ true
   pub crossing : list_all (crosses classes) method.types.parameters ≡ true
-  pub filled : fill method.types.parameters arguments ≡ true
+  pub filled : fill classes own method.types.parameters arguments ≡ true
 
 argument_types-static : (m : Subject) → is_static m.method ≡ true → argument_types m ≡ map (field_vtype m.classes) m.method.types.parameters
 unfolding argument_types receiver_types
@@ -161,7 +234,7 @@ unfolding begins_uninit
 begins-static m static = rw static refl
 
 module _ (links : Links) (own : Uuid) (id : MethodId) (m : Subject) (arguments : List Value) (limits : Limits) (are : AreLinks links) (sound : IsSoundSet links)
-    (found : subject_at links id.0 ≡ Some m) (classes : m.classes ≡ links.classes) (normal : is_init m ≡ false) (given : Accepts links.classes m.method arguments) where
+    (found : subject_at links id.0 ≡ Some m) (classes : m.classes ≡ links.classes) (normal : is_init m ≡ false) (given : Accepts links.classes own m.method arguments) where
   abbrev world : World
   world = world_of links sound.frames
 
@@ -184,7 +257,7 @@ module _ (links : Links) (own : Uuid) (id : MethodId) (m : Subject) (arguments :
   passed_is = rw (type_is, normal, argument_types-static m given.static, classes) refl
 
   count : length arguments ≡ length (parameters (world.method id.0))
-  count = rw passed_is (length-fill m.method.types.parameters arguments given.filled ∙ sym (length-map m.method.types.parameters (field_vtype links.classes)))
+  count = rw passed_is (length-fill links.classes own m.method.types.parameters arguments given.filled ∙ sym (length-map m.method.types.parameters (field_vtype links.classes)))
 
   agrees : IsCallee world callee
   agrees = record {
@@ -202,55 +275,63 @@ module _ (links : Links) (own : Uuid) (id : MethodId) (m : Subject) (arguments :
       let same : (world.method id.0).max_locals ≡ m.code.max_locals = ap (λ (t : MethodType). t.max_locals) type_is in
       omega (arith, locals, count, same)
 
+  abbrev first : Table
+  first = no_references own limits
+
+  abbrev table : Table
+  table = with_arguments arguments first
+
   machine : Machine
-  machine = record {
-    stack = record { frame = opening_frame id m.code arguments; callers = empty_frame ∷ []; free = limits.stack_words - frame_cost m.code.max_locals m.code.max_stack };
-    heap = record { cells = copies arguments; free = limits.heap_words - all_cost (copies arguments) };
-    references = record { own = own; rows = []; limit = limits.references };
-  }
+  machine = opening_machine id m.code table arguments limits
 
   abbrev at_first : Held
-  at_first = record { cells = copies arguments; references = record { own = own; rows = []; limit = limits.references } }
+  at_first = record { cells = copies arguments; references = table }
 
-  typed : IsTyped world (world.method id.0).result machine
+  typed : have_rows arguments first ≡ true → IsTyped world (world.method id.0).result machine
   unfolding machine all_cost
-  typed =
-      starts_typed world owes callee (passed_from 0 arguments) empty_frame (limits.stack_words - frame_cost m.code.max_locals m.code.max_stack)
-      (record { cells = copies arguments; free = limits.heap_words - all_cost (copies arguments) }) (record { own = own; rows = []; limit = limits.references }) agrees
-      (subst (λ ts. AllFit world at_first no_marks ts (passed_from 0 arguments)) (sym passed_is) fits)
+  typed rows =
+      starts_typed world owes callee (passed_from 0 table arguments) empty_frame (limits.stack_words - frame_cost m.code.max_locals m.code.max_stack)
+      (record { cells = copies arguments; free = limits.heap_words - all_cost (copies arguments) }) table agrees
+      (subst (λ ts. AllFit world at_first no_marks ts (passed_from 0 table arguments)) (sym passed_is) fits)
       (copies_fit world at_first arguments)
       (ap (λ (t : MethodType). t.is_init) type_is ∙ normal)
     where
-      fits : AllFit world at_first no_marks (map (field_vtype links.classes) m.method.types.parameters) (passed_from 0 arguments)
-      fits = all_fit world at_first links.classes m.method.types.parameters arguments [] given.crossing given.filled refl
+      fits : AllFit world at_first no_marks (map (field_vtype links.classes) m.method.types.parameters) (passed_from 0 table arguments)
+      fits = all_fit world at_first own (own_stays arguments first) m.method.types.parameters arguments [] given.crossing given.filled refl
+          (each_held table arguments (are_held arguments first rows))
 
-  running : IsNeverStuck links (Running machine limits.fuel)
-  running = typed-IsNeverStuck links sound.frames (world.method id.0).result (owes.methods id.0 known).result (sound.keeps (world.method id.0).result) machine limits.fuel typed
+  abbrev asked : Option VType
+  asked = (world.method id.0).result
 
-  begins : (b : Bool) → IsNeverStuck links (if b then Running machine limits.fuel else Over (Threw StackOverflowError) limits.fuel)
-  begins true = running
-  begins false = over-IsNeverStuck links (Threw StackOverflowError) limits.fuel tt
+  abbrev plain : (t : VType) → asked ≡ Some t → IsPlain t
+  plain = (owes.methods id.0 known).result
 
-  opens : (a b : Bool) → IsNeverStuck links (if a then (if b then Running machine limits.fuel else Over (Threw StackOverflowError) limits.fuel) else Over (Threw OutOfMemoryError) limits.fuel)
-  opens true b = begins b
-  opens false b = over-IsNeverStuck links (Threw OutOfMemoryError) limits.fuel tt
+  abbrev IsFine : State → Type 0
+  IsFine = IsSound links sound.frames asked plain (sound.keeps asked)
+
+  opens : (a : Bool) → (have_room arguments limits.heap_words && have_rows arguments first) ≡ a → (b : Bool)
+      → IsFine (if a then (if b then Running machine limits.fuel else Over (Threw StackOverflowError) limits.fuel) else Over (Threw OutOfMemoryError) limits.fuel)
+  opens true e true = typed (both (have_room arguments limits.heap_words) (have_rows arguments first) e).1
+  opens true e false = tt
+  opens false e b = tt
+
+  opening-is_fine : IsFine (opening_state own id m.code arguments limits)
+  unfolding machine
+  opening-is_fine = opens (have_room arguments limits.heap_words && have_rows arguments first) refl (nat_le (frame_cost m.code.max_locals m.code.max_stack) limits.stack_words)
 
   pub opening-IsNeverStuck : IsNeverStuck links (opening_state own id m.code arguments limits)
-  unfolding machine
-  opening-IsNeverStuck = opens (have_room arguments limits.heap_words) (nat_le (frame_cost m.code.max_locals m.code.max_stack) limits.stack_words)
-
-  throws_within : (thrown : Thrown) (k : ℕ) → KeepsWithin links (run links k (Over (Threw thrown) limits.fuel))
-  throws_within thrown k = subst (KeepsWithin links) (sym (run_over links k (Threw thrown) limits.fuel)) tt
-
-  opens_within : (k : ℕ) (a b : Bool) → KeepsWithin links (run links k (if a then (if b then Running machine limits.fuel else Over (Threw StackOverflowError) limits.fuel) else Over (Threw OutOfMemoryError) limits.fuel))
-  opens_within k true true = stays_within links sound.frames sound.typed (world.method id.0).result (owes.methods id.0 known).result (sound.keeps (world.method id.0).result) k machine limits.fuel typed
-  opens_within k true false = throws_within StackOverflowError k
-  opens_within k false b = throws_within OutOfMemoryError k
+  opening-IsNeverStuck = sound-IsNeverStuck links sound.frames asked plain (sound.keeps asked) (opening_state own id m.code arguments limits) opening-is_fine
 
   -- all frames of its runs are within the limits of their methods
-  pub opening-KeepsWithin : (k : ℕ) → KeepsWithin links (run links k (opening_state own id m.code arguments limits))
-  unfolding machine
-  opening-KeepsWithin k = opens_within k (have_room arguments limits.heap_words) (nat_le (frame_cost m.code.max_locals m.code.max_stack) limits.stack_words)
+  pub opening-KeepsWithin : (moves : List Move) → AreDue links moves (opening_state own id m.code arguments limits)
+      → KeepsWithin links (played links moves (opening_state own id m.code arguments limits))
+  opening-KeepsWithin moves due =
+      sound_within links sound.frames sound.typed asked plain (sound.keeps asked) (played links moves (opening_state own id m.code arguments limits))
+      (plays-sound links sound.frames asked plain (sound.keeps asked) moves (opening_state own id m.code arguments limits) opening-is_fine due)
+
+  pub opening-KeepsWithin-run : (k : ℕ) → KeepsWithin links (run links k (opening_state own id m.code arguments limits))
+  unfolding played AreDue
+  opening-KeepsWithin-run k = opening-KeepsWithin (Steps k ∷ []) tt
 
 drop-replicate : (n m : ℕ) (x : Tagged) → drop n (replicate m x) ≡ replicate (m - n) x
 drop-replicate zero m x = let e : m - zero ≡ m = omega arith in rw e refl
@@ -264,19 +345,20 @@ same_store : (a b : Store) → a.cells ≡ b.cells → a.free ≡ b.free → a �
 same_store a b cells free = λ i. record { cells = cells i; free = free i }
 
 -- a new stack with the first frame, to which the arguments were passed, and a new heap with their copies, are the opening state's
-pub opening_runs : (own : Uuid) (id : MethodId) (code : Code) (arguments : List Value) (limits : Limits) (fresh entry s : Frames) (empty heap : Store) (table : Table)
+pub opening_runs : (own : Uuid) (id : MethodId) (code : Code) (arguments : List Value) (limits : Limits) (fresh entry s : Frames) (empty heap : Store) (none_yet held table : Table)
     → fresh ≡ record { frame = empty_frame; callers = []; free = limits.stack_words } → frame_cost code.max_locals code.max_stack ≤ fresh.free
     → entry ≡ entered id.0 0 code.max_locals code.max_stack fresh
-    → s.frame ≡ record entry.frame { locals = passed_from 0 arguments ++ drop (length arguments) entry.frame.locals } → s.callers ≡ entry.callers → s.free ≡ entry.free
+    → s.frame ≡ record entry.frame { locals = passed_from 0 held arguments ++ drop (length arguments) entry.frame.locals } → s.callers ≡ entry.callers → s.free ≡ entry.free
     → empty ≡ record { cells = []; free = limits.heap_words } → true ≡ have_room arguments empty.free → heap.cells ≡ empty.cells ++ copies arguments
-    → heap.free + all_cost (copies arguments) ≡ empty.free → table ≡ record { own = own; rows = []; limit = limits.references }
-    → Running (record { stack = s; heap = heap; references = table }) limits.fuel ≡ opening_state own id code arguments limits
+    → heap.free + all_cost (copies arguments) ≡ empty.free → none_yet ≡ no_references own limits → true ≡ have_rows arguments none_yet → held ≡ with_arguments arguments none_yet
+    → table ≡ held → Running (record { stack = s; heap = heap; references = table }) limits.fuel ≡ opening_state own id code arguments limits
 unfolding entered
-opening_runs own id code arguments limits fresh entry s empty heap table new enough pushed frame callers free none room cells left held =
+opening_runs own id code arguments limits fresh entry s empty heap none_yet held table new enough pushed frame callers free none room cells left nothing rows came stays =
     let all : code.max_locals - 0 ≡ code.max_locals = omega arith in
     let cost : ℕ = frame_cost code.max_locals code.max_stack in
-    let stack : Frames = record { frame = opening_frame id code arguments; callers = empty_frame ∷ []; free = limits.stack_words - cost } in
-    let frames : s.frame ≡ opening_frame id code arguments = frame ∙ rw (pushed, all, drop-replicate (length arguments) code.max_locals Unset) refl in
+    let with : held ≡ with_arguments arguments (no_references own limits) = came ∙ ap (with_arguments arguments) nothing in
+    let stack : Frames = record { frame = opening_frame id code held arguments; callers = empty_frame ∷ []; free = limits.stack_words - cost } in
+    let frames : s.frame ≡ opening_frame id code held arguments = frame ∙ rw (pushed, all, drop-replicate (length arguments) code.max_locals Unset) refl in
     let same : s ≡ stack = same_frames s stack frames (callers ∙ rw (pushed, new) refl) (free ∙ rw (pushed, new) refl) in
     let within : cost ≤ limits.stack_words = subst (λ f. cost ≤ f) (ap (λ (f : Frames). f.free) new) enough in
     let words : empty.free ≡ limits.heap_words = ap (λ (e : Store). e.free) none in
@@ -284,36 +366,49 @@ opening_runs own id code arguments limits fresh entry s empty heap table new eno
     let store : Store = record { cells = copies arguments; free = limits.heap_words - all_cost (copies arguments) } in
     let same_heap : heap ≡ store = same_store heap store (cells ∙ ap (λ (e : Store). e.cells ++ copies arguments) none) rest in
     let has : have_room arguments limits.heap_words ≡ true = sym (room ∙ ap (have_room arguments) words) in
-    rw (same, same_heap, held, has, le-leb cost limits.stack_words within) refl
+    let has_rows : have_rows arguments (no_references own limits) ≡ true = sym (rows ∙ ap (have_rows arguments) nothing) in
+    rw (same, same_heap, stays, has, has_rows, le-leb cost limits.stack_words within, with) refl
 
--- nothing is started where the copies or the first frame have no room
+-- nothing is started where the copies, the references or the first frame have no room
 pub opening_throws : (own : Uuid) (id : MethodId) (code : Code) (arguments : List Value) (limits : Limits) (empty : Store) → empty ≡ record { cells = []; free = limits.heap_words }
     → false ≡ have_room arguments empty.free → Over (Threw OutOfMemoryError) limits.fuel ≡ opening_state own id code arguments limits
 opening_throws own id code arguments limits empty none room =
     let has : have_room arguments limits.heap_words ≡ false = sym (room ∙ ap (λ (e : Store). have_room arguments e.free) none) in
     rw has refl
 
-pub opening_overflows : (own : Uuid) (id : MethodId) (code : Code) (arguments : List Value) (limits : Limits) (empty : Store) → empty ≡ record { cells = []; free = limits.heap_words }
-    → true ≡ have_room arguments empty.free → nat_le (frame_cost code.max_locals code.max_stack) limits.stack_words ≡ false
-    → Over (Threw StackOverflowError) limits.fuel ≡ opening_state own id code arguments limits
-opening_overflows own id code arguments limits empty none room full =
+pub opening_overruns : (own : Uuid) (id : MethodId) (code : Code) (arguments : List Value) (limits : Limits) (empty : Store) (none_yet : Table) → empty ≡ record { cells = []; free = limits.heap_words }
+    → true ≡ have_room arguments empty.free → none_yet ≡ no_references own limits → false ≡ have_rows arguments none_yet
+    → Over (Threw OutOfMemoryError) limits.fuel ≡ opening_state own id code arguments limits
+opening_overruns own id code arguments limits empty none_yet none room nothing rows =
     let has : have_room arguments limits.heap_words ≡ true = sym (room ∙ ap (λ (e : Store). have_room arguments e.free) none) in
-    rw (has, full) refl
+    let few : have_rows arguments (no_references own limits) ≡ false = sym (rows ∙ ap (have_rows arguments) nothing) in
+    rw (has, few) refl
+
+pub opening_overflows : (own : Uuid) (id : MethodId) (code : Code) (arguments : List Value) (limits : Limits) (empty : Store) (none_yet : Table) → empty ≡ record { cells = []; free = limits.heap_words }
+    → true ≡ have_room arguments empty.free → none_yet ≡ no_references own limits → true ≡ have_rows arguments none_yet
+    → nat_le (frame_cost code.max_locals code.max_stack) limits.stack_words ≡ false
+    → Over (Threw StackOverflowError) limits.fuel ≡ opening_state own id code arguments limits
+opening_overflows own id code arguments limits empty none_yet none room nothing rows full =
+    let has : have_room arguments limits.heap_words ≡ true = sym (room ∙ ap (λ (e : Store). have_room arguments e.free) none) in
+    let has_rows : have_rows arguments (no_references own limits) ≡ true = sym (rows ∙ ap (have_rows arguments) nothing) in
+    rw (has, has_rows, full) refl
 
 -- what is known of the task that a method's start gives
 pub record Begins (links : Links) (own : Uuid) (id : MethodId) (m : Declared) (arguments : List Value) (limits : Limits) : Type 0 where
   pub few : length arguments ≤ m.code.max_locals
   pub never_stuck : IsNeverStuck links (opening_state own id m.code arguments limits)
   pub within : (k : ℕ) → KeepsWithin links (run links k (opening_state own id m.code arguments limits))
+  pub within_replies : (moves : List Move) → AreDue links moves (opening_state own id m.code arguments limits)
+      → KeepsWithin links (played links moves (opening_state own id m.code arguments limits))
 
-accepts : (classes : List Class) (method : Method) (arguments : List Value) → refusal classes method arguments ≡ None → Accepts classes method arguments
-accepts classes method arguments e = taken (takes_crossing classes method.types) refl e
+accepts : (classes : List Class) (own : Uuid) (method : Method) (arguments : List Value) → refusal classes own method arguments ≡ None → Accepts classes own method arguments
+accepts classes own method arguments e = taken (takes_crossing classes method.types) refl e
   where
-    given : (b : Bool) → (is_static method && fill method.types.parameters arguments) ≡ b → takes_crossing classes method.types ≡ true
-        → (if b then None else Some fault.BadArgument) ≡ None → Accepts classes method arguments
+    given : (b : Bool) → (is_static method && fill classes own method.types.parameters arguments) ≡ b → takes_crossing classes method.types ≡ true
+        → (if b then None else Some fault.BadArgument) ≡ None → Accepts classes own method arguments
     given false is takes e = absurd (cc)
     given true is takes e =
-        let parts = both (is_static method) (fill method.types.parameters arguments) is in
+        let parts = both (is_static method) (fill classes own method.types.parameters arguments) is in
         record {
           static = parts.0;
           crossing = (both (list_all (crosses classes) method.types.parameters) (option_map_or (crosses classes) method.types.result true) takes).0;
@@ -321,9 +416,9 @@ accepts classes method arguments e = taken (takes_crossing classes method.types)
         }
 
     taken : (b : Bool) → takes_crossing classes method.types ≡ b
-        → (if not b then Some fault.BadSignature else (if is_static method && fill method.types.parameters arguments then None else Some fault.BadArgument)) ≡ None → Accepts classes method arguments
+        → (if not b then Some fault.BadSignature else (if is_static method && fill classes own method.types.parameters arguments then None else Some fault.BadArgument)) ≡ None → Accepts classes own method arguments
     taken false is e = absurd (cc)
-    taken true is e = given (is_static method && fill method.types.parameters arguments) refl is e
+    taken true is e = given (is_static method && fill classes own method.types.parameters arguments) refl is e
 
 maps_some : {A B : Type 0} (o : Option A) (f : A → B) (b : B) → option_map f o ≡ Some b → (a : A) × ((o ≡ Some a) × (f a ≡ b))
 maps_some None f b e = absurd (cc)
@@ -337,20 +432,21 @@ normal m e = is_not (bytes_eq m.method.name (codes "<init>")) (both (not (bytes_
     is_not false e = refl
 
 pub startable-begins : (links : Links) (own : Uuid) (id : MethodId) (m : Declared) (arguments : List Value) (limits : Limits) → AreLinks links → IsSoundSet links → startable links id ≡ Some m
-    → refusal links.classes m.method arguments ≡ None → Begins links own id m arguments limits
+    → refusal links.classes own m.method arguments ≡ None → Begins links own id m arguments limits
 unfolding declared_at
 startable-begins links own id m arguments limits are sound found taken =
     let at = passes_both (declared_at links id) (λ d. if is_startable d then Some d else None) m found in
     let passed = tested at.0 (is_startable at.0) refl at.1.1 in
     let subject = maps_some (subject_at links id.0) declared_of at.0 at.1.0 in
-    let given : Accepts links.classes subject.0.method arguments =
-    subst (λ (d : Declared). Accepts links.classes d.method arguments) (sym (subject.1.1 ∙ passed.0)) (accepts links.classes m.method arguments taken) in
+    let given : Accepts links.classes own subject.0.method arguments =
+    subst (λ (d : Declared). Accepts links.classes own d.method arguments) (sym (subject.1.1 ∙ passed.0)) (accepts links.classes own m.method arguments taken) in
     let no_init : is_init subject.0 ≡ false = normal (declared_of subject.0) (subst (λ (d : Declared). is_startable d ≡ true) (sym subject.1.1) passed.1) in
     let same = (stands links id.0 subject.0 subject.1.0).classes in
     let begins : Begins links own id (declared_of subject.0) arguments limits = record {
       few = few links own id subject.0 arguments limits are sound subject.1.0 same no_init given;
       never_stuck = opening-IsNeverStuck links own id subject.0 arguments limits are sound subject.1.0 same no_init given;
-      within = opening-KeepsWithin links own id subject.0 arguments limits are sound subject.1.0 same no_init given;
+      within = opening-KeepsWithin-run links own id subject.0 arguments limits are sound subject.1.0 same no_init given;
+      within_replies = opening-KeepsWithin links own id subject.0 arguments limits are sound subject.1.0 same no_init given;
     } in
     subst (λ (d : Declared). Begins links own id d arguments limits) (subject.1.1 ∙ passed.0) begins
   where
@@ -361,9 +457,9 @@ startable-begins links own id m arguments limits are sound found taken =
 -- the same, of what a start found and did not refuse
 pub found_begins : (links program : Links) (own : Uuid) (id : MethodId) (r : Option Found) (found : Found) (classes : List Class) (why : Option StartFault) (given arguments : List Value) (limits : Limits)
     → links ≡ program → AreLinks links → IsSoundSet program → option_map shown r ≡ startable links id → r ≡ Some found → classes ≡ links.classes
-    → why ≡ refusal classes found.method.now given → why ≡ None → given ≡ arguments → Begins program own id (shown found) arguments limits
+    → why ≡ refusal classes own found.method.now given → why ≡ None → given ≡ arguments → Begins program own id (shown found) arguments limits
 found_begins links program own id r found classes why given arguments limits same are sound is was set refuses none args =
     let at : startable program id ≡ Some (shown found) = subst (λ (l : Links). startable l id ≡ Some (shown found)) same (sym is ∙ ap (option_map shown) was) in
     let here : classes ≡ program.classes = set ∙ ap (λ (l : Links). l.classes) same in
-    let accepted : refusal program.classes found.method.now arguments ≡ None = rw (← here, ← args) (sym refuses ∙ none) in
+    let accepted : refusal program.classes own found.method.now arguments ≡ None = rw (← here, ← args) (sym refuses ∙ none) in
     startable-begins program own id (shown found) arguments limits (subst AreLinks same are) sound at accepted

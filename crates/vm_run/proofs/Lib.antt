@@ -9,3 +9,6 @@ pub mod Begins
 pub mod Sound
 pub mod Limited
 pub mod Made
+pub mod Holding
+pub mod Refused
+pub mod Views

@@ -18,9 +18,9 @@ use Rattle.vm_typing.specs.World.{World, IsPlain, MethodType}
 use Rattle.vm_world.specs.Worlds.{AreTyped, method_type, subject_at, world_of}
 use Rattle.vm_rows.specs.Steps as insns
 use Rattle.vm_run.specs.Limited.{IsWithinCode, AreWithinCode, KeepsWithin}
-use Rattle.vm_run.specs.Run.{State, Running, Waits, Over, Lost, run}
+use Rattle.vm_run.specs.Run.{State, Running, Waits, Over, Lost}
 use Rattle.vm_run.specs.Subjects.{declared_at, declared_of}
-use Rattle.vm_run.proofs.Safe.{IsSound, run-sound}
+use Rattle.vm_run.proofs.Safe.{IsSound}
 
 -- a frame below the one with a result has no more operands
 more_with : (r : Option VType) (f : types.Frame) (count : ℕ) → length (with_result r f).stack ≤ count → length f.stack ≤ count
@@ -112,15 +112,9 @@ module _ (links : Links) (frames : ℕ → ℕ → types.Frame) (typed : AreType
         callers_within asked (held_by m) (world.method m.stack.frame.method).result m.stack.callers is.callers,
       )
 
-  sound_within : (asked : Option VType) (plain : (t : VType) → asked ≡ Some t → IsPlain t) (keeps : KeepsTyped world asked (insns.step links)) (s : State)
+  pub sound_within : (asked : Option VType) (plain : (t : VType) → asked ≡ Some t → IsPlain t) (keeps : KeepsTyped world asked (insns.step links)) (s : State)
       → IsSound links frames asked plain keeps s → KeepsWithin links s
   sound_within asked plain keeps (Running m fuel) sound = typed_within asked m fuel sound
   sound_within asked plain keeps (Waits op m fuel) sound = waits_within asked m sound.before
   sound_within asked plain keeps (Over end fuel) sound = tt
   sound_within asked plain keeps Lost sound = tt
-
-  -- so are those of all machines to which it leads
-  pub stays_within : (asked : Option VType) → ((t : VType) → asked ≡ Some t → IsPlain t) → KeepsTyped world asked (insns.step links) → (k : ℕ) (m : Machine) (fuel : ℕ)
-      → IsTyped world asked m → KeepsWithin links (run links k (Running m fuel))
-  stays_within asked plain keeps k m fuel is =
-      sound_within asked plain keeps (run links k (Running m fuel)) (run-sound links frames asked plain keeps k (Running m fuel) is)

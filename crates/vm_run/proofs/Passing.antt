@@ -4,6 +4,7 @@ use Rattle.std.proofs.Math.ListN.{set}
 use Rattle.std.specs.Prelude.{◌&&◌}
 use Rattle.space_ids.specs.declared.value.Value.{Value}
 use Rattle.vm_heap.specs.Heap.{Cell, Store, all_cost}
+use Rattle.vm_heap.specs.References.{Table}
 use Rattle.vm_heap.specs.Tagged.{Tagged}
 use Rattle.vm_run.specs.Start.{copies, copy_of, has_room_for, have_room, passed_at, passed_from}
 use Rattle.vm_run.proofs.Copying.{all_cost-append, dropped, nil_right}
@@ -39,26 +40,26 @@ copied_within (a ∷ arguments) (suc index) =
     omega (arith, rest, one, other)
 
 -- the variable after those that hold the arguments so far gets the next one
-passed_suc : (address : ℕ) (arguments : List Value) (locals : List Tagged) (index : ℕ) (v d : Value) → v ≡ get_or arguments index d → index < length arguments → index < length locals
-    → set (passed_from address (take index arguments) ++ drop index locals) index (passed_at (address + all_cost (copies (take index arguments))) v)
-    ≡ passed_from address (take (suc index) arguments) ++ drop (suc index) locals
+passed_suc : (table : Table) (address : ℕ) (arguments : List Value) (locals : List Tagged) (index : ℕ) (v d : Value) → v ≡ get_or arguments index d → index < length arguments → index < length locals
+    → set (passed_from address table (take index arguments) ++ drop index locals) index (passed_at (address + all_cost (copies (take index arguments))) table v)
+    ≡ passed_from address table (take (suc index) arguments) ++ drop (suc index) locals
 unfolding copies passed_from all_cost
-passed_suc address [] locals index v d is within room = absurd (omega (arith, within))
-passed_suc address (a ∷ arguments) [] index v d is within room = absurd (omega (arith, room))
-passed_suc address (a ∷ arguments) (x ∷ locals) zero v d is within room = let same : address + 0 ≡ address = omega arith in rw (is, same) refl
-passed_suc address (a ∷ arguments) (x ∷ locals) (suc index) v d is within room =
+passed_suc table address [] locals index v d is within room = absurd (omega (arith, within))
+passed_suc table address (a ∷ arguments) [] index v d is within room = absurd (omega (arith, room))
+passed_suc table address (a ∷ arguments) (x ∷ locals) zero v d is within room = let same : address + 0 ≡ address = omega arith in rw (is, same) refl
+passed_suc table address (a ∷ arguments) (x ∷ locals) (suc index) v d is within room =
     let so : address + all_cost (copy_of a ++ copies (take index arguments)) ≡ address + all_cost (copy_of a) + all_cost (copies (take index arguments)) =
     omega (arith, all_cost-append (copy_of a) (copies (take index arguments))) in
     rw so
-    (ap (λ (rest : List Tagged). passed_at address a ∷ rest) (passed_suc (address + all_cost (copy_of a)) arguments locals index v d is (omega (arith, within)) (omega (arith, room))))
+    (ap (λ (rest : List Tagged). passed_at address table a ∷ rest) (passed_suc table (address + all_cost (copy_of a)) arguments locals index v d is (omega (arith, within)) (omega (arith, room))))
 
-pub passed_one : (arguments : List Value) (locals : List Tagged) (index address : ℕ) (v d : Value) (value : Tagged) → address ≡ all_cost (copies (take index arguments))
-    → value ≡ passed_at address v → v ≡ get_or arguments index d → index < length arguments → index < length locals
-    → set (passed_from 0 (take index arguments) ++ drop index locals) index value ≡ passed_from 0 (take (index + 1) arguments) ++ drop (index + 1) locals
-passed_one arguments locals index address v d value at was is within room =
+pub passed_one : (table : Table) (arguments : List Value) (locals : List Tagged) (index address : ℕ) (v d : Value) (value : Tagged) → address ≡ all_cost (copies (take index arguments))
+    → value ≡ passed_at address table v → v ≡ get_or arguments index d → index < length arguments → index < length locals
+    → set (passed_from 0 table (take index arguments) ++ drop index locals) index value ≡ passed_from 0 table (take (index + 1) arguments) ++ drop (index + 1) locals
+passed_one table arguments locals index address v d value at was is within room =
     let from : 0 + all_cost (copies (take index arguments)) ≡ address = omega (arith, at) in
-    let so = passed_suc 0 arguments locals index v d is within room in
-    rw (add-one index, was) (subst (λ a. set (passed_from 0 (take index arguments) ++ drop index locals) index (passed_at a v) ≡ passed_from 0 (take (suc index) arguments) ++ drop (suc index) locals) from so)
+    let so = passed_suc table 0 arguments locals index v d is within room in
+    rw (add-one index, was) (subst (λ a. set (passed_from 0 table (take index arguments) ++ drop index locals) index (passed_at a table v) ≡ passed_from 0 table (take (suc index) arguments) ++ drop (suc index) locals) from so)
 
 -- what is left of the arguments, from an index on
 pub room_at : (arguments : List Value) (index words : ℕ) (v d : Value) → v ≡ get_or arguments index d → index < length arguments
@@ -134,11 +135,11 @@ module _ (arguments : List Value) (before : Store) where
   copied_free_all index s end so = let none : all_cost (copies (drop index arguments)) ≡ 0 = ap all_cost (none_left index end) in omega (arith, so.free, none)
 
 -- as many local variables as before
-pub length-passed : (address : ℕ) (arguments : List Value) (locals : List Tagged) (index : ℕ) → index ≤ length arguments → length arguments ≤ length locals
-    → length (passed_from address (take index arguments) ++ drop index locals) ≡ length locals
+pub length-passed : (table : Table) (address : ℕ) (arguments : List Value) (locals : List Tagged) (index : ℕ) → index ≤ length arguments → length arguments ≤ length locals
+    → length (passed_from address table (take index arguments) ++ drop index locals) ≡ length locals
 unfolding passed_from
-length-passed address arguments locals zero within room = refl
-length-passed address [] locals (suc index) within room = absurd (omega (arith, within))
-length-passed address (a ∷ arguments) [] (suc index) within room = absurd (omega (arith, room))
-length-passed address (a ∷ arguments) (x ∷ locals) (suc index) within room =
-    ap (λ (n : ℕ). suc n) (length-passed (address + all_cost (copy_of a)) arguments locals index (omega (arith, within)) (omega (arith, room)))
+length-passed table address arguments locals zero within room = refl
+length-passed table address [] locals (suc index) within room = absurd (omega (arith, within))
+length-passed table address (a ∷ arguments) [] (suc index) within room = absurd (omega (arith, room))
+length-passed table address (a ∷ arguments) (x ∷ locals) (suc index) within room =
+    ap (λ (n : ℕ). suc n) (length-passed table (address + all_cost (copy_of a)) arguments locals index (omega (arith, within)) (omega (arith, room)))

@@ -24,7 +24,6 @@ use Rattle.vm_rows.proofs.Entries.{is_entry}
 use Rattle.vm_rows.specs.Steps as insns
 use Rattle.vm_run.specs.Ends.{End, IsEndIn, end_of, returned_cell}
 use Rattle.vm_run.specs.Run.{State, Running, Waits, Over, Lost, over, after, answer, code_of, played, step, run, AreDue, IsDue, IsNotLost, IsNeverStuck}
-use Rattle.vm_run.proofs.Runs.{run_over}
 
 cell-there : (links : Links) (P : Pointee → Type 0) (o : Option Cell) (fuel : ℕ) → There P (option_map (λ cell. OfHeap cell) o)
     → IsNotLost links (over (option_map returned_cell o) fuel)
@@ -120,7 +119,7 @@ module _ (links : Links) (frames : ℕ → ℕ → types.Frame) (asked : Option 
   answer-sound given (Over end fuel) sound due = absurd due
   answer-sound given Lost sound due = absurd due
 
-  plays-sound : (moves : List Move) (s : State) → IsSound s → AreDue links moves s → IsSound (played links moves s)
+  pub plays-sound : (moves : List Move) (s : State) → IsSound s → AreDue links moves s → IsSound (played links moves s)
   unfolding played AreDue
   plays-sound [] s sound due = sound
   plays-sound (Steps k ∷ moves) s sound due = plays-sound moves (run links k s) (run-sound k s sound) due
@@ -135,16 +134,3 @@ module _ (links : Links) (frames : ℕ → ℕ → types.Frame) (asked : Option 
 
   pub sound-IsNeverStuck : (s : State) → IsSound s → IsNeverStuck links s
   sound-IsNeverStuck s sound = record { always = λ moves due. not-lost (played links moves s) (plays-sound moves s sound due) }
-
-  pub typed-IsNeverStuck : (m : Machine) (fuel : ℕ) → Typed m → IsNeverStuck links (Running m fuel)
-  typed-IsNeverStuck m fuel typed = sound-IsNeverStuck (Running m fuel) typed
-
--- what is over is never stuck
-pub over-IsNeverStuck : (links : Links) (end : End) (fuel : ℕ) → IsEndIn links.classes end → IsNeverStuck links (Over end fuel)
-unfolding played AreDue
-over-IsNeverStuck links end fuel there = record { always = always }
-  where
-    always : (moves : List Move) → AreDue links moves (Over end fuel) → IsNotLost links (played links moves (Over end fuel))
-    always [] due = there
-    always (Steps k ∷ moves) due = rw (run_over links k end fuel) (always moves (subst (AreDue links moves) (run_over links k end fuel) due))
-    always (Replied given ∷ moves) due = absurd due.0

@@ -1,4 +1,4 @@
--- The number and the name of each reason why a task does not start.
+-- The number and the name of each reason why a task does not start. (This project's own.)
 use Rattle.std.specs.Prelude.{ℕ, List, codes}
 use Rattle.vm_run.specs.declared.fault.StartFault.TheVariants as start_fault
 use Rattle.vm_run.specs.declared.fault.StartFault.{StartFault}

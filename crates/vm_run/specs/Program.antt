@@ -1,4 +1,4 @@
--- What is known of a program: its set is sound, and what running it looks up is of the set.
+-- What is known of a program: its set is sound, and what running it looks up is of the set. (This project's own.)
 use Rattle.std.specs.Prelude.{◌≡◌}
 use Rattle.cls_link.specs.Links.{Links}
 use Rattle.vm_run.specs.Run.{State, IsNeverStuck}
@@ -11,7 +11,7 @@ pub record IsProgram (links : Links) (looked_up : Links) (numbers : ThrownClasse
   pub tables : looked_up ≡ links
   pub thrown : AreThrown links.classes numbers
 
--- and of a task: its machine is never stuck
+-- what is known of a task: its machine is never stuck
 pub record IsTask (links : Links) (numbers : ThrownClasses) (state : State) : Type 0 where
   pub thrown : AreThrown links.classes numbers
   pub never_stuck : IsNeverStuck links state

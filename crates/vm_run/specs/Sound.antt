@@ -1,4 +1,4 @@
--- Class sets whose tasks are never stuck.
+-- Class sets whose tasks are never stuck, though the machine checks nothing again that verification has checked (JVMS 4.10).
 use Rattle.std.specs.Prelude.{ℕ, Option}
 use Rattle.cls_link.specs.Links.{Links}
 use Rattle.ver_frames.specs.Frames.{Frame}

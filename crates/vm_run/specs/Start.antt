@@ -1,5 +1,5 @@
 -- How tasks start (JVMS 5.2 for the command line's class; the rest are rules of this project).
-use Rattle.std.specs.Prelude.{ℕ, ◌+◌, ◌-◌, ◌^◌, Bool, true, false, not, ◌&&◌, ◌||◌, ◌==◌, nat_le, nat_lt, if◌then◌else◌, Option, Some, None, Result, Ok, Err, List, [], ◌∷◌, ◌++◌, length, replicate, bytes_eq, codes, option_and_then}
+use Rattle.std.specs.Prelude.{All, IsSome, ℕ, ◌+◌, ◌-◌, ◌^◌, Bool, true, false, not, ◌&&◌, ◌||◌, ◌==◌, nat_le, nat_lt, if◌then◌else◌, Option, Some, None, Result, Ok, Err, List, [], ◌∷◌, ◌++◌, length, replicate, bytes_eq, codes, option_and_then}
 use Rattle.std.specs.List.{list_all}
 use Rattle.std.specs.Option.{option_map_or}
 use Rattle.cf_text.specs.declared.types.ElementType.{ElementType}
@@ -14,14 +14,17 @@ use Rattle.cls_search.specs.MethodSearches.{is_interface}
 use Rattle.cls_set.specs.Classes.{number_of}
 use Rattle.cls_set.specs.declared.class.Class.{Class}
 use Rattle.space_ids.specs.declared.ids.ClassId.{ClassId}
+use Rattle.space_ids.specs.declared.ids.Ref.{Ref}
 use Rattle.space_ids.specs.declared.value.Value.{Value}
 use Rattle.space_ids.specs.declared.value.Value.TheVariants as value
 use Rattle.uuid.specs.declared.Uuid.{Uuid}
 use Rattle.ver_frames.specs.Method.{is_static}
-use Rattle.vm_code.specs.Classes.{is_below_remote}
+use Rattle.vm_code.specs.Classes.{is_below_remote, is_remote}
 use Rattle.vm_heap.specs.Heap.{Cell, Ints, all_cost}
-use Rattle.vm_heap.specs.Tagged.{Tagged, Int, Null, Local, Unset}
+use Rattle.vm_heap.specs.References.{Table, row_for, row_of, with_reference}
+use Rattle.vm_heap.specs.Tagged.{Tagged, Int, Null, Local, Remote, Unset}
 use Rattle.vm_stack.specs.Frames.{Frame, empty_frame, frame_cost}
+use Rattle.vm_act.specs.declared.machine.Machine.{Machine}
 use Rattle.vm_act.specs.declared.ending.Thrown.TheVariants.{OutOfMemoryError, StackOverflowError}
 use Rattle.vm_run.specs.Ends.{Threw}
 use Rattle.vm_run.specs.Run.{State, Running, Over}
@@ -77,26 +80,35 @@ crosses classes kind = is_int_type kind || (is_array_type kind || is_remote_type
 abbrev pub takes_crossing : List Class → MethodDescriptor → Bool
 takes_crossing classes types = list_all (crosses classes) types.parameters && option_map_or (crosses classes) types.result true
 
--- whether a value may be passed where a type that crosses is asked: null may for each class and int[]. References to remote objects
--- may not yet
-abbrev pub is_of_type : FieldType → Value → Bool
-is_of_type kind value.Null = not (is_int_type kind)
-is_of_type kind (value.Int n) = is_int_type kind
-is_of_type kind (value.Ints elements) = is_array_type kind
-is_of_type kind (value.Ref reference) = false
+-- whether a reference is to an object of the task's own space, of a remote class
+abbrev pub is_own_object : List Class → Uuid → Ref → Bool
+is_own_object classes own reference = bytes_eq reference.space own && is_remote classes reference.class
+
+-- whether a value may be passed where a type that crosses is asked: null may for each class and int[], and a reference to an object of the
+-- task's own space for each remote interface, since an interface is treated like java/lang/Object (JVMS 4.10.1.2)
+abbrev pub is_of_type : List Class → Uuid → FieldType → Value → Bool
+is_of_type classes own kind value.Null = not (is_int_type kind)
+is_of_type classes own kind (value.Int n) = is_int_type kind
+is_of_type classes own kind (value.Ints elements) = is_array_type kind
+is_of_type classes own kind (value.Ref reference) = is_remote_type classes kind && is_own_object classes own reference
 
 -- whether the values are one for each parameter, of its type
-unfoldable pub fill : List FieldType → List Value → Bool
-fill [] [] = true
-fill [] (v ∷ values) = false
-fill (kind ∷ kinds) [] = false
-fill (kind ∷ kinds) (v ∷ values) = is_of_type kind v && fill kinds values
+unfoldable pub fill : List Class → Uuid → List FieldType → List Value → Bool
+fill classes own [] [] = true
+fill classes own [] (v ∷ values) = false
+fill classes own (kind ∷ kinds) [] = false
+fill classes own (kind ∷ kinds) (v ∷ values) = is_of_type classes own kind v && fill classes own kinds values
 
 -- why a method is not started with these arguments
-abbrev pub refusal : List Class → Method → List Value → Option StartFault
-refusal classes method arguments =
+abbrev pub refusal : List Class → Uuid → Method → List Value → Option StartFault
+refusal classes own method arguments =
     if not (takes_crossing classes method.types) then Some fault.BadSignature
-    else (if is_static method && fill method.types.parameters arguments then None else Some fault.BadArgument)
+    else (if is_static method && fill classes own method.types.parameters arguments then None else Some fault.BadArgument)
+
+-- why no task of a space starts at a method with these arguments, if none does
+abbrev pub start_fault : Links → Uuid → MethodId → List Value → Option StartFault
+start_fault links own id arguments =
+    option_map_or (λ (m : Declared). refusal links.classes own m.method arguments) (startable links id) (Some fault.AbsentMethod)
 
 -- what an argument puts into the heap: an array is passed by copy
 abbrev pub copy_of : Value → List Cell
@@ -110,16 +122,57 @@ unfoldable pub copies : List Value → List Cell
 copies [] = []
 copies (v ∷ values) = copy_of v ++ copies values
 
--- an argument as a local variable holds it, where the next copy comes to an address
-abbrev pub passed_at : ℕ → Value → Tagged
-passed_at address value.Null = Null
-passed_at address (value.Int n) = Int n
-passed_at address (value.Ints elements) = Local address
-passed_at address (value.Ref reference) = Unset
+-- the references that a task has once it has come by those among its arguments
+abbrev pub with_value : Value → Table → Table
+with_value value.Null table = table
+with_value (value.Int n) table = table
+with_value (value.Ints elements) table = table
+with_value (value.Ref reference) table = with_reference reference table
 
-unfoldable pub passed_from : ℕ → List Value → List Tagged
-passed_from address [] = []
-passed_from address (v ∷ values) = passed_at address v ∷ passed_from (address + all_cost (copy_of v)) values
+unfoldable pub with_arguments : List Value → Table → Table
+with_arguments [] table = table
+with_arguments (v ∷ values) table = with_arguments values (with_value v table)
+
+abbrev pub is_row : Option ℕ → Bool
+is_row None = false
+is_row (Some row) = true
+
+-- whether they are within its limit
+abbrev pub has_row : Value → Table → Bool
+has_row value.Null table = true
+has_row (value.Int n) table = true
+has_row (value.Ints elements) table = true
+has_row (value.Ref reference) table = is_row (row_for reference table)
+
+unfoldable pub have_rows : List Value → Table → Bool
+have_rows [] table = true
+have_rows (v ∷ values) table = has_row v table && have_rows values (with_value v table)
+
+abbrev pub remote_at : Option ℕ → Tagged
+remote_at None = Unset
+remote_at (Some row) = Remote row
+
+-- the task has come by an argument, if it is a reference
+abbrev pub IsHeld : Table → Value → Type 0
+IsHeld table value.Null = Unit {0}
+IsHeld table (value.Int n) = Unit {0}
+IsHeld table (value.Ints elements) = Unit {0}
+IsHeld table (value.Ref reference) = IsSome (row_of table.rows reference)
+
+-- and by each of them
+abbrev pub AreHeld : Table → List Value → Type 0
+AreHeld table values = All (IsHeld table) values
+
+-- an argument as a local variable holds it, where the next copy comes to an address, and these are the task's references
+abbrev pub passed_at : ℕ → Table → Value → Tagged
+passed_at address table value.Null = Null
+passed_at address table (value.Int n) = Int n
+passed_at address table (value.Ints elements) = Local address
+passed_at address table (value.Ref reference) = remote_at (row_of table.rows reference)
+
+unfoldable pub passed_from : ℕ → Table → List Value → List Tagged
+passed_from address table [] = []
+passed_from address table (v ∷ values) = passed_at address table v ∷ passed_from (address + all_cost (copy_of v)) table values
 
 -- arrays have fewer than 2^31 elements (JVMS 6.5, arraylength)
 abbrev pub is_short : Value → Bool
@@ -137,27 +190,34 @@ unfoldable pub have_room : List Value → ℕ → Bool
 have_room [] words = true
 have_room (v ∷ values) words = has_room_for v words && have_room values (words - all_cost (copy_of v))
 
+-- no references yet
+abbrev pub no_references : Uuid → Limits → Table
+no_references own limits = record { own = own; rows = []; limit = limits.references }
+
 -- the frame of a method as it begins: the arguments are its first local variables
-abbrev pub opening_frame : MethodId → Code → List Value → Frame
-opening_frame id code arguments = record {
+abbrev pub opening_frame : MethodId → Code → Table → List Value → Frame
+opening_frame id code table arguments = record {
   method = id.0;
   index = 0;
-  locals = passed_from 0 arguments ++ replicate (code.max_locals - length arguments) Unset;
+  locals = passed_from 0 table arguments ++ replicate (code.max_locals - length arguments) Unset;
   operands = [];
   room = code.max_stack;
 }
 
--- the state in which a task begins. It throws if the heap's budget has no room for the arguments, or else the stack's for the first
--- frame
+abbrev pub opening_machine : MethodId → Code → Table → List Value → Limits → Machine
+opening_machine id code table arguments limits = record {
+  stack = record { frame = opening_frame id code table arguments; callers = empty_frame ∷ []; free = limits.stack_words - frame_cost code.max_locals code.max_stack };
+  heap = record { cells = copies arguments; free = limits.heap_words - all_cost (copies arguments) };
+  references = table;
+}
+
+-- The state in which a task begins. It throws if the heap's budget has no room for the arguments, or they have more references than the task
+-- may come by, or else if the stack's budget has none for the first frame
 abbrev pub opening_state : Uuid → MethodId → Code → List Value → Limits → State
 opening_state own id code arguments limits =
-    if have_room arguments limits.heap_words
+    if have_room arguments limits.heap_words && have_rows arguments (no_references own limits)
     then (if nat_le (frame_cost code.max_locals code.max_stack) limits.stack_words
-    then Running (record {
-      stack = record { frame = opening_frame id code arguments; callers = empty_frame ∷ []; free = limits.stack_words - frame_cost code.max_locals code.max_stack };
-      heap = record { cells = copies arguments; free = limits.heap_words - all_cost (copies arguments) };
-      references = record { own = own; rows = []; limit = limits.references };
-    }) limits.fuel
+    then Running (opening_machine id code (with_arguments arguments (no_references own limits)) arguments limits) limits.fuel
     else Over (Threw StackOverflowError) limits.fuel)
     else Over (Threw OutOfMemoryError) limits.fuel
 
@@ -172,4 +232,4 @@ started links own id arguments limits =
 
     start_at : Option Declared → Result Tasked StartFault
     start_at None = Err fault.AbsentMethod
-    start_at (Some m) = begin m (refusal links.classes m.method arguments)
+    start_at (Some m) = begin m (refusal links.classes own m.method arguments)

@@ -1,4 +1,4 @@
--- The methods of a linked class set by their numbers, as they are started.
+-- The methods of a linked class set by their numbers, as they are started. (This project's own.)
 use Rattle.std.specs.Prelude.{Option, List, option_map}
 use Rattle.cf_reader.specs.declared.class_file.Code.{Code}
 use Rattle.cf_reader.specs.declared.class_file.Method.{Method}

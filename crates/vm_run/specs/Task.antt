@@ -1,4 +1,5 @@
--- Tasks: a program, the space that the task belongs to, and the state of its machine.
+-- Tasks: a program, the space that the task belongs to, and the state of its machine; and what its end is to callers. (This project's own;
+-- the classes that are thrown are those of JVMS 6.3 and 6.5, and of the Java RMI specification, appendix A.)
 use Rattle.std.specs.Prelude.{◌≡◌, ℕ, suc, ◌+◌, ◌<◌, ℤ, nat_le, if◌then◌else◌, List, [], length, Option, Some, None, codes, option_map, MatchBool}
 use Rattle.cls_link.specs.Links.{Links}
 use Rattle.cls_set.specs.Classes.{name_at, number_of}
@@ -68,7 +69,7 @@ thrown_name thrown.AbstractMethodError = codes "java/lang/AbstractMethodError"
 thrown_name thrown.IllegalAccessError = codes "java/lang/IllegalAccessError"
 thrown_name thrown.IncompatibleClassChangeError = codes "java/lang/IncompatibleClassChangeError"
 
--- the name of the class that is thrown where a result cannot cross (Java RMI specification, A.2)
+-- the name of the class that is thrown where a result cannot cross (Java RMI specification, appendix A)
 abbrev pub unmarshalled : List ℕ
 unmarshalled = codes "java/rmi/MarshalException"
 

@@ -1,4 +1,5 @@
--- The classes of which the machine throws objects, by their numbers in a set.
+-- The classes of which the machine throws objects (JVMS 6.3, 6.5; Java RMI specification, appendix A), by their numbers in a set. (The numbers are
+-- this project's own.)
 use Rattle.std.specs.Prelude.{◌≡◌, Some, List}
 use Rattle.cls_set.specs.Classes.{number_of}
 use Rattle.cls_set.specs.declared.class.Class.{Class}

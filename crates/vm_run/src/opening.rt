@@ -3,7 +3,7 @@ ghost use Rattle.std.specs.Prelude.{◌≡◌, ◌+◌, ◌-◌, ◌≤◌, ◌<
 ghost use Rattle.std.specs.Bool.{OnTrue};
 ghost use Rattle.vm_heap.specs.Tagged.{most_rows};
 ghost use Rattle.vm_heap.specs.Heap.{Ints, all_cost, cost, with_new};
-ghost use Rattle.vm_run.specs.Start.{copies, copy_of, has_room_for, have_room, opening_state, passed_at, passed_from};
+ghost use Rattle.vm_run.specs.Start.{copies, copy_of, has_room_for, has_row, have_room, have_rows, opening_state, passed_at, passed_from, with_arguments, with_value, AreHeld, IsHeld};
 ghost use Rattle.vm_run.specs.Task.{phase_state, fuel_left};
 
 use crate::limits::Limits;
@@ -30,14 +30,17 @@ pub fn opening(
 {
     let mut stack = Stack::with_words(alloc, limits.stack_words as usize)?;
     let mut heap = Heap::with_words(alloc, limits.heap_words)?;
-    let references = References::with_limit(alloc, own, limits.references)?;
+    let mut references = References::with_limit(alloc, own, limits.references)?;
     if !copy_in(&mut heap, arguments) {
+        return Ok(thrown(Thrown::OutOfMemoryError, limits.fuel));
+    }
+    if !hold_all(&mut references, arguments) {
         return Ok(thrown(Thrown::OutOfMemoryError, limits.fuel));
     }
     if !stack.push_frame(method.0, 0, code.max_locals, code.max_stack) {
         return Ok(thrown(Thrown::StackOverflowError, limits.fuel));
     }
-    pass(&mut stack, arguments);
+    pass(&mut stack, &mut references, arguments);
     Ok(Phase::Running(
         Machine {
             stack,
@@ -100,37 +103,68 @@ fn copy_ints(heap: &mut Heap, elements: &[i32]) -> bool
     true
 }
 
-// Writes the arguments into the first local variables: each array is the address of its copy.
-fn pass(stack: &mut Stack, arguments: &[Value])
+// Comes by the arguments that are references, if all of them are within the limit.
+fn hold_all(references: &mut References, arguments: &[Value]) -> bool
+    ensures rows { result ≡ have_rows arguments.now references.old }
+    ensures held { OnTrue result (references.new ≡ with_arguments arguments.now references.old) }
+{
+    for argument in arguments {
+        if !hold_one(references, argument) {
+            return false;
+        }
+    }
+    true
+}
+
+fn hold_one(references: &mut References, argument: &Value) -> bool
+    ensures row { result ≡ has_row argument.now references.old }
+    ensures held { references.new ≡ with_value argument.now references.old }
+{
+    match argument {
+        Value::Ref(reference) => references.hold(*reference).is_some(),
+        _ => true,
+    }
+}
+
+// Writes the arguments into the first local variables: each array is the address of its copy, and each
+// reference, by which the task has come, a row.
+fn pass(stack: &mut Stack, references: &mut References, arguments: &[Value])
     requires room { length arguments.now ≤ length stack.old.frame.locals }
     requires small { all_cost (copies arguments.now) + most_rows < 2 ^ 32 }
+    requires known { AreHeld references.old arguments.now }
     ensures frame { stack.new.frame
         ≡ record stack.old.frame {
           locals =
-              passed_from 0 arguments.now
+              passed_from 0 references.old arguments.now
               ++ drop (length arguments.now) stack.old.frame.locals;
         } }
     ensures callers { stack.new.callers ≡ stack.old.callers }
     ensures free { stack.new.free ≡ stack.old.free }
+    ensures references { references.new ≡ references.old }
 {
     let mut address = 0;
     for index in 0..arguments.len() {
         let argument = &arguments[index];
-        stack.set_local(index, word(address, argument));
+        stack.set_local(index, word(address, references, argument));
         address += words(argument);
     }
 }
 
 // An argument as a local variable holds it, where the next copy comes to an address.
-fn word(address: usize, argument: &Value) -> Word
-    requires { address + all_cost (copy_of argument.now) + most_rows < 2 ^ 32 }
-    ensures { result ≡ passed_at address argument.now }
+fn word(address: usize, references: &mut References, argument: &Value) -> Word
+    requires address { address + all_cost (copy_of argument.now) + most_rows < 2 ^ 32 }
+    requires known { IsHeld references.old argument.now }
+    ensures word { result ≡ passed_at address references.old argument.now }
+    ensures references { references.new ≡ references.old }
 {
     match argument {
         Value::Null => Word::null(),
         Value::Int(n) => Word::int(*n),
         Value::Ints(_) => Word::local(address),
-        Value::Ref(_) => Word::unset(),
+        Value::Ref(reference) => match references.hold(*reference) {
+            Some(word) => word,
+            None => Word::unset(),
+        },
     }
 }
 

@@ -1,16 +1,24 @@
 //! Programs: class sets that tasks may run.
-ghost use Rattle.std.specs.Prelude.{◌≡◌, IfOk};
+ghost use Rattle.std.specs.Prelude.{◌≡◌, Some, IfOk, IfNone, IfSome, IsOk, codes, option_map};
 ghost use Rattle.cls_link.specs.Links.{AreLinks};
+ghost use Rattle.cls_set.specs.Classes.{number_of};
 ghost use Rattle.ver_check.specs.Acceptance.{AreSafe};
+ghost use Rattle.vm_code.specs.Classes.{is_remote};
+ghost use Rattle.vm_code.specs.Fields.{kinds_of};
 ghost use Rattle.vm_run.specs.Sound.{IsSoundSet};
+ghost use Rattle.vm_run.specs.Start.{start_fault, started};
 ghost use Rattle.vm_run.specs.Thrown.{AreThrown};
+ghost use Rattle.vm_run.specs.declared.limits.Limits.{Limits};
 
+use crate::fault::StartFault;
+use crate::start::refuses_start;
 use crate::thrown::ThrownClasses;
-use cls_link::Linked;
+use cls_link::{ClassId, Linked, MethodId};
 use std::alloc::{AllocError, Global};
 use std::marker::Model;
 use ver_check::Accepted;
-use vm_code::Tables;
+use vm_code::{Tables, WordKind};
+use vm_heap::{Uuid, Value};
 
 /// A class set that the type checker accepted, and what running it looks up. A contract sees it as the
 /// linked set.
@@ -56,6 +64,49 @@ impl Program {
         ensures sound { IsSoundSet self.now }
     {
         self.accepted.linked()
+    }
+
+    /// Whether objects of a class are remote: it is no interface, and implements java/rmi/Remote (Java RMI
+    /// specification, 2.4). It takes constant time.
+    #[tactic(auto, using(crate::proofs::Views::none_remote))]
+    pub fn is_remote(&self, class: ClassId) -> bool
+        ensures { result ≡ is_remote self.now.classes class }
+    {
+        if usize::from(class.0) >= self.linked().set().len() {
+            return false;
+        }
+        self.tables().is_remote(class)
+    }
+
+    /// What the fields of an object of a class hold, by slot, or `None` if the set has no such class. It
+    /// takes constant time.
+    #[tactic(auto, using(vm_code::proofs::HeldKinds::kinds_held, vm_code::proofs::HeldKinds::kinds_past))]
+    pub fn field_kinds(&self, class: ClassId) -> Option<&[WordKind]>
+        ensures { option_map (λ kinds. kinds.now) result ≡ kinds_of self.now.classes class }
+    {
+        if usize::from(class.0) >= self.linked().set().len() {
+            return None;
+        }
+        Some(self.tables().kinds_of(class))
+    }
+
+    /// The number of java/lang/OutOfMemoryError.
+    pub fn out_of_memory(&self) -> ClassId
+        ensures { number_of self.now.classes (codes "java/lang/OutOfMemoryError") ≡ Some result }
+    {
+        self.thrown().out_of_memory_error
+    }
+
+    /// Why no task of the space `own` starts at a method with these arguments: `AbsentMethod`,
+    /// `BadSignature` or `BadArgument`, the first that fits. `None` if a task starts.
+    #[tactic(auto, using(crate::proofs::Refused::refused, crate::proofs::Refused::starts))]
+    pub fn refusal(&self, own: &Uuid, method: MethodId, arguments: &[Value]) -> Option<StartFault>
+        ensures fault { result ≡ start_fault self.now own.now method arguments.now }
+        // So does starting a task.
+        ensures refused { IfSome result (λ fault. (limits : Limits) → started self.now own.now method arguments.now limits ≡ Err fault) }
+        ensures starts { IfNone result ((limits : Limits) → IsOk (started self.now own.now method arguments.now limits)) }
+    {
+        refuses_start(self.linked(), own, method, arguments)
     }
 
     // What running asks of its fields and of the methods that its classes select.

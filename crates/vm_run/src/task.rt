@@ -1,11 +1,12 @@
 //! Tasks.
-ghost use Rattle.std.specs.Prelude.{◌≡◌, ◌≢◌, ℕ, ◌+◌, ◌^◌, ◌<◌, ◌≤◌, [], IsSome, IfSome, IfOk, IfErr, option_and_then};
+ghost use Rattle.std.specs.Prelude.{List, ◌≡◌, ◌≢◌, ℕ, ◌+◌, ◌^◌, ◌<◌, ◌≤◌, [], IsSome, IfSome, IfOk, IfErr, option_and_then};
 ghost use Rattle.vm_heap.specs.Heap.{Ints, cell_at, length_at};
 ghost use Rattle.vm_heap.specs.Tagged.{most_rows};
 ghost use Rattle.vm_run.specs.Ends.{end_of, returned_at};
 ghost use Rattle.vm_run.specs.Start.{opening_state, started};
 ghost use Rattle.vm_run.specs.Limited.{KeepsWithin};
-ghost use Rattle.vm_run.specs.Run.{answer, run, HasStopped, IsDue, IsOver, IsNeverStuck};
+ghost use Rattle.vm_typing.specs.Runs.{Move};
+ghost use Rattle.vm_run.specs.Run.{answer, played, run, AreDue, HasStopped, IsDue, IsOver, IsNeverStuck};
 ghost use Rattle.vm_run.specs.Task.{pause_at, fuel_left, final_state, last_end, outcome_of, outcome_at, phase_state, threw_named, unmarshalled, IsOutcome, IsOfSet};
 
 use crate::fault::StartFault;
@@ -70,12 +71,18 @@ impl Task {
         ensures never_stuck { IfOk result (λ task. IsNeverStuck program.now task.state) }
         // All frames keep within max_stack and max_locals of their methods.
         ensures within { IfOk result (λ task. (k : ℕ) → KeepsWithin program.now (run program.now k task.state)) }
+        ensures within_replies { IfOk
+            result
+            (λ task.
+            (moves : List Move)
+            → AreDue program.now moves task.state
+            → KeepsWithin program.now (played program.now moves task.state)) }
     {
         let linked = program.linked();
         let Some(found) = find(linked, method) else {
             return Err(StartFault::AbsentMethod);
         };
-        match refuses(linked.set(), found.method, &arguments) {
+        match refuses(linked.set(), &own, found.method, &arguments) {
             Some(fault) => return Err(fault),
             None => {}
         }

@@ -1,4 +1,4 @@
--- What is promised of every class set that is linked and checked: its machine is never stuck.
+-- What is promised of every class set that is linked and checked: its machine, which checks nothing again (JVMS 4.10), is never stuck.
 use Rattle.std.specs.Prelude.{◌≡◌, ℕ, false, if◌then◌else◌, Option, Some, List, ◌∷◌, slice_get}
 use Rattle.cf_reader.specs.declared.class_file.Method.{Method}
 use Rattle.cls_link.specs.Links.{Links, Declared, declared_methods}

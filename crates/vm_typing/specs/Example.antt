@@ -1,5 +1,5 @@
 -- A program that meets what is owed: a class P with a field x of type int; its `<init>` writes x, and a static method makes a P of 5 and
--- returns its x. An instruction's offset is its index here.
+-- returns its x. An instruction's offset is its index here. (This project's own.)
 use Rattle.std.specs.Prelude.{ℕ, zero, suc, pos, Bool, true, false, Option, Some, None, List, [], ◌∷◌, codes}
 use Rattle.space_ids.specs.declared.ids.ClassId.{ClassId}
 use Rattle.cls_set.specs.declared.class.Class.{Class}

@@ -1,5 +1,5 @@
--- What a step of a typed machine leads to, for each instruction on which frames, heap or callers depend: the laws from which the rows of an
--- interpreter follow. `asked` is the type of the task's result; an ending is told over what is `held`.
+-- What a step of a typed machine leads to (JVMS 4.10.1.9, 6.5), for each instruction on which frames, heap or callers depend: the laws from
+-- which the rows of an interpreter follow. `asked` is the type of the task's result; an ending is told over what is `held`.
 use Rattle.std.specs.Prelude.{◌≡◌, ℕ, ◌+◌, ◌<◌, Bool, true, false, not, ℤ, Option, Some, None, List, ◌∷◌, length, map, reverse, slice_get, slice_set}
 use Rattle.std.specs.List.{AllZip, AllByRecursion, list_all}
 use Rattle.space_ids.specs.declared.ids.ClassId.{ClassId}

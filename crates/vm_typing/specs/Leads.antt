@@ -1,5 +1,5 @@
 -- What a step of a typed machine leads to: it is not stuck, goes on typed, asks for what is of typed words, and ends only as the method that
--- was started may.
+-- was started may (JVMS 2.6.4, 2.6.5).
 use Rattle.std.specs.Prelude.{◌≡◌, ℕ, Option, Some, None}
 use Rattle.ver_frames.specs.declared.vtype.VType.{VType}
 use Rattle.ver_frames.specs.declared.vtype.VType.TheVariants as vtype

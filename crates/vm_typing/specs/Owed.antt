@@ -1,4 +1,4 @@
--- What linking and type checking owe of a program, so that a machine that runs it is never stuck.
+-- What linking (JVMS 5.4) and type checking (JVMS 4.10.1) owe of a program, so that a machine that runs it is never stuck.
 use Rattle.std.specs.Prelude.{◌≡◌, ℕ, ◌<◌, ◌≤◌, true, false, Option, Some, None, List, [], ◌∷◌, ◌++◌, length, slice_get, codes}
 use Rattle.space_ids.specs.declared.ids.ClassId.{ClassId}
 use Rattle.cls_set.specs.Classes.{name_at}
@@ -126,7 +126,7 @@ CastFits w vtype.IntArray (referent.Object b) = ⊥
 CastFits w vtype.IntArray referent.Ints = Unit {0}
 CastFits w t r = ⊥
 
--- what every class set gives of it: java/lang/Object is above each class, and standing for a class is transitive
+-- what every class set gives of what is owed: java/lang/Object is above each class, and standing for a class is transitive
 pub record SetsGive (w : World) : Type 0 where
   pub object : IsKnown w w.object
   pub object_named : (class : ClassId) → name_at w.classes class ≡ Some (codes "java/lang/Object") → w.object ≡ class

@@ -1,5 +1,5 @@
--- When a machine fits the types of the program that it runs: its running frame, those of its callers, which wait for a result, and its
--- heap. The remote objects are those of its references.
+-- When a machine fits the types of the program that it runs (JVMS 4.10.1.4 for type frames): its running frame, those of its callers, which
+-- wait for a result, and its heap. The remote objects are those of its references.
 use Rattle.std.specs.Prelude.{◌≡◌, ℕ, ◌+◌, ◌<◌, ◌≤◌, true, Option, Some, None, List, [], ◌∷◌, length}
 use Rattle.ver_frames.specs.Frames.{Frame}
 use Rattle.ver_frames.specs.declared.vtype.VType.{VType}
@@ -63,7 +63,7 @@ pub record IsAt (w : World) (asked : Option VType) (fresh : ℕ → Site) (recei
   pub heap : HeapFits w (held_by m)
   pub callers : CallersWait w asked (held_by m) (w.method m.stack.frame.method).result m.stack.callers
 
--- it stands at an instruction and fits the type frame there, and its task gives a result of a type
+-- a machine stands at an instruction and fits the type frame there, and its task gives a result of a type
 pub record IsTyped (w : World) (asked : Option VType) (m : Machine) : Type 0 where
   pub fresh : ℕ → Site
   pub receiver : Site

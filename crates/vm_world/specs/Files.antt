@@ -1,4 +1,4 @@
--- What holds of the classes of a set because each is as a class file of the profile says it, or is built in.
+-- What holds of the classes of a set because each is as a class file of the profile says it, or is built in (JVMS 4.1, 4.3, 4.5, 4.6).
 use Rattle.std.specs.Prelude.{◌≡◌, ℕ, zero, suc, true, false, if◌then◌else◌, Some, None, List, [], ◌∷◌, ◌++◌, length, map, bytes_eq, codes, slice_get, IsSomeAnd}
 use Rattle.std.specs.Option.{option_map_or}
 use Rattle.cf_text.specs.declared.types.FieldType.{FieldType}

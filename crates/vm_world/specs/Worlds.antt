@@ -1,4 +1,4 @@
--- The types of a linked set, as the laws of typed machines know them.
+-- The types of a linked set (JVMS 4.10.1.2, 4.10.1.6), as the laws of typed machines know them.
 use Rattle.std.specs.Prelude.{◌≡◌, ℕ, Bool, true, false, if◌then◌else◌, Option, Some, List, length, map, bytes_eq, codes, slice_get, get_or, option_and_then}
 use Rattle.std.specs.Option.{option_map_or, unwrap_or}
 use Rattle.cls_set.specs.Classes.{number_of}
@@ -54,6 +54,6 @@ pub record IsTypedBy (m : Subject) (frames : ℕ → Frame) : Type 0 where
   pub declared : List (ℕ × Frame)
   pub typing : IsTyping (body_of m declared) frames
 
--- each method with code is
+-- each method with code is typed by its frames
 abbrev pub AreTyped : Links → (ℕ → ℕ → Frame) → Type 0
 AreTyped links frames = (number : ℕ) (m : Subject) → subject_at links number ≡ Some m → IsTypedBy m (frames number)

@@ -6,8 +6,8 @@ use Rattle.cls_set.specs.ClassRules.{set_rule}
 use Rattle.cls_order.specs.declared.fault.SetRule.TheVariants.{BadSuper, FinalSuper, RemoteField, RemoteMethod}
 use Rattle.cls_set.specs.Rules.{Breaks}
 use Rattle.cls_order.specs.Classes.{IsInterface}
-use Rattle.cls_set.proofs.Broken.{class_among, final_way, not_remote, override_way, remote_way, way}
-use Rattle.cls_set.proofs.Unfit.{both_tell, field_way, method_way, off, tells_more}
+use Rattle.cls_set.proofs.Broken.{class_among, final_way, override_way, way}
+use Rattle.cls_set.proofs.Unfit.{both_tell, field_way, method_way, off}
 use Rattle.cls_order.proofs.Hierarchy.{class_read, same_some, true_false}
 use Rattle.cls_set.proofs.rules.breaks.Goals as goal
 
@@ -31,22 +31,6 @@ returns-in-FinalSuper c = λ k is.
     subst (λ r. IsTrue c.extends_one_with.result ↔ Breaks os k.file (set_rule r)) (sym c.in-FinalSuper.is)
     (subst (λ (x : Class). IsTrue c.extends_one_with.result ↔ Breaks os x.file FinalSuper) same
     (final_way os (get_or c.args.entries.now c.args.index c.index-entries-index.result).class.file c.extends_one_with.result c.extends_one_with.ensures))
-
-pub returns-then-not-is_interface-2 : goal.returns-then-not-is_interface-2
-returns-then-not-is_interface-2 c = λ k is.
-    let os = origins_of c.args.entries.now in
-    let same = same_some (sym (class_read c.args.entries.now c.index-entries-index.result c.args.index c.args.index refl c.requires.in_set) ∙ is) in
-    let none = subst (λ (x : Class). ¬ IsInterface x) same (λ h. true_false (sym (c.is_interface-in-NotYet.ensures.1 h) ∙ c.if-not-is_interface-2.true)) in
-    subst (λ r. IsTrue c.is_remote.result ↔ Breaks os k.file (set_rule r)) (sym c.in-NotYet.is)
-    (remote_way os k.file c.is_remote.result none (tells_more c.is_remote.result c.is_remote.ensures (c.requires.facts.remote.below c.args.index k is)))
-
-pub returns-else-not-is_interface-2 : goal.returns-else-not-is_interface-2
-returns-else-not-is_interface-2 c = λ k is.
-    let os = origins_of c.args.entries.now in
-    let same = same_some (sym (class_read c.args.entries.now c.index-entries-index.result c.args.index c.args.index refl c.requires.in_set) ∙ is) in
-    let interface = subst IsInterface same (c.is_interface-in-NotYet.ensures.0 c.if-not-is_interface-2.false) in
-    subst (λ r. IsTrue (not c.is_interface-in-NotYet.result) ↔ Breaks os k.file (set_rule r)) (sym c.in-NotYet.is)
-    (not_remote os k.file (not c.is_interface-in-NotYet.result) (ap not c.if-not-is_interface-2.false) interface)
 
 pub returns-in-Override : goal.returns-in-Override
 returns-in-Override c = λ k is.

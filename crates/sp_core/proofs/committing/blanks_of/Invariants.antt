@@ -1,9 +1,9 @@
-use Rattle.std.proofs.Common.{◌≡◌, map, take, Some}
-use Rattle.sp_rules.specs.Classes.{blank}
-use Rattle.sp_core.specs.ClassSets.{kind_of}
-use Rattle.sp_core.specs.declared.class_set.FieldKind.{FieldKind}
+use Rattle.std.proofs.Common.{◌≡◌, map}
+use Rattle.sp_rules.specs.Classes.{Classes, blank, field_kind}
+use Rattle.sp_rules.specs.Lists.{numbers_below}
 use Rattle.sp_core.proofs.committing.blanks_of.Given as goal
 
 -- the values so far
-abbrev pub invariant-loop-kind : goal.invariant-loop-kind
-invariant-loop-kind l = l.values.items ≡ map (λ (kind : FieldKind). blank (Some (kind_of kind))) (take l.kind-index l.kinds)
+abbrev pub invariant-loop-slot : goal.invariant-loop-slot
+invariant-loop-slot g l =
+    (c : Classes) → g.C.ClassSet.tells l.classes c → l.values.items ≡ map (λ slot. blank (field_kind c l.class slot)) (numbers_below l.slot)

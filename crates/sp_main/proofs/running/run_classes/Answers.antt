@@ -1,14 +1,12 @@
 use Rattle.std.proofs.Common.{Option, sym, subst}
 use Rattle.cls_link.specs.Links.{Links}
-use Rattle.cls_link.specs.declared.linked_code.MethodId.{MethodId}
-use Rattle.cls_order.specs.declared.fault.SetRule.TheVariants.{NotYet}
 use Rattle.vm_run.specs.Run.{HasNoRemote}
+use Rattle.cls_link.specs.declared.linked_code.MethodId.{MethodId}
 use Rattle.sp_main.specs.Only.{IsOutOfMemory}
 use Rattle.sp_main.specs.Runs.{IsProgram, IsRefused, NamesMethod, no_memory, no_program, absent}
 use Rattle.sp_main.specs.declared.refusal.Refusal.TheVariants.{Memory}
 use Rattle.sp_main.proofs.Files.{known_error}
 use Rattle.sp_main.proofs.Only.{not_absent, only_error, only_run}
-use Rattle.sp_main.proofs.Plain.{no_remote}
 use Rattle.sp_main.proofs.Refused.{run_refused}
 use Rattle.sp_main.proofs.running.run_classes.Goals as goal
 
@@ -57,8 +55,6 @@ returns-in_err-found-clause-refused c =
 pub returns-in_err-found-clause-only : goal.returns-in_err-found-clause-only
 returns-in_err-found-clause-only c = λ outcome only. only_error c.from_residual-in_err-found.result Memory outcome IsOutOfMemory c.from_residual-in_err-found.ensures.1 tt
 
--- files that break no rule on sets have no remote class
+-- no class of a program is remote
 pub run_method-requires-clause-plain : goal.run_method-requires-clause-plain
-run_method-requires-clause-plain c =
-    let program = (c.in_ok-accepted.ensures).program in
-    subst (λ (links : Links). HasNoRemote links.classes) (sym c.in_ok-program.ensures) (no_remote program.classes c.in_ok-accepted.accepted.classes program.linked.set program.set (program.makes_a_set NotYet))
+run_method-requires-clause-plain c = subst (λ (links : Links). HasNoRemote links.classes) (sym c.in_ok-program.ensures) ((c.in_ok-accepted.ensures).program).plain

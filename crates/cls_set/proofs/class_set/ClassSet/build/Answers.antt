@@ -2,16 +2,15 @@ use Rattle.std.proofs.Common.{◌≡◌, ◌≤◌, ◌-◌, List, length, sym, 
 use Rattle.std.specs.Prelude.{option_map, slice_get}
 use Rattle.std.proofs.lemmas.Result.{err_from_is_err_and}
 use Rattle.cf_reader.specs.declared.class_file.ClassFile.{ClassFile}
-use Rattle.cls_order.specs.declared.fault.SetRule.TheVariants.{NotYet, TooMany}
+use Rattle.cls_order.specs.declared.fault.SetRule.TheVariants.{TooMany}
 use Rattle.cls_order.specs.Building.{origins_of}
-use Rattle.cls_set.specs.ClassRules.{AreFacts, IsFirstRuleFault, IsRuleFault, KeepBelow}
+use Rattle.cls_set.specs.ClassRules.{AreFacts, IsFirstRuleFault, KeepBelow}
 use Rattle.cls_order.specs.Entries.{classes_of, AreArranged, HaveTables}
 use Rattle.cls_set.specs.declared.remote.MemberKind.TheVariants.{Fields, Methods}
 use Rattle.cls_set.specs.Orders.{AreKept, HaveOrders}
 use Rattle.cls_order.specs.FaultNames.{set_rule_number}
-use Rattle.cls_set.specs.Faults.{Keeps}
 use Rattle.cls_order.specs.Sets.{HasClasses, IsClassSet}
-use Rattle.cls_set.proofs.Arranged.{are_entries, few_held, has_classes, make_a_set, many_fault, remote_fault, rule_fault}
+use Rattle.cls_set.proofs.Arranged.{are_entries, few_held, has_classes, make_a_set, many_fault, rule_fault}
 use Rattle.cls_set.proofs.Numbering.{within_few}
 use Rattle.cls_order.proofs.Supertypes.{are_within}
 use Rattle.cls_set.proofs.Turns.{only_memory}
@@ -69,36 +68,8 @@ returns-in_err-refuse_many-clause-fault c =
     let fault = c.in_err-refuse_many.ensures.fault in
     rw (p.1, p.2) (many_fault files entries of before c.in_ok-last.last last c.in_err-refuse_many.field-0.0 (let over = fault.0 in omega (arith, over)) fault.1 fault.2)
 
-pub refuse-requires-clause-arranged : goal.refuse-requires-clause-arranged
-refuse-requires-clause-arranged c = subst AreArranged (sym c.as_slice-4.ensures.value) c.in_ok-entries.ensures.classes.known
-
-pub refuse-requires-clause-facts : goal.refuse-requires-clause-facts
-refuse-requires-clause-facts c = subst (λ ms. AreFacts ms c.in_ok-facts.facts) (sym c.as_slice-4.ensures.value) (subst (λ ms. AreFacts ms c.in_ok-facts.facts) c.as_slice-2.ensures.value c.in_ok-facts.ensures)
-
-pub returns-in_err-refuse-clause-only : goal.returns-in_err-refuse-clause-only
-returns-in_err-refuse-clause-only c = λ make.
-    let p = err_from_is_err_and c.from_residual-in_err-refuse.result c.from_residual-in_err-refuse.ensures.1 in
-    let files = c.args.files.items in
-    let entries = c.in_ok-entries.entries.items in
-    let of = c.in_ok-entries.ensures.classes in
-    let before = subst (λ ms. KeepBelow (origins_of ms) (set_rule_number TooMany)) c.as_slice-3.ensures.value c.in_ok-refuse_broken.ensures.ok in
-    let last = subst (λ (fs : List ClassFile). c.in_ok-last.last ≡ option_map (λ (file : ClassFile). file.name) (slice_get fs (length fs - 1))) c.as_slice.ensures.value c.in_ok-last.ensures in
-    let few : length entries ≤ 4096 = few_held files entries of c.in_ok-last.last last (λ some. let low = c.in_ok-refuse_many.ensures.ok some in omega (arith, low)) in
-    rw (p.1, p.2) (only_memory c.args.files.items make c.in_err-refuse.field-0.0 (remote_fault files entries of before few c.in_err-refuse.field-0.0 (subst (λ ms. IsRuleFault (origins_of ms) NotYet c.in_err-refuse.field-0.0) c.as_slice-4.ensures.value c.in_err-refuse.ensures.fault)))
-
-pub returns-in_err-refuse-clause-fault : goal.returns-in_err-refuse-clause-fault
-returns-in_err-refuse-clause-fault c =
-    let p = err_from_is_err_and c.from_residual-in_err-refuse.result c.from_residual-in_err-refuse.ensures.1 in
-    let files = c.args.files.items in
-    let entries = c.in_ok-entries.entries.items in
-    let of = c.in_ok-entries.ensures.classes in
-    let before = subst (λ ms. KeepBelow (origins_of ms) (set_rule_number TooMany)) c.as_slice-3.ensures.value c.in_ok-refuse_broken.ensures.ok in
-    let last = subst (λ (fs : List ClassFile). c.in_ok-last.last ≡ option_map (λ (file : ClassFile). file.name) (slice_get fs (length fs - 1))) c.as_slice.ensures.value c.in_ok-last.ensures in
-    let few : length entries ≤ 4096 = few_held files entries of c.in_ok-last.last last (λ some. let low = c.in_ok-refuse_many.ensures.ok some in omega (arith, low)) in
-    rw (p.1, p.2) (remote_fault files entries of before few c.in_err-refuse.field-0.0 (subst (λ ms. IsRuleFault (origins_of ms) NotYet c.in_err-refuse.field-0.0) c.as_slice-4.ensures.value c.in_err-refuse.ensures.fault))
-
 pub tables-requires : goal.tables-requires
-tables-requires c = subst AreArranged (sym c.as_slice-5.ensures.value) c.in_ok-entries.ensures.classes.known
+tables-requires c = subst AreArranged (sym c.as_slice-4.ensures.value) c.in_ok-entries.ensures.classes.known
 
 pub number_classes-requires : goal.number_classes-requires
 number_classes-requires c =
@@ -117,10 +88,10 @@ invariant_of-result c =
     let before = subst (λ ms. KeepBelow (origins_of ms) (set_rule_number TooMany)) c.as_slice-3.ensures.value c.in_ok-refuse_broken.ensures.ok in
     let last = subst (λ (fs : List ClassFile). c.in_ok-last.last ≡ option_map (λ (file : ClassFile). file.name) (slice_get fs (length fs - 1))) c.as_slice.ensures.value c.in_ok-last.ensures in
     let few : length entries ≤ 4096 = few_held files entries of c.in_ok-last.last last (λ some. let low = c.in_ok-refuse_many.ensures.ok some in omega (arith, low)) in
-    let told = subst (λ ms. HaveTables (classes_of ms) c.in_ok-tables.tables.items) c.as_slice-5.ensures.value c.in_ok-tables.ensures in
+    let told = subst (λ ms. HaveTables (classes_of ms) c.in_ok-tables.tables.items) c.as_slice-4.ensures.value c.in_ok-tables.ensures in
     let kept = are_entries files entries of c.requires before few c.in_ok-tables.tables.items told in
     let methods = subst (λ ms. HaveOrders Methods (classes_of ms) c.in_ok-facts.facts.orders.items) c.as_slice-2.ensures.value c.in_ok-facts.ensures.orders in
-    let fields = subst (λ ms. HaveOrders Fields (classes_of ms) c.in_ok-fields.fields.items) c.as_slice-6.ensures.value c.in_ok-fields.ensures in
+    let fields = subst (λ ms. HaveOrders Fields (classes_of ms) c.in_ok-fields.fields.items) c.as_slice-5.ensures.value c.in_ok-fields.ensures in
     subst (λ ms. AreKept ms c.in_ok-tables.tables.items c.in_ok-facts.facts.orders.items c.in_ok-fields.fields.items) (sym c.in_ok-members.ensures)
     (record { set = kept.set; ranked = kept.ranked; tables = kept.tables; methods = methods; fields = fields })
 
@@ -132,7 +103,7 @@ returns-clause-set c =
     let before = subst (λ ms. KeepBelow (origins_of ms) (set_rule_number TooMany)) c.as_slice-3.ensures.value c.in_ok-refuse_broken.ensures.ok in
     let last = subst (λ (fs : List ClassFile). c.in_ok-last.last ≡ option_map (λ (file : ClassFile). file.name) (slice_get fs (length fs - 1))) c.as_slice.ensures.value c.in_ok-last.ensures in
     let few : length entries ≤ 4096 = few_held files entries of c.in_ok-last.last last (λ some. let low = c.in_ok-refuse_many.ensures.ok some in omega (arith, low)) in
-    let told = subst (λ ms. HaveTables (classes_of ms) c.in_ok-tables.tables.items) c.as_slice-5.ensures.value c.in_ok-tables.ensures in
+    let told = subst (λ ms. HaveTables (classes_of ms) c.in_ok-tables.tables.items) c.as_slice-4.ensures.value c.in_ok-tables.ensures in
     subst (λ ms. IsClassSet (classes_of ms)) (sym c.in_ok-members.ensures) (are_entries files entries of c.requires before few c.in_ok-tables.tables.items told).set
 
 pub returns-clause-classes : goal.returns-clause-classes
@@ -146,4 +117,4 @@ returns-clause-found c =
     let before = subst (λ ms. KeepBelow (origins_of ms) (set_rule_number TooMany)) c.as_slice-3.ensures.value c.in_ok-refuse_broken.ensures.ok in
     let last = subst (λ (fs : List ClassFile). c.in_ok-last.last ≡ option_map (λ (file : ClassFile). file.name) (slice_get fs (length fs - 1))) c.as_slice.ensures.value c.in_ok-last.ensures in
     let few : length entries ≤ 4096 = few_held files entries of c.in_ok-last.last last (λ some. let low = c.in_ok-refuse_many.ensures.ok some in omega (arith, low)) in
-    make_a_set files entries of before few (subst (λ ms. Keeps (origins_of ms) NotYet) c.as_slice-4.ensures.value c.in_ok-refuse.ensures.ok)
+    make_a_set files entries of before few

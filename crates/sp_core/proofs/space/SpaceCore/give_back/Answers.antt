@@ -1,37 +1,8 @@
-use Rattle.std.proofs.Common.{◌∷◌, cond, None, Some, refl, sym, ap, ◌∙◌}
-use Rattle.std.specs.Prelude.{◌==◌}
+use Rattle.std.proofs.Common.{cond, None, Some, ap, ◌∙◌}
 use Rattle.sp_rules.specs.Refusals.{NotLent}
-use Rattle.sp_tasks.specs.Rows.{TaskTable, back_row}
-use Rattle.sp_core.specs.Cores.{is_lent, lent_as}
-use Rattle.sp_core.specs.Hands.{given_back}
-use Rattle.sp_rules.specs.Space.{state_of}
-use Rattle.sp_rules.proofs.OwnLemmas.{own_references_stand}
-use Rattle.sp_core.proofs.FinishLemmas.{back-outputs, back-state}
-use Rattle.sp_core.proofs.HandLemmas.{back-and, back-refusal, lent-at, not-lent, row-taken, taken}
+use Rattle.sp_core.proofs.HandLemmas.{back-refusal, not-lent}
 use Rattle.sp_core.proofs.space.SpaceCore.give_back.Goals as goal
 
-pub returns-then-not-is_lent_as-clause-refused : goal.returns-then-not-is_lent_as-clause-refused
-returns-then-not-is_lent_as-clause-refused c = λ g s lent is lends.
-    not-lent _ (back-refusal g s c.args.self.now c.args.task lent c.is_lent_as.result is lends c.is_lent_as.ensures.lent ∙ ap (λ b. cond b None (Some NotLent)) c.if-not-is_lent_as.true)
-
-pub returns-clause-accepted : goal.returns-clause-accepted
-returns-clause-accepted c = λ g s lent is lends.
-    back-refusal g s c.args.self.now c.args.task lent c.is_lent_as.result is lends c.is_lent_as.ensures.lent ∙ ap (λ b. cond b None (Some NotLent)) c.if-not-is_lent_as.false
-
-pub returns-clause-outputs : goal.returns-clause-outputs
-returns-clause-outputs c = λ g s is. back-outputs g s c.args.task
-
-pub returns-clause-state : goal.returns-clause-state
-returns-clause-state c = λ g s is.
-    back-state g s c.args.self.now c.args.task c.give_back.new.self is (taken g s c.args.self.now c.args.task is (sym c.is_lent_as.ensures.lent ∙ c.if-not-is_lent_as.false)) c.give_back.ensures
-
-pub returns-clause-others : goal.returns-clause-others
-returns-clause-others c = λ other.
-    let (row, found) = row-taken _ c.args.task (sym c.is_lent_as.ensures.lent ∙ c.if-not-is_lent_as.false) in
-    lent-at c.args.self.now (record c.args.self.now { tasks = c.give_back.new.self }) c.args.task.id (back_row c.args.task.made) row found (ap (λ (t : TaskTable). t.rows) c.give_back.ensures) other
-    ∙ back-and (other == c.args.task.id) _ (is_lent c.args.self.now other) refl
-
-pub returns-clause-standing : goal.returns-clause-standing
-returns-clause-standing c = λ g h lent is lends taken.
-    own_references_stand g (given_back c.args.task ∷ h)
-    ((lent_as (state_of g h) c.args.task lent, back-refusal g (state_of g h) c.args.self.now c.args.task lent c.is_lent_as.result is lends c.is_lent_as.ensures.lent ∙ ap (λ b. cond b None (Some NotLent)) c.if-not-is_lent_as.false), taken)
+pub returns-then-not-has_lent-clause-refused : goal.returns-then-not-has_lent-clause-refused
+returns-then-not-has_lent-clause-refused c = λ g s lent is lends.
+    not-lent _ (back-refusal g s c.args.self.now c.args.task lent c.has_lent.result is lends c.has_lent.ensures ∙ ap (λ b. cond b None (Some NotLent)) c.if-not-has_lent.true)

@@ -1,14 +1,11 @@
-use Rattle.std.proofs.Common.{ap, ◌∙◌}
-use Rattle.std.specs.Prelude.{slice_get}
-use Rattle.sp_rules.specs.Classes.{Kind}
-use Rattle.std.proofs.Common.{List}
+use Rattle.std.proofs.Common.{◌∙◌}
 use Rattle.sp_rules.specs.State.{object_at}
 use Rattle.sp_core.proofs.OpLemmas.{kind-of-class, no-class}
 use Rattle.sp_core.proofs.space.SpaceCore.kind_at.Goals as goal
 
 pub returns-in-Some : goal.returns-in-Some
 returns-in-Some g c = λ g' s is tells.
-    c.kind_in.ensures ∙ ap (λ (ks : List Kind). slice_get ks c.args.slot) (c.fields.ensures g'.classes tells)
+    c.field_kind.ensures g'.classes tells
     ∙ kind-of-class g' c.in-Some.class (object_at s c.args.object) c.args.slot (c.in-Some.ensures g' s.store is.store)
 
 pub returns-in-None : goal.returns-in-None

@@ -1,6 +1,7 @@
 use Rattle.std.proofs.Common.{ap}
 use Rattle.sp_tasks.specs.Rows.{TaskTable}
 use Rattle.sp_core.proofs.HandLemmas.{lend-hand, lend-lent, lend-none, lend-others, lend-state}
+use Rattle.sp_core.proofs.LentLemmas.{lent-own}
 use Rattle.sp_core.proofs.space.SpaceCore.lend.Goals as goal
 
 pub returns-clause-lent : goal.returns-clause-lent
@@ -17,3 +18,6 @@ returns-clause-others c = lend-others c.args.self.now (record c.args.self.now { 
 
 pub returns-clause-unchanged : goal.returns-clause-unchanged
 returns-clause-unchanged c = lend-none c.args.self.now (record c.args.self.now { tasks = c.lend.new.self }) c.args.task c.lend.result c.lend.ensures.task (ap (λ (t : TaskTable). t.rows) c.lend.ensures.rows)
+
+pub returns-clause-own : goal.returns-clause-own
+returns-clause-own c = lent-own c.args.self.now (record c.args.self.now { tasks = c.lend.new.self }) c.args.task c.lend.result c.lend.ensures.task (ap (λ (t : TaskTable). t.rows) c.lend.ensures.rows)

@@ -1,14 +1,7 @@
-use Rattle.std.proofs.Common.{List, ap, ◌∙◌}
-use Rattle.std.specs.Prelude.{◌||◌}
-use Rattle.std.specs.List.{list_any}
-use Rattle.sp_registry.specs.declared.registry.Binding.{Binding}
-use Rattle.sp_rules.specs.References.{is_id, is_id_in}
 use Rattle.sp_core.proofs.SweepLemmas.{needed-is}
 use Rattle.sp_core.proofs.space.SpaceCore.needed.Goals as goal
 
 pub returns : goal.returns
 returns c = λ g s id is.
     needed-is g s c.args.self.now id c.new-needed.result c.insert_bound.new.needed c.insert_own.new.ids c.insert_own-2.new.ids is c.new-needed.ensures
-    (c.in_ok-insert_bound.ensures id
-    ∙ ap (λ (bs : List Binding). is_id_in c.new-needed.result id || list_any (λ (b : Binding). is_id b.object id) bs) c.list.ensures.bindings)
-    (c.in_ok-insert_own.ensures id) (c.in_ok-insert_own-2.ensures id)
+    (c.in_ok-insert_bound.ensures id) (c.in_ok-insert_own.ensures id) (c.in_ok-insert_own-2.ensures id)

@@ -15,15 +15,15 @@ returns c = λ g same most. record {
   store = c.new.ensures.after g same;
   holds = c.new.ensures.holds;
   objects_made = c.new.ensures.made;
-  names = c.new-2.ensures;
+  names = c.in_ok-new.ensures;
   entries = c.new-3.ensures;
   leases = c.new-4.ensures;
-  tasks_made = ap (λ (t : TaskTable). t.made) c.in_ok-new.ensures;
+  tasks_made = ap (λ (t : TaskTable). t.made) c.in_ok-new-2.ensures;
   fuel = sym most;
-  tasks = ap (λ (t : TaskTable). map seen_row t.rows) c.in_ok-new.ensures;
+  tasks = ap (λ (t : TaskTable). map seen_row t.rows) c.in_ok-new-2.ensures;
   runs = tt;
   calls_made = refl;
-  results = ap (λ (rows : List (ℕ × Option Value)). map kept rows) c.in_ok-new-2.ensures;
-  ended = subst (AllOf (λ (row : ℕ × Option Value). (row.0 ≤ c.in_ok-new.field-0.made) × (row_of row.0 c.in_ok-new.field-0.rows ≡ None))) (sym c.in_ok-new-2.ensures) tt;
+  results = ap (λ (rows : List (ℕ × Option Value)). map kept rows) c.in_ok-new-3.ensures;
+  ended = subst (AllOf (λ (row : ℕ × Option Value). (row.0 ≤ c.in_ok-new-2.field-0.made) × (row_of row.0 c.in_ok-new-2.field-0.rows ≡ None))) (sym c.in_ok-new-3.ensures) tt;
   alone = record { connections = refl; requests = refl; dialling = refl; parked = refl; held = refl; fresh = refl; notes = refl; ready = tt; roots = tt; tasks = tt; fields = tt; results = tt };
 }

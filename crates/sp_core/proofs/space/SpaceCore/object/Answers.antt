@@ -9,5 +9,5 @@ returns-in_default c = λ g s is. none-shown s _ (c.in_default.ensures g s.store
 
 pub returns : goal.returns
 returns c = λ g s is.
-    object-shown s _ c.in-Some.id c.in-Some.class c.bound_to.result c.entries_of.result (c.in-Some.ensures g s.store is.store)
-    (c.bound_to.ensures ∙ ap (λ (bs : List Binding). length (filter (λ (b : Binding). is_id b.object c.in-Some.id) bs)) (c.list.ensures.bindings ∙ is.names)) (c.entries_of.ensures s.owner.entries is.entries)
+    object-shown s _ c.in-Some.id c.in-Some.class c.count_of.result c.entries_of.result (c.in-Some.ensures g s.store is.store)
+    (c.count_of.ensures ∙ ap (λ (bs : List Binding). length (filter (λ (b : Binding). is_id b.object c.in-Some.id) bs)) is.names) (c.entries_of.ensures s.owner.entries is.entries)

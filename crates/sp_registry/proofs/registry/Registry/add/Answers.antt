@@ -1,8 +1,9 @@
-use Rattle.std.proofs.Common.{◌≡◌, None, sym, subst}
-use Rattle.sp_registry.specs.Bindings.{Names, lookup}
-use Rattle.sp_registry.proofs.BindingsLemmas.{once-append}
+use Rattle.std.proofs.Common.{◌≡◌, arith}
+use Rattle.sp_registry.specs.Counts.{count_of, number_in}
+use Rattle.sp_registry.proofs.CountsLemmas.{count-few}
 use Rattle.sp_registry.proofs.registry.Registry.add.Goals as goal
 
-pub invariant_of-self-2 : goal.invariant_of-self-2
-invariant_of-self-2 c =
-    rw c.in_ok-push.ensures.items (once-append _ _ c.self.invariant (rw c.in_ok-name.ensures (subst (λ (n : Names). lookup n.bindings c.args.name.now ≡ None) (sym c.self.view_is) c.requires.unbound)))
+pub add-requires : goal.add-requires
+add-requires c =
+    let count : number_in c.self.inside.counts c.args.object ≡ count_of c.self.inside.table c.args.object = c.self.invariant c.args.object in
+    omega (arith, count, count-few c.self.inside.table c.args.object, c.len-count.ensures.len, c.len-count.ensures.fits)

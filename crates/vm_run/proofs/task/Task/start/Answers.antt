@@ -32,3 +32,10 @@ returns-clause-within c =
     found_begins c.linked-linked.result.now c.args.program.now c.args.own c.args.method c.find.result c.in-Some.found c.set.result.now c.refuses.result c.deref.result.now c.args.arguments.items c.args.limits
     c.linked-linked.ensures.linked c.find.ensures.links c.linked-linked.ensures.sound c.find.ensures.found c.in-Some.is c.set.ensures c.refuses.ensures c.in-None.is c.deref.ensures.value in
     rw (c.in_ok-phase.ensures.opens, c.deref-2.ensures.value) begins.within
+
+pub returns-clause-within_replies : goal.returns-clause-within_replies
+returns-clause-within_replies c =
+    let begins : Begins c.args.program.now c.args.own c.args.method (shown c.in-Some.found) c.args.arguments.items c.args.limits =
+    found_begins c.linked-linked.result.now c.args.program.now c.args.own c.args.method c.find.result c.in-Some.found c.set.result.now c.refuses.result c.deref.result.now c.args.arguments.items c.args.limits
+    c.linked-linked.ensures.linked c.find.ensures.links c.linked-linked.ensures.sound c.find.ensures.found c.in-Some.is c.set.ensures c.refuses.ensures c.in-None.is c.deref.ensures.value in
+    rw (c.in_ok-phase.ensures.opens, c.deref-2.ensures.value) begins.within_replies

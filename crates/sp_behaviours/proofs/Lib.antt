@@ -1,0 +1,5 @@
+pub mod OwnSteps
+pub mod Stays
+pub mod Coming
+pub mod Following
+pub mod Starting

@@ -1,0 +1,69 @@
+-- A task of the rules of spaces stands where a machine stands: it does from there on what the machine does, with its fuel, and holds the
+-- references by which the machine has come. (This project's own rule.)
+use Rattle.std.specs.Prelude.{◌≡◌, ◌≤◌, ℕ, true, zero, suc, List, length, Some, codes}
+use Rattle.cls_link.specs.Links.{Links}
+use Rattle.cls_set.specs.Classes.{number_of}
+use Rattle.space_ids.specs.declared.ids.Ref.{Ref}
+use Rattle.space_ids.specs.declared.value.Value.{Value}
+use Rattle.uuid.specs.declared.Uuid.{Uuid}
+use Rattle.sp_rules.specs.Behaviours as rules
+use Rattle.sp_rules.specs.Classes.{Limits, Setting}
+use Rattle.sp_rules.specs.References.{is_reference_in}
+use Rattle.sp_rules.specs.Tasks.{Task, Stand, Runs, AsksFor, HasEnded}
+use Rattle.vm_act.specs.Next.{Next, On, Ends, Asks, Stuck}
+use Rattle.vm_act.specs.declared.asked.Asked.{Asked}
+use Rattle.vm_act.specs.declared.asked.Asked.TheVariants as asked
+use Rattle.vm_heap.specs.References.{Table}
+use Rattle.vm_rows.specs.Steps as insns
+use Rattle.vm_run.specs.Run.{State, Running, Waits, Over, Lost, IsNeverStuck}
+use Rattle.vm_run.specs.Task.{fuel_left}
+use Rattle.sp_behaviours.specs.Behaviours.{behaviour, behaviour_at, op_of, told_end}
+
+-- The classes of a setting play on a linked set: what tasks do is what its machines do, and the class that a task throws over its limits is
+-- java/lang/OutOfMemoryError there.
+pub record PlaysOn (links : Links) (g : Setting) : Type 0 where
+  pub behaviour : (own : Uuid) (limits : Limits) (method : ℕ) (arguments : List Value) (fuel : ℕ) → g.classes.behaviour own limits method arguments fuel ≡ behaviour links own limits method arguments fuel
+  pub out_of_memory : number_of links.classes (codes "java/lang/OutOfMemoryError") ≡ Some g.classes.out_of_memory
+
+-- The references by which a machine has come are those that its task holds, within the limit of its space.
+pub record HoldsAs (g : Setting) (held : List Ref) (table : Table) : Type 0 where
+  pub rows : table.rows ≡ held
+  pub own : table.own ≡ g.id
+  pub limit : table.limit ≡ g.limits.references
+  pub within : length held ≤ g.limits.references
+
+-- The object of which a field is asked for is one to which a reference is held.
+abbrev pub HoldsAsked : List Ref → Asked → Type 0
+HoldsAsked held (asked.Create class) = Unit {0}
+HoldsAsked held (asked.Get object slot) = is_reference_in held object ≡ true
+HoldsAsked held (asked.Put object slot value) = is_reference_in held object ≡ true
+
+-- A task that is over holds nothing on its machine.
+abbrev pub HoldsIn : Setting → List Ref → State → Type 0
+HoldsIn g held (Running m fuel) = HoldsAs g held m.references
+HoldsIn g held (Waits op m fuel) = HoldsAs g held m.references × HoldsAsked held op
+HoldsIn g held (Over end fuel) = Unit {0}
+HoldsIn g held Lost = Unit {0}
+
+-- The task follows a machine that is never stuck.
+pub record Follows (links : Links) (g : Setting) (t : Task) (s : State) : Type 0 where
+  pub behaviour : t.behaviour ≡ behaviour_at links s
+  pub fuel : t.fuel ≡ fuel_left s
+  pub held : HoldsIn g t.held s
+  pub never_stuck : IsNeverStuck links s
+
+-- ---- where a machine stands
+
+abbrev pub stand_before : Next → Stand
+stand_before (On m) = Runs
+stand_before (Ends ending) = Runs
+stand_before (Asks op m) = AsksFor (op_of op)
+stand_before Stuck = HasEnded rules.Spent
+
+-- before an instruction of its own, at one that asks, or at its end
+abbrev pub stand_of : Links → State → Stand
+stand_of links (Running m zero) = HasEnded rules.Spent
+stand_of links (Running m (suc fuel)) = stand_before (insns.step links m)
+stand_of links (Waits op m fuel) = AsksFor (op_of op)
+stand_of links (Over end fuel) = HasEnded (told_end links.classes end)
+stand_of links Lost = HasEnded rules.Spent

@@ -1,0 +1,61 @@
+-- The laws of tasks that follow machines, each the contract of a function of this crate. (This project's own.)
+use Rattle.std.specs.Prelude.{◌≡◌, ◌+◌, ℕ, List, Option, Some, Ok}
+use Rattle.cls_link.specs.Links.{Links}
+use Rattle.space_ids.specs.declared.ids.ClassId.{ClassId}
+use Rattle.space_ids.specs.declared.value.Value.{Value}
+use Rattle.sp_rules.specs.Behaviours.{Gives, Throws}
+use Rattle.sp_rules.specs.Classes.{Setting}
+use Rattle.sp_rules.specs.Tasks as tasks
+use Rattle.vm_act.specs.declared.asked.Asked.{Asked}
+use Rattle.vm_act.specs.declared.asked.Reply.{Reply}
+use Rattle.vm_act.specs.declared.asked.Reply.TheVariants as reply
+use Rattle.vm_act.specs.declared.machine.Machine.{Machine}
+use Rattle.vm_run.specs.Run.{State, Waits, answer, made, run, IsDue, IsNeverStuck}
+use Rattle.vm_run.specs.Start.{started}
+use Rattle.vm_run.specs.Task.{Tasked, outcome_at}
+use Rattle.vm_run.specs.declared.outcome.Outcome.{Outcome}
+use Rattle.sp_behaviours.specs.Behaviours.{limits_of, reply_of, told}
+use Rattle.sp_behaviours.specs.Follows.{Follows, HoldsAsked, PlaysOn, stand_of}
+
+-- A task stands where the machine that it follows stands.
+abbrev pub StandsAreThose : Type 0
+StandsAreThose = (links : Links) (g : Setting) (t : tasks.Task) (s : State) → Follows links g t s → tasks.stand t ≡ stand_of links s
+
+-- It has ended as its machine tells.
+abbrev pub EndsAreTold : Type 0
+EndsAreTold = (links : Links) (g : Setting) (t : tasks.Task) (s : State) (outcome : Outcome) → Follows links g t s → outcome_at links.classes s ≡ Some outcome
+    → tasks.stand t ≡ tasks.HasEnded (told outcome)
+
+-- It follows its machine through instructions of its own, up to one that asks or that ends it.
+abbrev pub StepsFollow : Type 0
+StepsFollow = (links : Links) (g : Setting) (t : tasks.Task) (s : State) (k : ℕ) → Follows links g t s → Follows links g (tasks.steps k t) (run links k s)
+
+-- An instruction that asks is not made before the reply comes: the task stands at it as it stood.
+abbrev pub AsksStay : Type 0
+AsksStay = (links : Links) (g : Setting) (t : tasks.Task) (s : State) (op : Asked) (m : Machine) (fuel : ℕ) → Follows links g t s → run links 1 s ≡ Waits op m fuel → tasks.step t ≡ t
+
+-- What it asks of an object is asked of one that it holds.
+abbrev pub AskedIsHeld : Type 0
+AskedIsHeld = (links : Links) (g : Setting) (t : tasks.Task) (op : Asked) (m : Machine) (fuel : ℕ) → Follows links g t (Waits op m fuel) → HoldsAsked t.held op
+
+-- They are as many in the rules as on the machine.
+abbrev pub StepsAreCounted : Type 0
+StepsAreCounted = (links : Links) (g : Setting) (t : tasks.Task) (s : State) (k : ℕ) → Follows links g t s → (tasks.steps k t).made ≡ t.made + made links k s
+
+-- It follows its machine through a reply that is due: the value that the space gives, as the machine takes it.
+abbrev pub ValuesFollow : Type 0
+ValuesFollow = (links : Links) (g : Setting) (t : tasks.Task) (op : Asked) (m : Machine) (fuel : ℕ) (value : Option Value) (given : Reply)
+    → PlaysOn links g → Follows links g t (Waits op m fuel) → reply_of op value ≡ Some given → IsDue links.classes given (Waits op m fuel)
+    → Follows links g (tasks.answer g (Gives value) t) (answer given (Waits op m fuel))
+
+-- So it does through an exception that the space throws.
+abbrev pub ThrowsFollow : Type 0
+ThrowsFollow = (links : Links) (g : Setting) (t : tasks.Task) (op : Asked) (m : Machine) (fuel : ℕ) (class : ClassId)
+    → Follows links g t (Waits op m fuel) → IsDue links.classes (reply.Throws class) (Waits op m fuel)
+    → Follows links g (tasks.answer g (Throws class) t) (answer (reply.Throws class) (Waits op m fuel))
+
+-- A task that starts follows its machine as that begins.
+abbrev pub StartsFollow : Type 0
+StartsFollow = (links : Links) (g : Setting) (method : ℕ) (arguments : List Value) (fuel : ℕ) (task : Tasked)
+    → PlaysOn links g → started links g.id (record { 0 = method }) arguments (limits_of g.limits fuel) ≡ Ok task → IsNeverStuck links task.state
+    → Follows links g (tasks.start g method arguments fuel) task.state

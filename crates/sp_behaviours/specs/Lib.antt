@@ -1,0 +1,3 @@
+pub mod Behaviours
+pub mod Follows
+pub mod Laws

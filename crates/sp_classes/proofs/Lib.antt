@@ -1,0 +1,2 @@
+pub mod KeptKinds
+pub mod Told

@@ -1,0 +1,5 @@
+pub mod Classes
+pub mod Fields
+pub mod Kinds
+pub mod Remote
+pub mod Starts

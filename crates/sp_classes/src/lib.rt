@@ -1,0 +1,12 @@
+//! What the rules of spaces ask of a linked class set: its remote classes (Java RMI specification, 2.3, 2.4
+//! and 4.1), their fields and methods, and what tasks of it do. The core of a space asks a program for it
+//! by `SpaceClasses`.
+#![tactic(auto)]
+
+pub use classes::SpaceClasses;
+pub use starting::start_refusal;
+
+mod classes;
+mod fields;
+mod remote;
+mod starting;

@@ -1,0 +1,3 @@
+pub mod ConnectionLemmas
+pub mod ParkingLemmas
+pub mod TicketLemmas

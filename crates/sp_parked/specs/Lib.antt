@@ -1,0 +1,3 @@
+pub mod ByConnections
+pub mod ByReferences
+pub mod Parkings

@@ -1,0 +1,5 @@
+mod StoreRules
+mod StoreLemmas
+mod FieldLemmas
+mod RemoteLemmas
+mod ReplyLemmas

@@ -1,0 +1,60 @@
+-- The replies that the rules of spaces give to operations are ones that the machines of their tasks take (JVMS 6.5: new, getfield, putfield).
+use Rattle.std.specs.Prelude.{◌≡◌, ℕ, true, List, [], Some}
+use Rattle.cls_set.specs.declared.class.Class.{Class}
+use Rattle.space_ids.specs.declared.ids.Ref.{Ref}
+use Rattle.sp_behaviours.specs.Behaviours.{op_of, reply_of}
+use Rattle.sp_reply_laws.specs.Told.{AreTold, AreRemoteFields}
+use Rattle.sp_rules.specs.Behaviours as rules
+use Rattle.sp_rules.specs.Classes.{Setting}
+use Rattle.sp_rules.specs.Events.{Event}
+use Rattle.sp_rules.specs.Holders.{class_is, fields_of}
+use Rattle.sp_rules.specs.Laws.{AllOf}
+use Rattle.sp_rules.specs.LivingTasks.{op_reply}
+use Rattle.sp_rules.specs.Origins.{IsTaken}
+use Rattle.sp_rules.specs.References.{foreign_ids, is_reference_in, references_of}
+use Rattle.sp_rules.specs.Space.{state_of}
+use Rattle.sp_rules.specs.State.{State, Living, Object, object_at, standing, task_at}
+use Rattle.vm_act.specs.declared.asked.Asked.{Asked}
+use Rattle.vm_act.specs.declared.asked.Asked.TheVariants as asked
+use Rattle.vm_act.specs.declared.asked.Reply.TheVariants as reply
+use Rattle.vm_heap.specs.References.{Table}
+use Rattle.vm_run.specs.Run.{IsAsked, IsReply}
+use Rattle.vm_typing.specs.Fits.{There}
+
+-- The object of which a field is asked for stands, and is of its reference's class.
+abbrev pub AsksOfStanding : State → Asked → Type 0
+AsksOfStanding s (asked.Create class) = Unit {0}
+AsksOfStanding s (asked.Get object slot) = class_is object.class (object_at s object.id) ≡ true
+AsksOfStanding s (asked.Put object slot value) = Unit {0}
+
+-- It does where the task holds that very reference, as one of the space.
+abbrev pub HoldsObject : List Ref → Asked → Type 0
+HoldsObject held (asked.Create class) = Unit {0}
+HoldsObject held (asked.Get object slot) = is_reference_in held object ≡ true
+HoldsObject held (asked.Put object slot value) = Unit {0}
+
+abbrev pub AskedObjectsStand : Type 0
+AskedObjectsStand =
+    (g : Setting) (h : List Event) (id : ℕ) (t : Living) (classes : List Class) (table : Table) (op : Asked) → IsTaken g h → task_at (state_of g h) id ≡ Some t
+    → table.own ≡ g.id → IsAsked classes table op → HoldsObject t.task.held op → AsksOfStanding (state_of g h) op
+
+-- What a machine with this table of references asks a space, after a history that the space took, is of typed words. Its task is one of the
+-- space; the object of which it asks stands; and the fields of standing objects hold no references to objects of other spaces.
+pub record IsAskedOf (g : Setting) (h : List Event) (classes : List Class) (table : Table) (op : Asked) : Type 0 where
+  pub taken : IsTaken g h
+  pub own : table.own ≡ g.id
+  pub fits : IsAsked classes table op
+  pub stands : AsksOfStanding (state_of g h) op
+  pub alone : AllOf (λ (o : Object). foreign_ids g.id (references_of (fields_of g (state_of g h) o)) ≡ []) (standing (state_of g h).store)
+
+-- A reply of the rules fits what was asked, as the reply that the machine is given: a value that is of the kind, or an exception.
+abbrev pub FitsAsked : List Class → Table → Asked → rules.Reply → Type 0
+FitsAsked classes table op (rules.Gives value) = There (IsReply classes table op) (reply_of op value)
+FitsAsked classes table op (rules.GivesBack value fuel) = ⊥
+FitsAsked classes table op (rules.Throws class) = IsReply classes table op (reply.Throws class)
+FitsAsked classes table op rules.RunsOut = ⊥
+
+abbrev pub RepliesFit : Type 0
+RepliesFit =
+    (g : Setting) (h : List Event) (classes : List Class) (table : Table) (op : Asked) → AreTold classes g.classes → AreRemoteFields classes
+    → IsAskedOf g h classes table op → FitsAsked classes table op (op_reply g (op_of op) (state_of g h))

@@ -1,0 +1,23 @@
+//! Laws of the replies to what machines ask.
+
+ghost use Rattle.sp_reply_laws.specs.Replies.{AskedObjectsStand, RepliesFit};
+ghost use Rattle.sp_reply_laws.specs.Told.{RemoteFieldsAreHeld};
+
+/// In a set whose files keep the rule on the fields of remote classes, each field of a remote class
+/// is an int or a reference of an interface.
+pub fn remote_fields_are_held()
+    ensures { RemoteFieldsAreHeld }
+{}
+
+/// Whatever a machine of a space asks for after a history that the space took, the reply of the rules
+/// is one that the machine takes: a new object of the class; a value of the field's type; that it is
+/// written; or an exception of a class of the set. This holds while no field has a reference to an
+/// object of another space, if the object of which a field is asked for stands with its class.
+pub fn replies_fit()
+    ensures { RepliesFit }
+{}
+
+/// If the task holds the reference of which a field is asked for, the object stands, with its class.
+pub fn asked_objects_stand()
+    ensures { AskedObjectsStand }
+{}

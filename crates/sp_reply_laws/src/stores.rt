@@ -1,0 +1,15 @@
+//! Laws of what stands in a space.
+
+ghost use Rattle.sp_reply_laws.specs.Stores.{HeldObjectsStand, StoresFit};
+
+/// After every history that a space took, each standing object is of a remote class that is not
+/// abstract, and what was put last into a field of it is a value of the field's kind.
+pub fn stores_fit()
+    ensures { StoresFit }
+{}
+
+/// After every history that a space took, an own reference that a living task holds is of a standing
+/// object, of the reference's class.
+pub fn held_objects_stand()
+    ensures { HeldObjectsStand }
+{}

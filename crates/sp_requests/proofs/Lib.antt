@@ -1,0 +1,4 @@
+pub mod AskingLemmas
+pub mod FrameLemmas
+pub mod GroupLemmas
+pub mod PeerLemmas

@@ -1,0 +1,277 @@
+//! What is asked of one peer and has not ended.
+
+ghost use Rattle.std.specs.Prelude.{◌≡◌, ℕ, ◌≤◌, ◌<◌, ◌+◌, ◌++◌, ◌==◌, ◌-◌, ◌^◌, min, nat_eq, if◌then◌else◌, not, true, Bool, List, [], ◌∷◌, None, Some, IfOk, OnOk, find, filter, is_some, map, option_and_then, option_copied, take};
+ghost use Rattle.std.specs.List.{flat_map, list_any};
+ghost use Rattle.std.specs.Map.{set_value};
+ghost use Rattle.uuid.specs.declared.Uuid.{Uuid as Peer};
+ghost use Rattle.net_message.specs.declared.message.Message.{Message as Frame};
+ghost use Rattle.net_message.specs.declared.message.Message.TheVariants as message;
+ghost use Rattle.sp_rules.specs.Endings.{call_number_in, is_group};
+ghost use Rattle.sp_rules.specs.Frames.{answered_on, is_dirty_kind, tells_on};
+ghost use Rattle.sp_rules.specs.ParkedFrames.{is_call_on};
+ghost use Rattle.sp_rules.specs.Requests.{is_waiting};
+ghost use Rattle.sp_rules.specs.State.{Asked as Question, Out, Request, Tells, Waits};
+
+use crate::{Asked, Asker, OutCall, OutGroup};
+use dgc_client::{Due, Group};
+use rising_map::RisingMap;
+use std::alloc::{AllocError, Global};
+use std::mem;
+
+/// What is asked of one peer and has not ended. Before the peer's Hello all of it waits, in the order in
+/// which it was made. Then calls and lookups are out by their numbers, dirty and clean calls by their
+/// sequence numbers; both rise.
+///
+/// Of the frames that went out on the connection only the count is kept, and with each call how many
+/// went before it: so memory does not grow with what was sent.
+///
+/// A contract names the lists of requests and of frames that the value may stand for.
+#[derive(Debug, Drop)]
+pub struct Requests {
+    waiting: Vec<Asked>,
+    calls: RisingMap<OutCall>,
+    groups: RisingMap<OutGroup>,
+    frames: u128,
+    last_call: u64,
+    last_sequence: u64,
+}
+
+impl Requests {
+    ghost use Rattle.rising_map.specs.Rows.{AreRows};
+    ghost use Rattle.sp_requests.specs.declared.asked.OutCall.{OutCall as Kept};
+    ghost use Rattle.sp_requests.specs.Asking.{AreRequests, asked_of, asks_by, call_room, group_room, last_call, last_sequence, number_of, sequence_of, shown, told, waiting_room};
+
+    /// Nothing is asked of the peer, and no frame went out.
+    pub fn new(alloc: Global) -> Requests
+        ensures requests { (conn : ℕ) → AreRequests conn [] [] result }
+        ensures last_call { last_call result ≡ 0 }
+        ensures last_sequence { last_sequence result ≡ 0 }
+    {
+        Requests {
+            waiting: Vec::new(alloc),
+            calls: RisingMap::new(alloc),
+            groups: RisingMap::new(alloc),
+            frames: 0,
+            last_call: 0,
+            last_sequence: 0,
+        }
+    }
+
+    /// The call or lookup of this number that is out, if it is.
+    pub fn call(&self, number: u64) -> Option<OutCall>
+        ensures { (conn : ℕ) (rows : List Request) (sent : List Frame) → AreRequests conn rows sent self.now → result ≡ option_and_then (shown sent) (find (is_call_on conn number) rows) }
+    {
+        self.calls.get(number).copied()
+    }
+
+    /// Whether a call or lookup that is out went with the last `unsent` frames of the connection.
+    pub fn is_unsent(&self, number: u64, unsent: u64) -> bool
+        ensures { (conn : ℕ) (rows : List Request) (sent : List Frame) → AreRequests conn rows sent self.now → is_some (find (is_call_on conn number) rows) ≡ true → result ≡ list_any (◌==◌ number) (flat_map call_number_in (take unsent sent)) }
+    {
+        match self.calls.get(number) {
+            Some(call) => self.frames <= call.place.saturating_add(u128::from(unsent)),
+            None => false,
+        }
+    }
+
+    /// Makes room for this many more requests that wait, calls that are out, and groups that are out.
+    /// Nothing else changes, at out of memory too.
+    pub fn reserve(&mut self, waiting: usize, calls: usize, groups: usize) -> Result<(), AllocError>
+        ensures waiting { OnOk result (waiting ≤ waiting_room self.new) }
+        ensures calls { OnOk result (calls ≤ call_room self.new) }
+        ensures groups { OnOk result (groups ≤ group_room self.new) }
+        ensures same { (conn : ℕ) (rows : List Request) (sent : List Frame) → AreRequests conn rows sent self.old → AreRequests conn rows sent self.new }
+        ensures last_call { last_call self.new ≡ last_call self.old }
+        ensures last_sequence { last_sequence self.new ≡ last_sequence self.old }
+    {
+        self.waiting.reserve(waiting)?;
+        self.calls.reserve(calls)?;
+        self.groups.reserve(groups)
+    }
+
+    /// Makes a request that waits, after all others. It takes no memory: the caller owes
+    /// [room](Requests::reserve) for it.
+    pub fn wait_reserved(&mut self, asked: Asked)
+        requires { 0 < waiting_room self.old }
+        ensures waits { (conn : ℕ) (rows : List Request) (sent : List Frame) (peer : Peer) → AreRequests conn rows sent self.old → AreRequests conn (rows ++ record { peer = peer; asked = asked_of asked; stage = Waits } ∷ []) sent self.new }
+        ensures waiting_room { waiting_room self.old ≤ waiting_room self.new + 1 }
+        ensures call_room { call_room self.new ≡ call_room self.old }
+        ensures group_room { group_room self.new ≡ group_room self.old }
+        ensures last_call { last_call self.new ≡ last_call self.old }
+        ensures last_sequence { last_sequence self.new ≡ last_sequence self.old }
+    {
+        self.waiting.push_reserved(asked);
+    }
+
+    /// Takes what waits, in the order in which it was made. It takes no memory.
+    pub fn take_waiting(&mut self, alloc: Global) -> Vec<Asked>
+        ensures waited { (conn : ℕ) (rows : List Request) (sent : List Frame) → AreRequests conn rows sent self.old → map asked_of result.items ≡ map (λ (r : Request). r.asked) (filter (λ (r : Request). is_waiting r.stage) rows) }
+        ensures taken { (conn : ℕ) (rows : List Request) (sent : List Frame) → AreRequests conn rows sent self.old → AreRequests conn (filter (λ (r : Request). not (is_waiting r.stage)) rows) sent self.new }
+        ensures call_room { call_room self.new ≡ call_room self.old }
+        ensures group_room { group_room self.new ≡ group_room self.old }
+        ensures last_call { last_call self.new ≡ last_call self.old }
+        ensures last_sequence { last_sequence self.new ≡ last_sequence self.old }
+    {
+        mem::replace(&mut self.waiting, Vec::new(alloc))
+    }
+
+    /// Notes that the connection's Hello went out, its first frame.
+    pub fn hello(&mut self)
+        ensures sent { (conn : ℕ) (rows : List Request) (hello : Frame) → AreRequests conn rows [] self.old → call_number_in hello ≡ [] → AreRequests conn rows (hello ∷ []) self.new }
+        ensures waiting_room { waiting_room self.new ≡ waiting_room self.old }
+        ensures call_room { call_room self.new ≡ call_room self.old }
+        ensures group_room { group_room self.new ≡ group_room self.old }
+        ensures last_call { last_call self.new ≡ last_call self.old }
+        ensures last_sequence { last_sequence self.new ≡ last_sequence self.old }
+    {
+        self.count_frame();
+    }
+
+    /// Notes that a call or lookup goes out now, under a number above those of all that went before. It
+    /// takes no memory: the caller owes [room](Requests::reserve) for it.
+    pub fn call_reserved(&mut self, number: u64, asker: Asker)
+        requires room { 0 < call_room self.old }
+        requires number { last_call self.old < number }
+        ensures sent { (conn : ℕ) (rows : List Request) (sent : List Frame) (peer : Peer) (asked : Question) (frame : Frame) → AreRequests conn rows sent self.old → asks_by asked ≡ (number, asker) ∷ [] → call_number_in frame ≡ number ∷ [] → AreRequests conn (rows ++ record { peer = peer; asked = asked; stage = Out conn 0 } ∷ []) (frame ∷ sent) self.new }
+        ensures waiting_room { waiting_room self.new ≡ waiting_room self.old }
+        ensures call_room { call_room self.old ≤ call_room self.new + 1 }
+        ensures group_room { group_room self.new ≡ group_room self.old }
+        ensures last_call { last_call self.new ≡ number }
+        ensures last_sequence { last_sequence self.new ≡ last_sequence self.old }
+    {
+        let call = OutCall {
+            asker,
+            answered: false,
+            place: self.frames,
+        };
+        self.calls.push_reserved(number, call);
+        self.count_frame();
+        self.last_call = number;
+    }
+
+    /// Notes that dirty or clean calls go out now in one frame, under a sequence number above those of all
+    /// that went before. It takes no memory: the caller owes [room](Requests::reserve) for it.
+    pub fn tell_reserved(&mut self, sequence: u64, call: u64, group: Group)
+        requires room { 0 < group_room self.old }
+        requires sequence { last_sequence self.old < sequence }
+        ensures sent { (conn : ℕ) (rows : List Request) (sent : List Frame) (peer : Peer) (frame : Frame) → AreRequests conn rows sent self.old → call_number_in frame ≡ [] → AreRequests conn (rows ++ record { peer = peer; asked = Tells call group; stage = Out conn sequence } ∷ []) (frame ∷ sent) self.new }
+        ensures waiting_room { waiting_room self.new ≡ waiting_room self.old }
+        ensures call_room { call_room self.new ≡ call_room self.old }
+        ensures group_room { group_room self.old ≤ group_room self.new + 1 }
+        ensures last_call { last_call self.new ≡ last_call self.old }
+        ensures last_sequence { last_sequence self.new ≡ sequence }
+    {
+        self.groups
+            .push_reserved(sequence, OutGroup { call, group });
+        self.count_frame();
+        self.last_sequence = sequence;
+    }
+
+    /// Notes that the result of a call or lookup has come and is parked.
+    pub fn answer(&mut self, number: u64)
+        ensures answered { (conn : ℕ) (rows : List Request) (sent : List Frame) → AreRequests conn rows sent self.old → AreRequests conn (map (answered_on conn number) rows) sent self.new }
+        ensures waiting_room { waiting_room self.new ≡ waiting_room self.old }
+        ensures call_room { call_room self.new ≡ call_room self.old }
+        ensures group_room { group_room self.new ≡ group_room self.old }
+        ensures last_call { last_call self.new ≡ last_call self.old }
+        ensures last_sequence { last_sequence self.new ≡ last_sequence self.old }
+    {
+        match self.call(number) {
+            Some(call) => self.mark(number, call),
+            None => {}
+        }
+    }
+
+    // Puts a call back as answered.
+    fn mark(&mut self, number: u64, call: OutCall)
+        ensures calls { (rows : List (ℕ × Kept)) → AreRows rows self.old.calls → AreRows (set_value (nat_eq number) rows (record call { answered = true })) self.new.calls }
+        ensures others { self.new ≡ record self.old { calls = self.new.calls } }
+        ensures room { call_room self.new ≡ call_room self.old }
+    {
+        let _ = self.calls.replace(
+            number,
+            OutCall {
+                answered: true,
+                ..call
+            },
+        );
+    }
+
+    /// Lets a call or lookup go that is out, if it is. It takes no memory.
+    pub fn take_call(&mut self, number: u64) -> Option<OutCall>
+        ensures call { (conn : ℕ) (rows : List Request) (sent : List Frame) → AreRequests conn rows sent self.old → result ≡ option_and_then (shown sent) (find (is_call_on conn number) rows) }
+        ensures taken { (conn : ℕ) (rows : List Request) (sent : List Frame) → AreRequests conn rows sent self.old → AreRequests conn (filter (λ (r : Request). not (is_call_on conn number r)) rows) sent self.new }
+        ensures waiting_room { waiting_room self.new ≡ waiting_room self.old }
+        ensures call_room { call_room self.old ≤ call_room self.new }
+        ensures group_room { group_room self.new ≡ group_room self.old }
+        ensures last_call { last_call self.new ≡ last_call self.old }
+        ensures last_sequence { last_sequence self.new ≡ last_sequence self.old }
+    {
+        self.calls.take(number)
+    }
+
+    /// Lets a call or lookup go whose result has come, if it is out, and notes that its Ack goes out. It
+    /// takes no memory.
+    pub fn acknowledge(&mut self, number: u64) -> Option<OutCall>
+        ensures call { (conn : ℕ) (rows : List Request) (sent : List Frame) → AreRequests conn rows sent self.old → result ≡ option_and_then (shown sent) (find (is_call_on conn number) rows) }
+        ensures acknowledged { (conn : ℕ) (rows : List Request) (sent : List Frame) → AreRequests conn rows sent self.old → is_some (find (is_call_on conn number) rows) ≡ true → AreRequests conn (filter (λ (r : Request). not (is_call_on conn number r)) rows) (message.Ack number ∷ sent) self.new }
+        ensures waiting_room { waiting_room self.new ≡ waiting_room self.old }
+        ensures call_room { call_room self.old ≤ call_room self.new }
+        ensures group_room { group_room self.new ≡ group_room self.old }
+        ensures last_call { last_call self.new ≡ last_call self.old }
+        ensures last_sequence { last_sequence self.new ≡ last_sequence self.old }
+    {
+        let call = self.take_call(number)?;
+        self.count_frame();
+        Some(call)
+    }
+
+    /// Lets the dirty calls (or the clean calls) go that are out under this sequence number, if they are. It
+    /// takes no memory.
+    pub fn take_group(&mut self, sequence: u64, dirty: bool) -> Option<OutGroup>
+        ensures group { (conn : ℕ) (rows : List Request) (sent : List Frame) → AreRequests conn rows sent self.old → result ≡ option_and_then told (find (tells_on dirty conn sequence) rows) }
+        ensures taken { (conn : ℕ) (rows : List Request) (sent : List Frame) → AreRequests conn rows sent self.old → AreRequests conn (filter (λ (r : Request). not (tells_on dirty conn sequence r)) rows) sent self.new }
+        ensures waiting_room { waiting_room self.new ≡ waiting_room self.old }
+        ensures call_room { call_room self.new ≡ call_room self.old }
+        ensures group_room { group_room self.old ≤ group_room self.new }
+        ensures last_call { last_call self.new ≡ last_call self.old }
+        ensures last_sequence { last_sequence self.new ≡ last_sequence self.old }
+    {
+        if is_kind(self.groups.get(sequence)?, dirty) {
+            self.groups.take(sequence)
+        } else {
+            None
+        }
+    }
+
+    /// The numbers of all calls and lookups that are out, in the order in which they were made.
+    pub fn call_numbers(&self, alloc: Global) -> Result<Vec<u64>, AllocError>
+        ensures { IfOk result (λ numbers. (conn : ℕ) (rows : List Request) (sent : List Frame) → AreRequests conn rows sent self.now → numbers.items ≡ flat_map number_of rows) }
+    {
+        self.calls.numbers(alloc)
+    }
+
+    /// The sequence numbers of all dirty and clean calls that are out, in the order in which they went.
+    pub fn sequence_numbers(&self, alloc: Global) -> Result<Vec<u64>, AllocError>
+        ensures { IfOk result (λ numbers. (conn : ℕ) (rows : List Request) (sent : List Frame) → AreRequests conn rows sent self.now → numbers.items ≡ flat_map sequence_of rows) }
+    {
+        self.groups.numbers(alloc)
+    }
+
+    // Counts a frame that goes out.
+    fn count_frame(&mut self)
+        ensures { self.new ≡ record self.old { frames = min (self.old.frames + 1) (2 ^ 128 - 1) } }
+    {
+        self.frames = self.frames.saturating_add(1);
+    }
+}
+
+// Whether the calls of a group are dirty calls, or clean calls.
+fn is_kind(told: &OutGroup, dirty: bool) -> bool
+    ensures { result ≡ (if dirty then is_dirty_kind told.now.group.kind else not (is_dirty_kind told.now.group.kind)) }
+{
+    match told.group.kind {
+        Due::Dirty => dirty,
+        Due::Clean { strong: _ } => !dirty,
+    }
+}

@@ -1,0 +1,4 @@
+pub mod Players
+pub mod Machines
+pub mod Spaces
+pub mod Hands
