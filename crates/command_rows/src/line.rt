@@ -15,12 +15,14 @@ pub enum Line<'a> {
     /// A file at this path. A file without bytes is listed and cannot be opened.
     File(&'a str, Option<Vec<u8>>),
     Class { path: &'a str, name: &'a str },
+    /// A script at this path, whose lines follow.
+    Script(&'a str),
     Flags(u16),
     Extends(&'a str),
     Implements(&'a str),
     Field(Field),
     Method(Method),
-    /// A line of the last method's code.
+    /// A line of the last method's code, or of the script.
     Code(&'a str),
     Change(Change),
     /// A command line for the program, over the folder in memory.
@@ -52,6 +54,7 @@ pub fn line_of<'a>(alloc: Global, text: &'a str) -> Result<Line<'a>, LineFault> 
             path: *path,
             name: *name,
         }),
+        ["script", path] => Ok(Line::Script(*path)),
         ["flags", flags] => Ok(Line::Flags(flags_of(flags)?)),
         ["extends", name] => Ok(Line::Extends(*name)),
         ["implements", name] => Ok(Line::Implements(*name)),

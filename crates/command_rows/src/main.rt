@@ -14,7 +14,8 @@
 //! | `field FLAGS NAME DESCRIPTOR [VALUE]` | adds a field; a value is that of its ConstantValue attribute |
 //! | `abstract FLAGS NAME DESCRIPTOR` | adds a method without code |
 //! | `code FLAGS NAME DESCRIPTOR MAX_STACK MAX_LOCALS [FRAMES]` | adds a method whose code follows |
-//! | `\| LINE` | adds a line of code to that method, as `javap` shows it |
+//! | `\| LINE` | adds a line of code to that method, as `javap` shows it, or a line to the script |
+//! | `script PATH` | adds a file that is listed nowhere: a script, whose lines follow |
 //! | `byte OFFSET VALUE` | sets a byte of the last file, to two hex digits |
 //! | `cut N`, `append HEX` | keeps the first N bytes of the last file, or adds bytes to it |
 //! | `again FROM TO` | appends the last file's own bytes from FROM up to TO |

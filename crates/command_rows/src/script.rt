@@ -4,7 +4,7 @@ use super::class_draft::ClassDraft;
 use super::fault::LineFault;
 use super::line::{Line, line_of};
 use super::said::Said;
-use super::shelf::Shelf;
+use super::shelf::{Change, Shelf};
 use sp_main::Disk;
 use std::alloc::Global;
 use std::rt::Files;
@@ -27,6 +27,8 @@ pub struct Script {
     shelf: Shelf,
     // The class of the last file, while nothing else has changed that file.
     draft: Option<ClassDraft>,
+    // Whether the last file is a script.
+    is_script: bool,
 }
 
 impl Script {
@@ -36,6 +38,7 @@ impl Script {
             alloc,
             shelf: Shelf::new(alloc),
             draft: None,
+            is_script: false,
         }
     }
 
@@ -57,13 +60,21 @@ impl Script {
             }
             Line::Folder => {
                 self.draft = None;
+                self.is_script = false;
                 self.shelf = Shelf::new(alloc);
             }
             Line::File(path, bytes) => {
                 self.draft = None;
+                self.is_script = false;
                 self.shelf.add(path, bytes)?;
             }
             Line::Class { path, name } => self.begin_class(path, name)?,
+            Line::Script(path) => {
+                self.draft = None;
+                self.is_script = true;
+                self.shelf.add(path, Some(Vec::new(alloc)))?;
+            }
+            Line::Code(text) if self.is_script => self.add_line(text)?,
             line => self.change(line)?,
         }
         Ok(Reply::Silent)
@@ -91,7 +102,15 @@ impl Script {
         self.shelf.replace(draft.bytes()?)
     }
 
+    // Adds a line to the last file, which is a script.
+    fn add_line(&mut self, text: &str) -> Result<(), LineFault> {
+        let mut bytes = text.as_bytes().to_vec(self.alloc)?;
+        bytes.push(b'\n')?;
+        self.shelf.change(Change::Append(bytes))
+    }
+
     fn begin_class(&mut self, path: &str, name: &str) -> Result<(), LineFault> {
+        self.is_script = false;
         let draft = ClassDraft::new(self.alloc, name)?;
         self.shelf.add(path, Some(draft.bytes()?))?;
         self.draft = Some(draft);

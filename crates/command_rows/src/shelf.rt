@@ -49,7 +49,7 @@ impl ShelfFile {
     }
 }
 
-/// A folder in memory. Of two other folders `gone` cannot be read, and `full` is out of memory.
+/// A folder in memory, which lists its files whose names end in `.class`. Of two other folders `gone` cannot be read, and `full` is out of memory.
 #[derive(Drop)]
 pub struct Shelf {
     alloc: Global,
@@ -117,7 +117,9 @@ impl<'a> Folder for &'a Shelf {
         }
         let mut paths = Vec::new(self.alloc);
         for file in &self.files {
-            paths.push(file.path.clone()?)?;
+            if file.path.as_str().ends_with(".class") {
+                paths.push(file.path.clone()?)?;
+            }
         }
         paths.sort()?;
         Ok(paths)

@@ -111,19 +111,20 @@ same_text a b e = (bytes_eq-Decides a b).0 e
 
 -- the names of commands
 abbrev pub IsCommandName : Text → Type 0
-IsCommandName name = (name ≡ codes "run") ⊎ (name ≡ codes "check")
+IsCommandName name = (name ≡ codes "run") ⊎ ((name ≡ codes "check") ⊎ (name ≡ codes "sim"))
 
 -- a command that is met has the name of the argument
 met_names : (word : Text) → IfSome (subcommand_met names idle word) (λ name. (name ≡ word) × IsCommandName name)
 unfolding clap_on_literals
-met_names word = on (bytes_eq (codes "run") word) (bytes_eq (codes "check") word) (same_text _ word) (same_text _ word)
+met_names word = on (bytes_eq (codes "run") word) (bytes_eq (codes "check") word) (bytes_eq (codes "sim") word) (same_text _ word) (same_text _ word) (same_text _ word)
   where
-    on : (run check : Bool) → (run ≡ true → codes "run" ≡ word) → (check ≡ true → codes "check" ≡ word)
-        → IfSome (option_map (λ (s : Text × List Text). s.0) (cond (run || false) (Some (codes "run", [])) (cond (check || false) (Some (codes "check", [])) None)))
+    on : (run check sim : Bool) → (run ≡ true → codes "run" ≡ word) → (check ≡ true → codes "check" ≡ word) → (sim ≡ true → codes "sim" ≡ word)
+        → IfSome (option_map (λ (s : Text × List Text). s.0) (cond (run || false) (Some (codes "run", [])) (cond (check || false) (Some (codes "check", [])) (cond (sim || false) (Some (codes "sim", [])) None))))
         (λ name. (name ≡ word) × IsCommandName name)
-    on true check r c = (r refl, inl refl)
-    on false true r c = (c refl, inr refl)
-    on false false r c = tt
+    on true check sim r c s = (r refl, inl refl)
+    on false true sim r c s = (c refl, inr (inl refl))
+    on false false true r c s = (s refl, inr (inr refl))
+    on false false false r c s = tt
 
 -- a command that was met is entered
 abbrev Opens : (rest : List Text) → Text → Type 0
@@ -132,7 +133,8 @@ Opens rest name = (rows : List Row) × (entered (built program) (Some (name, res
 opened : (name : Text) (rest : List Text) → IsCommandName name → Opens rest name
 unfolding clap_on_literals
 opened name rest (inl run) = subst (Opens rest) (sym run) (_, refl)
-opened name rest (inr check) = subst (Opens rest) (sym check) (_, refl)
+opened name rest (inr (inl check)) = subst (Opens rest) (sym check) (_, refl)
+opened name rest (inr (inr sim)) = subst (Opens rest) (sym sim) (_, refl)
 
 -- after `--` no argument is a command, and one is missing
 dashed : (own : Text) (rest : List Text) → fault_of program (own ∷ codes "--" ∷ rest) ≡ [] → ⊥

@@ -1,8 +1,5 @@
-pub mod Files
 pub mod Refused
-pub mod Whole
 pub mod Below
-pub mod Commas
 pub mod Written
 pub mod Spelled
 pub mod Parser
@@ -13,7 +10,3 @@ pub mod Requested
 pub mod Contents
 pub mod Replied
 pub mod CommandRows
-pub mod Ended
-pub mod Only
-pub mod Named
-pub mod Remote

@@ -1,27 +1,13 @@
--- A method of a program that does not run is refused as such, and a refusal of files is one of these files.
-use Rattle.std.proofs.Common.{◌≡◌, ℕ, List, Some}
-use Rattle.std.specs.Prelude.{Result, Ok, Err, IfErr}
+-- A refusal of files is one of these files.
+use Rattle.std.proofs.Common.{ℕ, List}
 use Rattle.std.proofs.lemmas.Option.{slice_get_within}
-use Rattle.cls_link.specs.Links.{Links}
-use Rattle.cls_link.specs.declared.linked_code.MethodId.{MethodId}
 use Rattle.sp_main.specs.RefusalTexts.{IsRefusalOf}
-use Rattle.sp_main.specs.Runs.{IsNoProgram, IsNotRun, IsProgram, IsRefused, IsUnread, NamesMethod, absent, at_fault, no_memory, no_memory_to_read, no_plain, no_program, no_set, not_linked, not_safe, not_started, unread}
-use Rattle.sp_main.specs.declared.refusal.Refusal.{Refusal}
-use Rattle.sp_main.specs.declared.refusal.Refusal.TheVariants as refusal
-use Rattle.sp_main.specs.declared.running.ClassBytes.{ClassBytes}
+use Rattle.sp_runs.specs.Runs.{IsNoProgram, IsOfStart, IsRefused, IsUnread, absent, at_fault, no_memory, no_memory_to_read, no_program, no_set, not_linked, not_safe, not_started, unread}
+use Rattle.sp_runs.specs.declared.refusal.Refusal.{Refusal}
+use Rattle.sp_runs.specs.declared.refusal.Refusal.TheVariants as refusal
+use Rattle.sp_runs.specs.declared.running.ClassBytes.{ClassBytes}
 use Rattle.space_ids.specs.declared.value.Value.{Value}
 use Rattle.vm_run.specs.declared.limits.Limits.{Limits}
-
-refused : (files : List ClassBytes) (class text : List ℕ) (arguments : List Value) (limits : Limits) (program : Links) (method : MethodId)
-    → IsProgram files program → NamesMethod program class text (Some method) → (r : Refusal) → IsNotRun program method arguments limits r → IsRefused files class text arguments limits r
-refused files class text arguments limits program method is named (refusal.Start fault) why = not_started program method fault is named why
-refused files class text arguments limits program method is named refusal.Memory why = no_memory
-refused files class text arguments limits program method is named r why = absurd why
-
-pub run_refused : {A : Type 0} (files : List ClassBytes) (class text : List ℕ) (arguments : List Value) (limits : Limits) (program : Links) (method : MethodId)
-    → IsProgram files program → NamesMethod program class text (Some method) → (r : Result A Refusal) → IfErr r (IsNotRun program method arguments limits) → IfErr r (IsRefused files class text arguments limits)
-run_refused files class text arguments limits program method is named (Ok a) why = tt
-run_refused files class text arguments limits program method is named (Err r) why = refused files class text arguments limits program method is named r why
 
 -- a file that is at fault stands in the list
 unread_file : (files : List ClassBytes) (r : Refusal) → IsUnread files r → IsRefusalOf files r
@@ -31,7 +17,6 @@ unread_file files r no_memory_to_read = tt
 pub no_program_file : (files : List ClassBytes) (r : Refusal) → IsNoProgram files r → IsRefusalOf files r
 no_program_file files r (unread refused why) = unread_file files refused why
 no_program_file files r (no_set classes fault spelled why) = tt
-no_program_file files r (no_plain classes set name spelled makes has is why) = tt
 no_program_file files r (not_linked classes set fault spelled has is why) = tt
 no_program_file files r (not_safe classes linked fault spelled has is why) = tt
 
@@ -40,3 +25,8 @@ refused_file files class text arguments limits r (no_program refused why) = no_p
 refused_file files class text arguments limits r (absent program is named) = tt
 refused_file files class text arguments limits r (not_started program method fault is named why) = tt
 refused_file files class text arguments limits r no_memory = tt
+
+pub start_file : (files : List ClassBytes) (r : Refusal) → IsOfStart r → IsRefusalOf files r
+start_file files (refusal.Start fault) is = tt
+start_file files refusal.Memory is = tt
+start_file files r is = absurd is

@@ -1,24 +1,25 @@
 -- A report is a reply.
 use Rattle.std.proofs.Common.{◌≡◌, ◌<◌, ◌∙◌, ℕ, List, Option, Result, Ok, Err, IfOk, ap, arith, inl, inr, length, refl, subst, sym}
 use Rattle.cls_link.specs.Links.{Links}
-use Rattle.sp_main.specs.CommandLine.{AsksCheck, AsksRun, AsksText, IsUsageFault, RunWords}
+use Rattle.sp_main.specs.CommandLine.{AsksCheck, AsksRun, AsksSim, AsksText, IsUsageFault, RunWords, SimWords}
 use Rattle.sp_main.specs.Folders.{AreFilesOf, Telling}
 use Rattle.sp_main.specs.RefusalTexts.{TellsRefusal, TellsUnreadable}
-use Rattle.sp_main.specs.Replies.{Fails, IsReply, Replies, accepted, limits_of, mistaken, ran, refused, rejected, replied, told, unreadable, unwritten}
+use Rattle.sp_main.specs.Replies.{Fails, IsReply, Replies, accepted, limits_of, mistaken, no_script, not_played, played, ran, ran_in_space, refused, refused_in_space, rejected, replied, stopped, told, unreadable, unwritten}
 use Rattle.sp_main.specs.Reports.{IsTold, LeavesOther, line_of}
-use Rattle.sp_main.specs.Requests.{IsRequest, run_words}
-use Rattle.sp_main.specs.Runs.{IsNoProgram, IsProgram, IsRefused, IsRun}
+use Rattle.sp_main.specs.Requests.{IsRequest, run_words, sim_words}
+use Rattle.sp_runs.specs.Runs.{HasRemote, IsNoProgram, IsOfStart, IsProgram, IsRefused, IsRun}
 use Rattle.sp_main.specs.Statuses.{code_of, outcome_status, refusal_status}
-use Rattle.sp_main.specs.Texts.{accepted_text, outcome_text}
-use Rattle.sp_main.specs.declared.refusal.Refusal.{Refusal}
+use Rattle.sp_main.specs.Texts.{accepted_text, bad_line_text, outcome_text}
+use Rattle.sp_runs.specs.declared.refusal.Refusal.{Refusal}
 use Rattle.sp_main.specs.declared.report.Report.{Report}
-use Rattle.sp_main.specs.declared.running.ClassBytes.{ClassBytes}
-use Rattle.sp_main.specs.declared.running.RunOutcome.{RunOutcome}
+use Rattle.sp_runs.specs.declared.running.ClassBytes.{ClassBytes}
+use Rattle.sp_runs.specs.declared.running.RunOutcome.{RunOutcome}
 use Rattle.sp_main.specs.declared.status.Status.{Status}
 use Rattle.sp_main.specs.declared.status.Status.TheVariants.{Done, Failed}
 use Rattle.sp_main.specs.declared.words.Request.{Request}
-use Rattle.sp_main.specs.declared.words.Request.TheVariants.{Run, Check, Tell, Refuse}
+use Rattle.sp_main.specs.declared.words.Request.TheVariants.{Run, Check, Sim, Tell, Refuse}
 use Rattle.sp_main.specs.declared.words.RunRequest.{RunRequest}
+use Rattle.sp_main.specs.declared.words.SimRequest.{SimRequest}
 use Rattle.vm_run.specs.declared.limits.Limits.{Limits}
 
 module _ {E : Type 0} (telling : Telling) (run : RunWords) (answer : Result Report E) where
@@ -59,6 +60,55 @@ refusal_replied telling run files read class method limits refusal (Ok report) l
     (subst (λ (f : List ClassBytes). IsRefused f class method run.arguments limits refusal) ef is)))) status text
 refusal_replied telling run files read class method limits refusal (Err e) listed ef ec em el is status text = tt
 
+-- a run in a space, and a start there that is refused
+pub run_in_space_replied : {E : Type 0} (telling : Telling) (run : RunWords) (files read : List ClassBytes) (outcome : RunOutcome) (answer : Result Report E)
+    → AreFilesOf telling run.folder read → files ≡ read → HasRemote files → IfOk answer (λ report. report.status ≡ outcome_status outcome)
+    → IfOk answer (λ report. report.text.items ≡ line_of (outcome_text outcome)) → IsRunReply telling run answer
+run_in_space_replied telling run files read outcome (Ok report) listed same remote status text =
+    λ words asks. ran_in_space run read outcome asks listed (subst HasRemote same remote) status text
+run_in_space_replied telling run files read outcome (Err e) listed same remote status text = tt
+
+pub refusal_in_space_replied : {E : Type 0} (telling : Telling) (run : RunWords) (files read : List ClassBytes) (refusal : Refusal) (answer : Result Report E)
+    → AreFilesOf telling run.folder read → files ≡ read → HasRemote files → IsOfStart refusal → IfOk answer (λ report. report.status ≡ refusal_status refusal)
+    → IfOk answer (λ report. TellsRefusal read refusal report.text.items) → IsRunReply telling run answer
+refusal_in_space_replied telling run files read refusal (Ok report) listed same remote start status text =
+    λ words asks. refused_in_space run read refusal asks listed (subst HasRemote same remote) start status text
+refusal_in_space_replied telling run files read refusal (Err e) listed same remote start status text = tt
+
+module _ {E : Type 0} (telling : Telling) (sim : SimWords) (answer : Result Report E) where
+  -- the report is the reply to all arguments that ask for this script
+  abbrev pub IsSimReply : Type 0
+  IsSimReply = IfOk answer (λ report. (words : List (List ℕ)) → AsksSim words sim → IsReply telling words report.status report.text.items)
+
+pub unreadable_simulated : {E : Type 0} (telling : Telling) (sim : SimWords) (answer : Result Report E)
+    → IfOk answer (λ report. report.status ≡ Failed) → IfOk answer (λ report. (path : List ℕ) × TellsUnreadable path report.text.items)
+    → IsSimReply telling sim answer
+unreadable_simulated telling sim (Ok report) status text = λ words asks. unreadable sim.folder text.0 (inr (inr (sim, asks, refl))) status text.1
+unreadable_simulated telling sim (Err e) status text = tt
+
+module _ {E : Type 0} (telling : Telling) (sim : SimWords) (files read : List ClassBytes) (listed : AreFilesOf telling sim.folder read) (same : files ≡ read) where
+  pub refusal_simulated : (refusal : Refusal) (answer : Result Report E) → IsNoProgram files refusal → IfOk answer (λ report. report.status ≡ refusal_status refusal)
+      → IfOk answer (λ report. TellsRefusal read refusal report.text.items) → IsSimReply telling sim answer
+  refusal_simulated refusal (Ok report) is status text =
+      λ words asks. not_played sim read refusal asks listed (subst (λ (f : List ClassBytes). IsNoProgram f refusal) same is) status text
+  refusal_simulated refusal (Err e) is status text = tt
+
+  pub script_unreadable : (program : Links) (answer : Result Report E) → IsProgram files program → IfOk answer (λ report. report.status ≡ Failed)
+      → IfOk answer (λ report. TellsUnreadable sim.script report.text.items) → IsSimReply telling sim answer
+  script_unreadable program (Ok report) is status text =
+      λ words asks. no_script sim read program asks listed (subst (λ (f : List ClassBytes). IsProgram f program) same is) status text
+  script_unreadable program (Err e) is status text = tt
+
+  pub script_played : (program : Links) (report : Report) → IsProgram files program → report.status ≡ Done
+      → (words : List (List ℕ)) → AsksSim words sim → IsReply telling words report.status report.text.items
+  script_played program report is status words asks = played sim read program asks listed (subst (λ (f : List ClassBytes). IsProgram f program) same is) status
+
+  pub script_stopped : (program : Links) (line : ℕ) (answer : Result Report E) → IsProgram files program → IfOk answer (λ report. report.status ≡ Failed)
+      → IfOk answer (λ report. report.text.items ≡ line_of (bad_line_text line)) → IsSimReply telling sim answer
+  script_stopped program line (Ok report) is status text =
+      λ words asks. stopped sim read program asks listed (subst (λ (f : List ClassBytes). IsProgram f program) same is) status line text
+  script_stopped program line (Err e) is status text = tt
+
 module _ {E : Type 0} (telling : Telling) (folder : List ℕ) (answer : Result Report E) where
   -- the report is the reply to all arguments that ask for a check of the folder
   abbrev pub IsCheckReply : Type 0
@@ -67,7 +117,7 @@ module _ {E : Type 0} (telling : Telling) (folder : List ℕ) (answer : Result R
 pub unreadable_checked : {E : Type 0} (telling : Telling) (folder : List ℕ) (answer : Result Report E)
     → IfOk answer (λ report. report.status ≡ Failed) → IfOk answer (λ report. (path : List ℕ) × TellsUnreadable path report.text.items)
     → IsCheckReply telling folder answer
-unreadable_checked telling folder (Ok report) status text = λ words asks. unreadable folder text.0 (inr asks) status text.1
+unreadable_checked telling folder (Ok report) status text = λ words asks. unreadable folder text.0 (inr (inl asks)) status text.1
 unreadable_checked telling folder (Err e) status text = tt
 
 pub accepted_checked : {E : Type 0} (telling : Telling) (folder : List ℕ) (files read : List ClassBytes) (count : ℕ) (answer : Result Report E)
@@ -136,6 +186,18 @@ module _ {E : Type 0} (telling : Telling) (words : List (List ℕ)) (request : R
 
       go : (answer : Result Report E) → IsCheckReply telling folder.now answer → IfOk answer (λ report. IsReply telling words report.status report.text.items)
       go (Ok report) replies = replies words asks_check
+      go (Err e) replies = tt
+
+  -- a script that was asked for
+  pub sim_replied : (sim : SimRequest) → IsRequest words request → request ≡ Sim sim → IsSimReply telling (sim_words sim) answer
+      → IfOk answer (λ report. IsReply telling words report.status report.text.items)
+  sim_replied sim asks is replies = go answer replies
+    where
+      asks_sim : AsksSim words (sim_words sim)
+      asks_sim = subst (λ (r : Request). IsRequest words r) is asks
+
+      go : (answer : Result Report E) → IsSimReply telling (sim_words sim) answer → IfOk answer (λ report. IsReply telling words report.status report.text.items)
+      go (Ok report) replies = replies words asks_sim
       go (Err e) replies = tt
 
 -- a report that was written, whole or not

@@ -2,7 +2,7 @@
 use Rattle.std.proofs.Common.{◌≡◌, ◌++◌, ℕ, zero, suc, List, [], ◌∷◌, Bor, ◌<◌, ◌≤◌, length, map, take, Option, Some, None, MatchOption, sym, subst, slice_index_or, arith}
 use Rattle.std.specs.List.{AllZip}
 use Rattle.space_ids.specs.declared.value.Value.{Value}
-use Rattle.sp_main.specs.Arguments.{Spells}
+use Rattle.sp_arguments.specs.Arguments.{Spells}
 
 -- the words spell the values, each its own
 abbrev pub AreValues : List (Bor (List ℕ)) → List Value → Type 0

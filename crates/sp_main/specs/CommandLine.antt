@@ -11,7 +11,7 @@ use Rattle.clap.specs.declared.builder.action.ArgAction.TheVariants.{Append}
 use Rattle.clap.specs.declared.error.kind.ErrorKind.{ErrorKind}
 use Rattle.clap.specs.declared.error.kind.ErrorKind.TheVariants.{DisplayHelp, DisplayVersion}
 use Rattle.space_ids.specs.declared.value.Value.{Value}
-use Rattle.sp_main.specs.Arguments.{Spells}
+use Rattle.sp_arguments.specs.Arguments.{Spells}
 
 -- an argument that has to be there
 abbrev pub wanted_rule : List ℕ → Rule
@@ -39,6 +39,10 @@ run_shape = record (new_shape (codes "run")) {
 abbrev pub check_shape : Shape
 check_shape = record (new_shape (codes "check")) { rules = wanted_rule (codes "folder") ∷ [] }
 
+-- `sim FOLDER SCRIPT`
+abbrev pub sim_shape : Shape
+sim_shape = record (new_shape (codes "sim")) { rules = wanted_rule (codes "folder") ∷ wanted_rule (codes "script") ∷ [] }
+
 abbrev pub program_shape : Shape
 program_shape = record (new_shape (codes "rmispace")) {
   is_leaf = false;
@@ -49,7 +53,7 @@ program_shape = record (new_shape (codes "rmispace")) {
 
 -- the program and its commands
 abbrev pub program : App
-program = record { top = program_shape; subs = run_shape ∷ check_shape ∷ [] }
+program = record { top = program_shape; subs = run_shape ∷ check_shape ∷ sim_shape ∷ [] }
 
 -- what a run asks for
 pub record RunWords : Type 0 where
@@ -91,6 +95,23 @@ pub record AsksCheck (words : List (List ℕ)) (folder : List ℕ) : Type 0 wher
   pub command : subcommand_of program words ≡ Some (codes "check", rows)
   pub asked : first_of (codes "folder") rows ≡ Some folder
 
+-- what a script is played of: the folder of its classes, and the path of the script
+pub record SimWords : Type 0 where
+  pub folder : List ℕ
+  pub script : List ℕ
+
+-- the arguments after `sim`, each by its name
+pub record AreSimWords (rows : List Row) (sim : SimWords) : Type 0 where
+  pub folder : first_of (codes "folder") rows ≡ Some sim.folder
+  pub script : first_of (codes "script") rows ≡ Some sim.script
+
+-- the arguments ask for a script to be played
+pub record AsksSim (words : List (List ℕ)) (sim : SimWords) : Type 0 where
+  pub taken : fault_of program words ≡ []
+  pub rows : List Row
+  pub command : subcommand_of program words ≡ Some (codes "sim", rows)
+  pub asked : AreSimWords rows sim
+
 -- the arguments ask for help, or for the version
 abbrev pub AsksText : List (List ℕ) → Type 0
 AsksText words = IsAmong DisplayHelp (fault_of program words) ⊎ IsAmong DisplayVersion (fault_of program words)
@@ -98,4 +119,5 @@ AsksText words = IsAmong DisplayHelp (fault_of program words) ⊎ IsAmong Displa
 -- why nothing is done for arguments: they do not parse, or they name no values or no fuel
 pub data IsUsageFault (words : List (List ℕ)) : Type 0 where
   mistaken : (kind : ErrorKind) → IsAmong kind (fault_of program words) → kind ≢ DisplayHelp → kind ≢ DisplayVersion → IsUsageFault words
-  senseless : fault_of program words ≡ [] → ((run : RunWords) → AsksRun words run → ⊥) → ((folder : List ℕ) → AsksCheck words folder → ⊥) → IsUsageFault words
+  senseless : fault_of program words ≡ [] → ((run : RunWords) → AsksRun words run → ⊥) → ((folder : List ℕ) → AsksCheck words folder → ⊥)
+      → ((sim : SimWords) → AsksSim words sim → ⊥) → IsUsageFault words

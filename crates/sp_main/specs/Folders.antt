@@ -3,9 +3,9 @@ use Rattle.std.specs.Prelude.{◌≡◌, ◌<◌, ◌==◌, ◌++◌, ◌∷◌,
 use Rattle.std.specs.List.{ends_with, list_any}
 use Rattle.std.specs.Global.{Global}
 use Rattle.sp_main.specs.declared.folder.Found.{Found}
-use Rattle.sp_main.specs.declared.running.ClassBytes.{ClassBytes}
-use Rattle.sp_main.specs.declared.running.Content.{Content}
-use Rattle.sp_main.specs.declared.running.Content.TheVariants.{Bytes, Unreadable}
+use Rattle.sp_runs.specs.declared.running.ClassBytes.{ClassBytes}
+use Rattle.sp_runs.specs.declared.running.Content.{Content}
+use Rattle.sp_runs.specs.declared.running.Content.TheVariants.{Bytes, Unreadable}
 use Rattle.sp_main.specs.declared.folder.FolderFault.{FolderFault}
 use Rattle.sp_main.specs.declared.folder.FolderFault.TheVariants.{CannotRead, NotAFolder, Memory}
 

@@ -1,11 +1,8 @@
-pub mod Arguments
 pub mod CommandLine
 pub mod Folders
 pub mod RefusalTexts
-pub mod Only
 pub mod Replies
 pub mod Reports
 pub mod Requests
-pub mod Runs
 pub mod Statuses
 pub mod Texts

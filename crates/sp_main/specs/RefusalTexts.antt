@@ -16,9 +16,9 @@ use Rattle.cls_set.specs.FaultNames.{set_rule_name, set_rule_number}
 use Rattle.cls_set.specs.declared.fault.SetFault.{SetFault}
 use Rattle.cls_set.specs.declared.fault.SetFault.TheVariants as set
 use Rattle.sp_main.specs.Reports.{line_of}
-use Rattle.sp_main.specs.declared.refusal.Refusal.{Refusal}
-use Rattle.sp_main.specs.declared.refusal.Refusal.TheVariants as refusal
-use Rattle.sp_main.specs.declared.running.ClassBytes.{ClassBytes}
+use Rattle.sp_runs.specs.declared.refusal.Refusal.{Refusal}
+use Rattle.sp_runs.specs.declared.refusal.Refusal.TheVariants as refusal
+use Rattle.sp_runs.specs.declared.running.ClassBytes.{ClassBytes}
 use Rattle.ver_rules.specs.FaultNames.{check_rule_name, check_rule_number}
 use Rattle.ver_rules.specs.declared.fault.CheckFault.{CheckFault}
 use Rattle.ver_rules.specs.declared.fault.CheckFault.TheVariants as check

@@ -2,10 +2,10 @@
 use Rattle.std.specs.Prelude.{ℕ}
 use Rattle.cf_load.specs.declared.load_fault.LoadFault.{LoadFault}
 use Rattle.cf_load.specs.declared.load_fault.LoadFault.TheVariants.{Device, Read}
-use Rattle.sp_main.specs.declared.refusal.Refusal.{Refusal}
-use Rattle.sp_main.specs.declared.refusal.Refusal.TheVariants as refusal
-use Rattle.sp_main.specs.declared.running.RunOutcome.{RunOutcome}
-use Rattle.sp_main.specs.declared.running.RunOutcome.TheVariants.{Returned, Threw, Spent}
+use Rattle.sp_runs.specs.declared.refusal.Refusal.{Refusal}
+use Rattle.sp_runs.specs.declared.refusal.Refusal.TheVariants as refusal
+use Rattle.sp_runs.specs.declared.running.RunOutcome.{RunOutcome}
+use Rattle.sp_runs.specs.declared.running.RunOutcome.TheVariants.{Returned, Threw, Spent}
 use Rattle.sp_main.specs.declared.status.Status.{Status}
 use Rattle.sp_main.specs.declared.status.Status.TheVariants.{Done, Ended, Refused, Failed}
 

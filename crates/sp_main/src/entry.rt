@@ -1,17 +1,25 @@
 //! The program as a function of its arguments, a folder and its standard streams.
 
 ghost use Rattle.std.specs.Prelude.{◌≡◌, ◌<◌, ◌≤◌, ◌^◌, ℕ, List, map, string_bytes, IfOk, IfSome};
-ghost use Rattle.sp_main.specs.CommandLine.{AsksCheck, AsksRun};
+ghost use Rattle.sp_main.specs.CommandLine.{AsksCheck, AsksRun, AsksSim};
 ghost use Rattle.sp_main.specs.Folders.{AreFilesOf, AreRead, IsContent, told_by};
 ghost use Rattle.sp_main.specs.Replies.{Fails, IsReply, Replies};
-ghost use Rattle.sp_main.specs.Requests.{run_words};
+ghost use Rattle.sp_main.specs.Requests.{run_words, sim_words};
 
 use super::report::write_text;
-use super::texts::{accepted_report, folder_report, outcome_report, refusal_report, text_report};
-use super::words::{Request, RunRequest, request_of};
-use super::{ClassBytes, Content, Folder, FolderFault, Report, Status, check_classes, run_classes};
+use super::texts::{
+    accepted_report, bad_line_report, folder_report, outcome_report, played_report, refusal_report,
+    text_report, unreadable_report,
+};
+use super::words::{Request, RunRequest, SimRequest, request_of};
+use super::{
+    ClassBytes, Content, Folder, FolderFault, Report, Status, check_classes, program_of,
+    run_classes,
+};
 use cf_reader::MAX_LEN;
 use dev_io::{ReadError, StdSource, read_bytes};
+use sp_runs::{Home, ScriptFault, play_script};
+use space_ids::Uuid;
 use std::alloc::{AllocError, Global};
 use std::io::{Read, Write};
 use vm_run::Limits;
@@ -21,10 +29,10 @@ use vm_run::Limits;
 ///
 /// | Status | Says |
 /// |---|---|
-/// | 0 | a method returned, a class set is accepted, or help was printed |
+/// | 0 | a method returned, a class set is accepted, a script is done, or help was printed |
 /// | 1 | the method threw, or its fuel was spent |
 /// | 2 | the class set is refused |
-/// | 3 | the command line, the device or the start are at fault, memory ran out, or an output failed |
+/// | 3 | the command line, the device, the start or a line of a script are at fault, memory ran out, or an output failed |
 pub fn command<F: Folder, I: Read, O: Write, E: Write>(
     alloc: Global,
     words: &[String],
@@ -60,6 +68,7 @@ fn report_of<F: Folder>(alloc: Global, words: &[String], folder: &F) -> Result<R
         Request::Refuse(text) => text_report(alloc, &text, Status::Failed),
         Request::Run(request) => run_report(alloc, request, folder),
         Request::Check(path) => check_report(alloc, path, folder),
+        Request::Sim(request) => sim_report(alloc, &request, folder),
     }
 }
 
@@ -98,6 +107,35 @@ fn check_report<F: Folder>(alloc: Global, path: &str, folder: &F) -> Result<Repo
     }
 }
 
+fn sim_report<F: Folder>(
+    alloc: Global,
+    request: &SimRequest,
+    folder: &F,
+) -> Result<Report, AllocError>
+    ensures { IfOk result (λ report. (words : List (List ℕ)) → AsksSim words (sim_words request.now) → IsReply (told_by (F.lists folder.now) (F.gives folder.now)) words report.status report.text.items) }
+{
+    let files = match class_files(alloc, folder, request.folder)? {
+        Ok(files) => files,
+        Err(fault) => return folder_report(alloc, fault),
+    };
+    let program = match program_of(alloc, &files) {
+        Ok(program) => program,
+        Err(refusal) => return refusal_report(alloc, &files, &refusal),
+    };
+    let script = match read_content(alloc, folder, request.script, usize::MAX)? {
+        Content::Bytes(script) => script,
+        Content::Unreadable => return unreadable_report(alloc, request.script),
+    };
+    // The first space of a script has the id 1.
+    let id = Uuid::from_u64_pair(0, 1);
+    let home = Home::new(alloc, &program, id, Limits::default())?;
+    match play_script(alloc, home, &script) {
+        Ok(text) => Ok(played_report(text)),
+        Err(ScriptFault::BadLine(number)) => bad_line_report(alloc, number),
+        Err(ScriptFault::Memory) => Err(AllocError),
+    }
+}
+
 // The class files of a folder, or why they cannot be listed.
 fn class_files<F: Folder>(
     alloc: Global,
@@ -122,7 +160,7 @@ fn read_contents<F: Folder>(
 {
     let mut files = Vec::new(alloc);
     for path in paths {
-        let content = read_content(alloc, folder, &path)?;
+        let content = read_content(alloc, folder, &path, MAX_LEN + 1)?;
         if let Content::Unreadable = content {
             files.push(ClassBytes { path, content })?;
             return Ok(files);
@@ -132,13 +170,19 @@ fn read_contents<F: Folder>(
     Ok(files)
 }
 
-fn read_content<F: Folder>(alloc: Global, folder: &F, path: &str) -> Result<Content, AllocError>
+// What the device of a file gives, of at most so many bytes.
+fn read_content<F: Folder>(
+    alloc: Global,
+    folder: &F,
+    path: &str,
+    most: usize,
+) -> Result<Content, AllocError>
     ensures { IfOk result (IsContent (F.gives folder.now path.now)) }
 {
     let Ok(file) = folder.open(path) else {
         return Ok(Content::Unreadable);
     };
-    match read_bytes(alloc, &mut StdSource::new(file), MAX_LEN + 1) {
+    match read_bytes(alloc, &mut StdSource::new(file), most) {
         Ok(bytes) => Ok(Content::Bytes(bytes)),
         Err(ReadError::Device) => Ok(Content::Unreadable),
         Err(ReadError::Memory) => Err(AllocError),

@@ -2,21 +2,18 @@
 //! prints.
 #![tactic(auto)]
 
-pub use argument::argument_of;
 pub use entry::command;
 pub use folder::{Disk, Folder, FolderFault};
-pub use refusal::Refusal;
 pub use report::Report;
-pub use running::{ClassBytes, Content, RunOutcome, check_classes, run_classes};
+pub use sp_runs::{
+    ClassBytes, Content, Refusal, RunOutcome, check_classes, program_of, run_classes,
+};
 pub use status::Status;
 
-mod argument;
 mod entry;
 mod folder;
 mod line;
-mod refusal;
 mod report;
-mod running;
 mod status;
 mod texts;
 mod words;

@@ -5,7 +5,7 @@ ghost use Rattle.std.specs.Str.{trim_end};
 ghost use Rattle.sp_main.specs.RefusalTexts.{IsRefusalOf, TellsCheck, TellsFile, TellsLink, TellsRefusal, TellsSet, TellsStart, TellsUnreadable, refused_method, remote_text, rule_text, unreadable_text};
 ghost use Rattle.sp_main.specs.Reports.{IsLine, line_of};
 ghost use Rattle.sp_main.specs.Statuses.{file_status, outcome_status, refusal_status};
-ghost use Rattle.sp_main.specs.Texts.{accepted_text, ints_text, outcome_text, value_text};
+ghost use Rattle.sp_main.specs.Texts.{accepted_text, bad_line_text, ints_text, outcome_text, value_text};
 
 use super::line::Line;
 use super::{ClassBytes, FolderFault, Refusal, Report, RunOutcome, Status};
@@ -52,8 +52,7 @@ fn with_value(line: Line, value: &Value) -> Result<Line, AllocError>
         Value::Null => line.text("null"),
         Value::Int(int) => line.display(int),
         Value::Ints(ints) => with_ints(line, ints.as_slice()),
-        // No method of the profile gives one yet.
-        Value::Ref(_) => line.text("ref"),
+        Value::Ref(reference) => line.text("ref 0 ")?.display(&reference.id.0),
     }
 }
 
@@ -106,6 +105,29 @@ fn file_report(alloc: Global, path: &str, fault: LoadFault) -> Result<Report, Al
             fault_report(line, &rule, Status::Refused)
         }
     }
+}
+
+/// Returns the report of a script that is done: the lines that it shows.
+pub fn played_report(text: Vec<u8>) -> Report
+    ensures status { result.status ≡ Status.Done }
+    ensures text { result.text ≡ text }
+{
+    Report {
+        text,
+        status: Status::Done,
+    }
+}
+
+/// Returns the report of a script whose line of this number is bad.
+pub fn bad_line_report(alloc: Global, number: usize) -> Result<Report, AllocError>
+    ensures status { IfOk result (λ report. report.status ≡ Status.Failed) }
+    ensures text { IfOk result (λ report. report.text.items ≡ line_of (bad_line_text number)) }
+{
+    Line::new(alloc)
+        .text("line ")?
+        .display(&number)?
+        .text(": bad")?
+        .report(Status::Failed)
 }
 
 /// Returns the report of a class set that is accepted: of how many files it was made.

@@ -7,13 +7,13 @@ ghost use Rattle.clap.specs.Simple.{app_of, subcommand_rows_of};
 ghost use Rattle.clap.specs.Values.{kind_of};
 ghost use Rattle.clap.specs.Walk.{first_of, rows_of};
 ghost use Rattle.space_ids.specs.declared.value.Value.{Value};
-ghost use Rattle.sp_main.specs.Arguments.{Spells};
-ghost use Rattle.sp_main.specs.CommandLine.{IsFuel, IsSaidFuel, arguments_rule, check_shape, fuel_rule, program, run_shape, wanted_rule};
-ghost use Rattle.sp_main.specs.Requests.{IsArgument, IsAsked, IsCheckRequest, IsCommand, IsCommandFound, IsRefusing, IsRequest, IsRunRequest, IsUnasked};
+ghost use Rattle.sp_arguments.specs.Arguments.{Spells};
+ghost use Rattle.sp_main.specs.CommandLine.{IsFuel, IsSaidFuel, arguments_rule, check_shape, fuel_rule, program, run_shape, sim_shape, wanted_rule};
+ghost use Rattle.sp_main.specs.Requests.{IsArgument, IsAsked, IsCheckRequest, IsCommand, IsCommandFound, IsRefusing, IsRequest, IsRunRequest, IsSimRequest, IsUnasked};
 
-use super::argument_of;
 use clap::error::ErrorKind;
 use clap::{Arg, ArgAction, ArgMatches, Command, Error};
+use sp_arguments::argument_of;
 use std::alloc::{AllocError, Global};
 use vm_heap::Value;
 
@@ -24,6 +24,8 @@ pub(crate) enum Request<'a> {
     Run(RunRequest<'a>),
     /// To check the class files of this folder.
     Check(&'a str),
+    /// To play a script.
+    Sim(SimRequest<'a>),
     /// A text that was asked for, as help or the version: for standard output.
     Tell(String),
     /// A usage fault, with its text for standard error.
@@ -40,6 +42,14 @@ pub(crate) struct RunRequest<'a> {
     pub arguments: Vec<Value>,
     /// The fuel, if it is said.
     pub fuel: Option<u64>,
+}
+
+/// `sim FOLDER SCRIPT`.
+#[derive(Drop)]
+pub(crate) struct SimRequest<'a> {
+    pub folder: &'a str,
+    /// The path of the script.
+    pub script: &'a str,
 }
 
 /// What the arguments ask for; the first is the program's own name.
@@ -73,6 +83,7 @@ fn asked<'a>(alloc: Global, matches: &ArgMatches<'a>) -> Result<Request<'a>, All
     match matches.subcommand() {
         Some(("run", found)) => asked_run(alloc, found),
         Some(("check", found)) => asked_check(alloc, found),
+        Some(("sim", found)) => asked_sim(alloc, found),
         _ => unreachable!(),
     }
 }
@@ -83,6 +94,15 @@ fn asked_check<'a>(alloc: Global, found: &ArgMatches<'a>) -> Result<Request<'a>,
     match found.get_str("folder") {
         Some(folder) => Ok(Request::Check(folder)),
         None => refuse(alloc, WORD_MISSING),
+    }
+}
+
+fn asked_sim<'a>(alloc: Global, found: &ArgMatches<'a>) -> Result<Request<'a>, AllocError>
+    ensures { IfOk result (IsSimRequest (rows_of (found_of found.now))) }
+{
+    match (found.get_str("folder"), found.get_str("script")) {
+        (Some(folder), Some(script)) => Ok(Request::Sim(SimRequest { folder, script })),
+        _ => refuse(alloc, WORD_MISSING),
     }
 }
 
@@ -172,22 +192,23 @@ const AFTER_HELP: &str = "Example:
   rmispace run examples/sum T 'f(I)I' 4 --fuel 38
 
 Exit status:
-  0  the method returned, or the classes are accepted
+  0  the method returned, the classes are accepted, or the script is done
   1  the method threw, or its fuel was spent
   2  the classes are refused
-  3  anything else: the words, a file, the start, memory, the output";
+  3  anything else: the words, a file, the start, a line of the script, memory, the output";
 
 fn whole_command<'a>(alloc: Global) -> Result<Command<'a>, AllocError>
     ensures { IfOk result (λ command. app_of command ≡ program) }
 {
     Command::new(alloc, "rmispace")
         .version("0.1.0")
-        .about("Checks Java class files, and runs their methods under fuel")
+        .about("Checks Java class files, and runs their methods under fuel, alone or in a space")
         .after_help(AFTER_HELP)
         .subcommand_required(true)
         .disable_help_subcommand(true)
         .subcommand(run_command(alloc)?)?
-        .subcommand(check_command(alloc)?)
+        .subcommand(check_command(alloc)?)?
+        .subcommand(sim_command(alloc)?)
 }
 
 fn check_command<'a>(alloc: Global) -> Result<Command<'a>, AllocError>
@@ -196,6 +217,15 @@ fn check_command<'a>(alloc: Global) -> Result<Command<'a>, AllocError>
     Command::new(alloc, "check")
         .about("Checks the classes of a folder and prints how many they are")
         .arg(folder_word(alloc))
+}
+
+fn sim_command<'a>(alloc: Global) -> Result<Command<'a>, AllocError>
+    ensures { IfOk result (IsCommand sim_shape) }
+{
+    Command::new(alloc, "sim")
+        .about("Plays a script over a space and prints what it shows")
+        .arg(folder_word(alloc))?
+        .arg(wanted(alloc, "script", "SCRIPT", "The file of the script"))
 }
 
 fn run_command<'a>(alloc: Global) -> Result<Command<'a>, AllocError>

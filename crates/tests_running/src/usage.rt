@@ -1,7 +1,8 @@
 //! Arguments of the command line, and outputs that fail.
 
 use super::said::{EmptyFolder, Said, say, words_of};
-use sp_main::{argument_of, command};
+use sp_arguments::argument_of;
+use sp_main::command;
 use std::alloc::{AllocError, Global};
 use std::io;
 use std::io::{ErrorKind, Write};

@@ -12,4 +12,5 @@ pub returns : goal.returns
 returns c =
     let start : app_of c.disable_help_subcommand.result ≡ bare = search rules in
     let run = one_command_more _ c.in_ok-subcommand.field-0 c.in_ok-run_command.field-0 _ _ c.in_ok-subcommand.ensures c.in_ok-run_command.ensures start in
-    IfOk-weaker c.subcommand-2.result _ _ (λ command adds. one_command_more _ command c.in_ok-check_command.field-0 _ _ adds c.in_ok-check_command.ensures run) c.subcommand-2.ensures
+    let check = one_command_more _ c.in_ok-subcommand-2.field-0 c.in_ok-check_command.field-0 _ _ c.in_ok-subcommand-2.ensures c.in_ok-check_command.ensures run in
+    IfOk-weaker c.subcommand-3.result _ _ (λ command adds. one_command_more _ command c.in_ok-sim_command.field-0 _ _ adds c.in_ok-sim_command.ensures check) c.subcommand-3.ensures

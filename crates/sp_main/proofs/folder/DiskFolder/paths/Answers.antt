@@ -2,7 +2,7 @@ use Rattle.std.proofs.Common.{rules, string_bytes, subst, sym}
 use Rattle.std.proofs.lemmas.List.Sorted.{All-permutation}
 use Rattle.sp_main.specs.Folders.{IsBelow, IsClassPath, NamesBelow}
 use Rattle.sp_main.proofs.Below.{itself, popped}
-use Rattle.sp_main.proofs.Files.{known_error}
+use Rattle.sp_runs.proofs.Files.{known_error}
 use Rattle.sp_main.proofs.folder.DiskFolder.paths.Goals as goal
 
 pub returns-in_err-list_folder-in-Some-clause-fault : goal.returns-in_err-list_folder-in-Some-clause-fault

@@ -1,0 +1,250 @@
+//! From the bytes of class files to how a method ends: reading, sets, linking, checking and running,
+//! without any input or output.
+
+ghost use Rattle.std.specs.Prelude.{◌≡◌, ◌⊎◌, ◌+◌, ◌-◌, ◌^◌, ◌<◌, ◌≤◌, List, length, IfOk, IfErr, IfSome, IsSome};
+ghost use Rattle.std.specs.List.{position};
+ghost use Rattle.cls_link.specs.Links.{Links};
+ghost use Rattle.cls_link.specs.Numbers.{number_in};
+ghost use Rattle.cls_search.specs.MethodSearches.{method_in};
+ghost use Rattle.vm_run.specs.Run.{HasNoRemote};
+ghost use Rattle.vm_run.specs.Task.{IsOfSet};
+ghost use Rattle.sp_runs.specs.Only.{IsOutOfMemory, IsReadOut, OnlyGives};
+ghost use Rattle.sp_runs.specs.Runs.{AreSpelled, HasRemote, IsFileFault, IsNamed, IsNoProgram, IsNotRun, IsOfStart, IsProgram, IsRefused, IsRun, IsSpelled, IsUnread, NamesMethod, Runs, is_parenthesis};
+
+use crate::Refusal;
+use crate::in_space::{has_remote, run_in_space};
+use cf_load::LoadFault;
+use cf_reader::{ClassFile, Text, read_class};
+use cls_link::{Linked, MethodId, link};
+use cls_resolve::MemberIndex;
+use cls_search::{MethodIndex, find_method};
+use cls_set::ClassSet;
+use std::alloc::{AllocError, Global};
+use ver_check::{Accepted, accept};
+use vm_heap::{Uuid, Value};
+use vm_run::{Limits, Outcome, Program, StartFault, Task};
+
+/// A class file: its path, and what its device gave of it.
+#[derive(Drop)]
+pub struct ClassBytes {
+    pub path: String,
+    pub content: Content,
+}
+
+/// What a device gave of a file.
+#[derive(Drop)]
+pub enum Content {
+    /// All of its bytes, or one more than a class file may have.
+    Bytes(Vec<u8>),
+    /// The device failed.
+    Unreadable,
+}
+
+/// How a method ended.
+#[derive(Debug, Drop)]
+pub enum RunOutcome {
+    /// It returned: a value, or nothing from a method of the type void.
+    Returned(Option<Value>),
+    /// It threw an object of the class of this name.
+    Threw(Text),
+    /// The fuel was used up, and an instruction came next.
+    Spent,
+}
+
+/// Runs the static method of this name and descriptor, as `f(I)I`, over the class set of the files,
+/// and returns how it ended. Method resolution finds it, so the class may inherit it (JVMS 5.4.3.3).
+/// The first refusal counts: files in order, then the set, links, checks, and the start. It may be out of
+/// memory instead of any answer. The limits' heap words are below 2^32 - 2^16. In a set with remote classes
+/// the method is the only root of a space of id 0.
+pub fn run_classes(
+    alloc: Global,
+    files: &[ClassBytes],
+    class: &[u8],
+    method: &[u8],
+    arguments: Vec<Value>,
+    limits: Limits,
+) -> Result<RunOutcome, Refusal>
+    requires memory { limits.heap_words + 65536 < 2 ^ 32 }
+    // From the bytes to the outcome: the classes that the bytes spell are type safe, and, if none of them is
+    // remote, the tagged machine of all instructions runs the method to this end, never stuck and within its
+    // bounds.
+    ensures run { IfOk result (λ outcome. IsRun files.now class.now method.now arguments.items limits outcome ⊎ HasRemote files.now) }
+    // A refusal says what is wrong, and nothing before it is wrong.
+    ensures refused { IfErr result (λ refusal. IsRefused files.now class.now method.now arguments.items limits refusal ⊎ (HasRemote files.now × IsOfStart refusal)) }
+    // If the files make a program without remote classes and its method runs to an outcome, no other is
+    // answered, and no refusal but out of memory.
+    ensures only { (outcome : RunOutcome)
+        → (HasRemote files.now → ⊥)
+        → IsRun files.now class.now method.now arguments.items limits outcome
+        → OnlyGives outcome IsOutOfMemory result }
+{
+    let program = program_of(alloc, files)?;
+    let found = find_named(alloc, &program, class, method)?;
+    let Some(method) = found else {
+        return Err(Refusal::Start(StartFault::AbsentMethod));
+    };
+    if has_remote(&program) {
+        return run_in_space(alloc, &program, method, arguments, limits);
+    }
+    run_method(alloc, &program, method, arguments, limits)
+}
+
+/// Returns the program that the files make. The first refusal counts: files in order, then the set, links and
+/// checks. It may be out of memory instead.
+pub fn program_of(alloc: Global, files: &[ClassBytes]) -> Result<Program, Refusal>
+    ensures program { IfOk result (λ program. IsProgram files.now program) }
+    ensures refused { IfErr result (λ refusal. IsNoProgram files.now refusal ⊎ (refusal ≡ Refusal.Memory)) }
+    ensures only { (program : Links) → IsProgram files.now program → IfErr result IsOutOfMemory }
+{
+    let accepted = accepted_of(alloc, files)?;
+    Ok(Program::of(alloc, accepted)?)
+}
+
+/// Reads, links and checks the class set of the files, and returns how many files there are. The
+/// first refusal counts: files in order, then the set, links and checks. Nothing of it runs.
+pub fn check_classes(alloc: Global, files: &[ClassBytes]) -> Result<usize, Refusal>
+    ensures accepted { IfOk result (λ count. count ≡ length files.now) }
+    ensures program { IfOk result (λ _. (program : Links) × IsProgram files.now program) }
+    ensures refused { IfErr result (IsNoProgram files.now) }
+    // Files that make a program are accepted, unless memory runs out.
+    ensures only { (program : Links) → IsProgram files.now program → IfErr result IsOutOfMemory }
+{
+    accepted_of(alloc, files)?;
+    Ok(files.len())
+}
+
+// The files' class set, read, linked and checked.
+fn accepted_of(alloc: Global, files: &[ClassBytes]) -> Result<Accepted, Refusal>
+    ensures program { IfOk result (IsProgram files.now) }
+    ensures refused { IfErr result (IsNoProgram files.now) }
+    ensures only { (program : Links) → IsProgram files.now program → IfErr result IsOutOfMemory }
+{
+    let classes = read_files(alloc, files)?;
+    let set = ClassSet::build(alloc, classes)?;
+    let linked = link(alloc, set)?;
+    Ok(accept(alloc, linked)?)
+}
+
+fn read_files(alloc: Global, files: &[ClassBytes]) -> Result<Vec<ClassFile>, Refusal>
+    ensures read { IfOk result (λ classes. AreSpelled files.now classes.items) }
+    ensures refused { IfErr result (IsUnread files.now) }
+    ensures only { (classes : List ClassFile)
+        → AreSpelled files.now classes
+        → IfErr result IsOutOfMemory }
+{
+    let mut classes = Vec::new(alloc);
+    for (index, file) in files.iter().enumerate() {
+        match read_file(alloc, file) {
+            Ok(class) => classes.push(class)?,
+            Err(fault) => return Err(Refusal::File { index, fault }),
+        }
+    }
+    Ok(classes)
+}
+
+fn read_file(alloc: Global, file: &ClassBytes) -> Result<ClassFile, LoadFault>
+    ensures read { IfOk result (IsSpelled file.now.content) }
+    ensures fault { IfErr result (IsFileFault file.now.content) }
+    ensures only { (class : ClassFile) → IsSpelled file.now.content class → IfErr result IsReadOut }
+{
+    match &file.content {
+        Content::Bytes(bytes) => Ok(read_class(alloc, bytes)?),
+        Content::Unreadable => Err(LoadFault::Device),
+    }
+}
+
+// The method that a text names in the class of this name, or in a class or interface above it.
+pub(crate) fn find_named(
+    alloc: Global,
+    program: &Program,
+    class: &[u8],
+    text: &[u8],
+) -> Result<Option<MethodId>, AllocError>
+    ensures { IfOk result (NamesMethod program.now class.now text.now) }
+{
+    let linked = program.linked();
+    let Some(class) = linked.set().number(class) else {
+        return Ok(None);
+    };
+    let Some(index) = descriptor_index(text) else {
+        return Ok(None);
+    };
+    let (name, descriptor) = text.split_at(index);
+    let mut marks = vec![in alloc; false; linked.set().len()]?;
+    match find_method(linked.set(), class, name, descriptor, &mut marks) {
+        Some(found) => Ok(Some(number(linked, found))),
+        None => Ok(None),
+    }
+}
+
+// The number of a method.
+fn number(linked: &Linked, method: MethodIndex) -> MethodId
+    requires { IsSome (method_in linked.now.classes method) }
+    ensures { result ≡ number_in linked.now.classes method }
+{
+    linked.method_id(MemberIndex {
+        class: method.class,
+        index: index_in_class(linked.set(), method),
+    })
+}
+
+// The index of a method among those of its class, which are few enough.
+fn index_in_class(set: &ClassSet, method: MethodIndex) -> u16
+    requires { IsSome (method_in set.now method) }
+    ensures { result ≡ method.index }
+{
+    let methods = set.class(method.class).file.methods.as_slice();
+    let _ = &methods[method.index];
+    method.index as u16
+}
+
+// The index of the descriptor's first byte.
+fn descriptor_index(method: &[u8]) -> Option<usize>
+    ensures index { result ≡ position is_parenthesis method.now }
+    ensures within { IfSome result (λ index. index ≤ length method.now) }
+{
+    method.iter().position(|byte| *byte == b'(')
+}
+
+// Starts the method and runs it to its end.
+fn run_method(
+    alloc: Global,
+    program: &Program,
+    method: MethodId,
+    arguments: Vec<Value>,
+    limits: Limits,
+) -> Result<RunOutcome, Refusal>
+    requires memory { limits.heap_words + 65536 < 2 ^ 32 }
+    requires plain { HasNoRemote program.now.classes }
+    ensures run { IfOk result (Runs program.now method arguments.items limits) }
+    ensures refused { IfErr result (IsNotRun program.now method arguments.items limits) }
+    ensures only { (outcome : RunOutcome)
+        → Runs program.now method arguments.items limits outcome
+        → OnlyGives outcome IsOutOfMemory result }
+{
+    let mut task = Task::start(alloc, program, Uuid::nil(), method, arguments, limits)?;
+    // More instructions than there can be fuel for: the task ends, since without remote classes it asks
+    // for nothing.
+    let _ = task.run(program, u64::MAX);
+    let _ = task.run(program, 1);
+    let told = task.outcome(alloc)?;
+    match told {
+        Some(outcome) => Ok(named(program, outcome)?),
+        None => unreachable!(),
+    }
+}
+
+// How a task ended, with the name of a class instead of its number.
+pub(crate) fn named(program: &Program, outcome: Outcome) -> Result<RunOutcome, AllocError>
+    requires { IsOfSet program.now.classes outcome }
+    ensures { IfOk result (IsNamed program.now.classes outcome) }
+{
+    match outcome {
+        Outcome::Returned(value) => Ok(RunOutcome::Returned(value)),
+        Outcome::Spent => Ok(RunOutcome::Spent),
+        Outcome::Threw(class) => {
+            let set = program.linked().set();
+            Ok(RunOutcome::Threw(set.name(class).copy()?))
+        }
+    }
+}
