@@ -14,16 +14,26 @@ pub struct Start<'a> {
 }
 
 /// A space that a script plays, with its class set.
+///
+/// `stands` says what the space needs to be asked at all; each call leaves it so.
 pub trait Played {
+    ghost stands: { Self → Type 0 };
+
     /// Lets an event happen, and answers its outputs. A refused event changes nothing.
-    fn on(&mut self, event: &Event) -> Result<Vec<Output>, CoreFault>;
+    fn on(&mut self, event: &Event) -> Result<Vec<Output>, CoreFault>
+        requires { stands self.old }
+        ensures { stands self.new };
 
     /// Starts a task at a method, and answers the outputs. A refused root changes nothing.
-    fn root(&mut self, start: Start<'_>) -> Result<Vec<Output>, CoreFault>;
+    fn root(&mut self, start: Start<'_>) -> Result<Vec<Output>, CoreFault>
+        requires { stands self.old }
+        ensures { stands self.new };
 
     /// Lets the lowest task that may go on make an instruction, and answers the outputs: none if there is
     /// no such task.
-    fn step(&mut self) -> Result<Vec<Output>, CoreFault>;
+    fn step(&mut self) -> Result<Vec<Output>, CoreFault>
+        requires { stands self.old }
+        ensures { stands self.new };
 
     /// The lowest task that may go on.
     fn ready(&self) -> Option<u64>;
