@@ -25,14 +25,13 @@
 //! these, or of a task that is not in hand, is printed after `bad row: `.
 #![tactic(auto)]
 
-use fault::RowFault;
 use stage::Stage;
 use std::io;
-use std::io::{BufRead, BufReader, BufWriter, ErrorKind, Write};
+use std::io::{BufRead, BufReader, BufWriter, Write};
+use test_rows::put_answer;
 
 mod calls;
 mod classes;
-mod fault;
 mod parts;
 mod row;
 mod stage;
@@ -43,14 +42,7 @@ fn main(rt: HostRuntime) -> io::Result<()> {
     let mut stage = Stage::new(alloc)?;
     for text in BufReader::new(alloc, rt.reader())?.lines(alloc) {
         let text = text?;
-        match stage.play(&text) {
-            Ok(said) => {
-                writeln!(out, "{text}")?;
-                out.write_all(said.as_slice())?;
-            }
-            Err(RowFault::Bad) => writeln!(out, "bad row: {text}")?,
-            Err(RowFault::Memory) => return Err(io::Error::from(ErrorKind::OutOfMemory)),
-        }
+        put_answer(&mut out, &text, stage.play(&text))?;
     }
     out.flush()
 }

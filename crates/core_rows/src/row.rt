@@ -1,10 +1,10 @@
 //! The rows of the input.
 
-use super::fault::RowFault;
-use super::parts::{class, index, method, name, number, space, value, values};
+use super::parts::{method, name, values};
 use sp_core::{Event, Op, Outcome, Root, Stand, StartFault};
 use space_ids::{ObjId, Row as Values, Uuid};
 use std::alloc::Global;
+use test_rows::{RowFault, class, index, number, space, value};
 
 /// What a task in hand is given to its core for.
 #[derive(Drop)]

@@ -3,12 +3,12 @@
 use super::calls;
 use super::calls::{Answer, HandAnswer};
 use super::classes::OneClass;
-use super::fault::RowFault;
 use super::row::{Hand, Row, row_of};
 use sp_core::{CoreFault, LentTask, Op, Output, Root, SpaceCore};
 use space_ids::Uuid;
 use std::alloc::{AllocError, Global};
 use std::io::Write;
+use test_rows::RowFault;
 
 /// A core, and the tasks that it or cores before it lent.
 #[derive(Drop)]

@@ -13,11 +13,10 @@
 //! BYTES are words in hex digits, or none. A row that is none of these is printed after `bad row: `.
 #![tactic(auto)]
 
-use fault::RowFault;
 use std::io;
-use std::io::{BufRead, BufReader, BufWriter, ErrorKind, Write};
+use std::io::{BufRead, BufReader, BufWriter, Write};
+use test_rows::put_answer;
 
-mod fault;
 mod said;
 
 fn main(rt: HostRuntime) -> io::Result<()> {
@@ -25,14 +24,7 @@ fn main(rt: HostRuntime) -> io::Result<()> {
     let mut out = BufWriter::new(alloc, io::writer(&rt))?;
     for text in BufReader::new(alloc, rt.reader())?.lines(alloc) {
         let text = text?;
-        match said::said_of(alloc, &text) {
-            Ok(said) => {
-                writeln!(out, "{text}")?;
-                out.write_all(said.as_slice())?;
-            }
-            Err(RowFault::Bad) => writeln!(out, "bad row: {text}")?,
-            Err(RowFault::Memory) => return Err(io::Error::from(ErrorKind::OutOfMemory)),
-        }
+        put_answer(&mut out, &text, said::said_of(alloc, &text))?;
     }
     out.flush()
 }

@@ -1,6 +1,5 @@
 //! What rows come to.
 
-use super::fault::RowFault;
 use cf_insns::{CodeFault, decode};
 use cf_text::{
     Descriptor, Numbered, Text, descriptor, is_class_name, is_method_name, is_modified_utf8,
@@ -8,6 +7,7 @@ use cf_text::{
 };
 use std::alloc::Global;
 use std::io::Write;
+use test_rows::RowFault;
 
 /// Returns what a row comes to.
 pub fn said_of(alloc: Global, text: &str) -> Result<Vec<u8>, RowFault> {

@@ -1,11 +1,11 @@
 //! Calls of all leases of a client.
 
-use super::fault::RowFault;
-use super::parts::{index, number, number_of, object, space, space_of};
+use super::parts::number_of;
 use dgc_client::{ClientLease, Clients, ForeignId, Group};
 use space_ids::ObjId;
 use std::alloc::{AllocError, Global};
 use std::io::Write;
+use test_rows::{RowFault, index, number, object, space, space_of};
 
 // How many objects a frame names at most.
 const MOST_IDS: usize = 1_024;

@@ -1,10 +1,9 @@
 //! Calls of a client's lease. Those that it promises something of stand in functions that promise nothing,
 //! so that a row is proved at once.
 
-use super::fault::RowFault;
-use super::parts::number;
 use dgc_client::ClientLease;
 use std::io::Write;
+use test_rows::{RowFault, number};
 
 /// Plays a call, and prints whether there is a lease and what is due.
 pub fn play(

@@ -1,12 +1,12 @@
 //! Calls of an owner's reference lists.
 
-use super::fault::RowFault;
-use super::parts::{number, number_of, object, objects, space};
+use super::parts::{number_of, objects};
 use super::plain;
 use dgc_list::RefList;
 use space_ids::{ObjId, Uuid};
 use std::alloc::{AllocError, Global};
 use std::io::Write;
+use test_rows::{RowFault, number, object, space};
 
 /// Plays a call, and prints what it answers.
 pub fn play(

@@ -1,13 +1,12 @@
 //! Calls of a registry.
 
-use super::fault::RowFault;
-use super::parts::{index, object};
 use base_types::Numbered;
 use sp_registry::{BindFault, Bindings, Registry};
 use space_ids::ObjId;
 use std::alloc::Global;
 use std::io::Write;
 use std::str;
+use test_rows::{RowFault, index, object};
 
 /// Plays a call, and prints what it answers.
 pub fn play(

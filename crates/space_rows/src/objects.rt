@@ -1,11 +1,11 @@
 //! Calls of a store of remote objects.
 
-use super::fault::RowFault;
-use super::parts::{class, index, object, objects, value, values};
+use super::parts::objects;
 use sp_store::{IdSet, Store};
 use space_ids::{ClassId, ObjId, Value};
 use std::alloc::{AllocError, Global};
 use std::io::Write;
+use test_rows::{RowFault, class, index, object, value, values};
 
 /// Plays a call, and prints what it answers.
 pub fn play(

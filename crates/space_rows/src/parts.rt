@@ -1,25 +1,8 @@
 //! Numbers and values of rows.
 
-use super::fault::RowFault;
-use space_ids::{ClassId, ObjId, Ref, Uuid, Value};
+use space_ids::{ObjId, Uuid};
 use std::alloc::Global;
-
-pub fn number(word: &str) -> Result<u64, RowFault> {
-    word.parse::<u64>().map_err(|_| RowFault::Bad)
-}
-
-pub fn index(word: &str) -> Result<usize, RowFault> {
-    word.parse::<usize>().map_err(|_| RowFault::Bad)
-}
-
-pub fn class(word: &str) -> Result<ClassId, RowFault> {
-    let number = word.parse::<u16>().map_err(|_| RowFault::Bad)?;
-    Ok(ClassId(number))
-}
-
-pub fn object(word: &str) -> Result<ObjId, RowFault> {
-    Ok(ObjId(number(word)?))
-}
+use test_rows::{RowFault, object};
 
 /// Returns the ids that commas part: none for `-`.
 pub fn objects(alloc: Global, word: &str) -> Result<Vec<ObjId>, RowFault> {
@@ -32,45 +15,7 @@ pub fn objects(alloc: Global, word: &str) -> Result<Vec<ObjId>, RowFault> {
     Ok(ids)
 }
 
-/// Returns the space of a number.
-pub fn space_of(number: u64) -> Uuid {
-    Uuid::from_u64_pair(0, number)
-}
-
-/// Returns the space of this number.
-pub fn space(word: &str) -> Result<Uuid, RowFault> {
-    Ok(space_of(number(word)?))
-}
-
 /// Returns the number of a space.
 pub fn number_of(space: &Uuid) -> u64 {
     space.as_u64_pair().1
-}
-
-/// Returns the value of a word: `null`, an int, or a reference `SPACE:OBJECT:CLASS`.
-pub fn value(alloc: Global, word: &str) -> Result<Value, RowFault> {
-    if word == "null" {
-        return Ok(Value::Null);
-    }
-    if let Ok(int) = word.parse::<i32>() {
-        return Ok(Value::Int(int));
-    }
-    let parts: Vec<&str> = word.split(':').collect(alloc)?;
-    match parts.as_slice() {
-        [of, id, of_class] => Ok(Value::Ref(Ref {
-            space: space(of)?,
-            id: object(id)?,
-            class: class(of_class)?,
-        })),
-        _ => Err(RowFault::Bad),
-    }
-}
-
-/// Returns the values of words.
-pub fn values(alloc: Global, words: &[&str]) -> Result<Vec<Value>, RowFault> {
-    let mut values = Vec::new(alloc);
-    for word in words {
-        values.push(value(alloc, word)?)?;
-    }
-    Ok(values)
 }

@@ -1,13 +1,12 @@
 //! A plain body of reference lists, which goes through all calls and moments of one client and object, to
 //! compare the lists with.
 
-use super::fault::RowFault;
 use super::lists::{clean, dirty, pass, until};
-use super::parts::space_of;
 use dgc_list::RefList;
 use space_ids::ObjId;
 use std::alloc::Global;
 use std::io::Write;
+use test_rows::{RowFault, space_of};
 
 // A call or moment, as one client and object see it.
 #[derive(Clone, Copy)]

@@ -1,12 +1,11 @@
 //! Calls of the results of a space that wait to be acknowledged.
 
-use super::fault::RowFault;
-use super::parts::{number, object, space_of, value};
 use sp_results::Results;
 use sp_store::IdSet;
 use space_ids::{ObjId, Value};
 use std::alloc::Global;
 use std::io::Write;
+use test_rows::{RowFault, number, object, space_of, value};
 
 /// Plays a call, and prints what it answers.
 pub fn play(

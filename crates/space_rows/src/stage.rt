@@ -1,7 +1,5 @@
 //! The parts of a space, each by itself.
 
-use super::fault::RowFault;
-use super::parts::space_of;
 use super::{clients, leases, lists, names, objects, results};
 use dgc_client::{ClientLease, Clients};
 use dgc_list::RefList;
@@ -9,6 +7,7 @@ use sp_registry::Registry;
 use sp_results::Results;
 use sp_store::Store;
 use std::alloc::{AllocError, Global};
+use test_rows::{RowFault, space_of};
 
 /// The parts of space 1.
 #[derive(Drop)]

@@ -2,7 +2,6 @@
 
 ghost use Rattle.std.specs.Prelude.{◌<◌};
 
-use super::fault::RowFault;
 use super::making::show;
 use super::row::Device;
 use dev_io::{MemSink, MemSource};
@@ -10,6 +9,7 @@ use net_engine::{Inbound, Inflow, Outbound, WriteFailed};
 use net_frames::{Frame, Numbered};
 use std::alloc::Global;
 use std::io::Write;
+use test_rows::RowFault;
 
 // The most calls that a row makes.
 const CALLS: usize = 100;

@@ -1,48 +1,17 @@
-//! Why a row is not played.
+//! Bytes of rows that are no frame.
 
 use net_frames::{WireError, WireFault};
-use std::alloc::{AllocError, AllocFailed};
-use std::io;
+use test_rows::RowFault;
 
-/// Why a row is not played.
-#[derive(Clone, Copy, Debug)]
-pub enum RowFault {
-    /// It is no row, or its bytes are no frame.
-    Bad,
-    /// Memory ran out.
-    Memory,
+/// Returns the fault of a row whose bytes break a rule of the wire.
+pub fn no_frame(_: WireFault) -> RowFault {
+    RowFault::Bad
 }
 
-impl From<AllocError> for RowFault {
-    fn from(_: AllocError) -> RowFault {
-        RowFault::Memory
-    }
-}
-
-impl<T: Drop> From<AllocFailed<T>> for RowFault {
-    fn from(_: AllocFailed<T>) -> RowFault {
-        RowFault::Memory
-    }
-}
-
-// A writer in memory fails only if it has no room.
-impl From<io::Error> for RowFault {
-    fn from(_: io::Error) -> RowFault {
-        RowFault::Memory
-    }
-}
-
-impl From<WireFault> for RowFault {
-    fn from(_: WireFault) -> RowFault {
-        RowFault::Bad
-    }
-}
-
-impl From<WireError> for RowFault {
-    fn from(error: WireError) -> RowFault {
-        match error {
-            WireError::Fault(_) => RowFault::Bad,
-            WireError::Memory => RowFault::Memory,
-        }
+/// Returns the fault of a row whose bytes are no frame, or for which memory ran out.
+pub fn of_wire(error: WireError) -> RowFault {
+    match error {
+        WireError::Fault(_) => RowFault::Bad,
+        WireError::Memory => RowFault::Memory,
     }
 }

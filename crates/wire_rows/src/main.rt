@@ -15,11 +15,11 @@
 //! printed after `bad row: `.
 #![tactic(auto)]
 
-use fault::RowFault;
 use row::{Row, row_of};
 use std::alloc::Global;
 use std::io;
-use std::io::{BufRead, BufReader, BufWriter, ErrorKind, Write};
+use std::io::{BufRead, BufReader, BufWriter, Write};
+use test_rows::{RowFault, put_answer};
 
 mod devices;
 mod fault;
@@ -32,14 +32,7 @@ fn main(rt: HostRuntime) -> io::Result<()> {
     let mut out = BufWriter::new(alloc, io::writer(&rt))?;
     for text in BufReader::new(alloc, rt.reader())?.lines(alloc) {
         let text = text?;
-        match play(alloc, &text) {
-            Ok(said) => {
-                writeln!(out, "{text}")?;
-                out.write_all(said.as_slice())?;
-            }
-            Err(RowFault::Bad) => writeln!(out, "bad row: {text}")?,
-            Err(RowFault::Memory) => return Err(io::Error::from(ErrorKind::OutOfMemory)),
-        }
+        put_answer(&mut out, &text, play(alloc, &text))?;
     }
     out.flush()
 }

@@ -1,9 +1,9 @@
 //! Frames as they are made and shown.
 
-use super::fault::RowFault;
 use net_frames::{Frame, Message, Numbered, ObjId, Row, Value, WireError, WireFault, encode};
 use std::alloc::Global;
 use std::io::Write;
+use test_rows::RowFault;
 
 /// Prints what a frame says, or how long its body is if that is over 200 bytes.
 pub fn show(said: &mut Vec<u8>, frame: &Frame) -> Result<(), RowFault> {

@@ -2,11 +2,12 @@
 
 ghost use Rattle.std.specs.Prelude.{◌<◌};
 
-use super::fault::RowFault;
+use super::fault::{no_frame, of_wire};
 use super::making::{remade, show};
 use net_frames::{Frame, FrameReader, Numbered, WireError, WireFault, encode};
 use std::alloc::Global;
 use std::io::Write;
+use test_rows::RowFault;
 
 /// Returns the frames that come of the bytes and the fault after them, and says so if other pieces
 /// give others.
@@ -68,9 +69,10 @@ fn feed(
         Ok(frames) => {
             for frame in frames {
                 show(said, &frame)?;
-                let bytes = encode(alloc, &frame)?;
-                let again = remade(frame)?;
-                if encode(alloc, &again)?.as_slice() != bytes.as_slice() {
+                let bytes = encode(alloc, &frame).map_err(of_wire)?;
+                let again = remade(frame).map_err(no_frame)?;
+                let spelled = encode(alloc, &again).map_err(of_wire)?;
+                if spelled.as_slice() != bytes.as_slice() {
                     writeln!(said, "and other bytes from its parts")?;
                 }
             }

@@ -1,9 +1,9 @@
 //! The rows of the input.
 
-use super::fault::RowFault;
 use super::making::{Parts, ints};
 use net_frames::Value;
 use std::alloc::Global;
+use test_rows::RowFault;
 
 /// How a device in memory gives or takes bytes: at most `step` a call, and failing at call `fail`, if
 /// that is not 0.

@@ -6,7 +6,7 @@ use std::io;
 /// Why a row is not played.
 #[derive(Clone, Copy, Debug)]
 pub enum RowFault {
-    /// It is no row, or asks for a task that is not in hand.
+    /// It is no row of its program, or names what is not there.
     Bad,
     /// Memory ran out.
     Memory,
