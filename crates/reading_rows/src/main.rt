@@ -1,4 +1,4 @@
-//! Reads code and texts of class files as the rows on the standard input say, and prints what came of each.
+//! Reads code and texts of class files, and makes digests of files, as the rows on the standard input say, and prints what came of each.
 //! So a further test case is a row.
 //!
 //! | A row | What it prints |
@@ -9,6 +9,7 @@
 //! | `name TEXT` | whether the text, or none, is a name, one of a method, and one of a class |
 //! | `descriptor TEXT` | whether the text, or none, is the descriptor of a field or of a method |
 //! | `dimensions N` | the same of an array of ints of N dimensions |
+//! | `digest NAME BYTES NAME BYTES` | the digest of two class files of these classes |
 //!
 //! BYTES are words in hex digits, or none. A row that is none of these is printed after `bad row: `.
 #![tactic(auto)]

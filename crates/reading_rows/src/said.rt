@@ -5,6 +5,7 @@ use cf_text::{
     Descriptor, Numbered, Text, descriptor, is_class_name, is_method_name, is_modified_utf8,
     is_name,
 };
+use sp_digest::{NamedFile, digest_of};
 use std::alloc::Global;
 use std::io::Write;
 use test_rows::RowFault;
@@ -24,6 +25,7 @@ pub fn said_of(alloc: Global, text: &str) -> Result<Vec<u8>, RowFault> {
         "name" => name(alloc, rest.as_bytes()),
         "descriptor" => described(alloc, rest.as_bytes().to_vec(alloc)?),
         "dimensions" => dimensions(alloc, rest),
+        "digest" => digest(alloc, rest),
         _ => Err(RowFault::Bad),
     }
 }
@@ -86,4 +88,43 @@ fn dimensions(alloc: Global, word: &str) -> Result<Vec<u8>, RowFault> {
     let mut text = vec![in alloc; b'['; count]?;
     text.push(b'I')?;
     described(alloc, text)
+}
+
+fn digest(alloc: Global, words: &str) -> Result<Vec<u8>, RowFault> {
+    let words: Vec<&str> = words.split(' ').collect(alloc)?;
+    match words.as_slice() {
+        [name, bytes, other_name, other_bytes] => digest_of_two(
+            alloc,
+            name,
+            &bytes_of(alloc, bytes)?,
+            other_name,
+            &bytes_of(alloc, other_bytes)?,
+        ),
+        _ => Err(RowFault::Bad),
+    }
+}
+
+fn digest_of_two(
+    alloc: Global,
+    name: &str,
+    bytes: &[u8],
+    other_name: &str,
+    other_bytes: &[u8],
+) -> Result<Vec<u8>, RowFault> {
+    if bytes.len() > 1_000 || other_bytes.len() > 1_000 {
+        return Err(RowFault::Bad);
+    }
+    let files = [
+        NamedFile {
+            name: name.as_bytes(),
+            bytes,
+        },
+        NamedFile {
+            name: other_name.as_bytes(),
+            bytes: other_bytes,
+        },
+    ];
+    let mut said = Vec::new(alloc);
+    writeln!(said, "{}", hex::encode(alloc, digest_of(alloc, &files)?)?)?;
+    Ok(said)
 }
