@@ -6,9 +6,9 @@
 //! ends the script; any other event that the space refuses changes nothing.
 #![tactic(auto)]
 
-pub use fault::{PlayFault, ScriptFault};
+use fault::PlayFault;
+pub use fault::ScriptFault;
 pub use played::{Played, Start};
-pub use player::Player;
 pub use script::play_script;
 
 mod fault;
