@@ -45,9 +45,10 @@ module _ (program : Links) (g : Setting) (first : Event) (fuel : ℕ) (space aft
   its-step : IsStep program g b.history 1 after outputs
       → (outputs ≡ answers_to g b.history (step_events 1 b.task.task)) × IsSpace program g (grown b.history (step_events 1 b.task.task)) after
   its-step is =
-      let same : is.task ≡ b.task = ap (λ o. unwrap_or o is.task) (sym is.lives ∙ there) in
-      (is.answers ∙ ap (λ (t : Living). answers_to g b.history (step_events 1 t.task)) same,
-      subst (λ (t : Living). IsSpace program g (grown b.history (step_events 1 t.task)) after) same is.space)
+      let same : is.task ≡ b.task = ap (λ o. unwrap_or o is.task) (sym is.lives ∙ there) in (
+        is.answers ∙ ap (λ (t : Living). answers_to g b.history (step_events 1 t.task)) same,
+        subst (λ (t : Living). IsSpace program g (grown b.history (step_events 1 t.task)) after) same is.space,
+      )
 
   pub went : IsStepBy program g b.history (lowest_ready [] (state_of g b.history)) after outputs → Went program g first fuel after outputs
   went by-lowest =
