@@ -103,16 +103,15 @@ fn play(program: &Program, space: Space, fuel: u64) -> Result<Outcome, Refusal>
     }
 }
 
-// How the first task that has ended by these outputs has done so, if one has.
+// How the task has ended by a step that answers these outputs, if it has.
 fn ended(outputs: Vec<Output>) -> Option<Outcome>
     ensures { (end : Option Outcome) → map output_of outputs.items ≡ answer_of end → result ≡ end }
 {
-    for output in outputs {
-        if let Output::Ended(_, outcome) = output {
-            return Some(told(outcome));
-        }
+    let mut outputs = outputs;
+    match outputs.pop() {
+        Some(Output::Ended(_, outcome)) => Some(told(outcome)),
+        _ => None,
     }
-    None
 }
 
 fn told(outcome: sp_core::Outcome) -> Outcome
