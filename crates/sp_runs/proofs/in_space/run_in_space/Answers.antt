@@ -30,19 +30,24 @@ play-requires c =
 
 pub returns-clause-run : goal.returns-clause-run
 returns-clause-run c =
-    let (g, first, goes) = play-requires c in
+    let g : Setting = setting_of c.args.program.now zero_bytes c.args.limits in
+    let stands = new-stands c.args.program.now c.args.limits c.nil.result c.in_ok-space.space c.nil.ensures c.spaces_run_on.ensures c.in_ok-space.ensures in
+    let goes = root-goes c.args.program.now g c.args.method.0 c.args.arguments.items c.args.limits.fuel c.root.new.self refl ((c.in-Ok.ensures).happened g [] stands).space in
     record {
-      setting = setting_of c.args.program.now zero_bytes c.args.limits;
+      setting = g;
       classes = refl;
       id = refl;
       digest = refl;
       within = its-limits c.args.program.now zero_bytes c.args.limits;
       end = c.in_ok-outcome.outcome;
-      ends = (c.in_ok-outcome.ensures).ends (setting_of c.args.program.now zero_bytes c.args.limits) (Root c.args.method.0 c.args.arguments.items c.args.limits.fuel) goes;
+      ends = (c.in_ok-outcome.ensures).ends g (Root c.args.method.0 c.args.arguments.items c.args.limits.fuel) goes;
       named = c.in_ok-named.ensures;
     }
 
 pub returns-clause-only : goal.returns-clause-only
 returns-clause-only c = λ outcome runs.
+    let g : Setting = setting_of c.args.program.now zero_bytes c.args.limits in
+    let stands = new-stands c.args.program.now c.args.limits c.nil.result c.in_ok-space.space c.nil.ensures c.spaces_run_on.ensures c.in_ok-space.ensures in
+    let goes = root-goes c.args.program.now g c.args.method.0 c.args.arguments.items c.args.limits.fuel c.root.new.self refl ((c.in-Ok.ensures).happened g [] stands).space in
     one-run c.args.program.now c.args.method c.args.arguments.items c.args.limits outcome runs c.in_ok-outcome.outcome c.in_ok-named.field-0 c.in_ok-named.ensures
-    ((c.in_ok-outcome.ensures).only (setting_of c.args.program.now zero_bytes c.args.limits) (Root c.args.method.0 c.args.arguments.items c.args.limits.fuel) (play-requires c).2)
+    ((c.in_ok-outcome.ensures).only g (Root c.args.method.0 c.args.arguments.items c.args.limits.fuel) goes)
