@@ -1,16 +1,14 @@
 -- A space whose only task goes on: one step of it.
-use Rattle.std.proofs.Common.{◌≡◌, ℕ, ◌+◌, ◌-◌, ◌≤◌, List, [], ◌∷◌, Option, None, Some, refl, sym, ap, subst, ◌∙◌, arith}
+use Rattle.std.proofs.Common.{◌≡◌, ℕ, ◌-◌, ◌≤◌, List, [], Option, None, Some, sym, ap, subst, ◌∙◌, arith}
 use Rattle.std.specs.Prelude.{not, find, ◌==◌, ◌||◌, option_map, unwrap_or}
 use Rattle.std.specs.List.{list_any}
 use Rattle.cls_link.specs.Links.{Links}
 use Rattle.sp_rules.specs.Classes.{Setting}
-use Rattle.sp_rules.specs.Events.{Event, Output, Ended}
-use Rattle.sp_rules.specs.Origins.{IsTaken}
+use Rattle.sp_rules.specs.Events.{Event, Output}
 use Rattle.sp_rules.specs.Space.{state_of}
 use Rattle.sp_rules.specs.State.{State, Living, task_at}
 use Rattle.sp_rules.specs.Worlds.{step_events}
 use Rattle.sp_core.specs.Shown.{lowest_ready}
-use Rattle.sp_behaviours.specs.Behaviours.{told}
 use Rattle.sp_space.specs.Machines.{machine_at}
 use Rattle.sp_space.specs.Spaces.{IsPlayed, IsPlayedBy, IsSpace, IsStep, IsStepBy, answers_to, grown}
 use Rattle.sp_space.specs.declared.space.Space.{Space}

@@ -1,14 +1,11 @@
 //! A method that runs as the only root of a space.
 
-ghost use Rattle.std.specs.Prelude.{◌≡◌, ◌⊎◌, ◌+◌, ◌^◌, ◌<◌, ℕ, true, false, List, [], ◌∷◌, Option, IfNone, IfOk, IfErr, IfSome, map};
-ghost use Rattle.cls_link.specs.Links.{Links};
-ghost use Rattle.cls_link.specs.declared.linked_code.MethodId.{MethodId as Method};
-ghost use Rattle.space_ids.specs.declared.value.Value.{Value as Argument};
+ghost use Rattle.std.specs.Prelude.{◌≡◌, ◌+◌, ◌^◌, ◌<◌, true, false, List, Option, IfOk, IfErr, map};
 ghost use Rattle.sp_behaviours.specs.Behaviours.{told as told_to_space};
 ghost use Rattle.sp_classes.specs.Classes.{classes_of};
 ghost use Rattle.sp_core.specs.Events.{output_of};
 ghost use Rattle.sp_rules.specs.Classes.{Setting};
-ghost use Rattle.sp_rules.specs.Events.{Event, Output as Answer, Ended, Root};
+ghost use Rattle.sp_rules.specs.Events.{Event};
 ghost use Rattle.sp_space.specs.Spaces.{RunsOn};
 ghost use Rattle.sp_tasks.specs.Behaviours.{outcome_of};
 ghost use Rattle.vm_run.specs.Run.{HasNoRemote};

@@ -1,4 +1,4 @@
-use Rattle.std.proofs.Common.{◌≡◌, ◌∙◌, List, ap, arith, sym, subst}
+use Rattle.std.proofs.Common.{◌≡◌, ◌∙◌, List, ap, arith, subst}
 use Rattle.cls_link.specs.Links.{Links}
 use Rattle.cls_set.specs.Subtypes.{IsRemote}
 use Rattle.cls_set.specs.declared.class.Class.{Class}

@@ -1,8 +1,5 @@
 use Rattle.std.proofs.Common.{arith, map}
 use Rattle.sp_core.specs.Events.{output_of}
-use Rattle.sp_rules.specs.Classes.{Setting}
-use Rattle.sp_rules.specs.Events.{Event}
-use Rattle.sp_runs.specs.Going.{GoesOn}
 use Rattle.sp_runs.proofs.SpaceGoes.{told-end, told-none, went}
 use Rattle.sp_runs.proofs.in_space.play.Goals as goal
 

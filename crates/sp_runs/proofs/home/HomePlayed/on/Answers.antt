@@ -1,8 +1,6 @@
 use Rattle.std.proofs.Common.{◌≡◌, map}
 use Rattle.sp_classes.specs.Classes.{classes_of}
 use Rattle.sp_core.specs.Events.{event_of, output_of}
-use Rattle.sp_core.specs.declared.event.Output.{Output}
-use Rattle.std.specs.declared.vec.Vec.{Vec}
 use Rattle.sp_runs.proofs.Homes.{after_event}
 use Rattle.sp_runs.proofs.home.HomePlayed.on.Goals as goal
 
