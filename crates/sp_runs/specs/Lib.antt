@@ -1,2 +1,6 @@
+pub mod Outcomes
+pub mod InSpace
 pub mod Runs
 pub mod Only
+pub mod Homes
+pub mod Going

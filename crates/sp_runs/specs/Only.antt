@@ -18,7 +18,6 @@ IsReadOut fault = fault ≡ load.Read read.Memory
 abbrev pub IsOutOfMemory : Refusal → Type 0
 IsOutOfMemory (refusal.File index fault) = IsReadOut fault
 IsOutOfMemory (refusal.Set fault) = fault ≡ set.Memory
-IsOutOfMemory (refusal.Remote class) = ⊥
 IsOutOfMemory (refusal.Link fault) = fault ≡ link.Memory
 IsOutOfMemory (refusal.Check fault) = fault ≡ check.Memory
 IsOutOfMemory (refusal.Start fault) = fault ≡ start.Memory

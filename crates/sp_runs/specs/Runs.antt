@@ -1,5 +1,5 @@
 -- What it means that class files run: from their bytes to how the method ends, each layer by its own definition.
-use Rattle.std.specs.Prelude.{◌≡◌, ◌≢◌, ◌+◌, ◌==◌, ℕ, Bool, MatchBool, Option, Some, None, Ok, Err, List, take, drop, length, nat_le, slice_get, option_map}
+use Rattle.std.specs.Prelude.{◌≡◌, ◌≢◌, ◌⊎◌, ◌+◌, ◌==◌, ℕ, Bool, Option, Some, None, Ok, Err, List, [], take, drop, slice_get, option_map}
 use Rattle.std.specs.List.{AllZip, position}
 use Rattle.cf_reader.specs.declared.class_file.ClassFile.{ClassFile}
 use Rattle.cf_layout.specs.declared.items.Layout.{Layout}
@@ -18,11 +18,13 @@ use Rattle.cls_set.specs.Faults.{IsSetFault, MakeASet}
 use Rattle.cls_set.specs.Sets.{HasClasses, IsClassSet}
 use Rattle.cls_set.specs.declared.fault.SetFault.{SetFault}
 use Rattle.cls_set.specs.declared.class.Class.{Class}
+use Rattle.sp_rules.specs.References.{references_of}
+use Rattle.sp_runs.specs.InSpace.{RunsInSpace}
+use Rattle.sp_runs.specs.Outcomes.{IsTold}
 use Rattle.sp_runs.specs.declared.running.ClassBytes.{ClassBytes}
 use Rattle.sp_runs.specs.declared.running.Content.{Content}
 use Rattle.sp_runs.specs.declared.running.Content.TheVariants.{Bytes, Unreadable}
 use Rattle.sp_runs.specs.declared.running.RunOutcome.{RunOutcome}
-use Rattle.sp_runs.specs.declared.running.RunOutcome.TheVariants as told
 use Rattle.sp_runs.specs.declared.refusal.Refusal.{Refusal}
 use Rattle.sp_runs.specs.declared.refusal.Refusal.TheVariants as refusal
 use Rattle.uuid.specs.Parts.{zero_bytes}
@@ -31,14 +33,11 @@ use Rattle.ver_check.specs.Faults.{IsCheckFault}
 use Rattle.ver_rules.specs.declared.fault.CheckFault.{CheckFault}
 use Rattle.space_ids.specs.declared.ids.ClassId.{ClassId}
 use Rattle.space_ids.specs.declared.value.Value.{Value}
-use Rattle.space_ids.specs.declared.value.Value.TheVariants as value
-use Rattle.vm_run.specs.Ends.{End, ReturnedNothing, ReturnedInt, ReturnedNull, ReturnedInts, ReturnedObject, ReturnedRemote, Threw, ThrewObject, Spent}
+use Rattle.vm_run.specs.Ends.{End}
 use Rattle.vm_run.specs.Limited.{KeepsWithin}
 use Rattle.vm_run.specs.Run.{HasNoRemote, Over, made, run, IsNeverStuck}
 use Rattle.vm_run.specs.Start.{started}
-use Rattle.vm_run.specs.Task.{Tasked, most_elements, thrown_name, unmarshalled}
-use Rattle.vm_run.specs.declared.outcome.Outcome.{Outcome}
-use Rattle.vm_run.specs.declared.outcome.Outcome.TheVariants as outcome
+use Rattle.vm_run.specs.Task.{Tasked}
 use Rattle.vm_run.specs.declared.fault.StartFault.{StartFault}
 use Rattle.vm_run.specs.declared.fault.StartFault.TheVariants as start
 use Rattle.vm_run.specs.declared.limits.Limits.{Limits}
@@ -68,6 +67,19 @@ IsNotRun program method arguments limits (refusal.Start fault) = IsStartFault pr
 IsNotRun program method arguments limits refusal.Memory = Unit {0}
 IsNotRun program method arguments limits _ = ⊥
 
+-- A reference is among the arguments of a method that would start: no object stands in a new space that it could name.
+pub record PassesReference (program : Links) (method : MethodId) (arguments : List Value) (limits : Limits) (fault : StartFault) : Type 0 where
+  pub task : Tasked
+  pub starts : started program zero_bytes method arguments limits ≡ Ok task
+  pub references : references_of arguments ≢ []
+  pub fault : fault ≡ start.BadArgument
+
+-- why a method of a program does not run in a new space, out of memory apart
+abbrev pub IsNotRunInSpace : Links → MethodId → List Value → Limits → Refusal → Type 0
+IsNotRunInSpace program method arguments limits (refusal.Start fault) = IsStartFault program method arguments limits fault ⊎ PassesReference program method arguments limits fault
+IsNotRunInSpace program method arguments limits refusal.Memory = Unit {0}
+IsNotRunInSpace program method arguments limits _ = ⊥
+
 -- the class files that the files spell, as one linked class set in which every method is type safe (JVMS 4.10.1)
 pub record IsProgram (files : List ClassBytes) (program : Links) : Type 0 where
   pub classes : List ClassFile
@@ -94,30 +106,6 @@ pub data NamesMethod (program : Links) (class text : List ℕ) : Option MethodId
       → Resolves program.classes holder (take index text) (own_method program.classes (take index text) (drop index text)) found
       → NamesMethod program class text (option_map (number_in program.classes) found)
 
--- the class of this number was thrown, by its name in the set
-abbrev pub ThrewClass : List Class → ClassId → RunOutcome → Type 0
-ThrewClass classes class outcome = (name : List ℕ) × (outcome ≡ told.Threw name) × (sets.name_at classes class ≡ Some name)
-
--- how a task ended, as it is printed: an array by its elements, if there are not too many, and a thrown class by its name. A longer
--- array and an object of the task's own heap cannot cross, and a MarshalException is thrown in their place
-abbrev pub IsTold : List Class → End → RunOutcome → Type 0
-IsTold classes ReturnedNothing outcome = outcome ≡ told.Returned None
-IsTold classes (ReturnedInt n) outcome = outcome ≡ told.Returned (Some (value.Int n))
-IsTold classes ReturnedNull outcome = outcome ≡ told.Returned (Some value.Null)
-IsTold classes (ReturnedInts elements) outcome =
-    MatchBool (nat_le (length elements) most_elements) (outcome ≡ told.Returned (Some (value.Ints elements))) (outcome ≡ told.Threw unmarshalled)
-IsTold classes (ReturnedObject class) outcome = outcome ≡ told.Threw unmarshalled
-IsTold classes (ReturnedRemote reference) outcome = outcome ≡ told.Returned (Some (value.Ref reference))
-IsTold classes (Threw thrown) outcome = outcome ≡ told.Threw (thrown_name thrown)
-IsTold classes (ThrewObject class) outcome = ThrewClass classes class outcome
-IsTold classes Spent outcome = outcome ≡ told.Spent
-
--- an outcome with the name of a class instead of its number
-abbrev pub IsNamed : List Class → Outcome → RunOutcome → Type 0
-IsNamed classes (outcome.Returned value) named = named ≡ told.Returned value
-IsNamed classes (outcome.Threw class) named = ThrewClass classes class named
-IsNamed classes outcome.Spent named = named ≡ told.Spent
-
 -- The tagged machine (JVMS 6.5), of all instructions of the profile, runs a method of a program from its opening state to this outcome: it
 -- is never stuck, keeps the running frame and those of all its callers within max_stack and max_locals, and makes no more instructions
 -- than it has fuel for.
@@ -133,25 +121,15 @@ pub record Runs (program : Links) (method : MethodId) (arguments : List Value) (
   pub fuel : made program steps task.state + left ≡ limits.fuel
   pub told : IsTold program.classes end outcome
 
--- the files make a program, and its method of this class, name and descriptor runs to this outcome
+-- The files make a program, and its method of this class, name and descriptor runs to this outcome: alone, or in a set with remote classes as
+-- the only root of a new space.
 pub record IsRun (files : List ClassBytes) (class text : List ℕ) (arguments : List Value) (limits : Limits) (outcome : RunOutcome) : Type 0 where
   pub program : Links
   pub is_program : IsProgram files program
   pub method : MethodId
   pub named : NamesMethod program class text (Some method)
-  pub runs : Runs program method arguments limits outcome
-
--- the files make a program, in which a class is remote
-pub record HasRemote (files : List ClassBytes) : Type 0 where
-  pub program : Links
-  pub is_program : IsProgram files program
-  pub remote : ¬ HasNoRemote program.classes
-
--- a refusal of a method of a program: it does not start, or memory ran out
-abbrev pub IsOfStart : Refusal → Type 0
-IsOfStart (refusal.Start fault) = Unit {0}
-IsOfStart refusal.Memory = Unit {0}
-IsOfStart _ = ⊥
+  pub alone : HasNoRemote program.classes → Runs program method arguments limits outcome
+  pub in_space : ¬ HasNoRemote program.classes → RunsInSpace program method arguments limits outcome
 
 -- why files are not read: the first at fault, and those before it spell class files
 pub data IsUnread (files : List ClassBytes) : Refusal → Type 0 where
@@ -168,11 +146,13 @@ pub data IsNoProgram (files : List ClassBytes) : Refusal → Type 0 where
   not_safe : (classes : List ClassFile) (linked : Links) (fault : CheckFault) → AreSpelled files classes → HasClasses classes linked.classes → AreLinks linked
       → IsCheckFault linked fault → IsNoProgram files (refusal.Check fault)
 
--- why a method does not run: the files make no program, or it has no such method, or that does not start with these arguments. It may be
--- out of memory instead of any answer
+-- why a method does not run: the files make no program, or it has no such method, or that does not start with these arguments; or it is to
+-- run in a space, and one of them is a reference. It may be out of memory instead of any answer
 pub data IsRefused (files : List ClassBytes) (class text : List ℕ) (arguments : List Value) (limits : Limits) : Refusal → Type 0 where
   no_program : (refused : Refusal) → IsNoProgram files refused → IsRefused files class text arguments limits refused
   absent : (program : Links) → IsProgram files program → NamesMethod program class text None → IsRefused files class text arguments limits (refusal.Start start.AbsentMethod)
   not_started : (program : Links) (method : MethodId) (fault : StartFault) → IsProgram files program → NamesMethod program class text (Some method)
       → IsStartFault program method arguments limits fault → IsRefused files class text arguments limits (refusal.Start fault)
+  passes_reference : (program : Links) (method : MethodId) (fault : StartFault) → IsProgram files program → ¬ HasNoRemote program.classes
+      → NamesMethod program class text (Some method) → PassesReference program method arguments limits fault → IsRefused files class text arguments limits (refusal.Start fault)
   no_memory : IsRefused files class text arguments limits refusal.Memory

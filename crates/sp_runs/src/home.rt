@@ -1,8 +1,14 @@
 //! A space with the program that its tasks run.
 
-ghost use Rattle.std.specs.Prelude.{◌+◌, ◌<◌, ◌^◌};
+ghost use Rattle.std.specs.Prelude.{◌≡◌, ◌+◌, ◌<◌, ◌^◌, List, [], IfOk};
+ghost use Rattle.sp_classes.specs.Classes.{classes_of};
+ghost use Rattle.sp_rules.specs.Classes.{Setting};
+ghost use Rattle.sp_runs.specs.Homes.{IsHome, IsHomeAt};
+ghost use Rattle.sp_runs.specs.Runs.{IsProgram};
+ghost use Rattle.sp_space.specs.Spaces.{AreLimits};
 
-use crate::running::find_named;
+use crate::in_space::spaces_run_on;
+use crate::running::{ClassBytes, find_named};
 use sim_player::{Played, Start};
 use sp_classes::SpaceClasses;
 use sp_core::{CoreFault, Event, Output, Shown, StartFault};
@@ -29,7 +35,11 @@ impl<'a> Home<'a> {
         limits: Limits,
     ) -> Result<Home<'a>, AllocError>
         requires memory { limits.heap_words + 65536 < 2 ^ 32 }
+        requires program { (files : List ClassBytes) × IsProgram files program.now }
+        ensures stands { IfOk result IsHome }
+        ensures fresh { IfOk result (λ home. (g : Setting) → g.classes ≡ classes_of program.now → g.id ≡ id → AreLimits g limits → IsHomeAt program.now g [] home) }
     {
+        spaces_run_on(program);
         Ok(Home {
             alloc,
             program,
@@ -39,6 +49,8 @@ impl<'a> Home<'a> {
 }
 
 impl<'a> Played for Home<'a> {
+    ghost stands = { IsHome };
+
     fn on(&mut self, event: &Event) -> Result<Vec<Output>, CoreFault> {
         self.space.on(event)
     }

@@ -1,19 +1,33 @@
 //! A method that runs as the only root of a space.
 
-ghost use Rattle.std.specs.Prelude.{◌≡◌, ◌+◌, ◌^◌, ◌<◌, true, false, IfErr};
+ghost use Rattle.std.specs.Prelude.{◌≡◌, ◌⊎◌, ◌+◌, ◌^◌, ◌<◌, ℕ, true, false, List, [], ◌∷◌, Option, IfNone, IfOk, IfErr, IfSome, map};
+ghost use Rattle.cls_link.specs.Links.{Links};
+ghost use Rattle.cls_link.specs.declared.linked_code.MethodId.{MethodId as Method};
+ghost use Rattle.space_ids.specs.declared.value.Value.{Value as Argument};
+ghost use Rattle.sp_behaviours.specs.Behaviours.{told as told_to_space};
+ghost use Rattle.sp_classes.specs.Classes.{classes_of};
+ghost use Rattle.sp_core.specs.Events.{output_of};
+ghost use Rattle.sp_rules.specs.Classes.{Setting};
+ghost use Rattle.sp_rules.specs.Events.{Event, Output as Answer, Ended, Root};
+ghost use Rattle.sp_space.specs.Spaces.{RunsOn};
+ghost use Rattle.sp_tasks.specs.Behaviours.{outcome_of};
 ghost use Rattle.vm_run.specs.Run.{HasNoRemote};
-ghost use Rattle.sp_runs.specs.Runs.{IsOfStart};
+ghost use Rattle.vm_run.specs.Task.{IsOfSet};
+ghost use Rattle.sp_runs.specs.Going.{GoesOn, IsGoing, answer_of, refusal_at};
+ghost use Rattle.sp_runs.specs.InSpace.{EndsAs, RunsInSpace};
+ghost use Rattle.sp_runs.specs.Runs.{IsNotRunInSpace, IsProgram};
 
 use crate::Refusal;
-use crate::running::{RunOutcome, named};
+use crate::running::{ClassBytes, RunOutcome, named};
 use sp_classes::SpaceClasses;
 use sp_core::{CoreFault, Output};
+use sp_set_laws::sets::spaces_run_on_sets;
 use sp_space::Space;
 use space_ids::{ClassId, Uuid, Value};
 use std::alloc::Global;
 use vm_run::{Limits, MethodId, Outcome, Program, StartFault};
 
-// Whether a class of the program is remote.
+/// Whether a class of the program is remote.
 pub(crate) fn has_remote(program: &Program) -> bool
     ensures none { result ≡ false → HasNoRemote program.now.classes }
     ensures one { result ≡ true → ¬ HasNoRemote program.now.classes }
@@ -27,8 +41,19 @@ pub(crate) fn has_remote(program: &Program) -> bool
     false
 }
 
+/// Spaces run on the class set of a program.
+pub(crate) fn spaces_run_on(program: &Program)
+    requires { (files : List ClassBytes) × IsProgram files program.now }
+    ensures { (g : Setting) → g.classes ≡ classes_of program.now → RunsOn program.now g }
+{
+    let _program = program;
+    spaces_run_on_sets();
+}
+
 /// Runs the method as the only root of a new space of id 0, and returns how it ended. `Refusal::Start` if it
-/// does not start with these arguments. The limits' heap words are below 2^32 - 2^16.
+/// does not start with these arguments, and with `StartFault::BadArgument` if one of them is a reference: a
+/// new space has no object. It may be out of memory instead of any answer. The limits' heap words are below
+/// 2^32 - 2^16.
 pub fn run_in_space(
     alloc: Global,
     program: &Program,
@@ -37,30 +62,46 @@ pub fn run_in_space(
     limits: Limits,
 ) -> Result<RunOutcome, Refusal>
     requires memory { limits.heap_words + 65536 < 2 ^ 32 }
-    ensures refused { IfErr result IsOfStart }
+    requires program { (files : List ClassBytes) × IsProgram files program.now }
+    ensures run { IfOk result (RunsInSpace program.now method arguments.items limits) }
+    ensures refused { IfErr result (IsNotRunInSpace program.now method arguments.items limits) }
 {
+    spaces_run_on(program);
     let mut space = Space::new(alloc, Uuid::nil(), limits)?;
     match space.root(program, method, arguments, limits.fuel) {
         Ok(_) => {}
         Err(fault) => return Err(refusal_of(fault)),
     }
-    let classes = SpaceClasses { program };
-    // Each step takes a unit of fuel, or ends the task, so there are fewer than these.
-    for _ in 0..u64::MAX {
-        match space.step(program, &classes) {
-            Ok(outputs) => {
-                if let Some(outcome) = ended(outputs) {
-                    return Ok(named(program, outcome)?);
-                }
-            }
-            Err(fault) => return Err(refusal_of(fault)),
-        }
-    }
-    Ok(RunOutcome::Spent)
+    let outcome = play(program, space, limits.fuel)?;
+    Ok(named(program, outcome)?)
 }
 
-// How the task ended, if it has.
-fn ended(outputs: Vec<Output>) -> Option<Outcome> {
+// Lets the only task of a space go on to its end, and returns how it ended. It has this fuel.
+fn play(program: &Program, space: Space, fuel: u64) -> Result<Outcome, Refusal>
+    requires { IsGoing program.now fuel space }
+    ensures ends { IfOk result (λ outcome. (g : Setting) (first : Event) → GoesOn program.now g first fuel space → EndsAs g first outcome) }
+    ensures of_set { IfOk result (IsOfSet program.now.classes) }
+    ensures refused { IfErr result (λ refusal. refusal ≡ Refusal.Memory) }
+{
+    let classes = SpaceClasses { program };
+    let mut space = space;
+    let mut left = fuel;
+    loop {
+        let Ok(outputs) = space.step(program, &classes) else {
+            return Err(Refusal::Memory);
+        };
+        if let Some(outcome) = ended(outputs) {
+            return Ok(outcome);
+        }
+        // A step that does not end the task takes a unit of its fuel.
+        left -= 1;
+    }
+}
+
+// How the first task that has ended by these outputs has done so, if one has.
+fn ended(outputs: Vec<Output>) -> Option<Outcome>
+    ensures { (end : Option Outcome) → map output_of outputs.items ≡ answer_of end → result ≡ end }
+{
     for output in outputs {
         if let Output::Ended(_, outcome) = output {
             return Some(told(outcome));
@@ -69,7 +110,9 @@ fn ended(outputs: Vec<Output>) -> Option<Outcome> {
     None
 }
 
-fn told(outcome: sp_core::Outcome) -> Outcome {
+fn told(outcome: sp_core::Outcome) -> Outcome
+    ensures { told_to_space result ≡ outcome_of outcome }
+{
     match outcome {
         sp_core::Outcome::Returned(value) => Outcome::Returned(value),
         sp_core::Outcome::Threw(class) => Outcome::Threw(class),
@@ -77,10 +120,10 @@ fn told(outcome: sp_core::Outcome) -> Outcome {
     }
 }
 
-// Why the space does not start the root, or makes no step. It refuses the only root of a new space for what
-// the class set says alone, since the root passes no references and has no more fuel than the limits say.
+// Why a new space does not start the root. Beside the start itself it refuses references alone: the root has
+// no more fuel than the limits say, and no other task lives.
 fn refusal_of(fault: CoreFault) -> Refusal
-    ensures { IsOfStart result }
+    ensures { result ≡ refusal_at fault }
 {
     match fault {
         CoreFault::Start(sp_core::StartFault::AbsentMethod) => {
@@ -89,9 +132,9 @@ fn refusal_of(fault: CoreFault) -> Refusal
         CoreFault::Start(sp_core::StartFault::BadSignature) => {
             Refusal::Start(StartFault::BadSignature)
         }
-        CoreFault::Start(sp_core::StartFault::BadArgument) => Refusal::Start(
-            StartFault::BadArgument,
-        ),
+        CoreFault::Start(sp_core::StartFault::BadArgument) | CoreFault::NotHeld => {
+            Refusal::Start(StartFault::BadArgument)
+        }
         _ => Refusal::Memory,
     }
 }

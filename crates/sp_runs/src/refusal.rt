@@ -4,7 +4,6 @@ ghost use Rattle.std.specs.Prelude.{◌≡◌};
 ghost use Rattle.sp_runs.specs.declared.refusal.Refusal.TheVariants as refusal;
 
 use cf_load::LoadFault;
-use cf_reader::Text;
 use cls_link::LinkFault;
 use cls_set::SetFault;
 use std::alloc::{AllocError, AllocFailed};
@@ -18,8 +17,6 @@ pub enum Refusal {
     File { index: usize, fault: LoadFault },
     /// The files make no class set.
     Set(SetFault),
-    /// The class of this name is remote, and nothing runs remote objects yet.
-    Remote(Text),
     /// A method's code does not link.
     Link(LinkFault),
     /// A method is not type safe.

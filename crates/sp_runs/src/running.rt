@@ -9,7 +9,8 @@ ghost use Rattle.cls_search.specs.MethodSearches.{method_in};
 ghost use Rattle.vm_run.specs.Run.{HasNoRemote};
 ghost use Rattle.vm_run.specs.Task.{IsOfSet};
 ghost use Rattle.sp_runs.specs.Only.{IsOutOfMemory, IsReadOut, OnlyGives};
-ghost use Rattle.sp_runs.specs.Runs.{AreSpelled, HasRemote, IsFileFault, IsNamed, IsNoProgram, IsNotRun, IsOfStart, IsProgram, IsRefused, IsRun, IsSpelled, IsUnread, NamesMethod, Runs, is_parenthesis};
+ghost use Rattle.sp_runs.specs.Outcomes.{IsNamed};
+ghost use Rattle.sp_runs.specs.Runs.{AreSpelled, IsFileFault, IsNoProgram, IsNotRun, IsProgram, IsRefused, IsRun, IsSpelled, IsUnread, NamesMethod, Runs, is_parenthesis};
 
 use crate::Refusal;
 use crate::in_space::{has_remote, run_in_space};
@@ -52,10 +53,10 @@ pub enum RunOutcome {
 }
 
 /// Runs the static method of this name and descriptor, as `f(I)I`, over the class set of the files,
-/// and returns how it ended. Method resolution finds it, so the class may inherit it (JVMS 5.4.3.3).
+/// and returns how it ended. Method resolution finds it, so the class may inherit it (JVMS 5.4.3.3). In a set
+/// with remote classes it is the only root of a new space of id 0.
 /// The first refusal counts: files in order, then the set, links, checks, and the start. It may be out of
-/// memory instead of any answer. The limits' heap words are below 2^32 - 2^16. In a set with remote classes
-/// the method is the only root of a space of id 0.
+/// memory instead of any answer. The limits' heap words are below 2^32 - 2^16.
 pub fn run_classes(
     alloc: Global,
     files: &[ClassBytes],
@@ -65,16 +66,16 @@ pub fn run_classes(
     limits: Limits,
 ) -> Result<RunOutcome, Refusal>
     requires memory { limits.heap_words + 65536 < 2 ^ 32 }
-    // From the bytes to the outcome: the classes that the bytes spell are type safe, and, if none of them is
-    // remote, the tagged machine of all instructions runs the method to this end, never stuck and within its
-    // bounds.
-    ensures run { IfOk result (λ outcome. IsRun files.now class.now method.now arguments.items limits outcome ⊎ HasRemote files.now) }
+    // From the bytes to the outcome: the classes that the bytes spell are type safe, and the tagged machine of
+    // all instructions runs the method to this end, never stuck and within its bounds; in a set with remote
+    // classes a space does, as the rules of spaces say.
+    ensures run { IfOk result (IsRun files.now class.now method.now arguments.items limits) }
     // A refusal says what is wrong, and nothing before it is wrong.
-    ensures refused { IfErr result (λ refusal. IsRefused files.now class.now method.now arguments.items limits refusal ⊎ (HasRemote files.now × IsOfStart refusal)) }
+    ensures refused { IfErr result (IsRefused files.now class.now method.now arguments.items limits) }
     // If the files make a program without remote classes and its method runs to an outcome, no other is
     // answered, and no refusal but out of memory.
-    ensures only { (outcome : RunOutcome)
-        → (HasRemote files.now → ⊥)
+    ensures only { (outcome : RunOutcome) (program : Links)
+        → IsProgram files.now program → HasNoRemote program.classes
         → IsRun files.now class.now method.now arguments.items limits outcome
         → OnlyGives outcome IsOutOfMemory result }
 {

@@ -1,0 +1,47 @@
+-- A space whose only task goes on. (This project's own.)
+use Rattle.std.specs.Prelude.{◌≡◌, ℕ, List, [], ◌∷◌, Option, Some, None}
+use Rattle.cls_link.specs.Links.{Links}
+use Rattle.sp_behaviours.specs.Behaviours.{told}
+use Rattle.sp_classes.specs.Classes.{classes_of}
+use Rattle.sp_core.specs.declared.fault.CoreFault.{CoreFault}
+use Rattle.sp_core.specs.declared.fault.CoreFault.TheVariants as core
+use Rattle.sp_core.specs.declared.fault.StartFault.TheVariants as core_start
+use Rattle.sp_rules.specs.Classes.{Setting}
+use Rattle.sp_rules.specs.Events.{Event, Output, Ended}
+use Rattle.sp_rules.specs.Space.{state_of}
+use Rattle.sp_rules.specs.State.{Living}
+use Rattle.sp_runs.specs.InSpace.{Grows}
+use Rattle.sp_runs.specs.declared.refusal.Refusal.{Refusal}
+use Rattle.sp_runs.specs.declared.refusal.Refusal.TheVariants as refusal
+use Rattle.sp_space.specs.Spaces.{IsSpace}
+use Rattle.sp_space.specs.declared.space.Space.{Space}
+use Rattle.vm_run.specs.declared.fault.StartFault.TheVariants as start
+use Rattle.vm_run.specs.declared.outcome.Outcome.{Outcome}
+
+-- The space stands at the end of a history that began with this event and made steps since. Its only task is its first, and has this fuel.
+pub record GoesOn (program : Links) (g : Setting) (first : Event) (fuel : ℕ) (space : Space) : Type 0 where
+  pub classes : g.classes ≡ classes_of program
+  pub history : List Event
+  pub grows : Grows g first history
+  pub stands : IsSpace program g history space
+  pub task : Living
+  pub alone : (state_of g history).tasks ≡ task ∷ []
+  pub first : task.id ≡ 1
+  pub fuel : task.task.fuel ≡ fuel
+
+-- There are such a setting and such an event.
+abbrev pub IsGoing : Links → ℕ → Space → Type 0
+IsGoing program fuel space = (g : Setting) × (first : Event) × GoesOn program g first fuel space
+
+-- what a step answers that has ended the first task so, or that has ended none
+abbrev pub answer_of : Option Outcome → List Output
+answer_of None = []
+answer_of (Some end) = Ended 1 (told end) ∷ []
+
+-- how a method is refused that a new space does not start
+abbrev pub refusal_at : CoreFault → Refusal
+refusal_at (core.Start core_start.AbsentMethod) = refusal.Start start.AbsentMethod
+refusal_at (core.Start core_start.BadSignature) = refusal.Start start.BadSignature
+refusal_at (core.Start core_start.BadArgument) = refusal.Start start.BadArgument
+refusal_at core.NotHeld = refusal.Start start.BadArgument
+refusal_at _ = refusal.Memory
