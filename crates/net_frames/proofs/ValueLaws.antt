@@ -10,7 +10,8 @@ use Rattle.space_ids.specs.declared.value.Value.{Value}
 use Rattle.space_ids.specs.declared.value.Value.TheVariants as values
 use Rattle.net_message.specs.declared.fault.WireFault.{WireFault}
 use Rattle.net_message.specs.declared.fault.WireFault.TheVariants as faults
-use Rattle.net_message.specs.Wire.{number_bytes, int_bytes, id_bytes, class_bytes, reference_bytes, row_bytes, value_bytes, result_bytes, flag_bytes, name_bytes, FitsBytes, IsId, IsClass, IsReference, AreInts, IsValue, AreArguments, AreObjects, IsName, is_within, is_name}
+use Rattle.net_message.specs.Wire.{number_bytes, int_bytes, id_bytes, class_bytes, reference_bytes, row_bytes, value_bytes, result_bytes, flag_bytes, name_bytes, FitsBytes, IsId, IsClass, IsReference, AreInts, IsValue, AreArguments, AreObjects, IsName, is_within}
+use Rattle.registry_names.specs.Names.{is_name}
 use Rattle.net_frames.specs.Reading.{◌>>=◌, tested, both, byte_at, raw_at, number_at, row_at, int_at, id_at, class_at, reference_at, ints_at, tagged_at, value_at, arguments_at, counted_result_at, result_at, objects_at, flag_at, name_at}
 use Rattle.net_message.proofs.Names.{within_true, true_within, name_true, true_name}
 use Rattle.net_frames.proofs.FieldLaws.{IsBytes, IsBytes-rest, bind_ok, passed_ok, ok_is, Takes, IsField, refit, headed_takes, shown_again, shown_fails, shown_field, bind_err, tested_field, both_field, width1, width2, width4, width8, number_field, raw_field, byte_field, row_field}

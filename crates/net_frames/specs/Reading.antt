@@ -15,7 +15,8 @@ use Rattle.net_frames.specs.declared.kinds.FrameKind.{FrameKind}
 use Rattle.net_frames.specs.declared.kinds.FrameKind.TheVariants as kinds
 use Rattle.net_message.specs.declared.message.Message.{Message}
 use Rattle.net_message.specs.declared.message.Message.TheVariants.{Hello, Call, Returned, Threw, Spent, Ack, Dirty, Lease, Clean, Cleaned, Lookup}
-use Rattle.net_message.specs.Wire.{is_within, is_name}
+use Rattle.net_message.specs.Wire.{is_within}
+use Rattle.registry_names.specs.Names.{is_name}
 
 infixl 10 ◌>>=◌
 abbrev pub ◌>>=◌ : {A B : Type 0} → Result A WireFault → (A → Result B WireFault) → Result B WireFault

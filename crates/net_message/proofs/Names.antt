@@ -3,7 +3,8 @@ use Rattle.std.proofs.Common.{◌≡◌, ℕ, ◌≤◌, Bool, true, List, [], �
 use Rattle.std.specs.Prelude.{nat_le, IsTrue}
 use Rattle.std.specs.List.{list_all, AllByRecursion}
 use Rattle.std.proofs.lemmas.Bool.{leb-true, le-leb, and_parts, and_from}
-use Rattle.net_message.specs.Wire.{IsName, is_within, is_name_byte, is_name}
+use Rattle.registry_names.specs.Names.{is_name, is_name_byte}
+use Rattle.net_message.specs.Wire.{IsName, is_within}
 
 -- a number within bounds, and the test of it
 pub within_true : (low high n : ℕ) → is_within low high n ≡ true → (low ≤ n) × (n ≤ high)
@@ -21,12 +22,10 @@ true_all test [] h = refl
 true_all test (x ∷ xs) h = and_from (test x) (list_all test xs) h.0 (true_all test xs h.1)
 
 pub name_true : (name : List ℕ) → is_name name ≡ true → IsName name
-unfolding is_name
 name_true name e =
     let p = and_parts (is_within 1 255 (length name)) (list_all is_name_byte name) e in
     let q = within_true 1 255 (length name) p.0 in
     (q.0, q.1, all_true is_name_byte name p.1)
 
 pub true_name : (name : List ℕ) → IsName name → is_name name ≡ true
-unfolding is_name
 true_name name h = and_from (is_within 1 255 (length name)) (list_all is_name_byte name) (true_within 1 255 (length name) h.0 h.1) (true_all is_name_byte name h.2)

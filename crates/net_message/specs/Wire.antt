@@ -8,6 +8,7 @@ use Rattle.space_ids.specs.declared.ids.ObjId.{ObjId}
 use Rattle.space_ids.specs.declared.ids.Ref.{Ref}
 use Rattle.space_ids.specs.declared.value.Value.{Value}
 use Rattle.space_ids.specs.declared.value.Value.TheVariants as values
+use Rattle.registry_names.specs.Names.{is_name_byte}
 use Rattle.net_message.specs.declared.message.Message.{Message}
 use Rattle.net_message.specs.declared.message.Message.TheVariants.{Hello, Call, Returned, Threw, Spent, Ack, Dirty, Lease, Clean, Cleaned, Lookup}
 
@@ -112,17 +113,9 @@ AreObjects objects = (1 ≤ length objects) × (length objects ≤ 1024) × AllB
 abbrev pub is_within : ℕ → ℕ → ℕ → Bool
 is_within low high b = nat_le low b && nat_le b high
 
--- whether the byte is an ASCII letter or digit, `_` or `.`
-unfoldable pub is_name_byte : ℕ → Bool
-is_name_byte b = is_within 97 122 b || is_within 65 90 b || is_within 48 57 b || b == 95 || b == 46
-
--- 1 to 255 such bytes
+-- 1 to 255 bytes that may stand in a name of a registry
 abbrev pub IsName : List ℕ → Type 0
 IsName name = (1 ≤ length name) × (length name ≤ 255) × AllByRecursion (λ b. IsTrue (is_name_byte b)) name
-
--- the test of a name
-unfoldable pub is_name : List ℕ → Bool
-is_name name = is_within 1 255 (length name) && list_all is_name_byte name
 
 -- each field of the message is in its range
 unfoldable pub IsInRange : Message → Type 0

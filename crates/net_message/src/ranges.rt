@@ -2,41 +2,18 @@
 
 ghost use Rattle.std.specs.Prelude.{◌≡◌, ◌↔◌, IsTrue, IfSome, length};
 ghost use Rattle.std.specs.List.{list_all, AllByRecursion};
-ghost use Rattle.net_message.specs.Wire as wire;
+ghost use Rattle.registry_names.specs.Names as names;
 ghost use Rattle.net_message.specs.Wire.{AreInts, AreArguments, AreObjects, IsId, IsReference, IsValue, IsName};
 
 use crate::fault::WireFault;
 use space_ids::{ObjId, Ref, Uuid, Value};
 
-#[tactic(auto, unfolding(crate::specs::Wire::is_name_byte))]
-fn is_name_byte(byte: u8) -> bool
-    ensures { result ≡ wire.is_name_byte byte }
-{
-    matches!(byte, b'a'..=b'z' | b'A'..=b'Z' | b'0'..=b'9' | b'_' | b'.')
-}
-
-fn are_name_bytes(name: &[u8]) -> bool
-    ensures { result ≡ list_all wire.is_name_byte name.now }
-{
-    name.iter().all(|byte| is_name_byte(*byte))
-}
-
-#[tactic(auto, unfolding(crate::specs::Wire::is_name))]
-fn passes_as_name(name: &[u8]) -> bool
-    ensures { result ≡ wire.is_name name.now }
-{
-    if name.is_empty() || name.len() > 255 {
-        return false;
-    }
-    are_name_bytes(name)
-}
-
 /// Returns whether a registry may have the name: 1 to 255 ASCII letters, digits, `_` and `.`.
 pub fn is_name(name: &[u8]) -> bool
-    ensures read { result ≡ wire.is_name name.now }
+    ensures read { result ≡ names.is_name name.now }
     ensures range { IsTrue result ↔ IsName name.now }
 {
-    passes_as_name(name)
+    registry_names::is_name(name)
 }
 
 // A contract knows the range of a number once it is read, so each is read.

@@ -8,7 +8,7 @@ use Rattle.lru.specs.LruCache.{LruCache, demoted, lru_cache, put_entries}
 use Rattle.space_ids.specs.declared.ids.ObjId.{ObjId}
 use Rattle.sp_registry.specs.declared.registry.Binding.{Binding}
 use Rattle.sp_registry.specs.Bindings.{is_of, lookup, rebound, unbound}
-use Rattle.sp_registry.specs.Names.{is_name}
+use Rattle.registry_names.specs.Names.{is_name}
 use Rattle.sp_registry.specs.Tables.{AreNames, binding_of, bindings_of}
 use Rattle.sp_registry.proofs.BindingsLemmas.{bytes_eq-refl, bytes_eq-sym}
 

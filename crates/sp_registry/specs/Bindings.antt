@@ -8,7 +8,7 @@ use Rattle.sp_registry.specs.declared.fault.RegistryFault.TheVariants.{AlreadyBo
 use Rattle.sp_registry.specs.declared.fault.BindFault.{BindFault}
 use Rattle.sp_registry.specs.declared.fault.BindFault.TheVariants.{Memory, Denied}
 use Rattle.sp_registry.specs.declared.registry.Binding.{Binding}
-use Rattle.sp_registry.specs.Names.{is_name}
+use Rattle.registry_names.specs.Names.{is_name}
 
 -- what a registry is seen as: its bindings, in the order in which the names were bound
 pub record Names : Type 0 where

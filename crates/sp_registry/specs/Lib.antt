@@ -1,5 +1,5 @@
 pub mod Bindings
 pub mod Counts
-pub mod Names
+pub use Rattle.registry_names.specs.Names
 pub mod FaultNames
 pub mod Tables

@@ -4,7 +4,7 @@ use Rattle.std.specs.Global.{Vec}
 use Rattle.std.specs.Prelude.{ℕ}
 use Rattle.space_ids.specs.declared.ids.ObjId.{ObjId}
 use Rattle.sp_registry.specs.declared.registry.Binding.{Binding}
-use Rattle.sp_registry.specs.Names.{is_name}
+use Rattle.registry_names.specs.Names.{is_name}
 
 -- what a row stands for
 abbrev pub binding_of : Vec ℕ × ObjId → Binding

@@ -1,9 +1,8 @@
 //! Names of the registry.
 
 ghost use Rattle.std.specs.Prelude.{◌≡◌, IsTrue};
-ghost use Rattle.std.specs.List.{list_all};
 ghost use Rattle.std.specs.Str.{bytes_eq};
-ghost use Rattle.sp_registry.specs.Names.{is_name, is_name_byte};
+ghost use Rattle.registry_names.specs.Names.{is_name};
 
 use std::marker::Model;
 
@@ -16,7 +15,7 @@ pub struct Name<'a> {
 
 impl<'a> Model for Name<'a> {
     ghost use Rattle.std.specs.Prelude.{List, ℕ, IsTrue};
-    ghost use Rattle.sp_registry.specs.Names.{is_name};
+    ghost use Rattle.registry_names.specs.Names.{is_name};
 
     ghost Value = { List ℕ };
 
@@ -48,23 +47,4 @@ impl<'a> Name<'a> {
     {
         self.as_bytes() == bytes
     }
-}
-
-/// Whether these bytes may name an object: 1 to 255 ASCII letters, digits, `_` and `.`.
-pub(crate) fn is_allowed(bytes: &[u8]) -> bool
-    ensures { result ≡ is_name bytes.now }
-{
-    !bytes.is_empty() && bytes.len() <= 255 && are_allowed(bytes)
-}
-
-fn are_allowed(bytes: &[u8]) -> bool
-    ensures { result ≡ list_all is_name_byte bytes.now }
-{
-    bytes.iter().all(|byte| is_allowed_byte(*byte))
-}
-
-fn is_allowed_byte(byte: u8) -> bool
-    ensures { result ≡ is_name_byte byte }
-{
-    byte.is_ascii_alphanumeric() || byte == b'_' || byte == b'.'
 }

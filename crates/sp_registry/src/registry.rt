@@ -1,14 +1,14 @@
 //! The registry: names with their objects.
 
 ghost use Rattle.std.specs.Prelude.{◌≡◌, [], ◌∷◌, ◌++◌, IsTrue, IfOk, IfErr, OnOk, OnErr, None, Some, MatchResult};
-ghost use Rattle.sp_registry.specs.Names.{is_name};
+ghost use Rattle.registry_names.specs.Names.{is_name};
 ghost use Rattle.sp_registry.specs.Bindings.{bind, rebind, rebound, unbind, lookup, allowed as may_bind, Refuses, HasNamesOnce};
 ghost use Rattle.sp_registry.specs.Counts.{count_of};
 
 use super::counts::Counts;
-use super::name::is_allowed;
 use super::table::Table;
 use super::{BindFault, Bindings, Name, RegistryFault};
+use registry_names::is_name;
 use space_ids::ObjId;
 use std::alloc::{AllocError, Global};
 use std::marker::Model;
@@ -87,7 +87,7 @@ impl Registry {
             ≡ Ok self.new.bindings) (λ fault. unbind self.old.bindings name.now ≡ Err fault) }
         ensures unchanged { OnErr result (self.new ≡ self.old) }
     {
-        if !is_allowed(name) {
+        if !is_name(name) {
             return Err(RegistryFault::BadName);
         }
         match self.table.remove(name) {
@@ -159,7 +159,7 @@ impl Registry {
 fn allowed(name: &[u8], object: Option<ObjId>) -> Result<ObjId, RegistryFault>
     ensures { result ≡ may_bind name.now object }
 {
-    if !is_allowed(name) {
+    if !is_name(name) {
         return Err(RegistryFault::BadName);
     }
     object.ok_or(RegistryFault::NotOwn)

@@ -2,7 +2,7 @@
 
 ghost use Rattle.std.specs.Prelude.{◌≡◌, ◌<◌, ◌^◌, [], ◌∷◌, ◌++◌, IsTrue, IfOk, OnOk, OnErr, None, length, is_some};
 ghost use Rattle.std.specs.Iterator.{YieldsFirst, item_count};
-ghost use Rattle.sp_registry.specs.Names.{is_name};
+ghost use Rattle.registry_names.specs.Names.{is_name};
 ghost use Rattle.sp_registry.specs.Bindings.{lookup, rebound, unbound, HasNamesOnce};
 
 use super::{Binding, Name};
