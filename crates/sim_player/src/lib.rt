@@ -6,10 +6,11 @@
 //! ends the script; any other event that the space refuses changes nothing.
 #![tactic(auto)]
 
-pub use fault::{PlayFault, ScriptFault};
+pub use fault::ScriptFault;
 pub use played::{Played, Start};
-pub use player::Player;
 pub use script::play_script;
+
+use fault::PlayFault;
 
 mod fault;
 mod played;

@@ -16,7 +16,7 @@ const MOST_STEPS: usize = 100_000;
 /// A script as it is played over one space: the space, its name once a line has said it, the variables,
 /// and the lines that were shown.
 #[derive(Drop)]
-pub struct Player<S> {
+pub(crate) struct Player<S> {
     alloc: Global,
     space: S,
     name: Option<String>,
@@ -26,7 +26,10 @@ pub struct Player<S> {
 
 impl<S: Played + Drop> Player<S> {
     /// Returns a script of which no command was played, over a space to which nothing has happened.
-    pub fn new(alloc: Global, space: S) -> Player<S> {
+    pub fn new(alloc: Global, space: S) -> Player<S>
+        requires { S.stands space }
+        ensures { S.stands result.space }
+    {
         Player {
             alloc,
             space,
@@ -40,7 +43,10 @@ impl<S: Played + Drop> Player<S> {
     /// second space or a second root of one variable; for a variable without the value that is asked; for
     /// an argument that is none; for a root that is refused; and for what happens between spaces. Any
     /// other event that the space refuses changes nothing.
-    pub fn play(&mut self, command: &Command<'_>) -> Result<(), PlayFault> {
+    pub fn play(&mut self, command: &Command<'_>) -> Result<(), PlayFault>
+        requires { S.stands self.old.space }
+        ensures { S.stands self.new.space }
+    {
         match command {
             Command::Space(name) => self.begin(name),
             Command::Root {
@@ -96,7 +102,10 @@ impl<S: Played + Drop> Player<S> {
     }
 
     // There is a space of this name.
-    fn begin(&mut self, name: &str) -> Result<(), PlayFault> {
+    fn begin(&mut self, name: &str) -> Result<(), PlayFault>
+        requires { S.stands self.old.space }
+        ensures { S.stands self.new.space }
+    {
         if self.name.is_some() {
             return Err(PlayFault::Bad);
         }
@@ -160,7 +169,10 @@ impl<S: Played + Drop> Player<S> {
     }
 
     // Lets an event happen. A refused one changes nothing.
-    fn happen(&mut self, event: &Event) -> Result<(), PlayFault> {
+    fn happen(&mut self, event: &Event) -> Result<(), PlayFault>
+        requires { S.stands self.old.space }
+        ensures { S.stands self.new.space }
+    {
         match self.space.on(event) {
             Ok(outputs) => {
                 self.variables.note(outputs);
@@ -172,7 +184,10 @@ impl<S: Played + Drop> Player<S> {
     }
 
     // Starts a root of this variable.
-    fn root(&mut self, variable: &str, start: Start<'_>) -> Result<(), PlayFault> {
+    fn root(&mut self, variable: &str, start: Start<'_>) -> Result<(), PlayFault>
+        requires { S.stands self.old.space }
+        ensures { S.stands self.new.space }
+    {
         if self.variables.find(variable).is_some() {
             return Err(PlayFault::Bad);
         }
@@ -192,7 +207,10 @@ impl<S: Played + Drop> Player<S> {
     }
 
     // Lets the lowest task that may go on make an instruction.
-    fn step(&mut self) -> Result<(), PlayFault> {
+    fn step(&mut self) -> Result<(), PlayFault>
+        requires { S.stands self.old.space }
+        ensures { S.stands self.new.space }
+    {
         match self.space.step() {
             Ok(outputs) => {
                 self.variables.note(outputs);
@@ -204,7 +222,10 @@ impl<S: Played + Drop> Player<S> {
     }
 
     // Makes steps as long as a task may go on.
-    fn settle(&mut self) -> Result<(), PlayFault> {
+    fn settle(&mut self) -> Result<(), PlayFault>
+        requires { S.stands self.old.space }
+        ensures { S.stands self.new.space }
+    {
         for _ in 0..MOST_STEPS {
             if self.space.ready().is_none() {
                 return Ok(());
@@ -215,7 +236,10 @@ impl<S: Played + Drop> Player<S> {
     }
 
     // Shows each standing object, in the order of ids.
-    fn show(&mut self, name: &str) -> Result<(), PlayFault> {
+    fn show(&mut self, name: &str) -> Result<(), PlayFault>
+        requires { S.stands self.old.space }
+        ensures { S.stands self.new.space }
+    {
         for index in 0..usize::MAX {
             let Some(shown) = self.space.object(index) else {
                 return Ok(());

@@ -1,6 +1,7 @@
 //! Whole scripts.
 
-use crate::{PlayFault, Played, Player, ScriptFault};
+use crate::player::Player;
+use crate::{PlayFault, Played, ScriptFault};
 use sim_script::read_line;
 use std::alloc::Global;
 
@@ -10,7 +11,9 @@ pub fn play_script<S: Played + Drop>(
     alloc: Global,
     space: S,
     script: &[u8],
-) -> Result<Vec<u8>, ScriptFault> {
+) -> Result<Vec<u8>, ScriptFault>
+    requires { S.stands space }
+{
     let mut player = Player::new(alloc, space);
     for (before, line) in script.split(|byte| *byte == b'\n').enumerate() {
         match play_line(alloc, &mut player, line) {
@@ -30,7 +33,10 @@ fn play_line<S: Played + Drop>(
     alloc: Global,
     player: &mut Player<S>,
     line: &[u8],
-) -> Result<(), PlayFault> {
+) -> Result<(), PlayFault>
+    requires { S.stands player.old.space }
+    ensures { S.stands player.new.space }
+{
     let Ok(text) = str::from_utf8(line) else {
         return Err(PlayFault::Bad);
     };

@@ -1,4 +1,4 @@
--- What words stand for that spell arguments of a method.
+-- What words stand for that spell arguments of a method. (This project's own.)
 use Rattle.std.specs.Prelude.{◌≡◌, ◌≢◌, ℕ, ℤ, Bool, ◌==◌, List, [], ◌∷◌, ◌++◌, slice_index, FitsSigned, codes, ⊤}
 use Rattle.std.specs.Str.Parse.{IsNumeral, without_leading_sign, signed_digits_value}
 use Rattle.std.specs.List.{slice_split}
