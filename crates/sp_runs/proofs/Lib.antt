@@ -4,3 +4,8 @@ pub mod Only
 pub mod Whole
 pub mod Ended
 pub mod Refused
+pub mod Remote
+pub mod SpaceEnds
+pub mod SpaceSteps
+pub mod SpaceRoots
+pub mod SpaceGoes

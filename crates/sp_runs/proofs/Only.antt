@@ -20,7 +20,8 @@ use Rattle.space_ids.specs.declared.ids.ClassId.{ClassId}
 use Rattle.space_ids.specs.declared.value.Value.{Value}
 use Rattle.space_ids.specs.declared.value.Value.TheVariants as value
 use Rattle.sp_runs.specs.Only.{IsReadOut, OnlyGives}
-use Rattle.sp_runs.specs.Runs.{AreSpelled, IsProgram, IsRun, IsSpelled, IsTold, NamesMethod, Runs, ThrewClass, no_class, no_descriptor, resolved, is_parenthesis}
+use Rattle.sp_runs.specs.Outcomes.{IsTold, ThrewClass}
+use Rattle.sp_runs.specs.Runs.{AreSpelled, IsProgram, IsRun, IsSpelled, NamesMethod, Runs, no_class, no_descriptor, resolved, is_parenthesis}
 use Rattle.sp_runs.specs.declared.running.ClassBytes.{ClassBytes}
 use Rattle.sp_runs.specs.declared.running.Content.{Content}
 use Rattle.sp_runs.specs.declared.running.Content.TheVariants.{Bytes, Unreadable}
@@ -32,7 +33,7 @@ use Rattle.ver_rules.specs.declared.fault.CheckFault.{CheckFault}
 use Rattle.ver_rules.specs.declared.fault.CheckFault.TheVariants as check
 use Rattle.vm_run.proofs.Runs.{run_ended}
 use Rattle.vm_run.specs.Ends.{End, ReturnedNothing, ReturnedInt, ReturnedNull, ReturnedInts, ReturnedObject, ReturnedRemote, Threw, ThrewObject, Spent}
-use Rattle.vm_run.specs.Run.{State, Over, run}
+use Rattle.vm_run.specs.Run.{HasNoRemote, State, Over, run}
 use Rattle.vm_run.specs.Start.{started}
 use Rattle.vm_run.specs.Task.{Tasked, most_elements, unmarshalled}
 use Rattle.vm_run.specs.declared.fault.StartFault.{StartFault}
@@ -178,14 +179,15 @@ same_set files read set program spelled has whole is =
 
 -- the method that is looked for is the one that runs
 pub only_run : (files : List ClassBytes) (class text : List ℕ) (arguments : List Value) (limits : Limits) (program : Links) (method : MethodId) (outcome : RunOutcome)
-    → IsProgram files program → NamesMethod program class text (Some method) → IsRun files class text arguments limits outcome
+    → IsProgram files program → HasNoRemote program.classes → NamesMethod program class text (Some method) → IsRun files class text arguments limits outcome
     → Runs program method arguments limits outcome
-only_run files class text arguments limits program method outcome is named run =
+only_run files class text arguments limits program method outcome is plain named run =
     let same : run.program ≡ program = one_program files run.program program run.is_program is in
     let found : NamesMethod program class text (Some run.method) = subst (λ (p : Links). NamesMethod p class text (Some run.method)) same run.named in
     let some : Some run.method ≡ Some method = one_named program class text (Some run.method) (Some method) found named in
     let equal : run.method ≡ method = cc in
-    subst (λ (m : MethodId). Runs program m arguments limits outcome) equal (subst (λ (p : Links). Runs p run.method arguments limits outcome) same run.runs)
+    let runs = run.alone (subst (λ (p : Links). HasNoRemote p.classes) (sym same) plain) in
+    subst (λ (m : MethodId). Runs program m arguments limits outcome) equal (subst (λ (p : Links). Runs p run.method arguments limits outcome) same runs)
 
 -- and there is one
 pub not_absent : (files : List ClassBytes) (class text : List ℕ) (arguments : List Value) (limits : Limits) (program : Links) (outcome : RunOutcome)

@@ -4,7 +4,8 @@ use Rattle.std.specs.Prelude.{MatchBool, Ok, length, nat_le}
 use Rattle.cls_link.specs.Links.{Links}
 use Rattle.cls_link.specs.declared.linked_code.MethodId.{MethodId}
 use Rattle.cls_set.specs.declared.class.Class.{Class}
-use Rattle.sp_runs.specs.Runs.{IsNamed, IsTold, Runs, ThrewClass}
+use Rattle.sp_runs.specs.Outcomes.{IsNamed, IsTold, ThrewClass}
+use Rattle.sp_runs.specs.Runs.{Runs}
 use Rattle.sp_runs.specs.declared.running.RunOutcome.{RunOutcome}
 use Rattle.sp_runs.specs.declared.running.RunOutcome.TheVariants as told
 use Rattle.uuid.specs.Parts.{zero_bytes}

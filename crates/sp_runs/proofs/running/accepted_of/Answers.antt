@@ -1,8 +1,12 @@
-use Rattle.std.proofs.Common.{sym, subst, ◌∙◌}
+use Rattle.std.proofs.Common.{◌≡◌, List, sym, subst, ◌∙◌}
+use Rattle.cf_reader.specs.declared.class_file.ClassFile.{ClassFile}
+use Rattle.cls_link.specs.Links.{AreLinks, Links}
+use Rattle.cls_set.specs.declared.class.Class.{Class}
+use Rattle.sp_runs.specs.declared.running.ClassBytes.{ClassBytes}
 use Rattle.cls_laws.proofs.Links.{one_linking}
 use Rattle.cls_link.specs.LinkFaults.{AreSound}
 use Rattle.cls_set.specs.Sets.{HasClasses}
-use Rattle.sp_runs.specs.Runs.{IsNoProgram, unread, no_set, not_linked, not_safe}
+use Rattle.sp_runs.specs.Runs.{AreSpelled, IsNoProgram, IsProgram, unread, no_set, not_linked, not_safe}
 use Rattle.sp_runs.specs.declared.refusal.Refusal.TheVariants.{Set, Link, Check}
 use Rattle.cls_set.specs.Faults.{MakeASet}
 use Rattle.sp_runs.proofs.Files.{files_well, known_error}
@@ -10,6 +14,24 @@ use Rattle.sp_runs.proofs.Only.{one_list, safe_out, same_set}
 use Rattle.sp_runs.specs.Only.{IsOutOfMemory}
 use Rattle.ver_check.specs.Acceptance.{AreSafe}
 use Rattle.sp_runs.proofs.running.accepted_of.Goals as goal
+
+made : (files : List ClassBytes) (classes : List ClassFile) (set : List Class) (linked accepted : Links) → AreSpelled files classes → MakeASet classes → HasClasses classes set
+    → AreSound set → linked.classes ≡ set → AreLinks linked → accepted ≡ linked → AreSafe linked → IsProgram files accepted
+made files classes set linked accepted spelled makes has sound same links is safe =
+    subst (IsProgram files) (sym is) (record {
+      classes = classes;
+      spelled = spelled;
+      makes_a_set = makes;
+      set = subst (HasClasses classes) (sym same) has;
+      sound = subst AreSound (sym same) sound;
+      linked = links;
+      safe = safe;
+    })
+
+pub returns-clause-program : goal.returns-clause-program
+returns-clause-program c =
+    made c.args.files.now c.in_ok-classes.classes.items c.in_ok-set.set c.in_ok-linked.linked c.in_ok-accept.field-0 (c.in_ok-classes.ensures).read (c.in_ok-set.ensures).found (c.in_ok-set.ensures).classes
+    (c.in_ok-linked.ensures).found (c.in_ok-linked.ensures).classes (c.in_ok-linked.ensures).links ((c.in_ok-accept.ensures).exact).0 ((c.in_ok-accept.ensures).exact).1
 
 pub returns-in_err-classes-clause-refused : goal.returns-in_err-classes-clause-refused
 returns-in_err-classes-clause-refused c =

@@ -1,79 +1,87 @@
-use Rattle.std.proofs.Common.{Option, inl, inr, rules, sym, subst}
+use Rattle.std.proofs.Common.{Option, inl, inr, sym, subst}
 use Rattle.cls_link.specs.declared.linked_code.MethodId.{MethodId}
 use Rattle.sp_runs.specs.Only.{IsOutOfMemory}
-use Rattle.sp_runs.specs.Runs.{HasRemote, IsOfStart, IsRefused, IsRun, NamesMethod, no_memory, no_program, absent}
+use Rattle.sp_runs.specs.Runs.{IsRefused, NamesMethod, no_memory, no_program, absent}
 use Rattle.sp_runs.specs.declared.refusal.Refusal.{Refusal}
 use Rattle.sp_runs.specs.declared.refusal.Refusal.TheVariants.{Memory}
 use Rattle.sp_runs.proofs.Files.{known_error}
-use Rattle.sp_runs.proofs.Only.{not_absent, only_error, only_run}
-use Rattle.sp_runs.proofs.Refused.{refused_alone, refused_there, run_refused, told_alone, told_there}
+use Rattle.sp_runs.proofs.Only.{not_absent, one_program, only_error, only_run}
+use Rattle.sp_runs.proofs.Refused.{refused_there, run_refused, told_alone, told_there}
+use Rattle.vm_run.specs.Run.{HasNoRemote}
+use Rattle.cls_link.specs.Links.{Links}
 use Rattle.sp_runs.proofs.running.run_classes.Goals as goal
 
 pub returns-in_err-program-clause-refused : goal.returns-in_err-program-clause-refused
 returns-in_err-program-clause-refused c =
     let is : Refusal → Type 0 = IsRefused c.args.files.now c.args.class.now c.args.method.now c.args.arguments.items c.args.limits in
-    refused_alone is IsOfStart (HasRemote c.args.files.now) _
-    (known_error c.from_residual.result c.in_err-program.field-0.0 is c.from_residual.ensures.1
+    known_error c.from_residual.result c.in_err-program.field-0.0 is c.from_residual.ensures.1
     (elim (c.in_err-program.ensures).refused [
       | inl no ↦ no_program c.in_err-program.field-0.0 no
       | inr out ↦ subst is (sym out) no_memory
-    ]))
+    ])
 
 pub returns-in_err-program-clause-only : goal.returns-in_err-program-clause-only
-returns-in_err-program-clause-only c = λ outcome plain only.
-    only_error c.from_residual.result c.in_err-program.field-0.0 outcome IsOutOfMemory c.from_residual.ensures.1 ((c.in_err-program.ensures).only only.program only.is_program)
+returns-in_err-program-clause-only c = λ outcome program is plain only.
+    only_error c.from_residual.result c.in_err-program.field-0.0 outcome IsOutOfMemory c.from_residual.ensures.1 ((c.in_err-program.ensures).only program is)
 
 pub returns-in_err-found-clause-refused : goal.returns-in_err-found-clause-refused
 returns-in_err-found-clause-refused c =
     let is : Refusal → Type 0 = IsRefused c.args.files.now c.args.class.now c.args.method.now c.args.arguments.items c.args.limits in
-    refused_alone is IsOfStart (HasRemote c.args.files.now) _ (known_error c.from_residual-in_err-found.result Memory is c.from_residual-in_err-found.ensures.1 no_memory)
+    known_error c.from_residual-in_err-found.result Memory is c.from_residual-in_err-found.ensures.1 no_memory
 
 pub returns-in_err-found-clause-only : goal.returns-in_err-found-clause-only
-returns-in_err-found-clause-only c = λ outcome plain only. only_error c.from_residual-in_err-found.result Memory outcome IsOutOfMemory c.from_residual-in_err-found.ensures.1 tt
+returns-in_err-found-clause-only c = λ outcome program is plain only. only_error c.from_residual-in_err-found.result Memory outcome IsOutOfMemory c.from_residual-in_err-found.ensures.1 tt
 
 pub returns-in_default-clause-refused : goal.returns-in_default-clause-refused
 returns-in_default-clause-refused c =
-    inl (absent c.in_ok-program.program (c.in_ok-program.ensures).program (subst (λ (o : Option MethodId). NamesMethod c.in_ok-program.program c.args.class.now c.args.method.now o) c.in_default.is c.in_ok-found.ensures))
+    absent c.in_ok-program.program (c.in_ok-program.ensures).program (subst (λ (o : Option MethodId). NamesMethod c.in_ok-program.program c.args.class.now c.args.method.now o) c.in_default.is c.in_ok-found.ensures)
 
 pub returns-in_default-clause-only : goal.returns-in_default-clause-only
-returns-in_default-clause-only c = λ outcome plain only.
+returns-in_default-clause-only c = λ outcome program is plain only.
     absurd (not_absent c.args.files.now c.args.class.now c.args.method.now c.args.arguments.items c.args.limits c.in_ok-program.program outcome
     (c.in_ok-program.ensures).program (subst (λ (o : Option MethodId). NamesMethod c.in_ok-program.program c.args.class.now c.args.method.now o) c.in_default.is c.in_ok-found.ensures) only)
 
--- a class of the program is remote
+-- ---- a class of the program is remote
+
+pub run_in_space-requires-clause-program : goal.run_in_space-requires-clause-program
+run_in_space-requires-clause-program c = (c.args.files.now, (c.in_ok-program.ensures).program)
 
 pub returns-then-has_remote-clause-run : goal.returns-then-has_remote-clause-run
 returns-then-has_remote-clause-run c =
-    told_there (IsRun c.args.files.now c.args.class.now c.args.method.now c.args.arguments.items c.args.limits) (HasRemote c.args.files.now) c.run_in_space.result
-    (record { program = c.in_ok-program.program; is_program = (c.in_ok-program.ensures).program; remote = (c.has_remote.ensures).one c.if-has_remote.true })
+    told_there c.args.files.now c.args.class.now c.args.method.now c.args.arguments.items c.args.limits c.in_ok-program.program c.in-Some.method
+    (c.in_ok-program.ensures).program ((c.has_remote.ensures).one c.if-has_remote.true)
+    (subst (λ (o : Option MethodId). NamesMethod c.in_ok-program.program c.args.class.now c.args.method.now o) c.in-Some.is c.in_ok-found.ensures) c.run_in_space.result (c.run_in_space.ensures).run
 
 pub returns-then-has_remote-clause-refused : goal.returns-then-has_remote-clause-refused
 returns-then-has_remote-clause-refused c =
-    refused_there (IsRefused c.args.files.now c.args.class.now c.args.method.now c.args.arguments.items c.args.limits) IsOfStart (HasRemote c.args.files.now) c.run_in_space.result
-    (record { program = c.in_ok-program.program; is_program = (c.in_ok-program.ensures).program; remote = (c.has_remote.ensures).one c.if-has_remote.true })
-    (c.run_in_space.ensures).refused
+    refused_there c.args.files.now c.args.class.now c.args.method.now c.args.arguments.items c.args.limits c.in_ok-program.program c.in-Some.method
+    (c.in_ok-program.ensures).program ((c.has_remote.ensures).one c.if-has_remote.true)
+    (subst (λ (o : Option MethodId). NamesMethod c.in_ok-program.program c.args.class.now c.args.method.now o) c.in-Some.is c.in_ok-found.ensures) c.run_in_space.result (c.run_in_space.ensures).refused
 
 pub returns-then-has_remote-clause-only : goal.returns-then-has_remote-clause-only
-returns-then-has_remote-clause-only c = λ outcome plain only.
-    absurd (plain (record { program = c.in_ok-program.program; is_program = (c.in_ok-program.ensures).program; remote = (c.has_remote.ensures).one c.if-has_remote.true }))
+returns-then-has_remote-clause-only c = λ outcome program is plain only.
+    let same = one_program c.args.files.now program c.in_ok-program.program is (c.in_ok-program.ensures).program in
+    absurd ((c.has_remote.ensures).one c.if-has_remote.true (subst (λ (p : Links). HasNoRemote p.classes) same plain))
 
--- none is
+-- ---- none is
 
 pub run_method-requires-clause-plain : goal.run_method-requires-clause-plain
 run_method-requires-clause-plain c = (c.has_remote.ensures).none c.if-has_remote.false
 
 pub returns-clause-run : goal.returns-clause-run
 returns-clause-run c =
-    told_alone (IsRun c.args.files.now c.args.class.now c.args.method.now c.args.arguments.items c.args.limits) (HasRemote c.args.files.now) c.run_method.result (search rules)
+    told_alone c.args.files.now c.args.class.now c.args.method.now c.args.arguments.items c.args.limits c.in_ok-program.program c.in-Some.method
+    (c.in_ok-program.ensures).program ((c.has_remote.ensures).none c.if-has_remote.false)
+    (subst (λ (o : Option MethodId). NamesMethod c.in_ok-program.program c.args.class.now c.args.method.now o) c.in-Some.is c.in_ok-found.ensures) c.run_method.result (c.run_method.ensures).run
 
 pub returns-clause-refused : goal.returns-clause-refused
 returns-clause-refused c =
-    refused_alone (IsRefused c.args.files.now c.args.class.now c.args.method.now c.args.arguments.items c.args.limits) IsOfStart (HasRemote c.args.files.now) c.run_method.result
-    (run_refused c.args.files.now c.args.class.now c.args.method.now c.args.arguments.items c.args.limits c.in_ok-program.program c.in-Some.method
-    (c.in_ok-program.ensures).program (subst (λ (o : Option MethodId). NamesMethod c.in_ok-program.program c.args.class.now c.args.method.now o) c.in-Some.is c.in_ok-found.ensures) c.run_method.result (c.run_method.ensures).refused)
+    run_refused c.args.files.now c.args.class.now c.args.method.now c.args.arguments.items c.args.limits c.in_ok-program.program c.in-Some.method
+    (c.in_ok-program.ensures).program (subst (λ (o : Option MethodId). NamesMethod c.in_ok-program.program c.args.class.now c.args.method.now o) c.in-Some.is c.in_ok-found.ensures) c.run_method.result (c.run_method.ensures).refused
 
 pub returns-clause-only : goal.returns-clause-only
-returns-clause-only c = λ outcome plain only.
+returns-clause-only c = λ outcome program is plain only.
     (c.run_method.ensures).only outcome
     (only_run c.args.files.now c.args.class.now c.args.method.now c.args.arguments.items c.args.limits c.in_ok-program.program c.in-Some.method outcome
-    (c.in_ok-program.ensures).program (subst (λ (o : Option MethodId). NamesMethod c.in_ok-program.program c.args.class.now c.args.method.now o) c.in-Some.is c.in_ok-found.ensures) only)
+    (c.in_ok-program.ensures).program ((c.has_remote.ensures).none c.if-has_remote.false)
+    (subst (λ (o : Option MethodId). NamesMethod c.in_ok-program.program c.args.class.now c.args.method.now o) c.in-Some.is c.in_ok-found.ensures) only)

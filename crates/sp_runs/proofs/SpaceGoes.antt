@@ -1,0 +1,71 @@
+-- A space whose only task goes on: one step of it.
+use Rattle.std.proofs.Common.{◌≡◌, ℕ, ◌+◌, ◌-◌, ◌≤◌, List, [], ◌∷◌, Option, None, Some, refl, sym, ap, subst, ◌∙◌, arith}
+use Rattle.std.specs.Prelude.{unwrap_or}
+use Rattle.cls_link.specs.Links.{Links}
+use Rattle.sp_rules.specs.Classes.{Setting}
+use Rattle.sp_rules.specs.Events.{Event, Output, Ended}
+use Rattle.sp_rules.specs.Origins.{IsTaken}
+use Rattle.sp_rules.specs.Space.{state_of}
+use Rattle.sp_rules.specs.State.{Living, task_at}
+use Rattle.sp_rules.specs.Worlds.{step_events}
+use Rattle.sp_core.specs.Shown.{lowest_ready}
+use Rattle.sp_behaviours.specs.Behaviours.{told}
+use Rattle.sp_space.specs.Machines.{machine_at}
+use Rattle.sp_space.specs.Spaces.{IsPlayed, IsPlayedBy, IsSpace, IsStep, IsStepBy, answers_to, grown}
+use Rattle.sp_space.specs.declared.space.Space.{Space}
+use Rattle.vm_run.specs.Task.{IsOfSet, Tasked}
+use Rattle.vm_run.specs.declared.outcome.Outcome.{Outcome}
+use Rattle.sp_runs.specs.Going.{GoesOn, answer_of}
+use Rattle.sp_runs.specs.InSpace.{EndsAs, steps}
+use Rattle.sp_runs.proofs.SpaceSteps.{Moves, ends_task, goes_on, moves, one-lowest, one-there, one-waits}
+
+-- The step ended the task, or left it alone with a unit less of fuel.
+pub data Went (program : Links) (g : Setting) (first : Event) (fuel : ℕ) (after : Space) (outputs : List Output) : Type 0 where
+  has_ended : (end : Outcome) → outputs ≡ answer_of (Some end) → IsOfSet program.classes end → EndsAs g first end → Went program g first fuel after outputs
+  goes : outputs ≡ answer_of None → 1 ≤ fuel → GoesOn program g first (fuel - 1) after → Went program g first fuel after outputs
+
+played-by : (program : Links) (g : Setting) (t : Living) (o : Option Tasked) → IsPlayed program g (Some t) o → (task : Tasked) × IsPlayedBy program g t task
+played-by program g t None p = absurd p
+played-by program g t (Some task) p = (task, p)
+
+module _ (program : Links) (g : Setting) (first : Event) (fuel : ℕ) (space after : Space) (outputs : List Output) (b : GoesOn program g first fuel space) where
+  pub lowest : lowest_ready [] (state_of g b.history) ≡ Some 1
+  lowest = one-lowest (state_of g b.history) b.task b.alone b.first (one-waits g (state_of g b.history) b.task b.alone b.stands.stands.core.alone)
+
+  there : task_at (state_of g b.history) 1 ≡ Some b.task
+  there = one-there (state_of g b.history) b.task b.alone b.first
+
+  -- the step is that of the task
+  its-step : IsStep program g b.history 1 after outputs
+      → (outputs ≡ answers_to g b.history (step_events 1 b.task.task)) × IsSpace program g (grown b.history (step_events 1 b.task.task)) after
+  its-step is =
+      let same : is.task ≡ b.task = ap (λ o. unwrap_or o is.task) (sym is.lives ∙ there) in
+      (is.answers ∙ ap (λ (t : Living). answers_to g b.history (step_events 1 t.task)) same,
+      subst (λ (t : Living). IsSpace program g (grown b.history (step_events 1 t.task)) after) same is.space)
+
+  pub went : IsStepBy program g b.history (lowest_ready [] (state_of g b.history)) after outputs → Went program g first fuel after outputs
+  went by-lowest =
+      let (answers, stands) = its-step (subst (λ o. IsStepBy program g b.history o after outputs) lowest by-lowest) in
+      let (task, plays) =
+      played-by program g b.task (machine_at 1 space.machines) (subst (λ o. IsPlayed program g o (machine_at 1 space.machines)) there (b.stands.played 1))
+      in
+      by answers stands (moves program g b.history b.task task.state b.alone b.first b.stands.stands.core.alone plays.follows stands.stands.taken)
+    where
+      by : outputs ≡ answers_to g b.history (step_events 1 b.task.task) → IsSpace program g (grown b.history (step_events 1 b.task.task)) after
+          → Moves program g b.history b.task (step_events 1 b.task.task) → Went program g first fuel after outputs
+      by answers stands (ends_task end is of_set) =
+          has_ended end (answers ∙ is) of_set
+          (record { before = b.history; grows = b.grows; task = b.task; ready = lowest; lives = there; taken = stands.stands.taken; ended = is })
+      by answers stands (goes_on now is one here less) =
+          let has = b.fuel in
+          goes (answers ∙ is) (omega (arith, less, has))
+          (record {
+            classes = b.classes;
+            history = grown b.history (step_events 1 b.task.task);
+            grows = steps b.history 1 b.task b.grows lowest there;
+            stands = stands;
+            task = now;
+            alone = one;
+            first = here;
+            fuel = omega (arith, less, has);
+          })
