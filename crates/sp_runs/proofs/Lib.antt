@@ -8,4 +8,6 @@ pub mod Remote
 pub mod SpaceEnds
 pub mod SpaceSteps
 pub mod SpaceRoots
+pub mod SpaceOnly
 pub mod SpaceGoes
+pub mod Homes

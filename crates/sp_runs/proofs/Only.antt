@@ -19,6 +19,7 @@ use Rattle.cls_set.specs.declared.class.Class.{Class}
 use Rattle.space_ids.specs.declared.ids.ClassId.{ClassId}
 use Rattle.space_ids.specs.declared.value.Value.{Value}
 use Rattle.space_ids.specs.declared.value.Value.TheVariants as value
+use Rattle.sp_runs.specs.InSpace.{RunsInSpace}
 use Rattle.sp_runs.specs.Only.{IsReadOut, OnlyGives}
 use Rattle.sp_runs.specs.Outcomes.{IsTold, ThrewClass}
 use Rattle.sp_runs.specs.Runs.{AreSpelled, IsProgram, IsRun, IsSpelled, NamesMethod, Runs, no_class, no_descriptor, resolved, is_parenthesis}
@@ -107,7 +108,7 @@ one_end program state a b e f l k one other =
     let same : Over e l ≡ Over f k = sym first ∙ second in
     cc
 
-one_thrown : (classes : List Class) (class : ClassId) (o p : RunOutcome) → ThrewClass classes class o → ThrewClass classes class p → o ≡ p
+pub one_thrown : (classes : List Class) (class : ClassId) (o p : RunOutcome) → ThrewClass classes class o → ThrewClass classes class p → o ≡ p
 one_thrown classes class o p a b =
     let some : Some a.0 ≡ Some b.0 = sym a.2 ∙ b.2 in
     let same : a.0 ≡ b.0 = cc in
@@ -179,15 +180,17 @@ same_set files read set program spelled has whole is =
 
 -- the method that is looked for is the one that runs
 pub only_run : (files : List ClassBytes) (class text : List ℕ) (arguments : List Value) (limits : Limits) (program : Links) (method : MethodId) (outcome : RunOutcome)
-    → IsProgram files program → HasNoRemote program.classes → NamesMethod program class text (Some method) → IsRun files class text arguments limits outcome
-    → Runs program method arguments limits outcome
-only_run files class text arguments limits program method outcome is plain named run =
+    → IsProgram files program → NamesMethod program class text (Some method) → IsRun files class text arguments limits outcome
+    → (HasNoRemote program.classes → Runs program method arguments limits outcome) × (¬ HasNoRemote program.classes → RunsInSpace program method arguments limits outcome)
+only_run files class text arguments limits program method outcome is named run =
     let same : run.program ≡ program = one_program files run.program program run.is_program is in
     let found : NamesMethod program class text (Some run.method) = subst (λ (p : Links). NamesMethod p class text (Some run.method)) same run.named in
     let some : Some run.method ≡ Some method = one_named program class text (Some run.method) (Some method) found named in
     let equal : run.method ≡ method = cc in
-    let runs = run.alone (subst (λ (p : Links). HasNoRemote p.classes) (sym same) plain) in
-    subst (λ (m : MethodId). Runs program m arguments limits outcome) equal (subst (λ (p : Links). Runs p run.method arguments limits outcome) same runs)
+    let alone = subst (λ (p : Links). HasNoRemote p.classes → Runs p run.method arguments limits outcome) same run.alone in
+    let in_space = subst (λ (p : Links). ¬ HasNoRemote p.classes → RunsInSpace p run.method arguments limits outcome) same run.in_space in
+    subst (λ (m : MethodId). (HasNoRemote program.classes → Runs program m arguments limits outcome) × (¬ HasNoRemote program.classes → RunsInSpace program m arguments limits outcome)) equal
+    (alone, in_space)
 
 -- and there is one
 pub not_absent : (files : List ClassBytes) (class text : List ℕ) (arguments : List Value) (limits : Limits) (program : Links) (outcome : RunOutcome)

@@ -26,7 +26,7 @@ told-untold (rules.Returned value) = refl
 told-untold (rules.Threw class) = refl
 told-untold rules.Spent = refl
 
-untold-told : (o : Outcome) → untold (told o) ≡ o
+pub untold-told : (o : Outcome) → untold (told o) ≡ o
 untold-told (outcome.Returned value) = refl
 untold-told (outcome.Threw class) = refl
 untold-told outcome.Spent = refl

@@ -1,12 +1,13 @@
 -- A space whose only task goes on: one step of it.
 use Rattle.std.proofs.Common.{◌≡◌, ℕ, ◌+◌, ◌-◌, ◌≤◌, List, [], ◌∷◌, Option, None, Some, refl, sym, ap, subst, ◌∙◌, arith}
-use Rattle.std.specs.Prelude.{unwrap_or}
+use Rattle.std.specs.Prelude.{not, find, ◌==◌, ◌||◌, option_map, unwrap_or}
+use Rattle.std.specs.List.{list_any}
 use Rattle.cls_link.specs.Links.{Links}
 use Rattle.sp_rules.specs.Classes.{Setting}
 use Rattle.sp_rules.specs.Events.{Event, Output, Ended}
 use Rattle.sp_rules.specs.Origins.{IsTaken}
 use Rattle.sp_rules.specs.Space.{state_of}
-use Rattle.sp_rules.specs.State.{Living, task_at}
+use Rattle.sp_rules.specs.State.{State, Living, task_at}
 use Rattle.sp_rules.specs.Worlds.{step_events}
 use Rattle.sp_core.specs.Shown.{lowest_ready}
 use Rattle.sp_behaviours.specs.Behaviours.{told}
@@ -17,12 +18,17 @@ use Rattle.vm_run.specs.Task.{IsOfSet, Tasked}
 use Rattle.vm_run.specs.declared.outcome.Outcome.{Outcome}
 use Rattle.sp_runs.specs.Going.{GoesOn, answer_of}
 use Rattle.sp_runs.specs.InSpace.{EndsAs, steps}
+use Rattle.sp_runs.proofs.SpaceOnly.{awaits-next, one-way}
 use Rattle.sp_runs.proofs.SpaceSteps.{Moves, ends_task, goes_on, moves, one-lowest, one-there, one-waits}
 
 -- The step ended the task, or left it alone with a unit less of fuel.
 pub data Went (program : Links) (g : Setting) (first : Event) (fuel : ℕ) (after : Space) (outputs : List Output) : Type 0 where
-  has_ended : (end : Outcome) → outputs ≡ answer_of (Some end) → IsOfSet program.classes end → EndsAs g first end → Went program g first fuel after outputs
+  has_ended : (end : Outcome) → outputs ≡ answer_of (Some end) → IsOfSet program.classes end → EndsAs g first end → ((other : Outcome) → EndsAs g first other → other ≡ end)
+      → Went program g first fuel after outputs
   goes : outputs ≡ answer_of None → 1 ≤ fuel → GoesOn program g first (fuel - 1) after → Went program g first fuel after outputs
+
+none-lowest : (s : State) → s.tasks ≡ [] → lowest_ready [] s ≡ None
+none-lowest s none = ap (λ (ts : List Living). option_map (λ (t : Living). t.id) (find (λ (t : Living). not (t.waits || list_any (◌==◌ t.id) [])) ts)) none
 
 played-by : (program : Links) (g : Setting) (t : Living) (o : Option Tasked) → IsPlayed program g (Some t) o → (task : Tasked) × IsPlayedBy program g t task
 played-by program g t None p = absurd p
@@ -39,9 +45,10 @@ module _ (program : Links) (g : Setting) (first : Event) (fuel : ℕ) (space aft
   its-step : IsStep program g b.history 1 after outputs
       → (outputs ≡ answers_to g b.history (step_events 1 b.task.task)) × IsSpace program g (grown b.history (step_events 1 b.task.task)) after
   its-step is =
-      let same : is.task ≡ b.task = ap (λ o. unwrap_or o is.task) (sym is.lives ∙ there) in
-      (is.answers ∙ ap (λ (t : Living). answers_to g b.history (step_events 1 t.task)) same,
-      subst (λ (t : Living). IsSpace program g (grown b.history (step_events 1 t.task)) after) same is.space)
+      let same : is.task ≡ b.task = ap (λ o. unwrap_or o is.task) (sym is.lives ∙ there) in (
+        is.answers ∙ ap (λ (t : Living). answers_to g b.history (step_events 1 t.task)) same,
+        subst (λ (t : Living). IsSpace program g (grown b.history (step_events 1 t.task)) after) same is.space,
+      )
 
   pub went : IsStepBy program g b.history (lowest_ready [] (state_of g b.history)) after outputs → Went program g first fuel after outputs
   went by-lowest =
@@ -53,9 +60,10 @@ module _ (program : Links) (g : Setting) (first : Event) (fuel : ℕ) (space aft
     where
       by : outputs ≡ answers_to g b.history (step_events 1 b.task.task) → IsSpace program g (grown b.history (step_events 1 b.task.task)) after
           → Moves program g b.history b.task (step_events 1 b.task.task) → Went program g first fuel after outputs
-      by answers stands (ends_task end is of_set) =
+      by answers stands (ends_task end is of_set left) =
           has_ended end (answers ∙ is) of_set
           (record { before = b.history; grows = b.grows; task = b.task; ready = lowest; lives = there; taken = stands.stands.taken; ended = is })
+          (one-way g b.history b.task lowest there first end is (none-lowest (state_of g (grown b.history (step_events 1 b.task.task))) left) b.awaits)
       by answers stands (goes_on now is one here less) =
           let has = b.fuel in
           goes (answers ∙ is) (omega (arith, less, has))
@@ -68,4 +76,5 @@ module _ (program : Links) (g : Setting) (first : Event) (fuel : ℕ) (space aft
             alone = one;
             first = here;
             fuel = omega (arith, less, has);
+            awaits = awaits-next g b.history b.task lowest there first is b.awaits;
           })

@@ -36,8 +36,10 @@ use Rattle.vm_run.specs.declared.fault.StartFault.TheVariants as fault
 use Rattle.vm_run.specs.declared.limits.Limits.{Limits}
 use Rattle.vm_run.proofs.Refused.{refused, starts}
 use Rattle.sp_runs.specs.Going.{GoesOn, refusal_at}
-use Rattle.sp_runs.specs.InSpace.{begins}
+use Rattle.sp_runs.specs.InSpace.{RunsInSpace, begins}
 use Rattle.sp_runs.specs.Runs.{IsNotRunInSpace}
+use Rattle.sp_runs.specs.declared.running.RunOutcome.{RunOutcome}
+use Rattle.sp_runs.proofs.SpaceOnly.{grows-reached}
 
 -- ---- the setting
 
@@ -52,6 +54,16 @@ setting_of program id limits = record {
 
 pub its-limits : (program : Links) (id : Uuid) (limits : Limits) → AreLimits (setting_of program id limits) limits
 its-limits program id limits = record { heap = refl; stack = refl; references = refl; fuel = refl }
+
+-- there is one
+pub one-setting : (program : Links) (method : MethodId) (arguments : List Value) (limits : Limits) (o : RunOutcome) (r : RunsInSpace program method arguments limits o)
+    → r.setting ≡ setting_of program zero_bytes limits
+one-setting program method arguments limits o r = λ j. record {
+  classes = r.classes j;
+  id = r.id j;
+  digest = r.digest j;
+  limits = record { heap = r.limits.heap j; stack = r.limits.stack j; references = r.limits.references j; fuel = r.limits.fuel j };
+}
 
 -- ---- why it does not start
 
@@ -226,4 +238,5 @@ root-goes program g method arguments fuel space classes is = record {
   alone = root-adds g opening method arguments fuel;
   first = refl;
   fuel = refl;
+  awaits = λ end e. grows-reached g (Root method arguments fuel) e.before e.grows;
 }

@@ -39,7 +39,7 @@ use Rattle.sp_behaviours.specs.Follows.{Follows, stand_before, stand_of}
 use Rattle.sp_behaviours.proofs.Following.{stands, steps-follow}
 use Rattle.sp_behaviours.proofs.OwnSteps.{answer-gives, answer-throws, stand-is, step-ends, step-plain}
 use Rattle.sp_space.specs.Spaces.{answers_to, grown}
-use Rattle.sp_space.proofs.RowsAfter.{back-moves, back-silent, commit-replies, commit-silent}
+use Rattle.sp_space.proofs.RowsAfter.{back-moves, back-silent, commit-replies, commit-silent, finish-removes}
 use Rattle.sp_runs.proofs.SpaceEnds.{ended-in, told-untold, untold}
 
 -- ---- the only task
@@ -178,7 +178,8 @@ end-answers g s k t end alone ready ends root held own same =
 
 -- These events of a step end the task, or leave it alone with a unit less of fuel.
 pub data Moves (links : Links) (g : Setting) (h : List Event) (t : Living) (es : List Event) : Type 0 where
-  ends_task : (end : Outcome) → answers_to g h es ≡ Ended 1 (told end) ∷ [] → IsOfSet links.classes end → Moves links g h t es
+  ends_task : (end : Outcome) → answers_to g h es ≡ Ended 1 (told end) ∷ [] → IsOfSet links.classes end → (state_of g (grown h es)).tasks ≡ []
+      → Moves links g h t es
   goes_on : (now : Living) → answers_to g h es ≡ [] → (state_of g (grown h es)).tasks ≡ now ∷ [] → now.id ≡ 1 → now.task.fuel + 1 ≡ t.task.fuel → Moves links g h t es
 
 only-has : (P : Living → Type 0) (s : State) (t : Living) → s.tasks ≡ t ∷ [] → AllOf P s.tasks → P t
@@ -217,8 +218,16 @@ module _ (links : Links) (g : Setting) (h : List Event) (t : Living) (m : Machin
   waits-not : t.waits ≡ false
   waits-not = one-waits g (state_of g h) t one alone
 
+  none-left : (k : ℕ) (end : End) → stand (steps k t.task) ≡ HasEnded end → (on g (Finished 1 k) (state_of g h)).0.tasks ≡ []
+  none-left k end ends =
+      let s = state_of g h in
+      let none : List Living = [] in
+      let root = only-has (λ (u : Living). u.origin ≡ OfRoot) s t one alone.roots in
+      finish-removes g s 1 k t end (one-ready s t one first waits-not) root ends ∙ ap (filter (λ (u : Living). not (u.id == 1))) one
+      ∙ ap (λ b. cond (not b) (t ∷ none) none) (eq-eqb t.id 1 first)
+
   finish-moves : (k : ℕ) (end : End) → stand (steps k t.task) ≡ HasEnded end → IsTaken g (Finished 1 k ∷ h) → Moves links g h t (Finished 1 k ∷ [])
-  unfolding outputs_of
+  unfolding outputs_of state_of
   finish-moves k end ends taken =
       let s = state_of g h in
       let held = only-has (λ (u : Living). AreOwn g u.task.held) s t one alone.tasks in
@@ -228,7 +237,7 @@ module _ (links : Links) (g : Setting) (h : List Event) (t : Living) (m : Machin
       let answers = end-answers g s k t end alone (one-ready s t one first waits-not) ends root held own (steps-held k t.task) in
       let later = steps-follow links g t.task m k follows in
       ends_task (untold end) (ap (λ (os : List Output). os ++ []) answers ∙ ap (λ o. Ended 1 o ∷ []) (sym (told-untold end)))
-      (ended-in links (run links k m) end later.never_stuck (sym (stands links g (steps k t.task) (run links k m) later) ∙ ends))
+      (ended-in links (run links k m) end later.never_stuck (sym (stands links g (steps k t.task) (run links k m) later) ∙ ends)) (none-left k end ends)
 
   back-moves-on : stand t.task ≡ Runs → Moves links g h t (GivenBack 1 1 ∷ [])
   unfolding outputs_of state_of

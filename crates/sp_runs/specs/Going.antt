@@ -3,20 +3,28 @@ use Rattle.std.specs.Prelude.{◌≡◌, ℕ, List, [], ◌∷◌, Option, Some,
 use Rattle.cls_link.specs.Links.{Links}
 use Rattle.sp_behaviours.specs.Behaviours.{told}
 use Rattle.sp_classes.specs.Classes.{classes_of}
+use Rattle.sp_core.specs.Shown.{lowest_ready}
 use Rattle.sp_core.specs.declared.fault.CoreFault.{CoreFault}
 use Rattle.sp_core.specs.declared.fault.CoreFault.TheVariants as core
 use Rattle.sp_core.specs.declared.fault.StartFault.TheVariants as core_start
 use Rattle.sp_rules.specs.Classes.{Setting}
 use Rattle.sp_rules.specs.Events.{Event, Output, Ended}
 use Rattle.sp_rules.specs.Space.{state_of}
-use Rattle.sp_rules.specs.State.{Living}
-use Rattle.sp_runs.specs.InSpace.{Grows}
+use Rattle.sp_rules.specs.State.{Living, task_at}
+use Rattle.sp_rules.specs.Worlds.{step_events}
+use Rattle.sp_runs.specs.InSpace.{EndsAs, Grows}
 use Rattle.sp_runs.specs.declared.refusal.Refusal.{Refusal}
 use Rattle.sp_runs.specs.declared.refusal.Refusal.TheVariants as refusal
-use Rattle.sp_space.specs.Spaces.{IsSpace}
+use Rattle.sp_space.specs.Spaces.{IsSpace, grown}
 use Rattle.sp_space.specs.declared.space.Space.{Space}
 use Rattle.vm_run.specs.declared.fault.StartFault.TheVariants as start
 use Rattle.vm_run.specs.declared.outcome.Outcome.{Outcome}
+
+-- A history that steps lead to, each of the lowest ready task.
+pub data Reaches (g : Setting) : List Event → List Event → Type 0 where
+  same : (h later : List Event) → h ≡ later → Reaches g h later
+  step : (h later : List Event) (id : ℕ) (task : Living) → lowest_ready [] (state_of g h) ≡ Some id → task_at (state_of g h) id ≡ Some task
+      → Reaches g (grown h (step_events id task.task)) later → Reaches g h later
 
 -- The space stands at the end of a history that began with this event and made steps since. Its only task is its first, and has this fuel.
 pub record GoesOn (program : Links) (g : Setting) (first : Event) (fuel : ℕ) (space : Space) : Type 0 where
@@ -28,6 +36,8 @@ pub record GoesOn (program : Links) (g : Setting) (first : Event) (fuel : ℕ) (
   pub alone : (state_of g history).tasks ≡ task ∷ []
   pub first : task.id ≡ 1
   pub fuel : task.task.fuel ≡ fuel
+  -- no end of the task is in it
+  pub awaits : (end : Outcome) (e : EndsAs g first end) → Reaches g history e.before
 
 -- There are such a setting and such an event.
 abbrev pub IsGoing : Links → ℕ → Space → Type 0

@@ -41,6 +41,8 @@ pub record RunsInSpace (program : Links) (method : MethodId) (arguments : List V
   pub setting : Setting
   pub classes : setting.classes ≡ classes_of program
   pub id : setting.id ≡ zero_bytes
+  -- no peer compares it with its own
+  pub digest : setting.digest ≡ []
   pub limits : AreLimits setting limits
   pub end : Outcome
   pub ends : EndsAs setting (Root method.0 arguments limits.fuel) end

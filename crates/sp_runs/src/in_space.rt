@@ -15,6 +15,7 @@ ghost use Rattle.vm_run.specs.Run.{HasNoRemote};
 ghost use Rattle.vm_run.specs.Task.{IsOfSet};
 ghost use Rattle.sp_runs.specs.Going.{GoesOn, IsGoing, answer_of, refusal_at};
 ghost use Rattle.sp_runs.specs.InSpace.{EndsAs, RunsInSpace};
+ghost use Rattle.sp_runs.specs.Only.{IsOutOfMemory, OnlyGives};
 ghost use Rattle.sp_runs.specs.Runs.{IsNotRunInSpace, IsProgram};
 
 use crate::Refusal;
@@ -65,6 +66,9 @@ pub fn run_in_space(
     requires program { (files : List ClassBytes) × IsProgram files program.now }
     ensures run { IfOk result (RunsInSpace program.now method arguments.items limits) }
     ensures refused { IfErr result (IsNotRunInSpace program.now method arguments.items limits) }
+    ensures only { (outcome : RunOutcome)
+        → RunsInSpace program.now method arguments.items limits outcome
+        → OnlyGives outcome IsOutOfMemory result }
 {
     spaces_run_on(program);
     let mut space = Space::new(alloc, Uuid::nil(), limits)?;
@@ -80,6 +84,7 @@ pub fn run_in_space(
 fn play(program: &Program, space: Space, fuel: u64) -> Result<Outcome, Refusal>
     requires { IsGoing program.now fuel space }
     ensures ends { IfOk result (λ outcome. (g : Setting) (first : Event) → GoesOn program.now g first fuel space → EndsAs g first outcome) }
+    ensures only { IfOk result (λ outcome. (g : Setting) (first : Event) → GoesOn program.now g first fuel space → (end : Outcome) → EndsAs g first end → end ≡ outcome) }
     ensures of_set { IfOk result (IsOfSet program.now.classes) }
     ensures refused { IfErr result (λ refusal. refusal ≡ Refusal.Memory) }
 {

@@ -72,10 +72,9 @@ pub fn run_classes(
     ensures run { IfOk result (IsRun files.now class.now method.now arguments.items limits) }
     // A refusal says what is wrong, and nothing before it is wrong.
     ensures refused { IfErr result (IsRefused files.now class.now method.now arguments.items limits) }
-    // If the files make a program without remote classes and its method runs to an outcome, no other is
-    // answered, and no refusal but out of memory.
-    ensures only { (outcome : RunOutcome) (program : Links)
-        → IsProgram files.now program → HasNoRemote program.classes
+    // If the files make a program and its method runs to an outcome, no other is answered, and no refusal
+    // but out of memory.
+    ensures only { (outcome : RunOutcome)
         → IsRun files.now class.now method.now arguments.items limits outcome
         → OnlyGives outcome IsOutOfMemory result }
 {

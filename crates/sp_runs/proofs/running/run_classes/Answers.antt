@@ -5,10 +5,8 @@ use Rattle.sp_runs.specs.Runs.{IsRefused, NamesMethod, no_memory, no_program, ab
 use Rattle.sp_runs.specs.declared.refusal.Refusal.{Refusal}
 use Rattle.sp_runs.specs.declared.refusal.Refusal.TheVariants.{Memory}
 use Rattle.sp_runs.proofs.Files.{known_error}
-use Rattle.sp_runs.proofs.Only.{not_absent, one_program, only_error, only_run}
+use Rattle.sp_runs.proofs.Only.{not_absent, only_error, only_run}
 use Rattle.sp_runs.proofs.Refused.{refused_there, run_refused, told_alone, told_there}
-use Rattle.vm_run.specs.Run.{HasNoRemote}
-use Rattle.cls_link.specs.Links.{Links}
 use Rattle.sp_runs.proofs.running.run_classes.Goals as goal
 
 pub returns-in_err-program-clause-refused : goal.returns-in_err-program-clause-refused
@@ -21,8 +19,8 @@ returns-in_err-program-clause-refused c =
     ])
 
 pub returns-in_err-program-clause-only : goal.returns-in_err-program-clause-only
-returns-in_err-program-clause-only c = λ outcome program is plain only.
-    only_error c.from_residual.result c.in_err-program.field-0.0 outcome IsOutOfMemory c.from_residual.ensures.1 ((c.in_err-program.ensures).only program is)
+returns-in_err-program-clause-only c = λ outcome only.
+    only_error c.from_residual.result c.in_err-program.field-0.0 outcome IsOutOfMemory c.from_residual.ensures.1 ((c.in_err-program.ensures).only only.program only.is_program)
 
 pub returns-in_err-found-clause-refused : goal.returns-in_err-found-clause-refused
 returns-in_err-found-clause-refused c =
@@ -30,14 +28,14 @@ returns-in_err-found-clause-refused c =
     known_error c.from_residual-in_err-found.result Memory is c.from_residual-in_err-found.ensures.1 no_memory
 
 pub returns-in_err-found-clause-only : goal.returns-in_err-found-clause-only
-returns-in_err-found-clause-only c = λ outcome program is plain only. only_error c.from_residual-in_err-found.result Memory outcome IsOutOfMemory c.from_residual-in_err-found.ensures.1 tt
+returns-in_err-found-clause-only c = λ outcome only. only_error c.from_residual-in_err-found.result Memory outcome IsOutOfMemory c.from_residual-in_err-found.ensures.1 tt
 
 pub returns-in_default-clause-refused : goal.returns-in_default-clause-refused
 returns-in_default-clause-refused c =
     absent c.in_ok-program.program (c.in_ok-program.ensures).program (subst (λ (o : Option MethodId). NamesMethod c.in_ok-program.program c.args.class.now c.args.method.now o) c.in_default.is c.in_ok-found.ensures)
 
 pub returns-in_default-clause-only : goal.returns-in_default-clause-only
-returns-in_default-clause-only c = λ outcome program is plain only.
+returns-in_default-clause-only c = λ outcome only.
     absurd (not_absent c.args.files.now c.args.class.now c.args.method.now c.args.arguments.items c.args.limits c.in_ok-program.program outcome
     (c.in_ok-program.ensures).program (subst (λ (o : Option MethodId). NamesMethod c.in_ok-program.program c.args.class.now c.args.method.now o) c.in_default.is c.in_ok-found.ensures) only)
 
@@ -59,9 +57,11 @@ returns-then-has_remote-clause-refused c =
     (subst (λ (o : Option MethodId). NamesMethod c.in_ok-program.program c.args.class.now c.args.method.now o) c.in-Some.is c.in_ok-found.ensures) c.run_in_space.result (c.run_in_space.ensures).refused
 
 pub returns-then-has_remote-clause-only : goal.returns-then-has_remote-clause-only
-returns-then-has_remote-clause-only c = λ outcome program is plain only.
-    let same = one_program c.args.files.now program c.in_ok-program.program is (c.in_ok-program.ensures).program in
-    absurd ((c.has_remote.ensures).one c.if-has_remote.true (subst (λ (p : Links). HasNoRemote p.classes) same plain))
+returns-then-has_remote-clause-only c = λ outcome only.
+    (c.run_in_space.ensures).only outcome
+    ((only_run c.args.files.now c.args.class.now c.args.method.now c.args.arguments.items c.args.limits c.in_ok-program.program c.in-Some.method outcome
+    (c.in_ok-program.ensures).program (subst (λ (o : Option MethodId). NamesMethod c.in_ok-program.program c.args.class.now c.args.method.now o) c.in-Some.is c.in_ok-found.ensures) only).1
+    ((c.has_remote.ensures).one c.if-has_remote.true))
 
 -- ---- none is
 
@@ -80,8 +80,8 @@ returns-clause-refused c =
     (c.in_ok-program.ensures).program (subst (λ (o : Option MethodId). NamesMethod c.in_ok-program.program c.args.class.now c.args.method.now o) c.in-Some.is c.in_ok-found.ensures) c.run_method.result (c.run_method.ensures).refused
 
 pub returns-clause-only : goal.returns-clause-only
-returns-clause-only c = λ outcome program is plain only.
+returns-clause-only c = λ outcome only.
     (c.run_method.ensures).only outcome
-    (only_run c.args.files.now c.args.class.now c.args.method.now c.args.arguments.items c.args.limits c.in_ok-program.program c.in-Some.method outcome
-    (c.in_ok-program.ensures).program ((c.has_remote.ensures).none c.if-has_remote.false)
-    (subst (λ (o : Option MethodId). NamesMethod c.in_ok-program.program c.args.class.now c.args.method.now o) c.in-Some.is c.in_ok-found.ensures) only)
+    ((only_run c.args.files.now c.args.class.now c.args.method.now c.args.arguments.items c.args.limits c.in_ok-program.program c.in-Some.method outcome
+    (c.in_ok-program.ensures).program (subst (λ (o : Option MethodId). NamesMethod c.in_ok-program.program c.args.class.now c.args.method.now o) c.in-Some.is c.in_ok-found.ensures) only).0
+    ((c.has_remote.ensures).none c.if-has_remote.false))
