@@ -31,7 +31,11 @@ impl Folder for Shelf {
 
     fn paths(&self, folder: &str) -> Result<Vec<String>, FolderFault> {
         let mut path = String::from_str(self.alloc, folder)?;
-        path.push_str(if self.is_remote { "/C.class" } else { "/T.class" })?;
+        path.push_str(if self.is_remote {
+            "/C.class"
+        } else {
+            "/T.class"
+        })?;
         let mut paths = Vec::new(self.alloc);
         paths.push(path)?;
         Ok(paths)

@@ -53,7 +53,10 @@ fn help_and_version_are_told(rt: HostRuntime) -> Result<(), Fail> {
             "0  the method returned, the classes are accepted, or the script is done",
         ),
         ("run --help", "--fuel <N>"),
-        ("sim --help", "Plays a script over a space and prints what it shows"),
+        (
+            "sim --help",
+            "Plays a script over a space and prints what it shows",
+        ),
         ("--version", "rmispace 0.1.0\n"),
     ] {
         let said = say(rt.alloc(), line)?;
