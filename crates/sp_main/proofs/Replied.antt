@@ -4,12 +4,12 @@ use Rattle.cls_link.specs.Links.{Links}
 use Rattle.sp_main.specs.CommandLine.{AsksCheck, AsksRun, AsksSim, AsksText, IsUsageFault, RunWords, SimWords}
 use Rattle.sp_main.specs.Folders.{AreFilesOf, Telling}
 use Rattle.sp_main.specs.RefusalTexts.{TellsRefusal, TellsUnreadable}
-use Rattle.sp_main.specs.Replies.{Fails, IsPlayed, IsReply, Replies, accepted, limits_of, mistaken, not_played, played, ran, refused, rejected, replied, told, unreadable, unwritten}
+use Rattle.sp_main.specs.Replies.{Fails, IsPlayed, IsReply, Replies, accepted, bad_line, limits_of, mistaken, not_played, played, ran, refused, rejected, replied, told, unreadable, unwritten}
 use Rattle.sp_main.specs.Reports.{IsTold, LeavesOther, line_of}
 use Rattle.sp_main.specs.Requests.{IsRequest, run_words, sim_words}
 use Rattle.sp_runs.specs.Runs.{IsNoProgram, IsProgram, IsRefused, IsRun}
 use Rattle.sp_main.specs.Statuses.{code_of, outcome_status, refusal_status}
-use Rattle.sp_main.specs.Texts.{accepted_text, outcome_text}
+use Rattle.sp_main.specs.Texts.{accepted_text, bad_line_text, outcome_text}
 use Rattle.sp_runs.specs.declared.refusal.Refusal.{Refusal}
 use Rattle.sp_main.specs.declared.report.Report.{Report}
 use Rattle.sp_runs.specs.declared.running.ClassBytes.{ClassBytes}
@@ -83,6 +83,12 @@ module _ {E : Type 0} (telling : Telling) (sim : SimWords) (files read : List Cl
   played_simulated program (Ok report) is plays =
       λ words asks. played sim read program asks listed (subst (λ (f : List ClassBytes). IsProgram f program) same is) plays
   played_simulated program (Err e) is plays = tt
+
+-- a bad line is one of the things that a script comes to
+pub bad_line_told : {E : Type 0} (path : List ℕ) (number : ℕ) (answer : Result Report E) → IfOk answer (λ report. report.status ≡ Failed)
+    → IfOk answer (λ report. report.text.items ≡ line_of (bad_line_text number)) → IfOk answer (λ report. IsPlayed path report.status report.text.items)
+bad_line_told path number (Ok report) status text = bad_line number status text
+bad_line_told path number (Err e) status text = tt
 
 module _ {E : Type 0} (telling : Telling) (folder : List ℕ) (answer : Result Report E) where
   -- the report is the reply to all arguments that ask for a check of the folder

@@ -27,8 +27,8 @@ refusal_report-requires g c = record {
       (no_program_file _ c.in-Err-program_of.refusal (without_program _ _ (c.in-Err-program_of.ensures).refused));
 }
 
-pub returns-in-Err-program_of : goal.returns-in-Err-program_of
-returns-in-Err-program_of g c =
+pub returns : goal.returns
+returns g c =
     refusal_simulated (told_by (g.F.Folder.lists c.args.folder.now) (g.F.Folder.gives c.args.folder.now)) (sim_words c.args.request.now) _ c.in-Ok.files.items
     (IfOk-at_ok (λ files. AreFilesOf (told_by (g.F.Folder.lists c.args.folder.now) (g.F.Folder.gives c.args.folder.now)) c.args.request.now.folder.now files.items) c.in-Ok.is c.in_ok-files.ensures)
     (c.deref.ensures).value c.in-Err-program_of.refusal c.refusal_report.result (without_program _ _ (c.in-Err-program_of.ensures).refused)
