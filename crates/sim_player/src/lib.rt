@@ -6,11 +6,10 @@
 //! ends the script; any other event that the space refuses changes nothing.
 #![tactic(auto)]
 
+use fault::PlayFault;
 pub use fault::ScriptFault;
 pub use played::{Played, Start};
 pub use script::play_script;
-
-use fault::PlayFault;
 
 mod fault;
 mod played;

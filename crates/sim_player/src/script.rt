@@ -3,7 +3,7 @@
 use crate::player::Player;
 use crate::{PlayFault, Played, ScriptFault};
 use sim_script::read_line;
-use std::alloc::Global;
+use std::alloc::{AllocError, Global};
 
 /// Plays a script over a space to which nothing has happened, and returns the lines that it shows. Its
 /// lines are parted by newlines. `ScriptFault::BadLine` for the first line that is bad.
@@ -14,8 +14,9 @@ pub fn play_script<S: Played + Drop>(
 ) -> Result<Vec<u8>, ScriptFault>
     requires { S.stands space }
 {
+    let lines = lines_of(alloc, script)?;
     let mut player = Player::new(alloc, space);
-    for (before, line) in script.split(|byte| *byte == b'\n').enumerate() {
+    for (before, line) in lines.iter().enumerate() {
         match play_line(alloc, &mut player, line) {
             Ok(()) => {}
             Err(PlayFault::Bad) => return Err(ScriptFault::BadLine(before + 1)),
@@ -26,6 +27,11 @@ pub fn play_script<S: Played + Drop>(
         Ok(text) => Ok(text),
         Err(_) => Err(ScriptFault::Memory),
     }
+}
+
+// The lines of a script, which newlines part.
+fn lines_of(alloc: Global, script: &[u8]) -> Result<Vec<&[u8]>, AllocError> {
+    Ok(script.split(|byte| *byte == b'\n').collect(alloc)?)
 }
 
 // Plays a line, which is bad if it is no text in UTF-8.
