@@ -1,5 +1,5 @@
 -- The method that a text names, as it is looked for.
-use Rattle.std.proofs.Common.{◌≡◌, ℕ, Option, Some, None, List, sym, subst}
+use Rattle.std.proofs.Common.{◌≡◌, ℕ, Option, Some, None, List, subst}
 use Rattle.std.specs.Prelude.{drop, option_map, take}
 use Rattle.std.specs.List.{position}
 use Rattle.cls_link.specs.Links.{Links}

@@ -22,7 +22,7 @@ use Rattle.space_ids.specs.declared.value.Value.TheVariants as value
 use Rattle.sp_runs.specs.InSpace.{RunsInSpace}
 use Rattle.sp_runs.specs.Only.{IsReadOut, OnlyGives}
 use Rattle.sp_runs.specs.Outcomes.{IsTold, ThrewClass}
-use Rattle.sp_runs.specs.Runs.{AreSpelled, IsProgram, IsRun, IsSpelled, NamesMethod, Runs, no_class, no_descriptor, resolved, is_parenthesis}
+use Rattle.sp_runs.specs.Runs.{AreSpelled, IsProgram, IsRun, IsSpelled, NamesMethod, Runs, no_class, no_descriptor, resolved}
 use Rattle.sp_runs.specs.declared.running.ClassBytes.{ClassBytes}
 use Rattle.sp_runs.specs.declared.running.Content.{Content}
 use Rattle.sp_runs.specs.declared.running.Content.TheVariants.{Bytes, Unreadable}

@@ -1,5 +1,5 @@
 -- A method of a program that does not run is refused as such.
-use Rattle.std.proofs.Common.{◌≡◌, ◌⊎◌, inl, inr, ℕ, List, Some, IfOk}
+use Rattle.std.proofs.Common.{inl, inr, ℕ, List, Some, IfOk}
 use Rattle.std.specs.Prelude.{Result, Ok, Err, IfErr}
 use Rattle.cls_link.specs.Links.{Links}
 use Rattle.cls_link.specs.declared.linked_code.MethodId.{MethodId}

@@ -1,9 +1,9 @@
 -- How a task of a space ends, as its machine tells: a class that it throws is one of the set.
-use Rattle.std.proofs.Common.{◌≡◌, ℕ, zero, suc, List, Option, None, Some, refl, sym, ap, subst, ◌∙◌}
+use Rattle.std.proofs.Common.{◌≡◌, ℕ, zero, suc, List, Option, None, Some, refl, sym, subst}
 use Rattle.cls_link.specs.Links.{Links}
 use Rattle.cls_set.specs.declared.class.Class.{Class}
 use Rattle.sp_rules.specs.Behaviours as rules
-use Rattle.sp_rules.specs.Tasks.{Stand, HasEnded}
+use Rattle.sp_rules.specs.Tasks.{HasEnded}
 use Rattle.vm_act.specs.Next.{Next, On, Ends, Asks, Stuck}
 use Rattle.vm_rows.specs.Steps as insns
 use Rattle.vm_run.specs.Ends.{End}

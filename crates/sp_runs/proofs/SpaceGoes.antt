@@ -1,16 +1,14 @@
 -- A space whose only task goes on: one step of it.
-use Rattle.std.proofs.Common.{◌≡◌, ℕ, ◌+◌, ◌-◌, ◌≤◌, List, [], ◌∷◌, Option, None, Some, refl, sym, ap, subst, ◌∙◌, arith}
+use Rattle.std.proofs.Common.{◌≡◌, ℕ, ◌-◌, ◌≤◌, List, [], Option, None, Some, sym, ap, subst, ◌∙◌, arith}
 use Rattle.std.specs.Prelude.{not, find, ◌==◌, ◌||◌, option_map, unwrap_or}
 use Rattle.std.specs.List.{list_any}
 use Rattle.cls_link.specs.Links.{Links}
 use Rattle.sp_rules.specs.Classes.{Setting}
-use Rattle.sp_rules.specs.Events.{Event, Output, Ended}
-use Rattle.sp_rules.specs.Origins.{IsTaken}
+use Rattle.sp_rules.specs.Events.{Event, Output}
 use Rattle.sp_rules.specs.Space.{state_of}
 use Rattle.sp_rules.specs.State.{State, Living, task_at}
 use Rattle.sp_rules.specs.Worlds.{step_events}
 use Rattle.sp_core.specs.Shown.{lowest_ready}
-use Rattle.sp_behaviours.specs.Behaviours.{told}
 use Rattle.sp_space.specs.Machines.{machine_at}
 use Rattle.sp_space.specs.Spaces.{IsPlayed, IsPlayedBy, IsSpace, IsStep, IsStepBy, answers_to, grown}
 use Rattle.sp_space.specs.declared.space.Space.{Space}
@@ -36,10 +34,10 @@ played-by program g t (Some task) p = (task, p)
 
 module _ (program : Links) (g : Setting) (first : Event) (fuel : ℕ) (space after : Space) (outputs : List Output) (b : GoesOn program g first fuel space) where
   pub lowest : lowest_ready [] (state_of g b.history) ≡ Some 1
-  lowest = one-lowest (state_of g b.history) b.task b.alone b.first (one-waits g (state_of g b.history) b.task b.alone b.stands.stands.core.alone)
+  lowest = one-lowest (state_of g b.history) b.task b.alone b.number (one-waits g (state_of g b.history) b.task b.alone b.stands.stands.core.alone)
 
   there : task_at (state_of g b.history) 1 ≡ Some b.task
-  there = one-there (state_of g b.history) b.task b.alone b.first
+  there = one-there (state_of g b.history) b.task b.alone b.number
 
   -- the step is that of the task
   its-step : IsStep program g b.history 1 after outputs
@@ -56,7 +54,7 @@ module _ (program : Links) (g : Setting) (first : Event) (fuel : ℕ) (space aft
       let (task, plays) =
       played-by program g b.task (machine_at 1 space.machines) (subst (λ o. IsPlayed program g o (machine_at 1 space.machines)) there (b.stands.played 1))
       in
-      by answers stands (moves program g b.history b.task task.state b.alone b.first b.stands.stands.core.alone plays.follows stands.stands.taken)
+      by answers stands (moves program g b.history b.task task.state b.alone b.number b.stands.stands.core.alone plays.follows stands.stands.taken)
     where
       by : outputs ≡ answers_to g b.history (step_events 1 b.task.task) → IsSpace program g (grown b.history (step_events 1 b.task.task)) after
           → Moves program g b.history b.task (step_events 1 b.task.task) → Went program g first fuel after outputs
@@ -65,7 +63,7 @@ module _ (program : Links) (g : Setting) (first : Event) (fuel : ℕ) (space aft
           (record { before = b.history; grows = b.grows; task = b.task; ready = lowest; lives = there; taken = stands.stands.taken; ended = is })
           (one-way g b.history b.task lowest there first end is (none-lowest (state_of g (grown b.history (step_events 1 b.task.task))) left) b.awaits)
       by answers stands (goes_on now is one here less) =
-          let has = b.fuel in
+          let has = b.left in
           goes (answers ∙ is) (omega (arith, less, has))
           (record {
             classes = b.classes;
@@ -74,7 +72,27 @@ module _ (program : Links) (g : Setting) (first : Event) (fuel : ℕ) (space aft
             stands = stands;
             task = now;
             alone = one;
-            first = here;
-            fuel = omega (arith, less, has);
+            number = here;
+            left = omega (arith, less, has);
             awaits = awaits-next g b.history b.task lowest there first is b.awaits;
           })
+
+module _ (program : Links) (g : Setting) (first : Event) (fuel : ℕ) (after : Space) (outputs : List Output) (went : Went program g first fuel after outputs) (result : Option Outcome)
+    (tells : (end : Option Outcome) → outputs ≡ answer_of end → result ≡ end) where
+  -- an end that is told is that of the task
+  pub told-end : (outcome : Outcome) → result ≡ Some outcome → IsOfSet program.classes outcome × EndsAs g first outcome × ((other : Outcome) → EndsAs g first other → other ≡ outcome)
+  told-end outcome is = by went
+    where
+      by : Went program g first fuel after outputs → IsOfSet program.classes outcome × EndsAs g first outcome × ((other : Outcome) → EndsAs g first other → other ≡ outcome)
+      by (has_ended end answers of_set ends only) =
+          let same : end ≡ outcome = ap (λ o. unwrap_or o end) (sym (tells (Some end) answers) ∙ is) in
+          subst (λ (x : Outcome). IsOfSet program.classes x × EndsAs g first x × ((other : Outcome) → EndsAs g first other → other ≡ x)) same (of_set, ends, only)
+      by (goes answers some now) = let wrong : None ≡ Some outcome = sym (tells None answers) ∙ is in absurd (cc)
+
+  -- without one it goes on
+  pub told-none : result ≡ None → (1 ≤ fuel) × GoesOn program g first (fuel - 1) after
+  told-none is = by went
+    where
+      by : Went program g first fuel after outputs → (1 ≤ fuel) × GoesOn program g first (fuel - 1) after
+      by (has_ended end answers of_set ends only) = let wrong : Some end ≡ None = sym (tells (Some end) answers) ∙ is in absurd (cc)
+      by (goes answers some now) = (some, now)

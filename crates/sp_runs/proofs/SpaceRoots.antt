@@ -22,7 +22,7 @@ use Rattle.sp_core.specs.declared.fault.CoreFault.TheVariants as core
 use Rattle.sp_core.specs.declared.fault.StartFault.TheVariants as core_start
 use Rattle.sp_classes.specs.Classes.{classes_of}
 use Rattle.sp_classes.specs.Starts.{refusal_of, start_refusal_in}
-use Rattle.sp_space.specs.Spaces.{AreLimits, IsSpace}
+use Rattle.sp_space.specs.Spaces.{AreLimits, IsSpace, RunsOn}
 use Rattle.sp_space.specs.declared.space.Space.{Space}
 use Rattle.sp_space.proofs.RowsAfter.{new_task, root-adds}
 use Rattle.uuid.specs.Parts.{zero_bytes}
@@ -34,12 +34,15 @@ use Rattle.vm_run.specs.Task.{Tasked}
 use Rattle.vm_run.specs.declared.fault.StartFault.{StartFault}
 use Rattle.vm_run.specs.declared.fault.StartFault.TheVariants as fault
 use Rattle.vm_run.specs.declared.limits.Limits.{Limits}
+use Rattle.vm_run.specs.declared.outcome.Outcome.{Outcome}
 use Rattle.vm_run.proofs.Refused.{refused, starts}
 use Rattle.sp_runs.specs.Going.{GoesOn, refusal_at}
-use Rattle.sp_runs.specs.InSpace.{RunsInSpace, begins}
+use Rattle.sp_runs.specs.InSpace.{EndsAs, RunsInSpace, begins}
+use Rattle.sp_runs.specs.Only.{IsOutOfMemory}
+use Rattle.sp_runs.specs.Outcomes.{IsNamed}
 use Rattle.sp_runs.specs.Runs.{IsNotRunInSpace}
 use Rattle.sp_runs.specs.declared.running.RunOutcome.{RunOutcome}
-use Rattle.sp_runs.proofs.SpaceOnly.{grows-reached}
+use Rattle.sp_runs.proofs.SpaceOnly.{first-unrefused, grows-reached, one-name}
 
 -- ---- the setting
 
@@ -62,7 +65,7 @@ one-setting program method arguments limits o r = λ j. record {
   classes = r.classes j;
   id = r.id j;
   digest = r.digest j;
-  limits = record { heap = r.limits.heap j; stack = r.limits.stack j; references = r.limits.references j; fuel = r.limits.fuel j };
+  limits = record { heap = r.within.heap j; stack = r.within.stack j; references = r.within.references j; fuel = r.within.fuel j };
 }
 
 -- ---- why it does not start
@@ -204,8 +207,8 @@ module _ (program : Links) (method : MethodId) (arguments : List Value) (limits 
   not-run own p (core.Start core_start.BadSignature) is why = inl (λ known. not-started BadSignature why)
   not-run own p (core.Start core_start.BadArgument) is why = inl (λ known. not-started BadArgument why)
   not-run own p core.NotHeld is why =
-      let (task, begins) = starts-else why.0 in
-      inr (record { task = task; starts = begins; references = some-reference p (references_of arguments) (sym is ∙ why.1); fault = refl })
+      let (task, starting) = starts-else why.0 in
+      inr (record { task = task; starts = starting; references = some-reference p (references_of arguments) (sym is ∙ why.1); is = refl })
   not-run own p core.UnknownTask is why = tt
   not-run own p core.NotLent is why = tt
   not-run own p core.WrongKind is why = tt
@@ -236,7 +239,38 @@ root-goes program g method arguments fuel space classes is = record {
   stands = is;
   task = new_task g 1 method arguments fuel;
   alone = root-adds g opening method arguments fuel;
-  first = refl;
-  fuel = refl;
+  number = refl;
+  left = refl;
   awaits = λ end e. grows-reached g (Root method arguments fuel) e.before e.grows;
 }
+
+-- so does a new one
+pub new-stands : (program : Links) (limits : Limits) (own : Uuid) (space : Space) → own ≡ zero_bytes → ((g : Setting) → g.classes ≡ classes_of program → RunsOn program g)
+    → ((links : Links) (g : Setting) → RunsOn links g → g.id ≡ own → AreLimits g limits → IsSpace links g [] space) → IsSpace program (setting_of program zero_bytes limits) [] space
+new-stands program limits own space nil runs stands =
+    let g = setting_of program zero_bytes limits in stands program g (runs g refl) (sym nil) (its-limits program zero_bytes limits)
+
+-- ---- a method that runs in a space runs to one outcome
+
+module _ (program : Links) (method : MethodId) (arguments : List Value) (limits : Limits) (outcome : RunOutcome) (runs : RunsInSpace program method arguments limits outcome) where
+  ends-there : EndsAs (setting_of program zero_bytes limits) (Root method.0 arguments limits.fuel) runs.end
+  ends-there = subst (λ (g : Setting). EndsAs g (Root method.0 arguments limits.fuel) runs.end) (one-setting program method arguments limits outcome runs) runs.ends
+
+  -- so it is not refused, unless memory runs out
+  pub root-out : (f : CoreFault)
+      → ((lent : List ℕ) → (f ≡ core.Memory)
+      ⊎ Refuses (refusal (setting_of program zero_bytes limits) lent (state_of (setting_of program zero_bytes limits) []) (Root method.0 arguments limits.fuel)) f)
+      → IsOutOfMemory (refusal_at f)
+  root-out f why =
+      let g = setting_of program zero_bytes limits in
+      let (lent, unrefused) = first-unrefused g (Root method.0 arguments limits.fuel) runs.end ends-there in
+      subst (λ f. IsOutOfMemory (refusal_at f)) (sym (by (refusal g lent (state_of g []) (Root method.0 arguments limits.fuel)) unrefused (why lent))) tt
+    where
+      by : (r : Option Refused) → r ≡ None → (f ≡ core.Memory) ⊎ Refuses r f → f ≡ core.Memory
+      by r none (inl out) = out
+      by r none (inr refuses) = subst (λ r. Refuses r f) none refuses
+
+  pub one-run : (end : Outcome) (told-so : RunOutcome) → IsNamed program.classes end told-so
+      → ((other : Outcome) → EndsAs (setting_of program zero_bytes limits) (Root method.0 arguments limits.fuel) other → other ≡ end) → told-so ≡ outcome
+  one-run end told-so named only =
+      one-name program.classes end told-so outcome named (subst (λ (e : Outcome). IsNamed program.classes e outcome) (only runs.end ends-there) runs.named)

@@ -6,7 +6,7 @@ use Rattle.std.proofs.lemmas.Bool.{eq-eqb, false≢true}
 use Rattle.cls_link.specs.Links.{Links}
 use Rattle.dgc_client.specs.Table as client
 use Rattle.space_ids.specs.declared.value.Value.TheVariants.{Ref}
-use Rattle.sp_rules.specs.Behaviours.{Behaviour, Plain, Asks, Ends, Over, Op, Outcome as End, Returned, Threw, Spent, Reply, Gives, Throws}
+use Rattle.sp_rules.specs.Behaviours.{Behaviour, Plain, Asks, Ends, Over, Op, Outcome as End, Returned, Threw, Spent, Gives, Throws}
 use Rattle.sp_rules.specs.Classes.{Setting}
 use Rattle.sp_rules.specs.Events.{Event, Output, Committed, GivenBack, Finished, Ended, Says, in_order}
 use Rattle.sp_rules.specs.Laws.{AllOf}
@@ -14,7 +14,7 @@ use Rattle.sp_rules.specs.Lists.{at_first, each, with_some}
 use Rattle.sp_rules.specs.LivingTasks.{after_reply, after_steps, end_at, end_with, finish_task, is_full, keep_result, next_object, op_reply, report}
 use Rattle.sp_rules.specs.Origins.{IsTaken}
 use Rattle.sp_rules.specs.References.{is_reference_in, references_in}
-use Rattle.sp_rules.specs.Refusals.{NotHeld, NotLent, check_finished, first_refusal, holds, is_in_hand, refusal, refuse_if, result_of, stand_after}
+use Rattle.sp_rules.specs.Refusals.{NotHeld, NotLent, check_finished, first_refusal, holds, is_in_hand, refusal, result_of, stand_after}
 use Rattle.sp_rules.specs.Space.{happen, on, conclude, finish_event, outputs_of, state_of}
 use Rattle.sp_rules.specs.State.{State, Living, KeptResult, OfRoot, RootAcked, ready_at, say, task_at, that_is_ready}
 use Rattle.sp_rules.specs.Tasks.{Task, Stand, Runs, AsksFor, HasEnded, answer, stand, stand_at, step, steps}

@@ -34,8 +34,8 @@ pub record GoesOn (program : Links) (g : Setting) (first : Event) (fuel : ℕ) (
   pub stands : IsSpace program g history space
   pub task : Living
   pub alone : (state_of g history).tasks ≡ task ∷ []
-  pub first : task.id ≡ 1
-  pub fuel : task.task.fuel ≡ fuel
+  pub number : task.id ≡ 1
+  pub left : task.task.fuel ≡ fuel
   -- no end of the task is in it
   pub awaits : (end : Outcome) (e : EndsAs g first end) → Reaches g history e.before
 

@@ -17,7 +17,7 @@ IsHome home = HasHistory (λ c. c ≡ classes_of home.program.now) home.program.
 
 -- It is that of this program, at the end of this history.
 pub record IsHomeAt (program : Links) (g : Setting) (h : List Event) (home : Home) : Type 0 where
-  pub program : home.program.now ≡ program
+  pub runs : home.program.now ≡ program
   pub space : IsSpace program g h home.space
 
 -- A root of a space is at the method that a script names, and has happened.

@@ -43,7 +43,7 @@ pub record RunsInSpace (program : Links) (method : MethodId) (arguments : List V
   pub id : setting.id ≡ zero_bytes
   -- no peer compares it with its own
   pub digest : setting.digest ≡ []
-  pub limits : AreLimits setting limits
+  pub within : AreLimits setting limits
   pub end : Outcome
   pub ends : EndsAs setting (Root method.0 arguments limits.fuel) end
   pub named : IsNamed program.classes end outcome

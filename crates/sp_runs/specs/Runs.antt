@@ -72,7 +72,7 @@ pub record PassesReference (program : Links) (method : MethodId) (arguments : Li
   pub task : Tasked
   pub starts : started program zero_bytes method arguments limits ≡ Ok task
   pub references : references_of arguments ≢ []
-  pub fault : fault ≡ start.BadArgument
+  pub is : fault ≡ start.BadArgument
 
 -- why a method of a program does not run in a new space, out of memory apart
 abbrev pub IsNotRunInSpace : Links → MethodId → List Value → Limits → Refusal → Type 0

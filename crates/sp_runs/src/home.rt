@@ -1,6 +1,6 @@
 //! A space with the program that its tasks run.
 
-ghost use Rattle.std.specs.Prelude.{◌≡◌, ◌⊎◌, ◌+◌, ◌<◌, ◌^◌, ℕ, List, [], ◌∷◌, None, Some, IfOk, IfErr, OnErr, map, option_map, slice_get};
+ghost use Rattle.std.specs.Prelude.{◌≡◌, ◌⊎◌, ◌+◌, ◌<◌, ◌^◌, ℕ, List, [], None, Some, IfOk, IfErr, OnErr, map, option_map, slice_get};
 ghost use Rattle.cls_link.specs.Links.{Links};
 ghost use Rattle.cls_set.specs.Classes.{name_at};
 ghost use Rattle.sp_classes.specs.Classes.{classes_of};

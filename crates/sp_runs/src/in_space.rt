@@ -1,14 +1,11 @@
 //! A method that runs as the only root of a space.
 
-ghost use Rattle.std.specs.Prelude.{◌≡◌, ◌⊎◌, ◌+◌, ◌^◌, ◌<◌, ℕ, true, false, List, [], ◌∷◌, Option, IfNone, IfOk, IfErr, IfSome, map};
-ghost use Rattle.cls_link.specs.Links.{Links};
-ghost use Rattle.cls_link.specs.declared.linked_code.MethodId.{MethodId as Method};
-ghost use Rattle.space_ids.specs.declared.value.Value.{Value as Argument};
+ghost use Rattle.std.specs.Prelude.{◌≡◌, ◌+◌, ◌^◌, ◌<◌, true, false, List, Option, IfOk, IfErr, map};
 ghost use Rattle.sp_behaviours.specs.Behaviours.{told as told_to_space};
 ghost use Rattle.sp_classes.specs.Classes.{classes_of};
 ghost use Rattle.sp_core.specs.Events.{output_of};
 ghost use Rattle.sp_rules.specs.Classes.{Setting};
-ghost use Rattle.sp_rules.specs.Events.{Event, Output as Answer, Ended, Root};
+ghost use Rattle.sp_rules.specs.Events.{Event};
 ghost use Rattle.sp_space.specs.Spaces.{RunsOn};
 ghost use Rattle.sp_tasks.specs.Behaviours.{outcome_of};
 ghost use Rattle.vm_run.specs.Run.{HasNoRemote};
@@ -103,16 +100,15 @@ fn play(program: &Program, space: Space, fuel: u64) -> Result<Outcome, Refusal>
     }
 }
 
-// How the first task that has ended by these outputs has done so, if one has.
+// How the task has ended by a step that answers these outputs, if it has.
 fn ended(outputs: Vec<Output>) -> Option<Outcome>
     ensures { (end : Option Outcome) → map output_of outputs.items ≡ answer_of end → result ≡ end }
 {
-    for output in outputs {
-        if let Output::Ended(_, outcome) = output {
-            return Some(told(outcome));
-        }
+    let mut outputs = outputs;
+    match outputs.pop() {
+        Some(Output::Ended(_, outcome)) => Some(told(outcome)),
+        _ => None,
     }
-    None
 }
 
 fn told(outcome: sp_core::Outcome) -> Outcome

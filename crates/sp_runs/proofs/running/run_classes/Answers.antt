@@ -14,7 +14,7 @@ returns-in_err-program-clause-refused c =
     let is : Refusal → Type 0 = IsRefused c.args.files.now c.args.class.now c.args.method.now c.args.arguments.items c.args.limits in
     known_error c.from_residual.result c.in_err-program.field-0.0 is c.from_residual.ensures.1
     (elim (c.in_err-program.ensures).refused [
-      | inl no ↦ no_program c.in_err-program.field-0.0 no
+      | inl why ↦ no_program c.in_err-program.field-0.0 why
       | inr out ↦ subst is (sym out) no_memory
     ])
 
