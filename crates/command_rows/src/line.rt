@@ -24,6 +24,8 @@ pub enum Line<'a> {
     Method(Method),
     /// A line of the last method's code, or of the script.
     Code(&'a str),
+    /// A line of the script that comes so many times, with a `#` for its number.
+    Times { count: usize, text: &'a str },
     Change(Change),
     /// A command line for the program, over the folder in memory.
     InMemory(&'a str),
@@ -44,6 +46,9 @@ pub fn line_of<'a>(alloc: Global, text: &'a str) -> Result<Line<'a>, LineFault> 
     }
     if let Some(words) = text.strip_prefix("@ ") {
         return Ok(Line::OnDisk(words));
+    }
+    if let Some(times) = text.strip_prefix("times ") {
+        return times_of(times);
     }
     let words: Vec<&str> = text.split(' ').collect(alloc)?;
     match words.as_slice() {
@@ -89,6 +94,14 @@ pub fn line_of<'a>(alloc: Global, text: &'a str) -> Result<Line<'a>, LineFault> 
         }
         parts => Ok(Line::Change(change_of(alloc, parts)?)),
     }
+}
+
+fn times_of<'a>(text: &'a str) -> Result<Line<'a>, LineFault> {
+    let (count, text) = text.split_once(' ').ok_or(LineFault::Bad)?;
+    Ok(Line::Times {
+        count: number(count)?,
+        text,
+    })
 }
 
 // The bytes that the words after a file's path ask for.

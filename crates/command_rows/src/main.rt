@@ -15,7 +15,8 @@
 //! | `abstract FLAGS NAME DESCRIPTOR` | adds a method without code |
 //! | `code FLAGS NAME DESCRIPTOR MAX_STACK MAX_LOCALS [FRAMES]` | adds a method whose code follows |
 //! | `\| LINE` | adds a line of code to that method, as `javap` shows it, or a line to the script |
-//! | `script PATH` | adds a file that is listed nowhere: a script, whose lines follow |
+//! | `script PATH` | adds a file that no listing has: a script, whose lines follow |
+//! | `times N LINE` | adds this line to the script N times, each with its number, from 1, in place of its first `#` |
 //! | `byte OFFSET VALUE` | sets a byte of the last file, to two hex digits |
 //! | `cut N`, `append HEX` | keeps the first N bytes of the last file, or adds bytes to it |
 //! | `again FROM TO` | appends the last file's own bytes from FROM up to TO |

@@ -75,6 +75,7 @@ impl Script {
                 self.shelf.add(path, Some(Vec::new(alloc)))?;
             }
             Line::Code(text) if self.is_script => self.add_line(text)?,
+            Line::Times { count, text } if self.is_script => self.add_lines(count, text)?,
             line => self.change(line)?,
         }
         Ok(Reply::Silent)
@@ -107,6 +108,16 @@ impl Script {
         let mut bytes = text.as_bytes().to_vec(self.alloc)?;
         bytes.push(b'\n')?;
         self.shelf.change(Change::Append(bytes))
+    }
+
+    // Adds a line so many times, each with its number in place of a `#`.
+    fn add_lines(&mut self, count: usize, text: &str) -> Result<(), LineFault> {
+        let (before, after) = text.split_once('#').ok_or(LineFault::Bad)?;
+        for index in 0..count {
+            let line = format!(in self.alloc; "{before}{}{after}", index + 1)?;
+            self.add_line(line.as_str())?;
+        }
+        Ok(())
     }
 
     fn begin_class(&mut self, path: &str, name: &str) -> Result<(), LineFault> {

@@ -49,7 +49,8 @@ impl ShelfFile {
     }
 }
 
-/// A folder in memory, which lists its files whose names end in `.class`. Of two other folders `gone` cannot be read, and `full` is out of memory.
+/// A folder in memory, which lists its files whose names end in `.class`. Of two other folders `gone`
+/// cannot be read, and `full` is out of memory.
 #[derive(Drop)]
 pub struct Shelf {
     alloc: Global,

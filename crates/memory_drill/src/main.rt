@@ -14,6 +14,7 @@ use tally::Tally;
 
 mod path;
 mod records;
+mod remote;
 mod tally;
 mod wire;
 

@@ -1,6 +1,7 @@
-//! The path from bytes to an outcome: command lines over a folder in memory.
+//! The path from bytes to an outcome: command lines over folders in memory.
 
 use super::Tally;
+use super::remote::{REMOTE, SCRIPT};
 use cf_load::LoadFault;
 use cf_reader::ReadFault;
 use class_builder::SUM;
@@ -16,16 +17,13 @@ use ver_check::CheckFault;
 use vm_heap::Value;
 use vm_run::{Limits, StartFault};
 
-// A command line, with the status and the text that it owes. Most of its memory goes into the
-// arguments.
-const LINE: (&str, u8, &str) = ("run box T f(I)I 4 --fuel 38", 0, "returned 10\n");
-
 const WANT: (u8, &str) = (3, "no memory\n");
 
-// A folder with the class in one file.
+// A folder with one class file: its methods run alone, or its class is remote and a script lies beside it.
 #[derive(Drop)]
 struct Shelf {
     alloc: Global,
+    is_remote: bool,
 }
 
 impl Folder for Shelf {
@@ -33,15 +31,21 @@ impl Folder for Shelf {
 
     fn paths(&self, folder: &str) -> Result<Vec<String>, FolderFault> {
         let mut path = String::from_str(self.alloc, folder)?;
-        path.push_str("/T.class")?;
+        path.push_str(if self.is_remote {
+            "/C.class"
+        } else {
+            "/T.class"
+        })?;
         let mut paths = Vec::new(self.alloc);
         paths.push(path)?;
         Ok(paths)
     }
 
     fn open(&self, path: &str) -> io::Result<&'static [u8]> {
-        match path {
-            "box/T.class" => Ok(SUM.as_slice()),
+        match (self.is_remote, path) {
+            (false, "box/T.class") => Ok(SUM.as_slice()),
+            (true, "box/C.class") => Ok(REMOTE.as_slice()),
+            (true, "box/script") => Ok(SCRIPT),
             _ => Err(io::Error::from(ErrorKind::NotFound)),
         }
     }
@@ -67,7 +71,7 @@ impl Said {
     }
 }
 
-fn say(alloc: Global, line: &str) -> Result<Said, AllocError> {
+fn say(alloc: Global, is_remote: bool, line: &str) -> Result<Said, AllocError> {
     let mut words = Vec::new(alloc);
     words.push(String::from_str(alloc, "rmispace")?)?;
     for word in line.split(' ') {
@@ -79,7 +83,7 @@ fn say(alloc: Global, line: &str) -> Result<Said, AllocError> {
     let status = command(
         alloc,
         &words,
-        &Shelf { alloc },
+        &Shelf { alloc, is_remote },
         &mut b"".as_slice(),
         &mut out,
         &mut err,
@@ -87,16 +91,31 @@ fn say(alloc: Global, line: &str) -> Result<Said, AllocError> {
     Ok(Said { status, out, err })
 }
 
-// Gives a line to the program.
-fn play_line(alloc: Global, tally: &mut Tally) -> Result<(), AllocError> {
-    let (line, status, text) = LINE;
-    let mut said = say(alloc, line)?;
+// Gives a line to the program, which owes this text.
+fn play_line(
+    alloc: Global,
+    is_remote: bool,
+    line: &str,
+    text: &str,
+    tally: &mut Tally,
+) -> Result<(), AllocError> {
+    let mut said = say(alloc, is_remote, line)?;
     if said.is(WANT.0, WANT.1) {
         tally.want();
-        said = say(alloc, line)?;
+        said = say(alloc, is_remote, line)?;
     }
-    tally.answer(said.is(status, text));
+    tally.answer(said.is(0, text));
     Ok(())
+}
+
+// A line whose method runs alone, one whose method runs in a space, and a script.
+fn play_lines(alloc: Global, tally: &mut Tally) -> Result<(), AllocError> {
+    let alone = "run box T f(I)I 4 --fuel 38";
+    play_line(alloc, false, alone, "returned 10\n", tally)?;
+    let in_space = "run box C make()Ljava/rmi/Remote;";
+    play_line(alloc, true, in_space, "returned ref 0 1\n", tally)?;
+    let shown = "A 1 C names=1 entries=0\nc returned ref A 1\n";
+    play_line(alloc, true, "sim box box/script", shown, tally)
 }
 
 type Answer = Result<RunOutcome, Refusal>;
@@ -144,9 +163,9 @@ fn run_again(
     Ok(answer)
 }
 
-/// Gives a line to the program, and runs the class whole, cut, and by a name that it has not.
+/// Gives lines to the program, and runs the class whole, cut, and by a name that it has not.
 pub fn play(alloc: Global, tally: &mut Tally) -> Result<(), AllocError> {
-    play_line(alloc, tally)?;
+    play_lines(alloc, tally)?;
     let answer = run_again(alloc, SUM, b"f(I)I", 100, tally)?;
     tally.answer(matches!(answer, Ok(RunOutcome::Returned(Some(Value::Int(5050))))));
     let answer = run_again(alloc, &SUM[..143], b"f(I)I", 100, tally)?;

@@ -14,10 +14,10 @@ IsWhole Unreadable = ⊥
 module _ (gives : List ℕ → Option (List ℕ) → Type 0) where
   -- the files of these paths, each whole
   abbrev pub AreWhole : List (String Global) → List ClassBytes → Type 0
-  AreWhole paths files = AllZip (λ path file. (file.path ≡ path) × IsContent (gives (string_bytes path)) file.content × IsWhole file.content) paths files
+  AreWhole paths files = AllZip (λ path file. (file.path ≡ path) × IsContent 1048577 (gives (string_bytes path)) file.content × IsWhole file.content) paths files
 
   pub one_file_more : (paths : List (String Global)) (files : List ClassBytes) (path : String Global) (file : ClassBytes) → AreWhole paths files → file.path ≡ path
-      → IsContent (gives (string_bytes path)) file.content → IsWhole file.content → AreWhole (paths ++ path ∷ []) (files ++ file ∷ [])
+      → IsContent 1048577 (gives (string_bytes path)) file.content → IsWhole file.content → AreWhole (paths ++ path ∷ []) (files ++ file ∷ [])
   one_file_more [] [] path file whole is content now = ((is, content, now), tt)
   one_file_more [] (f ∷ files) path file whole is content now = absurd whole
   one_file_more (p ∷ paths) [] path file whole is content now = absurd whole
@@ -37,7 +37,7 @@ module _ (gives : List ℕ → Option (List ℕ) → Type 0) where
 
   -- the last file is not
   pub last_unreadable : (paths rest : List (String Global)) (files : List ClassBytes) (path : String Global) (file : ClassBytes) → AreWhole paths files → file.path ≡ path
-      → IsContent (gives (string_bytes path)) file.content → file.content ≡ Unreadable → AreRead gives (paths ++ path ∷ rest) (files ++ file ∷ [])
+      → IsContent 1048577 (gives (string_bytes path)) file.content → file.content ≡ Unreadable → AreRead gives (paths ++ path ∷ rest) (files ++ file ∷ [])
   last_unreadable [] rest [] path file whole is content now = (is, content, subst (λ (c : Content). AfterFile c (AreRead gives rest []) []) (sym now) refl)
   last_unreadable [] rest (f ∷ files) path file whole is content now = absurd whole
   last_unreadable (p ∷ paths) rest [] path file whole is content now = absurd whole

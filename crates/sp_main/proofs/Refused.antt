@@ -1,8 +1,8 @@
 -- A refusal of files is one of these files.
-use Rattle.std.proofs.Common.{ℕ, List}
+use Rattle.std.proofs.Common.{◌≡◌, ◌⊎◌, ℕ, List, inl, inr, subst, sym}
 use Rattle.std.proofs.lemmas.Option.{slice_get_within}
 use Rattle.sp_main.specs.RefusalTexts.{IsRefusalOf}
-use Rattle.sp_runs.specs.Runs.{IsNoProgram, IsOfStart, IsRefused, IsUnread, absent, at_fault, no_memory, no_memory_to_read, no_program, no_set, not_linked, not_safe, not_started, unread}
+use Rattle.sp_runs.specs.Runs.{IsNoProgram, IsRefused, IsUnread, at_fault, no_memory_to_read, no_program, no_set, not_linked, not_safe, unread}
 use Rattle.sp_runs.specs.declared.refusal.Refusal.{Refusal}
 use Rattle.sp_runs.specs.declared.refusal.Refusal.TheVariants as refusal
 use Rattle.sp_runs.specs.declared.running.ClassBytes.{ClassBytes}
@@ -22,11 +22,9 @@ no_program_file files r (not_safe classes linked fault spelled has is why) = tt
 
 pub refused_file : (files : List ClassBytes) (class text : List ℕ) (arguments : List Value) (limits : Limits) (r : Refusal) → IsRefused files class text arguments limits r → IsRefusalOf files r
 refused_file files class text arguments limits r (no_program refused why) = no_program_file files refused why
-refused_file files class text arguments limits r (absent program is named) = tt
-refused_file files class text arguments limits r (not_started program method fault is named why) = tt
-refused_file files class text arguments limits r no_memory = tt
+refused_file files class text arguments limits r why = tt
 
-pub start_file : (files : List ClassBytes) (r : Refusal) → IsOfStart r → IsRefusalOf files r
-start_file files (refusal.Start fault) is = tt
-start_file files refusal.Memory is = tt
-start_file files r is = absurd is
+-- out of memory is one of the reasons for which files make no program
+pub without_program : (files : List ClassBytes) (r : Refusal) → IsNoProgram files r ⊎ (r ≡ refusal.Memory) → IsNoProgram files r
+without_program files r (inl why) = why
+without_program files r (inr memory) = subst (IsNoProgram files) (sym memory) (unread refusal.Memory no_memory_to_read)

@@ -4,10 +4,10 @@ use Rattle.cls_link.specs.Links.{Links}
 use Rattle.sp_main.specs.CommandLine.{AsksCheck, AsksRun, AsksSim, AsksText, IsUsageFault, RunWords, SimWords}
 use Rattle.sp_main.specs.Folders.{AreFilesOf, Telling}
 use Rattle.sp_main.specs.RefusalTexts.{TellsRefusal, TellsUnreadable}
-use Rattle.sp_main.specs.Replies.{Fails, IsReply, Replies, accepted, limits_of, mistaken, no_script, not_played, played, ran, ran_in_space, refused, refused_in_space, rejected, replied, stopped, told, unreadable, unwritten}
+use Rattle.sp_main.specs.Replies.{Fails, IsPlayed, IsReply, Replies, accepted, bad_line, limits_of, mistaken, not_played, played, ran, refused, rejected, replied, told, unreadable, unwritten}
 use Rattle.sp_main.specs.Reports.{IsTold, LeavesOther, line_of}
 use Rattle.sp_main.specs.Requests.{IsRequest, run_words, sim_words}
-use Rattle.sp_runs.specs.Runs.{HasRemote, IsNoProgram, IsOfStart, IsProgram, IsRefused, IsRun}
+use Rattle.sp_runs.specs.Runs.{IsNoProgram, IsProgram, IsRefused, IsRun}
 use Rattle.sp_main.specs.Statuses.{code_of, outcome_status, refusal_status}
 use Rattle.sp_main.specs.Texts.{accepted_text, bad_line_text, outcome_text}
 use Rattle.sp_runs.specs.declared.refusal.Refusal.{Refusal}
@@ -60,21 +60,6 @@ refusal_replied telling run files read class method limits refusal (Ok report) l
     (subst (λ (f : List ClassBytes). IsRefused f class method run.arguments limits refusal) ef is)))) status text
 refusal_replied telling run files read class method limits refusal (Err e) listed ef ec em el is status text = tt
 
--- a run in a space, and a start there that is refused
-pub run_in_space_replied : {E : Type 0} (telling : Telling) (run : RunWords) (files read : List ClassBytes) (outcome : RunOutcome) (answer : Result Report E)
-    → AreFilesOf telling run.folder read → files ≡ read → HasRemote files → IfOk answer (λ report. report.status ≡ outcome_status outcome)
-    → IfOk answer (λ report. report.text.items ≡ line_of (outcome_text outcome)) → IsRunReply telling run answer
-run_in_space_replied telling run files read outcome (Ok report) listed same remote status text =
-    λ words asks. ran_in_space run read outcome asks listed (subst HasRemote same remote) status text
-run_in_space_replied telling run files read outcome (Err e) listed same remote status text = tt
-
-pub refusal_in_space_replied : {E : Type 0} (telling : Telling) (run : RunWords) (files read : List ClassBytes) (refusal : Refusal) (answer : Result Report E)
-    → AreFilesOf telling run.folder read → files ≡ read → HasRemote files → IsOfStart refusal → IfOk answer (λ report. report.status ≡ refusal_status refusal)
-    → IfOk answer (λ report. TellsRefusal read refusal report.text.items) → IsRunReply telling run answer
-refusal_in_space_replied telling run files read refusal (Ok report) listed same remote start status text =
-    λ words asks. refused_in_space run read refusal asks listed (subst HasRemote same remote) start status text
-refusal_in_space_replied telling run files read refusal (Err e) listed same remote start status text = tt
-
 module _ {E : Type 0} (telling : Telling) (sim : SimWords) (answer : Result Report E) where
   -- the report is the reply to all arguments that ask for this script
   abbrev pub IsSimReply : Type 0
@@ -93,21 +78,17 @@ module _ {E : Type 0} (telling : Telling) (sim : SimWords) (files read : List Cl
       λ words asks. not_played sim read refusal asks listed (subst (λ (f : List ClassBytes). IsNoProgram f refusal) same is) status text
   refusal_simulated refusal (Err e) is status text = tt
 
-  pub script_unreadable : (program : Links) (answer : Result Report E) → IsProgram files program → IfOk answer (λ report. report.status ≡ Failed)
-      → IfOk answer (λ report. TellsUnreadable sim.script report.text.items) → IsSimReply telling sim answer
-  script_unreadable program (Ok report) is status text =
-      λ words asks. no_script sim read program asks listed (subst (λ (f : List ClassBytes). IsProgram f program) same is) status text
-  script_unreadable program (Err e) is status text = tt
+  pub played_simulated : (program : Links) (answer : Result Report E) → IsProgram files program
+      → IfOk answer (λ report. IsPlayed sim.script report.status report.text.items) → IsSimReply telling sim answer
+  played_simulated program (Ok report) is plays =
+      λ words asks. played sim read program asks listed (subst (λ (f : List ClassBytes). IsProgram f program) same is) plays
+  played_simulated program (Err e) is plays = tt
 
-  pub script_played : (program : Links) (report : Report) → IsProgram files program → report.status ≡ Done
-      → (words : List (List ℕ)) → AsksSim words sim → IsReply telling words report.status report.text.items
-  script_played program report is status words asks = played sim read program asks listed (subst (λ (f : List ClassBytes). IsProgram f program) same is) status
-
-  pub script_stopped : (program : Links) (line : ℕ) (answer : Result Report E) → IsProgram files program → IfOk answer (λ report. report.status ≡ Failed)
-      → IfOk answer (λ report. report.text.items ≡ line_of (bad_line_text line)) → IsSimReply telling sim answer
-  script_stopped program line (Ok report) is status text =
-      λ words asks. stopped sim read program asks listed (subst (λ (f : List ClassBytes). IsProgram f program) same is) status line text
-  script_stopped program line (Err e) is status text = tt
+-- a bad line is one of the things that a script comes to
+pub bad_line_told : {E : Type 0} (path : List ℕ) (number : ℕ) (answer : Result Report E) → IfOk answer (λ report. report.status ≡ Failed)
+    → IfOk answer (λ report. report.text.items ≡ line_of (bad_line_text number)) → IfOk answer (λ report. IsPlayed path report.status report.text.items)
+bad_line_told path number (Ok report) status text = bad_line number status text
+bad_line_told path number (Err e) status text = tt
 
 module _ {E : Type 0} (telling : Telling) (folder : List ℕ) (answer : Result Report E) where
   -- the report is the reply to all arguments that ask for a check of the folder

@@ -52,23 +52,24 @@ NamesBelow folder (CannotRead path) = IsBelow folder (string_bytes path)
 NamesBelow folder (NotAFolder path) = IsBelow folder (string_bytes path)
 NamesBelow folder Memory = Unit {0}
 
--- the content of a file is what its device gave: all of its bytes, or one more than a class file may have
-abbrev pub IsContent : (gives : Option (List ℕ) → Type 0) → Content → Type 0
-IsContent gives (Bytes bytes) = (known : Option (List ℕ)) × gives known × IfSome known (λ all. bytes.items ≡ take 1048577 all)
-IsContent gives Unreadable = ⊤
+-- the content of a file is what its device gave: all of its bytes, or its first `most`
+abbrev pub IsContent : (most : ℕ) → (gives : Option (List ℕ) → Type 0) → Content → Type 0
+IsContent most gives (Bytes bytes) = (known : Option (List ℕ)) × gives known × IfSome known (λ all. bytes.items ≡ take most all)
+IsContent most gives Unreadable = ⊤
 
 -- the files after one: none if its device failed
 abbrev pub AfterFile : Content → (rest : Type 0) → List ClassBytes → Type 0
 AfterFile (Bytes bytes) rest files = rest
 AfterFile Unreadable rest files = files ≡ []
 
--- the files of these paths are read in their order, up to the first whose device fails
+-- the files of these paths are read in their order, up to the first whose device fails; of a file are read all of its bytes, or one more
+-- than a class file may have
 abbrev pub AreRead : (gives : List ℕ → Option (List ℕ) → Type 0) → List (String Global) → List ClassBytes → Type 0
 AreRead gives [] [] = ⊤
 AreRead gives [] (file ∷ files) = ⊥
 AreRead gives (path ∷ paths) [] = ⊥
 AreRead gives (path ∷ paths) (file ∷ files) =
-    (file.path ≡ path) × IsContent (gives (string_bytes path)) file.content × AfterFile file.content (AreRead gives paths files) files
+    (file.path ≡ path) × IsContent 1048577 (gives (string_bytes path)) file.content × AfterFile file.content (AreRead gives paths files) files
 
 -- what a folder tells: of a listing by the folder's path, and of the bytes of the file at a path
 pub record Telling : Type 1 where

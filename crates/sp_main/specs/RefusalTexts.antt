@@ -53,10 +53,6 @@ abbrev pub TellsSet : SetFault → (text : List ℕ) → Type 0
 TellsSet (set.Broken rule class) text = text ≡ line_of (rule_text (codes "refused " ++ class) (set_rule_number rule) (set_rule_name rule))
 TellsSet set.Memory text = ⊥
 
--- a remote class
-abbrev pub remote_text : (class : List ℕ) → List ℕ
-remote_text class = codes "refused " ++ class ++ codes ": 39 NotYet"
-
 -- why a method does not link
 abbrev pub TellsLink : LinkFault → (text : List ℕ) → Type 0
 TellsLink (link.Broken rule class method descriptor at) text = text ≡ line_of (rule_text (refused_method class method descriptor at) (link_rule_number rule) (link_rule_name rule))
@@ -80,7 +76,6 @@ IsRefusalOf files _ = Unit {0}
 abbrev pub TellsRefusal : List ClassBytes → Refusal → (text : List ℕ) → Type 0
 TellsRefusal files (refusal.File index fault) text = IsSomeAnd (slice_get files index) (λ file. TellsFile (string_bytes file.path) fault text)
 TellsRefusal files (refusal.Set fault) text = TellsSet fault text
-TellsRefusal files (refusal.Remote class) text = text ≡ line_of (remote_text class)
 TellsRefusal files (refusal.Link fault) text = TellsLink fault text
 TellsRefusal files (refusal.Check fault) text = TellsCheck fault text
 TellsRefusal files (refusal.Start fault) text = TellsStart fault text

@@ -3,9 +3,9 @@ use Rattle.std.specs.Prelude.{◌≡◌, ◌⊎◌, ℕ, List, Option, codes, le
 use Rattle.cls_link.specs.Links.{Links}
 use Rattle.sp_main.specs.CommandLine.{AsksCheck, AsksRun, AsksSim, AsksText, IsUsageFault, RunWords, SimWords}
 use Rattle.sp_main.specs.Folders.{AreFilesOf, Telling}
-use Rattle.sp_main.specs.RefusalTexts.{TellsRefusal, TellsUnreadable}
+use Rattle.sp_main.specs.RefusalTexts.{TellsRefusal, TellsUnreadable, unreadable_text}
 use Rattle.sp_main.specs.Reports.{CutsOff, IsTold, LeavesOther, Tells, line_of}
-use Rattle.sp_runs.specs.Runs.{HasRemote, IsNoProgram, IsOfStart, IsProgram, IsRefused, IsRun}
+use Rattle.sp_runs.specs.Runs.{IsNoProgram, IsProgram, IsRefused, IsRun}
 use Rattle.sp_main.specs.Statuses.{code_of, outcome_status, refusal_status}
 use Rattle.sp_main.specs.Texts.{accepted_text, bad_line_text, outcome_text}
 use Rattle.sp_runs.specs.declared.refusal.Refusal.{Refusal}
@@ -21,11 +21,19 @@ limits_of fuel = record { heap_words = 65536; stack_words = 16384; references = 
 
 -- the arguments ask for something of a folder
 abbrev pub AsksOf : List (List ℕ) → List ℕ → Type 0
-AsksOf words folder = ((run : RunWords) × AsksRun words run × (folder ≡ run.folder)) ⊎ (AsksCheck words folder ⊎ ((sim : SimWords) × AsksSim words sim × (folder ≡ sim.folder)))
+AsksOf words folder = ((run : RunWords) × AsksRun words run × (folder ≡ run.folder))
+    ⊎ (AsksCheck words folder ⊎ ((sim : SimWords) × AsksSim words sim × (folder ≡ sim.folder)))
+
+-- What a script comes to, by the path of its file: it is done, and what it shows is not said here; a line of it is bad, by its number; or
+-- its file cannot be read
+pub data IsPlayed (path : List ℕ) (status : Status) (text : List ℕ) : Type 0 where
+  done : status ≡ Done → IsPlayed path status text
+  bad_line : (number : ℕ) → status ≡ Failed → text ≡ line_of (bad_line_text number) → IsPlayed path status text
+  no_script : status ≡ Failed → text ≡ line_of (unreadable_text path) → IsPlayed path status text
 
 -- A text is the answer to a command line, with a status: the help that it asked for, why it is refused, that a folder cannot be read, how
 -- the method ended over the class files of the folder, or why they are not run, or that they are accepted, or why not, or what a script
--- shows over them, or why it is not played to its end. What a folder tells is given
+-- comes to over them, or why they are not played. What a folder tells is given
 pub data IsReply (telling : Telling) (words : List (List ℕ)) (status : Status) (text : List ℕ) : Type 0 where
   told : AsksText words → status ≡ Done → (said : List ℕ) → text ≡ line_of said → IsReply telling words status text
   mistaken : IsUsageFault words → status ≡ Failed → (said : List ℕ) → text ≡ line_of said → IsReply telling words status text
@@ -40,18 +48,8 @@ pub data IsReply (telling : Telling) (words : List (List ℕ)) (status : Status)
   refused : (run : RunWords) (files : List ClassBytes) (refusal : Refusal) → AsksRun words run → AreFilesOf telling run.folder files
       → IsRefused files run.class run.method run.arguments (limits_of run.fuel) refusal
       → status ≡ refusal_status refusal → TellsRefusal files refusal text → IsReply telling words status text
-  -- in a set with remote classes the method is a root of a space: that it ended, and no more, is said of it here
-  ran_in_space : (run : RunWords) (files : List ClassBytes) (outcome : RunOutcome) → AsksRun words run → AreFilesOf telling run.folder files → HasRemote files
-      → status ≡ outcome_status outcome → text ≡ line_of (outcome_text outcome) → IsReply telling words status text
-  refused_in_space : (run : RunWords) (files : List ClassBytes) (refusal : Refusal) → AsksRun words run → AreFilesOf telling run.folder files → HasRemote files
-      → IsOfStart refusal → status ≡ refusal_status refusal → TellsRefusal files refusal text → IsReply telling words status text
-  -- a script is played over a space of the class files: what it shows is not said here
   played : (sim : SimWords) (files : List ClassBytes) (program : Links) → AsksSim words sim → AreFilesOf telling sim.folder files → IsProgram files program
-      → status ≡ Done → IsReply telling words status text
-  stopped : (sim : SimWords) (files : List ClassBytes) (program : Links) → AsksSim words sim → AreFilesOf telling sim.folder files → IsProgram files program
-      → status ≡ Failed → (line : ℕ) → text ≡ line_of (bad_line_text line) → IsReply telling words status text
-  no_script : (sim : SimWords) (files : List ClassBytes) (program : Links) → AsksSim words sim → AreFilesOf telling sim.folder files → IsProgram files program
-      → status ≡ Failed → TellsUnreadable sim.script text → IsReply telling words status text
+      → IsPlayed sim.script status text → IsReply telling words status text
   not_played : (sim : SimWords) (files : List ClassBytes) (refusal : Refusal) → AsksSim words sim → AreFilesOf telling sim.folder files → IsNoProgram files refusal
       → status ≡ refusal_status refusal → TellsRefusal files refusal text → IsReply telling words status text
 

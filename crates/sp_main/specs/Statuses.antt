@@ -30,7 +30,6 @@ file_status (Read fault) = Refused
 abbrev pub refusal_status : Refusal → Status
 refusal_status (refusal.File index fault) = file_status fault
 refusal_status (refusal.Set fault) = Refused
-refusal_status (refusal.Remote class) = Refused
 refusal_status (refusal.Link fault) = Refused
 refusal_status (refusal.Check fault) = Refused
 refusal_status (refusal.Start fault) = Failed

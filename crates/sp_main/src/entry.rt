@@ -3,8 +3,9 @@
 ghost use Rattle.std.specs.Prelude.{◌≡◌, ◌<◌, ◌≤◌, ◌^◌, ℕ, List, map, string_bytes, IfOk, IfSome};
 ghost use Rattle.sp_main.specs.CommandLine.{AsksCheck, AsksRun, AsksSim};
 ghost use Rattle.sp_main.specs.Folders.{AreFilesOf, AreRead, IsContent, told_by};
-ghost use Rattle.sp_main.specs.Replies.{Fails, IsReply, Replies};
+ghost use Rattle.sp_main.specs.Replies.{Fails, IsPlayed, IsReply, Replies};
 ghost use Rattle.sp_main.specs.Requests.{run_words, sim_words};
+ghost use Rattle.sp_runs.specs.Runs.{IsProgram};
 
 use super::report::write_text;
 use super::texts::{
@@ -18,11 +19,10 @@ use super::{
 };
 use cf_reader::MAX_LEN;
 use dev_io::{ReadError, StdSource, read_bytes};
-use sp_runs::{Home, ScriptFault, play_script};
+use sp_runs::{Home, Limits, Program, ScriptFault, play_script};
 use space_ids::Uuid;
 use std::alloc::{AllocError, Global};
 use std::io::{Read, Write};
-use vm_run::Limits;
 
 /// Does what the command line asks for, and returns the exit status. The first of `words` is the
 /// program's own name. What it prints is complete before its first byte is written.
@@ -118,17 +118,29 @@ fn sim_report<F: Folder>(
         Ok(files) => files,
         Err(fault) => return folder_report(alloc, fault),
     };
-    let program = match program_of(alloc, &files) {
-        Ok(program) => program,
-        Err(refusal) => return refusal_report(alloc, &files, &refusal),
-    };
-    let script = match read_content(alloc, folder, request.script, usize::MAX)? {
+    match program_of(alloc, &files) {
+        Ok(program) => script_report(alloc, &program, request.script, folder),
+        Err(refusal) => refusal_report(alloc, &files, &refusal),
+    }
+}
+
+// What the script at a path comes to, over a space of the program.
+fn script_report<F: Folder>(
+    alloc: Global,
+    program: &Program,
+    path: &str,
+    folder: &F,
+) -> Result<Report, AllocError>
+    requires { (files : List ClassBytes) × IsProgram files program.now }
+    ensures { IfOk result (λ report. IsPlayed path.now report.status report.text.items) }
+{
+    let script = match read_content(alloc, folder, path, usize::MAX)? {
         Content::Bytes(script) => script,
-        Content::Unreadable => return unreadable_report(alloc, request.script),
+        Content::Unreadable => return unreadable_report(alloc, path),
     };
     // The first space of a script has the id 1.
     let id = Uuid::from_u64_pair(0, 1);
-    let home = Home::new(alloc, &program, id, Limits::default())?;
+    let home = Home::new(alloc, program, id, Limits::default())?;
     match play_script(alloc, home, &script) {
         Ok(text) => Ok(played_report(text)),
         Err(ScriptFault::BadLine(number)) => bad_line_report(alloc, number),
@@ -170,14 +182,15 @@ fn read_contents<F: Folder>(
     Ok(files)
 }
 
-// What the device of a file gives, of at most so many bytes.
+// What the device of a file gives: all of its bytes, or its first `most`.
 fn read_content<F: Folder>(
     alloc: Global,
     folder: &F,
     path: &str,
     most: usize,
 ) -> Result<Content, AllocError>
-    ensures { IfOk result (IsContent (F.gives folder.now path.now)) }
+    requires { 0 < most }
+    ensures { IfOk result (IsContent most (F.gives folder.now path.now)) }
 {
     let Ok(file) = folder.open(path) else {
         return Ok(Content::Unreadable);

@@ -5,13 +5,13 @@ ghost use Rattle.std.specs.Prelude.{◌≡◌};
 /// The exit status of the program.
 #[derive(Clone, Copy, Debug, PartialEq, Eq)]
 pub enum Status {
-    /// What was asked is done: a method returned, or a text was printed.
+    /// What was asked is done: a method returned, a script is done, or a text was printed.
     Done = 0,
     /// The method threw, or its fuel was spent.
     Ended = 1,
     /// The class set is refused.
     Refused = 2,
-    /// The command line, the device or the start are at fault, or memory ran out.
+    /// The command line, a device, the start or a line of a script are at fault, or memory ran out.
     Failed = 3,
 }
 

@@ -2,7 +2,7 @@
 
 ghost use Rattle.std.specs.Prelude.{◌≡◌, ◌++◌, ℕ, List, codes, IfOk, IfSome};
 ghost use Rattle.std.specs.Str.{trim_end};
-ghost use Rattle.sp_main.specs.RefusalTexts.{IsRefusalOf, TellsCheck, TellsFile, TellsLink, TellsRefusal, TellsSet, TellsStart, TellsUnreadable, refused_method, remote_text, rule_text, unreadable_text};
+ghost use Rattle.sp_main.specs.RefusalTexts.{IsRefusalOf, TellsCheck, TellsFile, TellsLink, TellsRefusal, TellsSet, TellsStart, TellsUnreadable, refused_method, rule_text, unreadable_text};
 ghost use Rattle.sp_main.specs.Reports.{IsLine, line_of};
 ghost use Rattle.sp_main.specs.Statuses.{file_status, outcome_status, refusal_status};
 ghost use Rattle.sp_main.specs.Texts.{accepted_text, bad_line_text, ints_text, outcome_text, value_text};
@@ -84,7 +84,6 @@ pub fn refusal_report(
     match refusal {
         Refusal::File { index, fault } => file_report(alloc, &files[*index].path, *fault),
         Refusal::Set(fault) => set_report(alloc, fault),
-        Refusal::Remote(class) => remote_report(alloc, class),
         Refusal::Link(fault) => link_report(alloc, fault),
         Refusal::Check(fault) => check_report(alloc, fault),
         Refusal::Start(fault) => start_report(alloc, *fault),
@@ -191,17 +190,6 @@ fn set_report(alloc: Global, fault: &SetFault) -> Result<Report, AllocError>
             fault_report(line, rule, Status::Refused)
         }
     }
-}
-
-fn remote_report(alloc: Global, class: &Text) -> Result<Report, AllocError>
-    ensures status { IfOk result (λ report. report.status ≡ Status.Refused) }
-    ensures text { IfOk result (λ report. report.text.items ≡ line_of (remote_text class.now)) }
-    ensures line { IfOk result (λ report. IsLine report.text.items) }
-{
-    refused(alloc)?
-        .bytes(class.as_bytes())?
-        .text(": 39 NotYet")?
-        .report(Status::Refused)
 }
 
 fn link_report(alloc: Global, fault: &LinkFault) -> Result<Report, AllocError>

@@ -34,7 +34,8 @@ fn words_that_do_not_parse_are_usage_faults(rt: HostRuntime) -> Result<(), Fail>
         "run box T f(I)I --fuel 1 --fuel 2",
         "check",
         "check box box",
-        "sim box script",
+        "sim box",
+        "sim box script more",
         "serve box --workers 2",
     ] {
         is_usage_fault(&rt, &say(rt.alloc(), line)?, line);
@@ -49,9 +50,13 @@ fn help_and_version_are_told(rt: HostRuntime) -> Result<(), Fail> {
         ("--help", "rmispace run examples/sum T 'f(I)I' 4 --fuel 38"),
         (
             "--help",
-            "0  the method returned, or the classes are accepted",
+            "0  the method returned, the classes are accepted, or the script is done",
         ),
         ("run --help", "--fuel <N>"),
+        (
+            "sim --help",
+            "Plays a script over a space and prints what it shows",
+        ),
         ("--version", "rmispace 0.1.0\n"),
     ] {
         let said = say(rt.alloc(), line)?;
@@ -74,9 +79,9 @@ fn words_are_values(rt: HostRuntime) -> Result<(), Fail> {
         ("-2147483648", "Some(Int(-2147483648))"),
         ("2147483647", "Some(Int(2147483647))"),
         ("0", "Some(Int(0))"),
-        ("[]", "Some(Ints([]))"),
-        ("[1,-2]", "Some(Ints([1, -2]))"),
-        ("[7]", "Some(Ints([7]))"),
+        ("[]", "Some(Ints(Row { items: [] }))"),
+        ("[1,-2]", "Some(Ints(Row { items: [1, -2] }))"),
+        ("[7]", "Some(Ints(Row { items: [7] }))"),
         ("null", "Some(Null)"),
     ] {
         assert_eq!(rt; value_of(rt.alloc(), word)?.as_str(), value, "{word}");

@@ -1,16 +1,16 @@
 use Rattle.std.proofs.Common.{rules, string_bytes, subst, sym}
 use Rattle.std.proofs.lemmas.List.Sorted.{All-permutation}
+use Rattle.std.proofs.lemmas.Result.{err_from_is_err_and}
 use Rattle.sp_main.specs.Folders.{IsBelow, IsClassPath, NamesBelow}
 use Rattle.sp_main.proofs.Below.{itself, popped}
-use Rattle.sp_runs.proofs.Files.{known_error}
 use Rattle.sp_main.proofs.folder.DiskFolder.paths.Goals as goal
 
 pub returns-in_err-list_folder-in-Some-clause-fault : goal.returns-in_err-list_folder-in-Some-clause-fault
 returns-in_err-list_folder-in-Some-clause-fault g c =
     let next = popped (λ path. IsBelow c.args.folder.now (string_bytes path)) c.loop.found.folders.items c.pop.new.self.items c.pop.result c.in-Some.next
     c.pop.ensures.items c.in-Some.is c.loop.invariant.1 in
-    known_error c.from_residual-in_err-list_folder-in-Some.result c.in_err-list_folder-in-Some.field-0.0 (NamesBelow c.args.folder.now)
-    c.from_residual-in_err-list_folder-in-Some.ensures.1 ((c.in_err-list_folder-in-Some.ensures).fault c.args.folder.now next.1)
+    let told = err_from_is_err_and c.from_residual-in_err-list_folder-in-Some.result c.from_residual-in_err-list_folder-in-Some.ensures.1 in
+    rw (told.1, told.2) ((c.in_err-list_folder-in-Some.ensures).fault c.args.folder.now next.1)
 
 pub returns-in-None-clause-listed : goal.returns-in-None-clause-listed
 returns-in-None-clause-listed g c = (
