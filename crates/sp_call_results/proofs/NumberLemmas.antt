@@ -146,24 +146,6 @@ taken holds old new c updates a = record {
     only q true = tt
     only q false = a.once q
 
--- a connection that has no row has none
-pub gone : (holds : ℕ → Pairs) (number : ℕ) (table : Unacknowledged) (c : ℕ) → lookup (nat_eq c) table.numbers.entries ≡ None → AreTickets holds table
-    → AreTickets (λ q. cond (nat_eq c q) (filter (λ (row : ℕ × ℕ). not (row.0 == number)) (holds q)) (holds q)) table
-gone holds number table c none a = record { at = λ q. pick q (nat_eq c q) refl; once = λ q. only q (nat_eq c q) }
-  where
-    left : Pairs → Pairs
-    left l = filter (λ (row : ℕ × ℕ). not (row.0 == number)) l
-
-    pick : (q : ℕ) (b : Bool) → nat_eq c q ≡ b → At (lookup (nat_eq q) table.numbers.entries) (cond b (left (holds q)) (holds q))
-    pick q true e =
-        let empty : holds q ≡ [] = subst (λ (p : ℕ). holds p ≡ []) (eqb-true c q e) (absent holds table c none a) in
-        subst (λ (l : Pairs). At (lookup (nat_eq q) table.numbers.entries) l) (empty ∙ sym (ap left empty)) (a.at q)
-    pick q false e = a.at q
-
-    only : (q : ℕ) (b : Bool) → IsDistinct nat_eq (keys_of (cond b (left (holds q)) (holds q)))
-    only q true = distinct-less number (holds q) (a.once q)
-    only q false = a.once q
-
 pub agree : (holds others : ℕ → Pairs) (table : Unacknowledged) → ((q : ℕ) → holds q ≡ others q) → AreTickets holds table → AreTickets others table
 agree holds others table same a = record {
   at = λ q. subst (λ (l : Pairs). At (lookup (nat_eq q) table.numbers.entries) l) (same q) (a.at q);

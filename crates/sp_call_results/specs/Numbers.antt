@@ -1,5 +1,5 @@
 -- The tickets of results that wait for an Ack, by connections and numbers. (This project's own.)
-use Rattle.std.specs.Prelude.{◌≡◌, ℕ, Bool, ◌==◌, not, List, [], ◌∷◌, ◌++◌, filter, count_by, length, MatchOption, option_map, unwrap_or, nat_eq, if◌then◌else◌}
+use Rattle.std.specs.Prelude.{◌≡◌, ℕ, Bool, ◌==◌, not, List, [], ◌∷◌, ◌++◌, filter, length, MatchOption, option_map, unwrap_or, nat_eq, if◌then◌else◌}
 use Rattle.std.specs.List.{IsDistinct}
 use Rattle.std.specs.Map.{keys_of, lookup}
 use Rattle.indexmap.specs.IndexMap.{spare}
@@ -8,7 +8,7 @@ use Rattle.sp_call_results.specs.declared.unacknowledged.Unacknowledged.{Unackno
 
 -- Each is as often in one list as in the other.
 abbrev pub HaveSame : {A : Type 0} → List A → List A → Type 0
-HaveSame {A} xs ys = (is : A → Bool) → count_by is xs ≡ count_by is ys
+HaveSame {A} xs ys = (is : A → Bool) → length (filter is xs) ≡ length (filter is ys)
 
 -- Each connection has these numbers with their tickets, and each number once.
 pub record AreTickets (holds : ℕ → List (ℕ × ℕ)) (table : Unacknowledged) : Type 0 where
