@@ -35,7 +35,7 @@ filter-acked-of moment conn number results table a =
 pub none-acked-of : (moment conn number : ℕ) (results : Results) (table : CallResults) → (a : AreCallResults moment results table) → lookup (nat_eq number) (numbers_on a.rows conn) ≡ None → filter (is_acked_by conn number) results ≡ []
 none-acked-of moment conn number results table a none = sym (filter-acked-of moment conn number results table a) ∙ ap values_of (none-acked conn number a.rows none).0
 
-rises-of : (rows : Rows) (table : CallResults) → AreRows (valued rows) table.values → Rises (keys_of rows)
+pub rises-of : (rows : Rows) (table : CallResults) → AreRows (valued rows) table.values → Rises (keys_of rows)
 rises-of rows table a = subst Rises (keys-valued rows) a.rises
 
 -- the value of the result that waits for an Ack

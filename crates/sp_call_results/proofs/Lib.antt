@@ -1,5 +1,7 @@
 pub mod AckLemmas
 pub mod CallLemmas
+pub mod EndLemmas
 pub mod HeldLemmas
 pub mod NumberLemmas
+pub mod PassLemmas
 pub mod TicketLemmas

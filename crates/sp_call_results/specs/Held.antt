@@ -39,6 +39,11 @@ acked_row conn number (Some value) = record { until = Acked conn number; value =
 abbrev pub references_of_results : List KeptResult → List Ref
 references_of_results results = flat_map (λ (r : KeptResult). references_in r.value) results
 
+-- the references in the value of a result, if there is one
+abbrev pub references_found : Option (Option Value) → List Ref
+references_found None = []
+references_found (Some value) = references_in value
+
 -- ---- results with their tickets
 
 -- the number of a result that waits for an Ack on this connection, with its ticket

@@ -1,9 +1,11 @@
 //! Results of calls that are held.
 
-ghost use Rattle.std.specs.Prelude.{◌≡◌, ℕ, ◌+◌, ◌-◌, ◌^◌, ◌≤◌, ◌<◌, ◌++◌, ◌||◌, not, false, List, [], ◌∷◌, filter, map, take, IfOk, OnOk, option_copied, option_map};
+ghost use Rattle.std.specs.Prelude.{◌≡◌, ℕ, Option, ◌+◌, ◌-◌, ◌^◌, ◌≤◌, ◌<◌, ◌++◌, ◌||◌, not, false, List, [], ◌∷◌, filter, map, IfOk, OnOk, nat_eq, option_copied};
 ghost use Rattle.std.specs.List.{flat_map, list_any};
-ghost use Rattle.std.specs.Map.{keys_of};
+ghost use Rattle.std.specs.Map.{keys_of, lookup, remove_entry};
 ghost use Rattle.space_ids.specs.declared.ids.ObjId.{ObjId};
+ghost use Rattle.space_ids.specs.declared.value.Value.{Value as Carried};
+ghost use Rattle.rising_map.specs.Rows.{AreRows};
 ghost use Rattle.sp_rules.specs.Endings.{orphan};
 ghost use Rattle.sp_rules.specs.Frames.{is_acked_by};
 ghost use Rattle.sp_rules.specs.OwnEvents.{is_over_at};
@@ -37,7 +39,7 @@ pub struct CallResults {
 }
 
 impl CallResults {
-    ghost use Rattle.sp_call_results.specs.Held.{AreCallResults, AreTicketed, HasRoom, HasRoomToEnd, acked_row, of_calls, references_of_results};
+    ghost use Rattle.sp_call_results.specs.Held.{AreCallResults, AreTicketed, HasRoom, HasRoomToEnd, acked_row, of_calls, references_found, references_of_results};
 
     /// No result is held.
     pub fn new(alloc: Global) -> CallResults
@@ -127,13 +129,7 @@ impl CallResults {
         ensures { IfOk result (λ references. (before : ℕ) (results : List KeptResult) → AreCallResults before results self.now → references.items ≡ references_of_results (filter (is_over_at moment) results)) }
     {
         let tickets = self.tickets_over(alloc, moment)?;
-        let mut references = Vec::new(alloc);
-        for ticket in tickets.as_slice() {
-            if let Some(Some(Value::Ref(reference))) = self.values.get(*ticket) {
-                references.push(*reference)?;
-            }
-        }
-        Ok(references)
+        self.references(alloc, tickets.as_slice())
     }
 
     /// Lets the results go that are held until this moment, which is not below the last, or one before it.
@@ -142,7 +138,7 @@ impl CallResults {
         ensures { (before : ℕ) (results : List KeptResult) → AreCallResults before results self.old → before ≤ moment → AreCallResults moment (filter (λ (r : KeptResult). not (is_over_at moment r)) results) self.new }
     {
         while let Some(ticket) = self.orphans.pop_over(moment) {
-            let _ = self.values.take(ticket);
+            self.remove(ticket);
         }
     }
 
@@ -151,12 +147,29 @@ impl CallResults {
         ensures { OnOk result ((moment : ℕ) (results : List KeptResult) → AreCallResults moment results self.now → (id : ObjId) → is_id_in ids.new id ≡ (is_id_in ids.old id || list_any (λ (r : KeptResult). is_id_in (own_ids own.now (references_in r.value)) id) (of_calls results))) }
     {
         let tickets = self.values.numbers(self.alloc)?;
-        for ticket in tickets.as_slice() {
-            if let Some(Some(value)) = self.values.get(*ticket) {
-                ids.insert_value(own, value)?;
+        let references = self.references(self.alloc, tickets.as_slice())?;
+        ids.insert_references(own, references.as_slice())
+    }
+
+    // The references in the results of these tickets.
+    fn references(&self, alloc: Global, tickets: &[u64]) -> Result<Vec<Ref>, AllocError>
+        ensures { IfOk result (λ references. (rows : List (ℕ × Option Carried)) → AreRows rows self.now.values → references.items ≡ flat_map (λ (ticket : ℕ). references_found (lookup (nat_eq ticket) rows)) tickets.now) }
+    {
+        let mut references = Vec::new(alloc);
+        for ticket in tickets {
+            if let Some(Some(Value::Ref(reference))) = self.values.get(*ticket) {
+                references.push(*reference)?;
             }
         }
-        Ok(())
+        Ok(references)
+    }
+
+    // Takes the value of a ticket away, if it is there.
+    fn remove(&mut self, ticket: u64)
+        ensures others { self.new ≡ record self.old { values = self.new.values } }
+        ensures removed { (rows : List (ℕ × Option Carried)) → AreRows rows self.old.values → AreRows (remove_entry (nat_eq ticket) rows) self.new.values }
+    {
+        let _ = self.values.take(ticket);
     }
 
     // The tickets of the results that go at this moment, in the order in which these came.

@@ -79,7 +79,7 @@ impl Orphans {
 
     // Takes the first away, if its moment has come, and returns its ticket.
     pub(crate) fn pop_over(&mut self, moment: u64) -> Option<u64>
-        ensures { MatchOption result (over moment self.old.queue.items ≡ []) (λ ticket. (until : ℕ) × (until ≤ moment) × (self.old.queue.items ≡ record { until = until; ticket = ticket } ∷ self.new.queue.items)) }
+        ensures { MatchOption result ((over moment self.old.queue.items ≡ []) × (self.new.queue.items ≡ self.old.queue.items)) (λ ticket. (until : ℕ) × (until ≤ moment) × (self.old.queue.items ≡ record { until = until; ticket = ticket } ∷ self.new.queue.items)) }
     {
         if self.queue.front()?.until > moment {
             return None;
