@@ -3,5 +3,6 @@ pub mod CallLemmas
 pub mod EndLemmas
 pub mod HeldLemmas
 pub mod NumberLemmas
+pub mod OverLemmas
 pub mod PassLemmas
 pub mod TicketLemmas
