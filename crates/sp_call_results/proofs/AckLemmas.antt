@@ -1,14 +1,14 @@
-use Rattle.std.proofs.Common.{◌≡◌, ℕ, suc, ◌+◌, ◌<◌, ◌≤◌, Bool, true, false, cond, List, [], ◌∷◌, ◌++◌, length, map, filter, Option, None, Some, is_some, nat_eq, refl, sym, ap, subst, ◌∙◌, true≢false, append-nil, arith}
-use Rattle.std.specs.Prelude.{◌==◌, ◌&&◌, ◌||◌, not}
+use Rattle.std.proofs.Common.{◌≡◌, ℕ, ◌<◌, Bool, true, false, cond, List, [], ◌∷◌, ◌++◌, filter, Option, None, Some, nat_eq, refl, sym, ap, subst, ◌∙◌, true≢false, arith}
+use Rattle.std.specs.Prelude.{◌==◌, ◌&&◌, not}
 use Rattle.std.specs.Cmp.{nat_eq_equiv}
-use Rattle.std.specs.List.{AllByRecursion, IsDistinct, list_any}
+use Rattle.std.specs.List.{AllByRecursion, IsDistinct}
 use Rattle.std.specs.Map.{keys_of, lookup, remove_entry}
 use Rattle.std.proofs.lemmas.Bool.{eqb-true, eq-eqb, ne_eqb}
 use Rattle.std.proofs.lemmas.Map.Keys.{IsDistinct-head, IsDistinct-tail}
 use Rattle.space_ids.specs.declared.value.Value.{Value}
 use Rattle.rising_map.specs.Rows.{AreAbove, Rises}
 use Rattle.sp_rules.specs.Frames.{is_acked_by}
-use Rattle.sp_rules.specs.State.{KeptResult, Until, RootAcked, Acked, Passed}
+use Rattle.sp_rules.specs.State.{Until, RootAcked, Acked, Passed}
 use Rattle.sp_call_results.specs.Held.{number_on, numbers_on, orphan_in, orphans_in, valued}
 use Rattle.sp_call_results.specs.Numbers.{without_number}
 use Rattle.sp_call_results.specs.declared.orphans.Orphan.{Orphan}

@@ -1,9 +1,9 @@
-use Rattle.std.proofs.Common.{◌≡◌, ℕ, suc, ◌+◌, ◌<◌, ◌≤◌, Bool, true, false, cond, List, [], ◌∷◌, ◌++◌, length, map, filter, Option, None, Some, nat_eq, refl, sym, ap, subst, ◌∙◌, true≢false, append-nil, length-append, arith}
-use Rattle.std.specs.Prelude.{◌==◌, count_by}
+use Rattle.std.proofs.Common.{◌≡◌, ℕ, ◌+◌, ◌≤◌, Bool, true, false, cond, List, [], ◌∷◌, ◌++◌, length, map, filter, nat_eq, refl, sym, ap, subst, ◌∙◌, true≢false, length-append, arith}
+use Rattle.std.specs.Prelude.{◌==◌}
 use Rattle.std.specs.Cmp.{nat_eq_equiv}
 use Rattle.std.specs.List.{IsDistinct}
 use Rattle.std.specs.List.Sorted.{IsPermutation}
-use Rattle.std.specs.Map.{keys_of, values_of, lookup}
+use Rattle.std.specs.Map.{keys_of, values_of}
 use Rattle.std.proofs.lemmas.Bool.{eqb-true, eq-eqb}
 use Rattle.std.proofs.lemmas.List.{map-id}
 use Rattle.std.proofs.lemmas.List.Elements.{filter-append}
@@ -11,12 +11,10 @@ use Rattle.std.proofs.lemmas.List.Sorted.{IsPermutation-map, sum_by-IsPermutatio
 use Rattle.std.proofs.lemmas.List.Sums.{length-filter}
 use Rattle.std.proofs.lemmas.Map.Lookups.{hash_map_IsPermutation_from_get, map_keys}
 use Rattle.indexmap.specs.IndexMap.{with_entries}
-use Rattle.space_ids.specs.declared.value.Value.{Value}
-use Rattle.rising_map.specs.Rows.{AreRows}
 use Rattle.sp_rules.specs.Endings.{orphan}
 use Rattle.sp_rules.specs.State.{KeptResult, Until, RootAcked, Acked, Passed}
 use Rattle.sp_call_results.specs.Ended.{AreFrom, AreUntil, ended_at}
-use Rattle.sp_call_results.specs.Held.{AreCallResults, number_on, numbers_on, of_calls, orphan_in, orphans_in, valued}
+use Rattle.sp_call_results.specs.Held.{AreCallResults, number_on, numbers_on, orphan_in, orphans_in, valued}
 use Rattle.sp_call_results.specs.Numbers.{AreTickets, HaveSame, without_connection}
 use Rattle.sp_call_results.specs.declared.call_results.CallResults.{CallResults}
 use Rattle.sp_call_results.specs.declared.orphans.Orphan.{Orphan}

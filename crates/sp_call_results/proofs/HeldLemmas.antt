@@ -1,17 +1,15 @@
-use Rattle.std.proofs.Common.{◌≡◌, ℕ, suc, ◌+◌, ◌<◌, ◌≤◌, Bool, true, false, cond, List, [], ◌∷◌, ◌++◌, filter, map, Option, None, Some, is_some, nat_eq, refl, sym, ap, subst, ◌∙◌, true≢false, add-one, append-nil, arith}
-use Rattle.std.specs.Prelude.{◌==◌, ◌&&◌, ◌||◌, not}
+use Rattle.std.proofs.Common.{◌≡◌, ℕ, suc, ◌+◌, false, List, [], ◌∷◌, ◌++◌, filter, Option, None, Some, is_some, nat_eq, refl, sym, ap, subst, ◌∙◌, true≢false, add-one, arith}
+use Rattle.std.specs.Prelude.{not}
 use Rattle.std.specs.List.{list_any}
 use Rattle.std.specs.Map.{keys_of, values_of, lookup, remove_entry}
 use Rattle.space_ids.specs.declared.value.Value.{Value}
 use Rattle.rising_map.specs.Rows.{AreBelow, AreRows, Rises}
 use Rattle.sp_rules.specs.Frames.{is_acked_by}
-use Rattle.sp_rules.specs.State.{KeptResult, Until, RootAcked, Acked, Passed}
-use Rattle.sp_call_results.specs.Ended.{AreFrom, AreUntil}
-use Rattle.sp_call_results.specs.Held.{AreCallResults, AreTicketed, acked_row, numbers_on, of_calls, orphans_in, valued}
-use Rattle.sp_call_results.specs.Numbers.{AreTickets, HaveSame, with_number, without_number}
+use Rattle.sp_rules.specs.State.{KeptResult, Acked}
+use Rattle.sp_call_results.specs.Held.{AreCallResults, acked_row, numbers_on, valued}
+use Rattle.sp_call_results.specs.Numbers.{AreTickets, with_number, without_number}
 use Rattle.sp_call_results.specs.declared.call_results.CallResults.{CallResults}
-use Rattle.sp_call_results.specs.declared.orphans.Orphan.{Orphan}
-use Rattle.sp_call_results.proofs.AckLemmas.{IsAcked, found-acked, none-acked, numbers-unacked, orphans-unacked}
+use Rattle.sp_call_results.proofs.AckLemmas.{found-acked, none-acked, numbers-unacked, orphans-unacked}
 use Rattle.sp_call_results.proofs.CallLemmas.{Results, acked-of-call, any-of, any-values, filter-of, filter-values, filters-turn, of-calls-more}
 use Rattle.sp_call_results.proofs.NumberLemmas.{agree}
 use Rattle.sp_call_results.proofs.TicketLemmas.{Row, Rows, acked, any-acked, below-last, below-left, below-more, keys-more, keys-valued, numbers-more, orphans-more, unacked, valued-more, values-more}

@@ -5,4 +5,5 @@ pub mod HeldLemmas
 pub mod NumberLemmas
 pub mod OverLemmas
 pub mod PassLemmas
+pub mod RootLemmas
 pub mod TicketLemmas

@@ -1,6 +1,5 @@
-use Rattle.std.proofs.Common.{◌≡◌, ℕ, suc, ◌+◌, ◌<◌, ◌≤◌, Bool, true, false, cond, List, [], ◌∷◌, ◌++◌, length, map, filter, Option, None, Some, is_some, nat_eq, refl, sym, ap, subst, ◌∙◌, true≢false, arith}
+use Rattle.std.proofs.Common.{◌≡◌, ℕ, suc, ◌<◌, ◌≤◌, Bool, true, false, cond, List, [], ◌∷◌, ◌++◌, length, map, filter, Option, None, Some, nat_eq, refl, sym, ap, ◌∙◌, arith}
 use Rattle.std.specs.Prelude.{◌==◌, ◌&&◌, ◌||◌, nat_le, not}
-use Rattle.std.specs.Cmp.{nat_eq_equiv}
 use Rattle.std.specs.List.{AllByRecursion, IsDistinct, flat_map, list_any}
 use Rattle.std.specs.List.Sorted.{IsPermutation, IsSorted}
 use Rattle.std.specs.Ordering.{nat_cmp}
@@ -24,7 +23,7 @@ use Rattle.sp_call_results.specs.Numbers.{HaveSame}
 use Rattle.sp_call_results.specs.declared.call_results.CallResults.{CallResults}
 use Rattle.sp_call_results.specs.declared.orphans.Orphan.{Orphan}
 use Rattle.sp_call_results.proofs.CallLemmas.{Results, filter-of, filter-values, over-of-call}
-use Rattle.sp_call_results.proofs.EndLemmas.{count, count-append, count-cons, one}
+use Rattle.sp_call_results.proofs.EndLemmas.{count, count-cons, one}
 use Rattle.sp_call_results.proofs.HeldLemmas.{rises-of}
 use Rattle.sp_call_results.proofs.TicketLemmas.{Row, Rows, keys-valued, rises-left}
 

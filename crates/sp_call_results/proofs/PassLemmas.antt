@@ -1,17 +1,15 @@
-use Rattle.std.proofs.Common.{◌≡◌, ◌≢◌, ℕ, suc, ◌+◌, ◌<◌, ◌≤◌, Bool, true, false, cond, List, [], ◌∷◌, ◌++◌, length, map, filter, Option, None, Some, nat_eq, refl, sym, ap, subst, ◌∙◌, true≢false, arith}
-use Rattle.std.specs.Prelude.{◌==◌, ◌&&◌, ◌||◌, nat_le, not}
-use Rattle.std.specs.Map.{keys_of, values_of, lookup, remove_entry}
+use Rattle.std.proofs.Common.{◌≡◌, ℕ, suc, ◌+◌, ◌<◌, ◌≤◌, Bool, true, false, cond, List, [], ◌∷◌, ◌++◌, length, filter, nat_eq, refl, sym, ap, subst, ◌∙◌, true≢false, arith}
+use Rattle.std.specs.Prelude.{◌==◌, ◌&&◌, nat_le, not}
+use Rattle.std.specs.Map.{keys_of, values_of, remove_entry}
 use Rattle.std.proofs.lemmas.Bool.{eqb-true, eq-eqb, ne_eqb, leb-false, le-leb, lt-leb}
-use Rattle.space_ids.specs.declared.value.Value.{Value}
 use Rattle.rising_map.specs.Rows.{AreAbove, AreRows, Rises}
 use Rattle.sp_rules.specs.OwnEvents.{is_over_at}
 use Rattle.sp_rules.specs.State.{KeptResult, Until, RootAcked, Acked, Passed}
 use Rattle.sp_call_results.specs.Ended.{AreFrom, AreUntil, over}
 use Rattle.sp_call_results.specs.Held.{AreCallResults, AreTicketed, number_on, numbers_on, of_calls, orphan_in, orphans_in, valued}
-use Rattle.sp_call_results.specs.Numbers.{AreTickets, HaveSame}
 use Rattle.sp_call_results.specs.declared.call_results.CallResults.{CallResults}
 use Rattle.sp_call_results.specs.declared.orphans.Orphan.{Orphan}
-use Rattle.sp_call_results.proofs.CallLemmas.{Results, filter-values, filters-turn}
+use Rattle.sp_call_results.proofs.CallLemmas.{Results, filters-turn}
 use Rattle.sp_call_results.proofs.EndLemmas.{count, count-append, count-cons, one}
 use Rattle.sp_call_results.proofs.HeldLemmas.{rises-of}
 use Rattle.sp_call_results.proofs.NumberLemmas.{Pairs, agree}

@@ -1,5 +1,5 @@
 -- Results whose connection has ended, in the order in which the connections ended. (This project's own.)
-use Rattle.std.specs.Prelude.{ℕ, ◌+◌, ◌-◌, ◌≤◌, nat_le, List, [], ◌∷◌, map, if◌then◌else◌}
+use Rattle.std.specs.Prelude.{ℕ, ◌-◌, ◌≤◌, nat_le, List, [], ◌∷◌, map, if◌then◌else◌}
 use Rattle.std.specs.VecDeque.{deque_capacity, deque_len}
 use Rattle.sp_call_results.specs.declared.orphans.Orphan.{Orphan}
 use Rattle.sp_call_results.specs.declared.orphans.Orphans.{Orphans}

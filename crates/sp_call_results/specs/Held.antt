@@ -1,12 +1,11 @@
 -- The results of calls and lookups that came, beside the list of the rules of spaces. (This project's own; the Java RMI specification, 3.3, has that what is referenced stays.)
-use Rattle.std.specs.Prelude.{◌≡◌, ℕ, suc, ◌+◌, ◌-◌, ◌^◌, ◌<◌, ◌≤◌, ◌==◌, ◌&&◌, Bool, true, false, List, [], ◌∷◌, Option, None, Some, filter, map, if◌then◌else◌}
+use Rattle.std.specs.Prelude.{◌≡◌, ℕ, suc, ◌+◌, ◌-◌, ◌^◌, ◌<◌, ◌≤◌, ◌==◌, not, Bool, true, false, List, [], ◌∷◌, Option, None, Some, filter, map, if◌then◌else◌}
 use Rattle.std.specs.List.{flat_map}
 use Rattle.std.specs.Map.{keys_of, values_of}
 use Rattle.space_ids.specs.declared.ids.Ref.{Ref}
 use Rattle.space_ids.specs.declared.value.Value.{Value}
 use Rattle.rising_map.specs.Rows as rising
 use Rattle.rising_map.specs.Rows.{AreBelow, AreRows}
-use Rattle.sp_rules.specs.OwnEvents.{is_over_at}
 use Rattle.sp_rules.specs.References.{references_in}
 use Rattle.sp_rules.specs.State.{KeptResult, Until, RootAcked, Acked, Passed}
 use Rattle.sp_call_results.specs.Ended as ended
@@ -29,6 +28,10 @@ is_of_call r = is r.until
 
 abbrev pub of_calls : List KeptResult → List KeptResult
 of_calls results = filter is_of_call results
+
+-- the others: those of the space's own roots and lookups
+abbrev pub of_roots : List KeptResult → List KeptResult
+of_roots results = filter (λ (r : KeptResult). not (is_of_call r)) results
 
 -- the result that waits for an Ack of a number on a connection, if there is one with this value
 abbrev pub acked_row : ℕ → ℕ → Option (Option Value) → List KeptResult

@@ -60,11 +60,7 @@ impl Orphans {
     }
 
     // The tickets of those whose moment has come.
-    pub(crate) fn tickets_over(
-        &self,
-        alloc: Global,
-        moment: u64,
-    ) -> Result<Vec<u64>, AllocError>
+    pub(crate) fn tickets_over(&self, alloc: Global, moment: u64) -> Result<Vec<u64>, AllocError>
         ensures { IfOk result (λ tickets. tickets.items ≡ map (λ (o : Ended). o.ticket) (over moment self.now.queue.items)) }
     {
         let mut tickets = Vec::new(alloc);

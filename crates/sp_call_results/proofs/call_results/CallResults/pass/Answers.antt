@@ -1,4 +1,4 @@
-use Rattle.std.proofs.Common.{◌∷◌, List, refl, sym, ap, ◌∙◌}
+use Rattle.std.proofs.Common.{◌∷◌, refl, sym, ap, ◌∙◌}
 use Rattle.sp_call_results.specs.Held.{valued}
 use Rattle.sp_call_results.specs.declared.call_results.CallResults.{CallResults}
 use Rattle.sp_call_results.specs.declared.orphans.Orphan.{Orphan}

@@ -1,8 +1,6 @@
-use Rattle.std.proofs.Common.{◌≡◌, ◌<◌, ◌≤◌, List, ℕ, Some, Option, sym, subst, ap, ◌∙◌, nat_eq, arith}
+use Rattle.std.proofs.Common.{◌≡◌, List, ℕ, Some, sym, ap, ◌∙◌, nat_eq, arith}
 use Rattle.std.specs.Map.{lookup}
 use Rattle.std.specs.Cmp.{nat_eq_equiv}
-use Rattle.std.specs.Prelude.{OnOk}
-use Rattle.indexmap.specs.IndexMap.{spare}
 use Rattle.indexmap.proofs.CallerLemmas.{updates-with_value_at}
 use Rattle.sp_call_results.specs.declared.unacknowledged.Numbers.{Numbers}
 use Rattle.sp_call_results.proofs.NumberLemmas.{entry-at, kept, on-ok, room-new, there}
