@@ -6,7 +6,7 @@ use Rattle.rising_map.specs.Rows.{AreAbove, AreRows, Rises}
 use Rattle.sp_rules.specs.OwnEvents.{is_over_at}
 use Rattle.sp_rules.specs.State.{KeptResult, Until, RootAcked, Acked, Passed}
 use Rattle.sp_call_results.specs.Ended.{AreFrom, AreUntil, over}
-use Rattle.sp_call_results.specs.Held.{AreCallResults, AreTicketed, number_on, numbers_on, of_calls, orphan_in, orphans_in, valued}
+use Rattle.sp_call_results.specs.Held.{AreCallResults, AreTicketed, left_at, number_on, numbers_on, of_calls, orphan_in, orphans_in, valued}
 use Rattle.sp_call_results.specs.declared.call_results.CallResults.{CallResults}
 use Rattle.sp_call_results.specs.declared.orphans.Orphan.{Orphan}
 use Rattle.sp_call_results.proofs.CallLemmas.{Results, filters-turn}
@@ -17,10 +17,6 @@ use Rattle.sp_call_results.proofs.TicketLemmas.{Row, Rows, below-removed, valued
 
 abbrev until_at : Row → Until → Row
 until_at x u = (x.0, record { until = u; value = x.1.value })
-
--- the results that stay at a moment
-abbrev pub left_at : ℕ → Results → Results
-left_at moment results = filter (λ (r : KeptResult). not (is_over_at moment r)) results
 
 -- ---- one result goes
 

@@ -1,12 +1,16 @@
 -- The results of calls and lookups that came, beside the list of the rules of spaces. (This project's own; the Java RMI specification, 3.3, has that what is referenced stays.)
-use Rattle.std.specs.Prelude.{◌≡◌, ℕ, suc, ◌+◌, ◌-◌, ◌^◌, ◌<◌, ◌≤◌, ◌==◌, not, Bool, true, false, List, [], ◌∷◌, Option, None, Some, filter, map, if◌then◌else◌}
-use Rattle.std.specs.List.{flat_map}
+use Rattle.std.specs.Prelude.{◌≡◌, ℕ, suc, ◌+◌, ◌-◌, ◌^◌, ◌<◌, ◌≤◌, ◌==◌, not, Bool, true, false, List, [], ◌∷◌, ◌++◌, Option, None, Some, filter, map, if◌then◌else◌}
+use Rattle.std.specs.List.{flat_map, list_any}
 use Rattle.std.specs.Map.{keys_of, values_of}
+use Rattle.space_ids.specs.declared.ids.ObjId.{ObjId}
 use Rattle.space_ids.specs.declared.ids.Ref.{Ref}
 use Rattle.space_ids.specs.declared.value.Value.{Value}
+use Rattle.uuid.specs.declared.Uuid.{Uuid}
 use Rattle.rising_map.specs.Rows as rising
 use Rattle.rising_map.specs.Rows.{AreBelow, AreRows}
-use Rattle.sp_rules.specs.References.{references_in}
+use Rattle.sp_rules.specs.Frames.{is_acked_by}
+use Rattle.sp_rules.specs.OwnEvents.{is_over_at}
+use Rattle.sp_rules.specs.References.{is_id_in, own_ids, references_in}
 use Rattle.sp_rules.specs.State.{KeptResult, Until, RootAcked, Acked, Passed}
 use Rattle.sp_call_results.specs.Ended as ended
 use Rattle.sp_call_results.specs.Ended.{AreFrom, AreUntil}
@@ -37,6 +41,22 @@ of_roots results = filter (λ (r : KeptResult). not (is_of_call r)) results
 abbrev pub acked_row : ℕ → ℕ → Option (Option Value) → List KeptResult
 acked_row conn number None = []
 acked_row conn number (Some value) = record { until = Acked conn number; value = value } ∷ []
+
+-- the results with that of a call after all others
+abbrev pub with_acked : ℕ → ℕ → Option Value → List KeptResult → List KeptResult
+with_acked conn number value results = results ++ record { until = Acked conn number; value = value } ∷ []
+
+-- those that an Ack of a number on a connection leaves
+abbrev pub left_by_ack : ℕ → ℕ → List KeptResult → List KeptResult
+left_by_ack conn number results = filter (λ (r : KeptResult). not (is_acked_by conn number r)) results
+
+-- those that a moment leaves
+abbrev pub left_at : ℕ → List KeptResult → List KeptResult
+left_at moment results = filter (λ (r : KeptResult). not (is_over_at moment r)) results
+
+-- whether a result names the space's own object of this id
+abbrev pub is_named_in : Uuid → List KeptResult → ObjId → Bool
+is_named_in own results id = list_any (λ (r : KeptResult). is_id_in (own_ids own (references_in r.value)) id) results
 
 -- the references in results
 abbrev pub references_of_results : List KeptResult → List Ref

@@ -9,8 +9,8 @@ ghost use Rattle.rising_map.specs.Rows.{AreRows};
 ghost use Rattle.sp_rules.specs.Endings.{orphan};
 ghost use Rattle.sp_rules.specs.Frames.{is_acked_by};
 ghost use Rattle.sp_rules.specs.OwnEvents.{is_over_at};
-ghost use Rattle.sp_rules.specs.References.{is_id_in, own_ids, references_in};
-ghost use Rattle.sp_rules.specs.State.{KeptResult, Acked};
+ghost use Rattle.sp_rules.specs.References.{is_id_in};
+ghost use Rattle.sp_rules.specs.State.{KeptResult as Kept};
 
 use crate::orphans::Orphans;
 use crate::unacknowledged::Unacknowledged;
@@ -39,7 +39,7 @@ pub struct CallResults {
 }
 
 impl CallResults {
-    ghost use Rattle.sp_call_results.specs.Held.{AreCallResults, AreTicketed, HasRoom, HasRoomToEnd, acked_row, of_calls, references_found, references_of_results};
+    ghost use Rattle.sp_call_results.specs.Held.{AreCallResults, AreTicketed, HasRoom, HasRoomToEnd, acked_row, is_named_in, left_at, left_by_ack, of_calls, references_found, references_of_results, with_acked};
 
     /// No result is held.
     pub fn new(alloc: Global) -> CallResults
@@ -56,23 +56,24 @@ impl CallResults {
 
     /// Whether a result waits for the Ack of this number on this connection.
     pub fn contains(&self, conn: u64, number: u64) -> bool
-        ensures { (moment : ℕ) (results : List KeptResult) → AreCallResults moment results self.now → result ≡ list_any (is_acked_by conn number) results }
+        ensures { (moment : ℕ) (results : List Kept) → AreCallResults moment results self.now → result ≡ list_any (is_acked_by conn number) results }
     {
         self.unacknowledged.ticket(conn, number).is_some()
     }
 
     /// The value of the result that waits for the Ack of this number on this connection, if there is one.
     pub fn get(&self, conn: u64, number: u64) -> Option<&Option<Value>>
-        ensures { (moment : ℕ) (results : List KeptResult) → AreCallResults moment results self.now → filter (is_acked_by conn number) results ≡ acked_row conn number (option_copied result) }
+        ensures { (moment : ℕ) (results : List Kept) → AreCallResults moment results self.now → filter (is_acked_by conn number) results ≡ acked_row conn number (option_copied result) }
     {
         self.values.get(self.unacknowledged.ticket(conn, number)?)
     }
 
     /// Makes room for a result of a call on this connection. Nothing else changes, at out of memory too.
-    /// After 2^64 - 1 results there is no ticket left, and so no memory for one.
+    /// What is not used stays until the connection ends. After 2^64 - 1 results there is no ticket left,
+    /// and so no memory for one.
     pub fn reserve(&mut self, conn: u64) -> Result<(), AllocError>
         ensures ok { OnOk result (HasRoom conn self.new) }
-        ensures same { (moment : ℕ) (results : List KeptResult) → AreCallResults moment results self.old → AreCallResults moment results self.new }
+        ensures same { (moment : ℕ) (results : List Kept) → AreCallResults moment results self.old → AreCallResults moment results self.new }
     {
         if self.last == u64::MAX {
             return Err(AllocError);
@@ -85,7 +86,7 @@ impl CallResults {
     /// no memory: the caller owes [room](CallResults::reserve) for it.
     pub fn hold_reserved(&mut self, conn: u64, number: u64, value: Option<Value>)
         requires { HasRoom conn self.old }
-        ensures { (moment : ℕ) (results : List KeptResult) → AreCallResults moment results self.old → list_any (is_acked_by conn number) results ≡ false → AreCallResults moment (results ++ record { until = Acked conn number; value = value } ∷ []) self.new }
+        ensures { (moment : ℕ) (results : List Kept) → AreCallResults moment results self.old → list_any (is_acked_by conn number) results ≡ false → AreCallResults moment (with_acked conn number value results) self.new }
     {
         let ticket = self.last + 1;
         self.unacknowledged.add_reserved(conn, number, ticket);
@@ -96,8 +97,8 @@ impl CallResults {
     /// Lets the result go that waits for the Ack of this number on this connection, if there is one, and
     /// returns its value. The order of the others stays. It takes no memory.
     pub fn release(&mut self, conn: u64, number: u64) -> Option<Option<Value>>
-        ensures value { (moment : ℕ) (results : List KeptResult) → AreCallResults moment results self.old → filter (is_acked_by conn number) results ≡ acked_row conn number result }
-        ensures released { (moment : ℕ) (results : List KeptResult) → AreCallResults moment results self.old → AreCallResults moment (filter (λ (r : KeptResult). not (is_acked_by conn number r)) results) self.new }
+        ensures value { (moment : ℕ) (results : List Kept) → AreCallResults moment results self.old → filter (is_acked_by conn number) results ≡ acked_row conn number result }
+        ensures released { (moment : ℕ) (results : List Kept) → AreCallResults moment results self.old → AreCallResults moment (left_by_ack conn number results) self.new }
     {
         let ticket = self.unacknowledged.remove(conn, number)?;
         self.values.take(ticket)
@@ -106,7 +107,7 @@ impl CallResults {
     /// Makes room for the end of a connection. Nothing else changes, at out of memory too.
     pub fn reserve_end(&mut self, conn: u64) -> Result<(), AllocError>
         ensures ok { OnOk result (HasRoomToEnd conn self.new) }
-        ensures same { (moment : ℕ) (results : List KeptResult) → AreCallResults moment results self.old → AreCallResults moment results self.new }
+        ensures same { (moment : ℕ) (results : List Kept) → AreCallResults moment results self.old → AreCallResults moment results self.new }
     {
         let results = self.unacknowledged.count(conn);
         self.orphans.reserve(results)
@@ -117,7 +118,7 @@ impl CallResults {
     pub fn end_reserved(&mut self, conn: u64, moment: u64)
         requires early { moment < 2 ^ 63 }
         requires room { HasRoomToEnd conn self.old }
-        ensures { (results : List KeptResult) → AreCallResults moment results self.old → AreCallResults moment (map (orphan conn moment) results) self.new }
+        ensures { (results : List Kept) → AreCallResults moment results self.old → AreCallResults moment (map (orphan conn moment) results) self.new }
     {
         if let Some(numbers) = self.unacknowledged.take(conn) {
             self.orphans.push_all_reserved(&numbers, moment + HELD);
@@ -126,7 +127,7 @@ impl CallResults {
 
     /// The references in the results that go at this moment, in the order in which these came.
     pub fn references_over(&self, alloc: Global, moment: u64) -> Result<Vec<Ref>, AllocError>
-        ensures { IfOk result (λ references. (before : ℕ) (results : List KeptResult) → AreCallResults before results self.now → references.items ≡ references_of_results (filter (is_over_at moment) results)) }
+        ensures { IfOk result (λ references. (before : ℕ) (results : List Kept) → AreCallResults before results self.now → references.items ≡ references_of_results (filter (is_over_at moment) results)) }
     {
         let tickets = self.tickets_over(alloc, moment)?;
         self.references(alloc, tickets.as_slice())
@@ -135,7 +136,7 @@ impl CallResults {
     /// Lets the results go that are held until this moment, which is not below the last, or one before it.
     /// The order of the others stays. It takes no memory.
     pub fn pass(&mut self, moment: u64)
-        ensures { (before : ℕ) (results : List KeptResult) → AreCallResults before results self.old → before ≤ moment → AreCallResults moment (filter (λ (r : KeptResult). not (is_over_at moment r)) results) self.new }
+        ensures { (before : ℕ) (results : List Kept) → AreCallResults before results self.old → before ≤ moment → AreCallResults moment (left_at moment results) self.new }
     {
         while let Some(ticket) = self.orphans.pop_over(moment) {
             self.remove(ticket);
@@ -144,7 +145,7 @@ impl CallResults {
 
     /// Adds the ids of the space's own objects that the results name.
     pub fn insert_own(&self, own: &Uuid, ids: &mut IdSet) -> Result<(), AllocError>
-        ensures { OnOk result ((moment : ℕ) (results : List KeptResult) → AreCallResults moment results self.now → (id : ObjId) → is_id_in ids.new id ≡ (is_id_in ids.old id || list_any (λ (r : KeptResult). is_id_in (own_ids own.now (references_in r.value)) id) (of_calls results))) }
+        ensures { OnOk result ((moment : ℕ) (results : List Kept) → AreCallResults moment results self.now → (id : ObjId) → is_id_in ids.new id ≡ (is_id_in ids.old id || is_named_in own.now (of_calls results) id)) }
     {
         let tickets = self.values.numbers(self.alloc)?;
         let references = self.references(self.alloc, tickets.as_slice())?;
@@ -174,7 +175,7 @@ impl CallResults {
 
     // The tickets of the results that go at this moment, in the order in which these came.
     fn tickets_over(&self, alloc: Global, moment: u64) -> Result<Vec<u64>, AllocError>
-        ensures { IfOk result (λ tickets. (before : ℕ) (rows : List (ℕ × KeptResult)) → AreTicketed before rows self.now → tickets.items ≡ keys_of (filter (λ (row : ℕ × KeptResult). is_over_at moment row.1) rows)) }
+        ensures { IfOk result (λ tickets. (before : ℕ) (rows : List (ℕ × Kept)) → AreTicketed before rows self.now → tickets.items ≡ keys_of (filter (λ (row : ℕ × Kept). is_over_at moment row.1) rows)) }
     {
         let mut tickets = self.orphans.tickets_over(alloc, moment)?;
         tickets.sort_unstable();
