@@ -1,7 +1,7 @@
 use Rattle.std.proofs.Common.{rules, string_bytes, subst, sym}
 use Rattle.std.proofs.lemmas.List.Sorted.{All-permutation}
 use Rattle.std.proofs.lemmas.Result.{err_from_is_err_and}
-use Rattle.sp_main.specs.Folders.{IsBelow, IsClassPath, NamesBelow}
+use Rattle.sp_main.specs.Folders.{IsBelow, IsClassPath}
 use Rattle.sp_main.proofs.Below.{itself, popped}
 use Rattle.sp_main.proofs.folder.DiskFolder.paths.Goals as goal
 
