@@ -4,6 +4,7 @@ use Rattle.std.specs.Vec.{vec_capacity}
 use Rattle.std.specs.List.{flat_map, list_any}
 use Rattle.std.specs.Map.{keys_of}
 use Rattle.net_message.specs.declared.message.Message.{Message}
+use Rattle.net_message.specs.declared.message.Message.TheVariants as message
 use Rattle.rising_map.specs.Rows as rising
 use Rattle.rising_map.specs.Rows.{AreBelow, AreRows}
 use Rattle.sp_rules.specs.Classes.{Kind, IntKind, IntArrayKind, ReferenceKind, VoidKind}
@@ -57,6 +58,25 @@ was_sent number sent = list_any (◌==◌ number) (flat_map call_number_in sent)
 abbrev pub place_of : ℕ → List Message → ℕ
 place_of number [] = 0
 place_of number (m ∷ sent) = if list_any (◌==◌ number) (call_number_in m) then length sent else place_of number sent
+
+-- the sequence number of dirty or clean calls
+abbrev pub sequence_in : Message → List ℕ
+sequence_in (message.Dirty sequence period objects) = sequence ∷ []
+sequence_in (message.Clean sequence strong objects) = sequence ∷ []
+sequence_in _ = []
+
+-- the first of these numbers, or 0
+abbrev pub newest : List ℕ → ℕ
+newest [] = 0
+newest (n ∷ ns) = n
+
+-- the number of the last call or lookup that went out, 0 before the first
+abbrev pub last_call : List Message → ℕ
+last_call sent = newest (flat_map call_number_in sent)
+
+-- the sequence number of the last dirty or clean calls that went out, 0 before the first
+abbrev pub last_sequence : List Message → ℕ
+last_sequence sent = newest (flat_map sequence_in sent)
 
 -- ---- rows
 
@@ -130,17 +150,11 @@ pub record AreRequests (conn : ℕ) (rows : List rules.Request) (sent : List Mes
   pub groups : AreRows (groups_in rows) table.groups
   pub were_sent : AllOf (λ (row : ℕ × OutCall). was_sent row.0 sent ≡ true) (calls_in sent rows)
   pub frames : table.frames ≡ length sent
-  pub called : AreBelow (suc table.last_call) (keys_of (calls_in sent rows))
-  pub told_of : AreBelow (suc table.last_sequence) (keys_of (groups_in rows))
-  pub call_fits : table.last_call < 2 ^ 64
-  pub sequence_fits : table.last_sequence < 2 ^ 64
-  pub few : length sent + length (calls_in sent rows) ≤ 1 + (2 * table.last_call + table.last_sequence)
-
-abbrev pub last_call : Requests → ℕ
-last_call table = table.last_call
-
-abbrev pub last_sequence : Requests → ℕ
-last_sequence table = table.last_sequence
+  pub called : AreBelow (suc (last_call sent)) (keys_of (calls_in sent rows))
+  pub told_of : AreBelow (suc (last_sequence sent)) (keys_of (groups_in rows))
+  pub call_fits : last_call sent < 2 ^ 64
+  pub sequence_fits : last_sequence sent < 2 ^ 64
+  pub few : length sent + length (calls_in sent rows) ≤ 1 + (2 * last_call sent + last_sequence sent)
 
 -- ---- room
 

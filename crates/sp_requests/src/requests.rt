@@ -9,7 +9,7 @@ ghost use Rattle.net_message.specs.declared.message.Message.TheVariants as messa
 ghost use Rattle.sp_rules.specs.Endings.{call_number_in, is_group};
 ghost use Rattle.sp_rules.specs.Frames.{answered_on, is_dirty_kind, tells_on};
 ghost use Rattle.sp_rules.specs.ParkedFrames.{is_call_on};
-ghost use Rattle.sp_rules.specs.Requests.{is_waiting};
+ghost use Rattle.sp_rules.specs.Requests.{group_frame, is_waiting};
 ghost use Rattle.sp_rules.specs.State.{Asked as Question, Out, Request, Tells, Waits};
 
 use crate::{Asked, Asker, OutCall, OutGroup};
@@ -32,8 +32,6 @@ pub struct Requests {
     calls: RisingMap<OutCall>,
     groups: RisingMap<OutGroup>,
     frames: u128,
-    last_call: u64,
-    last_sequence: u64,
 }
 
 impl Requests {
@@ -44,16 +42,12 @@ impl Requests {
     /// Nothing is asked of the peer, and no frame went out.
     pub fn new(alloc: Global) -> Requests
         ensures requests { (conn : ℕ) → AreRequests conn [] [] result }
-        ensures last_call { last_call result ≡ 0 }
-        ensures last_sequence { last_sequence result ≡ 0 }
     {
         Requests {
             waiting: Vec::new(alloc),
             calls: RisingMap::new(alloc),
             groups: RisingMap::new(alloc),
             frames: 0,
-            last_call: 0,
-            last_sequence: 0,
         }
     }
 
@@ -81,8 +75,9 @@ impl Requests {
         ensures calls { OnOk result (calls ≤ call_room self.new) }
         ensures groups { OnOk result (groups ≤ group_room self.new) }
         ensures same { (conn : ℕ) (rows : List Request) (sent : List Frame) → AreRequests conn rows sent self.old → AreRequests conn rows sent self.new }
-        ensures last_call { last_call self.new ≡ last_call self.old }
-        ensures last_sequence { last_sequence self.new ≡ last_sequence self.old }
+        ensures waiting_room { waiting_room self.old ≤ waiting_room self.new }
+        ensures call_room { call_room self.old ≤ call_room self.new }
+        ensures group_room { group_room self.old ≤ group_room self.new }
     {
         self.waiting.reserve(waiting)?;
         self.calls.reserve(calls)?;
@@ -97,8 +92,6 @@ impl Requests {
         ensures waiting_room { waiting_room self.old ≤ waiting_room self.new + 1 }
         ensures call_room { call_room self.new ≡ call_room self.old }
         ensures group_room { group_room self.new ≡ group_room self.old }
-        ensures last_call { last_call self.new ≡ last_call self.old }
-        ensures last_sequence { last_sequence self.new ≡ last_sequence self.old }
     {
         self.waiting.push_reserved(asked);
     }
@@ -109,35 +102,28 @@ impl Requests {
         ensures taken { (conn : ℕ) (rows : List Request) (sent : List Frame) → AreRequests conn rows sent self.old → AreRequests conn (filter (λ (r : Request). not (is_waiting r.stage)) rows) sent self.new }
         ensures call_room { call_room self.new ≡ call_room self.old }
         ensures group_room { group_room self.new ≡ group_room self.old }
-        ensures last_call { last_call self.new ≡ last_call self.old }
-        ensures last_sequence { last_sequence self.new ≡ last_sequence self.old }
     {
         mem::replace(&mut self.waiting, Vec::new(alloc))
     }
 
     /// Notes that the connection's Hello went out, its first frame.
     pub fn hello(&mut self)
-        ensures sent { (conn : ℕ) (rows : List Request) (hello : Frame) → AreRequests conn rows [] self.old → call_number_in hello ≡ [] → AreRequests conn rows (hello ∷ []) self.new }
+        ensures sent { (conn version : ℕ) (rows : List Request) (space : Peer) (digest : List ℕ) → AreRequests conn rows [] self.old → AreRequests conn rows (message.Hello version space digest ∷ []) self.new }
         ensures waiting_room { waiting_room self.new ≡ waiting_room self.old }
         ensures call_room { call_room self.new ≡ call_room self.old }
         ensures group_room { group_room self.new ≡ group_room self.old }
-        ensures last_call { last_call self.new ≡ last_call self.old }
-        ensures last_sequence { last_sequence self.new ≡ last_sequence self.old }
     {
         self.count_frame();
     }
 
-    /// Notes that a call or lookup goes out now, under a number above those of all that went before. It
-    /// takes no memory: the caller owes [room](Requests::reserve) for it.
+    /// Notes that a call or lookup goes out now, under a number above those of all that went before on the
+    /// connection. It takes no memory: the caller owes [room](Requests::reserve) for it.
     pub fn call_reserved(&mut self, number: u64, asker: Asker)
-        requires room { 0 < call_room self.old }
-        requires number { last_call self.old < number }
-        ensures sent { (conn : ℕ) (rows : List Request) (sent : List Frame) (peer : Peer) (asked : Question) (frame : Frame) → AreRequests conn rows sent self.old → asks_by asked ≡ (number, asker) ∷ [] → call_number_in frame ≡ number ∷ [] → AreRequests conn (rows ++ record { peer = peer; asked = asked; stage = Out conn 0 } ∷ []) (frame ∷ sent) self.new }
+        requires { 0 < call_room self.old }
+        ensures sent { (conn : ℕ) (rows : List Request) (sent : List Frame) (peer : Peer) (asked : Question) (frame : Frame) → AreRequests conn rows sent self.old → last_call sent < number → asks_by asked ≡ (number, asker) ∷ [] → call_number_in frame ≡ number ∷ [] → AreRequests conn (rows ++ record { peer = peer; asked = asked; stage = Out conn 0 } ∷ []) (frame ∷ sent) self.new }
         ensures waiting_room { waiting_room self.new ≡ waiting_room self.old }
         ensures call_room { call_room self.old ≤ call_room self.new + 1 }
         ensures group_room { group_room self.new ≡ group_room self.old }
-        ensures last_call { last_call self.new ≡ number }
-        ensures last_sequence { last_sequence self.new ≡ last_sequence self.old }
     {
         let call = OutCall {
             asker,
@@ -146,25 +132,21 @@ impl Requests {
         };
         self.calls.push_reserved(number, call);
         self.count_frame();
-        self.last_call = number;
     }
 
     /// Notes that dirty or clean calls go out now in one frame, under a sequence number above those of all
-    /// that went before. It takes no memory: the caller owes [room](Requests::reserve) for it.
+    /// that went before on the connection. It takes no memory: the caller owes [room](Requests::reserve)
+    /// for it.
     pub fn tell_reserved(&mut self, sequence: u64, call: u64, group: Group)
-        requires room { 0 < group_room self.old }
-        requires sequence { last_sequence self.old < sequence }
-        ensures sent { (conn : ℕ) (rows : List Request) (sent : List Frame) (peer : Peer) (frame : Frame) → AreRequests conn rows sent self.old → call_number_in frame ≡ [] → AreRequests conn (rows ++ record { peer = peer; asked = Tells call group; stage = Out conn sequence } ∷ []) (frame ∷ sent) self.new }
+        requires { 0 < group_room self.old }
+        ensures sent { (conn : ℕ) (rows : List Request) (sent : List Frame) (peer : Peer) → AreRequests conn rows sent self.old → last_sequence sent < sequence → AreRequests conn (rows ++ record { peer = peer; asked = Tells call group; stage = Out conn sequence } ∷ []) (group_frame group.kind sequence group.ids ∷ sent) self.new }
         ensures waiting_room { waiting_room self.new ≡ waiting_room self.old }
         ensures call_room { call_room self.new ≡ call_room self.old }
         ensures group_room { group_room self.old ≤ group_room self.new + 1 }
-        ensures last_call { last_call self.new ≡ last_call self.old }
-        ensures last_sequence { last_sequence self.new ≡ sequence }
     {
         self.groups
             .push_reserved(sequence, OutGroup { call, group });
         self.count_frame();
-        self.last_sequence = sequence;
     }
 
     /// Notes that the result of a call or lookup has come and is parked.
@@ -173,8 +155,6 @@ impl Requests {
         ensures waiting_room { waiting_room self.new ≡ waiting_room self.old }
         ensures call_room { call_room self.new ≡ call_room self.old }
         ensures group_room { group_room self.new ≡ group_room self.old }
-        ensures last_call { last_call self.new ≡ last_call self.old }
-        ensures last_sequence { last_sequence self.new ≡ last_sequence self.old }
     {
         match self.call(number) {
             Some(call) => self.mark(number, call),
@@ -204,8 +184,6 @@ impl Requests {
         ensures waiting_room { waiting_room self.new ≡ waiting_room self.old }
         ensures call_room { call_room self.old ≤ call_room self.new }
         ensures group_room { group_room self.new ≡ group_room self.old }
-        ensures last_call { last_call self.new ≡ last_call self.old }
-        ensures last_sequence { last_sequence self.new ≡ last_sequence self.old }
     {
         self.calls.take(number)
     }
@@ -218,8 +196,6 @@ impl Requests {
         ensures waiting_room { waiting_room self.new ≡ waiting_room self.old }
         ensures call_room { call_room self.old ≤ call_room self.new }
         ensures group_room { group_room self.new ≡ group_room self.old }
-        ensures last_call { last_call self.new ≡ last_call self.old }
-        ensures last_sequence { last_sequence self.new ≡ last_sequence self.old }
     {
         let call = self.take_call(number)?;
         self.count_frame();
@@ -234,8 +210,6 @@ impl Requests {
         ensures waiting_room { waiting_room self.new ≡ waiting_room self.old }
         ensures call_room { call_room self.new ≡ call_room self.old }
         ensures group_room { group_room self.old ≤ group_room self.new }
-        ensures last_call { last_call self.new ≡ last_call self.old }
-        ensures last_sequence { last_sequence self.new ≡ last_sequence self.old }
     {
         if is_kind(self.groups.get(sequence)?, dirty) {
             self.groups.take(sequence)
