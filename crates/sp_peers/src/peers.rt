@@ -87,7 +87,13 @@ impl Peers {
 
     /// Gives a peer a row, if it has none, and makes room in it for this many more requests that wait,
     /// calls that are out, and groups that are out. Nothing else changes, at out of memory too.
-    pub fn reserve(&mut self, peer: &Uuid, waiting: usize, calls: usize, groups: usize) -> Result<(), AllocError>
+    pub fn reserve(
+        &mut self,
+        peer: &Uuid,
+        waiting: usize,
+        calls: usize,
+        groups: usize,
+    ) -> Result<(), AllocError>
         ensures room { OnOk result (HasRoom peer.now waiting calls groups self.new) }
         ensures same { (connections : List Connection) (requests : List Request) → AreAsked connections requests self.old → AreAsked connections requests self.new }
         ensures rooms { (other : Peer) (w c g : ℕ) → HasRoom other w c g self.old → HasRoom other w c g self.new }
