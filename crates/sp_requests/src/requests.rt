@@ -1,6 +1,7 @@
 //! What is asked of one peer and has not ended.
 
-ghost use Rattle.std.specs.Prelude.{◌≡◌, ℕ, ◌≤◌, ◌<◌, ◌+◌, ◌++◌, ◌==◌, ◌-◌, ◌^◌, min, nat_eq, if◌then◌else◌, not, true, Bool, List, [], ◌∷◌, None, Some, IfOk, OnOk, find, filter, is_some, map, option_and_then, option_copied, take};
+ghost use Rattle.std.specs.Prelude.{◌≡◌, ℕ, ◌≤◌, ◌<◌, ◌+◌, ◌++◌, ◌==◌, ◌-◌, ◌^◌, min, nat_eq, if◌then◌else◌, not, true, Bool, List, [], ◌∷◌, None, Some, IfOk, OnOk, find, filter, is_some, map, option_and_then, option_copied, take, vec_len};
+ghost use Rattle.std.specs.Vec.{vec_capacity};
 ghost use Rattle.std.specs.List.{flat_map, list_any};
 ghost use Rattle.std.specs.Map.{set_value};
 ghost use Rattle.uuid.specs.declared.Uuid.{Uuid as Peer};
@@ -11,8 +12,10 @@ ghost use Rattle.sp_rules.specs.Frames.{answered_on, is_dirty_kind, tells_on};
 ghost use Rattle.sp_rules.specs.ParkedFrames.{is_call_on};
 ghost use Rattle.sp_rules.specs.Requests.{group_frame, is_waiting};
 ghost use Rattle.sp_rules.specs.State.{Asked as Question, Out, Request, Tells, Waits};
+ghost use Rattle.sp_requests.specs.Ends.{ended_group, waiting_among};
+ghost use Rattle.sp_requests.specs.Asking.{asked_of};
 
-use crate::{Asked, Asker, OutCall, OutGroup};
+use crate::{Asked, Asker, Ended, EndedCall, Ending, OutCall, OutGroup};
 use dgc_client::{Due, Group};
 use rising_map::RisingMap;
 use std::alloc::{AllocError, Global};
@@ -37,7 +40,8 @@ pub struct Requests {
 impl Requests {
     ghost use Rattle.rising_map.specs.Rows.{AreRows};
     ghost use Rattle.sp_requests.specs.declared.asked.OutCall.{OutCall as Kept};
-    ghost use Rattle.sp_requests.specs.Asking.{AreRequests, asked_of, asks_by, call_room, group_room, last_call, last_sequence, number_of, sequence_of, shown, told, waiting_room};
+    ghost use Rattle.sp_requests.specs.Asking.{AreRequests, asks_by, call_room, group_room, last_call, last_sequence, number_of, sequence_of, shown, told, waiting_room};
+    ghost use Rattle.sp_requests.specs.Ends.{HasEndRoom, IsEnded, IsEnding, ended_call, out_among, unsent_among};
 
     /// Nothing is asked of the peer, and no frame went out.
     pub fn new(alloc: Global) -> Requests
@@ -232,6 +236,92 @@ impl Requests {
         self.groups.numbers(alloc)
     }
 
+    /// What waits, in the order in which it was made.
+    pub fn waiting(&self) -> &[Asked]
+        ensures { (conn : ℕ) (rows : List Request) (sent : List Frame) → AreRequests conn rows sent self.now → map asked_of result.now ≡ map (λ (r : Request). r.asked) (filter (λ (r : Request). is_waiting r.stage) rows) }
+    {
+        self.waiting.as_slice()
+    }
+
+    /// What the end of all that is asked needs, if the last `unsent` frames were not sent whole.
+    pub fn ending(&self, unsent: u64, alloc: Global) -> Result<Ending, AllocError>
+        ensures ending { IfOk result (λ ending. (conn : ℕ) (rows : List Request) (sent : List Frame) → AreRequests conn rows sent self.now → IsEnding unsent rows sent ending) }
+        ensures room { IfOk result (λ ending. HasEndRoom self.now ending) }
+    {
+        let mut calls = self.out_calls(unsent, alloc)?;
+        self.waiting_calls(&mut calls)?;
+        let sequences = self.groups.numbers(alloc)?;
+        let groups = self.make_group_room(sequences.len(), alloc)?;
+        Ok(Ending {
+            calls,
+            sequences,
+            groups,
+        })
+    }
+
+    // The calls and lookups that are out, in their order.
+    fn out_calls(&self, unsent: u64, alloc: Global) -> Result<Vec<EndedCall>, AllocError>
+        ensures { IfOk result (λ calls. (conn : ℕ) (rows : List Request) (sent : List Frame) → AreRequests conn rows sent self.now → calls.items ≡ flat_map (ended_call (unsent_among unsent sent)) (out_among rows)) }
+    {
+        let numbers = self.calls.numbers(alloc)?;
+        let mut calls = Vec::new(alloc);
+        for number in &numbers {
+            if let Some(call) = self.call(*number) {
+                calls.push(EndedCall {
+                    asker: call.asker,
+                    unsent: self.is_unsent(*number, unsent),
+                })?;
+            }
+        }
+        Ok(calls)
+    }
+
+    // Puts the calls and lookups that wait after others, in their order.
+    fn waiting_calls(&self, calls: &mut Vec<EndedCall>) -> Result<(), AllocError>
+        ensures { OnOk result ((conn unsent : ℕ) (rows : List Request) (sent : List Frame) → AreRequests conn rows sent self.now → calls.new.items ≡ calls.old.items ++ flat_map (ended_call (unsent_among unsent sent)) (waiting_among rows)) }
+    {
+        for asked in &self.waiting {
+            if let Some(asker) = asked.asker() {
+                calls.push(EndedCall {
+                    asker,
+                    unsent: false,
+                })?;
+            }
+        }
+        Ok(())
+    }
+
+    // Room for this many groups that are out, and all that wait.
+    fn make_group_room(&self, out: usize, alloc: Global) -> Result<Vec<OutGroup>, AllocError>
+        ensures items { IfOk result (λ groups. groups.items ≡ []) }
+        ensures room { IfOk result (λ groups. vec_len groups + (out + vec_len self.now.waiting) ≤ vec_capacity groups) }
+    {
+        let mut groups = Vec::with_capacity(alloc, out)?;
+        groups.reserve(out.saturating_add(self.waiting.len()))?;
+        Ok(groups)
+    }
+
+    /// Takes all that was asked. It takes no memory: [`Requests::ending`] made what it needs.
+    pub fn end_reserved(self, ending: Ending) -> Ended
+        requires { HasEndRoom self ending }
+        ensures { (conn unsent : ℕ) (rows : List Request) (sent : List Frame) → AreRequests conn rows sent self → IsEnding unsent rows sent ending → IsEnded unsent rows sent result }
+    {
+        let Ending {
+            calls,
+            sequences,
+            mut groups,
+        } = ending;
+        let Requests {
+            waiting,
+            calls: _,
+            groups: mut out,
+            frames: _,
+        } = self;
+        out.take_all_reserved(&sequences, &mut groups);
+        end_waiting(waiting, &mut groups);
+        Ended { calls, groups }
+    }
+
     // Counts a frame that goes out.
     fn count_frame(&mut self)
         ensures { self.new ≡ record self.old { frames = min (self.old.frames + 1) (2 ^ 128 - 1) } }
@@ -247,5 +337,18 @@ fn is_kind(told: &OutGroup, dirty: bool) -> bool
     match told.group.kind {
         Due::Dirty => dirty,
         Due::Clean { strong: _ } => !dirty,
+    }
+}
+
+// Puts the dirty and clean calls that wait after others, in their order. There is room for all.
+fn end_waiting(waiting: Vec<Asked>, groups: &mut Vec<OutGroup>)
+    requires { vec_len groups.old + vec_len waiting ≤ vec_capacity groups.old }
+    ensures { (rows : List Request) → map asked_of waiting.items ≡ map (λ (r : Request). r.asked) (waiting_among rows) → groups.new.items ≡ groups.old.items ++ flat_map ended_group (waiting_among rows) }
+{
+    for asked in waiting {
+        match asked {
+            Asked::Tell { call, group } => groups.push_reserved(OutGroup { call, group }),
+            _ => {}
+        }
     }
 }
