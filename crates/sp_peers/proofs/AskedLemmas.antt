@@ -364,3 +364,22 @@ ended-waiting {connections} {requests} {old} {new} {peer} step line a =
     let is = waiting-is-peer peer line a in
     let left = filter (λ (r : Request). not (waits_for peer r)) requests in
     changed {left = left} step (subst (λ (o : Option Connection). IsAsked o (of_peer peer left) None) (sym line) (end-none (waits_for peer) peer requests is)) (λ q e. refl) (λ q e. end-others (waits_for peer) peer q requests is e) a.numbered_once a.dialled_once a
+
+-- ---- what waits of any peer
+
+-- what a row shows of what waits
+pub row-waiting : {B : Type 0} (o : Option Connection) (rows : List Request) (t : Requests) (of : List Request → B) (shows : B) → ((conn : ℕ) (sent : List Message) → AreRequests conn rows sent t → shows ≡ of rows) → IsAsked o rows (Some t) → shows ≡ of rows
+row-waiting None rows t of shows each is = each 0 [] (is 0)
+row-waiting (Some c) rows t of shows each is = each c.number c.sent is
+
+pub row-empty : (o : Option Connection) (rows : List Request) → IsAsked o rows None → rows ≡ []
+row-empty None rows is = is
+row-empty (Some c) rows is = absurd is
+
+-- no row: no connection, and nothing waits
+pub none-asked : {connections : List Connection} {requests : List Request} {table : Peers} (peer : Uuid) {c : Connection} → dialled_to connections peer ≡ Some c → row_of peer table ≡ None → AreAsked connections requests table → ⊥
+none-asked {connections} {requests} {table} peer {c} line none a = subst (λ (o : Option Connection). IsAsked o (of_peer peer requests) None) line (row-none peer none a)
+
+pub none-waits : {connections : List Connection} {requests : List Request} {table : Peers} (peer : Uuid) → row_of peer table ≡ None → AreAsked connections requests table → filter (waits_for peer) requests ≡ []
+none-waits {connections} {requests} {table} peer none a =
+    waits-mine peer requests ∙ ap (filter (λ (r : Request). is_waiting r.stage)) (row-empty (dialled_to connections peer) (of_peer peer requests) (row-none peer none a))

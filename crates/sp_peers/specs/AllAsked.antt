@@ -9,7 +9,9 @@ use Rattle.sp_rules.specs.Lists.{at_first}
 use Rattle.sp_rules.specs.State.{Connection, Request}
 use Rattle.sp_connections.specs.Tables.{AreNumbered}
 use Rattle.sp_requests.specs.Asking.{AreRequests, call_room, group_room, waiting_room}
+use Rattle.sp_requests.specs.Ends.{HasEndRoom}
 use Rattle.sp_requests.specs.Peers.{of_peer}
+use Rattle.sp_requests.specs.declared.ended.Ending.{Ending}
 use Rattle.sp_requests.specs.declared.requests.Requests.{Requests}
 use Rattle.sp_peers.specs.declared.peers.Peers.{Peers}
 
@@ -47,3 +49,8 @@ IsRoom (Some t) waiting calls groups = (waiting ≤ waiting_room t) × (calls �
 -- The peer has a row, and room in it for this many more requests that wait, calls that are out, and groups that are out.
 abbrev pub HasRoom : Uuid → ℕ → ℕ → ℕ → Peers → Type 0
 HasRoom peer waiting calls groups table = IsRoom (row_of peer table) waiting calls groups
+
+-- There is room for the end of all that stands in a row.
+abbrev pub IsEndRoom : Option Requests → Ending → Type 0
+IsEndRoom None ending = Unit {0}
+IsEndRoom (Some t) ending = HasEndRoom t ending

@@ -14,11 +14,12 @@ ghost use Rattle.sp_rules.specs.Requests.{group_frame, waits_for};
 ghost use Rattle.sp_rules.specs.State.{Asked as Question, Connection, Out, Request, Tells, Waits};
 ghost use Rattle.sp_connections.specs.Tables.{numbered, opened};
 ghost use Rattle.sp_requests.specs.Asking.{asked_of, asks_by, last_call, last_sequence, number_of, sequence_of, shown, told};
+ghost use Rattle.sp_requests.specs.Ends.{IsEnded, IsEnding};
 ghost use Rattle.sp_requests.specs.Peers.{of_peer};
 
 use dgc_client::Group;
 use indexmap::IndexMap;
-use sp_requests::{Asked, Asker, OutCall, OutGroup, Requests};
+use sp_requests::{Asked, Asker, Ended, Ending, OutCall, OutGroup, Requests};
 use space_ids::Uuid;
 use std::alloc::{AllocError, Global};
 
@@ -35,7 +36,7 @@ pub struct Peers {
 }
 
 impl Peers {
-    ghost use Rattle.sp_peers.specs.AllAsked.{AreAsked, HasRoom, IsAsked, row_of, sent_on};
+    ghost use Rattle.sp_peers.specs.AllAsked.{AreAsked, HasRoom, IsEndRoom, row_of, sent_on};
 
     /// Nothing is asked of any peer.
     pub fn new(alloc: Global) -> Peers
@@ -232,15 +233,43 @@ impl Peers {
         }
     }
 
-    /// Lets the row of a peer go, as the connection that was dialled to it ends or it refuses. Returns all
-    /// that was asked of the peer. It takes no memory.
-    pub fn end(&mut self, peer: &Uuid) -> Option<Requests>
-        ensures ended { (connections : List Connection) (requests : List Request) (c : Connection) → AreAsked connections requests self.old → dialled_to connections peer.now ≡ Some c → IsAsked (Some c) (filter (is_of_connection c.number (Some peer.now)) requests) result }
-        ensures refused { (connections : List Connection) (requests : List Request) → AreAsked connections requests self.old → dialled_to connections peer.now ≡ None → IsAsked None (filter (waits_for peer.now) requests) result }
+    /// What waits of a peer, in the order in which it was made.
+    pub fn waiting(&self, peer: &Uuid) -> &[Asked]
+        ensures { (connections : List Connection) (requests : List Request) → AreAsked connections requests self.now → map asked_of result.now ≡ map (λ (r : Request). r.asked) (filter (waits_for peer.now) requests) }
+    {
+        match self.rows.get(peer) {
+            Some(row) => row.waiting(),
+            None => &[],
+        }
+    }
+
+    /// What the end of all that is asked of a peer needs, if the last `unsent` frames of its connection were
+    /// not sent whole. The connection ends, or the peer refuses and has none.
+    pub fn ending(&self, peer: &Uuid, unsent: u64, alloc: Global) -> Result<Ending, AllocError>
+        ensures ending { IfOk result (λ ending. (connections : List Connection) (requests : List Request) (c : Connection) → AreAsked connections requests self.now → dialled_to connections peer.now ≡ Some c → IsEnding unsent (filter (is_of_connection c.number (Some peer.now)) requests) c.sent ending) }
+        ensures refused { IfOk result (λ ending. (connections : List Connection) (requests : List Request) → AreAsked connections requests self.now → dialled_to connections peer.now ≡ None → IsEnding unsent (filter (waits_for peer.now) requests) [] ending) }
+        ensures room { IfOk result (λ ending. IsEndRoom (row_of peer.now self.now) ending) }
+    {
+        match self.rows.get(peer) {
+            Some(row) => row.ending(unsent, alloc),
+            None => Ok(Ending::new(alloc)),
+        }
+    }
+
+    /// Takes all that is asked of a peer, as the connection that was dialled to it ends or it refuses: its
+    /// calls and lookups, and its dirty and clean calls, each in the order in which they were made. It takes
+    /// no memory: [`Peers::ending`] made what it needs.
+    pub fn end_reserved(&mut self, peer: &Uuid, ending: Ending) -> Ended
+        requires { IsEndRoom (row_of peer.now self.old) ending }
+        ensures ended { (connections : List Connection) (requests : List Request) (c : Connection) (unsent : ℕ) → AreAsked connections requests self.old → dialled_to connections peer.now ≡ Some c → IsEnding unsent (filter (is_of_connection c.number (Some peer.now)) requests) c.sent ending → IsEnded unsent (filter (is_of_connection c.number (Some peer.now)) requests) c.sent result }
+        ensures refused { (connections : List Connection) (requests : List Request) (unsent : ℕ) → AreAsked connections requests self.old → dialled_to connections peer.now ≡ None → IsEnding unsent (filter (waits_for peer.now) requests) [] ending → IsEnded unsent (filter (waits_for peer.now) requests) [] result }
         ensures left { (connections : List Connection) (requests : List Request) (c : Connection) → AreAsked connections requests self.old → dialled_to connections peer.now ≡ Some c → AreAsked (filter (λ (d : Connection). not (d.number == c.number)) connections) (filter (λ (r : Request). not (is_of_connection c.number (Some peer.now) r)) requests) self.new }
         ensures stayed { (connections : List Connection) (requests : List Request) → AreAsked connections requests self.old → dialled_to connections peer.now ≡ None → AreAsked connections (filter (λ (r : Request). not (waits_for peer.now r)) requests) self.new }
         ensures others { (other : Peer) → bytes_eq peer.now other ≡ false → row_of other self.new ≡ row_of other self.old }
     {
-        self.rows.swap_remove(peer)
+        match self.rows.swap_remove(peer) {
+            Some(row) => row.end_reserved(ending),
+            None => ending.without_groups(),
+        }
     }
 }
