@@ -60,6 +60,7 @@ sent-alike {conn} {rows} {sent} {others} {table} alike a =
     let lc : last_call sent ≡ last_call others = ap newest numbers in
     let ls : last_sequence sent ≡ last_sequence others = ap newest alike.sequences in record {
       on = a.on;
+      answered = a.answered;
       waiting = a.waiting;
       calls = subst (λ l. AreRows l table.calls) calls a.calls;
       groups = a.groups;

@@ -1,5 +1,5 @@
 -- All that was asked of a peer, as it ends: what the rows of a table tell of the requests.
-use Rattle.std.proofs.Common.{◌≡◌, ℕ, zero, suc, ◌+◌, ◌<◌, ◌≤◌, Bool, true, false, cond, List, [], ◌∷◌, ◌++◌, length, get_or, take, Option, None, Some, is_some, map, nat_eq, refl, sym, ap, ◌∙◌, true≢false, add-one, arith}
+use Rattle.std.proofs.Common.{◌≡◌, ℕ, zero, suc, ◌+◌, ◌<◌, ◌≤◌, Bool, true, false, cond, List, [], ◌∷◌, ◌++◌, length, get_or, take, Option, None, Some, is_some, map, nat_eq, refl, sym, ap, subst, ◌∙◌, true≢false, add-one, arith}
 use Rattle.std.specs.Prelude.{◌==◌, not, find, option_and_then}
 use Rattle.std.specs.List.{flat_map, list_any}
 use Rattle.std.specs.Map.{keys_of, values_of, lookup}
@@ -7,6 +7,7 @@ use Rattle.std.proofs.lemmas.Bool.{eq-eqb, ne_eqb}
 use Rattle.std.proofs.lemmas.List.{append-nil}
 use Rattle.net_message.specs.declared.message.Message.{Message}
 use Rattle.rising_map.specs.Rows.{AreAbove, Rises}
+use Rattle.sp_rules.specs.Endings.{is_group}
 use Rattle.sp_rules.specs.Laws.{AllOf}
 use Rattle.sp_rules.specs.ParkedFrames.{is_call_on}
 use Rattle.sp_rules.specs.Requests.{is_waiting}
@@ -20,8 +21,8 @@ use Rattle.sp_requests.specs.declared.asked.OutGroup.{OutGroup}
 use Rattle.sp_requests.specs.declared.asked.ResultKind.{ResultKind}
 use Rattle.sp_requests.specs.declared.asked.ResultKind.TheVariants as result
 use Rattle.sp_requests.specs.declared.ended.EndedCall.{EndedCall}
-use Rattle.sp_requests.specs.Asking.{IsOn, asked_of, asks_by, call_at, call_row, calls_in, group_at, group_in, group_row, groups_in, kind_of, out_row, result_kind, shown}
-use Rattle.sp_requests.specs.Ends.{asker_of, ended_at, ended_call, ended_group, group_ended, in_turn, out_among, waiting_among}
+use Rattle.sp_requests.specs.Asking.{IsOfCall, IsOn, asked_of, asks_by, call_at, call_row, calls_in, group_at, group_in, group_row, groups_in, kind_of, out_row, result_kind, shown}
+use Rattle.sp_requests.specs.Ends.{asker_of, ended_at, ended_call, ended_group, in_turn, out_among, waiting_among}
 use Rattle.sp_requests.proofs.AskingLemmas.{found-call}
 
 -- ---- what waits
@@ -62,11 +63,6 @@ waits-at unsent rules.Waits question e = refl
 waits-at unsent (rules.Out c s) question e = absurd (true≢false (sym e))
 waits-at unsent (rules.Answered c) question e = absurd (true≢false (sym e))
 
-group-waits-at : (stage : rules.Stage) (question : rules.Asked) → is_waiting stage ≡ true → values_of (group_in 0 question) ≡ group_ended stage question
-group-waits-at rules.Waits question e = refl
-group-waits-at (rules.Out c s) question e = absurd (true≢false (sym e))
-group-waits-at (rules.Answered c) question e = absurd (true≢false (sym e))
-
 among-waits : (rows : List rules.Request) → AllOf Waiting (waiting_among rows)
 among-waits [] = tt
 among-waits (r ∷ rs) = pick (is_waiting r.stage) refl (among-waits rs)
@@ -92,7 +88,7 @@ waiting-calls unsent items rows e =
 
 pub waiting-groups : (items : List Asked) (rows : List rules.Request) → map asked_of items ≡ map (λ (r : rules.Request). r.asked) (waiting_among rows) → flat_map waiting_group items ≡ flat_map ended_group (waiting_among rows)
 waiting-groups items rows e =
-    same-parts waiting_group ended_group (λ item r w same. group-of item ∙ ap (λ q. values_of (group_in 0 q)) same ∙ group-waits-at r.stage r.asked w) items (waiting_among rows) (among-waits rows) e
+    same-parts waiting_group ended_group (λ item r w same. group-of item ∙ ap (λ q. values_of (group_in 0 q)) same) items (waiting_among rows) (among-waits rows) e
 
 -- ---- what is out
 
@@ -131,25 +127,32 @@ out-calls unsent sent (r ∷ rs) = map-join (ended_row unsent) (call_row sent r)
         ∙ sym (ap (λ (s : rules.Stage). map (ended_at unsent s) (asks_by r.asked) ++ flat_map (ended_call unsent) (out_among rs)) e)
         ∙ sym (ap (λ (s : rules.Stage). flat_map (ended_call unsent) (cond (not (is_waiting s)) (r ∷ out_among rs) (out_among rs))) e)
 
-pub out-groups : (rows : List rules.Request) → values_of (groups_in rows) ≡ flat_map ended_group (out_among rows)
-out-groups [] = refl
-out-groups (r ∷ rs) = values-join (group_row r) (groups_in rs) ∙ pick r.stage refl (out-groups rs)
+one-group : (sequence : ℕ) (question : rules.Asked) → values_of (group_in sequence question) ≡ values_of (group_in 0 question)
+one-group sequence (rules.Calls number task lent kind m) = refl
+one-group sequence (rules.LooksUp number task name) = refl
+one-group sequence (rules.Tells call group) = refl
+
+no-group-ends : (question : rules.Asked) → is_group question ≡ false → values_of (group_in 0 question) ≡ []
+no-group-ends (rules.Calls number task lent kind m) e = refl
+no-group-ends (rules.LooksUp number task name) e = refl
+no-group-ends (rules.Tells call group) e = absurd (true≢false e)
+
+pub out-groups : (rows : List rules.Request) → AllOf (λ (r : rules.Request). IsOfCall r.stage r.asked) rows → values_of (groups_in rows) ≡ flat_map ended_group (out_among rows)
+out-groups [] a = refl
+out-groups (r ∷ rs) a = values-join (group_row r) (groups_in rs) ∙ pick r.stage refl a.0 (out-groups rs a.1)
   where
-    pick : (stage : rules.Stage) → r.stage ≡ stage → values_of (groups_in rs) ≡ flat_map ended_group (out_among rs)
-        → values_of (group_at r.stage r.asked) ++ values_of (groups_in rs) ≡ flat_map ended_group (cond (not (is_waiting r.stage)) (r ∷ out_among rs) (out_among rs))
-    pick rules.Waits e go =
-        ap (λ (s : rules.Stage). values_of (group_at s r.asked) ++ values_of (groups_in rs)) e ∙ go
-        ∙ sym (ap (λ (s : rules.Stage). flat_map ended_group (cond (not (is_waiting s)) (r ∷ out_among rs) (out_among rs))) e)
-    pick (rules.Out c s) e go =
-        ap (λ (s : rules.Stage). values_of (group_at s r.asked) ++ values_of (groups_in rs)) e
-        ∙ ap (λ l. values_of (group_in s r.asked) ++ l) go
-        ∙ sym (ap (λ (s : rules.Stage). group_ended s r.asked ++ flat_map ended_group (out_among rs)) e)
-        ∙ sym (ap (λ (s : rules.Stage). flat_map ended_group (cond (not (is_waiting s)) (r ∷ out_among rs) (out_among rs))) e)
-    pick (rules.Answered c) e go =
-        ap (λ (s : rules.Stage). values_of (group_at s r.asked) ++ values_of (groups_in rs)) e
-        ∙ go
-        ∙ sym (ap (λ (s : rules.Stage). group_ended s r.asked ++ flat_map ended_group (out_among rs)) e)
-        ∙ sym (ap (λ (s : rules.Stage). flat_map ended_group (cond (not (is_waiting s)) (r ∷ out_among rs) (out_among rs))) e)
+    rest : List OutGroup
+    rest = flat_map ended_group (out_among rs)
+
+    among : rules.Stage → List OutGroup
+    among s = flat_map ended_group (cond (not (is_waiting s)) (r ∷ out_among rs) (out_among rs))
+
+    pick : (stage : rules.Stage) → r.stage ≡ stage → IsOfCall r.stage r.asked → values_of (groups_in rs) ≡ rest → values_of (group_at r.stage r.asked) ++ values_of (groups_in rs) ≡ among r.stage
+    pick rules.Waits e is go = ap (λ (s : rules.Stage). values_of (group_at s r.asked) ++ values_of (groups_in rs)) e ∙ go ∙ sym (ap among e)
+    pick (rules.Out c s) e is go = ap (λ (t : rules.Stage). values_of (group_at t r.asked) ++ values_of (groups_in rs)) e ∙ (λ j. one-group s r.asked j ++ go j) ∙ sym (ap among e)
+    pick (rules.Answered c) e is go =
+        let none = no-group-ends r.asked (subst (λ (t : rules.Stage). IsOfCall t r.asked) e is) in
+        ap (λ (t : rules.Stage). values_of (group_at t r.asked) ++ values_of (groups_in rs)) e ∙ go ∙ sym (ap (λ l. l ++ rest) none) ∙ sym (ap among e)
 
 -- ---- the row at an index
 

@@ -20,7 +20,7 @@ use Rattle.sp_requests.specs.declared.requests.Requests.{Requests}
 use Rattle.sp_requests.specs.declared.asked.Asked.{Asked}
 use Rattle.sp_requests.specs.declared.asked.Asker.{Asker}
 use Rattle.sp_requests.specs.declared.asked.OutCall.{OutCall}
-use Rattle.sp_requests.specs.Asking.{AreRequests, IsOn, asked_of, asks_by, call_at, call_row, calls_in, group_in, group_row, groups_in, last_call, last_sequence, newest, out_row, place_of, sequence_in, waiting_in, was_sent}
+use Rattle.sp_requests.specs.Asking.{AreRequests, IsOfCall, IsOn, asked_of, asks_by, call_at, call_row, calls_in, group_in, group_row, groups_in, last_call, last_sequence, newest, out_row, place_of, sequence_in, waiting_in, was_sent}
 use Rattle.sp_requests.proofs.AskingLemmas.{all-join, all-left, all-right, flat-more, found-some, gone-call, length-found}
 
 pub is-le : (m n : ℕ) → m ≤ n → nat_le m n ≡ true
@@ -120,6 +120,7 @@ frame-sent conn rows sent m old new waiting calls groups frames none neither few
     let ls = no-sequence-last m sent neither in
     let same = calls-sent m sent rows (of-none m (keys_of (calls_in sent rows)) none) in record {
       on = a.on;
+      answered = a.answered;
       waiting = ap (λ (w : Vec Asked Global). map asked_of w.items) waiting ∙ a.waiting;
       calls = rw (same, calls) a.calls;
       groups = rw (groups) a.groups;
@@ -174,6 +175,7 @@ call-sent conn number by rows sent peer question m old new waiting groups frames
     let told : groups_in (rows ++ r ∷ []) ≡ groups_in rows = flat-more group_row rows r ∙ ap (λ l. groups_in rows ++ l) (no-group-in 0 number by question asks) ∙ append-nil (groups_in rows) in
     let count : length (calls_in sent rows ++ (number, call) ∷ []) ≡ length (calls_in sent rows) + 1 = length-append (calls_in sent rows) ((number, call) ∷ []) in record {
       on = all-more (λ (x : rules.Request). IsOn conn x.stage) rows r a.on refl;
+      answered = all-more (λ (x : rules.Request). IsOfCall x.stage x.asked) rows r a.answered tt;
       waiting = ap (λ (w : Vec Asked Global). map asked_of w.items) waiting ∙ a.waiting ∙ sym (waiting-more rows r refl);
       calls = rw (all) (pushed (calls_in sent rows) a.calls below);
       groups = rw (told, groups) a.groups;

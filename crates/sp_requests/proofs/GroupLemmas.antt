@@ -23,7 +23,7 @@ use Rattle.sp_requests.specs.declared.requests.Requests.{Requests}
 use Rattle.sp_requests.specs.declared.asked.Asked.{Asked}
 use Rattle.sp_requests.specs.declared.asked.Asker.{Asker}
 use Rattle.sp_requests.specs.declared.asked.OutGroup.{OutGroup}
-use Rattle.sp_requests.specs.Asking.{AreRequests, IsOn, asked_of, asks_by, call_at, call_row, calls_in, first_of, group_at, group_row, groups_in, last_sequence, newest, number_of, out_row, sequence_in, sequence_of, told, waiting_in}
+use Rattle.sp_requests.specs.Asking.{AreRequests, IsOfCall, IsOn, asked_of, asks_by, call_at, call_row, calls_in, first_of, group_at, group_row, groups_in, last_sequence, newest, number_of, out_row, sequence_in, sequence_of, told, waiting_in}
 use Rattle.sp_requests.proofs.AskingLemmas.{all-of, and-false, below-removed, filter-filter, flat-filter, flat-more, none-gone}
 use Rattle.sp_requests.proofs.FrameLemmas.{below-last, below-more, calls-sent, keys-append, no-call-last, of-none, still-sent, waiting-more}
 
@@ -177,6 +177,7 @@ take-group conn n dirty rows sent g old new others groups found kind a =
     let calls : calls_in sent left ≡ calls_in sent rows = flat-filter (call_row sent) (tells_on dirty conn n) rows (all-of rows (λ r e. no-call conn n dirty sent r.stage r.asked e)) in
     let cs : new.calls ≡ old.calls = ap (λ (t : Requests). t.calls) others in record {
       on = all-filter (λ (r : rules.Request). IsOn conn r.stage) (λ (r : rules.Request). not (tells_on dirty conn n r)) rows a.on;
+      answered = all-filter (λ (x : rules.Request). IsOfCall x.stage x.asked) (λ (r : rules.Request). not (tells_on dirty conn n r)) rows a.answered;
       waiting = ap (λ (t : Requests). map asked_of t.waiting.items) others ∙ a.waiting
           ∙ sym (ap (map (λ (r : rules.Request). r.asked)) (filter-filter (λ (r : rules.Request). is_waiting r.stage) (tells_on dirty conn n) rows (all-of rows (λ r e. no-wait conn n dirty r.stage r.asked e))));
       calls = rw (calls, cs) a.calls;
@@ -218,6 +219,7 @@ group-sent conn sequence call group rows sent peer old new waiting cs frames sma
     let same : calls_in (m ∷ sent) (rows ++ r ∷ []) ≡ calls_in sent rows = flat-more (call_row (m ∷ sent)) rows r ∙ append-nil (calls_in (m ∷ sent) rows) ∙ calls-sent m sent rows (of-none m (keys_of (calls_in sent rows)) none) in
     let told : groups_in (rows ++ r ∷ []) ≡ groups_in rows ++ row ∷ [] = flat-more group_row rows r in record {
       on = all-more (λ (x : rules.Request). IsOn conn x.stage) rows r a.on refl;
+      answered = all-more (λ (x : rules.Request). IsOfCall x.stage x.asked) rows r a.answered tt;
       waiting = ap (λ (w : Vec Asked Global). map asked_of w.items) waiting ∙ a.waiting ∙ sym (waiting-more rows r refl);
       calls = rw (same, cs) a.calls;
       groups = rw (told) (pushed below);
@@ -255,6 +257,7 @@ wait-more conn rows sent peer item old new others items a =
     let cs : new.calls ≡ old.calls = ap (λ (t : Requests). t.calls) others in
     let gs : new.groups ≡ old.groups = ap (λ (t : Requests). t.groups) others in record {
       on = all-more (λ (x : rules.Request). IsOn conn x.stage) rows r a.on tt;
+      answered = all-more (λ (x : rules.Request). IsOfCall x.stage x.asked) rows r a.answered tt;
       waiting = ap (map asked_of) items ∙ map-append asked_of old.waiting.items (item ∷ []) ∙ ap (λ l. l ++ asked_of item ∷ []) a.waiting ∙ sym (waits-more rows r refl);
       calls = rw (calls, cs) a.calls;
       groups = rw (told, gs) a.groups;
@@ -297,6 +300,7 @@ take-waiting conn rows sent old new others items a =
     let cs : new.calls ≡ old.calls = ap (λ (t : Requests). t.calls) others in
     let gs : new.groups ≡ old.groups = ap (λ (t : Requests). t.groups) others in record {
       on = all-filter (λ (r : rules.Request). IsOn conn r.stage) (λ (r : rules.Request). not (is_waiting r.stage)) rows a.on;
+      answered = all-filter (λ (x : rules.Request). IsOfCall x.stage x.asked) (λ (r : rules.Request). not (is_waiting r.stage)) rows a.answered;
       waiting = ap (map asked_of) items ∙ sym (none-waits rows);
       calls = rw (calls, cs) a.calls;
       groups = rw (told, gs) a.groups;

@@ -4,3 +4,4 @@ pub mod GroupLemmas
 pub mod PeerLemmas
 pub mod EndLemmas
 pub mod AlikeLemmas
+pub mod UnansweredLemmas

@@ -8,7 +8,7 @@ use Rattle.net_message.specs.declared.message.Message.TheVariants as message
 use Rattle.rising_map.specs.Rows as rising
 use Rattle.rising_map.specs.Rows.{AreBelow, AreRows}
 use Rattle.sp_rules.specs.Classes.{Kind, IntKind, IntArrayKind, ReferenceKind, VoidKind}
-use Rattle.sp_rules.specs.Endings.{call_number_in}
+use Rattle.sp_rules.specs.Endings.{call_number_in, is_group}
 use Rattle.sp_rules.specs.Laws.{AllOf}
 use Rattle.sp_rules.specs.Requests.{is_waiting}
 use Rattle.sp_rules.specs.State as rules
@@ -142,9 +142,16 @@ IsOn conn rules.Waits = Unit {0}
 IsOn conn (rules.Out c sequence) = c ≡ conn
 IsOn conn (rules.Answered c) = c ≡ conn
 
+-- What is answered is a call or lookup.
+abbrev pub IsOfCall : rules.Stage → rules.Asked → Type 0
+IsOfCall rules.Waits question = Unit {0}
+IsOfCall (rules.Out conn sequence) question = Unit {0}
+IsOfCall (rules.Answered conn) question = is_group question ≡ false
+
 -- What waits stands in its order, calls and lookups that are out by number, dirty and clean calls by sequence number. The frame of each call that is out went out on the connection. Its frames are no more than the numbers allow: each call may go out and be acknowledged, each dirty or clean call goes out, and one is the Hello.
 pub record AreRequests (conn : ℕ) (rows : List rules.Request) (sent : List Message) (table : Requests) : Type 0 where
   pub on : AllOf (λ (r : rules.Request). IsOn conn r.stage) rows
+  pub answered : AllOf (λ (r : rules.Request). IsOfCall r.stage r.asked) rows
   pub waiting : map asked_of table.waiting.items ≡ waiting_in rows
   pub calls : AreRows (calls_in sent rows) table.calls
   pub groups : AreRows (groups_in rows) table.groups

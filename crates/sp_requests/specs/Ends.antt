@@ -34,13 +34,8 @@ ended_at unsent (rules.Answered conn) row = record { asker = row.1; unsent = lis
 abbrev pub ended_call : List ℕ → rules.Request → List EndedCall
 ended_call unsent r = map (ended_at unsent r.stage) (asks_by r.asked)
 
-abbrev pub group_ended : rules.Stage → rules.Asked → List OutGroup
-group_ended rules.Waits question = values_of (group_in 0 question)
-group_ended (rules.Out conn sequence) question = values_of (group_in sequence question)
-group_ended (rules.Answered conn) question = []
-
 abbrev pub ended_group : rules.Request → List OutGroup
-ended_group r = group_ended r.stage r.asked
+ended_group r = values_of (group_in 0 r.asked)
 
 -- ---- all of them
 

@@ -9,7 +9,7 @@ ghost use Rattle.net_message.specs.declared.message.Message.{Message as Frame};
 ghost use Rattle.net_message.specs.declared.message.Message.TheVariants as message;
 ghost use Rattle.sp_rules.specs.Endings.{call_number_in, is_group};
 ghost use Rattle.sp_rules.specs.Frames.{answered_on, is_dirty_kind, tells_on};
-ghost use Rattle.sp_rules.specs.ParkedFrames.{is_call_on};
+ghost use Rattle.sp_rules.specs.ParkedFrames.{is_asked_on, is_call_on};
 ghost use Rattle.sp_rules.specs.Requests.{group_frame, is_waiting};
 ghost use Rattle.sp_rules.specs.State.{Asked as Question, Out, Request, Tells, Waits};
 ghost use Rattle.sp_requests.specs.Ends.{ended_group, waiting_among};
@@ -60,6 +60,14 @@ impl Requests {
         ensures { (conn : ℕ) (rows : List Request) (sent : List Frame) → AreRequests conn rows sent self.now → result ≡ option_and_then (shown sent) (find (is_call_on conn number) rows) }
     {
         self.calls.get(number).copied()
+    }
+
+    /// The call or lookup of this number that is out and has no answer, if there is one.
+    pub fn asked(&self, number: u64) -> Option<OutCall>
+        ensures { (conn : ℕ) (rows : List Request) (sent : List Frame) → AreRequests conn rows sent self.now → result ≡ option_and_then (shown sent) (find (is_asked_on conn number) rows) }
+    {
+        let call = self.calls.get(number)?;
+        if call.answered { None } else { Some(*call) }
     }
 
     /// Whether a call or lookup that is out went with the last `unsent` frames of the connection.

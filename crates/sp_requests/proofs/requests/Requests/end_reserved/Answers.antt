@@ -11,6 +11,6 @@ pub returns : goal.returns
 returns c = λ conn unsent rows sent a e. record {
   calls = e.calls;
   groups = c.end_waiting.ensures rows a.waiting
-      ∙ ap (λ l. l ++ flat_map ended_group (waiting_among rows)) (c.take_all_reserved.ensures.rows (groups_in rows) a.groups (c.deref.ensures.value ∙ e.sequences) ∙ ap (λ l. l ++ values_of (groups_in rows)) e.groups ∙ out-groups rows)
+      ∙ ap (λ l. l ++ flat_map ended_group (waiting_among rows)) (c.take_all_reserved.ensures.rows (groups_in rows) a.groups (c.deref.ensures.value ∙ e.sequences) ∙ ap (λ l. l ++ values_of (groups_in rows)) e.groups ∙ out-groups rows a.answered)
       ∙ sym (flat_map-append ended_group (out_among rows) (waiting_among rows));
 }
