@@ -10,7 +10,7 @@ use Rattle.sp_rules.specs.Endings.{is_of_connection}
 use Rattle.sp_rules.specs.Frames.{answered_on, tells_on}
 use Rattle.sp_rules.specs.Laws.{AllOf}
 use Rattle.sp_rules.specs.Lines.{AreDialledOnce, dialled_to}
-use Rattle.sp_rules.specs.ParkedFrames.{has_number, is_call_on, is_out_on, is_unanswered_on}
+use Rattle.sp_rules.specs.ParkedFrames.{has_number, is_asked_on, is_call_on, is_out_on, is_unanswered_on}
 use Rattle.sp_rules.specs.Requests.{is_waiting, waits_for}
 use Rattle.sp_rules.specs.State as rules
 use Rattle.sp_rules.specs.State.{Connection, Request}
@@ -160,6 +160,9 @@ unanswered-is-out : (conn : ℕ) (stage : rules.Stage) → is_unanswered_on conn
 unanswered-is-out conn rules.Waits e = e
 unanswered-is-out conn (rules.Out c s) e = e
 unanswered-is-out conn (rules.Answered c) e = absurd (true≢false (sym e))
+
+pub asked-is-out : (conn n : ℕ) (r : Request) → is_asked_on conn n r ≡ true → is_out_on conn r.stage ≡ true
+asked-is-out conn n r e = unanswered-is-out conn r.stage (and-left (is_unanswered_on conn r.stage) (has_number n r.asked) e)
 
 pub group-is-out : (dirty : Bool) (conn n : ℕ) (r : Request) → tells_on dirty conn n r ≡ true → is_out_on conn r.stage ≡ true
 group-is-out dirty conn n r e = unanswered-is-out conn r.stage (and-left (is_unanswered_on conn r.stage) _ e)
@@ -383,3 +386,8 @@ none-asked {connections} {requests} {table} peer {c} line none a = subst (λ (o 
 pub none-waits : {connections : List Connection} {requests : List Request} {table : Peers} (peer : Uuid) → row_of peer table ≡ None → AreAsked connections requests table → filter (waits_for peer) requests ≡ []
 none-waits {connections} {requests} {table} peer none a =
     waits-mine peer requests ∙ ap (filter (λ (r : Request). is_waiting r.stage)) (row-empty (dialled_to connections peer) (of_peer peer requests) (row-none peer none a))
+
+-- nothing is asked, and no connection was dialled
+pub released : {connections : List Connection} {requests : List Request} {old new : Peers} {peer : Uuid} → IsChange old new peer None → dialled_to connections peer ≡ None → of_peer peer requests ≡ [] → AreAsked connections requests old → AreAsked connections requests new
+released {connections} {requests} {old} {new} {peer} step line none a =
+    changed step (subst (λ (o : Option Connection). IsAsked o (of_peer peer requests) None) (sym line) none) (λ q e. refl) (λ q e. refl) a.numbered_once a.dialled_once a

@@ -9,7 +9,7 @@ ghost use Rattle.net_message.specs.declared.message.Message.TheVariants as messa
 ghost use Rattle.sp_rules.specs.Endings.{call_number_in, is_of_connection};
 ghost use Rattle.sp_rules.specs.Frames.{answered_on, tells_on};
 ghost use Rattle.sp_rules.specs.Lines.{dialled_to};
-ghost use Rattle.sp_rules.specs.ParkedFrames.{is_call_on};
+ghost use Rattle.sp_rules.specs.ParkedFrames.{is_asked_on, is_call_on};
 ghost use Rattle.sp_rules.specs.Requests.{group_frame, waits_for};
 ghost use Rattle.sp_rules.specs.State.{Asked as Question, Connection, Out, Request, Tells, Waits};
 ghost use Rattle.sp_connections.specs.Tables.{numbered, opened};
@@ -53,6 +53,13 @@ impl Peers {
         ensures { (connections : List Connection) (requests : List Request) (c : Connection) → AreAsked connections requests self.now → dialled_to connections peer.now ≡ Some c → result ≡ option_and_then (shown c.sent) (find (is_call_on c.number number) requests) }
     {
         self.rows.get(peer)?.call(number)
+    }
+
+    /// The call or lookup of this number that is out to a peer and has no answer, if there is one.
+    pub fn asked(&self, peer: &Uuid, number: u64) -> Option<OutCall>
+        ensures { (connections : List Connection) (requests : List Request) (c : Connection) → AreAsked connections requests self.now → dialled_to connections peer.now ≡ Some c → result ≡ option_and_then (shown c.sent) (find (is_asked_on c.number number) requests) }
+    {
+        self.rows.get(peer)?.asked(number)
     }
 
     /// Whether a call or lookup that is out to a peer went with the last `unsent` frames of its connection.
@@ -231,6 +238,15 @@ impl Peers {
             Some(index) => self.rows[index].take_group(sequence, dirty),
             None => None,
         }
+    }
+
+    /// Lets the row of a peer go to which no connection was dialled and of which nothing is asked: what is
+    /// left if [`Peers::reserve`] gave it a row and nothing came of it. It takes no memory.
+    pub fn release(&mut self, peer: &Uuid)
+        ensures released { (connections : List Connection) (requests : List Request) → AreAsked connections requests self.old → dialled_to connections peer.now ≡ None → of_peer peer.now requests ≡ [] → AreAsked connections requests self.new }
+        ensures others { (other : Peer) → bytes_eq peer.now other ≡ false → row_of other self.new ≡ row_of other self.old }
+    {
+        let _ = self.rows.swap_remove(peer);
     }
 
     /// What waits of a peer, in the order in which it was made.
