@@ -1,14 +1,14 @@
 -- The connections that were dialled to peers: what a frame that goes out, a connection that opens, and one that ends make of them.
-use Rattle.std.proofs.Common.{◌≡◌, ℕ, Bool, true, false, cond, List, [], ◌∷◌, Option, None, Some, filter, refl, sym, ap, ◌∙◌, true≢false}
+use Rattle.std.proofs.Common.{◌≡◌, ℕ, Bool, true, false, cond, List, [], ◌∷◌, Option, None, Some, filter, refl, sym, ap, subst, ◌∙◌, true≢false}
 use Rattle.std.specs.Prelude.{◌==◌, not}
 use Rattle.std.specs.Str.{bytes_eq}
 use Rattle.std.proofs.lemmas.Bool.{eqb-true, eq-eqb}
 use Rattle.net_message.specs.declared.message.Message.{Message}
 use Rattle.uuid.specs.declared.Uuid.{Uuid}
-use Rattle.sp_rules.proofs.AllLemmas.{all-found, found-is}
+use Rattle.sp_rules.proofs.AllLemmas.{all-found, found-is, none-found}
 use Rattle.sp_rules.proofs.LineLemmas.{IsRow, To, gone-others, one-peer, row-dialled, row-numbers, same-peer}
 use Rattle.sp_rules.specs.Laws.{AllOf}
-use Rattle.sp_rules.specs.Lines.{AreDialledOnce, dialled_to}
+use Rattle.sp_rules.specs.Lines.{AreDialledOnce, IsAlone, dialled_to}
 use Rattle.sp_rules.specs.State.{Connection, is_to}
 use Rattle.sp_connections.specs.Tables.{AreNumbered, numbered}
 use Rattle.sp_connections.proofs.TableLemmas.{gone-to}
@@ -113,3 +113,24 @@ line-gone cs p c n a e = gone-to c.number cs c p n a (line-number cs p c n e) (f
 
 pub line-left : (cs : List Connection) (p q : Uuid) (c : Connection) → AreNumbered cs → dialled_to cs p ≡ Some c → bytes_eq p q ≡ false → dialled_to (without c.number cs) q ≡ dialled_to cs q
 line-left cs p q c n e apart = gone-others c.number cs c q n (line-number cs p c n e) (to-none p q c (found-is (To p) cs c e) apart)
+
+-- ---- a connection of a number
+
+-- the connection of a number was dialled to its peer
+pub number-line : (cs : List Connection) (conn : ℕ) (c : Connection) (p : Uuid) → AreDialledOnce cs → numbered conn cs ≡ Some c → c.dialled ≡ Some p → dialled_to cs p ≡ Some c
+number-line [] conn c p once e its = cc
+number-line (x ∷ xs) conn c p once e its = pick (x.number == conn) e (To p x) refl (λ f. number-line xs conn c p once.1 f its)
+  where
+    mine : To p c ≡ true
+    mine = ap (is_to p) its ∙ same-peer p
+
+    alone : (o : Option Uuid) → is_to p o ≡ true → IsAlone o xs → dialled_to xs p ≡ None
+    alone None to a = absurd (true≢false (sym to))
+    alone (Some q) to a = subst (λ (r : Uuid). dialled_to xs r ≡ None) (one-peer q p to) a
+
+    pick : (b : Bool) → cond b (Some x) (numbered conn xs) ≡ Some c → (d : Bool) → To p x ≡ d → (numbered conn xs ≡ Some c → dialled_to xs p ≡ Some c) → cond d (Some x) (dialled_to xs p) ≡ Some c
+    pick true g true at go = g
+    pick true g false at go = absurd (true≢false (sym mine ∙ ap (To p) (sym (only x c g)) ∙ at))
+    pick false g true at go =
+        absurd (true≢false (sym mine ∙ all-found (λ (d : Connection). To p d ≡ false) (λ (d : Connection). d.number == conn) xs c g (none-found (To p) xs (alone x.dialled at once.0))))
+    pick false g false at go = go g

@@ -8,12 +8,13 @@ ghost use Rattle.net_message.specs.declared.message.Message.{Message as Frame};
 ghost use Rattle.net_message.specs.declared.message.Message.TheVariants as message;
 ghost use Rattle.sp_rules.specs.Endings.{call_number_in, is_of_connection};
 ghost use Rattle.sp_rules.specs.Frames.{answered_on, tells_on};
+ghost use Rattle.sp_rules.specs.Laws.{AllOf};
 ghost use Rattle.sp_rules.specs.Lines.{dialled_to};
 ghost use Rattle.sp_rules.specs.ParkedFrames.{is_asked_on, is_call_on};
 ghost use Rattle.sp_rules.specs.Requests.{group_frame, waits_for};
 ghost use Rattle.sp_rules.specs.State.{Asked as Question, Connection, Out, Request, Tells, Waits};
 ghost use Rattle.sp_connections.specs.Tables.{numbered, opened};
-ghost use Rattle.sp_requests.specs.Asking.{asked_of, asks_by, last_call, last_sequence, number_of, sequence_of, shown, told};
+ghost use Rattle.sp_requests.specs.Asking.{IsNamed, asked_of, asks_by, last_call, last_sequence, number_of, sequence_of, shown, told};
 ghost use Rattle.sp_requests.specs.Ends.{IsEnded, IsEnding};
 ghost use Rattle.sp_requests.specs.Peers.{of_peer};
 
@@ -121,7 +122,7 @@ impl Peers {
     /// [room](Peers::reserve) for it.
     pub fn wait_reserved(&mut self, peer: &Uuid, asked: Asked)
         requires { HasRoom peer.now 1 0 0 self.old }
-        ensures waits { (connections : List Connection) (requests : List Request) → AreAsked connections requests self.old → AreAsked connections (requests ++ record { peer = peer.now; asked = asked_of asked; stage = Waits } ∷ []) self.new }
+        ensures waits { (connections : List Connection) (requests : List Request) → AreAsked connections requests self.old → IsNamed (asked_of asked) → AreAsked connections (requests ++ record { peer = peer.now; asked = asked_of asked; stage = Waits } ∷ []) self.new }
         ensures room { (w c g : ℕ) → HasRoom peer.now (w + 1) c g self.old → HasRoom peer.now w c g self.new }
         ensures others { (other : Peer) → bytes_eq peer.now other ≡ false → row_of other self.new ≡ row_of other self.old }
     {
@@ -135,6 +136,7 @@ impl Peers {
     pub fn take_waiting(&mut self, peer: &Uuid, alloc: Global) -> Vec<Asked>
         ensures waited { (connections : List Connection) (requests : List Request) (c : Connection) → AreAsked connections requests self.old → dialled_to connections peer.now ≡ Some c → map asked_of result.items ≡ map (λ (r : Request). r.asked) (filter (waits_for peer.now) requests) }
         ensures taken { (connections : List Connection) (requests : List Request) (c : Connection) → AreAsked connections requests self.old → dialled_to connections peer.now ≡ Some c → AreAsked connections (filter (λ (r : Request). not (waits_for peer.now r)) requests) self.new }
+        ensures named { (connections : List Connection) (requests : List Request) (c : Connection) → AreAsked connections requests self.old → dialled_to connections peer.now ≡ Some c → AllOf IsNamed (map asked_of result.items) }
         ensures room { (c g : ℕ) → HasRoom peer.now 0 c g self.old → HasRoom peer.now 0 c g self.new }
         ensures others { (other : Peer) → bytes_eq peer.now other ≡ false → row_of other self.new ≡ row_of other self.old }
     {
@@ -162,7 +164,7 @@ impl Peers {
     /// before on the connection. It takes no memory: the caller owes [room](Peers::reserve) for it.
     pub fn call_reserved(&mut self, peer: &Uuid, number: u64, asker: Asker)
         requires { HasRoom peer.now 0 1 0 self.old }
-        ensures sent { (connections : List Connection) (requests : List Request) (c : Connection) (asked : Question) (frame : Frame) → AreAsked connections requests self.old → dialled_to connections peer.now ≡ Some c → last_call c.sent < number → asks_by asked ≡ (number, asker) ∷ [] → call_number_in frame ≡ number ∷ [] → AreAsked (sent_on c.number frame connections) (requests ++ record { peer = peer.now; asked = asked; stage = Out c.number 0 } ∷ []) self.new }
+        ensures sent { (connections : List Connection) (requests : List Request) (c : Connection) (asked : Question) (frame : Frame) → AreAsked connections requests self.old → dialled_to connections peer.now ≡ Some c → last_call c.sent < number → asks_by asked ≡ (number, asker) ∷ [] → IsNamed asked → call_number_in frame ≡ number ∷ [] → AreAsked (sent_on c.number frame connections) (requests ++ record { peer = peer.now; asked = asked; stage = Out c.number 0 } ∷ []) self.new }
         ensures room { (w c g : ℕ) → HasRoom peer.now w (c + 1) g self.old → HasRoom peer.now w c g self.new }
         ensures others { (other : Peer) → bytes_eq peer.now other ≡ false → row_of other self.new ≡ row_of other self.old }
     {

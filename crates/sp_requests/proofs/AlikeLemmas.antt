@@ -61,6 +61,7 @@ sent-alike {conn} {rows} {sent} {others} {table} alike a =
     let ls : last_sequence sent ≡ last_sequence others = ap newest alike.sequences in record {
       on = a.on;
       answered = a.answered;
+      named = a.named;
       waiting = a.waiting;
       calls = subst (λ l. AreRows l table.calls) calls a.calls;
       groups = a.groups;

@@ -19,7 +19,7 @@ use Rattle.sp_requests.specs.declared.requests.Requests.{Requests}
 use Rattle.sp_requests.specs.declared.asked.Asked.{Asked}
 use Rattle.sp_requests.specs.declared.asked.Asker.{Asker}
 use Rattle.sp_requests.specs.declared.asked.OutCall.{OutCall}
-use Rattle.sp_requests.specs.Asking.{AreRequests, IsOfCall, IsOn, asked_of, asks_by, call_at, call_row, calls_in, first_of, group_at, group_row, groups_in, last_call, out_row, place_of, shown, waiting_in, was_sent}
+use Rattle.sp_requests.specs.Asking.{AreRequests, IsNamed, IsOfCall, IsOn, asked_of, asks_by, call_at, call_row, calls_in, first_of, group_at, group_row, groups_in, last_call, out_row, place_of, shown, waiting_in, was_sent}
 
 -- ---- tests
 
@@ -285,6 +285,7 @@ take-call conn n rows sent old new waiting groups frames calls a =
     let gone = gone-call conn n sent rows a.on a.calls.rises in record {
       on = all-filter (λ (r : rules.Request). IsOn conn r.stage) (λ (r : rules.Request). not (is_call_on conn n r)) rows a.on;
       answered = all-filter (λ (x : rules.Request). IsOfCall x.stage x.asked) (λ (r : rules.Request). not (is_call_on conn n r)) rows a.answered;
+      named = all-filter (λ (x : rules.Request). IsNamed x.asked) (λ (r : rules.Request). not (is_call_on conn n r)) rows a.named;
       waiting = ap (λ (w : Vec Asked Global). map asked_of w.items) waiting ∙ a.waiting ∙ sym (gone-waiting conn n rows);
       calls = subst (λ (l : List (ℕ × OutCall)). AreRows l new.calls) (sym gone) (calls (calls_in sent rows) a.calls);
       groups = rw (gone-groups conn n rows, groups) a.groups;
@@ -396,6 +397,14 @@ marked-answered conn n (r ∷ rs) a = (pick (is_call_on conn n r) refl, marked-a
     pick true e = call-no-group conn n r.stage r.asked e
     pick false e = a.0
 
+marked-named : (conn n : ℕ) (rows : List rules.Request) → AllOf (λ (r : rules.Request). IsNamed r.asked) rows → AllOf (λ (r : rules.Request). IsNamed r.asked) (map (answered_on conn n) rows)
+marked-named conn n [] a = tt
+marked-named conn n (r ∷ rs) a = (pick (is_call_on conn n r), marked-named conn n rs a.1)
+  where
+    pick : (b : Bool) → IsNamed (cond b (record r { stage = rules.Answered conn }) r).asked
+    pick true = a.0
+    pick false = a.0
+
 all-set : (P : ℕ → Type 0) (n : ℕ) (call : OutCall) (rows : List (ℕ × OutCall)) → AllOf (λ (row : ℕ × OutCall). P row.0) rows → AllOf (λ (row : ℕ × OutCall). P row.0) (set_value (nat_eq n) rows call)
 all-set P n call [] a = tt
 all-set P n call (r ∷ rs) a = pick (nat_eq n r.0) (all-set P n call rs a.1)
@@ -415,6 +424,7 @@ mark-call conn n rows sent call old new others calls found a =
     let gs : new.groups ≡ old.groups = ap (λ (t : Requests). t.groups) others in record {
       on = marked-on conn n rows a.on;
       answered = marked-answered conn n rows a.answered;
+      named = marked-named conn n rows a.named;
       waiting = ap (λ (t : Requests). map asked_of t.waiting.items) others ∙ a.waiting ∙ sym (marked-waiting conn n rows);
       calls = subst (λ (l : List (ℕ × OutCall)). AreRows l new.calls) (sym marked) (calls (calls_in sent rows) a.calls);
       groups = rw (marked-groups conn n rows, gs) a.groups;

@@ -20,7 +20,7 @@ use Rattle.sp_requests.specs.declared.requests.Requests.{Requests}
 use Rattle.sp_requests.specs.declared.asked.Asked.{Asked}
 use Rattle.sp_requests.specs.declared.asked.Asker.{Asker}
 use Rattle.sp_requests.specs.declared.asked.OutCall.{OutCall}
-use Rattle.sp_requests.specs.Asking.{AreRequests, IsOfCall, IsOn, asked_of, asks_by, call_at, call_row, calls_in, group_in, group_row, groups_in, last_call, last_sequence, newest, out_row, place_of, sequence_in, waiting_in, was_sent}
+use Rattle.sp_requests.specs.Asking.{AreRequests, IsNamed, IsOfCall, IsOn, asked_of, asks_by, call_at, call_row, calls_in, group_in, group_row, groups_in, last_call, last_sequence, newest, out_row, place_of, sequence_in, waiting_in, was_sent}
 use Rattle.sp_requests.proofs.AskingLemmas.{all-join, all-left, all-right, flat-more, found-some, gone-call, length-found}
 
 pub is-le : (m n : ℕ) → m ≤ n → nat_le m n ≡ true
@@ -121,6 +121,7 @@ frame-sent conn rows sent m old new waiting calls groups frames none neither few
     let same = calls-sent m sent rows (of-none m (keys_of (calls_in sent rows)) none) in record {
       on = a.on;
       answered = a.answered;
+      named = a.named;
       waiting = ap (λ (w : Vec Asked Global). map asked_of w.items) waiting ∙ a.waiting;
       calls = rw (same, calls) a.calls;
       groups = rw (groups) a.groups;
@@ -158,10 +159,10 @@ waiting-more (x ∷ xs) r e = pick (is_waiting x.stage) (waiting-more xs r e)
     pick false go = go
 
 pub call-sent : (conn number : ℕ) (by : Asker) (rows : List rules.Request) (sent : List Message) (peer : Uuid) (question : rules.Asked) (m : Message) (old new : Requests) → new.waiting ≡ old.waiting → new.groups ≡ old.groups → new.frames ≡ suc (length sent)
-    → number < 2 ^ 64 → last_call sent < number → asks_by question ≡ (number, by) ∷ [] → call_number_in m ≡ number ∷ []
+    → number < 2 ^ 64 → last_call sent < number → asks_by question ≡ (number, by) ∷ [] → IsNamed question → call_number_in m ≡ number ∷ []
     → ((calls : List (ℕ × OutCall)) → AreRows calls old.calls → AreBelow number (keys_of calls) → AreRows (calls ++ (number, record { asker = by; answered = false; place = old.frames }) ∷ []) new.calls)
     → AreRequests conn rows sent old → AreRequests conn (rows ++ record { peer = peer; asked = question; stage = rules.Out conn 0 } ∷ []) (m ∷ sent) new
-call-sent conn number by rows sent peer question m old new waiting groups frames small above asks its pushed a =
+call-sent conn number by rows sent peer question m old new waiting groups frames small above asks named its pushed a =
     let lc : last_call (m ∷ sent) ≡ number = ap (λ (l : List ℕ). newest (l ++ flat_map call_number_in sent)) its in
     let ls = no-sequence-last m sent (call-alone number m its) in
     let r : rules.Request = record { peer = peer; asked = question; stage = rules.Out conn 0 } in
@@ -176,6 +177,7 @@ call-sent conn number by rows sent peer question m old new waiting groups frames
     let count : length (calls_in sent rows ++ (number, call) ∷ []) ≡ length (calls_in sent rows) + 1 = length-append (calls_in sent rows) ((number, call) ∷ []) in record {
       on = all-more (λ (x : rules.Request). IsOn conn x.stage) rows r a.on refl;
       answered = all-more (λ (x : rules.Request). IsOfCall x.stage x.asked) rows r a.answered tt;
+      named = all-more (λ (x : rules.Request). IsNamed x.asked) rows r a.named named;
       waiting = ap (λ (w : Vec Asked Global). map asked_of w.items) waiting ∙ a.waiting ∙ sym (waiting-more rows r refl);
       calls = rw (all) (pushed (calls_in sent rows) a.calls below);
       groups = rw (told, groups) a.groups;

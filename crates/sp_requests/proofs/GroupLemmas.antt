@@ -23,7 +23,7 @@ use Rattle.sp_requests.specs.declared.requests.Requests.{Requests}
 use Rattle.sp_requests.specs.declared.asked.Asked.{Asked}
 use Rattle.sp_requests.specs.declared.asked.Asker.{Asker}
 use Rattle.sp_requests.specs.declared.asked.OutGroup.{OutGroup}
-use Rattle.sp_requests.specs.Asking.{AreRequests, IsOfCall, IsOn, asked_of, asks_by, call_at, call_row, calls_in, first_of, group_at, group_row, groups_in, last_sequence, newest, number_of, out_row, sequence_in, sequence_of, told, waiting_in}
+use Rattle.sp_requests.specs.Asking.{AreRequests, IsNamed, IsOfCall, IsOn, asked_of, asks_by, call_at, call_row, calls_in, first_of, group_at, group_row, groups_in, last_sequence, newest, number_of, out_row, sequence_in, sequence_of, told, waiting_in}
 use Rattle.sp_requests.proofs.AskingLemmas.{all-of, and-false, below-removed, filter-filter, flat-filter, flat-more, none-gone}
 use Rattle.sp_requests.proofs.FrameLemmas.{below-last, below-more, calls-sent, keys-append, no-call-last, of-none, still-sent, waiting-more}
 
@@ -178,6 +178,7 @@ take-group conn n dirty rows sent g old new others groups found kind a =
     let cs : new.calls ≡ old.calls = ap (λ (t : Requests). t.calls) others in record {
       on = all-filter (λ (r : rules.Request). IsOn conn r.stage) (λ (r : rules.Request). not (tells_on dirty conn n r)) rows a.on;
       answered = all-filter (λ (x : rules.Request). IsOfCall x.stage x.asked) (λ (r : rules.Request). not (tells_on dirty conn n r)) rows a.answered;
+      named = all-filter (λ (x : rules.Request). IsNamed x.asked) (λ (r : rules.Request). not (tells_on dirty conn n r)) rows a.named;
       waiting = ap (λ (t : Requests). map asked_of t.waiting.items) others ∙ a.waiting
           ∙ sym (ap (map (λ (r : rules.Request). r.asked)) (filter-filter (λ (r : rules.Request). is_waiting r.stage) (tells_on dirty conn n) rows (all-of rows (λ r e. no-wait conn n dirty r.stage r.asked e))));
       calls = rw (calls, cs) a.calls;
@@ -220,6 +221,7 @@ group-sent conn sequence call group rows sent peer old new waiting cs frames sma
     let told : groups_in (rows ++ r ∷ []) ≡ groups_in rows ++ row ∷ [] = flat-more group_row rows r in record {
       on = all-more (λ (x : rules.Request). IsOn conn x.stage) rows r a.on refl;
       answered = all-more (λ (x : rules.Request). IsOfCall x.stage x.asked) rows r a.answered tt;
+      named = all-more (λ (x : rules.Request). IsNamed x.asked) rows r a.named tt;
       waiting = ap (λ (w : Vec Asked Global). map asked_of w.items) waiting ∙ a.waiting ∙ sym (waiting-more rows r refl);
       calls = rw (same, cs) a.calls;
       groups = rw (told) (pushed below);
@@ -248,9 +250,9 @@ waits-more (x ∷ xs) r e = pick (is_waiting x.stage) (waits-more xs r e)
     pick true go = ap (λ l. x.asked ∷ l) go
     pick false go = go
 
-pub wait-more : (conn : ℕ) (rows : List rules.Request) (sent : List Message) (peer : Uuid) (item : Asked) (old new : Requests) → new ≡ record old { waiting = new.waiting } → new.waiting.items ≡ old.waiting.items ++ item ∷ [] → AreRequests conn rows sent old
+pub wait-more : (conn : ℕ) (rows : List rules.Request) (sent : List Message) (peer : Uuid) (item : Asked) (old new : Requests) → new ≡ record old { waiting = new.waiting } → new.waiting.items ≡ old.waiting.items ++ item ∷ [] → IsNamed (asked_of item) → AreRequests conn rows sent old
     → AreRequests conn (rows ++ record { peer = peer; asked = asked_of item; stage = rules.Waits } ∷ []) sent new
-wait-more conn rows sent peer item old new others items a =
+wait-more conn rows sent peer item old new others items named a =
     let r : rules.Request = record { peer = peer; asked = asked_of item; stage = rules.Waits } in
     let calls : calls_in sent (rows ++ r ∷ []) ≡ calls_in sent rows = flat-more (call_row sent) rows r ∙ append-nil (calls_in sent rows) in
     let told : groups_in (rows ++ r ∷ []) ≡ groups_in rows = flat-more group_row rows r ∙ append-nil (groups_in rows) in
@@ -258,6 +260,7 @@ wait-more conn rows sent peer item old new others items a =
     let gs : new.groups ≡ old.groups = ap (λ (t : Requests). t.groups) others in record {
       on = all-more (λ (x : rules.Request). IsOn conn x.stage) rows r a.on tt;
       answered = all-more (λ (x : rules.Request). IsOfCall x.stage x.asked) rows r a.answered tt;
+      named = all-more (λ (x : rules.Request). IsNamed x.asked) rows r a.named named;
       waiting = ap (map asked_of) items ∙ map-append asked_of old.waiting.items (item ∷ []) ∙ ap (λ l. l ++ asked_of item ∷ []) a.waiting ∙ sym (waits-more rows r refl);
       calls = rw (calls, cs) a.calls;
       groups = rw (told, gs) a.groups;
@@ -301,6 +304,7 @@ take-waiting conn rows sent old new others items a =
     let gs : new.groups ≡ old.groups = ap (λ (t : Requests). t.groups) others in record {
       on = all-filter (λ (r : rules.Request). IsOn conn r.stage) (λ (r : rules.Request). not (is_waiting r.stage)) rows a.on;
       answered = all-filter (λ (x : rules.Request). IsOfCall x.stage x.asked) (λ (r : rules.Request). not (is_waiting r.stage)) rows a.answered;
+      named = all-filter (λ (x : rules.Request). IsNamed x.asked) (λ (r : rules.Request). not (is_waiting r.stage)) rows a.named;
       waiting = ap (map asked_of) items ∙ sym (none-waits rows);
       calls = rw (calls, cs) a.calls;
       groups = rw (told, gs) a.groups;
@@ -331,3 +335,15 @@ call-numbers sent (r ∷ rs) = let first = numbers-at sent r.stage r.asked in le
 pub sequence-numbers : (rows : List rules.Request) → keys_of (groups_in rows) ≡ flat_map sequence_of rows
 sequence-numbers [] = refl
 sequence-numbers (r ∷ rs) = keys-append (group_row r) (groups_in rs) ∙ ap (λ l. keys_of (group_row r) ++ l) (sequence-numbers rs)
+
+-- each call that waits has a frame of its number
+pub waiting-named : (rows : List rules.Request) (asked : List rules.Asked) → asked ≡ waiting_in rows → AllOf (λ (r : rules.Request). IsNamed r.asked) rows → AllOf IsNamed asked
+waiting-named rows asked same a = subst (AllOf IsNamed) (sym same) (among rows a)
+  where
+    among : (rs : List rules.Request) → AllOf (λ (r : rules.Request). IsNamed r.asked) rs → AllOf IsNamed (waiting_in rs)
+    among [] h = tt
+    among (r ∷ rs) h = pick (is_waiting r.stage) (among rs h.1)
+      where
+        pick : (b : Bool) → AllOf IsNamed (waiting_in rs) → AllOf IsNamed (map (λ (x : rules.Request). x.asked) (cond b (r ∷ filter (λ (x : rules.Request). is_waiting x.stage) rs) (filter (λ (x : rules.Request). is_waiting x.stage) rs)))
+        pick true go = (h.0, go)
+        pick false go = go

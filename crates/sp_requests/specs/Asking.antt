@@ -142,6 +142,12 @@ IsOn conn rules.Waits = Unit {0}
 IsOn conn (rules.Out c sequence) = c ≡ conn
 IsOn conn (rules.Answered c) = c ≡ conn
 
+-- The frame of a call has its number.
+abbrev pub IsNamed : rules.Asked → Type 0
+IsNamed (rules.Calls number task lent kind m) = call_number_in m ≡ number ∷ []
+IsNamed (rules.LooksUp number task name) = Unit {0}
+IsNamed (rules.Tells call group) = Unit {0}
+
 -- What is answered is a call or lookup.
 abbrev pub IsOfCall : rules.Stage → rules.Asked → Type 0
 IsOfCall rules.Waits question = Unit {0}
@@ -152,6 +158,7 @@ IsOfCall (rules.Answered conn) question = is_group question ≡ false
 pub record AreRequests (conn : ℕ) (rows : List rules.Request) (sent : List Message) (table : Requests) : Type 0 where
   pub on : AllOf (λ (r : rules.Request). IsOn conn r.stage) rows
   pub answered : AllOf (λ (r : rules.Request). IsOfCall r.stage r.asked) rows
+  pub named : AllOf (λ (r : rules.Request). IsNamed r.asked) rows
   pub waiting : map asked_of table.waiting.items ≡ waiting_in rows
   pub calls : AreRows (calls_in sent rows) table.calls
   pub groups : AreRows (groups_in rows) table.groups

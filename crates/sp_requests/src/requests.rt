@@ -9,6 +9,7 @@ ghost use Rattle.net_message.specs.declared.message.Message.{Message as Frame};
 ghost use Rattle.net_message.specs.declared.message.Message.TheVariants as message;
 ghost use Rattle.sp_rules.specs.Endings.{call_number_in, is_group};
 ghost use Rattle.sp_rules.specs.Frames.{answered_on, is_dirty_kind, tells_on};
+ghost use Rattle.sp_rules.specs.Laws.{AllOf};
 ghost use Rattle.sp_rules.specs.ParkedFrames.{is_asked_on, is_call_on};
 ghost use Rattle.sp_rules.specs.Requests.{group_frame, is_waiting};
 ghost use Rattle.sp_rules.specs.State.{Asked as Question, Out, Request, Tells, Waits};
@@ -40,7 +41,7 @@ pub struct Requests {
 impl Requests {
     ghost use Rattle.rising_map.specs.Rows.{AreRows};
     ghost use Rattle.sp_requests.specs.declared.asked.OutCall.{OutCall as Kept};
-    ghost use Rattle.sp_requests.specs.Asking.{AreRequests, asks_by, call_room, group_room, last_call, last_sequence, number_of, sequence_of, shown, told, waiting_room};
+    ghost use Rattle.sp_requests.specs.Asking.{AreRequests, IsNamed, asks_by, call_room, group_room, last_call, last_sequence, number_of, sequence_of, shown, told, waiting_room};
     ghost use Rattle.sp_requests.specs.Ends.{HasEndRoom, IsEnded, IsEnding, ended_call, out_among, unsent_among};
 
     /// Nothing is asked of the peer, and no frame went out.
@@ -100,7 +101,7 @@ impl Requests {
     /// [room](Requests::reserve) for it.
     pub fn wait_reserved(&mut self, asked: Asked)
         requires { 0 < waiting_room self.old }
-        ensures waits { (conn : ℕ) (rows : List Request) (sent : List Frame) (peer : Peer) → AreRequests conn rows sent self.old → AreRequests conn (rows ++ record { peer = peer; asked = asked_of asked; stage = Waits } ∷ []) sent self.new }
+        ensures waits { (conn : ℕ) (rows : List Request) (sent : List Frame) (peer : Peer) → AreRequests conn rows sent self.old → IsNamed (asked_of asked) → AreRequests conn (rows ++ record { peer = peer; asked = asked_of asked; stage = Waits } ∷ []) sent self.new }
         ensures waiting_room { waiting_room self.old ≤ waiting_room self.new + 1 }
         ensures call_room { call_room self.new ≡ call_room self.old }
         ensures group_room { group_room self.new ≡ group_room self.old }
@@ -112,6 +113,7 @@ impl Requests {
     pub fn take_waiting(&mut self, alloc: Global) -> Vec<Asked>
         ensures waited { (conn : ℕ) (rows : List Request) (sent : List Frame) → AreRequests conn rows sent self.old → map asked_of result.items ≡ map (λ (r : Request). r.asked) (filter (λ (r : Request). is_waiting r.stage) rows) }
         ensures taken { (conn : ℕ) (rows : List Request) (sent : List Frame) → AreRequests conn rows sent self.old → AreRequests conn (filter (λ (r : Request). not (is_waiting r.stage)) rows) sent self.new }
+        ensures named { (conn : ℕ) (rows : List Request) (sent : List Frame) → AreRequests conn rows sent self.old → AllOf IsNamed (map asked_of result.items) }
         ensures call_room { call_room self.new ≡ call_room self.old }
         ensures group_room { group_room self.new ≡ group_room self.old }
     {
@@ -132,7 +134,7 @@ impl Requests {
     /// connection. It takes no memory: the caller owes [room](Requests::reserve) for it.
     pub fn call_reserved(&mut self, number: u64, asker: Asker)
         requires { 0 < call_room self.old }
-        ensures sent { (conn : ℕ) (rows : List Request) (sent : List Frame) (peer : Peer) (asked : Question) (frame : Frame) → AreRequests conn rows sent self.old → last_call sent < number → asks_by asked ≡ (number, asker) ∷ [] → call_number_in frame ≡ number ∷ [] → AreRequests conn (rows ++ record { peer = peer; asked = asked; stage = Out conn 0 } ∷ []) (frame ∷ sent) self.new }
+        ensures sent { (conn : ℕ) (rows : List Request) (sent : List Frame) (peer : Peer) (asked : Question) (frame : Frame) → AreRequests conn rows sent self.old → last_call sent < number → asks_by asked ≡ (number, asker) ∷ [] → IsNamed asked → call_number_in frame ≡ number ∷ [] → AreRequests conn (rows ++ record { peer = peer; asked = asked; stage = Out conn 0 } ∷ []) (frame ∷ sent) self.new }
         ensures waiting_room { waiting_room self.new ≡ waiting_room self.old }
         ensures call_room { call_room self.old ≤ call_room self.new + 1 }
         ensures group_room { group_room self.new ≡ group_room self.old }

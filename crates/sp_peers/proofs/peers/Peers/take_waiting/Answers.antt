@@ -27,3 +27,8 @@ returns-in-Some-clause-room c = λ k g room.
 
 pub returns-in-Some-clause-others : goal.returns-in-Some-clause-others
 returns-in-Some-clause-others c = λ q apart. other-row (changed-at c.args.self.now c.args.peer.now c.in-Some.index c.index_mut.result.now c.take_waiting.new.self c.in-Some.ensures.unique (sym c.in-Some.ensures.index) c.index_mut.ensures.value) q apart
+
+pub returns-in-Some-clause-named : goal.returns-in-Some-clause-named
+returns-in-Some-clause-named c = λ connections requests k a line.
+    let found : row_of c.args.peer.now c.args.self.now ≡ Some c.index_mut.result.now = sym c.in-Some.ensures.value ∙ c.index_mut.ensures.value in
+    c.take_waiting.ensures.named k.number (of_peer c.args.peer.now requests) k.sent (row-there c.args.peer.now line found a)
