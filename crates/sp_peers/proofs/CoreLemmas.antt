@@ -1,5 +1,5 @@
 -- What leaves the table of all peers as it is: connections that change but for who was dialled and what was sent, frames in another order, and connections that a peer dialled. And the order in which what is asked of a peer ends. (For the core of a space.)
-use Rattle.std.proofs.Common.{◌≡◌, ℕ, Bool, true, false, cond, List, [], ◌∷◌, ◌++◌, Option, None, Some, refl, sym, ap, subst, ◌∙◌, true≢false}
+use Rattle.std.proofs.Common.{◌≡◌, ℕ, Bool, true, false, cond, List, [], ◌∷◌, ◌++◌, Option, None, Some, refl, sym, ap, subst, ◌∙◌, true≢false, arith}
 use Rattle.std.specs.Prelude.{◌==◌, not, is_some}
 use Rattle.std.specs.Str.{bytes_eq}
 use Rattle.net_message.specs.declared.message.Message.{Message}
@@ -19,7 +19,7 @@ use Rattle.sp_requests.specs.declared.requests.Requests.{Requests}
 use Rattle.sp_requests.proofs.AlikeLemmas.{AreAlike, sent-alike}
 use Rattle.sp_requests.proofs.EndLemmas.{in-turn-after, in-turn-before}
 use Rattle.sp_peers.specs.declared.peers.Peers.{Peers}
-use Rattle.sp_peers.specs.AllAsked.{AreAsked, IsAsked, row_of, sent_on}
+use Rattle.sp_peers.specs.AllAsked.{AreAsked, HasRoom, IsAsked, IsRoom, row_of, sent_on}
 use Rattle.sp_peers.proofs.LineLemmas.{sent-dialled, sent-numbered, without}
 
 -- ---- connections
@@ -142,3 +142,13 @@ in-turn-of connections dialling requests peer waiting out = pick (hello_came (di
     pick : (o : Option ℕ) → hello_came (dialled_to connections peer) ≡ o → in_turn (of_peer peer requests) ≡ of_peer peer requests
     pick None e = in-turn-before (of_peer peer requests) (each true (λ r w o mine. before e r o mine (is_waiting r.stage) refl) requests waiting out)
     pick (Some conn) e = in-turn-after (of_peer peer requests) (each false (λ r w o mine. after conn e r w mine (is_waiting r.stage) refl) requests waiting out)
+
+-- ---- rows
+
+-- a peer to which a connection was dialled has a row
+pub has-row : {connections : List Connection} {requests : List Request} {table : Peers} (peer : Uuid) {c : Connection} → dialled_to connections peer ≡ Some c → AreAsked connections requests table → HasRoom peer 0 0 0 table
+has-row {connections} {requests} {table} peer {c} line a = pick (row_of peer table) (subst (λ (o : Option Connection). IsAsked o (of_peer peer requests) (row_of peer table)) line (a.asked peer))
+  where
+    pick : (row : Option Requests) → IsAsked (Some c) (of_peer peer requests) row → IsRoom row 0 0 0
+    pick None is = absurd is
+    pick (Some t) is = (omega arith, omega arith, omega arith)

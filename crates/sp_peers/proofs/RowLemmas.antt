@@ -2,7 +2,7 @@
 use Rattle.std.proofs.Common.{◌≡◌, ℕ, zero, suc, ◌+◌, ◌<◌, ◌≤◌, Bool, true, false, cond, List, [], ◌∷◌, length, get_or, slice_get, position, Option, None, Some, is_some, refl, sym, ap, subst, ◌∙◌, true≢false, arith}
 use Rattle.std.specs.Prelude.{Result, Ok, Err, OnOk}
 use Rattle.std.specs.Cmp.{IsEquivalence}
-use Rattle.std.specs.Map.{keys_of, values_of}
+use Rattle.std.specs.Map.{keys_of, lookup, values_of}
 use Rattle.std.specs.Str.{bytes_eq}
 use Rattle.std.proofs.lemmas.List.Quantifiers.{position-Some}
 use Rattle.indexmap.specs.IndexMap.{IsUnique, with_value_at}
@@ -59,6 +59,10 @@ row-now {old} {new} {peer} {row} step = step.updates peer ∙ ap (λ b. cond b r
 
 pub other-row : {old new : Peers} {peer : Uuid} {row : Option Requests} → IsChange old new peer row → (q : Uuid) → bytes_eq peer q ≡ false → row_of q new ≡ row_of q old
 other-row {old} {new} {peer} {row} step q apart = step.updates q ∙ ap (λ b. cond b row (row_of q old)) apart
+
+-- a row that is let go is there no more
+pub gone-now : (peer : Uuid) (old new : List (Uuid × Requests)) → ((q : Uuid) → lookup (bytes_eq q) new ≡ cond (bytes_eq peer q) None (lookup (bytes_eq q) old)) → lookup (bytes_eq peer) new ≡ None
+gone-now peer old new updates = updates peer ∙ ap (λ b. cond b None (lookup (bytes_eq peer) old)) (same-peer peer)
 
 -- ---- room
 

@@ -246,6 +246,7 @@ impl Peers {
     /// left if [`Peers::reserve`] gave it a row and nothing came of it. It takes no memory.
     pub fn release(&mut self, peer: &Uuid)
         ensures released { (connections : List Connection) (requests : List Request) → AreAsked connections requests self.old → dialled_to connections peer.now ≡ None → of_peer peer.now requests ≡ [] → AreAsked connections requests self.new }
+        ensures gone { row_of peer.now self.new ≡ None }
         ensures others { (other : Peer) → bytes_eq peer.now other ≡ false → row_of other self.new ≡ row_of other self.old }
     {
         let _ = self.rows.swap_remove(peer);
@@ -283,6 +284,7 @@ impl Peers {
         ensures refused { (connections : List Connection) (requests : List Request) (unsent : ℕ) → AreAsked connections requests self.old → dialled_to connections peer.now ≡ None → IsEnding unsent (filter (waits_for peer.now) requests) [] ending → IsEnded unsent (filter (waits_for peer.now) requests) [] result }
         ensures left { (connections : List Connection) (requests : List Request) (c : Connection) → AreAsked connections requests self.old → dialled_to connections peer.now ≡ Some c → AreAsked (filter (λ (d : Connection). not (d.number == c.number)) connections) (filter (λ (r : Request). not (is_of_connection c.number (Some peer.now) r)) requests) self.new }
         ensures stayed { (connections : List Connection) (requests : List Request) → AreAsked connections requests self.old → dialled_to connections peer.now ≡ None → AreAsked connections (filter (λ (r : Request). not (waits_for peer.now r)) requests) self.new }
+        ensures gone { row_of peer.now self.new ≡ None }
         ensures others { (other : Peer) → bytes_eq peer.now other ≡ false → row_of other self.new ≡ row_of other self.old }
     {
         match self.rows.swap_remove(peer) {

@@ -5,6 +5,7 @@ use Rattle.sp_rules.specs.State.{Request}
 use Rattle.sp_requests.specs.Ends.{IsEnded, IsEnding}
 use Rattle.sp_requests.specs.Peers.{of_peer}
 use Rattle.sp_peers.proofs.AskedLemmas.{connection-is-peer, end-mine, ended-line, ended-waiting, none-asked, none-waits, row-there, row-waits, waiting-is-peer}
+use Rattle.sp_peers.proofs.RowLemmas.{gone-now}
 use Rattle.sp_peers.proofs.peers.Peers.end_reserved.Goals as goal
 
 pub returns-in-Some-clause-ended : goal.returns-in-Some-clause-ended
@@ -38,3 +39,9 @@ returns-in-None-clause-left c = λ connections requests k a line. ended-line (re
 
 pub returns-in-None-clause-stayed : goal.returns-in-None-clause-stayed
 returns-in-None-clause-stayed c = λ connections requests a line. ended-waiting (record { updates = λ q. c.in-None.ensures.updates.0 q }) line a
+
+pub returns-in-Some-clause-gone : goal.returns-in-Some-clause-gone
+returns-in-Some-clause-gone c = gone-now c.args.peer.now c.args.self.now.rows.entries _ (λ q. c.in-Some.ensures.updates.0 q)
+
+pub returns-in-None-clause-gone : goal.returns-in-None-clause-gone
+returns-in-None-clause-gone c = gone-now c.args.peer.now c.args.self.now.rows.entries _ (λ q. c.in-None.ensures.updates.0 q)
