@@ -1,4 +1,4 @@
-use Rattle.std.proofs.Common.{◌≡◌, ℕ, zero, suc, ◌+◌, ◌<◌, ◌≤◌, ◌≢◌, nat_lt, Bool, true, false, cond, List, [], ◌∷◌, ◌++◌, length, get_or, slice_get, position, Option, None, Some, is_some, nat_eq, refl, sym, ap, subst, ◌∙◌, true≢false, arith}
+use Rattle.std.proofs.Common.{◌≡◌, ℕ, zero, suc, ◌+◌, ◌<◌, ◌≤◌, ◌≢◌, nat_lt, drop, take, Bool, true, false, cond, List, [], ◌∷◌, ◌++◌, length, get_or, slice_get, position, Option, None, Some, is_some, nat_eq, refl, sym, ap, subst, ◌∙◌, true≢false, add-one, arith}
 use Rattle.std.specs.Prelude.{◌||◌, ◌==◌, is_none, IsTrue}
 use Rattle.std.specs.Cmp.{nat_eq_equiv}
 use Rattle.std.specs.List.{AllByRecursion, IsDistinct, list_any}
@@ -197,3 +197,31 @@ empty-rows (r ∷ rs) (e ∷ es) found = ne_eqb (length (e ∷ es)) 0 (λ same. 
 pub tells : (b : Bool) (n : ℕ) → (IsTrue b → n ≡ 0) × (n ≡ 0 → IsTrue b) → b ≡ (n == 0)
 tells true n both = sym (eq-eqb n 0 (both.0 refl))
 tells false n both = sym (ne_eqb n 0 (λ same. true≢false (sym (both.1 same))))
+
+-- ---- rows one after another
+
+-- the row after the first ones
+pub next-row : {T : Type 0} (rows : List (ℕ × T)) (i : ℕ) → i < length (keys_of rows)
+    → (row : ℕ × T) × ((drop i rows ≡ row ∷ drop (suc i) rows) × ((get_or (keys_of rows) i 0 ≡ row.0) × (take (suc i) (values_of rows) ≡ take i (values_of rows) ++ row.1 ∷ [])))
+next-row [] i h = absurd (omega arith)
+next-row {T} (r ∷ rs) zero h = (r, (refl, (refl, refl)))
+next-row {T} (r ∷ rs) (suc i) h =
+    let rest = next-row rs i (omega arith) in (rest.0, (rest.1.0, (rest.1.1.0, ap (λ l. r.1 ∷ l) rest.1.1.1)))
+
+-- The first of the rows that are left, found by its number and taken away.
+pub record IsNext {T : Type 0} (numbers : List ℕ) (rows : List (ℕ × T)) (i : ℕ) : Type 0 where
+  pub row : T
+  pub found : lookup (nat_eq (get_or numbers i 0)) (drop i rows) ≡ Some row
+  pub removed : remove_entry (nat_eq (get_or numbers i 0)) (drop i rows) ≡ drop (i + 1) rows
+  pub more : take (i + 1) (values_of rows) ≡ take i (values_of rows) ++ row ∷ []
+
+pub next-of : {T : Type 0} (numbers : List ℕ) (rows : List (ℕ × T)) (i : ℕ) → numbers ≡ keys_of rows → i < length numbers → IsNext numbers rows i
+next-of {T} numbers rows i keys within =
+    let at = next-row rows i (subst (λ (l : List ℕ). i < length l) keys within) in
+    let n = get_or numbers i 0 in
+    let same : n ≡ at.0.0 = ap (λ (l : List ℕ). get_or l i 0) keys ∙ at.1.1.0 in record {
+      row = at.0.1;
+      found = ap (lookup (nat_eq n)) at.1.0 ∙ ap (λ b. cond b (Some at.0.1) (lookup (nat_eq n) (drop (suc i) rows))) (eq-eqb n at.0.0 same);
+      removed = ap (remove_entry (nat_eq n)) at.1.0 ∙ ap (λ b. cond b (drop (suc i) rows) (at.0 ∷ remove_entry (nat_eq n) (drop (suc i) rows))) (eq-eqb n at.0.0 same) ∙ ap (λ k. drop k rows) (sym (add-one i));
+      more = ap (λ k. take k (values_of rows)) (add-one i) ∙ at.1.1.1;
+    }

@@ -1,8 +1,9 @@
 //! A map from numbers that rise.
 
-ghost use Rattle.std.specs.Prelude.{◌≡◌, ℕ, ◌≤◌, ◌<◌, ◌+◌, ◌++◌, List, [], ◌∷◌, IfOk, OnOk, is_none, is_some, nat_eq, option_copied};
+ghost use Rattle.std.specs.Prelude.{◌≡◌, ℕ, ◌≤◌, ◌<◌, ◌+◌, ◌++◌, List, [], ◌∷◌, IfOk, OnOk, is_none, is_some, length, nat_eq, option_copied, vec_len};
+ghost use Rattle.std.specs.Vec.{vec_capacity};
 ghost use Rattle.std.specs.List.{IsDistinct};
-ghost use Rattle.std.specs.Map.{keys_of, lookup, remove_entry, set_value};
+ghost use Rattle.std.specs.Map.{keys_of, lookup, remove_entry, set_value, values_of};
 
 use indexmap::IndexMap;
 use std::alloc::{AllocError, Global};
@@ -90,6 +91,23 @@ impl<T: Drop> RisingMap<T> {
         ensures room { room self.old ≤ room self.new }
     {
         self.rows.swap_remove(&number)
+    }
+
+    /// Takes all rows away and puts them, in their order, after what `taken` has: `numbers` are those of all
+    /// rows. It takes no memory: the caller owes room in `taken`.
+    pub fn take_all_reserved(&mut self, numbers: &[u64], taken: &mut Vec<T>)
+        requires { vec_len taken.old + length numbers.now ≤ vec_capacity taken.old }
+        ensures rows { (rows : List (ℕ × T)) → AreRows rows self.old → numbers.now ≡ keys_of rows → taken.new.items ≡ taken.old.items ++ values_of rows }
+        ensures taken { (rows : List (ℕ × T)) → AreRows rows self.old → numbers.now ≡ keys_of rows → AreRows [] self.new }
+        ensures len { vec_len taken.new ≤ vec_len taken.old + length numbers.now }
+        ensures capacity { vec_capacity taken.new ≡ vec_capacity taken.old }
+    {
+        for number in numbers {
+            match self.take(*number) {
+                Some(row) => taken.push_reserved(row),
+                None => {}
+            }
+        }
     }
 
     /// The numbers of all rows, in their order.

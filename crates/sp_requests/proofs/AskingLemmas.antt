@@ -8,6 +8,7 @@ use Rattle.std.proofs.lemmas.Bool.{eqb-true, eq-eqb, ne_eqb}
 use Rattle.std.proofs.lemmas.List.{append-nil}
 use Rattle.net_message.specs.declared.message.Message.{Message}
 use Rattle.rising_map.specs.Rows.{AreAbove, AreBelow, AreRows, Rises}
+use Rattle.sp_rules.specs.Endings.{is_group}
 use Rattle.sp_rules.specs.Frames.{answered_on}
 use Rattle.sp_rules.proofs.AllLemmas.{all-filter, none-found}
 use Rattle.sp_rules.specs.Laws.{AllOf}
@@ -18,7 +19,7 @@ use Rattle.sp_requests.specs.declared.requests.Requests.{Requests}
 use Rattle.sp_requests.specs.declared.asked.Asked.{Asked}
 use Rattle.sp_requests.specs.declared.asked.Asker.{Asker}
 use Rattle.sp_requests.specs.declared.asked.OutCall.{OutCall}
-use Rattle.sp_requests.specs.Asking.{AreRequests, IsOn, asked_of, asks_by, call_at, call_row, calls_in, first_of, group_at, group_row, groups_in, out_row, place_of, shown, waiting_in, was_sent}
+use Rattle.sp_requests.specs.Asking.{AreRequests, IsNamed, IsOfCall, IsOn, asked_of, asks_by, call_at, call_row, calls_in, first_of, group_at, group_row, groups_in, last_call, out_row, place_of, shown, waiting_in, was_sent}
 
 -- ---- tests
 
@@ -278,21 +279,23 @@ length-found {T} n (r ∷ rs) e = pick (nat_eq n r.0) e (length-found n rs)
 -- ---- tables
 
 -- a call that is let go
-pub take-call : (conn n : ℕ) (rows : List rules.Request) (sent : List Message) (old new : Requests) → new.waiting ≡ old.waiting → new.groups ≡ old.groups → new.frames ≡ old.frames → new.last_call ≡ old.last_call → new.last_sequence ≡ old.last_sequence
+pub take-call : (conn n : ℕ) (rows : List rules.Request) (sent : List Message) (old new : Requests) → new.waiting ≡ old.waiting → new.groups ≡ old.groups → new.frames ≡ old.frames
     → ((calls : List (ℕ × OutCall)) → AreRows calls old.calls → AreRows (remove_entry (nat_eq n) calls) new.calls) → AreRequests conn rows sent old → AreRequests conn (filter (λ (r : rules.Request). not (is_call_on conn n r)) rows) sent new
-take-call conn n rows sent old new waiting groups frames last_call last_sequence calls a =
+take-call conn n rows sent old new waiting groups frames calls a =
     let gone = gone-call conn n sent rows a.on a.calls.rises in record {
       on = all-filter (λ (r : rules.Request). IsOn conn r.stage) (λ (r : rules.Request). not (is_call_on conn n r)) rows a.on;
+      answered = all-filter (λ (x : rules.Request). IsOfCall x.stage x.asked) (λ (r : rules.Request). not (is_call_on conn n r)) rows a.answered;
+      named = all-filter (λ (x : rules.Request). IsNamed x.asked) (λ (r : rules.Request). not (is_call_on conn n r)) rows a.named;
       waiting = ap (λ (w : Vec Asked Global). map asked_of w.items) waiting ∙ a.waiting ∙ sym (gone-waiting conn n rows);
       calls = subst (λ (l : List (ℕ × OutCall)). AreRows l new.calls) (sym gone) (calls (calls_in sent rows) a.calls);
       groups = rw (gone-groups conn n rows, groups) a.groups;
       were_sent = flat-all-filter (λ (row : ℕ × OutCall). was_sent row.0 sent ≡ true) (call_row sent) (λ (r : rules.Request). not (is_call_on conn n r)) rows a.were_sent;
       frames = frames ∙ a.frames;
-      called = rw (gone, last_call) (below-removed (suc old.last_call) n (calls_in sent rows) a.called);
-      told_of = rw (gone-groups conn n rows, last_sequence) a.told_of;
-      call_fits = rw (last_call) a.call_fits;
-      sequence_fits = rw (last_sequence) a.sequence_fits;
-      few = rw (gone, last_call, last_sequence) (omega (arith, a.few, length-removed n (calls_in sent rows)));
+      called = rw (gone) (below-removed (suc (last_call sent)) n (calls_in sent rows) a.called);
+      told_of = rw (gone-groups conn n rows) a.told_of;
+      call_fits = a.call_fits;
+      sequence_fits = a.sequence_fits;
+      few = rw (gone) (omega (arith, a.few, length-removed n (calls_in sent rows)));
     }
 
 -- ---- calls that are answered
@@ -378,6 +381,30 @@ marked-on conn n (r ∷ rs) a = (pick (is_call_on conn n r), marked-on conn n rs
     pick true = refl
     pick false = a.0
 
+call-no-group : (conn n : ℕ) (stage : rules.Stage) (question : rules.Asked) → (is_out_on conn stage && has_number n question) ≡ true → is_group question ≡ false
+call-no-group conn n stage (rules.Calls number task lent kind m) e = refl
+call-no-group conn n stage (rules.LooksUp number task name) e = refl
+call-no-group conn n stage (rules.Tells call group) e = absurd (true≢false (sym e ∙ and-false (is_out_on conn stage)))
+
+marked-answered : (conn n : ℕ) (rows : List rules.Request) → AllOf (λ (r : rules.Request). IsOfCall r.stage r.asked) rows → AllOf (λ (r : rules.Request). IsOfCall r.stage r.asked) (map (answered_on conn n) rows)
+marked-answered conn n [] a = tt
+marked-answered conn n (r ∷ rs) a = (pick (is_call_on conn n r) refl, marked-answered conn n rs a.1)
+  where
+    its : Bool → rules.Request
+    its b = cond b (record r { stage = rules.Answered conn }) r
+
+    pick : (b : Bool) → is_call_on conn n r ≡ b → IsOfCall (its b).stage (its b).asked
+    pick true e = call-no-group conn n r.stage r.asked e
+    pick false e = a.0
+
+marked-named : (conn n : ℕ) (rows : List rules.Request) → AllOf (λ (r : rules.Request). IsNamed r.asked) rows → AllOf (λ (r : rules.Request). IsNamed r.asked) (map (answered_on conn n) rows)
+marked-named conn n [] a = tt
+marked-named conn n (r ∷ rs) a = (pick (is_call_on conn n r), marked-named conn n rs a.1)
+  where
+    pick : (b : Bool) → IsNamed (cond b (record r { stage = rules.Answered conn }) r).asked
+    pick true = a.0
+    pick false = a.0
+
 all-set : (P : ℕ → Type 0) (n : ℕ) (call : OutCall) (rows : List (ℕ × OutCall)) → AllOf (λ (row : ℕ × OutCall). P row.0) rows → AllOf (λ (row : ℕ × OutCall). P row.0) (set_value (nat_eq n) rows call)
 all-set P n call [] a = tt
 all-set P n call (r ∷ rs) a = pick (nat_eq n r.0) (all-set P n call rs a.1)
@@ -394,20 +421,20 @@ mark-call conn n rows sent call old new others calls found a =
     let mine : OutCall = record call { answered = true } in
     let length_is : length (set_value (nat_eq n) (calls_in sent rows) mine) ≡ length (calls_in sent rows) = length-set_value (nat_eq n) (calls_in sent rows) mine in
     let keys_are : keys_of (set_value (nat_eq n) (calls_in sent rows) mine) ≡ keys_of (calls_in sent rows) = keys-set_value (nat_eq n) (calls_in sent rows) mine in
-    let lc : new.last_call ≡ old.last_call = ap (λ (t : Requests). t.last_call) others in
-    let ls : new.last_sequence ≡ old.last_sequence = ap (λ (t : Requests). t.last_sequence) others in
     let gs : new.groups ≡ old.groups = ap (λ (t : Requests). t.groups) others in record {
       on = marked-on conn n rows a.on;
+      answered = marked-answered conn n rows a.answered;
+      named = marked-named conn n rows a.named;
       waiting = ap (λ (t : Requests). map asked_of t.waiting.items) others ∙ a.waiting ∙ sym (marked-waiting conn n rows);
       calls = subst (λ (l : List (ℕ × OutCall)). AreRows l new.calls) (sym marked) (calls (calls_in sent rows) a.calls);
       groups = rw (marked-groups conn n rows, gs) a.groups;
       were_sent = rw (marked) (all-set (λ (k : ℕ). was_sent k sent ≡ true) n mine (calls_in sent rows) a.were_sent);
       frames = ap (λ (t : Requests). t.frames) others ∙ a.frames;
-      called = rw (marked, keys_are, lc) a.called;
-      told_of = rw (marked-groups conn n rows, ls) a.told_of;
-      call_fits = rw (lc) a.call_fits;
-      sequence_fits = rw (ls) a.sequence_fits;
-      few = rw (marked, length_is, lc, ls) a.few;
+      called = rw (marked, keys_are) a.called;
+      told_of = rw (marked-groups conn n rows) a.told_of;
+      call_fits = a.call_fits;
+      sequence_fits = a.sequence_fits;
+      few = rw (marked, length_is) a.few;
     }
 
 -- no call of the number is out

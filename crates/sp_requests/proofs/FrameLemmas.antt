@@ -6,6 +6,7 @@ use Rattle.std.proofs.lemmas.Bool.{eq-eqb, ne_eqb, leb-true, leb-false}
 use Rattle.std.proofs.lemmas.List.{append-nil}
 use Rattle.std.proofs.lemmas.List.Folds.{list_any-append}
 use Rattle.net_message.specs.declared.message.Message.{Message}
+use Rattle.net_message.specs.declared.message.Message.TheVariants as message
 use Rattle.rising_map.specs.Rows.{AreBelow, AreRows}
 use Rattle.sp_rules.proofs.AllLemmas.{all-more, or-left, or-right}
 use Rattle.sp_rules.specs.Endings.{call_number_in}
@@ -19,7 +20,7 @@ use Rattle.sp_requests.specs.declared.requests.Requests.{Requests}
 use Rattle.sp_requests.specs.declared.asked.Asked.{Asked}
 use Rattle.sp_requests.specs.declared.asked.Asker.{Asker}
 use Rattle.sp_requests.specs.declared.asked.OutCall.{OutCall}
-use Rattle.sp_requests.specs.Asking.{AreRequests, IsOn, asked_of, asks_by, call_at, call_row, calls_in, group_in, group_row, groups_in, out_row, place_of, waiting_in, was_sent}
+use Rattle.sp_requests.specs.Asking.{AreRequests, IsNamed, IsOfCall, IsOn, asked_of, asks_by, call_at, call_row, calls_in, group_in, group_row, groups_in, last_call, last_sequence, newest, out_row, place_of, sequence_in, waiting_in, was_sent}
 use Rattle.sp_requests.proofs.AskingLemmas.{all-join, all-left, all-right, flat-more, found-some, gone-call, length-found}
 
 pub is-le : (m n : ℕ) → m ≤ n → nat_le m n ≡ true
@@ -106,24 +107,40 @@ fits n calls last_call last_sequence few low least = omega (arith, few, low, lea
 
 -- ---- a frame that is no call's goes out
 
-pub frame-sent : (conn : ℕ) (rows : List rules.Request) (sent : List Message) (m : Message) (old new : Requests) → new.waiting ≡ old.waiting → new.calls ≡ old.calls → new.groups ≡ old.groups → new.frames ≡ suc (length sent) → new.last_call ≡ old.last_call → new.last_sequence ≡ old.last_sequence
-    → call_number_in m ≡ [] → suc (length sent) + length (calls_in sent rows) ≤ 1 + (2 * old.last_call + old.last_sequence) → AreRequests conn rows sent old → AreRequests conn rows (m ∷ sent) new
-frame-sent conn rows sent m old new waiting calls groups frames last_call last_sequence none few a =
+pub no-call-last : (m : Message) (sent : List Message) → call_number_in m ≡ [] → last_call (m ∷ sent) ≡ last_call sent
+no-call-last m sent e = ap (λ (l : List ℕ). newest (l ++ flat_map call_number_in sent)) e
+
+pub no-sequence-last : (m : Message) (sent : List Message) → sequence_in m ≡ [] → last_sequence (m ∷ sent) ≡ last_sequence sent
+no-sequence-last m sent e = ap (λ (l : List ℕ). newest (l ++ flat_map sequence_in sent)) e
+
+pub frame-sent : (conn : ℕ) (rows : List rules.Request) (sent : List Message) (m : Message) (old new : Requests) → new.waiting ≡ old.waiting → new.calls ≡ old.calls → new.groups ≡ old.groups → new.frames ≡ suc (length sent)
+    → call_number_in m ≡ [] → sequence_in m ≡ [] → suc (length sent) + length (calls_in sent rows) ≤ 1 + (2 * last_call sent + last_sequence sent) → AreRequests conn rows sent old → AreRequests conn rows (m ∷ sent) new
+frame-sent conn rows sent m old new waiting calls groups frames none neither few a =
+    let lc = no-call-last m sent none in
+    let ls = no-sequence-last m sent neither in
     let same = calls-sent m sent rows (of-none m (keys_of (calls_in sent rows)) none) in record {
       on = a.on;
+      answered = a.answered;
+      named = a.named;
       waiting = ap (λ (w : Vec Asked Global). map asked_of w.items) waiting ∙ a.waiting;
       calls = rw (same, calls) a.calls;
       groups = rw (groups) a.groups;
       were_sent = rw (same) (still-sent m sent (calls_in sent rows) a.were_sent);
       frames = frames;
-      called = rw (same, last_call) a.called;
-      told_of = rw (last_sequence) a.told_of;
-      call_fits = rw (last_call) a.call_fits;
-      sequence_fits = rw (last_sequence) a.sequence_fits;
-      few = rw (same, last_call, last_sequence) few;
+      called = rw (same, lc) a.called;
+      told_of = rw (ls) a.told_of;
+      call_fits = rw (lc) a.call_fits;
+      sequence_fits = rw (ls) a.sequence_fits;
+      few = rw (same, lc, ls) few;
     }
 
 -- ---- a call goes out
+
+-- a call is no dirty or clean call
+call-alone : (number : ℕ) (m : Message) → call_number_in m ≡ number ∷ [] → sequence_in m ≡ []
+call-alone number (message.Dirty sequence period objects) e = cc
+call-alone number (message.Clean sequence strong objects) e = cc
+call-alone number _ e = refl
 
 no-group-in : (sequence number : ℕ) (by : Asker) (question : rules.Asked) → asks_by question ≡ (number, by) ∷ [] → group_in sequence question ≡ []
 no-group-in sequence number by (rules.Calls k task lent kind m) e = refl
@@ -141,14 +158,16 @@ waiting-more (x ∷ xs) r e = pick (is_waiting x.stage) (waiting-more xs r e)
     pick true go = ap (λ l. x.asked ∷ l) go
     pick false go = go
 
-pub call-sent : (conn number : ℕ) (by : Asker) (rows : List rules.Request) (sent : List Message) (peer : Uuid) (question : rules.Asked) (m : Message) (old new : Requests) → new.waiting ≡ old.waiting → new.groups ≡ old.groups → new.frames ≡ suc (length sent) → new.last_call ≡ number → new.last_sequence ≡ old.last_sequence
-    → number < 2 ^ 64 → old.last_call < number → asks_by question ≡ (number, by) ∷ [] → call_number_in m ≡ number ∷ []
+pub call-sent : (conn number : ℕ) (by : Asker) (rows : List rules.Request) (sent : List Message) (peer : Uuid) (question : rules.Asked) (m : Message) (old new : Requests) → new.waiting ≡ old.waiting → new.groups ≡ old.groups → new.frames ≡ suc (length sent)
+    → number < 2 ^ 64 → last_call sent < number → asks_by question ≡ (number, by) ∷ [] → IsNamed question → call_number_in m ≡ number ∷ []
     → ((calls : List (ℕ × OutCall)) → AreRows calls old.calls → AreBelow number (keys_of calls) → AreRows (calls ++ (number, record { asker = by; answered = false; place = old.frames }) ∷ []) new.calls)
     → AreRequests conn rows sent old → AreRequests conn (rows ++ record { peer = peer; asked = question; stage = rules.Out conn 0 } ∷ []) (m ∷ sent) new
-call-sent conn number by rows sent peer question m old new waiting groups frames last_call last_sequence small above asks its pushed a =
+call-sent conn number by rows sent peer question m old new waiting groups frames small above asks named its pushed a =
+    let lc : last_call (m ∷ sent) ≡ number = ap (λ (l : List ℕ). newest (l ++ flat_map call_number_in sent)) its in
+    let ls = no-sequence-last m sent (call-alone number m its) in
     let r : rules.Request = record { peer = peer; asked = question; stage = rules.Out conn 0 } in
     let call : OutCall = record { asker = by; answered = false; place = old.frames } in
-    let below : AreBelow number (keys_of (calls_in sent rows)) = below-more (suc old.last_call) number (keys_of (calls_in sent rows)) (omega (arith, above)) a.called in
+    let below : AreBelow number (keys_of (calls_in sent rows)) = below-more (suc (last_call sent)) number (keys_of (calls_in sent rows)) (omega (arith, above)) a.called in
     let same = calls-sent m sent rows (of-above m number (keys_of (calls_in sent rows)) its below) in
     let mine : list_any (◌==◌ number) (call_number_in m) ≡ true = ap (list_any (◌==◌ number)) its ∙ ap (λ b. b || false) (eq-eqb number number refl) in
     let place : place_of number (m ∷ sent) ≡ old.frames = ap (λ b. cond b (length sent) (place_of number sent)) mine ∙ sym a.frames in
@@ -157,31 +176,33 @@ call-sent conn number by rows sent peer question m old new waiting groups frames
     let told : groups_in (rows ++ r ∷ []) ≡ groups_in rows = flat-more group_row rows r ∙ ap (λ l. groups_in rows ++ l) (no-group-in 0 number by question asks) ∙ append-nil (groups_in rows) in
     let count : length (calls_in sent rows ++ (number, call) ∷ []) ≡ length (calls_in sent rows) + 1 = length-append (calls_in sent rows) ((number, call) ∷ []) in record {
       on = all-more (λ (x : rules.Request). IsOn conn x.stage) rows r a.on refl;
+      answered = all-more (λ (x : rules.Request). IsOfCall x.stage x.asked) rows r a.answered tt;
+      named = all-more (λ (x : rules.Request). IsNamed x.asked) rows r a.named named;
       waiting = ap (λ (w : Vec Asked Global). map asked_of w.items) waiting ∙ a.waiting ∙ sym (waiting-more rows r refl);
       calls = rw (all) (pushed (calls_in sent rows) a.calls below);
       groups = rw (told, groups) a.groups;
       were_sent = rw (all) (all-join (λ (x : ℕ × OutCall). was_sent x.0 (m ∷ sent) ≡ true) (calls_in sent rows) ((number, call) ∷ []) (still-sent m sent (calls_in sent rows) a.were_sent)
           (list_any-append (◌==◌ number) (call_number_in m) (flat_map call_number_in sent) ∙ or-left (list_any (◌==◌ number) (call_number_in m)) (was_sent number sent) mine, tt));
       frames = frames;
-      called = rw (all, last_call, keys-append (calls_in sent rows) ((number, call) ∷ [])) (below-last (suc number) number (keys_of (calls_in sent rows)) (below-more number (suc number) (keys_of (calls_in sent rows)) (omega arith) below) (omega arith));
-      told_of = rw (told, last_sequence) a.told_of;
-      call_fits = rw (last_call) small;
-      sequence_fits = rw (last_sequence) a.sequence_fits;
-      few = rw (all, count, last_call, last_sequence) (omega (arith, a.few, above));
+      called = rw (all, lc, keys-append (calls_in sent rows) ((number, call) ∷ [])) (below-last (suc number) number (keys_of (calls_in sent rows)) (below-more number (suc number) (keys_of (calls_in sent rows)) (omega arith) below) (omega arith));
+      told_of = rw (told, ls) a.told_of;
+      call_fits = rw (lc) small;
+      sequence_fits = rw (ls) a.sequence_fits;
+      few = rw (all, count, lc, ls) (omega (arith, a.few, above));
     }
 
 -- ---- a call is acknowledged
 
 pub acknowledge-call : (conn n : ℕ) (rows : List rules.Request) (sent : List Message) (m : Message) (old mid new : Requests) → AreRequests conn (filter (λ (r : rules.Request). not (is_call_on conn n r)) rows) sent mid
-    → mid.last_call ≡ old.last_call → mid.last_sequence ≡ old.last_sequence → new ≡ record mid { frames = new.frames } → new.frames ≡ suc (length sent) → call_number_in m ≡ [] → is_some (find (is_call_on conn n) rows) ≡ true → AreRequests conn rows sent old
+    → new ≡ record mid { frames = new.frames } → new.frames ≡ suc (length sent) → call_number_in m ≡ [] → sequence_in m ≡ [] → is_some (find (is_call_on conn n) rows) ≡ true → AreRequests conn rows sent old
     → AreRequests conn (filter (λ (r : rules.Request). not (is_call_on conn n r)) rows) (m ∷ sent) new
-acknowledge-call conn n rows sent m old mid new b lc ls others frames none there a =
+acknowledge-call conn n rows sent m old mid new b others frames none neither there a =
     let left = filter (λ (r : rules.Request). not (is_call_on conn n r)) rows in
     let gone = gone-call conn n sent rows a.on a.calls.rises in
     let found : is_some (lookup (nat_eq n) (calls_in sent rows)) ≡ true = found-some conn n sent rows a.on there in
     let count : length (calls_in sent left) + 1 ≡ length (calls_in sent rows) = ap (λ l. length l + 1) gone ∙ length-found n (calls_in sent rows) found in
-    frame-sent conn left sent m mid new (ap (λ (t : Requests). t.waiting) others) (ap (λ (t : Requests). t.calls) others) (ap (λ (t : Requests). t.groups) others) frames (ap (λ (t : Requests). t.last_call) others) (ap (λ (t : Requests). t.last_sequence) others) none
-    (rw (lc, ls) (omega (arith, count, a.few))) b
+    frame-sent conn left sent m mid new (ap (λ (t : Requests). t.waiting) others) (ap (λ (t : Requests). t.calls) others) (ap (λ (t : Requests). t.groups) others) frames none neither
+    (omega (arith, count, a.few)) b
 
 -- ---- frames that were not sent whole
 

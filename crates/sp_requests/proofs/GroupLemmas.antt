@@ -7,6 +7,9 @@ use Rattle.std.proofs.lemmas.Bool.{eqb-true, eq-eqb, ne_eqb}
 use Rattle.std.proofs.lemmas.List.{append-nil, map-append}
 use Rattle.net_message.specs.declared.message.Message.{Message}
 use Rattle.dgc_client.specs.declared.groups.Group.{Group}
+use Rattle.dgc_client.specs.declared.lease.Due.{Due}
+use Rattle.dgc_client.specs.declared.lease.Due.TheVariants as due
+use Rattle.space_ids.specs.declared.ids.ObjId.{ObjId}
 use Rattle.uuid.specs.declared.Uuid.{Uuid}
 use Rattle.rising_map.specs.Rows.{AreAbove, AreBelow, AreRows, Rises}
 use Rattle.sp_rules.proofs.AllLemmas.{all-filter, all-more}
@@ -14,15 +17,15 @@ use Rattle.sp_rules.specs.Endings.{call_number_in}
 use Rattle.sp_rules.specs.Frames.{has_sequence, is_dirty_kind, tells_of, tells_on}
 use Rattle.sp_rules.specs.Laws.{AllOf}
 use Rattle.sp_rules.specs.ParkedFrames.{is_unanswered_on}
-use Rattle.sp_rules.specs.Requests.{is_waiting}
+use Rattle.sp_rules.specs.Requests.{group_frame, is_waiting}
 use Rattle.sp_rules.specs.State as rules
 use Rattle.sp_requests.specs.declared.requests.Requests.{Requests}
 use Rattle.sp_requests.specs.declared.asked.Asked.{Asked}
 use Rattle.sp_requests.specs.declared.asked.Asker.{Asker}
 use Rattle.sp_requests.specs.declared.asked.OutGroup.{OutGroup}
-use Rattle.sp_requests.specs.Asking.{AreRequests, IsOn, asked_of, asks_by, call_at, call_row, calls_in, first_of, group_at, group_row, groups_in, number_of, out_row, sequence_of, told, waiting_in}
+use Rattle.sp_requests.specs.Asking.{AreRequests, IsNamed, IsOfCall, IsOn, asked_of, asks_by, call_at, call_row, calls_in, first_of, group_at, group_row, groups_in, last_sequence, newest, number_of, out_row, sequence_in, sequence_of, told, waiting_in}
 use Rattle.sp_requests.proofs.AskingLemmas.{all-of, and-false, below-removed, filter-filter, flat-filter, flat-more, none-gone}
-use Rattle.sp_requests.proofs.FrameLemmas.{below-last, below-more, calls-sent, keys-append, of-none, still-sent, waiting-more}
+use Rattle.sp_requests.proofs.FrameLemmas.{below-last, below-more, calls-sent, keys-append, no-call-last, of-none, still-sent, waiting-more}
 
 -- whether these are dirty calls, or clean calls
 abbrev pub is_kind : Bool → OutGroup → Bool
@@ -172,38 +175,53 @@ take-group conn n dirty rows sent g old new others groups found kind a =
     let left = filter (λ (r : rules.Request). not (tells_on dirty conn n r)) rows in
     let gone = gone-group conn n dirty rows g a.on a.groups.rises found kind in
     let calls : calls_in sent left ≡ calls_in sent rows = flat-filter (call_row sent) (tells_on dirty conn n) rows (all-of rows (λ r e. no-call conn n dirty sent r.stage r.asked e)) in
-    let lc : new.last_call ≡ old.last_call = ap (λ (t : Requests). t.last_call) others in
-    let ls : new.last_sequence ≡ old.last_sequence = ap (λ (t : Requests). t.last_sequence) others in
     let cs : new.calls ≡ old.calls = ap (λ (t : Requests). t.calls) others in record {
       on = all-filter (λ (r : rules.Request). IsOn conn r.stage) (λ (r : rules.Request). not (tells_on dirty conn n r)) rows a.on;
+      answered = all-filter (λ (x : rules.Request). IsOfCall x.stage x.asked) (λ (r : rules.Request). not (tells_on dirty conn n r)) rows a.answered;
+      named = all-filter (λ (x : rules.Request). IsNamed x.asked) (λ (r : rules.Request). not (tells_on dirty conn n r)) rows a.named;
       waiting = ap (λ (t : Requests). map asked_of t.waiting.items) others ∙ a.waiting
           ∙ sym (ap (map (λ (r : rules.Request). r.asked)) (filter-filter (λ (r : rules.Request). is_waiting r.stage) (tells_on dirty conn n) rows (all-of rows (λ r e. no-wait conn n dirty r.stage r.asked e))));
       calls = rw (calls, cs) a.calls;
       groups = subst (λ (l : List (ℕ × OutGroup)). AreRows l new.groups) (sym gone) groups;
       were_sent = rw (calls) a.were_sent;
       frames = ap (λ (t : Requests). t.frames) others ∙ a.frames;
-      called = rw (calls, lc) a.called;
-      told_of = rw (gone, ls) (below-removed (suc old.last_sequence) n (groups_in rows) a.told_of);
-      call_fits = rw (lc) a.call_fits;
-      sequence_fits = rw (ls) a.sequence_fits;
-      few = rw (calls, lc, ls) a.few;
+      called = rw (calls) a.called;
+      told_of = rw (gone) (below-removed (suc (last_sequence sent)) n (groups_in rows) a.told_of);
+      call_fits = a.call_fits;
+      sequence_fits = a.sequence_fits;
+      few = rw (calls) a.few;
     }
 
 pub leave-group : (conn n : ℕ) (dirty : Bool) (rows : List rules.Request) (sent : List Message) (old : Requests) → ((g : OutGroup) → lookup (nat_eq n) (groups_in rows) ≡ Some g → is_kind dirty g ≡ false) → AreRequests conn rows sent old
     → AreRequests conn (filter (λ (r : rules.Request). not (tells_on dirty conn n r)) rows) sent old
 leave-group conn n dirty rows sent old other a = subst (λ (l : List rules.Request). AreRequests conn l sent old) (sym (none-gone (tells_on dirty conn n) rows (none-told conn n dirty rows a.on a.groups.rises other))) a
 
+-- the frame of a group is no call's, and has its sequence number
+no-call-frame : (kind : Due) (sequence : ℕ) (ids : List ObjId) → call_number_in (group_frame kind sequence ids) ≡ []
+no-call-frame due.Dirty sequence ids = refl
+no-call-frame (due.Clean strong) sequence ids = refl
+
+group-sequence : (kind : Due) (sequence : ℕ) (ids : List ObjId) → sequence_in (group_frame kind sequence ids) ≡ sequence ∷ []
+group-sequence due.Dirty sequence ids = refl
+group-sequence (due.Clean strong) sequence ids = refl
+
 -- a group goes out
-pub group-sent : (conn sequence call : ℕ) (group : Group) (rows : List rules.Request) (sent : List Message) (peer : Uuid) (m : Message) (old new : Requests) → new.waiting ≡ old.waiting → new.calls ≡ old.calls → new.frames ≡ suc (length sent) → new.last_call ≡ old.last_call → new.last_sequence ≡ sequence
-    → sequence < 2 ^ 64 → old.last_sequence < sequence → call_number_in m ≡ [] → (AreBelow sequence (keys_of (groups_in rows)) → AreRows (groups_in rows ++ (sequence, record { call = call; group = group }) ∷ []) new.groups)
-    → AreRequests conn rows sent old → AreRequests conn (rows ++ record { peer = peer; asked = rules.Tells call group; stage = rules.Out conn sequence } ∷ []) (m ∷ sent) new
-group-sent conn sequence call group rows sent peer m old new waiting cs frames lc ls small above none pushed a =
+pub group-sent : (conn sequence call : ℕ) (group : Group) (rows : List rules.Request) (sent : List Message) (peer : Uuid) (old new : Requests) → new.waiting ≡ old.waiting → new.calls ≡ old.calls → new.frames ≡ suc (length sent)
+    → sequence < 2 ^ 64 → last_sequence sent < sequence → (AreBelow sequence (keys_of (groups_in rows)) → AreRows (groups_in rows ++ (sequence, record { call = call; group = group }) ∷ []) new.groups)
+    → AreRequests conn rows sent old → AreRequests conn (rows ++ record { peer = peer; asked = rules.Tells call group; stage = rules.Out conn sequence } ∷ []) (group_frame group.kind sequence group.ids ∷ sent) new
+group-sent conn sequence call group rows sent peer old new waiting cs frames small above pushed a =
+    let m = group_frame group.kind sequence group.ids in
+    let none = no-call-frame group.kind sequence group.ids in
+    let lc = no-call-last m sent none in
+    let ls : last_sequence (m ∷ sent) ≡ sequence = ap (λ (l : List ℕ). newest (l ++ flat_map sequence_in sent)) (group-sequence group.kind sequence group.ids) in
     let r : rules.Request = record { peer = peer; asked = rules.Tells call group; stage = rules.Out conn sequence } in
     let row : ℕ × OutGroup = (sequence, record { call = call; group = group }) in
-    let below : AreBelow sequence (keys_of (groups_in rows)) = below-more (suc old.last_sequence) sequence (keys_of (groups_in rows)) (omega (arith, above)) a.told_of in
+    let below : AreBelow sequence (keys_of (groups_in rows)) = below-more (suc (last_sequence sent)) sequence (keys_of (groups_in rows)) (omega (arith, above)) a.told_of in
     let same : calls_in (m ∷ sent) (rows ++ r ∷ []) ≡ calls_in sent rows = flat-more (call_row (m ∷ sent)) rows r ∙ append-nil (calls_in (m ∷ sent) rows) ∙ calls-sent m sent rows (of-none m (keys_of (calls_in sent rows)) none) in
     let told : groups_in (rows ++ r ∷ []) ≡ groups_in rows ++ row ∷ [] = flat-more group_row rows r in record {
       on = all-more (λ (x : rules.Request). IsOn conn x.stage) rows r a.on refl;
+      answered = all-more (λ (x : rules.Request). IsOfCall x.stage x.asked) rows r a.answered tt;
+      named = all-more (λ (x : rules.Request). IsNamed x.asked) rows r a.named tt;
       waiting = ap (λ (w : Vec Asked Global). map asked_of w.items) waiting ∙ a.waiting ∙ sym (waiting-more rows r refl);
       calls = rw (same, cs) a.calls;
       groups = rw (told) (pushed below);
@@ -232,27 +250,27 @@ waits-more (x ∷ xs) r e = pick (is_waiting x.stage) (waits-more xs r e)
     pick true go = ap (λ l. x.asked ∷ l) go
     pick false go = go
 
-pub wait-more : (conn : ℕ) (rows : List rules.Request) (sent : List Message) (peer : Uuid) (item : Asked) (old new : Requests) → new ≡ record old { waiting = new.waiting } → new.waiting.items ≡ old.waiting.items ++ item ∷ [] → AreRequests conn rows sent old
+pub wait-more : (conn : ℕ) (rows : List rules.Request) (sent : List Message) (peer : Uuid) (item : Asked) (old new : Requests) → new ≡ record old { waiting = new.waiting } → new.waiting.items ≡ old.waiting.items ++ item ∷ [] → IsNamed (asked_of item) → AreRequests conn rows sent old
     → AreRequests conn (rows ++ record { peer = peer; asked = asked_of item; stage = rules.Waits } ∷ []) sent new
-wait-more conn rows sent peer item old new others items a =
+wait-more conn rows sent peer item old new others items named a =
     let r : rules.Request = record { peer = peer; asked = asked_of item; stage = rules.Waits } in
     let calls : calls_in sent (rows ++ r ∷ []) ≡ calls_in sent rows = flat-more (call_row sent) rows r ∙ append-nil (calls_in sent rows) in
     let told : groups_in (rows ++ r ∷ []) ≡ groups_in rows = flat-more group_row rows r ∙ append-nil (groups_in rows) in
-    let lc : new.last_call ≡ old.last_call = ap (λ (t : Requests). t.last_call) others in
-    let ls : new.last_sequence ≡ old.last_sequence = ap (λ (t : Requests). t.last_sequence) others in
     let cs : new.calls ≡ old.calls = ap (λ (t : Requests). t.calls) others in
     let gs : new.groups ≡ old.groups = ap (λ (t : Requests). t.groups) others in record {
       on = all-more (λ (x : rules.Request). IsOn conn x.stage) rows r a.on tt;
+      answered = all-more (λ (x : rules.Request). IsOfCall x.stage x.asked) rows r a.answered tt;
+      named = all-more (λ (x : rules.Request). IsNamed x.asked) rows r a.named named;
       waiting = ap (map asked_of) items ∙ map-append asked_of old.waiting.items (item ∷ []) ∙ ap (λ l. l ++ asked_of item ∷ []) a.waiting ∙ sym (waits-more rows r refl);
       calls = rw (calls, cs) a.calls;
       groups = rw (told, gs) a.groups;
       were_sent = rw (calls) a.were_sent;
       frames = ap (λ (t : Requests). t.frames) others ∙ a.frames;
-      called = rw (calls, lc) a.called;
-      told_of = rw (told, ls) a.told_of;
-      call_fits = rw (lc) a.call_fits;
-      sequence_fits = rw (ls) a.sequence_fits;
-      few = rw (calls, lc, ls) a.few;
+      called = rw (calls) a.called;
+      told_of = rw (told) a.told_of;
+      call_fits = a.call_fits;
+      sequence_fits = a.sequence_fits;
+      few = rw (calls) a.few;
     }
 
 waits-no-call : (sent : List Message) (stage : rules.Stage) (question : rules.Asked) → is_waiting stage ≡ true → call_at sent stage question ≡ []
@@ -282,21 +300,21 @@ take-waiting conn rows sent old new others items a =
     let left = filter (λ (r : rules.Request). not (is_waiting r.stage)) rows in
     let calls : calls_in sent left ≡ calls_in sent rows = flat-filter (call_row sent) (λ (r : rules.Request). is_waiting r.stage) rows (all-of rows (λ r e. waits-no-call sent r.stage r.asked e)) in
     let told : groups_in left ≡ groups_in rows = flat-filter group_row (λ (r : rules.Request). is_waiting r.stage) rows (all-of rows (λ r e. waits-no-group r.stage r.asked e)) in
-    let lc : new.last_call ≡ old.last_call = ap (λ (t : Requests). t.last_call) others in
-    let ls : new.last_sequence ≡ old.last_sequence = ap (λ (t : Requests). t.last_sequence) others in
     let cs : new.calls ≡ old.calls = ap (λ (t : Requests). t.calls) others in
     let gs : new.groups ≡ old.groups = ap (λ (t : Requests). t.groups) others in record {
       on = all-filter (λ (r : rules.Request). IsOn conn r.stage) (λ (r : rules.Request). not (is_waiting r.stage)) rows a.on;
+      answered = all-filter (λ (x : rules.Request). IsOfCall x.stage x.asked) (λ (r : rules.Request). not (is_waiting r.stage)) rows a.answered;
+      named = all-filter (λ (x : rules.Request). IsNamed x.asked) (λ (r : rules.Request). not (is_waiting r.stage)) rows a.named;
       waiting = ap (map asked_of) items ∙ sym (none-waits rows);
       calls = rw (calls, cs) a.calls;
       groups = rw (told, gs) a.groups;
       were_sent = rw (calls) a.were_sent;
       frames = ap (λ (t : Requests). t.frames) others ∙ a.frames;
-      called = rw (calls, lc) a.called;
-      told_of = rw (told, ls) a.told_of;
-      call_fits = rw (lc) a.call_fits;
-      sequence_fits = rw (ls) a.sequence_fits;
-      few = rw (calls, lc, ls) a.few;
+      called = rw (calls) a.called;
+      told_of = rw (told) a.told_of;
+      call_fits = a.call_fits;
+      sequence_fits = a.sequence_fits;
+      few = rw (calls) a.few;
     }
 
 -- ---- numbers
@@ -317,3 +335,15 @@ call-numbers sent (r ∷ rs) = let first = numbers-at sent r.stage r.asked in le
 pub sequence-numbers : (rows : List rules.Request) → keys_of (groups_in rows) ≡ flat_map sequence_of rows
 sequence-numbers [] = refl
 sequence-numbers (r ∷ rs) = keys-append (group_row r) (groups_in rs) ∙ ap (λ l. keys_of (group_row r) ++ l) (sequence-numbers rs)
+
+-- each call that waits has a frame of its number
+pub waiting-named : (rows : List rules.Request) (asked : List rules.Asked) → asked ≡ waiting_in rows → AllOf (λ (r : rules.Request). IsNamed r.asked) rows → AllOf IsNamed asked
+waiting-named rows asked same a = subst (AllOf IsNamed) (sym same) (among rows a)
+  where
+    among : (rs : List rules.Request) → AllOf (λ (r : rules.Request). IsNamed r.asked) rs → AllOf IsNamed (waiting_in rs)
+    among [] h = tt
+    among (r ∷ rs) h = pick (is_waiting r.stage) (among rs h.1)
+      where
+        pick : (b : Bool) → AllOf IsNamed (waiting_in rs) → AllOf IsNamed (map (λ (x : rules.Request). x.asked) (cond b (r ∷ filter (λ (x : rules.Request). is_waiting x.stage) rs) (filter (λ (x : rules.Request). is_waiting x.stage) rs)))
+        pick true go = (h.0, go)
+        pick false go = go

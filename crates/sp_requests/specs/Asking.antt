@@ -4,10 +4,11 @@ use Rattle.std.specs.Vec.{vec_capacity}
 use Rattle.std.specs.List.{flat_map, list_any}
 use Rattle.std.specs.Map.{keys_of}
 use Rattle.net_message.specs.declared.message.Message.{Message}
+use Rattle.net_message.specs.declared.message.Message.TheVariants as message
 use Rattle.rising_map.specs.Rows as rising
 use Rattle.rising_map.specs.Rows.{AreBelow, AreRows}
 use Rattle.sp_rules.specs.Classes.{Kind, IntKind, IntArrayKind, ReferenceKind, VoidKind}
-use Rattle.sp_rules.specs.Endings.{call_number_in}
+use Rattle.sp_rules.specs.Endings.{call_number_in, is_group}
 use Rattle.sp_rules.specs.Laws.{AllOf}
 use Rattle.sp_rules.specs.Requests.{is_waiting}
 use Rattle.sp_rules.specs.State as rules
@@ -57,6 +58,25 @@ was_sent number sent = list_any (◌==◌ number) (flat_map call_number_in sent)
 abbrev pub place_of : ℕ → List Message → ℕ
 place_of number [] = 0
 place_of number (m ∷ sent) = if list_any (◌==◌ number) (call_number_in m) then length sent else place_of number sent
+
+-- the sequence number of dirty or clean calls
+abbrev pub sequence_in : Message → List ℕ
+sequence_in (message.Dirty sequence period objects) = sequence ∷ []
+sequence_in (message.Clean sequence strong objects) = sequence ∷ []
+sequence_in _ = []
+
+-- the first of these numbers, or 0
+abbrev pub newest : List ℕ → ℕ
+newest [] = 0
+newest (n ∷ ns) = n
+
+-- the number of the last call or lookup that went out, 0 before the first
+abbrev pub last_call : List Message → ℕ
+last_call sent = newest (flat_map call_number_in sent)
+
+-- the sequence number of the last dirty or clean calls that went out, 0 before the first
+abbrev pub last_sequence : List Message → ℕ
+last_sequence sent = newest (flat_map sequence_in sent)
 
 -- ---- rows
 
@@ -122,25 +142,33 @@ IsOn conn rules.Waits = Unit {0}
 IsOn conn (rules.Out c sequence) = c ≡ conn
 IsOn conn (rules.Answered c) = c ≡ conn
 
+-- The frame of a call has its number.
+abbrev pub IsNamed : rules.Asked → Type 0
+IsNamed (rules.Calls number task lent kind m) = call_number_in m ≡ number ∷ []
+IsNamed (rules.LooksUp number task name) = Unit {0}
+IsNamed (rules.Tells call group) = Unit {0}
+
+-- What is answered is a call or lookup.
+abbrev pub IsOfCall : rules.Stage → rules.Asked → Type 0
+IsOfCall rules.Waits question = Unit {0}
+IsOfCall (rules.Out conn sequence) question = Unit {0}
+IsOfCall (rules.Answered conn) question = is_group question ≡ false
+
 -- What waits stands in its order, calls and lookups that are out by number, dirty and clean calls by sequence number. The frame of each call that is out went out on the connection. Its frames are no more than the numbers allow: each call may go out and be acknowledged, each dirty or clean call goes out, and one is the Hello.
 pub record AreRequests (conn : ℕ) (rows : List rules.Request) (sent : List Message) (table : Requests) : Type 0 where
   pub on : AllOf (λ (r : rules.Request). IsOn conn r.stage) rows
+  pub answered : AllOf (λ (r : rules.Request). IsOfCall r.stage r.asked) rows
+  pub named : AllOf (λ (r : rules.Request). IsNamed r.asked) rows
   pub waiting : map asked_of table.waiting.items ≡ waiting_in rows
   pub calls : AreRows (calls_in sent rows) table.calls
   pub groups : AreRows (groups_in rows) table.groups
   pub were_sent : AllOf (λ (row : ℕ × OutCall). was_sent row.0 sent ≡ true) (calls_in sent rows)
   pub frames : table.frames ≡ length sent
-  pub called : AreBelow (suc table.last_call) (keys_of (calls_in sent rows))
-  pub told_of : AreBelow (suc table.last_sequence) (keys_of (groups_in rows))
-  pub call_fits : table.last_call < 2 ^ 64
-  pub sequence_fits : table.last_sequence < 2 ^ 64
-  pub few : length sent + length (calls_in sent rows) ≤ 1 + (2 * table.last_call + table.last_sequence)
-
-abbrev pub last_call : Requests → ℕ
-last_call table = table.last_call
-
-abbrev pub last_sequence : Requests → ℕ
-last_sequence table = table.last_sequence
+  pub called : AreBelow (suc (last_call sent)) (keys_of (calls_in sent rows))
+  pub told_of : AreBelow (suc (last_sequence sent)) (keys_of (groups_in rows))
+  pub call_fits : last_call sent < 2 ^ 64
+  pub sequence_fits : last_sequence sent < 2 ^ 64
+  pub few : length sent + length (calls_in sent rows) ≤ 1 + (2 * last_call sent + last_sequence sent)
 
 -- ---- room
 

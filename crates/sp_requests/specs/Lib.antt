@@ -1,2 +1,3 @@
 pub mod Asking
 pub mod Peers
+pub mod Ends

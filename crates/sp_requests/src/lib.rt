@@ -6,7 +6,9 @@
 #![tactic(auto)]
 
 pub use asked::{Asked, Asker, OutCall, OutGroup, ResultKind};
+pub use ended::{Ended, EndedCall, Ending};
 pub use requests::Requests;
 
 mod asked;
+mod ended;
 mod requests;

@@ -1,6 +1,7 @@
 //! What is asked of one peer and has not ended.
 
-ghost use Rattle.std.specs.Prelude.{◌≡◌, ℕ, ◌≤◌, ◌<◌, ◌+◌, ◌++◌, ◌==◌, ◌-◌, ◌^◌, min, nat_eq, if◌then◌else◌, not, true, Bool, List, [], ◌∷◌, None, Some, IfOk, OnOk, find, filter, is_some, map, option_and_then, option_copied, take};
+ghost use Rattle.std.specs.Prelude.{◌≡◌, ℕ, ◌≤◌, ◌<◌, ◌+◌, ◌++◌, ◌==◌, ◌-◌, ◌^◌, min, nat_eq, if◌then◌else◌, not, true, Bool, List, [], ◌∷◌, None, Some, IfOk, OnOk, find, filter, is_some, map, option_and_then, option_copied, take, vec_len};
+ghost use Rattle.std.specs.Vec.{vec_capacity};
 ghost use Rattle.std.specs.List.{flat_map, list_any};
 ghost use Rattle.std.specs.Map.{set_value};
 ghost use Rattle.uuid.specs.declared.Uuid.{Uuid as Peer};
@@ -8,11 +9,14 @@ ghost use Rattle.net_message.specs.declared.message.Message.{Message as Frame};
 ghost use Rattle.net_message.specs.declared.message.Message.TheVariants as message;
 ghost use Rattle.sp_rules.specs.Endings.{call_number_in, is_group};
 ghost use Rattle.sp_rules.specs.Frames.{answered_on, is_dirty_kind, tells_on};
-ghost use Rattle.sp_rules.specs.ParkedFrames.{is_call_on};
-ghost use Rattle.sp_rules.specs.Requests.{is_waiting};
+ghost use Rattle.sp_rules.specs.Laws.{AllOf};
+ghost use Rattle.sp_rules.specs.ParkedFrames.{is_asked_on, is_call_on};
+ghost use Rattle.sp_rules.specs.Requests.{group_frame, is_waiting};
 ghost use Rattle.sp_rules.specs.State.{Asked as Question, Out, Request, Tells, Waits};
+ghost use Rattle.sp_requests.specs.Ends.{ended_group, waiting_among};
+ghost use Rattle.sp_requests.specs.Asking.{asked_of};
 
-use crate::{Asked, Asker, OutCall, OutGroup};
+use crate::{Asked, Asker, Ended, EndedCall, Ending, OutCall, OutGroup};
 use dgc_client::{Due, Group};
 use rising_map::RisingMap;
 use std::alloc::{AllocError, Global};
@@ -32,28 +36,23 @@ pub struct Requests {
     calls: RisingMap<OutCall>,
     groups: RisingMap<OutGroup>,
     frames: u128,
-    last_call: u64,
-    last_sequence: u64,
 }
 
 impl Requests {
     ghost use Rattle.rising_map.specs.Rows.{AreRows};
     ghost use Rattle.sp_requests.specs.declared.asked.OutCall.{OutCall as Kept};
-    ghost use Rattle.sp_requests.specs.Asking.{AreRequests, asked_of, asks_by, call_room, group_room, last_call, last_sequence, number_of, sequence_of, shown, told, waiting_room};
+    ghost use Rattle.sp_requests.specs.Asking.{AreRequests, IsNamed, asks_by, call_room, group_room, last_call, last_sequence, number_of, sequence_of, shown, told, waiting_room};
+    ghost use Rattle.sp_requests.specs.Ends.{HasEndRoom, IsEnded, IsEnding, ended_call, out_among, unsent_among};
 
     /// Nothing is asked of the peer, and no frame went out.
     pub fn new(alloc: Global) -> Requests
         ensures requests { (conn : ℕ) → AreRequests conn [] [] result }
-        ensures last_call { last_call result ≡ 0 }
-        ensures last_sequence { last_sequence result ≡ 0 }
     {
         Requests {
             waiting: Vec::new(alloc),
             calls: RisingMap::new(alloc),
             groups: RisingMap::new(alloc),
             frames: 0,
-            last_call: 0,
-            last_sequence: 0,
         }
     }
 
@@ -62,6 +61,14 @@ impl Requests {
         ensures { (conn : ℕ) (rows : List Request) (sent : List Frame) → AreRequests conn rows sent self.now → result ≡ option_and_then (shown sent) (find (is_call_on conn number) rows) }
     {
         self.calls.get(number).copied()
+    }
+
+    /// The call or lookup of this number that is out and has no answer, if there is one.
+    pub fn asked(&self, number: u64) -> Option<OutCall>
+        ensures { (conn : ℕ) (rows : List Request) (sent : List Frame) → AreRequests conn rows sent self.now → result ≡ option_and_then (shown sent) (find (is_asked_on conn number) rows) }
+    {
+        let call = self.calls.get(number)?;
+        if call.answered { None } else { Some(*call) }
     }
 
     /// Whether a call or lookup that is out went with the last `unsent` frames of the connection.
@@ -81,8 +88,9 @@ impl Requests {
         ensures calls { OnOk result (calls ≤ call_room self.new) }
         ensures groups { OnOk result (groups ≤ group_room self.new) }
         ensures same { (conn : ℕ) (rows : List Request) (sent : List Frame) → AreRequests conn rows sent self.old → AreRequests conn rows sent self.new }
-        ensures last_call { last_call self.new ≡ last_call self.old }
-        ensures last_sequence { last_sequence self.new ≡ last_sequence self.old }
+        ensures waiting_room { waiting_room self.old ≤ waiting_room self.new }
+        ensures call_room { call_room self.old ≤ call_room self.new }
+        ensures group_room { group_room self.old ≤ group_room self.new }
     {
         self.waiting.reserve(waiting)?;
         self.calls.reserve(calls)?;
@@ -93,12 +101,10 @@ impl Requests {
     /// [room](Requests::reserve) for it.
     pub fn wait_reserved(&mut self, asked: Asked)
         requires { 0 < waiting_room self.old }
-        ensures waits { (conn : ℕ) (rows : List Request) (sent : List Frame) (peer : Peer) → AreRequests conn rows sent self.old → AreRequests conn (rows ++ record { peer = peer; asked = asked_of asked; stage = Waits } ∷ []) sent self.new }
+        ensures waits { (conn : ℕ) (rows : List Request) (sent : List Frame) (peer : Peer) → AreRequests conn rows sent self.old → IsNamed (asked_of asked) → AreRequests conn (rows ++ record { peer = peer; asked = asked_of asked; stage = Waits } ∷ []) sent self.new }
         ensures waiting_room { waiting_room self.old ≤ waiting_room self.new + 1 }
         ensures call_room { call_room self.new ≡ call_room self.old }
         ensures group_room { group_room self.new ≡ group_room self.old }
-        ensures last_call { last_call self.new ≡ last_call self.old }
-        ensures last_sequence { last_sequence self.new ≡ last_sequence self.old }
     {
         self.waiting.push_reserved(asked);
     }
@@ -107,37 +113,31 @@ impl Requests {
     pub fn take_waiting(&mut self, alloc: Global) -> Vec<Asked>
         ensures waited { (conn : ℕ) (rows : List Request) (sent : List Frame) → AreRequests conn rows sent self.old → map asked_of result.items ≡ map (λ (r : Request). r.asked) (filter (λ (r : Request). is_waiting r.stage) rows) }
         ensures taken { (conn : ℕ) (rows : List Request) (sent : List Frame) → AreRequests conn rows sent self.old → AreRequests conn (filter (λ (r : Request). not (is_waiting r.stage)) rows) sent self.new }
+        ensures named { (conn : ℕ) (rows : List Request) (sent : List Frame) → AreRequests conn rows sent self.old → AllOf IsNamed (map asked_of result.items) }
         ensures call_room { call_room self.new ≡ call_room self.old }
         ensures group_room { group_room self.new ≡ group_room self.old }
-        ensures last_call { last_call self.new ≡ last_call self.old }
-        ensures last_sequence { last_sequence self.new ≡ last_sequence self.old }
     {
         mem::replace(&mut self.waiting, Vec::new(alloc))
     }
 
     /// Notes that the connection's Hello went out, its first frame.
     pub fn hello(&mut self)
-        ensures sent { (conn : ℕ) (rows : List Request) (hello : Frame) → AreRequests conn rows [] self.old → call_number_in hello ≡ [] → AreRequests conn rows (hello ∷ []) self.new }
+        ensures sent { (conn version : ℕ) (rows : List Request) (space : Peer) (digest : List ℕ) → AreRequests conn rows [] self.old → AreRequests conn rows (message.Hello version space digest ∷ []) self.new }
         ensures waiting_room { waiting_room self.new ≡ waiting_room self.old }
         ensures call_room { call_room self.new ≡ call_room self.old }
         ensures group_room { group_room self.new ≡ group_room self.old }
-        ensures last_call { last_call self.new ≡ last_call self.old }
-        ensures last_sequence { last_sequence self.new ≡ last_sequence self.old }
     {
         self.count_frame();
     }
 
-    /// Notes that a call or lookup goes out now, under a number above those of all that went before. It
-    /// takes no memory: the caller owes [room](Requests::reserve) for it.
+    /// Notes that a call or lookup goes out now, under a number above those of all that went before on the
+    /// connection. It takes no memory: the caller owes [room](Requests::reserve) for it.
     pub fn call_reserved(&mut self, number: u64, asker: Asker)
-        requires room { 0 < call_room self.old }
-        requires number { last_call self.old < number }
-        ensures sent { (conn : ℕ) (rows : List Request) (sent : List Frame) (peer : Peer) (asked : Question) (frame : Frame) → AreRequests conn rows sent self.old → asks_by asked ≡ (number, asker) ∷ [] → call_number_in frame ≡ number ∷ [] → AreRequests conn (rows ++ record { peer = peer; asked = asked; stage = Out conn 0 } ∷ []) (frame ∷ sent) self.new }
+        requires { 0 < call_room self.old }
+        ensures sent { (conn : ℕ) (rows : List Request) (sent : List Frame) (peer : Peer) (asked : Question) (frame : Frame) → AreRequests conn rows sent self.old → last_call sent < number → asks_by asked ≡ (number, asker) ∷ [] → IsNamed asked → call_number_in frame ≡ number ∷ [] → AreRequests conn (rows ++ record { peer = peer; asked = asked; stage = Out conn 0 } ∷ []) (frame ∷ sent) self.new }
         ensures waiting_room { waiting_room self.new ≡ waiting_room self.old }
         ensures call_room { call_room self.old ≤ call_room self.new + 1 }
         ensures group_room { group_room self.new ≡ group_room self.old }
-        ensures last_call { last_call self.new ≡ number }
-        ensures last_sequence { last_sequence self.new ≡ last_sequence self.old }
     {
         let call = OutCall {
             asker,
@@ -146,25 +146,21 @@ impl Requests {
         };
         self.calls.push_reserved(number, call);
         self.count_frame();
-        self.last_call = number;
     }
 
     /// Notes that dirty or clean calls go out now in one frame, under a sequence number above those of all
-    /// that went before. It takes no memory: the caller owes [room](Requests::reserve) for it.
+    /// that went before on the connection. It takes no memory: the caller owes [room](Requests::reserve)
+    /// for it.
     pub fn tell_reserved(&mut self, sequence: u64, call: u64, group: Group)
-        requires room { 0 < group_room self.old }
-        requires sequence { last_sequence self.old < sequence }
-        ensures sent { (conn : ℕ) (rows : List Request) (sent : List Frame) (peer : Peer) (frame : Frame) → AreRequests conn rows sent self.old → call_number_in frame ≡ [] → AreRequests conn (rows ++ record { peer = peer; asked = Tells call group; stage = Out conn sequence } ∷ []) (frame ∷ sent) self.new }
+        requires { 0 < group_room self.old }
+        ensures sent { (conn : ℕ) (rows : List Request) (sent : List Frame) (peer : Peer) → AreRequests conn rows sent self.old → last_sequence sent < sequence → AreRequests conn (rows ++ record { peer = peer; asked = Tells call group; stage = Out conn sequence } ∷ []) (group_frame group.kind sequence group.ids ∷ sent) self.new }
         ensures waiting_room { waiting_room self.new ≡ waiting_room self.old }
         ensures call_room { call_room self.new ≡ call_room self.old }
         ensures group_room { group_room self.old ≤ group_room self.new + 1 }
-        ensures last_call { last_call self.new ≡ last_call self.old }
-        ensures last_sequence { last_sequence self.new ≡ sequence }
     {
         self.groups
             .push_reserved(sequence, OutGroup { call, group });
         self.count_frame();
-        self.last_sequence = sequence;
     }
 
     /// Notes that the result of a call or lookup has come and is parked.
@@ -173,8 +169,6 @@ impl Requests {
         ensures waiting_room { waiting_room self.new ≡ waiting_room self.old }
         ensures call_room { call_room self.new ≡ call_room self.old }
         ensures group_room { group_room self.new ≡ group_room self.old }
-        ensures last_call { last_call self.new ≡ last_call self.old }
-        ensures last_sequence { last_sequence self.new ≡ last_sequence self.old }
     {
         match self.call(number) {
             Some(call) => self.mark(number, call),
@@ -204,8 +198,6 @@ impl Requests {
         ensures waiting_room { waiting_room self.new ≡ waiting_room self.old }
         ensures call_room { call_room self.old ≤ call_room self.new }
         ensures group_room { group_room self.new ≡ group_room self.old }
-        ensures last_call { last_call self.new ≡ last_call self.old }
-        ensures last_sequence { last_sequence self.new ≡ last_sequence self.old }
     {
         self.calls.take(number)
     }
@@ -218,8 +210,6 @@ impl Requests {
         ensures waiting_room { waiting_room self.new ≡ waiting_room self.old }
         ensures call_room { call_room self.old ≤ call_room self.new }
         ensures group_room { group_room self.new ≡ group_room self.old }
-        ensures last_call { last_call self.new ≡ last_call self.old }
-        ensures last_sequence { last_sequence self.new ≡ last_sequence self.old }
     {
         let call = self.take_call(number)?;
         self.count_frame();
@@ -234,8 +224,6 @@ impl Requests {
         ensures waiting_room { waiting_room self.new ≡ waiting_room self.old }
         ensures call_room { call_room self.new ≡ call_room self.old }
         ensures group_room { group_room self.old ≤ group_room self.new }
-        ensures last_call { last_call self.new ≡ last_call self.old }
-        ensures last_sequence { last_sequence self.new ≡ last_sequence self.old }
     {
         if is_kind(self.groups.get(sequence)?, dirty) {
             self.groups.take(sequence)
@@ -258,6 +246,92 @@ impl Requests {
         self.groups.numbers(alloc)
     }
 
+    /// What waits, in the order in which it was made.
+    pub fn waiting(&self) -> &[Asked]
+        ensures { (conn : ℕ) (rows : List Request) (sent : List Frame) → AreRequests conn rows sent self.now → map asked_of result.now ≡ map (λ (r : Request). r.asked) (filter (λ (r : Request). is_waiting r.stage) rows) }
+    {
+        self.waiting.as_slice()
+    }
+
+    /// What the end of all that is asked needs, if the last `unsent` frames were not sent whole.
+    pub fn ending(&self, unsent: u64, alloc: Global) -> Result<Ending, AllocError>
+        ensures ending { IfOk result (λ ending. (conn : ℕ) (rows : List Request) (sent : List Frame) → AreRequests conn rows sent self.now → IsEnding unsent rows sent ending) }
+        ensures room { IfOk result (λ ending. HasEndRoom self.now ending) }
+    {
+        let mut calls = self.out_calls(unsent, alloc)?;
+        self.waiting_calls(&mut calls)?;
+        let sequences = self.groups.numbers(alloc)?;
+        let groups = self.make_group_room(sequences.len(), alloc)?;
+        Ok(Ending {
+            calls,
+            sequences,
+            groups,
+        })
+    }
+
+    // The calls and lookups that are out, in their order.
+    fn out_calls(&self, unsent: u64, alloc: Global) -> Result<Vec<EndedCall>, AllocError>
+        ensures { IfOk result (λ calls. (conn : ℕ) (rows : List Request) (sent : List Frame) → AreRequests conn rows sent self.now → calls.items ≡ flat_map (ended_call (unsent_among unsent sent)) (out_among rows)) }
+    {
+        let numbers = self.calls.numbers(alloc)?;
+        let mut calls = Vec::new(alloc);
+        for number in &numbers {
+            if let Some(call) = self.call(*number) {
+                calls.push(EndedCall {
+                    asker: call.asker,
+                    unsent: self.is_unsent(*number, unsent),
+                })?;
+            }
+        }
+        Ok(calls)
+    }
+
+    // Puts the calls and lookups that wait after others, in their order.
+    fn waiting_calls(&self, calls: &mut Vec<EndedCall>) -> Result<(), AllocError>
+        ensures { OnOk result ((conn unsent : ℕ) (rows : List Request) (sent : List Frame) → AreRequests conn rows sent self.now → calls.new.items ≡ calls.old.items ++ flat_map (ended_call (unsent_among unsent sent)) (waiting_among rows)) }
+    {
+        for asked in &self.waiting {
+            if let Some(asker) = asked.asker() {
+                calls.push(EndedCall {
+                    asker,
+                    unsent: false,
+                })?;
+            }
+        }
+        Ok(())
+    }
+
+    // Room for this many groups that are out, and all that wait.
+    fn make_group_room(&self, out: usize, alloc: Global) -> Result<Vec<OutGroup>, AllocError>
+        ensures items { IfOk result (λ groups. groups.items ≡ []) }
+        ensures room { IfOk result (λ groups. vec_len groups + (out + vec_len self.now.waiting) ≤ vec_capacity groups) }
+    {
+        let mut groups = Vec::with_capacity(alloc, out)?;
+        groups.reserve(out.saturating_add(self.waiting.len()))?;
+        Ok(groups)
+    }
+
+    /// Takes all that was asked. It takes no memory: [`Requests::ending`] made what it needs.
+    pub fn end_reserved(self, ending: Ending) -> Ended
+        requires { HasEndRoom self ending }
+        ensures { (conn unsent : ℕ) (rows : List Request) (sent : List Frame) → AreRequests conn rows sent self → IsEnding unsent rows sent ending → IsEnded unsent rows sent result }
+    {
+        let Ending {
+            calls,
+            sequences,
+            mut groups,
+        } = ending;
+        let Requests {
+            waiting,
+            calls: _,
+            groups: mut out,
+            frames: _,
+        } = self;
+        out.take_all_reserved(&sequences, &mut groups);
+        end_waiting(waiting, &mut groups);
+        Ended { calls, groups }
+    }
+
     // Counts a frame that goes out.
     fn count_frame(&mut self)
         ensures { self.new ≡ record self.old { frames = min (self.old.frames + 1) (2 ^ 128 - 1) } }
@@ -273,5 +347,18 @@ fn is_kind(told: &OutGroup, dirty: bool) -> bool
     match told.group.kind {
         Due::Dirty => dirty,
         Due::Clean { strong: _ } => !dirty,
+    }
+}
+
+// Puts the dirty and clean calls that wait after others, in their order. There is room for all.
+fn end_waiting(waiting: Vec<Asked>, groups: &mut Vec<OutGroup>)
+    requires { vec_len groups.old + vec_len waiting ≤ vec_capacity groups.old }
+    ensures { (rows : List Request) → map asked_of waiting.items ≡ map (λ (r : Request). r.asked) (waiting_among rows) → groups.new.items ≡ groups.old.items ++ flat_map ended_group (waiting_among rows) }
+{
+    for asked in waiting {
+        match asked {
+            Asked::Tell { call, group } => groups.push_reserved(OutGroup { call, group }),
+            _ => {}
+        }
     }
 }

@@ -7,4 +7,4 @@ pub returns-clause-call : goal.returns-clause-call
 returns-clause-call c = λ conn rows sent a. c.take.ensures.row (calls_in sent rows) a.calls ∙ found-call conn c.args.number sent rows a.on
 
 pub returns-clause-taken : goal.returns-clause-taken
-returns-clause-taken c = λ conn rows sent a. take-call conn c.args.number rows sent c.args.self.now _ refl refl refl refl refl (λ calls b. c.take.ensures.taken calls b) a
+returns-clause-taken c = λ conn rows sent a. take-call conn c.args.number rows sent c.args.self.now _ refl refl refl (λ calls b. c.take.ensures.taken calls b) a

@@ -1,0 +1,4 @@
+pub mod RowLemmas
+pub mod LineLemmas
+pub mod AskedLemmas
+pub mod CoreLemmas
