@@ -1,0 +1,170 @@
+//! Classes, methods and fields of a linked set.
+
+use super::spelling::put_text;
+use cls_link::{Class, ClassId, FieldSlot, Linked, MethodId, Selection};
+use std::alloc::Global;
+use std::io::Write;
+use test_rows::{RowFault, class};
+
+/// Plays a question about a linked set.
+pub fn play(
+    linked: &Linked,
+    said: &mut Vec<u8>,
+    kind: &str,
+    words: &[&str],
+) -> Result<(), RowFault> {
+    match (kind, words) {
+        ("number", [name]) => writeln!(said, "{:?}", number(linked, name))?,
+        ("at", [number]) => put_class(said, class_at(linked, class(number)?)?)?,
+        ("below", [sub, sup]) => put_below(said, linked, sub, sup)?,
+        ("method", [of, name, descriptor]) => {
+            let of = class_named(linked, of)?;
+            let meant = method(linked, of, name, descriptor)?;
+            let own = declared_method(linked, of, name, descriptor)?;
+            writeln!(said, "means {meant:?}, declares {own:?}")?;
+        }
+        ("select", [of, number]) => {
+            let number = number_of(number)?;
+            writeln!(
+                said,
+                "{:?}",
+                select(linked, class_named(linked, of)?, number)?
+            )?;
+        }
+        ("slot", [of, name, descriptor]) => {
+            let of = class_named(linked, of)?;
+            writeln!(said, "{:?}", slot(linked, of, name, descriptor)?)?;
+        }
+        _ => return Err(RowFault::Bad),
+    }
+    Ok(())
+}
+
+fn number_of(word: &str) -> Result<MethodId, RowFault> {
+    let number = word.parse::<u32>().map_err(|_| RowFault::Bad)?;
+    Ok(MethodId(number))
+}
+
+/// Returns the class of this name.
+pub fn class_named(linked: &Linked, name: &str) -> Result<ClassId, RowFault> {
+    number(linked, name).ok_or(RowFault::Bad)
+}
+
+// What the calls answer. These functions promise nothing, so that a row is proved at once.
+fn number(linked: &Linked, name: &str) -> Option<ClassId> {
+    linked.set().number(name.as_bytes())
+}
+
+/// Returns the class with this number.
+pub fn class_at(linked: &Linked, id: ClassId) -> Result<&Class, RowFault> {
+    let set = linked.set();
+    if usize::from(id.0) >= set.len() {
+        return Err(RowFault::Bad);
+    }
+    Ok(set.class(id))
+}
+
+fn has_name(linked: &Linked, id: ClassId, name: &str) -> Result<bool, RowFault> {
+    let set = linked.set();
+    if usize::from(id.0) >= set.len() {
+        return Err(RowFault::Bad);
+    }
+    Ok(set.name(id).is(name.as_bytes()))
+}
+
+fn is_subclass(linked: &Linked, sub: ClassId, sup: ClassId) -> Result<bool, RowFault> {
+    let set = linked.set();
+    if usize::from(sub.0) >= set.len() {
+        return Err(RowFault::Bad);
+    }
+    Ok(set.is_subclass(sub, sup))
+}
+
+fn implements(linked: &Linked, sub: ClassId, sup: ClassId) -> Result<bool, RowFault> {
+    let set = linked.set();
+    if usize::from(sub.0) >= set.len() {
+        return Err(RowFault::Bad);
+    }
+    Ok(set.implements(sub, sup))
+}
+
+fn is_remote(linked: &Linked, id: ClassId) -> Result<bool, RowFault> {
+    let set = linked.set();
+    if usize::from(id.0) >= set.len() {
+        return Err(RowFault::Bad);
+    }
+    Ok(set.is_remote(id))
+}
+
+fn method(
+    linked: &Linked,
+    of: ClassId,
+    name: &str,
+    descriptor: &str,
+) -> Result<Option<MethodId>, RowFault> {
+    if usize::from(of.0) >= linked.set().len() {
+        return Err(RowFault::Bad);
+    }
+    Ok(linked.method(of, name.as_bytes(), descriptor.as_bytes()))
+}
+
+/// Returns the number of the method of this name and descriptor that a class declares.
+pub fn declared_method(
+    linked: &Linked,
+    of: ClassId,
+    name: &str,
+    descriptor: &str,
+) -> Result<Option<MethodId>, RowFault> {
+    if usize::from(of.0) >= linked.set().len() {
+        return Err(RowFault::Bad);
+    }
+    Ok(linked.declared_method(of, name.as_bytes(), descriptor.as_bytes()))
+}
+
+fn select(linked: &Linked, of: ClassId, called: MethodId) -> Result<Selection, RowFault> {
+    if usize::from(of.0) >= linked.set().len() || called.0 as usize >= linked.len() {
+        return Err(RowFault::Bad);
+    }
+    Ok(linked.select(of, called))
+}
+
+fn slot(
+    linked: &Linked,
+    of: ClassId,
+    name: &str,
+    descriptor: &str,
+) -> Result<Option<FieldSlot>, RowFault> {
+    if usize::from(of.0) >= linked.set().len() {
+        return Err(RowFault::Bad);
+    }
+    Ok(linked.field_slot(of, name.as_bytes(), descriptor.as_bytes()))
+}
+
+// Prints a class, and whether its name is its own.
+fn put_class(said: &mut Vec<u8>, class: &Class) -> Result<(), RowFault> {
+    let kind = if class.is_interface() {
+        "interface"
+    } else {
+        "class"
+    };
+    write!(said, "{kind}")?;
+    put_text(said, &class.file.name)?;
+    if class.is_built_in {
+        write!(said, ", built in")?;
+    }
+    let count = class.file.methods.as_slice().len();
+    writeln!(said, ", below {:?}, {count} methods", class.superclass)?;
+    Ok(())
+}
+
+fn put_below(said: &mut Vec<u8>, linked: &Linked, sub: &str, sup: &str) -> Result<(), RowFault> {
+    let (sub, sup) = (class_named(linked, sub)?, class_named(linked, sup)?);
+    let is_below = is_subclass(linked, sub, sup)?;
+    let implements = implements(linked, sub, sup)?;
+    let is_remote = is_remote(linked, sub)?;
+    writeln!(
+        said,
+        "subclass {is_below}, subtype {implements}, remote {is_remote}"
+    )?;
+    Ok(())
+}
