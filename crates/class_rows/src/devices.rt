@@ -1,28 +1,22 @@
 //! Sources and sinks.
 
 use super::faulty::{Faulty, Stuck};
-use super::spelling::{bytes_of, items_of, put_bytes};
+use super::spelling::{bytes_of, put_bytes};
 use dev_io::{Failed, MemSink, MemSource, Sink, Source, StdSink, StdSource};
 use std::alloc::Global;
 use std::io::Write;
 use test_rows::{RowFault, index, number};
 
-/// Plays reads of a source, or writes of a sink. `last` are the bytes of the last class file.
-pub fn play(
-    alloc: Global,
-    said: &mut Vec<u8>,
-    last: &[u8],
-    kind: &str,
-    words: &[&str],
-) -> Result<(), RowFault> {
+/// Plays reads of a source, or writes of a sink.
+pub fn play(alloc: Global, said: &mut Vec<u8>, kind: &str, words: &[&str]) -> Result<(), RowFault> {
     match (kind, words) {
         ("source", [step, fail, lengths, bytes @ ..]) => {
-            let bytes = bytes_of(alloc, last, bytes)?;
+            let bytes = bytes_of(alloc, &[], bytes)?;
             let mut source = source_of(bytes, index(step)?, number(fail)?)?;
             reads(alloc, said, &mut source, lengths)
         }
         ("reader", [lengths, bytes @ ..]) => {
-            let bytes = bytes_of(alloc, last, bytes)?;
+            let bytes = bytes_of(alloc, &[], bytes)?;
             reads(alloc, said, &mut StdSource::new(bytes.as_slice()), lengths)
         }
         ("faulty", ["reader", lengths]) => {
@@ -83,7 +77,7 @@ fn reads<S: Source>(
     source: &mut S,
     lengths: &str,
 ) -> Result<(), RowFault> {
-    for length in &items_of(alloc, lengths)? {
+    for length in lengths.split(',') {
         let mut buffer = vec![in alloc; 0u8; index(length)?]?;
         match read(source, &mut buffer) {
             Ok(count) => {

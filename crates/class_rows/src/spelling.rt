@@ -7,26 +7,26 @@ use std::io::Write;
 use std::str;
 use test_rows::{RowFault, index};
 
-/// Returns the bytes of words, one after another. `last` stands for these bytes.
-pub fn bytes_of(alloc: Global, last: &[u8], words: &[&str]) -> Result<Vec<u8>, RowFault> {
+/// Returns the bytes of words, one after another. The word `kept` stands for the bytes that are kept.
+pub fn bytes_of(alloc: Global, kept: &[u8], words: &[&str]) -> Result<Vec<u8>, RowFault> {
     let mut bytes = Vec::new(alloc);
     for word in words {
-        bytes.extend_from_slice(&word_bytes(alloc, last, word)?)?;
+        bytes.extend_from_slice(&word_bytes(alloc, kept, word)?)?;
     }
     Ok(bytes)
 }
 
 // The bytes of a word: all, the first of them, or some times.
-fn word_bytes(alloc: Global, last: &[u8], word: &str) -> Result<Vec<u8>, RowFault> {
+fn word_bytes(alloc: Global, kept: &[u8], word: &str) -> Result<Vec<u8>, RowFault> {
     if let Some((word, length)) = word.split_once('/') {
-        let mut bytes = plain_bytes(alloc, last, word)?;
+        let mut bytes = plain_bytes(alloc, kept, word)?;
         bytes.truncate(index(length)?);
         return Ok(bytes);
     }
     if let Some((times, word)) = word.split_once('*') {
-        return repeated(alloc, index(times)?, &plain_bytes(alloc, last, word)?);
+        return repeated(alloc, index(times)?, &plain_bytes(alloc, kept, word)?);
     }
-    plain_bytes(alloc, last, word)
+    plain_bytes(alloc, kept, word)
 }
 
 fn repeated(alloc: Global, times: usize, part: &[u8]) -> Result<Vec<u8>, RowFault> {
@@ -40,33 +40,13 @@ fn repeated(alloc: Global, times: usize, part: &[u8]) -> Result<Vec<u8>, RowFaul
     Ok(bytes)
 }
 
-fn plain_bytes(alloc: Global, last: &[u8], word: &str) -> Result<Vec<u8>, RowFault> {
+fn plain_bytes(alloc: Global, kept: &[u8], word: &str) -> Result<Vec<u8>, RowFault> {
     match word {
         "-" => Ok(Vec::new(alloc)),
         "sum" => Ok(Vec::from_slice(alloc, SUM)?),
-        "last" => Ok(Vec::from_slice(alloc, last)?),
-        digits => hex_bytes(alloc, digits),
+        "kept" => Ok(Vec::from_slice(alloc, kept)?),
+        digits => hex::decode(alloc, digits).map_err(|_| RowFault::Bad),
     }
-}
-
-/// Returns the bytes of hex digits.
-pub fn hex_bytes(alloc: Global, digits: &str) -> Result<Vec<u8>, RowFault> {
-    hex::decode(alloc, digits).map_err(|_| RowFault::Bad)
-}
-
-/// Returns the number of four hex digits.
-pub fn flags_of(word: &str) -> Result<u16, RowFault> {
-    let mut bytes = [0u8; 2];
-    hex::decode_to_slice(word, &mut bytes).map_err(|_| RowFault::Bad)?;
-    Ok(u16::from_be_bytes(bytes))
-}
-
-/// Returns the items that commas part: none for `-`.
-pub fn items_of<'a>(alloc: Global, word: &'a str) -> Result<Vec<&'a str>, RowFault> {
-    if word == "-" {
-        return Ok(Vec::new(alloc));
-    }
-    Ok(word.split(',').collect(alloc)?)
 }
 
 /// Prints bytes in hex digits, `-` for none.

@@ -2,7 +2,7 @@ use Rattle.std.proofs.Common.{subst, sym}
 use Rattle.std.specs.Prelude.{All}
 use Rattle.std.proofs.lemmas.List.Elements.{All-push}
 use Rattle.cf_reader.specs.WellFormed.{IsWellFormed}
-use Rattle.class_rows.proofs.files.read_all.Goals as goal
+use Rattle.set_rows.proofs.files.read_all.Goals as goal
 
 pub loop-bytes-preserved : goal.loop-bytes-preserved
 loop-bytes-preserved c =

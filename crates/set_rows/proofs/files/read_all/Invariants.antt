@@ -1,6 +1,6 @@
 use Rattle.std.specs.Prelude.{All}
 use Rattle.cf_reader.specs.WellFormed.{IsWellFormed}
-use Rattle.class_rows.proofs.files.read_all.Given as goal
+use Rattle.set_rows.proofs.files.read_all.Given as goal
 
 -- the classes so far are well formed
 abbrev pub invariant-loop-bytes : goal.invariant-loop-bytes
