@@ -3,8 +3,8 @@
 ghost use Rattle.std.specs.Prelude.{All, IfOk};
 ghost use Rattle.cf_reader.specs.WellFormed.{IsWellFormed};
 
-use super::parts::bare_class;
-use super::spelling::put_text;
+use super::parts::{Made, bare_class};
+use super::spelling::{plain, put};
 use cf_reader::{ClassFile, Numbered, ReadFault, read_class};
 use class_builder::BuildFault;
 use cls_link::{LinkFault, Linked, link};
@@ -21,10 +21,7 @@ pub fn linked_set(
 ) -> Result<Option<Linked>, RowFault> {
     match set_of(alloc, files)? {
         Ok(set) => put_linked(said, linked(alloc, set)),
-        Err(fault) => {
-            put_refused(said, &fault)?;
-            Ok(None)
-        }
+        Err(fault) => put_refused(said, &fault),
     }
 }
 
@@ -32,18 +29,14 @@ fn put_linked(
     said: &mut Vec<u8>,
     answer: Result<Linked, LinkFault>,
 ) -> Result<Option<Linked>, RowFault> {
-    match answer {
-        Ok(linked) => {
-            let classes = class_count(linked.set());
-            writeln!(said, "{classes} classes, {} methods", method_count(&linked))?;
-            Ok(Some(linked))
-        }
-        Err(LinkFault::Memory) => Err(RowFault::Memory),
-        Err(fault) => {
-            writeln!(said, "{} {fault}", fault.number())?;
-            Ok(None)
-        }
-    }
+    let linked = match answer {
+        Ok(linked) => linked,
+        Err(LinkFault::Memory) => return Err(RowFault::Memory),
+        Err(_) => return Err(RowFault::Bad),
+    };
+    put(said, "classes", &class_count(linked.set()))?;
+    put(said, "methods", &method_count(&linked))?;
+    Ok(Some(linked))
 }
 
 // What the calls answer. Those of the set promise nothing but that what was read is well formed, so that a row
@@ -85,39 +78,41 @@ fn method_count(linked: &Linked) -> usize {
     linked.len()
 }
 
-fn put_refused(said: &mut Vec<u8>, fault: &SetFault) -> Result<(), RowFault> {
-    match fault {
-        SetFault::Broken { rule, class } => {
-            write!(said, "{} {rule}", rule.number())?;
-            put_text(said, class)?;
-            writeln!(said)?;
-            Ok(())
-        }
-        SetFault::Memory => Err(RowFault::Memory),
-    }
+// Prints why there is no set.
+fn put_refused(said: &mut Vec<u8>, fault: &SetFault) -> Result<Option<Linked>, RowFault> {
+    let SetFault::Broken { rule, class } = fault else {
+        return Err(RowFault::Memory);
+    };
+    writeln!(said, "{} {rule} {}", rule.number(), plain(class))?;
+    Ok(None)
 }
 
 /// Prints how many classes the set of the classes T0, T1 and so on has, this many of them.
 pub fn put_many(alloc: Global, said: &mut Vec<u8>, count: u64) -> Result<(), RowFault> {
+    let files = numbered(alloc, count)?;
+    match set_of(alloc, &files)? {
+        Ok(set) => put(said, "classes", &class_count(&set)),
+        Err(fault) => {
+            put_refused(said, &fault)?;
+            Ok(())
+        }
+    }
+}
+
+fn numbered(alloc: Global, count: u64) -> Result<Vec<Vec<u8>>, RowFault> {
     let mut files = Vec::new(alloc);
     for index in 0..count {
-        files.push(numbered(alloc, index)?)?;
+        let name = format!(in alloc; "T{index}")?;
+        files.push(file_of(bare_class(alloc, name.as_str()))?)?;
     }
-    match set_of(alloc, &files)? {
-        Ok(set) => writeln!(said, "{} classes", class_count(&set))?,
-        Err(fault) => put_refused(said, &fault)?,
-    }
-    Ok(())
+    Ok(files)
 }
 
-fn numbered(alloc: Global, index: u64) -> Result<Vec<u8>, RowFault> {
-    let name = format!(in alloc; "T{index}")?;
-    bare_class(alloc, name.as_str()).map_err(of_parts)
-}
-
-fn of_parts(fault: BuildFault) -> RowFault {
-    match fault {
-        BuildFault::Memory => RowFault::Memory,
-        _ => RowFault::Bad,
+/// Returns the class file. `RowFault::Bad` if the parts make none.
+pub fn file_of(made: Made) -> Result<Vec<u8>, RowFault> {
+    match made {
+        Ok(bytes) => Ok(bytes),
+        Err(BuildFault::Memory) => Err(RowFault::Memory),
+        Err(_) => Err(RowFault::Bad),
     }
 }

@@ -4,16 +4,15 @@ ghost use Rattle.std.specs.Prelude.{IsTrue};
 ghost use Rattle.std.specs.List.Sorted.{IsStrictlyIncreasing};
 
 use super::links::{class_at, class_named, declared_method};
+use super::spelling::put;
 use cls_link::{ClassId, Linked, MethodId};
 use std::alloc::Global;
-use std::io::Write;
 use test_rows::RowFault;
 use ver_frames::{
-    DeclaredFrame, DeclaredFrames, MethodView, StackMapFault, TypeFrame, VType, declared,
-    frame_assignable,
+    DeclaredFrame, DeclaredFrames, MethodView, TypeFrame, VType, declared, frame_assignable,
 };
 
-/// Prints the frame in which a method begins, and those that it declares.
+/// Prints the types of what a method is passed, the frame in which it begins, and those that it declares.
 pub fn play(
     alloc: Global,
     said: &mut Vec<u8>,
@@ -25,18 +24,18 @@ pub fn play(
     };
     let of = class_named(linked, of)?;
     let number = declared_method(linked, of, name, descriptor)?.ok_or(RowFault::Bad)?;
-    let method = view(linked, of, number)?;
-    writeln!(said, "passed {:?}", arguments(alloc, &method)?)?;
-    write!(said, "begins with")?;
-    put_frame(said, &opening(alloc, &method)?)?;
-    match declared_in(alloc, &method)? {
-        Ok(frames) => put_declared(alloc, said, linked, &frames),
-        Err(StackMapFault::Memory) => Err(RowFault::Memory),
-        Err(fault) => {
-            writeln!(said, "{fault}")?;
-            Ok(())
-        }
-    }
+    put_method(alloc, said, linked, &view(linked, of, number)?)
+}
+
+fn put_method(
+    alloc: Global,
+    said: &mut Vec<u8>,
+    linked: &Linked,
+    method: &MethodView<'_>,
+) -> Result<(), RowFault> {
+    put(said, "passed", &arguments(alloc, method)?)?;
+    put(said, "begins with", &opening(alloc, method)?)?;
+    put_declared(alloc, said, linked, &frames_of(alloc, method)?)
 }
 
 fn view(linked: &Linked, class_id: ClassId, number: MethodId) -> Result<MethodView<'_>, RowFault> {
@@ -69,14 +68,11 @@ fn are_rising(offsets: &[u16]) -> bool
 }
 
 // What the calls answer. These functions promise nothing, so that a row is proved at once.
-fn declared_in(
-    alloc: Global,
-    method: &MethodView<'_>,
-) -> Result<Result<DeclaredFrames, StackMapFault>, RowFault> {
+fn frames_of(alloc: Global, method: &MethodView<'_>) -> Result<DeclaredFrames, RowFault> {
     if !are_rising(method.linked.offsets.as_slice()) {
         return Err(RowFault::Bad);
     }
-    Ok(declared(alloc, method))
+    declared(alloc, method).map_err(|_| RowFault::Bad)
 }
 
 fn arguments(alloc: Global, method: &MethodView<'_>) -> Result<Vec<VType>, RowFault> {
@@ -99,48 +95,30 @@ fn fits(linked: &Linked, frame: &TypeFrame, declared: &DeclaredFrame<'_>) -> boo
     frame_assignable(linked.set(), frame, declared)
 }
 
-fn local(frame: &TypeFrame, number: u16) -> Option<VType> {
-    frame.local(number)
-}
-
-// Prints the local variables and one past the last, the operands and the flag.
-fn put_frame(said: &mut Vec<u8>, frame: &TypeFrame) -> Result<(), RowFault> {
-    write!(said, " {} locals:", frame.local_count())?;
-    for number in 0..=frame.local_count().min(65_535) as u16 {
-        write!(said, " {:?}", local(frame, number))?;
-    }
-    let flag = frame.flag_this_uninit();
-    writeln!(
-        said,
-        ", operands {:?} of {}, flag {flag}",
-        frame.stack(),
-        frame.depth()
-    )?;
-    Ok(())
-}
-
-// Prints each frame, and what one becomes that copies it.
+// Prints the offset of each frame, what a frame becomes that copies it, and whether that one may stand for it.
 fn put_declared(
     alloc: Global,
     said: &mut Vec<u8>,
     linked: &Linked,
     frames: &DeclaredFrames,
 ) -> Result<(), RowFault> {
-    let count = frames.len();
-    writeln!(said, "declares {count}, empty {}", frames.is_empty())?;
     let mut frame = TypeFrame::new(0, Vec::new(alloc), Vec::new(alloc), true);
-    for index in 0..count {
-        let declared = frame_at(frames, index)?;
-        let (locals, flag) = (declared.local_count(), declared.flag_this_uninit());
-        writeln!(
-            said,
-            "{:?}: {locals} locals, flag {flag}",
-            frames.offset(index)
-        )?;
-        copy(&mut frame, &declared)?;
-        write!(said, "copied, fits {}:", fits(linked, &frame, &declared))?;
-        put_frame(said, &frame)?;
+    for index in 0..frames.len() {
+        put(said, "offset", &frames.offset(index))?;
+        put_frame(said, linked, &mut frame, &frame_at(frames, index)?)?;
     }
-    writeln!(said, "{:?}", frames.offset(count))?;
     Ok(())
+}
+
+fn put_frame(
+    said: &mut Vec<u8>,
+    linked: &Linked,
+    frame: &mut TypeFrame,
+    declared: &DeclaredFrame<'_>,
+) -> Result<(), RowFault> {
+    put(said, "locals", &declared.local_count())?;
+    put(said, "flag", &declared.flag_this_uninit())?;
+    copy(frame, declared)?;
+    put(said, "copied", frame)?;
+    put(said, "fits", &fits(linked, frame, declared))
 }

@@ -1,9 +1,7 @@
 //! Classes, methods and fields of a linked set.
 
-use super::spelling::put_text;
+use super::spelling::{plain, put};
 use cls_link::{Class, ClassId, FieldSlot, Linked, MethodId, Selection};
-use std::alloc::Global;
-use std::io::Write;
 use test_rows::{RowFault, class};
 
 /// Plays a question about a linked set.
@@ -14,30 +12,48 @@ pub fn play(
     words: &[&str],
 ) -> Result<(), RowFault> {
     match (kind, words) {
-        ("number", [name]) => writeln!(said, "{:?}", number(linked, name))?,
-        ("at", [number]) => put_class(said, class_at(linked, class(number)?)?)?,
-        ("below", [sub, sup]) => put_below(said, linked, sub, sup)?,
-        ("method", [of, name, descriptor]) => {
-            let of = class_named(linked, of)?;
-            let meant = method(linked, of, name, descriptor)?;
-            let own = declared_method(linked, of, name, descriptor)?;
-            writeln!(said, "means {meant:?}, declares {own:?}")?;
-        }
-        ("select", [of, number]) => {
-            let number = number_of(number)?;
-            writeln!(
+        ("number", [name]) => put(said, "number", &number(linked, name)),
+        ("at", [number]) => put_class(said, class_at(linked, class(number)?)?),
+        ("below", [sub, sup]) => {
+            put_below(
                 said,
-                "{:?}",
-                select(linked, class_named(linked, of)?, number)?
-            )?;
+                linked,
+                class_named(linked, sub)?,
+                class_named(linked, sup)?,
+            )
         }
-        ("slot", [of, name, descriptor]) => {
+        ("select", [of, called]) => {
             let of = class_named(linked, of)?;
-            writeln!(said, "{:?}", slot(linked, of, name, descriptor)?)?;
+            put(said, "selects", &select(linked, of, number_of(called)?)?)
         }
-        _ => return Err(RowFault::Bad),
+        (_, [of, name, descriptor]) => {
+            let of = class_named(linked, of)?;
+            put_member(said, linked, kind, of, name, descriptor)
+        }
+        _ => Err(RowFault::Bad),
     }
-    Ok(())
+}
+
+fn put_member(
+    said: &mut Vec<u8>,
+    linked: &Linked,
+    kind: &str,
+    of: ClassId,
+    name: &str,
+    descriptor: &str,
+) -> Result<(), RowFault> {
+    match kind {
+        "method" => {
+            put(said, "means", &method(linked, of, name, descriptor)?)?;
+            put(
+                said,
+                "declares",
+                &declared_method(linked, of, name, descriptor)?,
+            )
+        }
+        "slot" => put(said, "slot", &slot(linked, of, name, descriptor)?),
+        _ => Err(RowFault::Bad),
+    }
 }
 
 fn number_of(word: &str) -> Result<MethodId, RowFault> {
@@ -62,14 +78,6 @@ pub fn class_at(linked: &Linked, id: ClassId) -> Result<&Class, RowFault> {
         return Err(RowFault::Bad);
     }
     Ok(set.class(id))
-}
-
-fn has_name(linked: &Linked, id: ClassId, name: &str) -> Result<bool, RowFault> {
-    let set = linked.set();
-    if usize::from(id.0) >= set.len() {
-        return Err(RowFault::Bad);
-    }
-    Ok(set.name(id).is(name.as_bytes()))
 }
 
 fn is_subclass(linked: &Linked, sub: ClassId, sup: ClassId) -> Result<bool, RowFault> {
@@ -140,31 +148,21 @@ fn slot(
     Ok(linked.field_slot(of, name.as_bytes(), descriptor.as_bytes()))
 }
 
-// Prints a class, and whether its name is its own.
 fn put_class(said: &mut Vec<u8>, class: &Class) -> Result<(), RowFault> {
-    let kind = if class.is_interface() {
-        "interface"
-    } else {
-        "class"
-    };
-    write!(said, "{kind}")?;
-    put_text(said, &class.file.name)?;
-    if class.is_built_in {
-        write!(said, ", built in")?;
-    }
-    let count = class.file.methods.as_slice().len();
-    writeln!(said, ", below {:?}, {count} methods", class.superclass)?;
-    Ok(())
+    put(said, "name", &plain(&class.file.name))?;
+    put(said, "built in", &class.is_built_in)?;
+    put(said, "interface", &class.is_interface())?;
+    put(said, "superclass", &class.superclass)?;
+    put(said, "methods", &class.file.methods.as_slice().len())
 }
 
-fn put_below(said: &mut Vec<u8>, linked: &Linked, sub: &str, sup: &str) -> Result<(), RowFault> {
-    let (sub, sup) = (class_named(linked, sub)?, class_named(linked, sup)?);
-    let is_below = is_subclass(linked, sub, sup)?;
-    let implements = implements(linked, sub, sup)?;
-    let is_remote = is_remote(linked, sub)?;
-    writeln!(
-        said,
-        "subclass {is_below}, subtype {implements}, remote {is_remote}"
-    )?;
-    Ok(())
+fn put_below(
+    said: &mut Vec<u8>,
+    linked: &Linked,
+    sub: ClassId,
+    sup: ClassId,
+) -> Result<(), RowFault> {
+    put(said, "subclass", &is_subclass(linked, sub, sup)?)?;
+    put(said, "subtype", &implements(linked, sub, sup)?)?;
+    put(said, "remote", &is_remote(linked, sub)?)
 }

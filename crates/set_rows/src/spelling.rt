@@ -1,15 +1,11 @@
-//! How rows spell flags, bytes and lists, and how texts are printed.
+//! How rows spell flags and lists, and how answers and texts are printed.
 
 use cf_text::Text;
 use std::alloc::Global;
+use std::fmt::Debug;
 use std::io::Write;
 use std::str;
 use test_rows::RowFault;
-
-/// Returns the bytes of hex digits.
-pub fn hex_bytes(alloc: Global, digits: &str) -> Result<Vec<u8>, RowFault> {
-    hex::decode(alloc, digits).map_err(|_| RowFault::Bad)
-}
 
 /// Returns the number of four hex digits.
 pub fn flags_of(word: &str) -> Result<u16, RowFault> {
@@ -26,12 +22,16 @@ pub fn items_of<'a>(alloc: Global, word: &'a str) -> Result<Vec<&'a str>, RowFau
     Ok(word.split(',').collect(alloc)?)
 }
 
-/// Prints a text after a space: in quotes, or as its bytes if these are no UTF-8.
-pub fn put_text(said: &mut Vec<u8>, text: &Text) -> Result<(), RowFault> {
-    let bytes = text.as_bytes();
-    match str::from_utf8(bytes) {
-        Ok(text) => write!(said, " {text:?}")?,
-        Err(_) => write!(said, " {bytes:?}")?,
+/// Returns a text: `?` for one that is no UTF-8.
+pub fn plain(text: &Text) -> &str {
+    match str::from_utf8(text.as_bytes()) {
+        Ok(text) => text,
+        Err(_) => "?",
     }
+}
+
+/// Prints a word and an answer on a line.
+pub fn put<T: Debug>(said: &mut Vec<u8>, word: &str, answer: &T) -> Result<(), RowFault> {
+    writeln!(said, "{word} {answer:?}")?;
     Ok(())
 }

@@ -1,12 +1,12 @@
 //! The class files of rows, and the set that was linked of them.
 
-use super::files::{linked_set, put_many};
-use super::parts::{bare_class, class_file};
+use super::files::{file_of, linked_set, put_many};
+use super::parts::{bare_class, class_file, example};
+use super::spelling::put;
 use super::{frames, links};
 use class_builder::{BuildFault, SUM};
 use cls_link::Linked;
 use std::alloc::Global;
-use std::io::Write;
 use test_rows::{RowFault, index, number};
 
 /// The class files of the rows so far, and the last set that was linked.
@@ -44,19 +44,16 @@ impl Stage {
     fn call(&mut self, said: &mut Vec<u8>, kind: &str, words: &[&str]) -> Result<(), RowFault> {
         match (kind, words) {
             ("new", []) => *self = Stage::new(self.alloc),
-            ("file", parts) => self.add(said, parts)?,
-            ("sum", []) => self.files.push(Vec::from_slice(self.alloc, SUM)?)?,
+            ("file", parts) => self.add(class_file(self.alloc, parts)?)?,
+            ("example", []) => self.add(example(self.alloc))?,
             ("link", []) => self.linked = linked_set(self.alloc, said, &self.files)?,
             _ => self.look(said, kind, words)?,
         }
         Ok(())
     }
 
-    fn add(&mut self, said: &mut Vec<u8>, parts: &[&str]) -> Result<(), RowFault> {
-        match class_file(self.alloc, parts)? {
-            Ok(bytes) => self.files.push(bytes)?,
-            Err(fault) => put_unmade(said, fault)?,
-        }
+    fn add(&mut self, made: Result<Vec<u8>, BuildFault>) -> Result<(), RowFault> {
+        self.files.push(file_of(made)?)?;
         Ok(())
     }
 
@@ -66,36 +63,29 @@ impl Stage {
 
     fn look(&self, said: &mut Vec<u8>, kind: &str, words: &[&str]) -> Result<(), RowFault> {
         match (kind, words) {
-            ("bytes", []) => put_last(self.alloc, said, &self.files),
+            ("same", []) => put(said, "same", &self.is_example()),
             ("long", [count]) => put_long(self.alloc, said, index(count)?),
             ("many", [count]) => put_many(self.alloc, said, number(count)?),
             ("frames", words) => frames::play(self.alloc, said, self.linked()?, words),
             _ => links::play(self.linked()?, said, kind, words),
         }
     }
-}
 
-fn put_last(alloc: Global, said: &mut Vec<u8>, files: &[Vec<u8>]) -> Result<(), RowFault> {
-    let last = files.last().ok_or(RowFault::Bad)?;
-    let digits = hex::encode(alloc, last.as_slice())?;
-    writeln!(said, "{digits}")?;
-    Ok(())
-}
-
-// Prints why parts make no class file. `RowFault::Memory` if memory ran out.
-fn put_unmade(said: &mut Vec<u8>, fault: BuildFault) -> Result<(), RowFault> {
-    if fault == BuildFault::Memory {
-        return Err(RowFault::Memory);
+    // Whether the last class file has the bytes of examples/sum.
+    fn is_example(&self) -> bool {
+        match self.files.last() {
+            Some(bytes) => bytes.as_slice() == SUM.as_slice(),
+            None => false,
+        }
     }
-    writeln!(said, "{fault}")?;
-    Ok(())
 }
 
+// Prints how many bytes a class file has whose class has a name of this length, or why there is none.
 fn put_long(alloc: Global, said: &mut Vec<u8>, count: usize) -> Result<(), RowFault> {
     let name = String::from_utf8(vec![in alloc; b'a'; count]?).map_err(|_| RowFault::Bad)?;
     match bare_class(alloc, &name) {
-        Ok(bytes) => writeln!(said, "{} bytes", bytes.len())?,
-        Err(fault) => put_unmade(said, fault)?,
+        Ok(bytes) => put(said, "bytes", &bytes.len()),
+        Err(BuildFault::Memory) => Err(RowFault::Memory),
+        Err(fault) => put(said, "refused", &fault),
     }
-    Ok(())
 }
