@@ -1,37 +1,51 @@
 //! Sources and sinks.
 
 use super::faulty::{Faulty, Stuck};
-use super::spelling::{bytes_of, put_bytes};
+use super::spelling::{bytes_of, put};
 use dev_io::{Failed, MemSink, MemSource, Sink, Source, StdSink, StdSource};
 use std::alloc::Global;
-use std::io::Write;
 use test_rows::{RowFault, index, number};
 
-/// Plays reads of a source, or writes of a sink.
-pub fn play(alloc: Global, said: &mut Vec<u8>, kind: &str, words: &[&str]) -> Result<(), RowFault> {
+/// Plays reads of a source.
+pub fn play_source(
+    alloc: Global,
+    said: &mut Vec<u8>,
+    kind: &str,
+    words: &[&str],
+) -> Result<(), RowFault> {
     match (kind, words) {
-        ("source", [step, fail, lengths, bytes @ ..]) => {
-            let bytes = bytes_of(alloc, &[], bytes)?;
+        ("source", [step, fail, lengths, bytes]) => {
+            let bytes = bytes_of(alloc, &[], &[*bytes])?;
             let mut source = source_of(bytes, index(step)?, number(fail)?)?;
             reads(alloc, said, &mut source, lengths)
         }
-        ("reader", [lengths, bytes @ ..]) => {
-            let bytes = bytes_of(alloc, &[], bytes)?;
+        ("reader", [lengths, bytes]) => {
+            let bytes = bytes_of(alloc, &[], &[*bytes])?;
             reads(alloc, said, &mut StdSource::new(bytes.as_slice()), lengths)
         }
-        ("faulty", ["reader", lengths]) => {
+        ("faulty-reader", [lengths]) => {
             reads(alloc, said, &mut StdSource::new(Faulty::new()), lengths)
         }
+        _ => Err(RowFault::Bad),
+    }
+}
+
+/// Plays writes of a sink.
+pub fn play_sink(
+    alloc: Global,
+    said: &mut Vec<u8>,
+    kind: &str,
+    words: &[&str],
+) -> Result<(), RowFault> {
+    match (kind, words) {
         ("sink", [room, step, fail, words @ ..]) => {
             let mut sink = sink_of(alloc, index(room)?, index(step)?, number(fail)?)?;
             writes(alloc, said, &mut sink, words)?;
-            put_held(alloc, said, sink.bytes())
+            put(said, "holds", &sink.bytes())
         }
         ("writer", words) => put_written(alloc, said, words),
-        ("faulty", ["writer", words @ ..]) => {
-            writes(alloc, said, &mut StdSink::new(Faulty::new()), words)
-        }
-        ("stuck", ["writer", words @ ..]) => writes(alloc, said, &mut StdSink::new(Stuck), words),
+        ("faulty-writer", words) => writes(alloc, said, &mut StdSink::new(Faulty::new()), words),
+        ("stuck-writer", words) => writes(alloc, said, &mut StdSink::new(Stuck), words),
         _ => Err(RowFault::Bad),
     }
 }
@@ -79,14 +93,9 @@ fn reads<S: Source>(
 ) -> Result<(), RowFault> {
     for length in lengths.split(',') {
         let mut buffer = vec![in alloc; 0u8; index(length)?]?;
-        match read(source, &mut buffer) {
-            Ok(count) => {
-                buffer.truncate(count);
-                put_bytes(alloc, said, &buffer)?;
-            }
-            Err(Failed) => write!(said, "no read")?,
-        }
-        writeln!(said, ", failed {}", source.failed())?;
+        let answer = read(source, &mut buffer);
+        put(said, "read", &(answer, source.failed()))?;
+        put(said, "into", &buffer)?;
     }
     Ok(())
 }
@@ -99,11 +108,8 @@ fn writes<K: Sink>(
 ) -> Result<(), RowFault> {
     for word in words {
         let bytes = bytes_of(alloc, &[], &[*word])?;
-        match write(sink, &bytes) {
-            Ok(count) => write!(said, "{count} taken")?,
-            Err(Failed) => write!(said, "no write")?,
-        }
-        writeln!(said, ", failed {}", sink.failed())?;
+        let answer = write(sink, &bytes);
+        put(said, "write", &(answer, sink.failed()))?;
     }
     Ok(())
 }
@@ -111,12 +117,5 @@ fn writes<K: Sink>(
 fn put_written(alloc: Global, said: &mut Vec<u8>, words: &[&str]) -> Result<(), RowFault> {
     let mut held = Vec::new(alloc);
     writes(alloc, said, &mut StdSink::new(&mut held), words)?;
-    put_held(alloc, said, &held)
-}
-
-fn put_held(alloc: Global, said: &mut Vec<u8>, bytes: &[u8]) -> Result<(), RowFault> {
-    write!(said, "holds ")?;
-    put_bytes(alloc, said, bytes)?;
-    writeln!(said)?;
-    Ok(())
+    put(said, "holds", &held)
 }

@@ -13,18 +13,17 @@
 //! | `part FROM LENGTH BYTES` | these bytes as a row and as a text, and the position after them |
 //! | `between FROM TO BYTES` | the bytes that stand there |
 //! | `types TEXT` | the types that a descriptor names |
-//! | `source STEP FAIL LENGTHS BYTES` | what a source of the bytes gives to reads of these lengths, and whether it has failed |
-//! | `reader LENGTHS BYTES` | the same of a source over a reader of the bytes |
-//! | `faulty reader LENGTHS` | the same over a reader that is interrupted, gives two bytes and then has an error |
-//! | `sink ROOM STEP FAIL WORD ..` | how many bytes of each word a sink of that room takes, whether it has failed, and what it holds |
+//! | `source STEP FAIL LENGTHS WORD` | what a source of the bytes answers to reads of these lengths, whether it has failed, and the buffers |
+//! | `reader LENGTHS WORD` | the same of a source over a reader of the bytes |
+//! | `faulty-reader LENGTHS` | the same over a reader that is interrupted, gives two bytes and then has an error |
+//! | `sink ROOM STEP FAIL WORD ..` | what a sink of that room answers to each word, whether it has failed, and what it holds |
 //! | `writer WORD ..` | the same of a sink over a writer |
-//! | `faulty writer WORD ..` | the same over a writer that is interrupted, takes two bytes and then has an error |
-//! | `stuck writer WORD ..` | the same over a writer that takes nothing |
+//! | `faulty-writer WORD ..` | the same over a writer that is interrupted, takes two bytes and then has an error |
+//! | `stuck-writer WORD ..` | the same over a writer that takes nothing |
 //!
-//! What breaks a rule is printed as the number and the name of the rule, and the position. BYTES are words:
-//! hex digits, `sum` for the class of examples/sum, `kept`, `N*WORD` for N times that word, `WORD/N` for its
-//! first N bytes, and `-` for no bytes. LENGTHS are parted by commas. A row that is none of these is printed
-//! after `bad row: `.
+//! BYTES are words: hex digits, `sum` for the class of examples/sum, `kept`, `N*WORD` for N times the one byte
+//! of that word, `WORD/N` for its first N bytes, and `-` for no bytes. LENGTHS are parted by commas. A row that
+//! is none of these is printed after `bad row: `.
 #![tactic(auto)]
 
 use stage::Stage;

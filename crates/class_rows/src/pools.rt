@@ -1,12 +1,11 @@
 //! Constant pools.
 
-use super::spelling::{put_fault, put_text};
+use super::spelling::{plain, put};
 use cf_pool::{
     MemberRef, NameAndTypeRef, Pool, PoolLayout, ReadFault, Text, check_pool, read_layout,
     read_pool,
 };
 use std::alloc::Global;
-use std::io::Write;
 use test_rows::RowFault;
 
 /// Prints what a pool says, where it ends, and whether its entries go together; or the fault of its
@@ -15,19 +14,11 @@ pub fn play(alloc: Global, said: &mut Vec<u8>, bytes: &[u8]) -> Result<(), RowFa
     match pool_of(alloc, bytes) {
         Ok((pool, to)) => {
             put_pool(said, &pool)?;
-            writeln!(said, "up to {to}")?;
-            put_check(alloc, said, bytes)
+            put(said, "up to", &to)?;
+            put(said, "check", &check(alloc, bytes))
         }
-        Err(fault) => put_fault(said, fault),
+        Err(fault) => put(said, "refused", &fault),
     }
-}
-
-fn put_check(alloc: Global, said: &mut Vec<u8>, bytes: &[u8]) -> Result<(), RowFault> {
-    match check(alloc, bytes) {
-        Ok(()) => writeln!(said, "its entries go together")?,
-        Err(fault) => put_fault(said, fault)?,
-    }
-    Ok(())
 }
 
 // What the calls answer. These functions promise nothing, so that a row is proved at once.
@@ -74,37 +65,33 @@ pub fn put_pool(said: &mut Vec<u8>, pool: &Pool) -> Result<(), RowFault> {
 
 fn put_index(said: &mut Vec<u8>, pool: &Pool, index: u16) -> Result<(), RowFault> {
     if let Some(text) = text_at(pool, index) {
-        put_texts(said, index, "text", &[text])?;
+        put(said, "text", &(index, plain(text)))?;
     }
     if let Some(value) = integer_at(pool, index) {
-        writeln!(said, "{index} int {value}")?;
+        put(said, "int", &(index, value))?;
     }
     if let Some(name) = class_at(pool, index) {
-        put_texts(said, index, "class", &[name])?;
+        put(said, "class", &(index, plain(name)))?;
     }
     if let Some(of) = name_and_type_at(pool, index) {
-        put_texts(said, index, "name and type", &[of.name, of.descriptor])?;
+        put(
+            said,
+            "name and type",
+            &(index, plain(of.name), plain(of.descriptor)),
+        )?;
     }
-    if let Some(member) = member_at(pool, index) {
-        put_member(said, index, &member)?;
+    match member_at(pool, index) {
+        Some(member) => put_member(said, index, &member),
+        None => Ok(()),
     }
-    Ok(())
 }
 
 fn put_member(said: &mut Vec<u8>, index: u16, member: &MemberRef<'_>) -> Result<(), RowFault> {
-    write!(said, "{index} {:?}", member.kind)?;
-    put_text(said, member.class)?;
-    put_text(said, member.name)?;
-    put_text(said, member.descriptor)?;
-    writeln!(said)?;
-    Ok(())
-}
-
-fn put_texts(said: &mut Vec<u8>, index: u16, kind: &str, texts: &[&Text]) -> Result<(), RowFault> {
-    write!(said, "{index} {kind}")?;
-    for text in texts {
-        put_text(said, text)?;
-    }
-    writeln!(said)?;
-    Ok(())
+    let (class, name) = (plain(member.class), plain(member.name));
+    let descriptor = plain(member.descriptor);
+    put(
+        said,
+        "member",
+        &(index, member.kind, class, name, descriptor),
+    )
 }

@@ -1,8 +1,9 @@
-//! How rows spell bytes, and how bytes, texts and faults are printed.
+//! How rows spell bytes, and how answers and texts are printed.
 
-use cf_text::{Numbered, ReadFault, Text};
+use cf_text::Text;
 use class_builder::SUM;
 use std::alloc::Global;
+use std::fmt::Debug;
 use std::io::Write;
 use std::str;
 use test_rows::{RowFault, index};
@@ -23,21 +24,17 @@ fn word_bytes(alloc: Global, kept: &[u8], word: &str) -> Result<Vec<u8>, RowFaul
         bytes.truncate(index(length)?);
         return Ok(bytes);
     }
-    if let Some((times, word)) = word.split_once('*') {
-        return repeated(alloc, index(times)?, &plain_bytes(alloc, kept, word)?);
+    match word.split_once('*') {
+        Some((times, word)) => { repeated(alloc, index(times)?, &plain_bytes(alloc, kept, word)?) }
+        None => plain_bytes(alloc, kept, word),
     }
-    plain_bytes(alloc, kept, word)
 }
 
 fn repeated(alloc: Global, times: usize, part: &[u8]) -> Result<Vec<u8>, RowFault> {
-    if let [byte] = part {
-        return Ok(vec![in alloc; *byte; times]?);
+    match part {
+        [byte] => Ok(vec![in alloc; *byte; times]?),
+        _ => Err(RowFault::Bad),
     }
-    let mut bytes = Vec::new(alloc);
-    for _ in 0..times {
-        bytes.extend_from_slice(part)?;
-    }
-    Ok(bytes)
 }
 
 fn plain_bytes(alloc: Global, kept: &[u8], word: &str) -> Result<Vec<u8>, RowFault> {
@@ -49,32 +46,16 @@ fn plain_bytes(alloc: Global, kept: &[u8], word: &str) -> Result<Vec<u8>, RowFau
     }
 }
 
-/// Prints bytes in hex digits, `-` for none.
-pub fn put_bytes(alloc: Global, said: &mut Vec<u8>, bytes: &[u8]) -> Result<(), RowFault> {
-    if bytes.is_empty() {
-        write!(said, "-")?;
-        return Ok(());
+/// Returns a text: `?` for one that is no UTF-8.
+pub fn plain(text: &Text) -> &str {
+    match str::from_utf8(text.as_bytes()) {
+        Ok(text) => text,
+        Err(_) => "?",
     }
-    let digits = hex::encode(alloc, bytes)?;
-    write!(said, "{digits}")?;
-    Ok(())
 }
 
-/// Prints a text after a space: in quotes, or as its bytes if these are no UTF-8.
-pub fn put_text(said: &mut Vec<u8>, text: &Text) -> Result<(), RowFault> {
-    let bytes = text.as_bytes();
-    match str::from_utf8(bytes) {
-        Ok(text) => write!(said, " {text:?}")?,
-        Err(_) => write!(said, " {bytes:?}")?,
-    }
-    Ok(())
-}
-
-/// Prints why bytes are refused. `RowFault::Memory` if memory ran out.
-pub fn put_fault(said: &mut Vec<u8>, fault: ReadFault) -> Result<(), RowFault> {
-    match fault {
-        ReadFault::Broken { at, .. } => writeln!(said, "{} {fault} at {at}", fault.number())?,
-        ReadFault::Memory => return Err(RowFault::Memory),
-    }
+/// Prints a word and an answer on a line.
+pub fn put<T: Debug>(said: &mut Vec<u8>, word: &str, answer: &T) -> Result<(), RowFault> {
+    writeln!(said, "{word} {answer:?}")?;
     Ok(())
 }

@@ -1,7 +1,9 @@
 //! The rows, and the bytes that they keep.
 
-use super::spelling::bytes_of;
+use super::layouts::{bytes_between, put_text, row_at};
+use super::spelling::{bytes_of, put};
 use super::{classes, devices, layouts, pools};
+use cf_text::FileBytes;
 use std::alloc::Global;
 use test_rows::{RowFault, index, number};
 
@@ -41,27 +43,62 @@ impl Stage {
     }
 
     fn call(&self, said: &mut Vec<u8>, kind: &str, words: &[&str]) -> Result<(), RowFault> {
-        let alloc = self.alloc;
-        match (kind, words) {
-            ("pool", words) => pools::play(alloc, said, &self.bytes(words)?),
-            ("layout", words) => layouts::play(alloc, said, &self.bytes(words)?),
-            ("class", words) => classes::play(alloc, said, &self.bytes(words)?),
-            ("load", [step, fail, words @ ..]) => {
-                let bytes = self.bytes(words)?;
-                let mut source = devices::source_of(bytes, index(step)?, number(fail)?)?;
-                classes::put_loaded(alloc, said, &mut source)
+        match kind {
+            "pool" => pools::play(self.alloc, said, &self.bytes(words)?),
+            "layout" => layouts::play(self.alloc, said, &self.bytes(words)?),
+            "class" => classes::play(self.alloc, said, &self.bytes(words)?),
+            "fail" => classes::put_lost(self.alloc, said, &self.bytes(words)?),
+            "source" | "reader" | "faulty-reader" => {
+                devices::play_source(self.alloc, said, kind, words)
             }
-            ("fail", words) => classes::put_lost(alloc, said, &self.bytes(words)?),
+            "sink" | "writer" | "faulty-writer" | "stuck-writer" => {
+                devices::play_sink(self.alloc, said, kind, words)
+            }
+            _ => self.look(said, kind, words),
+        }
+    }
+
+    fn look(&self, said: &mut Vec<u8>, kind: &str, words: &[&str]) -> Result<(), RowFault> {
+        match (kind, words) {
+            ("load", [step, fail, words @ ..]) => self.load(
+                said,
+                index(step)?,
+                number(fail)?,
+                words,
+            ),
             ("part", [from, length, words @ ..]) => {
-                let bytes = self.bytes(words)?;
-                layouts::put_part(alloc, said, bytes, index(from)?, index(length)?)
+                self.part(said, index(from)?, index(length)?, words)
             }
             ("between", [from, to, words @ ..]) => {
                 let bytes = self.bytes(words)?;
-                layouts::put_between(alloc, said, &bytes, index(from)?, index(to)?)
+                let answer = bytes_between(self.alloc, &bytes, index(from)?, index(to)?);
+                put(said, "between", &answer)
             }
-            ("types", [text]) => classes::put_types(alloc, said, text),
-            _ => devices::play(alloc, said, kind, words),
+            ("types", [text]) => classes::put_descriptor(self.alloc, said, text),
+            _ => Err(RowFault::Bad),
         }
+    }
+
+    fn load(
+        &self,
+        said: &mut Vec<u8>,
+        step: usize,
+        fail: u64,
+        words: &[&str],
+    ) -> Result<(), RowFault> {
+        let mut source = devices::source_of(self.bytes(words)?, step, fail)?;
+        classes::put_loaded(self.alloc, said, &mut source)
+    }
+
+    fn part(
+        &self,
+        said: &mut Vec<u8>,
+        from: usize,
+        length: usize,
+        words: &[&str],
+    ) -> Result<(), RowFault> {
+        let bytes = self.bytes(words)?;
+        put(said, "row", &row_at(self.alloc, &bytes, from, length))?;
+        put_text(said, &FileBytes::new(self.alloc, bytes)?, from, length)
     }
 }
