@@ -2,7 +2,7 @@
 
 use super::spelling::{flags_of, items_of};
 use class_builder::{
-    AttributeParts, BuildFault, ClassParts, CodeParts, FieldParts, MethodParts, class_bytes,
+    AttributeParts, BuildFault, ClassParts, CodeParts, FieldParts, Line, MethodParts, class_bytes,
 };
 use std::alloc::Global;
 use test_rows::RowFault;
@@ -24,22 +24,23 @@ fn made(alloc: Global, class: &ClassParts) -> Made {
     class_bytes(alloc, class)
 }
 
-// A public class of this name below java/lang/Object, with these methods.
-fn class_of<'a>(name: &'a str, methods: &'a [MethodParts<'a>]) -> ClassParts<'a> {
-    ClassParts {
+/// Returns the class file of a public class of this name below java/lang/Object, without members.
+pub fn bare_class(alloc: Global, name: &str) -> Made {
+    let class = ClassParts {
         flags: 0x0021,
         name,
         superclass: "java/lang/Object",
         interfaces: &[],
         fields: &[],
-        methods,
+        methods: &[],
         attributes: &[],
-    }
+    };
+    made(alloc, &class)
 }
 
-/// Returns the class file of a public class of this name below java/lang/Object, without members.
-pub fn bare_class(alloc: Global, name: &str) -> Made {
-    made(alloc, &class_of(name, &[]))
+// No lines of code. A function, since an empty slice in the struct below would be of another lifetime.
+fn no_lines<'a>() -> &'a [Line<'a>] {
+    &[]
 }
 
 /// Returns the class file of the parts of the class of examples/sum.
@@ -52,7 +53,7 @@ pub fn example(alloc: Global) -> Made {
         max_stack: 2,
         max_locals: 2,
         bytes: b"\x03\x3c\x1a\x9e\x00\x0d\x1b\x1a\x60\x3c\x84\x00\xff\xa7\xff\xf5\x1b\xac",
-        lines: &[],
+        lines: no_lines(),
         attributes: &[frames],
     };
     let method = MethodParts {
@@ -62,7 +63,16 @@ pub fn example(alloc: Global) -> Made {
         code: Some(code),
         attributes: &[],
     };
-    made(alloc, &class_of("T", &[method]))
+    let class = ClassParts {
+        flags: 0x0021,
+        name: "T",
+        superclass: "java/lang/Object",
+        interfaces: &[],
+        fields: &[],
+        methods: &[method],
+        attributes: &[],
+    };
+    made(alloc, &class)
 }
 
 /// Returns the class file of the parts that words name.
