@@ -1,6 +1,6 @@
 use Rattle.std.proofs.Common.{ℕ, ◌+◌, ◌<◌}
 use Rattle.std.specs.Prelude.{slice_index}
-use Rattle.tests_classes.proofs.frames.are_rising.Given as goal
+use Rattle.set_rows.proofs.frames.are_rising.Given as goal
 
 -- those up to the index rise
 abbrev pub invariant-loop-index : goal.invariant-loop-index

@@ -1,0 +1,118 @@
+//! Sets of class files.
+
+ghost use Rattle.std.specs.Prelude.{All, IfOk};
+ghost use Rattle.cf_reader.specs.WellFormed.{IsWellFormed};
+
+use super::parts::{Made, bare_class};
+use super::spelling::{plain, put};
+use cf_reader::{ClassFile, Numbered, ReadFault, read_class};
+use class_builder::BuildFault;
+use cls_link::{LinkFault, Linked, link};
+use cls_set::{ClassSet, SetFault};
+use std::alloc::Global;
+use std::io::Write;
+use test_rows::RowFault;
+
+/// Links the set of class files, and prints how many classes and methods it has, or why there is none.
+pub fn linked_set(
+    alloc: Global,
+    said: &mut Vec<u8>,
+    files: &[Vec<u8>],
+) -> Result<Option<Linked>, RowFault> {
+    match set_of(alloc, files)? {
+        Ok(set) => put_linked(said, linked(alloc, set)),
+        Err(fault) => put_refused(said, &fault),
+    }
+}
+
+fn put_linked(
+    said: &mut Vec<u8>,
+    answer: Result<Linked, LinkFault>,
+) -> Result<Option<Linked>, RowFault> {
+    let linked = match answer {
+        Ok(linked) => linked,
+        Err(LinkFault::Memory) => return Err(RowFault::Memory),
+        Err(_) => return Err(RowFault::Bad),
+    };
+    put(said, "classes", &class_count(linked.set()))?;
+    put(said, "methods", &method_count(&linked))?;
+    Ok(Some(linked))
+}
+
+// What the calls answer. Those of the set promise nothing but that what was read is well formed, so that a row
+// is proved at once.
+fn read(alloc: Global, bytes: &[u8]) -> Result<ClassFile, RowFault>
+    ensures { IfOk result IsWellFormed }
+{
+    match read_class(alloc, bytes) {
+        Ok(class) => Ok(class),
+        Err(ReadFault::Memory) => Err(RowFault::Memory),
+        Err(_) => Err(RowFault::Bad),
+    }
+}
+
+fn read_all(alloc: Global, files: &[Vec<u8>]) -> Result<Vec<ClassFile>, RowFault>
+    ensures { IfOk result (λ classes. All IsWellFormed classes.items) }
+{
+    let mut classes = Vec::new(alloc);
+    for bytes in files {
+        classes.push(read(alloc, bytes)?)?;
+    }
+    Ok(classes)
+}
+
+fn set_of(alloc: Global, files: &[Vec<u8>]) -> Result<Result<ClassSet, SetFault>, RowFault> {
+    let classes = read_all(alloc, files)?;
+    Ok(ClassSet::build(alloc, classes))
+}
+
+fn linked(alloc: Global, set: ClassSet) -> Result<Linked, LinkFault> {
+    link(alloc, set)
+}
+
+fn class_count(set: &ClassSet) -> usize {
+    set.len()
+}
+
+fn method_count(linked: &Linked) -> usize {
+    linked.len()
+}
+
+// Prints why there is no set.
+fn put_refused(said: &mut Vec<u8>, fault: &SetFault) -> Result<Option<Linked>, RowFault> {
+    let SetFault::Broken { rule, class } = fault else {
+        return Err(RowFault::Memory);
+    };
+    writeln!(said, "{} {rule} {}", rule.number(), plain(class))?;
+    Ok(None)
+}
+
+/// Prints how many classes the set of the classes T0, T1 and so on has, this many of them.
+pub fn put_many(alloc: Global, said: &mut Vec<u8>, count: u64) -> Result<(), RowFault> {
+    let files = numbered(alloc, count)?;
+    match set_of(alloc, &files)? {
+        Ok(set) => put(said, "classes", &class_count(&set)),
+        Err(fault) => {
+            put_refused(said, &fault)?;
+            Ok(())
+        }
+    }
+}
+
+fn numbered(alloc: Global, count: u64) -> Result<Vec<Vec<u8>>, RowFault> {
+    let mut files = Vec::new(alloc);
+    for index in 0..count {
+        let name = format!(in alloc; "T{index}")?;
+        files.push(file_of(bare_class(alloc, name.as_str()))?)?;
+    }
+    Ok(files)
+}
+
+/// Returns the class file. `RowFault::Bad` if the parts make none.
+pub fn file_of(made: Made) -> Result<Vec<u8>, RowFault> {
+    match made {
+        Ok(bytes) => Ok(bytes),
+        Err(BuildFault::Memory) => Err(RowFault::Memory),
+        Err(_) => Err(RowFault::Bad),
+    }
+}
