@@ -149,6 +149,6 @@ in-turn-of connections dialling requests peer waiting out = pick (hello_came (di
 pub has-row : {connections : List Connection} {requests : List Request} {table : Peers} (peer : Uuid) {c : Connection} → dialled_to connections peer ≡ Some c → AreAsked connections requests table → HasRoom peer 0 0 0 table
 has-row {connections} {requests} {table} peer {c} line a = pick (row_of peer table) (subst (λ (o : Option Connection). IsAsked o (of_peer peer requests) (row_of peer table)) line (a.asked peer))
   where
-    pick : (row : Option Requests) → IsAsked (Some c) (of_peer peer requests) row → IsRoom row 0 0 0
+    pick : (kept : Option Requests) → IsAsked (Some c) (of_peer peer requests) kept → IsRoom kept 0 0 0
     pick None is = absurd is
     pick (Some t) is = (omega arith, omega arith, omega arith)
