@@ -5,9 +5,12 @@ use super::pools::put_pool;
 use super::spelling::{plain, put};
 use cf_load::{LoadFault, load};
 use cf_reader::{ClassFile, Field, Method, read_class};
-use cf_text::{Descriptor, ElementType, FieldType, MethodDescriptor, ReadFault, Text, descriptor};
+use cf_text::{
+    Descriptor, ElementType, FieldType, MethodDescriptor, Numbered, ReadFault, Text, descriptor,
+};
 use dev_io::MemSource;
 use std::alloc::{AllocError, Global};
+use std::io::Write;
 use test_rows::RowFault;
 
 /// Prints the class that bytes spell, or why they are refused.
@@ -73,8 +76,14 @@ pub fn put_loaded(
 ) -> Result<(), RowFault> {
     match loaded(alloc, source) {
         Ok(class) => put(said, "class", &plain(&class.name)),
-        Err(fault) => put(said, "refused", &fault),
+        Err(fault) => put_fault(said, fault),
     }
+}
+
+fn put_fault(said: &mut Vec<u8>, fault: LoadFault) -> Result<(), RowFault> {
+    put(said, "refused", &fault)?;
+    writeln!(said, "{} {fault}", fault.number())?;
+    Ok(())
 }
 
 /// Prints how many calls of a source that gives a byte a call lose the class if they fail, of two more than

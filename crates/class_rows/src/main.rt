@@ -8,7 +8,7 @@
 //! | `pool BYTES` | what each index of the constant pool names, up to 255 and the last, where the pool ends, and whether its entries go together |
 //! | `layout BYTES` | the items of the class file with their positions, and what stands in attributes of fields, of methods and of code |
 //! | `class BYTES` | the class that is read |
-//! | `load STEP FAIL BYTES` | the class that comes of a source of the bytes that gives at most STEP a call, and fails at call FAIL, if that is not 0 |
+//! | `load STEP FAIL BYTES` | the class that comes of a source of the bytes that gives at most STEP a call, and fails at call FAIL, if that is not 0; or its fault, also by number and name |
 //! | `fail BYTES` | how many calls of a source that gives a byte a call lose the class if they fail |
 //! | `part FROM LENGTH BYTES` | these bytes as a row and as a text, and the position after them |
 //! | `between FROM TO BYTES` | the bytes that stand there |

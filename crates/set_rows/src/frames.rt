@@ -102,6 +102,8 @@ fn put_declared(
     linked: &Linked,
     frames: &DeclaredFrames,
 ) -> Result<(), RowFault> {
+    put(said, "declares", &frames.len())?;
+    put(said, "empty", &frames.is_empty())?;
     let mut frame = TypeFrame::new(0, Vec::new(alloc), Vec::new(alloc), true);
     for index in 0..frames.len() {
         put(said, "offset", &frames.offset(index))?;
