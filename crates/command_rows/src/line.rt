@@ -24,7 +24,7 @@ pub enum Line<'a> {
     Method(Method),
     /// A line of the last method's code, or of the script.
     Code(&'a str),
-    /// A line of the script that comes so many times, with a `#` for its number.
+    /// A line of the script that comes `count` times, with a `#` for its number.
     Times { count: usize, text: &'a str },
     Change(Change),
     /// A command line for the program, over the folder in memory.

@@ -110,7 +110,7 @@ impl Script {
         self.shelf.change(Change::Append(bytes))
     }
 
-    // Adds a line so many times, each with its number in place of a `#`.
+    // Adds a line `count` times, each with its number in place of a `#`.
     fn add_lines(&mut self, count: usize, text: &str) -> Result<(), LineFault> {
         let (before, after) = text.split_once('#').ok_or(LineFault::Bad)?;
         for index in 0..count {

@@ -26,7 +26,7 @@ impl<T: Drop> From<AllocFailed<T>> for PlayFault {
     }
 }
 
-// A writer in memory fails for want of room alone.
+// A writer in memory fails only if it has no room.
 impl From<io::Error> for PlayFault {
     fn from(_: io::Error) -> PlayFault {
         PlayFault::Memory

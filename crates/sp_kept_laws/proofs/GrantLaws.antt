@@ -86,7 +86,7 @@ same-free g r s t e k = quiet s e k
 
 -- ---- holders that came
 
--- at least so many came
+-- at least this many came
 abbrev AtLeast : ForeignId → ℕ → List Told → Type 0
 AtLeast r n h = n ≤ times_held r h
 
