@@ -138,10 +138,10 @@ fn a_piece_of_no_instruction_spends_nothing(rt: HostRuntime) -> Result<(), Fail>
     let mut task = begin(rt.alloc(), &program, &[4], limits(8, 0))?;
     assert_eq!(rt; run(&mut task, &program, 0), Pause::Turn);
     assert_eq!(rt; told(rt.alloc(), &task)?.as_str(), "None");
-    for _ in 0..2 {
-        assert_eq!(rt; run(&mut task, &program, 1), Pause::Ended);
-        assert_eq!(rt; told(rt.alloc(), &task)?.as_str(), "Some(Spent)");
-    }
+    assert_eq!(rt; run(&mut task, &program, 1), Pause::Ended);
+    assert_eq!(rt; told(rt.alloc(), &task)?.as_str(), "Some(Spent)");
+    assert_eq!(rt; run(&mut task, &program, 1), Pause::Ended);
+    assert_eq!(rt; told(rt.alloc(), &task)?.as_str(), "Some(Spent)");
     Ok(())
 }
 
@@ -149,10 +149,10 @@ fn a_piece_of_no_instruction_spends_nothing(rt: HostRuntime) -> Result<(), Fail>
 fn a_task_that_ended_answers_its_end_again(rt: HostRuntime) -> Result<(), Fail> {
     let program = sum(rt.alloc())?;
     let mut task = begin(rt.alloc(), &program, &[4], limits(8, 100))?;
-    for most in [100, 0, 100] {
-        assert_eq!(rt; run(&mut task, &program, most), Pause::Ended);
-        assert_eq!(rt; told(rt.alloc(), &task)?.as_str(), TEN);
-    }
+    assert_eq!(rt; run(&mut task, &program, 100), Pause::Ended);
+    assert_eq!(rt; run(&mut task, &program, 0), Pause::Ended);
+    assert_eq!(rt; run(&mut task, &program, 100), Pause::Ended);
+    assert_eq!(rt; told(rt.alloc(), &task)?.as_str(), TEN);
     Ok(())
 }
 
