@@ -145,17 +145,6 @@ fn a_piece_of_no_instruction_spends_nothing(rt: HostRuntime) -> Result<(), Fail>
     Ok(())
 }
 
-#[test]
-fn a_task_that_ended_answers_its_end_again(rt: HostRuntime) -> Result<(), Fail> {
-    let program = sum(rt.alloc())?;
-    let mut task = begin(rt.alloc(), &program, &[4], limits(8, 100))?;
-    assert_eq!(rt; run(&mut task, &program, 100), Pause::Ended);
-    assert_eq!(rt; run(&mut task, &program, 0), Pause::Ended);
-    assert_eq!(rt; run(&mut task, &program, 100), Pause::Ended);
-    assert_eq!(rt; told(rt.alloc(), &task)?.as_str(), TEN);
-    Ok(())
-}
-
 // The first frame takes two local variables, two operands and four words more.
 #[test]
 fn a_first_frame_that_does_not_fit_throws(rt: HostRuntime) -> Result<(), Fail> {
