@@ -1,8 +1,8 @@
 -- Notes are told rank by rank.
-use Rattle.std.proofs.Common.{◌≡◌, ℕ, zero, suc, ◌+◌, ◌≤◌, Bool, true, false, cond, List, [], ◌∷◌, ◌++◌, refl, sym, ap, ◌∙◌, length, arith, nat_le}
+use Rattle.std.proofs.Common.{◌≡◌, ℕ, suc, Bool, true, false, cond, List, [], ◌∷◌, refl, ap, ◌∙◌, arith, nat_le}
 use Rattle.std.specs.Prelude.{◌==◌, not, filter, map}
-use Rattle.std.proofs.lemmas.Bool.Decides.{eqb_tells}
-use Rattle.sp_rules.specs.Events.{Note, Output, rank, of_rank, of_ranks}
+use Rattle.std.proofs.Math.Dec.{leb-zero}
+use Rattle.sp_rules.specs.Events.{Note, rank, output_of, of_rank}
 
 -- the notes of this rank and of those above
 abbrev pub from_rank : ℕ → List Note → List Note
@@ -28,11 +28,11 @@ above k n = grind arith
 
 -- of the notes from a rank on, those of the rank are all that there are
 pub of-from : (k : ℕ) (notes : List Note) → of_rank (from_rank k notes) k ≡ of_rank notes k
-of-from k notes = ap (map Rattle.sp_rules.specs.Events.output_of) (filter-filter (λ (n : Note). rank n == k) (λ (n : Note). nat_le k (rank n)) (λ (n : Note). rank n == k) (λ n. at-least k (rank n)) notes)
+of-from k notes = ap (map output_of) (filter-filter (λ (n : Note). rank n == k) (λ (n : Note). nat_le k (rank n)) (λ (n : Note). rank n == k) (λ n. at-least k (rank n)) notes)
 
 pub others-from : (k : ℕ) (notes : List Note) → of_others k (from_rank k notes) ≡ from_rank (suc k) notes
 others-from k notes = filter-filter (λ (n : Note). not (rank n == k)) (λ (n : Note). nat_le k (rank n)) (λ (n : Note). nat_le (suc k) (rank n)) (λ n. above k (rank n)) notes
 
 pub from-zero : (notes : List Note) → from_rank 0 notes ≡ notes
 from-zero [] = refl
-from-zero (n ∷ notes) = ap (λ (l : List Note). n ∷ l) (from-zero notes)
+from-zero (n ∷ notes) = ap (λ b. cond b (n ∷ from_rank 0 notes) (from_rank 0 notes)) (leb-zero (rank n)) ∙ ap (λ (l : List Note). n ∷ l) (from-zero notes)

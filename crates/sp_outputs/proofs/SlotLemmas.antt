@@ -1,9 +1,9 @@
 -- Slots that hold notes, and what is told of them.
-use Rattle.std.proofs.Common.{◌≡◌, ℕ, suc, ◌+◌, ◌<◌, ◌≤◌, Bool, true, false, cond, List, [], ◌∷◌, ◌++◌, Option, None, Some, refl, sym, ap, ◌∙◌, length, take, drop, get_or, set, true≢false, arith, add-one, append_assoc, length-append, nat_le}
+use Rattle.std.proofs.Common.{◌≡◌, ℕ, suc, ◌+◌, ◌<◌, ◌≤◌, Bool, true, false, cond, List, [], ◌∷◌, ◌++◌, Option, None, Some, refl, sym, ap, ◌∙◌, length, take, drop, get_or, set, true≢false, arith, add-one, append_assoc, append-nil, length-append, nat_le}
 use Rattle.std.specs.Prelude.{◌&&◌, ◌==◌, not, filter, map, option_to_list}
 use Rattle.std.specs.List.{flat_map, list_all}
 use Rattle.std.proofs.lemmas.Grind.{flat_map-append}
-use Rattle.std.proofs.lemmas.List.{drop_more, set_split, take-append-drop, take_more, take_more_set, take-set, length-set}
+use Rattle.std.proofs.lemmas.List.{drop_more, set_split, take-append-drop, take_more, take_more_set, length-set, map-append, drop-set-lt}
 use Rattle.std.proofs.lemmas.List.Elements.{filter-append}
 use Rattle.sp_rules.specs.Events as rules
 use Rattle.sp_outputs.specs.Notes.{note_of, noted, noted_at, output_of, turn_of}
@@ -79,19 +79,11 @@ noted-set slots i new h =
     ∙ ap (λ n. noted (take i slots) ++ (noted_at new ++ noted (drop n slots))) (sym (add-one i))
 
 -- The first slots are passed: their notes of a rank are told, and the others stand there still.
-pub record ArePassed (rank i : ℕ) (was now : List (Option Note)) (before told : List Output) : Type 0 where
-  pub told : map output_of told ≡ map output_of before ++ rules.of_rank (noted (take i was)) rank
+pub record ArePassed (rank i : ℕ) (was now : List (Option Note)) (before after : List Output) : Type 0 where
+  pub told : map output_of after ≡ map output_of before ++ rules.of_rank (noted (take i was)) rank
   pub others : noted (take i now) ≡ of_others rank (noted (take i was))
   pub rest : drop i now ≡ drop i was
   pub slots : length now ≡ length was
-
-pub none-passed : (rank : ℕ) (slots : List (Option Note)) (told : List Output) → ArePassed rank 0 slots slots told told
-none-passed rank slots told = record {
-  told = sym (Rattle.std.proofs.Common.append_nil (map output_of told));
-  others = refl;
-  rest = refl;
-  slots = refl;
-}
 
 -- one slot more
 pub one-passed : (rank i : ℕ) (was now : List (Option Note)) (before told : List Output) (item new : Option Note) (out : Option Output) → i < length now → item ≡ get_or now i item
@@ -102,19 +94,19 @@ one-passed rank i was now before told item new out h is taken left p =
     let heads : (get_or now i item ∷ drop (i + 1) now) ≡ (get_or was i item ∷ drop (i + 1) was) = sym (drop_more now i item h) ∙ p.rest ∙ drop_more was i item below in
     let same : item ≡ get_or was i item = is ∙ ap (λ l. get_or l 0 item) heads in
     let more : noted (take (i + 1) was) ≡ noted (take i was) ++ noted_at item =
-        ap noted (take_more was i item below) ∙ flat_map-append noted_at (take i was) (get_or was i item ∷ []) ∙ ap (λ s. noted (take i was) ++ (noted_at s ++ [])) (sym same) ∙ ap (λ l. noted (take i was) ++ l) (Rattle.std.proofs.Common.append_nil (noted_at item)) in
+        ap noted (take_more was i item below) ∙ flat_map-append noted_at (take i was) (get_or was i item ∷ []) ∙ ap (λ s. noted (take i was) ++ (noted_at s ++ [])) (sym same) ∙ ap (λ l. noted (take i was) ++ l) (append-nil (noted_at item)) in
     record {
-      told = Rattle.std.proofs.Common.map-append output_of told (option_to_list out) ∙ (λ j. p.told j ++ taken j)
+      told = map-append output_of told (option_to_list out) ∙ (λ j. p.told j ++ taken j)
           ∙ append_assoc (map output_of before) (rules.of_rank (noted (take i was)) rank) (rules.of_rank (noted_at item) rank)
           ∙ ap (λ l. map output_of before ++ l) (sym (of-rank-append (noted (take i was)) (noted_at item) rank)) ∙ ap (λ l. map output_of before ++ rules.of_rank l rank) (sym more);
-      others = ap noted (take_more_set now i new h) ∙ flat_map-append noted_at (take i now) (new ∷ []) ∙ ap (λ l. noted (take i now) ++ l) (Rattle.std.proofs.Common.append_nil (noted_at new)) ∙ (λ j. p.others j ++ left j)
+      others = ap noted (take_more_set now i new h) ∙ flat_map-append noted_at (take i now) (new ∷ []) ∙ ap (λ l. noted (take i now) ++ l) (append-nil (noted_at new)) ∙ (λ j. p.others j ++ left j)
           ∙ sym (filter-append (λ (n : rules.Note). not (rules.rank n == rank)) (noted (take i was)) (noted_at item)) ∙ ap (of_others rank) (sym more);
-      rest = Rattle.std.proofs.lemmas.List.drop-set-lt (i + 1) now i new (omega arith) ∙ ap (drop 1) heads;
+      rest = drop-set-lt (i + 1) now i new (omega arith) ∙ ap (drop 1) heads;
       slots = length-set now i new ∙ p.slots;
     }
   where
     of-rank-append : (a b : List rules.Note) (k : ℕ) → rules.of_rank (a ++ b) k ≡ rules.of_rank a k ++ rules.of_rank b k
-    of-rank-append a b k = ap (map rules.output_of) (filter-append (λ (n : rules.Note). rules.rank n == k) a b) ∙ Rattle.std.proofs.Common.map-append rules.output_of (filter (λ (n : rules.Note). rules.rank n == k) a) (filter (λ (n : rules.Note). rules.rank n == k) b)
+    of-rank-append a b k = ap (map rules.output_of) (filter-append (λ (n : rules.Note). rules.rank n == k) a b) ∙ map-append rules.output_of (filter (λ (n : rules.Note). rules.rank n == k) a) (filter (λ (n : rules.Note). rules.rank n == k) b)
 
 -- as many notes are told as slots are emptied
 pub one-counted : (i told out before : ℕ) (was now : List (Option Note)) (item new : Option Note) → i < length now → item ≡ get_or now i item

@@ -1,6 +1,6 @@
 -- The frames among the outputs of an event stand turn by turn.
-use Rattle.std.proofs.Common.{◌≡◌, ℕ, suc, Bool, true, false, cond, List, [], ◌∷◌, ◌++◌, refl, sym, ap, ◌∙◌, append_assoc}
-use Rattle.std.specs.Prelude.{◌==◌}
+use Rattle.std.proofs.Common.{◌≡◌, ℕ, suc, Bool, true, false, cond, List, [], ◌∷◌, ◌++◌, refl, sym, ap, ◌∙◌, append_assoc, append-nil}
+use Rattle.std.specs.Prelude.{◌==◌, filter, map}
 use Rattle.std.specs.List.{flat_map}
 use Rattle.std.proofs.lemmas.Grind.{flat_map-append}
 use Rattle.net_message.specs.declared.message.Message.{Message}
@@ -9,18 +9,18 @@ use Rattle.sp_outputs.specs.Frames.{frame_in, frames_in, frame_of, noted_in, tur
 
 -- an output of a rank of no frame without a turn
 said : (k : ℕ) → (14 == k) ≡ false → (o : Output) → cond (output_rank o == k) (frame_in o) [] ≡ []
-said k no (Started task) = elim (0 == k) as (λ b. cond b [] [] ≡ ([] {A = ℕ × Message})) [ true ↦ refl | false ↦ refl ]
-said k no (Ended task outcome) = elim (1 == k) as (λ b. cond b [] [] ≡ ([] {A = ℕ × Message})) [ true ↦ refl | false ↦ refl ]
-said k no (Withdrawn ids) = elim (2 == k) as (λ b. cond b [] [] ≡ ([] {A = ℕ × Message})) [ true ↦ refl | false ↦ refl ]
-said k no (Denied fault) = elim (3 == k) as (λ b. cond b [] [] ≡ ([] {A = ℕ × Message})) [ true ↦ refl | false ↦ refl ]
-said k no (Send conn message) = ap (λ b. cond b ((conn, message) ∷ []) []) no
-said k no (Dial peer) = elim (11 == k) as (λ b. cond b [] [] ≡ ([] {A = ℕ × Message})) [ true ↦ refl | false ↦ refl ]
-said k no (Close conn) = elim (12 == k) as (λ b. cond b [] [] ≡ ([] {A = ℕ × Message})) [ true ↦ refl | false ↦ refl ]
-said k no (Ready task) = elim (13 == k) as (λ b. cond b [] [] ≡ ([] {A = ℕ × Message})) [ true ↦ refl | false ↦ refl ]
+said k never (Started task) = elim (0 == k) as (λ b. ◌≡◌ {A = List (ℕ × Message)} (cond b [] []) []) [ true ↦ refl | false ↦ refl ]
+said k never (Ended task outcome) = elim (1 == k) as (λ b. ◌≡◌ {A = List (ℕ × Message)} (cond b [] []) []) [ true ↦ refl | false ↦ refl ]
+said k never (Withdrawn ids) = elim (2 == k) as (λ b. ◌≡◌ {A = List (ℕ × Message)} (cond b [] []) []) [ true ↦ refl | false ↦ refl ]
+said k never (Denied fault) = elim (3 == k) as (λ b. ◌≡◌ {A = List (ℕ × Message)} (cond b [] []) []) [ true ↦ refl | false ↦ refl ]
+said k never (Send conn message) = ap (λ b. cond b ((conn, message) ∷ []) []) never
+said k never (Dial peer) = elim (11 == k) as (λ b. ◌≡◌ {A = List (ℕ × Message)} (cond b [] []) []) [ true ↦ refl | false ↦ refl ]
+said k never (Close conn) = elim (12 == k) as (λ b. ◌≡◌ {A = List (ℕ × Message)} (cond b [] []) []) [ true ↦ refl | false ↦ refl ]
+said k never (Ready task) = elim (13 == k) as (λ b. ◌≡◌ {A = List (ℕ × Message)} (cond b [] []) []) [ true ↦ refl | false ↦ refl ]
 
 -- one more note of a rank
 more : (k : ℕ) (n : Note) (notes : List Note) → frames_in (of_rank (n ∷ notes) k) ≡ cond (rank n == k) (frame_in (output_of n)) [] ++ frames_in (of_rank notes k)
-more k n notes = elim (rank n == k) as (λ b. frames_in (Rattle.std.specs.Prelude.map output_of (cond b (n ∷ Rattle.std.specs.Prelude.filter (λ (m : Note). rank m == k) notes) (Rattle.std.specs.Prelude.filter (λ (m : Note). rank m == k) notes))) ≡ cond b (frame_in (output_of n)) [] ++ frames_in (of_rank notes k)) [ true ↦ refl | false ↦ refl ]
+more k n notes = elim (rank n == k) as (λ b. frames_in (map output_of (cond b (n ∷ filter (λ (m : Note). rank m == k) notes) (filter (λ (m : Note). rank m == k) notes))) ≡ cond b (frame_in (output_of n)) [] ++ frames_in (of_rank notes k)) [ true ↦ refl | false ↦ refl ]
 
 no-send : (t : Turn) → (14 == turn_rank t) ≡ false
 no-send Hellos = refl
@@ -39,36 +39,38 @@ of-turn t (Sends turn conn message ∷ notes) = more (turn_rank t) (Sends turn c
 
 -- a rank that no turn has has no frame
 pub of-none : (k : ℕ) → (14 == k) ≡ false → ((t : Turn) → (turn_rank t == k) ≡ false) → (notes : List Note) → frames_in (of_rank notes k) ≡ []
-of-none k no none [] = refl
-of-none k no none (Says o ∷ notes) = more k (Says o) notes ∙ ap (λ l. l ++ frames_in (of_rank notes k)) (said k no o) ∙ of-none k no none notes
-of-none k no none (Sends turn conn message ∷ notes) = more k (Sends turn conn message) notes ∙ ap (λ b. cond b ((conn, message) ∷ []) [] ++ frames_in (of_rank notes k)) (none turn) ∙ of-none k no none notes
+of-none k never none [] = refl
+of-none k never none (Says o ∷ notes) = more k (Says o) notes ∙ ap (λ l. l ++ frames_in (of_rank notes k)) (said k never o) ∙ of-none k never none notes
+of-none k never none (Sends turn conn message ∷ notes) = more k (Sends turn conn message) notes ∙ ap (λ b. cond b ((conn, message) ∷ []) [] ++ frames_in (of_rank notes k)) (none turn) ∙ of-none k never none notes
 
 -- no turn has the ranks of the other outputs
 none-0 : (t : Turn) → (turn_rank t == 0) ≡ false
-none-0 t = elim t [ Hellos ↦ refl | Replies ↦ refl | Waited ↦ refl | Cleans ↦ refl | Dirties ↦ refl | Calls ↦ refl | Acks ↦ refl ]
+none-0 t = elim t as (λ u. (turn_rank u == 0) ≡ false) [ Hellos ↦ refl | Replies ↦ refl | Waited ↦ refl | Cleans ↦ refl | Dirties ↦ refl | Calls ↦ refl | Acks ↦ refl ]
 none-1 : (t : Turn) → (turn_rank t == 1) ≡ false
-none-1 t = elim t [ Hellos ↦ refl | Replies ↦ refl | Waited ↦ refl | Cleans ↦ refl | Dirties ↦ refl | Calls ↦ refl | Acks ↦ refl ]
+none-1 t = elim t as (λ u. (turn_rank u == 1) ≡ false) [ Hellos ↦ refl | Replies ↦ refl | Waited ↦ refl | Cleans ↦ refl | Dirties ↦ refl | Calls ↦ refl | Acks ↦ refl ]
 none-2 : (t : Turn) → (turn_rank t == 2) ≡ false
-none-2 t = elim t [ Hellos ↦ refl | Replies ↦ refl | Waited ↦ refl | Cleans ↦ refl | Dirties ↦ refl | Calls ↦ refl | Acks ↦ refl ]
+none-2 t = elim t as (λ u. (turn_rank u == 2) ≡ false) [ Hellos ↦ refl | Replies ↦ refl | Waited ↦ refl | Cleans ↦ refl | Dirties ↦ refl | Calls ↦ refl | Acks ↦ refl ]
 none-3 : (t : Turn) → (turn_rank t == 3) ≡ false
-none-3 t = elim t [ Hellos ↦ refl | Replies ↦ refl | Waited ↦ refl | Cleans ↦ refl | Dirties ↦ refl | Calls ↦ refl | Acks ↦ refl ]
+none-3 t = elim t as (λ u. (turn_rank u == 3) ≡ false) [ Hellos ↦ refl | Replies ↦ refl | Waited ↦ refl | Cleans ↦ refl | Dirties ↦ refl | Calls ↦ refl | Acks ↦ refl ]
 none-11 : (t : Turn) → (turn_rank t == 11) ≡ false
-none-11 t = elim t [ Hellos ↦ refl | Replies ↦ refl | Waited ↦ refl | Cleans ↦ refl | Dirties ↦ refl | Calls ↦ refl | Acks ↦ refl ]
+none-11 t = elim t as (λ u. (turn_rank u == 11) ≡ false) [ Hellos ↦ refl | Replies ↦ refl | Waited ↦ refl | Cleans ↦ refl | Dirties ↦ refl | Calls ↦ refl | Acks ↦ refl ]
 none-12 : (t : Turn) → (turn_rank t == 12) ≡ false
-none-12 t = elim t [ Hellos ↦ refl | Replies ↦ refl | Waited ↦ refl | Cleans ↦ refl | Dirties ↦ refl | Calls ↦ refl | Acks ↦ refl ]
+none-12 t = elim t as (λ u. (turn_rank u == 12) ≡ false) [ Hellos ↦ refl | Replies ↦ refl | Waited ↦ refl | Cleans ↦ refl | Dirties ↦ refl | Calls ↦ refl | Acks ↦ refl ]
 none-13 : (t : Turn) → (turn_rank t == 13) ≡ false
-none-13 t = elim t [ Hellos ↦ refl | Replies ↦ refl | Waited ↦ refl | Cleans ↦ refl | Dirties ↦ refl | Calls ↦ refl | Acks ↦ refl ]
+none-13 t = elim t as (λ u. (turn_rank u == 13) ≡ false) [ Hellos ↦ refl | Replies ↦ refl | Waited ↦ refl | Cleans ↦ refl | Dirties ↦ refl | Calls ↦ refl | Acks ↦ refl ]
 
 -- one more rank, with a frame or with none
 with : (k : ℕ) (notes : List Note) (a b : List (ℕ × Message)) → frames_in (of_ranks k notes) ≡ a → frames_in (of_rank notes k) ≡ b → frames_in (of_ranks (suc k) notes) ≡ a ++ b
 with k notes a b before at = flat_map-append frame_in (of_ranks k notes) (of_rank notes k) ∙ (λ i. before i ++ at i)
 
 without : (k : ℕ) (notes : List Note) (a : List (ℕ × Message)) → frames_in (of_ranks k notes) ≡ a → frames_in (of_rank notes k) ≡ [] → frames_in (of_ranks (suc k) notes) ≡ a
-without k notes a before at = with k notes a [] before at ∙ Rattle.std.proofs.Common.append_nil a
+without k notes a before at = with k notes a [] before at ∙ append-nil a
 
 -- turn by turn
 joined : {A : Type 0} (a b c d e f g : List A) → ((((((a ++ b) ++ c) ++ d) ++ e) ++ f) ++ g) ≡ a ++ (b ++ (c ++ (d ++ (e ++ (f ++ (g ++ []))))))
-joined a b c d e f g = grind (arith, append_assoc)
+joined a b c d e f g =
+    append_assoc (((((a ++ b) ++ c) ++ d) ++ e)) f g ∙ append_assoc (((a ++ b) ++ c) ++ d) e (f ++ g) ∙ append_assoc ((a ++ b) ++ c) d (e ++ (f ++ g)) ∙ append_assoc (a ++ b) c (d ++ (e ++ (f ++ g)))
+    ∙ append_assoc a b (c ++ (d ++ (e ++ (f ++ g)))) ∙ ap (λ l. a ++ (b ++ (c ++ (d ++ (e ++ (f ++ l)))))) (sym (append-nil g))
 
 pub in-turns : (notes : List Note) → frames_in (in_order notes) ≡ flat_map (noted_in notes) turns
 unfolding in_order

@@ -59,6 +59,19 @@ fn take_of_rank(slot: &mut Option<Note>, rank: u8) -> Option<Output>
     Some(note.into_output())
 }
 
+// Tells an output, if there is one, after what is told already. It takes no memory: there is room for it.
+fn tell(told: &mut Vec<Output>, output: Option<Output>)
+    requires { vec_len told.old + length (option_to_list output) ≤ vec_capacity told.old }
+    ensures items { told.new.items ≡ told.old.items ++ option_to_list output }
+    ensures len { vec_len told.new ≡ vec_len told.old + length (option_to_list output) }
+    ensures capacity { vec_capacity told.new ≡ vec_capacity told.old }
+{
+    match output {
+        Some(output) => told.push_reserved(output),
+        None => {}
+    }
+}
+
 // Tells the notes of this rank after what is told already, in the order in which they stand, and leaves the
 // others. It takes no memory: there is room for all notes.
 pub(crate) fn tell_rank(slots: &mut [Option<Note>], rank: u8, told: &mut Vec<Output>)
@@ -69,8 +82,6 @@ pub(crate) fn tell_rank(slots: &mut [Option<Note>], rank: u8, told: &mut Vec<Out
     ensures capacity { vec_capacity told.new ≡ vec_capacity told.old }
 {
     for slot in slots.iter_mut() {
-        if let Some(output) = take_of_rank(slot, rank) {
-            told.push_reserved(output);
-        }
+        tell(told, take_of_rank(slot, rank));
     }
 }

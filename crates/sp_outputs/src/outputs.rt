@@ -49,9 +49,8 @@ impl Outputs {
         ensures same { notes_of self.new ≡ notes_of self.old }
         ensures room { room self.old ≤ room self.new }
     {
-        let ahead = self.notes.len().saturating_add(notes);
         self.notes.reserve(notes)?;
-        self.told.reserve(ahead)
+        self.told.reserve(self.notes.capacity())
     }
 
     /// Notes an output that is no frame. It takes no memory: the caller owes [room](Outputs::reserve) for

@@ -6,8 +6,8 @@ use Rattle.sp_outputs.proofs.outputs.Outputs.take_in_order.Given as goal
 
 abbrev pub invariant-loop-rank : goal.invariant-loop-rank
 invariant-loop-rank l = record {
-  told : map output_of l.told.items ≡ rules.of_ranks l.rank (noted l.fn.self.notes.items);
-  left : noted l.notes.items ≡ from_rank l.rank (noted l.fn.self.notes.items);
-  count : vec_len l.told + length (noted l.notes.items) ≡ length (noted l.fn.self.notes.items);
-  room : length (noted l.fn.self.notes.items) ≤ vec_capacity l.told;
+  told : map output_of l.told.items ≡ rules.of_ranks l.rank (noted l.initial.notes.items);
+  left : noted l.notes.items ≡ from_rank l.rank (noted l.initial.notes.items);
+  count : vec_len l.told + length (noted l.notes.items) ≡ length (noted l.initial.notes.items);
+  room : length (noted l.initial.notes.items) ≤ vec_capacity l.told;
 }
