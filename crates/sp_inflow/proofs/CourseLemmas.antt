@@ -1,6 +1,7 @@
 -- What was told of a stream are its first events.
-use Rattle.std.proofs.Common.{◌≡◌, ℕ, suc, Bool, true, false, List, [], ◌∷◌, ◌++◌, Option, Some, None, length, take, refl, sym, ap, subst, ◌∙◌, append_assoc, append-nil, true≢false}
+use Rattle.std.proofs.Common.{◌≡◌, ℕ, ◌+◌, Bool, true, false, List, [], ◌∷◌, ◌++◌, Option, Some, None, length, take, refl, sym, ap, subst, ◌∙◌, append_assoc, append-nil, true≢false}
 use Rattle.std.specs.Prelude.{Result, Ok, Err, map, option_to_list}
+use Rattle.std.proofs.lemmas.List.{get_or-append-add, take_at}
 use Rattle.net_message.specs.declared.fault.WireFault.{WireFault}
 use Rattle.net_message.specs.declared.message.Message.{Message}
 use Rattle.net_message.specs.Wire.{IsWire}
@@ -28,6 +29,13 @@ unfolding Stream
 no-end first others m (Rest x) h wire s = no-front (m, others) (sym (partial_front (first ++ others) s.0) ∙ wire_front first others m wire)
 no-end first others m (Stopped f) h wire s = ok_not_err (Some (m, others)) f (sym (wire_front first others m wire) ∙ breaks_front (first ++ others) f h s)
 
+first-frame : (first others : List ℕ) (m n : Message) (ms : List Message) (held : Held) → IsWire first m → Stream (first ++ others) (n ∷ ms) held → m ≡ n
+unfolding Stream
+first-frame first others m n ms held wire s = (two_readings first s.0 others s.1 m n wire s.2.0 s.2.1).0
+
+bytes-after : (first others : List ℕ) → AreBytes (first ++ others) → AreBytes others
+bytes-after first others h i = rw (← get_or-append-add first others i 0) (h (length first + i))
+
 -- any reading of the bytes has the frames that were told first
 goes-first : (bytes : List ℕ) (messages ms : List Message) (rest : List ℕ) (held : Held) → AreBytes bytes → Begins bytes messages rest → Stream bytes ms held → (more : List Message) × (ms ≡ messages ++ more)
 goes-first bytes [] ms rest held h b s = (ms, refl)
@@ -38,12 +46,6 @@ goes-first bytes (m ∷ messages) (n ∷ ms) rest held h b s =
     let r = rest_of b.0 b.1 m ms held b.2.0 (subst (λ (k : Message). Stream (b.0 ++ b.1) (k ∷ ms) held) (sym same) a) in
     let later = goes-first b.1 messages ms rest held (bytes-after b.0 b.1 (subst AreBytes b.2.1 h)) b.2.2 r in
     (later.0, ap (λ (k : Message). k ∷ ms) (sym same) ∙ ap (λ (l : List Message). m ∷ l) later.1)
-  where
-    first-frame : (first others : List ℕ) (m n : Message) (ms : List Message) (held : Held) → IsWire first m → Stream (first ++ others) (n ∷ ms) held → m ≡ n
-    unfolding Stream
-    first-frame first others m n ms held wire s = (two_readings first s.0 others s.1 m n wire s.2.0 s.2.1).0
-    bytes-after : (first others : List ℕ) → AreBytes (first ++ others) → AreBytes others
-    bytes-after first others h i = rw (← Rattle.std.proofs.lemmas.List.get_or-append-add first others i 0) (h (length first + i))
 
 -- the events of what was told
 events : (conn : ℕ) (messages : List Message) (last : List Arrival) → map (event_of conn) (map (λ m. Received m) messages ++ last) ≡ map (λ m. rules.Received conn m) messages ++ map (event_of conn) last
@@ -55,7 +57,7 @@ received-on conn [] more = refl
 received-on conn (m ∷ messages) more = ap (λ (l : List rules.Event). rules.Received conn m ∷ l) (received-on conn messages more)
 
 take-first : (messages more : List Message) → take (length messages) (messages ++ more) ≡ messages
-take-first messages more = Rattle.std.proofs.lemmas.List.take_at messages more (length messages) refl
+take-first messages more = take_at messages more (length messages) refl
 
 abbrev IsFirst : ℕ → List Message → Held → List Arrival → Bool → Type 0
 IsFirst conn messages held told ended = (course : Course) × (more : List rules.Event) × ((map (event_of conn) told ++ more ≡ events_of conn messages held course) × (ended ≡ true → more ≡ []))

@@ -8,8 +8,8 @@ use Rattle.net_message.specs.declared.fault.WireFault.{WireFault}
 use Rattle.net_message.specs.declared.message.Message.{Message}
 use Rattle.net_message.specs.Wire.{IsWire}
 use Rattle.net_frames.specs.Stream.{Rest, Stopped, Stream}
-use Rattle.net_engine.specs.declared.receiver.Inflow.{Inflow}
-use Rattle.net_engine.specs.declared.receiver.Inflow.TheVariants as inflows
+use Rattle.net_engine.specs.declared.inbound.Inflow.{Inflow}
+use Rattle.net_engine.specs.declared.inbound.Inflow.TheVariants as inflows
 use Rattle.net_engine.specs.Engine.{Receiver, left, Goes, Receives, Answers}
 use Rattle.net_engine.proofs.Calls.{ends-closed, ends-bad}
 use Rattle.sp_inflow.specs.declared.arrivals.Arrival.{Arrival}

@@ -1,7 +1,7 @@
 -- Slots that hold notes, and what is told of them.
 use Rattle.std.proofs.Common.{◌≡◌, ℕ, suc, ◌+◌, ◌<◌, ◌≤◌, Bool, true, false, cond, List, [], ◌∷◌, ◌++◌, Option, None, Some, refl, sym, ap, ◌∙◌, length, take, drop, get_or, set, true≢false, arith, add-one, append_assoc, append-nil, length-append, nat_le}
 use Rattle.std.specs.Prelude.{◌&&◌, ◌==◌, not, filter, map, option_to_list}
-use Rattle.std.specs.List.{flat_map, list_all}
+use Rattle.std.specs.List.{list_all}
 use Rattle.std.proofs.lemmas.Grind.{flat_map-append}
 use Rattle.std.proofs.lemmas.List.{drop_more, set_split, take-append-drop, take_more, take_more_set, length-set, map-append, drop-set-lt}
 use Rattle.std.proofs.lemmas.List.Elements.{filter-append}
@@ -94,7 +94,7 @@ one-passed rank i was now before told item new out h is taken left p =
     let heads : (get_or now i item ∷ drop (i + 1) now) ≡ (get_or was i item ∷ drop (i + 1) was) = sym (drop_more now i item h) ∙ p.rest ∙ drop_more was i item below in
     let same : item ≡ get_or was i item = is ∙ ap (λ l. get_or l 0 item) heads in
     let more : noted (take (i + 1) was) ≡ noted (take i was) ++ noted_at item =
-        ap noted (take_more was i item below) ∙ flat_map-append noted_at (take i was) (get_or was i item ∷ []) ∙ ap (λ s. noted (take i was) ++ (noted_at s ++ [])) (sym same) ∙ ap (λ l. noted (take i was) ++ l) (append-nil (noted_at item)) in
+    ap noted (take_more was i item below) ∙ flat_map-append noted_at (take i was) (get_or was i item ∷ []) ∙ ap (λ s. noted (take i was) ++ (noted_at s ++ [])) (sym same) ∙ ap (λ l. noted (take i was) ++ l) (append-nil (noted_at item)) in
     record {
       told = map-append output_of told (option_to_list out) ∙ (λ j. p.told j ++ taken j)
           ∙ append_assoc (map output_of before) (rules.of_rank (noted (take i was)) rank) (rules.of_rank (noted_at item) rank)

@@ -1,11 +1,11 @@
 -- The frames among the outputs of an event stand turn by turn.
-use Rattle.std.proofs.Common.{◌≡◌, ℕ, suc, Bool, true, false, cond, List, [], ◌∷◌, ◌++◌, refl, sym, ap, ◌∙◌, append_assoc, append-nil}
+use Rattle.std.proofs.Common.{◌≡◌, ℕ, suc, true, false, cond, List, [], ◌∷◌, ◌++◌, refl, sym, ap, ◌∙◌, append_assoc, append-nil}
 use Rattle.std.specs.Prelude.{◌==◌, filter, map}
 use Rattle.std.specs.List.{flat_map}
 use Rattle.std.proofs.lemmas.Grind.{flat_map-append}
 use Rattle.net_message.specs.declared.message.Message.{Message}
 use Rattle.sp_rules.specs.Events.{Output, Started, Ended, Withdrawn, Denied, Send, Dial, Close, Ready, Turn, Hellos, Replies, Waited, Cleans, Dirties, Calls, Acks, Note, Says, Sends, turn_rank, output_rank, rank, output_of, of_rank, of_ranks, in_order}
-use Rattle.sp_outputs.specs.Frames.{frame_in, frames_in, frame_of, noted_in, turns}
+use Rattle.sp_outputs.specs.Frames.{frame_in, frames_in, noted_in, turns}
 
 -- an output of a rank of no frame without a turn
 said : (k : ℕ) → (14 == k) ≡ false → (o : Output) → cond (output_rank o == k) (frame_in o) [] ≡ []
@@ -46,16 +46,22 @@ of-none k never none (Sends turn conn message ∷ notes) = more k (Sends turn co
 -- no turn has the ranks of the other outputs
 none-0 : (t : Turn) → (turn_rank t == 0) ≡ false
 none-0 t = elim t as (λ u. (turn_rank u == 0) ≡ false) [ Hellos ↦ refl | Replies ↦ refl | Waited ↦ refl | Cleans ↦ refl | Dirties ↦ refl | Calls ↦ refl | Acks ↦ refl ]
+
 none-1 : (t : Turn) → (turn_rank t == 1) ≡ false
 none-1 t = elim t as (λ u. (turn_rank u == 1) ≡ false) [ Hellos ↦ refl | Replies ↦ refl | Waited ↦ refl | Cleans ↦ refl | Dirties ↦ refl | Calls ↦ refl | Acks ↦ refl ]
+
 none-2 : (t : Turn) → (turn_rank t == 2) ≡ false
 none-2 t = elim t as (λ u. (turn_rank u == 2) ≡ false) [ Hellos ↦ refl | Replies ↦ refl | Waited ↦ refl | Cleans ↦ refl | Dirties ↦ refl | Calls ↦ refl | Acks ↦ refl ]
+
 none-3 : (t : Turn) → (turn_rank t == 3) ≡ false
 none-3 t = elim t as (λ u. (turn_rank u == 3) ≡ false) [ Hellos ↦ refl | Replies ↦ refl | Waited ↦ refl | Cleans ↦ refl | Dirties ↦ refl | Calls ↦ refl | Acks ↦ refl ]
+
 none-11 : (t : Turn) → (turn_rank t == 11) ≡ false
 none-11 t = elim t as (λ u. (turn_rank u == 11) ≡ false) [ Hellos ↦ refl | Replies ↦ refl | Waited ↦ refl | Cleans ↦ refl | Dirties ↦ refl | Calls ↦ refl | Acks ↦ refl ]
+
 none-12 : (t : Turn) → (turn_rank t == 12) ≡ false
 none-12 t = elim t as (λ u. (turn_rank u == 12) ≡ false) [ Hellos ↦ refl | Replies ↦ refl | Waited ↦ refl | Cleans ↦ refl | Dirties ↦ refl | Calls ↦ refl | Acks ↦ refl ]
+
 none-13 : (t : Turn) → (turn_rank t == 13) ≡ false
 none-13 t = elim t as (λ u. (turn_rank u == 13) ≡ false) [ Hellos ↦ refl | Replies ↦ refl | Waited ↦ refl | Cleans ↦ refl | Dirties ↦ refl | Calls ↦ refl | Acks ↦ refl ]
 

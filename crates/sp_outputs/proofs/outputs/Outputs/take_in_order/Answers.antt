@@ -1,4 +1,4 @@
-use Rattle.std.proofs.Common.{◌≡◌, ℕ, ◌+◌, ◌≤◌, ◌++◌, List, Option, refl, sym, ap, ◌∙◌, map, length, take, drop, vec_len, vec_capacity, Vec, Global, add-one, arith}
+use Rattle.std.proofs.Common.{◌≡◌, ◌+◌, ◌++◌, List, Option, refl, sym, ap, ◌∙◌, map, length, take, drop, vec_len, vec_capacity, Vec, Global, add-one, arith}
 use Rattle.std.proofs.Math.Nat.{add-zero, zero-add}
 use Rattle.std.proofs.lemmas.List.{nil_from_length, take_at}
 use Rattle.sp_rules.specs.Events as rules
@@ -33,7 +33,7 @@ loop-rank-preserved c =
     let told = c.tell_rank.new.told in
     let len : length c.tell_rank.new.slots ≡ c.loop-rank.notes.len = omega (arith, c.tell_rank.auto.slots, c.deref_mut.ensures.len) in
     let back : take c.loop-rank.notes.len (c.tell_rank.new.slots ++ drop (length c.tell_rank.new.slots) c.loop-rank.notes.items) ≡ c.tell_rank.new.slots =
-        take_at c.tell_rank.new.slots (drop (length c.tell_rank.new.slots) c.loop-rank.notes.items) c.loop-rank.notes.len len in
+    take_at c.tell_rank.new.slots (drop (length c.tell_rank.new.slots) c.loop-rank.notes.items) c.loop-rank.notes.len len in
     record {
       told = c.tell_rank.ensures.told ∙ ap (λ (l : List (Option Note)). map output_of c.loop-rank.told.items ++ rules.of_rank (noted l) rank) c.deref_mut.ensures.value
           ∙ (λ i. c.loop-rank.invariant.told i ++ rules.of_rank (c.loop-rank.invariant.left i) rank) ∙ ap (λ l. rules.of_ranks rank all ++ l) (of-from rank all)
@@ -60,7 +60,7 @@ returns-clause-whole c =
     let told = c.loop-rank.told in
     let last : c.loop-rank.rank ≡ 14 = omega arith in
     let none = c.loop-rank.invariant.left ∙ ap (λ k. from_rank k (noted c.replace-notes.result.items)) last ∙ ap (λ (v : Vec (Option Note) Global). from_rank 14 (noted v.items)) c.replace-notes.ensures.value
-        ∙ none-left c.args.self.now.notes.items c.args.self.now.said in
+    ∙ none-left c.args.self.now.notes.items c.args.self.now.said in
     sym told.ok.0 ∙ sym (add-zero (vec_len told)) ∙ ap (λ (l : List rules.Note). vec_len told + length l) (sym none) ∙ c.loop-rank.invariant.count ∙ ap (λ (v : Vec (Option Note) Global). length (noted v.items)) c.replace-notes.ensures.value
 
 pub returns-clause-notes : goal.returns-clause-notes
