@@ -1,18 +1,18 @@
 -- What was told of a stream are its first events.
-use Rattle.std.proofs.Common.{◌≡◌, ℕ, ◌+◌, Bool, true, false, List, [], ◌∷◌, ◌++◌, Option, Some, None, length, take, refl, sym, ap, subst, ◌∙◌, append_assoc, append-nil, true≢false}
-use Rattle.std.specs.Prelude.{Result, Ok, Err, map, option_to_list}
+use Rattle.std.proofs.Common.{◌≡◌, ℕ, ◌+◌, Bool, true, List, [], ◌∷◌, ◌++◌, Option, Some, None, length, take, refl, sym, ap, subst, ◌∙◌, append_assoc, append-nil, true≢false}
+use Rattle.std.specs.Prelude.{Result, Ok, map, option_to_list}
 use Rattle.std.proofs.lemmas.List.{get_or-append-add, take_at}
 use Rattle.net_message.specs.declared.fault.WireFault.{WireFault}
 use Rattle.net_message.specs.declared.message.Message.{Message}
 use Rattle.net_message.specs.Wire.{IsWire}
 use Rattle.net_frames.specs.Stream.{AreBytes, Held, Rest, Stopped, Stream}
 use Rattle.net_frames.proofs.FieldLaws.{ok_not_err}
-use Rattle.net_frames.proofs.FrontLaws.{front_at, partial_front, breaks_front, wire_front}
+use Rattle.net_frames.proofs.FrontLaws.{partial_front, breaks_front, wire_front}
 use Rattle.net_frames.proofs.StreamLaws.{one_reading, rest_of, then_rest, two_readings}
 use Rattle.sp_rules.specs.Events as rules
 use Rattle.sp_inflow.specs.declared.arrivals.Arrival.{Arrival}
 use Rattle.sp_inflow.specs.declared.arrivals.Arrival.TheVariants.{Received, Closed, ReadFailed, Bad}
-use Rattle.sp_inflow.specs.Arriving.{Course, IsRead, FailsAfter, end_of, event_of, events_of, is_end}
+use Rattle.sp_inflow.specs.Arriving.{Course, IsRead, FailsAfter, end_of, event_of, events_of}
 use Rattle.sp_inflow.specs.Telling.{AreTold, Begins, Incoming, Stands}
 
 -- what is told so far, and what the rest says, are the reading of all
@@ -67,33 +67,45 @@ module _ {S : Type 0} (remaining : S → Option (List ℕ)) where
       → AreBytes bytes → Stream bytes ms held → Begins bytes messages rest → Stands remaining end rest incoming
       → IsFirst conn ms held (map (λ m. Received m) messages ++ option_to_list end) incoming.ended
   by-end conn bytes ms held messages None rest incoming h s b stands =
-      let first = goes-first bytes messages ms rest held h b s in
-      (IsRead, map (λ m. rules.Received conn m) first.0 ++ end_of conn held ∷ [], (
-        ap (λ (l : List rules.Event). l ++ (map (λ m. rules.Received conn m) first.0 ++ end_of conn held ∷ [])) (events conn messages [] ∙ append-nil (map (λ m. rules.Received conn m) messages))
-            ∙ sym (append_assoc (map (λ m. rules.Received conn m) messages) (map (λ m. rules.Received conn m) first.0) (end_of conn held ∷ []))
-            ∙ ap (λ (l : List rules.Event). l ++ end_of conn held ∷ []) (sym (received-on conn messages first.0) ∙ ap (map (λ m. rules.Received conn m)) (sym first.1)),
-        λ yes. absurd (true≢false (sym yes ∙ stands.0))
-      ))
+      let first = goes-first bytes messages ms rest held h b s in (
+        IsRead,
+        map (λ m. rules.Received conn m) first.0 ++ end_of conn held ∷ [],
+        (
+          ap (λ (l : List rules.Event). l ++ (map (λ m. rules.Received conn m) first.0 ++ end_of conn held ∷ [])) (events conn messages [] ∙ append-nil (map (λ m. rules.Received conn m) messages))
+              ∙ sym (append_assoc (map (λ m. rules.Received conn m) messages) (map (λ m. rules.Received conn m) first.0) (end_of conn held ∷ []))
+              ∙ ap (λ (l : List rules.Event). l ++ end_of conn held ∷ []) (sym (received-on conn messages first.0) ∙ ap (map (λ m. rules.Received conn m)) (sym first.1)),
+          λ yes. absurd (true≢false (sym yes ∙ stands.0)),
+        ),
+      )
   by-end conn bytes ms held messages (Some (Received m)) rest incoming h s b stands = absurd stands
   by-end conn bytes ms held messages (Some Closed) rest incoming h s b stands =
-      let one = one_reading bytes messages ms (Rest stands.1.0) held h (reading bytes messages rest (Rest stands.1.0) b stands.1.1) s in
-      (IsRead, [], (
-        append-nil (map (event_of conn) (map (λ m. Received m) messages ++ Closed ∷ [])) ∙ events conn messages (Closed ∷ []) ∙ (λ i. map (λ m. rules.Received conn m) (one.0 i) ++ end_of conn (one.1 i) ∷ []),
-        λ yes. refl
-      ))
+      let one = one_reading bytes messages ms (Rest stands.1.0) held h (reading bytes messages rest (Rest stands.1.0) b stands.1.1) s in (
+        IsRead,
+        [],
+        (
+          append-nil (map (event_of conn) (map (λ m. Received m) messages ++ Closed ∷ [])) ∙ events conn messages (Closed ∷ []) ∙ (λ i. map (λ m. rules.Received conn m) (one.0 i) ++ end_of conn (one.1 i) ∷ []),
+          λ yes. refl,
+        ),
+      )
   by-end conn bytes ms held messages (Some ReadFailed) rest incoming h s b stands =
-      let first = goes-first bytes messages ms rest held h b s in
-      (FailsAfter (length messages), [], (
-        append-nil (map (event_of conn) (map (λ m. Received m) messages ++ ReadFailed ∷ [])) ∙ events conn messages (ReadFailed ∷ [])
-            ∙ ap (λ (l : List Message). map (λ m. rules.Received conn m) l ++ rules.ReadFailed conn ∷ []) (sym (take-first messages first.0) ∙ ap (take (length messages)) (sym first.1)),
-        λ yes. refl
-      ))
+      let first = goes-first bytes messages ms rest held h b s in (
+        FailsAfter (length messages),
+        [],
+        (
+          append-nil (map (event_of conn) (map (λ m. Received m) messages ++ ReadFailed ∷ [])) ∙ events conn messages (ReadFailed ∷ [])
+              ∙ ap (λ (l : List Message). map (λ m. rules.Received conn m) l ++ rules.ReadFailed conn ∷ []) (sym (take-first messages first.0) ∙ ap (take (length messages)) (sym first.1)),
+          λ yes. refl,
+        ),
+      )
   by-end conn bytes ms held messages (Some Bad) rest incoming h s b stands =
-      let one = one_reading bytes messages ms (Stopped stands.1.0) held h (reading bytes messages rest (Stopped stands.1.0) b stands.1.1) s in
-      (IsRead, [], (
-        append-nil (map (event_of conn) (map (λ m. Received m) messages ++ Bad ∷ [])) ∙ events conn messages (Bad ∷ []) ∙ (λ i. map (λ m. rules.Received conn m) (one.0 i) ++ end_of conn (one.1 i) ∷ []),
-        λ yes. refl
-      ))
+      let one = one_reading bytes messages ms (Stopped stands.1.0) held h (reading bytes messages rest (Stopped stands.1.0) b stands.1.1) s in (
+        IsRead,
+        [],
+        (
+          append-nil (map (event_of conn) (map (λ m. Received m) messages ++ Bad ∷ [])) ∙ events conn messages (Bad ∷ []) ∙ (λ i. map (λ m. rules.Received conn m) (one.0 i) ++ end_of conn (one.1 i) ∷ []),
+          λ yes. refl,
+        ),
+      )
 
   pub first-events : (conn : ℕ) (bytes : List ℕ) (messages : List Message) (held : Held) (told : List Arrival) (incoming : Incoming S)
       → AreBytes bytes → Stream bytes messages held → AreTold remaining bytes told incoming

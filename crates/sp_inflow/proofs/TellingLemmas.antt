@@ -1,5 +1,5 @@
 -- What was told of the bytes of a stream, call by call.
-use Rattle.std.proofs.Common.{◌≡◌, ℕ, Bool, true, false, List, [], ◌∷◌, ◌++◌, Option, Some, None, refl, sym, ap, subst, ◌∙◌, append_assoc, append-nil, true≢false}
+use Rattle.std.proofs.Common.{◌≡◌, ℕ, Bool, false, List, [], ◌∷◌, ◌++◌, Option, Some, None, refl, sym, ap, subst, ◌∙◌, append-nil, true≢false}
 use Rattle.std.specs.Prelude.{Result, Ok, Err, IsTrue, map, option_to_list}
 use Rattle.std.specs.Option.{MatchOption}
 use Rattle.std.specs.Io.KnownBytes.{Consumes, Keeps, prepend_known}
@@ -7,7 +7,6 @@ use Rattle.std.specs.declared.alloc.AllocError.{AllocError}
 use Rattle.net_message.specs.declared.fault.WireFault.{WireFault}
 use Rattle.net_message.specs.declared.message.Message.{Message}
 use Rattle.net_message.specs.Wire.{IsWire}
-use Rattle.net_frames.specs.Stream.{Rest, Stopped, Stream}
 use Rattle.net_engine.specs.declared.inbound.Inflow.{Inflow}
 use Rattle.net_engine.specs.declared.inbound.Inflow.TheVariants as inflows
 use Rattle.net_engine.specs.Engine.{Receiver, left, Goes, Receives, Answers}

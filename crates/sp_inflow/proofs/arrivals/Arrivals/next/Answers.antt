@@ -1,4 +1,4 @@
-use Rattle.std.proofs.Common.{List, [], ◌∷◌, ◌++◌, sym, ap, subst, ◌∙◌}
+use Rattle.std.proofs.Common.{[], ◌∷◌, ◌++◌, sym, ap, subst, ◌∙◌}
 use Rattle.sp_inflow.specs.declared.arrivals.Arrival.{Arrival}
 use Rattle.sp_inflow.specs.Arriving.{is_end}
 use Rattle.sp_inflow.specs.Telling.{AreTold, Incoming}
