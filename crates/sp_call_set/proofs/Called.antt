@@ -19,24 +19,24 @@ use Rattle.sp_call_set.proofs.Lists.{any_none, any_same}
 use Rattle.sp_call_set.specs.Calls.{is_given, is_inherited, leads_to}
 
 kept_parts : (a b k t w : Bool) → k ≡ true → w ≡ true → (a && (b && (k && (t && w)))) ≡ (a && (b && t))
-kept_parts a b false t w yes also = absurd (cc)
-kept_parts a b true t false yes also = absurd (cc)
-kept_parts a b true true true yes also = refl
-kept_parts a b true false true yes also = refl
+kept_parts a b false t w so also = absurd (cc)
+kept_parts a b true t false so also = absurd (cc)
+kept_parts a b true true true so also = refl
+kept_parts a b true false true so also = refl
 
 not_inherited : (a b k t w : Bool) → w ≡ false → (a && (b && (k && (t && w)))) ≡ false
-not_inherited a b k t true no = absurd (cc)
-not_inherited false b k t false no = refl
-not_inherited true false k t false no = refl
-not_inherited true true false t false no = refl
-not_inherited true true true false false no = refl
-not_inherited true true true true false no = refl
+not_inherited a b k t true other = absurd (cc)
+not_inherited false b k t false other = refl
+not_inherited true false k t false other = refl
+not_inherited true true false t false other = refl
+not_inherited true true true false false other = refl
+not_inherited true true true true false other = refl
 
 no_interface : (a b k t w : Bool) → k ≡ false → (a && (b && (k && (t && w)))) ≡ false
-no_interface a b true t w no = absurd (cc)
-no_interface false b false t w no = refl
-no_interface true false false t w no = refl
-no_interface true true false t w no = refl
+no_interface a b true t w other = absurd (cc)
+no_interface false b false t w other = refl
+no_interface true false false t w other = refl
+no_interface true true false t w other = refl
 
 module _ (classes : List Class) (class : ClassId) (method : ℕ) where
   -- a call of a method, as it is declared
@@ -48,9 +48,9 @@ module _ (classes : List Class) (class : ClassId) (method : ℕ) where
 
   module _ (declaring : ClassId) (m : Method) (is : IsDeclaredBy classes method declaring m) where
     pub inherited_alone : false ≡ is_inherited m → false ≡ may_call classes class method
-    inherited_alone no =
+    inherited_alone fails =
         let d = is.declared in
-        let other : is_inherited d.method ≡ false = ap is_inherited is.is ∙ sym no in
+        let other : is_inherited d.method ≡ false = ap is_inherited is.is ∙ sym fails in
         sym
         (ap called is.at
         ∙ any_none (λ n. gives_method classes class d (record { 0 = n }))
@@ -58,9 +58,9 @@ module _ (classes : List Class) (class : ClassId) (method : ℕ) where
         (numbers_below (length classes)))
 
     pub interfaces_alone : false ≡ is_interface classes declaring → false ≡ may_call classes class method
-    interfaces_alone no =
+    interfaces_alone fails =
         let d = is.declared in
-        let other : is_interface classes d.class ≡ false = ap (is_interface classes) is.by_class ∙ sym no in
+        let other : is_interface classes d.class ≡ false = ap (is_interface classes) is.by_class ∙ sym fails in
         sym
         (ap called is.at
         ∙ any_none (λ n. gives_method classes class d (record { 0 = n }))
@@ -70,11 +70,11 @@ module _ (classes : List Class) (class : ClassId) (method : ℕ) where
     pub called_as_given : true ≡ is_inherited m → true ≡ is_interface classes declaring → is_given classes class declaring ≡ may_call classes class method
     called_as_given inherited interface =
         let d = is.declared in
-        let yes : is_interface classes d.class ≡ true = ap (is_interface classes) is.by_class ∙ sym interface in
+        let so : is_interface classes d.class ≡ true = ap (is_interface classes) is.by_class ∙ sym interface in
         let also : is_inherited d.method ≡ true = ap is_inherited is.is ∙ sym inherited in
         sym
         (ap called is.at
         ∙ (any_same (λ n. gives_method classes class d (record { 0 = n })) (λ n. is_remote_interface classes (record { 0 = n }) && leads_to classes class d.class (record { 0 = n }))
-        (λ n. kept_parts (is_remote_interface classes (record { 0 = n })) (is_subtype classes class (record { 0 = n })) (is_interface classes d.class) (is_subtype classes (record { 0 = n }) d.class) (is_inherited d.method) yes also)
+        (λ n. kept_parts (is_remote_interface classes (record { 0 = n })) (is_subtype classes class (record { 0 = n })) (is_interface classes d.class) (is_subtype classes (record { 0 = n }) d.class) (is_inherited d.method) so also)
         (numbers_below (length classes))
         ∙ ap (is_given classes class) is.by_class))

@@ -25,11 +25,11 @@ any_last p (x ∷ xs) n e = or_right (p x) (list_any p (xs ++ n ∷ [])) (any_la
 
 any_before : (p : ℕ → Bool) (xs ys : List ℕ) → list_any p xs ≡ true → list_any p (xs ++ ys) ≡ true
 any_before p [] ys e = absurd (cc)
-any_before p (x ∷ xs) ys e = by (p x) e
+any_before p (x ∷ xs) ys e = by (any_before p xs ys) (p x) e
   where
-    by : (b : Bool) → (b || list_any p xs) ≡ true → (b || list_any p (xs ++ ys)) ≡ true
-    by true e = refl
-    by false e = any_before p xs ys e
+    by : (list_any p xs ≡ true → list_any p (xs ++ ys) ≡ true) → (b : Bool) → (b || list_any p xs) ≡ true → (b || list_any p (xs ++ ys)) ≡ true
+    by go true e = refl
+    by go false e = go e
 
 before_or_last : (k n : ℕ) → k < suc n → (k < n) ⊎ (k ≡ n)
 before_or_last zero zero h = inr refl
@@ -53,11 +53,12 @@ any_map f p (x ∷ xs) = ap (λ b. p (f x) || b) (any_map f p xs)
 
 pub any_filter : {A : Type 0} (r p : A → Bool) (xs : List A) → list_any p (filter r xs) ≡ list_any (λ x. r x && p x) xs
 any_filter r p [] = refl
-any_filter r p (x ∷ xs) = by (r x)
+any_filter r p (x ∷ xs) = by (any_filter r p xs) (r x)
   where
-    by : (b : Bool) → list_any p (cond b (x ∷ filter r xs) (filter r xs)) ≡ ((b && p x) || list_any (λ x. r x && p x) xs)
-    by true = ap (λ b. p x || b) (any_filter r p xs)
-    by false = any_filter r p xs
+    by : list_any p (filter r xs) ≡ list_any (λ x. r x && p x) xs → (b : Bool)
+        → list_any p (cond b (x ∷ filter r xs) (filter r xs)) ≡ ((b && p x) || list_any (λ x. r x && p x) xs)
+    by go true = ap (λ b. p x || b) go
+    by go false = go
 
 -- ---- those that pass
 
