@@ -1,5 +1,6 @@
 -- Arguments that are looked at one after another.
 use Rattle.std.proofs.Common.{◌≡◌, ℕ, zero, suc, ◌+◌, ◌<◌, ◌≤◌, Bool, true, false, Option, Some, None, List, [], ◌∷◌, length, get_or, drop, map, refl, sym, ap, ◌∙◌, arith, add-one}
+use Rattle.std.proofs.lemmas.Bool.Decides.{nat_tests}
 use Rattle.std.specs.Prelude.{◌&&◌, nat_eq}
 use Rattle.std.specs.Option.{option_map_or}
 use Rattle.cf_reader.specs.declared.class_file.Method.{Method}
@@ -70,9 +71,12 @@ fit_end types values index k v = rw (dropped types index k, dropped values index
 
 -- ---- of methods by their numbers
 
+suc_is_not : (n : ℕ) → nat_eq (suc n) 0 ≡ false
+suc_is_not n = grind (arith, nat_tests)
+
 fit_nothing : (values : List Value) → nat_eq (length values) 0 ≡ fit_kinds [] values
 fit_nothing [] = refl
-fit_nothing (v ∷ values) = refl
+fit_nothing (v ∷ values) = suc_is_not (length values)
 
 pub takes_some : (classes : List Class) (method : ℕ) (m : Method) (values : List Value) (r : Bool) → Some m ≡ method_at classes (record { 0 = method })
     → r ≡ fit_types m.types.parameters values → r ≡ fit_kinds (parameters_of classes method) values

@@ -4,5 +4,5 @@ pub mod Declared
 pub mod Called
 pub mod Given
 pub mod Selected
-pub mod Named
+pub mod Standing
 pub mod Told

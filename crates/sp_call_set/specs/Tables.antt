@@ -6,7 +6,7 @@ use Rattle.sp_call_set.specs.Calls.{remote_interfaces}
 use Rattle.sp_call_set.specs.Named.{AreNamed}
 use Rattle.sp_call_set.specs.declared.named.NamedClasses.{NamedClasses}
 
-pub record IsCallSet (links : Links) (looked_up : Links) (interfaces : List ClassId) (named : NamedClasses) : Type 0 where
+pub record IsCallSet (links : Links) (looked_up : Links) (rows : List ClassId) (numbers : NamedClasses) : Type 0 where
   pub tables : looked_up ≡ links
-  pub interfaces : interfaces ≡ remote_interfaces links.classes
-  pub named : AreNamed links.classes named
+  pub interfaces : rows ≡ remote_interfaces links.classes
+  pub named : AreNamed links.classes numbers

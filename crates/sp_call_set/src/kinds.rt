@@ -100,7 +100,7 @@ fn are_taken(kinds: &[Shared<FieldType>], arguments: &[Value]) -> bool
     true
 }
 
-fn fits_type(kind: &FieldType, value: &Value) -> bool
+fn fits_type(kind: &Shared<FieldType>, value: &Value) -> bool
     ensures { result ≡ fits_kind (kind_of_type kind.now) value.now }
 {
     fits(kind_of_type(kind), value)
