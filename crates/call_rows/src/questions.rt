@@ -64,11 +64,7 @@ fn put_remote(set: &CallSet<'_>, said: &mut Vec<u8>, of: ClassId) -> Result<(), 
 }
 
 // Each exception with its class.
-fn put_thrown(
-    program: &Program,
-    set: &CallSet<'_>,
-    said: &mut Vec<u8>,
-) -> Result<(), RowFault> {
+fn put_thrown(program: &Program, set: &CallSet<'_>, said: &mut Vec<u8>) -> Result<(), RowFault> {
     put_class(program, said, "out of memory", out_of_memory(set))?;
     for exception in [
         RemoteException::NoSuchObject,

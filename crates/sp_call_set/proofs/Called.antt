@@ -1,18 +1,16 @@
 -- Methods that may be called: those that interfaces inherit, if a remote interface has the one that declares them.
-use Rattle.std.proofs.Common.{◌≡◌, ℕ, Bool, true, false, Option, Some, None, List, length, refl, sym, subst, ap, ◌∙◌}
-use Rattle.std.specs.Prelude.{◌&&◌, not, slice_get}
+use Rattle.std.proofs.Common.{◌≡◌, ℕ, Bool, true, false, Option, None, List, length, refl, sym, ap, ◌∙◌}
+use Rattle.std.specs.Prelude.{◌&&◌, slice_get}
 use Rattle.std.specs.List.{list_any}
 use Rattle.std.specs.Option.{option_map_or}
 use Rattle.cf_reader.specs.declared.class_file.Method.{Method}
 use Rattle.cls_link.specs.Links.{Declared, declared_methods}
-use Rattle.cls_link.specs.Selections.{is_static}
 use Rattle.cls_search.specs.MethodSearches.{is_interface}
 use Rattle.cls_set.specs.declared.class.Class.{Class}
 use Rattle.space_ids.specs.declared.ids.ClassId.{ClassId}
 use Rattle.sp_classes.specs.Remote.{gives_method, may_call}
 use Rattle.sp_rules.specs.Lists.{numbers_below}
 use Rattle.vm_code.specs.Classes.{is_subtype}
-use Rattle.vm_code.specs.Methods.{is_public}
 use Rattle.vm_run.specs.Start.{is_remote_interface}
 use Rattle.sp_call_set.proofs.Declared.{IsDeclaredBy}
 use Rattle.sp_call_set.proofs.Lists.{any_none, any_same}

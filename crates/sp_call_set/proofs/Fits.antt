@@ -11,7 +11,7 @@ use Rattle.space_ids.specs.declared.value.Value.{Value}
 use Rattle.sp_classes.specs.Kinds.{kind_of_type, parameters_of, result_kind, result_of}
 use Rattle.sp_requests.specs.Asking.{kind_of}
 use Rattle.sp_requests.specs.declared.asked.ResultKind.{ResultKind}
-use Rattle.sp_rules.specs.Classes.{Kind, fit_kinds, fits_kind}
+use Rattle.sp_rules.specs.Classes.{fit_kinds, fits_kind}
 
 -- whether the values are one for each type, of its kind
 abbrev pub fit_types : List FieldType → List Value → Bool
