@@ -1,0 +1,10 @@
+use Rattle.std.proofs.Common.{refl}
+use Rattle.sp_classes.specs.Classes.{classes_of}
+use Rattle.sp_rules.specs.Classes.{Classes}
+use Rattle.sp_call_set.proofs.Told.{told_of}
+use Rattle.sp_call_set.proofs.call_set.CallSetClassSet.is_remote.Goals as goal
+
+pub returns : goal.returns
+returns c = λ classes same.
+    let inside = c.self.inside in
+    told_of (λ (asked : Classes). asked.is_remote c.args.class) inside.program.now c.args.self.now classes c.is_remote.result (c.is_remote.ensures (classes_of inside.program.now) refl) c.self.view_is same

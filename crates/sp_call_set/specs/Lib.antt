@@ -1,0 +1,4 @@
+pub mod Calls
+pub mod Named
+pub mod Selecting
+pub mod Tables
