@@ -1,0 +1,5 @@
+pub mod Said
+pub mod Transports
+pub mod Rooms
+pub mod Asking
+pub mod Opening
