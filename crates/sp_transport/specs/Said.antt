@@ -15,17 +15,20 @@ abbrev pub note_sent : List Connection → Note → List Connection
 note_sent connections (Says output) = connections
 note_sent connections (Sends turn conn m) = sent_on conn m connections
 
+abbrev pub recorded : List Connection → List Note → List Connection
+recorded connections notes = fold note_sent connections notes
+
 -- the connections with the frames that the event has noted, as it noted them
 abbrev pub said : State → List Connection
-said s = fold note_sent s.connections s.notes
+said s = recorded s.connections s.notes
 
 abbrev pub output_sent : List Connection → Output → List Connection
 output_sent connections (Send conn m) = sent_on conn m connections
 output_sent connections _ = connections
 
 -- the same with the frames in the order in which they go out
-abbrev pub said_in_order : State → List Connection
-said_in_order s = fold output_sent s.connections (in_order s.notes)
+abbrev pub recorded_in_order : List Connection → List Note → List Connection
+recorded_in_order connections notes = fold output_sent connections (in_order notes)
 
 -- ---- frames that count alike
 
@@ -81,9 +84,10 @@ abbrev pub IsNotAfterButAcks : Turn → Note → Type 0
 IsNotAfterButAcks turn (Says output) = Unit {0}
 IsNotAfterButAcks turn (Sends t conn m) = (turn_rank t ≤ turn_rank turn) ⊎ (is_acks t ≡ true)
 
--- All that is noted stands before calls of this turn, and before dirty and clean calls.
+-- All that is noted stands before calls and lookups of this turn.
 abbrev pub CallsMayGo : Turn → State → Type 0
 CallsMayGo turn s = AllOf (IsNotAfter turn) s.notes
 
+-- All that is noted stands before dirty and clean calls of this turn, but for Acks.
 abbrev pub GroupsMayGo : Turn → State → Type 0
 GroupsMayGo turn s = AllOf (IsNotAfterButAcks turn) s.notes

@@ -4,6 +4,7 @@ use Rattle.std.specs.List.{flat_map}
 use Rattle.dgc_client.specs.Table as client
 use Rattle.uuid.specs.declared.Uuid.{Uuid}
 use Rattle.sp_rules.specs.Endings.{call_number_in}
+use Rattle.sp_rules.specs.Events.{Note}
 use Rattle.sp_rules.specs.Laws.{AllOf, RisesWithin}
 use Rattle.sp_rules.specs.Lines.{WaitsForHello, dialled_to}
 use Rattle.sp_rules.specs.Requests.{hello_came, is_waiting}
@@ -14,7 +15,7 @@ use Rattle.sp_peers.specs.AllAsked.{AreAsked}
 use Rattle.sp_outputs.specs.Notes.{notes_of}
 use Rattle.sp_transport.specs.declared.transport.Fresh.{Fresh}
 use Rattle.sp_transport.specs.declared.transport.Transport.{Transport}
-use Rattle.sp_transport.specs.Said.{AreLinesAlike, IsNoted, said, said_in_order}
+use Rattle.sp_transport.specs.Said.{AreLinesAlike, IsNoted, recorded, recorded_in_order, said}
 
 -- ---- numbers of calls
 
@@ -48,25 +49,47 @@ IsFresh made r = (call_number r.asked ≡ made ∷ []) × IsNamed r.asked
 
 -- ---- lines
 
--- Of a connection that was dialled to a peer: the calls and lookups that went out on it were asked, the numbers of dirty and clean calls were given, and before the peer's Hello no call or lookup went out.
-pub record IsLine (s : State) (c : Connection) : Type 0 where
-  pub called : last_call c.sent ≤ asked_up_to s.calls_made s.fresh
-  pub told_of : last_sequence c.sent ≤ client.numbers_of s.leases
+-- Of a connection that was dialled to a peer: no call or lookup that went out on it has a number above the last that was asked, and no dirty or clean call one above the last that was given; before the peer's Hello no call or lookup went out.
+pub record IsLine (asked told : ℕ) (c : Connection) : Type 0 where
+  pub called : last_call c.sent ≤ asked
+  pub told_of : last_sequence c.sent ≤ told
   pub quiet : c.peer ≡ None → flat_map call_number_in c.sent ≡ []
 
 -- What is out went to a peer whose Hello came.
 abbrev pub WentAfterHello : List Connection → Request → Type 0
 WentAfterHello connections r = is_waiting r.stage ≡ false → is_some (hello_came (dialled_to connections r.peer)) ≡ true
 
+-- the parts of a state that tell who waits for whom, and what goes out in which order
+pub record LineParts : Type 0 where
+  pub connections : List Connection
+  pub dialling : List Uuid
+  pub requests : List Request
+  pub notes : List Note
+  pub made : ℕ
+  pub fresh : List Request
+  -- the sequence number that was given last
+  pub told : ℕ
+
+abbrev pub line_parts : State → LineParts
+line_parts s = record {
+  connections = s.connections;
+  dialling = s.dialling;
+  requests = s.requests;
+  notes = s.notes;
+  made = s.calls_made;
+  fresh = s.fresh;
+  told = client.numbers_of s.leases;
+}
+
 -- What a space asks stands in lines: what waits, waits for a Hello that is to come; numbers of calls rise as they wait and as they go out, and none is above the last that was made. In the order in which the frames of the event go out they count as they were noted.
-pub record AreLines (s : State) : Type 0 where
-  pub sent : (peer : Uuid) (c : Connection) → dialled_to (said s) peer ≡ Some c → IsLine s c
-  pub waiting : AllOf (WaitsForHello s.connections s.dialling) s.requests
-  pub out : AllOf (WentAfterHello s.connections) s.requests
-  pub rising : RisesWithin 0 (asked_up_to s.calls_made s.fresh) (waiting_numbers s.requests)
-  pub fresh : AllOf (IsFresh s.calls_made) s.fresh
-  pub noted : AllOf IsNoted s.notes
-  pub alike : AreLinesAlike (said s) (said_in_order s)
+pub record AreLines (p : LineParts) : Type 0 where
+  pub sent : (peer : Uuid) (c : Connection) → dialled_to (recorded p.connections p.notes) peer ≡ Some c → IsLine (asked_up_to p.made p.fresh) p.told c
+  pub waiting : AllOf (WaitsForHello p.connections p.dialling) p.requests
+  pub out : AllOf (WentAfterHello p.connections) p.requests
+  pub rising : RisesWithin 0 (asked_up_to p.made p.fresh) (waiting_numbers p.requests)
+  pub fresh_is : AllOf (IsFresh p.made) p.fresh
+  pub noted : AllOf IsNoted p.notes
+  pub alike : AreLinesAlike (recorded p.connections p.notes) (recorded_in_order p.connections p.notes)
 
 -- ---- the whole
 
@@ -79,4 +102,4 @@ pub record IsTransport (s : State) (t : Transport) : Type 0 where
   pub groups_made : t.groups_made ≡ s.groups_made
   pub fresh : fresh_of t.fresh ≡ s.fresh
   pub notes : notes_of t.outputs ≡ s.notes
-  pub lines : AreLines s
+  pub lines : AreLines (line_parts s)
