@@ -1,2 +1,9 @@
 pub mod SaidLemmas
 pub mod OrderLemmas
+pub mod LinesLemmas
+pub mod StepLemmas
+pub mod HolderLemmas
+pub mod MakingLemmas
+pub mod DialLemmas
+pub mod GoingLemmas
+pub mod ViewLemmas

@@ -11,7 +11,7 @@ use Rattle.sp_rules.specs.Laws.{AllOf}
 use Rattle.sp_rules.specs.State.{Connection}
 use Rattle.sp_requests.specs.Asking.{sequence_in}
 use Rattle.sp_peers.specs.AllAsked.{sent_on}
-use Rattle.sp_transport.specs.Said.{AreLinesAlike, IsNoted, IsNotAfter, IsNotAfterButAcks, IsOfTurn, is_acks, is_said, output_sent, recorded, recorded_in_order}
+use Rattle.sp_transport.specs.Said.{AreLinesAlike, IsNoted, IsNotAfter, IsNotAfterButAcks, IsOfTurn, is_acks, is_said, note_sent, output_sent, recorded, recorded_in_order}
 use Rattle.sp_transport.proofs.SaidLemmas.{Accepts, accepted-alike, accepted-notes, accepted-outputs, alike-output, alike-outputs, alike-self, alike-then, alike-turn, swap-sent}
 
 pub append-none : {A : Type 0} (xs : List A) → xs ++ [] ≡ xs
@@ -150,21 +150,21 @@ said-rank (Close conn) e = lit< tt
 said-rank (Ready task) e = lit< tt
 
 said-passes : (o p : Output) → is_said o ≡ true → Passes o p
-said-passes o p e cs =
+said-passes o p e = λ cs.
     subst (λ (l : List Connection). AreLinesAlike l (output_sent (output_sent cs o) p)) (sym (said-nothing o (output_sent cs p) e))
     (subst (λ (l : List Connection). AreLinesAlike (output_sent cs p) (output_sent l p)) (sym (said-nothing o cs e)) (alike-self (output_sent cs p)))
 
 passes-said : (o p : Output) → is_said p ≡ true → Passes o p
-passes-said o p e cs =
+passes-said o p e = λ cs.
     subst (λ (l : List Connection). AreLinesAlike (output_sent l o) (output_sent (output_sent cs o) p)) (sym (said-nothing p cs e))
     (subst (λ (l : List Connection). AreLinesAlike (output_sent cs o) l) (sym (said-nothing p (output_sent cs o) e)) (alike-self (output_sent cs o)))
 
 -- what is recorded with a note more
 pub recorded-said : (o : Output) (notes : List Note) (cs : List Connection) → recorded cs (notes ++ Says o ∷ []) ≡ recorded cs notes
-recorded-said o notes cs = fold-append Rattle.sp_transport.specs.Said.note_sent cs notes (Says o ∷ [])
+recorded-said o notes cs = fold-append note_sent cs notes (Says o ∷ [])
 
 pub recorded-sent : (turn : Turn) (n : ℕ) (m : Message) (notes : List Note) (cs : List Connection) → recorded cs (notes ++ Sends turn n m ∷ []) ≡ sent_on n m (recorded cs notes)
-recorded-sent turn n m notes cs = fold-append Rattle.sp_transport.specs.Said.note_sent cs notes (Sends turn n m ∷ [])
+recorded-sent turn n m notes cs = fold-append note_sent cs notes (Sends turn n m ∷ [])
 
 -- an output that is no frame
 pub alike-said : (o : Output) (notes : List Note) (cs : List Connection) → is_said o ≡ true → AreLinesAlike (recorded cs notes) (recorded_in_order cs notes) → AreLinesAlike (recorded cs (notes ++ Says o ∷ [])) (recorded_in_order cs (notes ++ Says o ∷ []))

@@ -119,17 +119,14 @@ swap-sent n k m a (c ∷ cs) no none nil =
     right b d = cond b (cond d (with_frame a (with_frame m c) ∷ cs) (with_frame m c ∷ sent_on k a cs)) (cond d (with_frame a c ∷ sent_on n m cs) (c ∷ sent_on k a (sent_on n m cs)))
 
     left-is : (d : Bool) → sent_on n m (cond d (with_frame a c ∷ cs) (c ∷ sent_on k a cs)) ≡ left (c.number == n) d
-    unfolding left
     left-is true = refl
     left-is false = refl
 
     right-is : (b : Bool) → sent_on k a (cond b (with_frame m c ∷ cs) (c ∷ sent_on n m cs)) ≡ right b (c.number == k)
-    unfolding right
     right-is true = refl
     right-is false = refl
 
     pick : (b d : Bool) → AreLinesAlike (sent_on n m (sent_on k a cs)) (sent_on k a (sent_on n m cs)) → AreLinesAlike (left b d) (right b d)
-    unfolding left right
     pick true true go = (record { number = refl; dialled = refl; peer = refl; sent = λ is. count-swap m a c.sent no none nil }, alike-self cs)
     pick true false go = alike-self (with_frame m c ∷ sent_on k a cs)
     pick false true go = alike-self (with_frame a c ∷ sent_on n m cs)
@@ -272,8 +269,11 @@ pub record IsGreeted (n : ℕ) (o : Option Connection) : Type 0 where
   pub number : row.number ≡ n
   pub peer : is_some row.peer ≡ true
 
+nothing : {A : Type 0} (x : A) → None ≡ Some x → ⊥
+nothing x h = cc
+
 pub greeted-row : (n : ℕ) (o : Option Connection) → hello_came o ≡ Some n → IsGreeted n o
-greeted-row n None e = absurd (cc)
+greeted-row n None e = absurd (nothing n e)
 greeted-row n (Some c) e = pick (is_some c.peer) refl e
   where
     only : (x y : ℕ) → Some x ≡ Some y → x ≡ y
@@ -281,7 +281,7 @@ greeted-row n (Some c) e = pick (is_some c.peer) refl e
 
     pick : (b : Bool) → is_some c.peer ≡ b → cond b (Some c.number) None ≡ Some n → IsGreeted n (Some c)
     pick true is f = record { row = c; there = refl; number = only c.number n f; peer = is }
-    pick false is f = absurd (cc)
+    pick false is f = absurd (nothing n f)
 
 -- ---- a frame goes out
 

@@ -43,9 +43,9 @@ abbrev pub fresh_of : Option Fresh → List Request
 fresh_of None = []
 fresh_of (Some f) = record { peer = f.peer; asked = asked_of f.asked; stage = Waits } ∷ []
 
--- It is the last call or lookup that was made.
+-- It is the last call or lookup that was made, and numbers begin at 1.
 abbrev pub IsFresh : ℕ → Request → Type 0
-IsFresh made r = (call_number r.asked ≡ made ∷ []) × IsNamed r.asked
+IsFresh made r = (call_number r.asked ≡ made ∷ []) × IsNamed r.asked × (1 ≤ made)
 
 -- ---- lines
 

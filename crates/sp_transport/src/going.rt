@@ -36,9 +36,10 @@ impl Transport {
         ensures rows { KeepsOtherRows peer.now self.old self.new }
     {
         self.peers.wait_reserved(peer, asked);
-        if self.connections.dial_reserved(peer) {
-            self.outputs.say_reserved(Output::Dial(*peer));
+        if !self.connections.dial_reserved(peer) {
+            return;
         }
+        self.outputs.say_reserved(Output::Dial(*peer));
     }
 
     /// Sends a call or lookup to a peer, on the connection that was dialled to it and on which its Hello came.
@@ -63,12 +64,13 @@ impl Transport {
                 kind,
                 message,
             } => {
-                let asker = Asker::Call { task, lent, kind };
-                self.peers.call_reserved(peer, number, asker);
+                self.peers
+                    .call_reserved(peer, number, Asker::Call { task, lent, kind });
                 self.outputs.send_reserved(turn, conn, message);
             }
             Asked::Lookup { number, task, name } => {
-                self.peers.call_reserved(peer, number, Asker::Lookup { task });
+                self.peers
+                    .call_reserved(peer, number, Asker::Lookup { task });
                 self.outputs
                     .send_reserved(turn, conn, Message::Lookup { number, name });
             }

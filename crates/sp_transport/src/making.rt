@@ -1,10 +1,11 @@
 //! The calls that an event makes: its call or lookup, and the dirty and clean calls that are due.
 
-ghost use Rattle.std.specs.Prelude.{◌≡◌, ◌<◌, ◌≤◌, ◌+◌, ◌^◌, ℕ, List, [], ◌∷◌, None, Some, IfSome};
+ghost use Rattle.std.specs.Prelude.{◌≡◌, ◌<◌, ◌≤◌, ◌+◌, ◌^◌, ℕ, List, [], ◌∷◌};
 ghost use Rattle.dgc_client.specs.DueCalls.{HasRoomFor, calls_in};
 ghost use Rattle.dgc_client.specs.Groups as groups;
 ghost use Rattle.dgc_client.specs.Table as client;
-ghost use Rattle.sp_rules.specs.State.{State};
+ghost use Rattle.sp_rules.specs.Laws.{AllOf};
+ghost use Rattle.sp_rules.specs.State.{Request, State};
 ghost use Rattle.sp_requests.specs.Asking.{IsNamed, asked_of};
 
 use crate::{Fresh, Transport};
@@ -32,9 +33,9 @@ impl Transport {
     pub fn take_fresh(&mut self) -> Option<Fresh>
         ensures call { (s : State) → IsTransport s self.old → fresh_of result ≡ s.fresh }
         ensures taken { (s : State) → IsTransport s self.old → IsTransport (take_fresh s) self.new }
-        ensures named { IfSome result (λ call. (s : State) → IsTransport s self.old → IsNamed (asked_of call.asked)) }
-        ensures out { IfSome result (λ call. (s : State) → IsTransport s self.old → AreNextOut (take_fresh s) call.peer (call_number (asked_of call.asked))) }
-        ensures waits { IfSome result (λ call. (s : State) → IsTransport s self.old → AreNextWaiting (take_fresh s) (call_number (asked_of call.asked))) }
+        ensures named { (s : State) → IsTransport s self.old → AllOf (λ (r : Request). IsNamed r.asked) s.fresh }
+        ensures out { (s : State) → IsTransport s self.old → AllOf (λ (r : Request). AreNextOut (take_fresh s) r.peer (call_number r.asked)) s.fresh }
+        ensures waits { (s : State) → IsTransport s self.old → AllOf (λ (r : Request). AreNextWaiting (take_fresh s) (call_number r.asked)) s.fresh }
         ensures rooms { Spends 0 0 0 0 self.old self.new }
         ensures rows { KeepsRows self.old self.new }
     {

@@ -106,12 +106,22 @@ impl Transport {
     pub fn hello_came(&self, peer: &Uuid) -> Option<u64>
         ensures { (s : State) → IsTransport s self.now → result ≡ hello_came (connection_to s peer.now) }
     {
-        match self.connections.link(peer)? {
-            Link::Dialling => None,
-            Link::Open(conn) => {
-                let _ = self.connections.get(conn)?.peer?;
-                Some(conn)
-            }
+        match self.connections.link(peer) {
+            Some(Link::Open(conn)) => self.greeted_on(conn),
+            Some(Link::Dialling) => None,
+            None => None,
+        }
+    }
+
+    // The number of a connection, if a Hello has come on it.
+    fn greeted_on(&self, conn: u64) -> Option<u64>
+        ensures { (s : State) → IsTransport s self.now → result ≡ hello_came (connection_at s conn) }
+    {
+        let connection = self.connections.get(conn)?;
+        if connection.peer.is_some() {
+            Some(conn)
+        } else {
+            None
         }
     }
 }

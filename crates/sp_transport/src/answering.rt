@@ -1,0 +1,120 @@
+//! Answers as they come: to calls and lookups, and to dirty and clean calls.
+
+ghost use Rattle.std.specs.Prelude.{◌≡◌, ◌<◌, ◌+◌, ℕ, None, Some, find, option_and_then};
+ghost use Rattle.dgc_client.specs.History.Event.{CleanAnswered, CleanFailed, DirtyAnswered, DirtyFailed};
+ghost use Rattle.sp_rules.specs.Frames.{tells_on};
+ghost use Rattle.sp_rules.specs.ParkedFrames.{is_asked_on, is_call_on, remove_requests};
+ghost use Rattle.sp_rules.specs.State.{Connection as Row, State, connection_at};
+ghost use Rattle.uuid.specs.declared.Uuid.{Uuid as Peer};
+ghost use Rattle.sp_requests.specs.Asking.{told};
+
+use crate::Transport;
+use dgc_client::Group;
+use net_message::Message;
+use sp_outputs::Turn;
+use sp_requests::{Asker, OutGroup};
+
+impl Transport {
+    ghost use Rattle.sp_transport.specs.Answers.{acknowledge, asker_in, park_answer, tell_leases};
+    ghost use Rattle.sp_transport.specs.Rooms.{KeepsRows, Spends, note_room};
+    ghost use Rattle.sp_transport.specs.Transports.{IsTransport};
+
+    /// Who asks by the call or lookup of this number that is out on a connection and has no answer, if there
+    /// is one. This space dialled the connection.
+    pub fn asked(&self, conn: u64, number: u64) -> Option<Asker>
+        ensures { (s : State) (c : Row) (peer : Peer) → IsTransport s self.now → connection_at s conn ≡ Some c → c.dialled ≡ Some peer → result ≡ option_and_then asker_in (find (is_asked_on conn number) s.requests) }
+    {
+        let peer = self.connections.get(conn)?.dialled?;
+        Some(self.peers.asked(&peer, number)?.asker)
+    }
+
+    /// Notes that the result of a call or lookup has come and is parked.
+    pub fn answer(&mut self, conn: u64, number: u64)
+        ensures answered { (s : State) (c : Row) (peer : Peer) → IsTransport s self.old → connection_at s conn ≡ Some c → c.dialled ≡ Some peer → IsTransport (park_answer conn number s) self.new }
+        ensures rooms { Spends 0 0 0 0 self.old self.new }
+        ensures rows { KeepsRows self.old self.new }
+    {
+        if let Some(connection) = self.connections.get(conn) {
+            if let Some(peer) = connection.dialled {
+                self.peers.answer(&peer, number);
+            }
+        }
+    }
+
+    /// Lets a call or lookup go that is out on a connection, answered or not. Returns who asked by it, if it
+    /// was out.
+    pub fn take_call(&mut self, conn: u64, number: u64) -> Option<Asker>
+        ensures asker { (s : State) (c : Row) (peer : Peer) → IsTransport s self.old → connection_at s conn ≡ Some c → c.dialled ≡ Some peer → result ≡ option_and_then asker_in (find (is_call_on conn number) s.requests) }
+        ensures taken { (s : State) (c : Row) (peer : Peer) → IsTransport s self.old → connection_at s conn ≡ Some c → c.dialled ≡ Some peer → IsTransport (remove_requests (is_call_on conn number) s) self.new }
+        ensures rooms { Spends 0 0 0 0 self.old self.new }
+        ensures rows { KeepsRows self.old self.new }
+    {
+        let peer = self.connections.get(conn)?.dialled?;
+        Some(self.peers.take_call(&peer, number)?.asker)
+    }
+
+    /// Lets a call or lookup go whose result has come, if it is out on the connection, and sends its Ack.
+    /// Returns who asked by it. It takes no memory: the caller owes [room](Transport::reserve_notes) for an
+    /// output.
+    pub fn acknowledge_reserved(&mut self, conn: u64, number: u64) -> Option<Asker>
+        requires { 0 < note_room self.old }
+        ensures asker { (s : State) (c : Row) (peer : Peer) → IsTransport s self.old → connection_at s conn ≡ Some c → c.dialled ≡ Some peer → result ≡ option_and_then asker_in (find (is_call_on conn number) s.requests) }
+        ensures acknowledged { (s : State) (c : Row) (peer : Peer) → IsTransport s self.old → connection_at s conn ≡ Some c → c.dialled ≡ Some peer → IsTransport (acknowledge conn number s) self.new }
+        ensures rooms { Spends 0 0 0 1 self.old self.new }
+        ensures rows { KeepsRows self.old self.new }
+    {
+        let peer = self.connections.get(conn)?.dialled?;
+        let call = self.peers.acknowledge(&peer, number)?;
+        self.outputs
+            .send_reserved(Turn::Acks, conn, Message::Ack { number });
+        Some(call.asker)
+    }
+
+    /// Lets the dirty calls (or the clean calls) go that are out on a connection under this sequence number.
+    /// Returns them, if they were out.
+    pub fn take_group(&mut self, conn: u64, sequence: u64, dirty: bool) -> Option<OutGroup>
+        ensures group { (s : State) (c : Row) (peer : Peer) → IsTransport s self.old → connection_at s conn ≡ Some c → c.dialled ≡ Some peer → result ≡ option_and_then told (find (tells_on dirty conn sequence) s.requests) }
+        ensures taken { (s : State) (c : Row) (peer : Peer) → IsTransport s self.old → connection_at s conn ≡ Some c → c.dialled ≡ Some peer → IsTransport (remove_requests (tells_on dirty conn sequence) s) self.new }
+        ensures rooms { Spends 0 0 0 0 self.old self.new }
+        ensures rows { KeepsRows self.old self.new }
+    {
+        let peer = self.connections.get(conn)?.dialled?;
+        self.peers.take_group(&peer, sequence, dirty)
+    }
+
+    /// Notes that the dirty call of a group was answered by a lease for this period, in milliseconds.
+    pub fn dirty_answered(&mut self, group: &Group, call: u64, period: u64)
+        ensures told { (s : State) → IsTransport s self.old → IsTransport (tell_leases group.now (DirtyAnswered call period) s) self.new }
+        ensures rooms { Spends 0 0 0 0 self.old self.new }
+        ensures rows { KeepsRows self.old self.new }
+    {
+        self.leases.dirty_answered(group, call, period);
+    }
+
+    /// Notes that the dirty call of a group failed.
+    pub fn dirty_failed(&mut self, group: &Group, call: u64)
+        ensures told { (s : State) → IsTransport s self.old → IsTransport (tell_leases group.now (DirtyFailed call) s) self.new }
+        ensures rooms { Spends 0 0 0 0 self.old self.new }
+        ensures rows { KeepsRows self.old self.new }
+    {
+        self.leases.dirty_failed(group, call);
+    }
+
+    /// Notes that the clean call of a group was answered.
+    pub fn clean_answered(&mut self, group: &Group, call: u64)
+        ensures told { (s : State) → IsTransport s self.old → IsTransport (tell_leases group.now (CleanAnswered call) s) self.new }
+        ensures rooms { Spends 0 0 0 0 self.old self.new }
+        ensures rows { KeepsRows self.old self.new }
+    {
+        self.leases.clean_answered(group, call);
+    }
+
+    /// Notes that the clean call of a group failed.
+    pub fn clean_failed(&mut self, group: &Group, call: u64)
+        ensures told { (s : State) → IsTransport s self.old → IsTransport (tell_leases group.now (CleanFailed call) s) self.new }
+        ensures rooms { Spends 0 0 0 0 self.old self.new }
+        ensures rows { KeepsRows self.old self.new }
+    {
+        self.leases.clean_failed(group, call);
+    }
+}
