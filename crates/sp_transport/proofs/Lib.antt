@@ -7,3 +7,8 @@ pub mod MakingLemmas
 pub mod DialLemmas
 pub mod GoingLemmas
 pub mod ViewLemmas
+pub mod RowLemmas
+pub mod OpeningLemmas
+pub mod DialledLemmas
+pub mod AnsweringLemmas
+pub mod EndingLemmas

@@ -111,7 +111,7 @@ open-seen (Some c) = refl
 -- a frame on a connection that is open, and on one that is not
 pub send-open : (turn : Turn) (conn : ℕ) (m : Message) (s : State) → is_open s conn ≡ true → record s { notes = s.notes ++ Sends turn conn m ∷ [] } ≡ send turn conn m s
 unfolding send
-send-open turn conn m s open = sym (ap (λ b. cond b (record s { notes = s.notes ++ Sends turn conn m ∷ [] }) s) open)
+send-open turn conn m s is = sym (ap (λ b. cond b (record s { notes = s.notes ++ Sends turn conn m ∷ [] }) s) is)
 
 pub send-shut : (turn : Turn) (conn : ℕ) (m : Message) (s : State) → is_open s conn ≡ false → s ≡ send turn conn m s
 unfolding send
@@ -189,7 +189,7 @@ pub record HasLine (s : State) (peer : Uuid) (conn : ℕ) : Type 0 where
   pub there : dialled_to (said s) peer ≡ Some row
   pub number : row.number ≡ conn
   pub greeted : is_some row.peer ≡ true
-  pub open : is_open s conn ≡ true
+  pub stands : is_open s conn ≡ true
   pub hello : is_some (hello_came (dialled_to s.connections peer)) ≡ true
 
 pub line-of : (s : State) (t : Transport) (peer : Uuid) (conn : ℕ) → hello_came (connection_to s peer) ≡ Some conn → IsTransport s t → HasLine s peer conn
@@ -200,7 +200,7 @@ line-of s t peer conn hello a =
       there = g.there;
       number = g.number;
       greeted = g.peer;
-      open = ap is_some (subst (λ (n : ℕ). numbered n s.connections ≡ Some h.row) h.number (line-number s.connections peer h.row a.connections.numbered_once h.there));
+      stands = ap is_some (subst (λ (n : ℕ). numbered n s.connections ≡ Some h.row) h.number (line-number s.connections peer h.row a.connections.numbered_once h.there));
       hello = ap is_some hello;
     }
 
@@ -209,7 +209,7 @@ pub now-called : (s : State) (t : Transport) (turn : Turn) (conn : ℕ) (peer : 
     → AreNextOut s peer (call_number asked) → CallsMayGo turn s → AreAsked (sent_on l.row.number m (said s)) (s.requests ++ record { peer = peer; asked = asked; stage = Out l.row.number 0 } ∷ []) peers → notes_of outputs ≡ notes_of t.outputs ++ Sends turn conn m ∷ [] → IsTransport s t
     → IsTransport (send turn conn m (add_request (record { peer = peer; asked = asked; stage = Out conn 0 }) s)) (record t { peers = peers; outputs = outputs })
 now-called s t turn conn peer asked n m peers outputs l no number its nil next may out e a =
-    subst (λ (u : State). IsTransport u (record t { peers = peers; outputs = outputs })) (send-open turn conn m (add_request r s) l.open) (record {
+    subst (λ (u : State). IsTransport u (record t { peers = peers; outputs = outputs })) (send-open turn conn m (add_request r s) l.stands) (record {
       leases = a.leases;
       connections = a.connections;
       asked = subst (λ (cs : List Connection). AreAsked cs (s.requests ++ r ∷ []) peers) (sym (recorded-sent turn conn m s.notes s.connections))
@@ -259,7 +259,7 @@ pub now-told : (s : State) (t : Transport) (turn : Turn) (conn call : ℕ) (part
 unfolding part_goes_out
 now-told s t turn conn call part sequence leases peers outputs l no number may after out e a =
     subst (λ (k : ℕ). IsTransport (send turn conn (group_frame part.kind k part.ids) (add_request (record { peer = part.peer; asked = Tells call part; stage = Out conn k }) told)) new) number
-    (subst (λ (u : State). IsTransport u new) (send-open turn conn m (add_request r told) l.open) (record {
+    (subst (λ (u : State). IsTransport u new) (send-open turn conn m (add_request r told) l.stands) (record {
       leases = after;
       connections = a.connections;
       asked = subst (λ (cs : List Connection). AreAsked cs (s.requests ++ r ∷ []) peers) (sym (recorded-sent turn conn m s.notes s.connections))

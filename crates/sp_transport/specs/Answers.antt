@@ -1,18 +1,17 @@
 -- What an answer that comes finds, and what the end of all that is asked of a peer tells. (This project's own; dirty and clean calls are the Java RMI specification's, 9.1, exceptions its appendix A.)
-use Rattle.std.specs.Prelude.{◌≡◌, ℕ, ◌==◌, List, [], Option, None, map, find, length}
+use Rattle.std.specs.Prelude.{◌≡◌, ℕ, ◌==◌, true, List, Option, Some, map, find}
 use Rattle.std.specs.List.{flat_map, list_any}
 use Rattle.dgc_client.specs.declared.groups.Group.{Group}
 use Rattle.dgc_client.specs.History as lease_events
 use Rattle.dgc_client.specs.Table as client
 use Rattle.net_message.specs.declared.message.Message.TheVariants as message
 use Rattle.uuid.specs.declared.Uuid.{Uuid}
-use Rattle.sp_rules.specs.Endings.{without_connection}
 use Rattle.sp_rules.specs.Events.{Acks}
 use Rattle.sp_rules.specs.Frames.{answered_on}
+use Rattle.sp_rules.specs.Lines.{dialled_to}
 use Rattle.sp_rules.specs.Lists.{with_some}
-use Rattle.sp_rules.specs.OwnEvents.{dialled_no_more}
 use Rattle.sp_rules.specs.ParkedFrames.{is_call_on, remove_requests}
-use Rattle.sp_rules.specs.State.{State, Request, send}
+use Rattle.sp_rules.specs.State.{State, Connection, Request, is_open, send}
 use Rattle.sp_requests.specs.Asking.{asks_by, first_of}
 use Rattle.sp_requests.specs.Ends.{ended_group}
 use Rattle.sp_requests.specs.declared.asked.Asker.{Asker}
@@ -20,11 +19,19 @@ use Rattle.sp_requests.specs.declared.ended.Ended.{Ended}
 use Rattle.sp_requests.specs.declared.ended.EndedCall.{EndedCall}
 use Rattle.sp_requests.specs.declared.ended.Ending.{Ending}
 use Rattle.sp_peers.specs.AllAsked as asked
+use Rattle.sp_transport.specs.Said.{said}
 use Rattle.sp_transport.specs.declared.transport.Transport.{Transport}
 
 -- who asks by a request, if it is a call or lookup
 abbrev pub asker_in : Request → Option Asker
 asker_in r = first_of (asks_by r.asked)
+
+-- The connection of a number was dialled to a peer, and is open.
+pub record IsDialled (s : State) (peer : Uuid) (conn : ℕ) : Type 0 where
+  pub row : Connection
+  pub there : dialled_to (said s) peer ≡ Some row
+  pub number : row.number ≡ conn
+  pub stands : is_open s conn ≡ true
 
 -- ---- what an event makes of a state, step by step
 

@@ -3,3 +3,4 @@ pub mod Transports
 pub mod Rooms
 pub mod Asking
 pub mod Opening
+pub mod Answers

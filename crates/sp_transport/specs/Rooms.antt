@@ -28,12 +28,12 @@ note_room t = outputs.room t.outputs
 abbrev pub HasRow : Uuid → ℕ → ℕ → ℕ → Transport → Type 0
 HasRow peer waiting calls groups t = asked.HasRoom peer waiting calls groups t.peers
 
--- The room of each kind is smaller by this much at most: for references, connections, peers to be dialled, and outputs.
-pub record Spends (references connections peers notes : ℕ) (old new : Transport) : Type 0 where
-  pub references : lease_room old ≤ lease_room new + references
-  pub connections : connection_room old ≤ connection_room new + connections
-  pub peers : peer_room old ≤ peer_room new + peers
-  pub notes : note_room old ≤ note_room new + notes
+-- The room of each kind is smaller by this much at most: for references that are held, connections that open, peers that are dialled, and outputs.
+pub record Spends (held opened dialled said : ℕ) (old new : Transport) : Type 0 where
+  pub references : lease_room old ≤ lease_room new + held
+  pub connections : connection_room old ≤ connection_room new + opened
+  pub peers : peer_room old ≤ peer_room new + dialled
+  pub notes : note_room old ≤ note_room new + said
 
 -- The rows of all peers have the room that they had.
 abbrev pub KeepsRows : Transport → Transport → Type 0

@@ -1,31 +1,45 @@
 //! Answers as they come: to calls and lookups, and to dirty and clean calls.
 
-ghost use Rattle.std.specs.Prelude.{◌≡◌, ◌<◌, ◌+◌, ℕ, None, Some, find, option_and_then};
+ghost use Rattle.std.specs.Prelude.{◌≡◌, ◌<◌, ◌+◌, ℕ, None, Some, find, option_and_then, option_map};
 ghost use Rattle.dgc_client.specs.History.Event.{CleanAnswered, CleanFailed, DirtyAnswered, DirtyFailed};
 ghost use Rattle.sp_rules.specs.Frames.{tells_on};
 ghost use Rattle.sp_rules.specs.ParkedFrames.{is_asked_on, is_call_on, remove_requests};
 ghost use Rattle.sp_rules.specs.State.{Connection as Row, State, connection_at};
 ghost use Rattle.uuid.specs.declared.Uuid.{Uuid as Peer};
 ghost use Rattle.sp_requests.specs.Asking.{told};
+ghost use Rattle.sp_requests.specs.declared.asked.OutCall.{OutCall as Out};
 
 use crate::Transport;
 use dgc_client::Group;
 use net_message::Message;
 use sp_outputs::Turn;
-use sp_requests::{Asker, OutGroup};
+use sp_requests::{Asker, OutCall, OutGroup};
+use space_ids::Uuid;
 
 impl Transport {
-    ghost use Rattle.sp_transport.specs.Answers.{acknowledge, asker_in, park_answer, tell_leases};
+    ghost use Rattle.sp_transport.specs.Answers.{IsDialled, acknowledge, asker_in, park_answer, tell_leases};
     ghost use Rattle.sp_transport.specs.Rooms.{KeepsRows, Spends, note_room};
     ghost use Rattle.sp_transport.specs.Transports.{IsTransport};
+
+    // The peer that this space dialled by a connection, if it is open and did.
+    fn dialled(&self, conn: u64) -> Option<Uuid>
+        ensures { (s : State) → IsTransport s self.now → result ≡ option_and_then (λ (c : Row). c.dialled) (connection_at s conn) }
+    {
+        match self.connections.get(conn) {
+            Some(connection) => connection.dialled,
+            None => None,
+        }
+    }
 
     /// Who asks by the call or lookup of this number that is out on a connection and has no answer, if there
     /// is one. This space dialled the connection.
     pub fn asked(&self, conn: u64, number: u64) -> Option<Asker>
         ensures { (s : State) (c : Row) (peer : Peer) → IsTransport s self.now → connection_at s conn ≡ Some c → c.dialled ≡ Some peer → result ≡ option_and_then asker_in (find (is_asked_on conn number) s.requests) }
     {
-        let peer = self.connections.get(conn)?.dialled?;
-        Some(self.peers.asked(&peer, number)?.asker)
+        match self.dialled(conn) {
+            Some(peer) => asker_of(self.peers.asked(&peer, number)),
+            None => None,
+        }
     }
 
     /// Notes that the result of a call or lookup has come and is parked.
@@ -34,10 +48,9 @@ impl Transport {
         ensures rooms { Spends 0 0 0 0 self.old self.new }
         ensures rows { KeepsRows self.old self.new }
     {
-        if let Some(connection) = self.connections.get(conn) {
-            if let Some(peer) = connection.dialled {
-                self.peers.answer(&peer, number);
-            }
+        match self.dialled(conn) {
+            Some(peer) => self.peers.answer(&peer, number),
+            None => {}
         }
     }
 
@@ -49,8 +62,10 @@ impl Transport {
         ensures rooms { Spends 0 0 0 0 self.old self.new }
         ensures rows { KeepsRows self.old self.new }
     {
-        let peer = self.connections.get(conn)?.dialled?;
-        Some(self.peers.take_call(&peer, number)?.asker)
+        match self.dialled(conn) {
+            Some(peer) => asker_of(self.peers.take_call(&peer, number)),
+            None => None,
+        }
     }
 
     /// Lets a call or lookup go whose result has come, if it is out on the connection, and sends its Ack.
@@ -63,11 +78,29 @@ impl Transport {
         ensures rooms { Spends 0 0 0 1 self.old self.new }
         ensures rows { KeepsRows self.old self.new }
     {
-        let peer = self.connections.get(conn)?.dialled?;
-        let call = self.peers.acknowledge(&peer, number)?;
-        self.outputs
-            .send_reserved(Turn::Acks, conn, Message::Ack { number });
-        Some(call.asker)
+        match self.dialled(conn) {
+            Some(peer) => self.acknowledge_of(&peer, conn, number),
+            None => None,
+        }
+    }
+
+    // Lets a call or lookup go whose result has come, if it is out to the peer, and sends its Ack.
+    fn acknowledge_of(&mut self, peer: &Uuid, conn: u64, number: u64) -> Option<Asker>
+        requires { 0 < note_room self.old }
+        ensures asker { (s : State) → IsTransport s self.old → IsDialled s peer.now conn → result ≡ option_and_then asker_in (find (is_call_on conn number) s.requests) }
+        ensures acknowledged { (s : State) → IsTransport s self.old → IsDialled s peer.now conn → IsTransport (acknowledge conn number s) self.new }
+        ensures rooms { Spends 0 0 0 1 self.old self.new }
+        ensures rows { KeepsRows self.old self.new }
+    {
+        match self.peers.call(peer, number) {
+            Some(call) => {
+                let _ = self.peers.acknowledge(peer, number);
+                self.outputs
+                    .send_reserved(Turn::Acks, conn, Message::Ack { number });
+                Some(call.asker)
+            }
+            None => None,
+        }
     }
 
     /// Lets the dirty calls (or the clean calls) go that are out on a connection under this sequence number.
@@ -78,8 +111,10 @@ impl Transport {
         ensures rooms { Spends 0 0 0 0 self.old self.new }
         ensures rows { KeepsRows self.old self.new }
     {
-        let peer = self.connections.get(conn)?.dialled?;
-        self.peers.take_group(&peer, sequence, dirty)
+        match self.dialled(conn) {
+            Some(peer) => self.peers.take_group(&peer, sequence, dirty),
+            None => None,
+        }
     }
 
     /// Notes that the dirty call of a group was answered by a lease for this period, in milliseconds.
@@ -116,5 +151,15 @@ impl Transport {
         ensures rows { KeepsRows self.old self.new }
     {
         self.leases.clean_failed(group, call);
+    }
+}
+
+// Who asks by a call or lookup, if there is one.
+fn asker_of(call: Option<OutCall>) -> Option<Asker>
+    ensures { result ≡ option_map (λ (c : Out). c.asker) call }
+{
+    match call {
+        Some(call) => Some(call.asker),
+        None => None,
     }
 }

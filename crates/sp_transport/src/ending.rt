@@ -23,7 +23,7 @@ impl Transport {
     /// not sent whole. The connection ends, or the peer refuses and has none.
     pub fn ending(&self, peer: &Uuid, unsent: u64) -> Result<Ending, AllocError>
         ensures ending { IfOk result (λ ending. (s : State) (c : Row) (conn : ℕ) → IsTransport s self.now → s.notes ≡ [] → connection_at s conn ≡ Some c → c.dialled ≡ Some peer.now → IsEnding unsent (filter (is_of_connection conn c.dialled) s.requests) c.sent ending) }
-        ensures refused { IfOk result (λ ending. (s : State) → IsTransport s self.now → is_dialling s peer.now ≡ true → IsEnding unsent (filter (waits_for peer.now) s.requests) [] ending) }
+        ensures refused { IfOk result (λ ending. (s : State) → IsTransport s self.now → s.notes ≡ [] → is_dialling s peer.now ≡ true → IsEnding unsent (filter (waits_for peer.now) s.requests) [] ending) }
         ensures room { IfOk result (λ ending. HasEndRoom peer.now ending self.now) }
     {
         self.peers.ending(peer, unsent, self.alloc)
@@ -56,7 +56,7 @@ impl Transport {
     /// in which it was made. It takes no memory: [`Transport::ending`] made what it needs.
     pub fn refuse_reserved(&mut self, peer: &Uuid, ending: Ending) -> Ended
         requires { HasEndRoom peer.now ending self.old }
-        ensures ended { (s : State) (unsent : ℕ) → IsTransport s self.old → is_dialling s peer.now ≡ true → IsEnding unsent (filter (waits_for peer.now) s.requests) [] ending → AreEnded [] (filter (waits_for peer.now) s.requests) result }
+        ensures ended { (s : State) (unsent : ℕ) → IsTransport s self.old → s.notes ≡ [] → is_dialling s peer.now ≡ true → IsEnding unsent (filter (waits_for peer.now) s.requests) [] ending → AreEnded [] (filter (waits_for peer.now) s.requests) result }
         ensures refused { (s : State) → IsTransport s self.old → s.notes ≡ [] → is_dialling s peer.now ≡ true → IsTransport (remove_requests (waits_for peer.now) (dialled_no_more (Some peer.now) s)) self.new }
         ensures rooms { Spends 0 0 0 0 self.old self.new }
         ensures rows { KeepsOtherRows peer.now self.old self.new }

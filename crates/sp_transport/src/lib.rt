@@ -7,6 +7,8 @@
 
 pub use transport::{Fresh, Transport};
 
+mod answering;
+mod ending;
 mod going;
 mod holders;
 mod making;

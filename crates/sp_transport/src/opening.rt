@@ -29,7 +29,7 @@ impl Transport {
     pub fn accept_reserved(&mut self, conn: u64, hello: Message)
         requires connection { 0 < connection_room self.old }
         requires notes { 0 < note_room self.old }
-        ensures opened { (s : State) → IsTransport s self.old → s.notes ≡ [] → connection_at s conn ≡ None → IsTransport (send Hellos conn hello (dialled_no_more None (add_connection conn None s))) self.new }
+        ensures opened { (s : State) → IsTransport s self.old → s.notes ≡ [] → connection_at s conn ≡ None → IsHello hello → IsTransport (send Hellos conn hello (dialled_no_more None (add_connection conn None s))) self.new }
         ensures rooms { Spends 0 1 0 1 self.old self.new }
         ensures rows { KeepsRows self.old self.new }
     {

@@ -1,6 +1,6 @@
 //! A space's side of the transport, and what is seen of it.
 
-ghost use Rattle.std.specs.Prelude.{◌≡◌, ℕ, None, Some, option_map, option_and_then, length};
+ghost use Rattle.std.specs.Prelude.{◌≡◌, ℕ, None, Some, option_map, if◌then◌else◌};
 ghost use Rattle.dgc_client.specs.Table as client;
 ghost use Rattle.sp_rules.specs.Holders.{lease_now};
 ghost use Rattle.sp_rules.specs.Requests.{hello_came};
@@ -117,11 +117,16 @@ impl Transport {
     fn greeted_on(&self, conn: u64) -> Option<u64>
         ensures { (s : State) → IsTransport s self.now → result ≡ hello_came (connection_at s conn) }
     {
-        let connection = self.connections.get(conn)?;
-        if connection.peer.is_some() {
-            Some(conn)
-        } else {
-            None
+        match self.connections.get(conn) {
+            Some(connection) => number_if(conn, connection.peer.is_some()),
+            None => None,
         }
     }
+}
+
+// The number, if this holds.
+fn number_if(conn: u64, holds: bool) -> Option<u64>
+    ensures { result ≡ (if holds then Some conn else None) }
+{
+    if holds { Some(conn) } else { None }
 }

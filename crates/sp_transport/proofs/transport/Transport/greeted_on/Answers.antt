@@ -1,14 +1,9 @@
+use Rattle.std.proofs.Common.{sym, ◌∙◌}
 use Rattle.sp_transport.proofs.ViewLemmas.{hello-seen, hello-unseen}
-use Rattle.std.proofs.Common.{true, false, sym, ◌∙◌}
 use Rattle.sp_transport.proofs.transport.Transport.greeted_on.Goals as goal
 
-pub returns-in_err-connection : goal.returns-in_err-connection
-returns-in_err-connection c = λ s a. hello-unseen c.args.conn s.connections (c.in_err-connection.ensures s.connections s.dialling a.connections)
+pub returns-in-None : goal.returns-in-None
+returns-in-None c = λ s a. hello-unseen c.args.conn s.connections (c.in-None.ensures s.connections s.dialling a.connections)
 
-pub returns-then-is_some : goal.returns-then-is_some
-returns-then-is_some c = λ s a.
-    hello-seen c.args.conn s.connections c.in_ok-connection.connection true (c.in_ok-connection.ensures s.connections s.dialling a.connections) (sym c.is_some.ensures ∙ c.if-is_some.true)
-
-pub returns-else-is_some : goal.returns-else-is_some
-returns-else-is_some c = λ s a.
-    hello-seen c.args.conn s.connections c.in_ok-connection.connection false (c.in_ok-connection.ensures s.connections s.dialling a.connections) (sym c.is_some.ensures ∙ c.if-is_some.false)
+pub returns-in-Some : goal.returns-in-Some
+returns-in-Some c = λ s a. c.number_if.ensures ∙ hello-seen c.args.conn s.connections c.in-Some.connection c.is_some.result (c.in-Some.ensures s.connections s.dialling a.connections) (sym c.is_some.ensures)
