@@ -14,7 +14,7 @@ turned false = refl
 
 -- whether a peer is known, by whether it is no news
 pub known-of : (known news b : Bool) → news ≡ not known → not news ≡ b → known ≡ b
-known-of known news b is no = sym (turned known) ∙ (sym (ap not is) ∙ no)
+known-of known news b is isnt = sym (turned known) ∙ (sym (ap not is) ∙ isnt)
 
 pub known-dialled : (peer : Uuid) (rows : List Connection) (dialling : List Uuid) → (is_some (to_peer peer rows) || is_dialled peer dialling) ≡ true → dialled_once peer rows dialling ≡ dialling
 known-dialled peer rows dialling known = ap (λ b. cond b dialling (dialling ++ peer ∷ [])) known
