@@ -92,6 +92,7 @@ lines-left s cs dialling is a found same = record {
 -- one that a peer dialled
 pub now-closed : (s : State) (t : Transport) (conn : ℕ) (c : Connection) (connections : Connections) → s.notes ≡ [] → connection_at s conn ≡ Some c → c.dialled ≡ None → AreConnections (without conn s.connections) s.dialling connections → IsTransport s t
     → IsTransport (without_connection conn s) (record t { connections = connections })
+unfolding in_order
 now-closed s t conn c connections none at its links a = record {
   leases = a.leases;
   connections = links;
@@ -110,7 +111,6 @@ now-closed s t conn c connections none at its links a = record {
     first = lines-first s t none a
 
     left : AreLines (record (line_parts s) { connections = without conn s.connections; notes = [] })
-    unfolding in_order
     left = record {
       sent = λ q d e. first.sent q d (sym (same q) ∙ e);
       waiting = all-weaken (WaitsForHello s.connections s.dialling) (WaitsForHello (without conn s.connections) s.dialling) s.requests (λ r w is. let x = w is in (ap (λ o. is_some o || list_any (bytes_eq r.peer) s.dialling) (same r.peer) ∙ x.0, ap hello_came (same r.peer) ∙ x.1)) first.waiting;

@@ -12,3 +12,4 @@ pub mod OpeningLemmas
 pub mod DialledLemmas
 pub mod AnsweringLemmas
 pub mod EndingLemmas
+pub mod ConcludingLemmas

@@ -262,6 +262,14 @@ found-hello (Some c) (Some d) a = ap (λ (p : Option Uuid). cond (is_some p) (So
 pub hello-noted : (notes : List Note) (cs : List Connection) (q : Uuid) → hello_came (dialled_to cs q) ≡ hello_came (dialled_to (recorded cs notes) q)
 hello-noted notes cs q = found-hello (dialled_to cs q) (dialled_to (recorded cs notes) q) (rows-dialled cs (recorded cs notes) q (rows-noted notes cs))
 
+-- nor does whether a connection was dialled to it
+pub none-noted : (notes : List Note) (cs : List Connection) (q : Uuid) → dialled_to cs q ≡ None → dialled_to (recorded cs notes) q ≡ None
+none-noted notes cs q e = pick (dialled_to (recorded cs notes) q) (subst (λ (o : Option Connection). AreSameFound o (dialled_to (recorded cs notes) q)) e (rows-dialled cs (recorded cs notes) q (rows-noted notes cs)))
+  where
+    pick : (o : Option Connection) → AreSameFound None o → o ≡ None
+    pick None same = refl
+    pick (Some c) same = absurd same
+
 -- The connection that was dialled to a peer has this number, and the peer's Hello came on it.
 pub record IsGreeted (n : ℕ) (o : Option Connection) : Type 0 where
   pub row : Connection

@@ -8,6 +8,7 @@
 pub use transport::{Fresh, Transport};
 
 mod answering;
+mod concluding;
 mod ending;
 mod going;
 mod holders;
