@@ -1,12 +1,11 @@
 -- Answers as they come: which call is found, and what becomes of a transport as it goes.
-use Rattle.std.proofs.Common.{◌≡◌, ℕ, ◌+◌, ◌≤◌, Bool, true, false, cond, List, [], ◌∷◌, ◌++◌, Option, None, Some, is_some, filter, map, refl, sym, ap, subst, ◌∙◌, true≢false, arith}
-use Rattle.std.specs.Prelude.{◌==◌, ◌&&◌, ◌||◌, not, find, option_map, option_and_then}
-use Rattle.std.specs.List.{flat_map, list_any}
+use Rattle.std.proofs.Common.{◌≡◌, ℕ, Bool, true, false, cond, List, [], ◌∷◌, ◌++◌, Option, None, Some, is_some, filter, map, refl, sym, ap, subst, ◌∙◌, true≢false, arith}
+use Rattle.std.specs.Prelude.{◌&&◌, ◌||◌, not, find, option_map, option_and_then}
+use Rattle.std.specs.List.{list_any}
 use Rattle.std.specs.Str.{bytes_eq}
 use Rattle.net_message.specs.declared.message.Message.{Message}
 use Rattle.net_message.specs.declared.message.Message.TheVariants as message
 use Rattle.uuid.specs.declared.Uuid.{Uuid}
-use Rattle.dgc_client.specs.Table as client
 use Rattle.sp_rules.proofs.AllLemmas.{all-map, all-more, found-is}
 use Rattle.sp_rules.specs.Endings.{call_number_in}
 use Rattle.sp_rules.specs.Events.{Acks, Note, Sends}
@@ -21,14 +20,13 @@ use Rattle.sp_rules.specs.State.{State, Connection, Request, send}
 use Rattle.sp_connections.specs.Tables.{AreNumbered}
 use Rattle.sp_requests.specs.Asking.{asks_by, call_at, first_of, sequence_in, shown}
 use Rattle.sp_requests.specs.declared.asked.OutCall.{OutCall}
-use Rattle.sp_requests.specs.declared.asked.Asker.{Asker}
 use Rattle.sp_peers.proofs.AskedLemmas.{asked-is-out, call-is-out}
 use Rattle.sp_peers.specs.AllAsked.{AreAsked, sent_on}
 use Rattle.sp_peers.specs.declared.peers.Peers.{Peers}
 use Rattle.sp_outputs.specs.Notes.{notes_of}
 use Rattle.sp_outputs.specs.declared.outputs.Outputs.{Outputs}
 use Rattle.sp_transport.specs.Answers.{IsDialled, acknowledge, asker_in, park_answer}
-use Rattle.sp_transport.specs.Said.{IsNoted, recorded, recorded_in_order, said}
+use Rattle.sp_transport.specs.Said.{IsNoted, recorded, said}
 use Rattle.sp_transport.specs.Transports.{AreLines, IsTransport, LineParts, WentAfterHello, asked_up_to, call_number, line_parts, waiting_number, waiting_numbers}
 use Rattle.sp_transport.specs.declared.transport.Transport.{Transport}
 use Rattle.sp_transport.proofs.OrderLemmas.{alike-ack, recorded-sent}
@@ -143,7 +141,7 @@ answered-numbers conn number [] = refl
 answered-numbers conn number (r ∷ rs) =
     let rest = answered-numbers conn number rs in
     let head : waiting_number (answered_on conn number r) ≡ waiting_number r = ap (λ b. cond b (call_number (answered_on conn number r).asked) []) (answered-stage conn number r (is_call_on conn number r) refl)
-        ∙ ap (λ (q : rules.Asked). cond (is_waiting r.stage) (call_number q) []) (answered-asked conn number r (is_call_on conn number r) refl) in
+    ∙ ap (λ (q : rules.Asked). cond (is_waiting r.stage) (call_number q) []) (answered-asked conn number r (is_call_on conn number r) refl) in
     ap (λ (l : List ℕ). l ++ waiting_numbers (map (answered_on conn number) rs)) head ∙ ap (λ (l : List ℕ). waiting_number r ++ l) rest
 
 lines-answered : (p : LineParts) (conn number : ℕ) → AreLines p → AreLines (record p { requests = map (answered_on conn number) p.requests })

@@ -1,6 +1,6 @@
 -- The end of an event: each connection remembers what was sent on it, in the order in which it went out.
-use Rattle.std.proofs.Common.{◌≡◌, ℕ, ◌≤◌, Bool, true, false, cond, List, [], ◌∷◌, ◌++◌, Option, None, Some, is_some, map, refl, sym, ap, subst, ◌∙◌, true≢false, arith}
-use Rattle.std.specs.Prelude.{◌==◌, ◌||◌, fold}
+use Rattle.std.proofs.Common.{◌≡◌, ℕ, ◌≤◌, Bool, true, false, cond, List, [], ◌∷◌, ◌++◌, Option, None, Some, is_some, map, refl, sym, ap, subst, ◌∙◌, true≢false}
+use Rattle.std.specs.Prelude.{◌||◌, fold}
 use Rattle.std.specs.List.{flat_map, list_any}
 use Rattle.std.specs.Str.{bytes_eq}
 use Rattle.net_message.specs.declared.message.Message.{Message}
@@ -8,27 +8,24 @@ use Rattle.uuid.specs.declared.Uuid.{Uuid}
 use Rattle.sp_rules.proofs.AllLemmas.{all-weaken}
 use Rattle.sp_rules.proofs.LineLemmas.{To}
 use Rattle.sp_rules.specs.Endings.{call_number_in}
-use Rattle.sp_rules.specs.Events.{Output, Started, Ended, Withdrawn, Denied, Send, Dial, Close, Ready, Note, in_order}
-use Rattle.sp_rules.specs.Laws.{AllOf}
+use Rattle.sp_rules.specs.Events.{Output, Started, Ended, Withdrawn, Denied, Send, Dial, Close, Ready, in_order}
 use Rattle.sp_rules.specs.Lines.{WaitsForHello, dialled_to}
 use Rattle.sp_rules.specs.Lists.{each}
 use Rattle.sp_rules.specs.Requests.{hello_came}
 use Rattle.sp_rules.specs.Space.{conclude, record_sent}
-use Rattle.sp_rules.specs.State.{State, Connection, Request, is_to}
+use Rattle.sp_rules.specs.State.{State, Connection, is_to}
 use Rattle.sp_connections.proofs.TableLemmas as tables
-use Rattle.sp_connections.specs.Tables.{AreConnections, AreNumbered}
+use Rattle.sp_connections.specs.Tables.{AreConnections}
 use Rattle.sp_connections.specs.declared.connections.Connections.{Connections}
-use Rattle.sp_requests.proofs.AlikeLemmas.{AreAlike}
-use Rattle.sp_requests.specs.Asking.{last_call, last_sequence, newest, sequence_in}
+use Rattle.sp_requests.specs.Asking.{newest}
 use Rattle.sp_peers.proofs.CoreLemmas.{IsSameLine, lines-alike}
-use Rattle.sp_peers.specs.AllAsked.{AreAsked}
 use Rattle.sp_outputs.specs.Notes.{notes_of}
 use Rattle.sp_outputs.specs.declared.outputs.Outputs.{Outputs}
-use Rattle.sp_transport.specs.Said.{AreLinesAlike, CountAlike, IsLineAlike, output_sent, recorded, recorded_in_order, said}
+use Rattle.sp_transport.specs.Said.{AreLinesAlike, CountAlike, IsLineAlike, output_sent, recorded_in_order, said}
 use Rattle.sp_transport.specs.Transports.{AreLines, IsLine, IsTransport, WentAfterHello, asked_up_to, line_parts}
 use Rattle.sp_transport.specs.declared.transport.Transport.{Transport}
 use Rattle.dgc_client.specs.Table as client
-use Rattle.sp_transport.proofs.SaidLemmas.{AreSameFound, AreSameRows, IsSameRow, alike-self, rows-dialled, rows-noted}
+use Rattle.sp_transport.proofs.SaidLemmas.{AreSameFound, AreSameRows, alike-self, rows-dialled, rows-noted}
 
 -- ---- what the rules make of it
 

@@ -1,12 +1,12 @@
 -- A connection that this space dialled, found by its number.
-use Rattle.std.proofs.Common.{◌≡◌, ℕ, List, Option, None, Some, is_some, refl, sym, ap, subst, ◌∙◌}
-use Rattle.std.specs.Prelude.{◌==◌, find, option_and_then, option_map}
+use Rattle.std.proofs.Common.{◌≡◌, ℕ, Option, None, Some, is_some, refl, sym, ap, subst, ◌∙◌}
+use Rattle.std.specs.Prelude.{◌==◌, option_and_then, option_map}
 use Rattle.std.proofs.lemmas.Bool.{eqb-true}
 use Rattle.uuid.specs.declared.Uuid.{Uuid}
 use Rattle.sp_rules.proofs.AllLemmas.{found-is}
 use Rattle.sp_rules.specs.Lines.{dialled_to}
 use Rattle.sp_rules.specs.State.{State, Connection, connection_at}
-use Rattle.sp_connections.specs.Tables.{numbered, seen}
+use Rattle.sp_connections.specs.Tables.{seen}
 use Rattle.sp_connections.specs.declared.connection.Connection as kept
 use Rattle.sp_peers.proofs.LineLemmas.{number-line}
 use Rattle.sp_transport.specs.Answers.{IsDialled}

@@ -1,13 +1,12 @@
 -- Connections that end, and peers that refuse: what becomes of a transport, and what is told of all that was asked.
-use Rattle.std.proofs.Common.{◌≡◌, ℕ, zero, suc, ◌≤◌, Bool, true, false, cond, List, [], ◌∷◌, ◌++◌, Option, None, Some, is_some, filter, map, ◌⊎◌, inl, inr, refl, sym, ap, subst, ◌∙◌, true≢false, arith, take}
-use Rattle.std.specs.Prelude.{◌==◌, ◌||◌, ◌&&◌, not, find}
+use Rattle.std.proofs.Common.{◌≡◌, ℕ, zero, suc, Bool, true, false, cond, List, [], ◌∷◌, ◌++◌, Option, None, Some, is_some, filter, map, refl, sym, ap, subst, ◌∙◌, true≢false, take}
+use Rattle.std.specs.Prelude.{◌==◌, ◌||◌, ◌&&◌, not}
 use Rattle.std.specs.List.{flat_map, list_any}
 use Rattle.std.specs.Str.{bytes_eq}
 use Rattle.net_message.specs.declared.message.Message.{Message}
 use Rattle.uuid.specs.declared.Uuid.{Uuid}
-use Rattle.dgc_client.specs.Table as client
-use Rattle.sp_rules.proofs.AllLemmas.{all-both-filter, all-filter, all-weaken, all-with, found-is}
-use Rattle.sp_rules.proofs.LineLemmas.{To, any-others, gone-others, one-peer, other-way}
+use Rattle.sp_rules.proofs.AllLemmas.{all-both-filter, all-weaken, all-with, found-is}
+use Rattle.sp_rules.proofs.LineLemmas.{any-others, gone-others, one-peer, other-way}
 use Rattle.sp_rules.specs.Endings.{call_number_in, is_of_connection, sent_on, unsent_calls, without_connection}
 use Rattle.sp_rules.specs.Events.{Note, in_order}
 use Rattle.sp_rules.specs.Laws.{AllOf}
@@ -34,7 +33,7 @@ use Rattle.sp_peers.specs.AllAsked.{AreAsked}
 use Rattle.sp_peers.specs.declared.peers.Peers.{Peers}
 use Rattle.sp_transport.specs.Answers.{AreEnded, ended_as}
 use Rattle.sp_transport.specs.Said.{recorded}
-use Rattle.sp_transport.specs.Transports.{AreLines, IsLine, IsTransport, LineParts, WentAfterHello, asked_up_to, line_parts, waiting_number}
+use Rattle.sp_transport.specs.Transports.{AreLines, IsTransport, WentAfterHello, asked_up_to, line_parts, waiting_number}
 use Rattle.sp_transport.specs.declared.transport.Transport.{Transport}
 use Rattle.sp_transport.proofs.SaidLemmas.{alike-self}
 use Rattle.sp_transport.proofs.LinesLemmas.{rises-some}

@@ -1,5 +1,5 @@
 -- Calls and lookups, and dirty and clean calls, as they go out.
-use Rattle.std.proofs.Common.{◌≡◌, ℕ, ◌+◌, ◌<◌, ◌∷◌, ◌++◌, [], List, Some, Bool, false, refl, sym, ap, subst, ◌∙◌, arith}
+use Rattle.std.proofs.Common.{◌≡◌, ℕ, ◌+◌, ◌<◌, ◌∷◌, ◌++◌, [], List, Some, false, refl, sym, ap, subst, arith}
 use Rattle.dgc_client.specs.declared.groups.Group.{Group}
 use Rattle.dgc_client.specs.declared.table.Clients.{Clients}
 use Rattle.dgc_client.specs.Table as client
@@ -7,7 +7,7 @@ use Rattle.net_message.specs.declared.message.Message.{Message}
 use Rattle.net_message.specs.declared.message.Message.TheVariants as message
 use Rattle.uuid.specs.declared.Uuid.{Uuid}
 use Rattle.sp_rules.specs.Endings.{call_number_in}
-use Rattle.sp_rules.specs.Events.{Note, Sends}
+use Rattle.sp_rules.specs.Events.{Sends}
 use Rattle.sp_rules.specs.Lines.{dialled_to}
 use Rattle.sp_rules.specs.Requests.{go_out, group_frame, hello_came, part_goes_out}
 use Rattle.sp_rules.specs.State.{State, Connection, Request, Asked, Calls, LooksUp, Tells, Waits, Out, connection_to}
@@ -27,7 +27,7 @@ use Rattle.sp_transport.specs.Asking.{AreNextOut}
 use Rattle.sp_transport.specs.Said.{CallsMayGo, GroupsMayGo, is_acks, said}
 use Rattle.sp_transport.specs.Transports.{IsTransport, call_number}
 use Rattle.sp_transport.specs.declared.transport.Transport.{Transport}
-use Rattle.sp_transport.proofs.StepLemmas.{HasLine, called-above, line-of, now-called, now-told}
+use Rattle.sp_transport.proofs.StepLemmas.{called-above, line-of, now-called, now-told}
 
 -- What the table of peers promises of a call or lookup that goes out.
 abbrev pub GoesOut : Transport → Uuid → ℕ → Asker → Peers → Type 0

@@ -1,17 +1,15 @@
 -- The calls that an event makes: what becomes of a transport, and which numbers may go on.
-use Rattle.std.proofs.Common.{◌≡◌, ℕ, ◌+◌, ◌-◌, ◌≤◌, ◌<◌, List, [], ◌∷◌, ◌++◌, Option, None, Some, refl, sym, ap, subst, ◌∙◌, arith}
+use Rattle.std.proofs.Common.{◌≡◌, ℕ, ◌+◌, ◌≤◌, List, [], ◌∷◌, ◌++◌, Option, None, Some, refl, sym, ap, subst, ◌∙◌, arith}
 use Rattle.dgc_client.specs.declared.groups.DueCall.{DueCall}
 use Rattle.dgc_client.specs.declared.table.Clients.{Clients}
 use Rattle.dgc_client.specs.Table as client
 use Rattle.uuid.specs.declared.Uuid.{Uuid}
 use Rattle.sp_rules.specs.Laws.{AllOf, RisesWithin}
-use Rattle.sp_rules.specs.Lines.{dialled_to}
-use Rattle.sp_rules.specs.State.{State, Connection, Request, Waits}
+use Rattle.sp_rules.specs.State.{State, Request, Waits}
 use Rattle.sp_requests.specs.Asking.{IsNamed, asked_of, last_call}
 use Rattle.sp_requests.specs.declared.asked.Asked.{Asked}
 use Rattle.sp_transport.specs.Asking.{AreNextOut, AreNextWaiting, make_call, make_calls, take_fresh}
-use Rattle.sp_transport.specs.Said.{said}
-use Rattle.sp_transport.specs.Transports.{AreLines, IsFresh, IsTransport, asked_up_to, call_number, fresh_of, line_parts, waiting_numbers}
+use Rattle.sp_transport.specs.Transports.{IsFresh, IsTransport, asked_up_to, call_number, fresh_of, line_parts, waiting_numbers}
 use Rattle.sp_transport.specs.declared.transport.Fresh.{Fresh}
 use Rattle.sp_transport.specs.declared.transport.Transport.{Transport}
 use Rattle.sp_transport.proofs.LinesLemmas.{lines-make, lines-taken, rises-last}

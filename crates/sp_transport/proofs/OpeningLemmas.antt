@@ -1,13 +1,14 @@
 -- Connections that open, and Hellos and calls that come on them, as an event begins.
-use Rattle.std.proofs.Common.{◌≡◌, ℕ, ◌+◌, ◌≤◌, Bool, true, false, cond, List, [], ◌∷◌, ◌++◌, Option, None, Some, is_some, filter, map, ◌⊎◌, inl, inr, refl, sym, ap, subst, ◌∙◌, true≢false, arith}
-use Rattle.std.specs.Prelude.{◌==◌, ◌||◌, ◌&&◌, not, find}
+use Rattle.std.proofs.Common.{◌≡◌, ℕ, Bool, true, false, cond, List, [], ◌∷◌, ◌++◌, Option, None, Some, is_some, filter, map, ◌⊎◌, inl, inr, refl, sym, ap, subst, ◌∙◌, true≢false, arith}
+use Rattle.std.specs.Prelude.{◌==◌, ◌||◌, ◌&&◌, not}
 use Rattle.std.specs.List.{flat_map, list_any}
 use Rattle.std.specs.Str.{bytes_eq}
 use Rattle.net_message.specs.declared.message.Message.{Message}
 use Rattle.dgc_client.specs.Table as client
 use Rattle.uuid.specs.declared.Uuid.{Uuid}
-use Rattle.sp_rules.proofs.AllLemmas.{all-both-filter, all-filter, all-weaken}
-use Rattle.sp_rules.proofs.LineLemmas.{To, any-others, one-peer, other-way, row-hello, row-some, to-last, to-more}
+use Rattle.std.proofs.lemmas.Bool.{eqb-true}
+use Rattle.sp_rules.proofs.AllLemmas.{all-both-filter, all-filter, all-weaken, found-is}
+use Rattle.sp_rules.proofs.LineLemmas.{any-others, one-peer, other-way, row-hello, row-some, to-last, to-more}
 use Rattle.sp_rules.proofs.OwnLemmas.{some-same}
 use Rattle.sp_rules.specs.Endings.{call_number_in}
 use Rattle.sp_rules.specs.Events.{Hellos, Note, Sends, in_order}
@@ -16,9 +17,9 @@ use Rattle.sp_rules.specs.Laws.{AllOf, RisesWithin}
 use Rattle.sp_rules.specs.Lines.{WaitsForHello, dialled_to}
 use Rattle.sp_rules.specs.Lists.{at_first}
 use Rattle.sp_rules.specs.OwnEvents.{add_connection, dialled_no_more}
-use Rattle.sp_rules.specs.Requests.{hello_came, is_waiting, waits_for, without_waiting}
-use Rattle.sp_rules.specs.State.{State, Connection, Request, connection_at, is_dialling, is_to, send}
-use Rattle.sp_connections.specs.Tables.{AreConnections, numbered, opened}
+use Rattle.sp_rules.specs.Requests.{hello_came, is_waiting, waits_for}
+use Rattle.sp_rules.specs.State.{State, Connection, Request, connection_at, connection_to, is_dialling, is_to, send}
+use Rattle.sp_connections.specs.Tables.{AreConnections, opened}
 use Rattle.sp_connections.specs.declared.connections.Connections.{Connections}
 use Rattle.sp_requests.specs.Asking.{last_call, newest, sequence_in}
 use Rattle.sp_peers.specs.AllAsked.{AreAsked, sent_on}
@@ -30,10 +31,10 @@ use Rattle.sp_outputs.specs.declared.outputs.Outputs.{Outputs}
 use Rattle.sp_transport.specs.Asking.{AreNextOut, welcome}
 use Rattle.sp_transport.specs.Opening.{IsHello}
 use Rattle.sp_transport.specs.Said.{recorded}
-use Rattle.sp_transport.specs.Transports.{AreLines, IsLine, IsTransport, LineParts, WentAfterHello, asked_up_to, call_number, line_parts, waiting_number, waiting_numbers}
+use Rattle.sp_transport.specs.Transports.{AreLines, IsLine, IsTransport, LineParts, WentAfterHello, asked_up_to, call_number, line_parts, waiting_number}
 use Rattle.sp_transport.specs.declared.transport.Transport.{Transport}
-use Rattle.sp_transport.proofs.SaidLemmas.{Accepts, IsSentOn, accepted-lines, alike-self, sent-found, with_frame}
-use Rattle.sp_transport.proofs.RowLemmas.{IsChangedOn, accepted-change, change-found, hello-stays, more-found, number-found, number-last}
+use Rattle.sp_transport.proofs.SaidLemmas.{IsSentOn, accepted-lines, alike-self, sent-found}
+use Rattle.sp_transport.proofs.RowLemmas.{IsChangedOn, accepted-change, change-found, change-here, hello-stays, more-found, number-found, number-last}
 use Rattle.sp_transport.proofs.LinesLemmas.{line-plain, rises-some}
 use Rattle.sp_transport.proofs.StepLemmas.{accepts-all, send-open}
 
@@ -107,7 +108,7 @@ now-accepted s t conn m connections outputs none free hello links e a =
       lines = subst (λ (l : List Note). AreLines (record (line_parts s) { connections = cs; notes = l })) (sym (none-after s.notes (Sends Hellos conn m) none))
           (lines-opened (line_parts s) conn None s.dialling m hello first
           (all-weaken (WaitsForHello s.connections s.dialling) (WaitsForHello cs s.dialling) s.requests (λ r w is. let x = w is in
-              (ap (λ o. is_some o || list_any (bytes_eq r.peer) s.dialling) (to-more s.connections (opened conn None) r.peer refl) ∙ x.0, ap hello_came (to-more s.connections (opened conn None) r.peer refl) ∙ x.1)) first.waiting)
+          (ap (λ o. is_some o || list_any (bytes_eq r.peer) s.dialling) (to-more s.connections (opened conn None) r.peer refl) ∙ x.0, ap hello_came (to-more s.connections (opened conn None) r.peer refl) ∙ x.1)) first.waiting)
           (all-weaken (WentAfterHello s.connections) (WentAfterHello cs) s.requests (λ r w is. ap (λ o. is_some (hello_came o)) (to-more s.connections (opened conn None) r.peer refl) ∙ w is) first.out));
     })
 
@@ -268,6 +269,12 @@ now-welcome s t conn peer c connections peers none at its links asked a = record
         pick true true e f = f
         pick true false e f = absurd (true≢false (sym e))
         pick false w e f = refl
+
+-- its Hello has come on this connection
+pub welcome-hello : (s : State) (t : Transport) (conn : ℕ) (peer : Uuid) (c : Connection) → connection_at s conn ≡ Some c → c.dialled ≡ Some peer → IsTransport s t → hello_came (connection_to (welcome peer conn s) peer) ≡ Some conn
+welcome-hello s t conn peer c at its a =
+    let number : c.number ≡ conn = eqb-true c.number conn (found-is (λ (d : Connection). d.number == conn) s.connections c at) in
+    ap hello_came (change-here conn (speaks peer) s.connections peer c (λ d. refl) a.connections.numbered_once (number-line s.connections conn c peer a.connections.dialled_once at its) number) ∙ ap (λ (n : ℕ). Some n) number
 
 -- and may go out
 pub next-welcome : (s : State) (t : Transport) (conn : ℕ) (peer : Uuid) (c : Connection) → s.notes ≡ [] → connection_at s conn ≡ Some c → c.dialled ≡ Some peer → c.peer ≡ None → IsTransport s t → AreNextOut (welcome peer conn s) peer (flat_map call_number (map (λ (r : Request). r.asked) (filter (waits_for peer) s.requests)))

@@ -1,18 +1,16 @@
 -- Rows of connections that change, open and end, and what is found of them by a peer.
-use Rattle.std.proofs.Common.{◌≡◌, ℕ, ◌≤◌, Bool, true, false, cond, List, [], ◌∷◌, ◌++◌, Option, None, Some, is_some, filter, map, ◌⊎◌, inl, inr, refl, sym, ap, subst, ◌∙◌, true≢false, arith}
-use Rattle.std.specs.Prelude.{◌==◌, ◌||◌, ◌&&◌, not, find}
-use Rattle.std.specs.List.{flat_map, list_any}
-use Rattle.std.specs.Str.{bytes_eq}
+use Rattle.std.proofs.Common.{◌≡◌, ℕ, Bool, true, false, cond, List, [], ◌∷◌, ◌++◌, Option, None, Some, is_some, ◌⊎◌, inl, inr, refl, sym, ap, ◌∙◌, true≢false}
+use Rattle.std.specs.Prelude.{◌==◌}
 use Rattle.std.proofs.lemmas.Bool.{eqb-true, eq-eqb}
 use Rattle.uuid.specs.declared.Uuid.{Uuid}
-use Rattle.sp_rules.proofs.AllLemmas.{some-none}
+use Rattle.sp_rules.proofs.AllLemmas.{all-found, some-none}
 use Rattle.sp_rules.proofs.LineLemmas.{To}
 use Rattle.sp_rules.specs.Laws.{AllOf}
 use Rattle.sp_rules.specs.Lines.{dialled_to}
 use Rattle.sp_rules.specs.Lists.{at_first}
 use Rattle.sp_rules.specs.Requests.{hello_came}
 use Rattle.sp_rules.specs.State.{Connection, is_to}
-use Rattle.sp_connections.specs.Tables.{numbered}
+use Rattle.sp_connections.specs.Tables.{AreNumbered, numbered}
 use Rattle.sp_transport.proofs.SaidLemmas.{Accepts}
 
 only : (a b : Connection) → Some a ≡ Some b → a ≡ b
@@ -91,6 +89,24 @@ change-found n f (x ∷ xs) q c keeps e = pick (x.number == n) (To q x) refl e (
     pick true false to h go = inl (ap (λ b. cond b (Some x) (dialled_to xs q)) to ∙ (sym (ap (λ b. cond b (Some (f x)) (dialled_to xs q)) (now false to)) ∙ h))
     pick false true to h go = inl (ap (λ b. cond b (Some x) (dialled_to xs q)) to ∙ (sym (ap (λ b. cond b (Some x) (dialled_to rest q)) to) ∙ h))
     pick false false to h go = lift to (go (sym (ap (λ b. cond b (Some x) (dialled_to rest q)) to) ∙ h))
+
+-- the connection that was dialled to a peer changes
+pub change-here : (n : ℕ) (f : Connection → Connection) (cs : List Connection) (q : Uuid) (c : Connection) → ((d : Connection) → (f d).dialled ≡ d.dialled) → AreNumbered cs → dialled_to cs q ≡ Some c → c.number ≡ n → dialled_to (at_first (λ (d : Connection). d.number == n) f cs) q ≡ Some (f c)
+change-here n f [] q c keeps apart e number = absurd (nothing e)
+  where
+    nothing : None ≡ Some c → ⊥
+    nothing h = cc
+change-here n f (x ∷ xs) q c keeps apart e number = pick (x.number == n) refl (To q x) refl e (λ h. change-here n f xs q c keeps apart.1 h number)
+  where
+    rest : List Connection
+    rest = at_first (λ (d : Connection). d.number == n) f xs
+
+    pick : (b : Bool) → (x.number == n) ≡ b → (d : Bool) → To q x ≡ d → cond d (Some x) (dialled_to xs q) ≡ Some c → (dialled_to xs q ≡ Some c → dialled_to rest q ≡ Some (f c)) → dialled_to (cond b (f x ∷ xs) (x ∷ rest)) q ≡ Some (f c)
+    pick true is true to h go = ap (λ b. cond b (Some (f x)) (dialled_to xs q)) (ap (is_to q) (keeps x) ∙ to) ∙ ap (λ (d : Connection). Some (f d)) (only x c h)
+    pick true is false to h go =
+        absurd (true≢false (sym (eq-eqb c.number x.number (number ∙ sym (eqb-true x.number n is))) ∙ all-found (λ (d : Connection). (d.number == x.number) ≡ false) (To q) xs c h apart.0))
+    pick false is true to h go = absurd (true≢false (sym (eq-eqb x.number n (ap (λ (d : Connection). d.number) (only x c h) ∙ number)) ∙ is))
+    pick false is false to h go = ap (λ b. cond b (Some x) (dialled_to rest q)) to ∙ go h
 
 -- a connection that a peer dialled changes, which no peer sees
 pub accepted-change : (n : ℕ) (f : Connection → Connection) (cs : List Connection) (q : Uuid) → ((d : Connection) → (f d).dialled ≡ d.dialled) → AllOf (Accepts n) cs → dialled_to (at_first (λ (d : Connection). d.number == n) f cs) q ≡ dialled_to cs q

@@ -16,7 +16,7 @@ use Rattle.sp_rules.specs.State.{Connection, is_to}
 use Rattle.sp_connections.specs.Tables.{numbered}
 use Rattle.sp_requests.specs.Asking.{sequence_in}
 use Rattle.sp_peers.specs.AllAsked.{sent_on}
-use Rattle.sp_transport.specs.Said.{AreLinesAlike, CountAlike, IsLineAlike, note_sent, output_sent, recorded}
+use Rattle.sp_transport.specs.Said.{AreLinesAlike, CountAlike, IsLineAlike, output_sent, recorded}
 
 -- ---- frames that count alike
 

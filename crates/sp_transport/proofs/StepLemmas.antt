@@ -1,10 +1,9 @@
 -- What each call makes of the parts of a transport, when the tables below have done theirs: leases, outputs, requests that wait and frames that go out.
-use Rattle.std.proofs.Common.{◌≡◌, ℕ, ◌+◌, ◌≤◌, ◌<◌, Bool, true, false, cond, List, [], ◌∷◌, ◌++◌, Option, None, Some, is_some, filter, map, ◌⊎◌, inl, inr, refl, sym, ap, subst, ◌∙◌, true≢false, arith, take, get_or, length}
-use Rattle.std.specs.Prelude.{◌==◌, ◌||◌, not, fold, find, option_map}
-use Rattle.std.specs.List.{flat_map, list_any}
+use Rattle.std.proofs.Common.{◌≡◌, ℕ, ◌+◌, ◌≤◌, ◌<◌, Bool, true, false, cond, List, [], ◌∷◌, ◌++◌, Option, None, Some, is_some, refl, sym, ap, subst, ◌∙◌, true≢false, arith}
+use Rattle.std.specs.Prelude.{◌==◌, ◌||◌, option_map}
+use Rattle.std.specs.List.{list_any}
 use Rattle.std.specs.Str.{bytes_eq}
-use Rattle.std.proofs.lemmas.Bool.{eqb-true, eq-eqb}
-use Rattle.std.proofs.lemmas.List.Sums.{fold-append}
+use Rattle.std.proofs.lemmas.Bool.{eqb-true}
 use Rattle.space_ids.specs.declared.ids.ForeignId.{ForeignId}
 use Rattle.space_ids.specs.declared.ids.ObjId.{ObjId}
 use Rattle.dgc_client.specs.declared.groups.DueCall.{DueCall}
@@ -15,20 +14,18 @@ use Rattle.dgc_client.specs.declared.table.Clients.{Clients}
 use Rattle.dgc_client.specs.History as lease_events
 use Rattle.dgc_client.specs.Table as client
 use Rattle.net_message.specs.declared.message.Message.{Message}
-use Rattle.net_message.specs.declared.message.Message.TheVariants as message
 use Rattle.uuid.specs.declared.Uuid.{Uuid}
-use Rattle.sp_rules.proofs.AllLemmas.{all-weaken, none-found, some-none}
-use Rattle.sp_rules.proofs.LineLemmas.{any-last, any-more, one-peer, or-none, same-peer}
+use Rattle.sp_rules.proofs.AllLemmas.{all-weaken}
 use Rattle.sp_rules.specs.Endings.{call_number_in}
 use Rattle.sp_rules.specs.Events as event
 use Rattle.sp_rules.specs.Events.{Note, Says, Sends, Turn, Dial}
 use Rattle.sp_rules.specs.Laws.{AllOf, RisesWithin}
 use Rattle.sp_rules.specs.Lines.{dialled_to}
-use Rattle.sp_rules.specs.Requests.{add_request, dial, group_frame, hello_came, is_waiting, part_goes_out}
-use Rattle.sp_rules.specs.State.{State, Connection, Request, Asked, Calls, LooksUp, Tells, Stage, Waits, Out, connection_at, connection_to, is_dialling, is_open, say, send}
+use Rattle.sp_rules.specs.Requests.{add_request, dial, group_frame, hello_came, part_goes_out}
+use Rattle.sp_rules.specs.State.{State, Connection, Request, Asked, Tells, Waits, Out, connection_at, connection_to, is_dialling, is_open, say, send}
 use Rattle.sp_connections.specs.Tables.{AreConnections, AreNumbered, numbered, seen}
 use Rattle.sp_connections.specs.declared.connections.Connections.{Connections}
-use Rattle.sp_requests.specs.Asking.{IsNamed, last_call, last_sequence, sequence_in}
+use Rattle.sp_requests.specs.Asking.{last_call, sequence_in}
 use Rattle.sp_peers.specs.AllAsked.{AreAsked, sent_on}
 use Rattle.sp_peers.specs.declared.peers.Peers.{Peers}
 use Rattle.sp_peers.proofs.CoreLemmas.{lines-same}
@@ -40,10 +37,9 @@ use Rattle.sp_outputs.specs.declared.outputs.Outputs.{Outputs}
 use Rattle.sp_transport.specs.Asking.{AreNextOut, AreNextWaiting}
 use Rattle.sp_transport.specs.Said as noted
 use Rattle.sp_transport.specs.Said.{CallsMayGo, GroupsMayGo, IsOfTurn, is_acks, recorded, said}
-use Rattle.sp_transport.specs.Transports.{AreLines, IsLine, IsTransport, LineParts, asked_up_to, call_number, fresh_of, line_parts, waiting_numbers}
-use Rattle.sp_transport.specs.declared.transport.Fresh.{Fresh}
+use Rattle.sp_transport.specs.Transports.{AreLines, IsTransport, asked_up_to, call_number, line_parts}
 use Rattle.sp_transport.specs.declared.transport.Transport.{Transport}
-use Rattle.sp_transport.proofs.SaidLemmas.{Accepts, IsGreeted, accepted-lines, accepted-notes, greeted-row, hello-noted}
+use Rattle.sp_transport.proofs.SaidLemmas.{Accepts, accepted-lines, accepted-notes, greeted-row, hello-noted}
 use Rattle.sp_transport.proofs.OrderLemmas.{alike-call, alike-group, recorded-said, recorded-sent}
 use Rattle.sp_transport.proofs.LinesLemmas.{line-call, line-group, line-wider, lines-answer, lines-out, lines-said, lines-wait}
 

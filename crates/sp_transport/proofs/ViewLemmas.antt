@@ -1,6 +1,6 @@
 -- What is seen of connections, and a transport to which nothing happened.
-use Rattle.std.proofs.Common.{◌≡◌, ℕ, Bool, true, false, cond, List, [], ◌∷◌, Option, None, Some, is_some, refl, sym, ap, subst, ◌∙◌, true≢false, arith}
-use Rattle.std.specs.Prelude.{◌==◌, find, option_map}
+use Rattle.std.proofs.Common.{◌≡◌, ℕ, Bool, true, false, cond, List, Option, None, Some, is_some, refl, sym, ap, ◌∙◌, arith}
+use Rattle.std.specs.Prelude.{◌==◌, option_map}
 use Rattle.std.proofs.lemmas.Bool.{eqb-true}
 use Rattle.uuid.specs.declared.Uuid.{Uuid}
 use Rattle.sp_rules.proofs.AllLemmas.{found-is}
@@ -12,7 +12,6 @@ use Rattle.sp_rules.specs.State.{opening}
 use Rattle.sp_connections.proofs.TableLemmas.{dialling-link}
 use Rattle.sp_connections.specs.Tables.{AreConnections, is_dialled, link_of, numbered, seen, to_peer}
 use Rattle.sp_connections.specs.declared.connection.Connection.{Connection}
-use Rattle.sp_connections.specs.declared.connection.Link.{Link}
 use Rattle.sp_connections.specs.declared.connection.Link.TheVariants.{Dialling, Open}
 use Rattle.sp_connections.specs.declared.connections.Connections.{Connections}
 use Rattle.sp_peers.proofs.LineLemmas.{line-number}

@@ -7,7 +7,7 @@ use Rattle.sp_rules.specs.Frames.{greeted}
 use Rattle.sp_rules.specs.Laws.{RisesWithin}
 use Rattle.sp_rules.specs.Lines.{dialled_to}
 use Rattle.sp_rules.specs.Requests.{without_waiting}
-use Rattle.sp_rules.specs.State.{State, Connection, Request, Asked, Waits}
+use Rattle.sp_rules.specs.State.{State, Connection, Asked, Waits}
 use Rattle.sp_requests.specs.Asking.{last_call}
 use Rattle.sp_transport.specs.Said.{said}
 use Rattle.sp_transport.specs.Transports.{asked_up_to, waiting_numbers}

@@ -1,5 +1,5 @@
 -- The connections of a space with the frames that the event under way sends: in the order in which they are noted, and in the order in which they go out. (This project's own.)
-use Rattle.std.specs.Prelude.{◌≡◌, ◌≤◌, ◌==◌, ◌⊎◌, ℕ, Bool, true, false, List, [], ◌∷◌, map, fold, is_some}
+use Rattle.std.specs.Prelude.{◌≡◌, ◌≤◌, ◌==◌, ◌⊎◌, Bool, true, false, List, [], ◌∷◌, map, fold, is_some}
 use Rattle.std.specs.List.{flat_map}
 use Rattle.net_message.specs.declared.message.Message.{Message}
 use Rattle.sp_rules.specs.Endings.{call_number_in}

@@ -1,5 +1,5 @@
 -- When a space's side of the transport is in the state that the rules of spaces give: one line a part. (This project's own; calls, dirty and clean calls are the Java RMI specification's, 3.2 and 9.1.)
-use Rattle.std.specs.Prelude.{◌≡◌, ◌≤◌, ◌-◌, ℕ, Bool, true, false, List, [], ◌∷◌, ◌++◌, Option, None, Some, is_some, if◌then◌else◌}
+use Rattle.std.specs.Prelude.{◌≡◌, ◌≤◌, ◌-◌, ℕ, true, false, List, [], ◌∷◌, Option, None, Some, is_some, if◌then◌else◌}
 use Rattle.std.specs.List.{flat_map}
 use Rattle.dgc_client.specs.Table as client
 use Rattle.uuid.specs.declared.Uuid.{Uuid}

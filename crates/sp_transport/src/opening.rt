@@ -7,8 +7,8 @@ ghost use Rattle.sp_rules.specs.Events.{Hellos};
 ghost use Rattle.sp_rules.specs.Frames.{counted, greeted};
 ghost use Rattle.sp_rules.specs.Laws.{AllOf};
 ghost use Rattle.sp_rules.specs.OwnEvents.{add_connection, dialled_no_more};
-ghost use Rattle.sp_rules.specs.Requests.{waits_for};
-ghost use Rattle.sp_rules.specs.State.{Connection as Row, Request, State, connection_at, is_dialling, send};
+ghost use Rattle.sp_rules.specs.Requests.{hello_came, waits_for};
+ghost use Rattle.sp_rules.specs.State.{Connection as Row, Request, State, connection_at, connection_to, is_dialling, send};
 ghost use Rattle.sp_requests.specs.Asking.{IsNamed, asked_of};
 
 use crate::Transport;
@@ -68,6 +68,7 @@ impl Transport {
     pub fn welcome(&mut self, conn: u64, peer: &Uuid) -> Vec<Asked>
         ensures waited { (s : State) (c : Row) → IsTransport s self.old → connection_at s conn ≡ Some c → c.dialled ≡ Some peer.now → map asked_of result.items ≡ map (λ (r : Request). r.asked) (filter (waits_for peer.now) s.requests) }
         ensures welcomed { (s : State) (c : Row) → IsTransport s self.old → s.notes ≡ [] → connection_at s conn ≡ Some c → c.dialled ≡ Some peer.now → IsTransport (welcome peer.now conn s) self.new }
+        ensures hello { (s : State) (c : Row) → IsTransport s self.old → connection_at s conn ≡ Some c → c.dialled ≡ Some peer.now → hello_came (connection_to (welcome peer.now conn s) peer.now) ≡ Some conn }
         ensures named { (s : State) (c : Row) → IsTransport s self.old → connection_at s conn ≡ Some c → c.dialled ≡ Some peer.now → AllOf IsNamed (map asked_of result.items) }
         ensures out { (s : State) (c : Row) → IsTransport s self.old → s.notes ≡ [] → connection_at s conn ≡ Some c → c.dialled ≡ Some peer.now → c.peer ≡ None → AreNextOut (welcome peer.now conn s) peer.now (flat_map call_number (map asked_of result.items)) }
         ensures rooms { Spends 0 0 0 0 self.old self.new }

@@ -1,4 +1,4 @@
-use Rattle.std.proofs.Common.{◌≡◌, ℕ, None, Some, true, is_some, subst, sym, ◌∙◌}
+use Rattle.std.proofs.Common.{◌≡◌, ℕ, None, Some, true, is_some, subst}
 use Rattle.std.specs.Prelude.{find}
 use Rattle.sp_rules.proofs.OwnLemmas.{has-some}
 use Rattle.sp_rules.specs.ParkedFrames.{is_call_on}

@@ -1,14 +1,4 @@
-use Rattle.std.proofs.Common.{◌≡◌, ◌∷◌, [], refl, sym, subst}
-use Rattle.net_message.specs.declared.message.Message.TheVariants as message
-use Rattle.sp_rules.specs.Requests.{go_out}
-use Rattle.sp_rules.specs.State.{State, Calls, LooksUp, Waits}
-use Rattle.sp_requests.specs.Asking.{IsNamed, asked_of, kind_of}
-use Rattle.sp_requests.specs.declared.asked.Asked.{Asked}
-use Rattle.sp_outputs.specs.Notes.{turn_of}
-use Rattle.sp_transport.specs.Asking.{AreNextOut}
-use Rattle.sp_transport.specs.Transports.{IsTransport, call_number}
 use Rattle.sp_transport.proofs.GoingLemmas.{call-out, lookup-out}
-use Rattle.sp_transport.proofs.StepLemmas.{line-of}
 use Rattle.sp_transport.proofs.transport.Transport.call_out_reserved.Goals as goal
 
 pub returns-in-Call-clause-sent : goal.returns-in-Call-clause-sent

@@ -1,5 +1,4 @@
-use Rattle.std.proofs.Common.{take, sym, subst, arith}
-use Rattle.sp_rules.specs.Holders.{drop_ids}
+use Rattle.std.proofs.Common.{sym, subst}
 use Rattle.sp_rules.specs.State.{State}
 use Rattle.sp_transport.specs.Transports.{IsTransport}
 use Rattle.sp_transport.proofs.HolderLemmas.{drop-next, drop-none, spends-none, spends-still}

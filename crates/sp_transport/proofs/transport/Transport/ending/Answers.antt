@@ -1,4 +1,4 @@
-use Rattle.std.proofs.Common.{ℕ, [], Some, Option, filter, sym, subst}
+use Rattle.std.proofs.Common.{ℕ, Some, Option, filter, sym, subst}
 use Rattle.uuid.specs.declared.Uuid.{Uuid}
 use Rattle.sp_rules.specs.Endings.{is_of_connection}
 use Rattle.sp_peers.proofs.LineLemmas.{number-line}

@@ -1,7 +1,5 @@
-use Rattle.std.proofs.Common.{◌≡◌, ◌∷◌, ◌++◌, [], List, Bool, true, false, cond, is_some, refl, sym, ap, subst, ◌∙◌}
-use Rattle.std.specs.Prelude.{◌||◌, not}
-use Rattle.std.specs.List.{list_any}
-use Rattle.std.specs.Str.{bytes_eq}
+use Rattle.std.proofs.Common.{◌≡◌, ◌∷◌, ◌++◌, [], List, true, false, is_some, refl, subst}
+use Rattle.std.specs.Prelude.{◌||◌}
 use Rattle.uuid.specs.declared.Uuid.{Uuid}
 use Rattle.sp_rules.specs.Requests.{add_request}
 use Rattle.sp_rules.specs.State.{State, Waits, connection_to, is_dialling}
@@ -27,7 +25,7 @@ returns-clause-waits c = λ s a none named next.
     let peer = c.args.peer.now in
     let new : (is_some (connection_to s peer) || is_dialling s peer) ≡ false = known-of (is_some (connection_to s peer) || is_dialling s peer) c.dial_reserved.result true (c.dial_reserved.ensures.news s.connections s.dialling a.connections) c.if-not-dial_reserved.false in
     let waits = now-waits s c.args.self.now peer (asked_of c.args.asked) (s.dialling ++ peer ∷ []) c.wait_reserved.new.self c.dial_reserved.new.self none next (λ q is. wider-dialled q s.dialling peer is) (new-known (is_some (connection_to s peer)) peer s.dialling)
-        (subst (λ (l : List Uuid). AreConnections s.connections l c.dial_reserved.new.self) (new-dialled peer s.connections s.dialling new) (c.dial_reserved.ensures.dialled s.connections s.dialling a.connections))
-        (c.wait_reserved.ensures.waits _ s.requests a.asked named) a in
+    (subst (λ (l : List Uuid). AreConnections s.connections l c.dial_reserved.new.self) (new-dialled peer s.connections s.dialling new) (c.dial_reserved.ensures.dialled s.connections s.dialling a.connections))
+    (c.wait_reserved.ensures.waits _ s.requests a.asked named) a in
     subst (λ (u : State). IsTransport u (record c.args.self.now { peers = c.wait_reserved.new.self; connections = c.dial_reserved.new.self; outputs = c.say_reserved.new.self })) (dial-new peer (add_request (record { peer = peer; asked = asked_of c.args.asked; stage = Waits }) s) new)
     (now-said (record s { requests = s.requests ++ record { peer = peer; asked = asked_of c.args.asked; stage = Waits } ∷ []; dialling = s.dialling ++ peer ∷ [] }) (record c.args.self.now { peers = c.wait_reserved.new.self; connections = c.dial_reserved.new.self }) (output.Dial peer) c.say_reserved.new.self refl c.say_reserved.ensures.notes waits)

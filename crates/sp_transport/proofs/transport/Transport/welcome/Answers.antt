@@ -6,7 +6,7 @@ use Rattle.sp_transport.specs.Asking.{AreNextOut, welcome}
 use Rattle.sp_transport.specs.Said.{said}
 use Rattle.sp_transport.specs.Transports.{call_number}
 use Rattle.sp_transport.proofs.DialledLemmas.{dialled-line}
-use Rattle.sp_transport.proofs.OpeningLemmas.{asked-first, next-welcome, now-welcome}
+use Rattle.sp_transport.proofs.OpeningLemmas.{asked-first, next-welcome, now-welcome, welcome-hello}
 use Rattle.sp_transport.proofs.transport.Transport.welcome.Goals as goal
 
 pub returns-clause-waited : goal.returns-clause-waited
@@ -27,3 +27,6 @@ returns-clause-out c = λ s k a none at its quiet.
     let l = dialled-line s c.args.self.now c.args.conn k c.args.peer.now at its a in
     subst (λ (asked : List rules.Asked). AreNextOut (welcome c.args.peer.now c.args.conn s) c.args.peer.now (flat_map call_number asked)) (sym (c.take_waiting-asked.ensures.waited (said s) s.requests l.row a.asked l.there))
     (next-welcome s c.args.self.now c.args.conn c.args.peer.now k none at its quiet a)
+
+pub returns-clause-hello : goal.returns-clause-hello
+returns-clause-hello c = λ s k a at its. welcome-hello s c.args.self.now c.args.conn c.args.peer.now k at its a
