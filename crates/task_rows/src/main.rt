@@ -39,7 +39,7 @@ mod tasks;
 fn main(rt: HostRuntime) -> io::Result<()> {
     let alloc = rt.alloc();
     let mut out = BufWriter::new(alloc, io::writer(&rt))?;
-    let mut stage = Stage::new(alloc)?;
+    let mut stage = Stage::new(alloc);
     for text in BufReader::new(alloc, rt.reader())?.lines(alloc) {
         let text = text?;
         put_answer(&mut out, &text, stage.play(&text))?;

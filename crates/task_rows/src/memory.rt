@@ -2,27 +2,27 @@
 
 use super::spelling::{MOST_HEAP_WORDS, count, int, put, reference, short_number};
 use ghost_value::Ghost;
-use std::alloc::{AllocError, Global};
+use std::alloc::Global;
 use std::mem::size_of;
 use test_rows::{RowFault, class};
 use vm_heap::{ClassId, Heap, Pointer, Ref, References, Uuid, Word, WordKind};
 
-/// A heap, and a list of references.
+/// A heap and a list of references, once a row has begun them.
 #[derive(Drop)]
 pub struct Memory {
     alloc: Global,
-    heap: Heap,
-    references: References,
+    heap: Option<Heap>,
+    references: Option<References>,
 }
 
 impl Memory {
-    /// Returns a heap without words, and a list without room.
-    pub fn new(alloc: Global) -> Result<Memory, AllocError> {
-        Ok(Memory {
+    /// Returns a memory of which no row has begun a part.
+    pub fn new(alloc: Global) -> Memory {
+        Memory {
             alloc,
-            heap: Heap::with_words(alloc, 0)?,
-            references: References::with_limit(alloc, Uuid::nil(), 0)?,
-        })
+            heap: None,
+            references: None,
+        }
     }
 
     /// Plays a row on words, heaps or references.
@@ -31,7 +31,7 @@ impl Memory {
             ("sizes", []) => put_sizes(said),
             ("word", [spelled]) => put(said, "int", &int_of_copy(int(spelled)?)),
             ("references", [limit]) => {
-                self.references = list(self.alloc, count(limit)?)?;
+                self.references = Some(list(self.alloc, count(limit)?)?);
                 Ok(())
             }
             ("hold", [spelled]) => self.hold(said, reference(self.alloc, spelled)?),
@@ -46,20 +46,25 @@ impl Memory {
         words: &[&str],
     ) -> Result<(), RowFault> {
         match (kind, words) {
-            ("heap", [count]) => self.heap = heap(self.alloc, short_number(count)?)?,
+            ("heap", [count]) => self.heap = Some(heap(self.alloc, short_number(count)?)?),
             ("object", [of, kinds]) => {
                 let kinds = kinds_of(self.alloc, kinds)?;
-                put(said, "at", &object(&mut self.heap, class(of)?, &kinds))?;
+                put(said, "at", &object(self.heap()?, class(of)?, &kinds))?;
             }
-            ("ints", [count]) => put(said, "at", &ints(&mut self.heap, short_number(count)?)?)?,
+            ("ints", [count]) => put(said, "at", &ints(self.heap()?, short_number(count)?)?)?,
             _ => return Err(RowFault::Bad),
         }
         Ok(())
     }
 
+    fn heap(&mut self) -> Result<&mut Heap, RowFault> {
+        self.heap.as_mut().ok_or(RowFault::Bad)
+    }
+
     fn hold(&mut self, said: &mut Vec<u8>, reference: Ref) -> Result<(), RowFault> {
-        put(said, "holds", &hold(&mut self.references, reference))?;
-        put(said, "count", &self.references.len())
+        let references = self.references.as_mut().ok_or(RowFault::Bad)?;
+        put(said, "holds", &hold(references, reference))?;
+        put(said, "count", &references.len())
     }
 }
 

@@ -1,7 +1,10 @@
 //! From the parts of a class to its program.
 
+ghost use Rattle.std.specs.Prelude.{All, IfOk};
+ghost use Rattle.cf_reader.specs.WellFormed.{IsWellFormed};
+
 use super::spelling::count;
-use cf_reader::{ReadFault, read_class};
+use cf_reader::{ClassFile, ReadFault, read_class};
 use class_builder::{BuildFault, ClassParts, CodeParts, Line, MethodParts, SUM, class_bytes};
 use cls_link::{LinkFault, Linked, link};
 use cls_set::{ClassId, ClassSet, SetFault};
@@ -44,16 +47,12 @@ fn no_lines<'a>() -> &'a [Line<'a>] {
 
 fn class_of(alloc: Global, interface: &str, method: &MethodParts<'_>) -> Result<Vec<u8>, RowFault> {
     let named = [interface];
-    let interfaces = if interface == "-" {
-        &named[..0]
-    } else {
-        &named[..]
-    };
+    let count = if interface == "-" { 0 } else { 1 };
     let class = ClassParts {
         flags: 0x0021,
         name: "T",
         superclass: "java/lang/Object",
-        interfaces,
+        interfaces: &named[..count],
         fields: &[],
         methods: &[*method],
         attributes: &[],
@@ -65,8 +64,8 @@ fn class_of(alloc: Global, interface: &str, method: &MethodParts<'_>) -> Result<
     }
 }
 
-// From the bytes of a class to its program. Each step stands in a function that promises nothing: what follows
-// is proved without what a call promises.
+// From the bytes of a class to its program. Each step stands in a function that promises no more than what the
+// next one asks: what follows is proved without what a call promises.
 fn program_of(alloc: Global, bytes: &[u8]) -> Result<Program, RowFault> {
     Ok(Program::of(alloc, accepted_of(alloc, bytes)?)?)
 }
@@ -88,16 +87,28 @@ fn linked_of(alloc: Global, bytes: &[u8]) -> Result<Linked, RowFault> {
 }
 
 fn set_of(alloc: Global, bytes: &[u8]) -> Result<ClassSet, RowFault> {
-    let class = match read_class(alloc, bytes) {
-        Ok(class) => class,
-        Err(ReadFault::Memory) => return Err(RowFault::Memory),
-        Err(_) => return Err(RowFault::Bad),
-    };
-    let mut files = Vec::new(alloc);
-    files.push(class)?;
-    match ClassSet::build(alloc, files) {
+    match ClassSet::build(alloc, files_of(alloc, bytes)?) {
         Ok(set) => Ok(set),
         Err(SetFault::Memory) => Err(RowFault::Memory),
+        Err(_) => Err(RowFault::Bad),
+    }
+}
+
+fn files_of(alloc: Global, bytes: &[u8]) -> Result<Vec<ClassFile>, RowFault>
+    ensures { IfOk result (λ files. All IsWellFormed files.items) }
+{
+    let class = read(alloc, bytes)?;
+    let mut files = Vec::new(alloc);
+    files.push(class)?;
+    Ok(files)
+}
+
+fn read(alloc: Global, bytes: &[u8]) -> Result<ClassFile, RowFault>
+    ensures { IfOk result IsWellFormed }
+{
+    match read_class(alloc, bytes) {
+        Ok(class) => Ok(class),
+        Err(ReadFault::Memory) => Err(RowFault::Memory),
         Err(_) => Err(RowFault::Bad),
     }
 }

@@ -32,8 +32,9 @@ pub fn argument(alloc: Global, text: &str) -> Result<Option<Value>, RowFault> {
 
 /// Returns the reference that a word spells.
 pub fn reference(alloc: Global, word: &str) -> Result<Ref, RowFault> {
-    match test_rows::value(alloc, word)? {
-        Value::Ref(reference) => Ok(reference),
+    let value = test_rows::value(alloc, word)?;
+    match &value {
+        Value::Ref(reference) => Ok(*reference),
         _ => Err(RowFault::Bad),
     }
 }

@@ -4,7 +4,7 @@ use super::memory::Memory;
 use super::programs::{class_number, one_method, sum};
 use super::spelling::{argument, count, put, short_number};
 use super::tasks;
-use std::alloc::{AllocError, Global};
+use std::alloc::Global;
 use test_rows::{RowFault, number};
 use vm_run::{Limits, Program};
 
@@ -19,13 +19,13 @@ pub struct Stage {
 
 impl Stage {
     /// Returns a stage without a program, whose limits are those of the command line.
-    pub fn new(alloc: Global) -> Result<Stage, AllocError> {
-        Ok(Stage {
+    pub fn new(alloc: Global) -> Stage {
+        Stage {
             alloc,
-            memory: Memory::new(alloc)?,
+            memory: Memory::new(alloc),
             program: None,
             limits: Limits::default(),
-        })
+        }
     }
 
     /// Plays a row, and returns the answer to it.

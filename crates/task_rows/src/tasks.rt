@@ -27,6 +27,19 @@ fn put_fault(said: &mut Vec<u8>, fault: StartFault) -> Result<(), RowFault> {
     Ok(())
 }
 
+// Why a row has no task: it is bad, memory ran out, or the task does not start.
+#[derive(Clone, Copy)]
+enum Untold {
+    Row(RowFault),
+    Start(StartFault),
+}
+
+impl From<RowFault> for Untold {
+    fn from(fault: RowFault) -> Untold {
+        Untold::Row(fault)
+    }
+}
+
 /// Starts a task, lets it run in pieces, and prints how it stands.
 pub fn play(
     alloc: Global,
@@ -39,33 +52,63 @@ pub fn play(
     let [pieces, method, arguments @ ..] = words else {
         return Err(RowFault::Bad);
     };
-    let method = method_of(program, method)?;
-    let arguments = values(alloc, arguments)?;
-    let mut task = match begin(alloc, program, method, arguments, limits)? {
-        Ok(task) => task,
-        Err(StartFault::Memory) => return Err(RowFault::Memory),
-        Err(fault) => return put_fault(said, fault),
-    };
+    match begin(alloc, program, limits, method, arguments) {
+        Ok(mut task) => put_task(alloc, said, program, &mut task, kind, pieces),
+        Err(Untold::Start(fault)) => put_fault(said, fault),
+        Err(Untold::Row(fault)) => Err(fault),
+    }
+}
+
+fn put_task(
+    alloc: Global,
+    said: &mut Vec<u8>,
+    program: &Program,
+    task: &mut Task,
+    kind: &str,
+    pieces: &str,
+) -> Result<(), RowFault>
+    requires { task.old.program ≡ program.now }
+{
     match kind {
-        "turns" => put_turns(alloc, said, program, &mut task, number(pieces)?),
-        "pieces" => put_pieces(alloc, said, program, &mut task, pieces),
-        _ => Err(RowFault::Bad),
+        "turns" => put_turns(alloc, said, program, task, number(pieces)?),
+        _ => put_pieces(alloc, said, program, task, pieces),
     }
 }
 
 fn begin(
     alloc: Global,
     program: &Program,
+    limits: Limits,
+    method: &str,
+    arguments: &[&str],
+) -> Result<Task, Untold>
+    ensures { IfOk result (λ task. task.program ≡ program.now) }
+{
+    let method = method_of(program, method)?;
+    let arguments = values(alloc, arguments)?;
+    start(alloc, program, limits, method, arguments)
+}
+
+fn start(
+    alloc: Global,
+    program: &Program,
+    limits: Limits,
     method: MethodId,
     arguments: Vec<Value>,
-    limits: Limits,
-) -> Result<Result<Task, StartFault>, RowFault>
-    ensures { IfOk result (λ begun. IfOk begun (λ task. task.program ≡ program.now)) }
+) -> Result<Task, Untold>
+    ensures { IfOk result (λ task. task.program ≡ program.now) }
 {
     if limits.heap_words > MOST_HEAP_WORDS {
-        return Err(RowFault::Bad);
+        return Err(Untold::Row(RowFault::Bad));
     }
-    Ok(Task::start(alloc, program, Uuid::nil(), method, arguments, limits))
+    Task::start(alloc, program, Uuid::nil(), method, arguments, limits).map_err(told_of)
+}
+
+fn told_of(fault: StartFault) -> Untold {
+    match fault {
+        StartFault::Memory => Untold::Row(RowFault::Memory),
+        fault => Untold::Start(fault),
+    }
 }
 
 // What the calls answer. These functions promise no more than which program the task has, so that a row is
