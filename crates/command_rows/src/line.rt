@@ -29,6 +29,9 @@ pub enum Line<'a> {
     Change(Change),
     /// A command line for the program, over the folder in memory.
     InMemory(&'a str),
+    /// A command line for the program, over the folder in memory, with an output that fails after
+    /// `room` bytes.
+    CutOff { room: usize, words: &'a str },
     /// A command line for the program, over the file system.
     OnDisk(&'a str),
 }
@@ -46,6 +49,9 @@ pub fn line_of<'a>(alloc: Global, text: &'a str) -> Result<Line<'a>, LineFault> 
     }
     if let Some(words) = text.strip_prefix("@ ") {
         return Ok(Line::OnDisk(words));
+    }
+    if let Some(cut_off) = text.strip_prefix("! ") {
+        return cut_off_of(cut_off);
     }
     if let Some(times) = text.strip_prefix("times ") {
         return times_of(times);
@@ -94,6 +100,14 @@ pub fn line_of<'a>(alloc: Global, text: &'a str) -> Result<Line<'a>, LineFault> 
         }
         parts => Ok(Line::Change(change_of(alloc, parts)?)),
     }
+}
+
+fn cut_off_of<'a>(text: &'a str) -> Result<Line<'a>, LineFault> {
+    let (room, words) = text.split_once(' ').ok_or(LineFault::Bad)?;
+    Ok(Line::CutOff {
+        room: number(room)?,
+        words,
+    })
 }
 
 fn times_of<'a>(text: &'a str) -> Result<Line<'a>, LineFault> {

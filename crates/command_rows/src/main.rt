@@ -22,6 +22,7 @@
 //! | `again FROM TO` | appends the last file's own bytes from FROM up to TO |
 //! | `torn` | the device of the last file fails after its bytes |
 //! | `> ARGUMENTS` | runs `rmispace` with these arguments over the folder |
+//! | `! N ARGUMENTS` | runs it so, with a standard output that fails after N bytes |
 //! | `@ ARGUMENTS` | runs it over the file system |
 //!
 //! Single spaces part the words of a line, and numbers are decimal. A line that runs is printed; the

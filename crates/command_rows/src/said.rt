@@ -3,7 +3,7 @@
 use sp_main::{Folder, command};
 use std::alloc::{AllocError, Global};
 use std::io;
-use std::io::Write;
+use std::io::{ErrorKind, Write};
 
 /// The status that the program ended with, and what it printed on its two outputs.
 #[derive(Drop)]
@@ -17,18 +17,28 @@ impl Said {
     /// Runs `rmispace` over a folder with these arguments, parted by single spaces, and returns
     /// what it said.
     pub fn of<F: Folder>(alloc: Global, folder: &F, words: &str) -> Result<Said, AllocError> {
-        let words = words_of(alloc, words)?;
         let mut out = Vec::new(alloc);
-        let mut err = Vec::new(alloc);
-        let status = command(
-            alloc,
-            &words,
-            folder,
-            &mut b"".as_slice(),
-            &mut out,
-            &mut err,
-        );
+        let (status, err) = run(alloc, folder, words, &mut out)?;
         Ok(Said { status, out, err })
+    }
+
+    /// Returns what it said if its standard output fails after `room` bytes.
+    pub fn cut_off<F: Folder>(
+        alloc: Global,
+        folder: &F,
+        words: &str,
+        room: usize,
+    ) -> Result<Said, AllocError> {
+        let mut out = ShortOutput {
+            bytes: Vec::new(alloc),
+            room,
+        };
+        let (status, err) = run(alloc, folder, words, &mut out)?;
+        Ok(Said {
+            status,
+            out: out.bytes,
+            err,
+        })
     }
 
     /// Prints the status and each line of the outputs.
@@ -36,6 +46,52 @@ impl Said {
         writeln!(out, "{}", self.status)?;
         put_lines(out, b"out: ", &self.out)?;
         put_lines(out, b"err: ", &self.err)
+    }
+}
+
+// The status of a command line, and what it printed of faults. This promises nothing, so that what follows is
+// proved without what the program promises.
+fn run<F: Folder, O: Write>(
+    alloc: Global,
+    folder: &F,
+    words: &str,
+    out: &mut O,
+) -> Result<(u8, Vec<u8>), AllocError> {
+    let words = words_of(alloc, words)?;
+    let mut err = Vec::new(alloc);
+    let status = command(
+        alloc,
+        &words,
+        folder,
+        &mut b"".as_slice(),
+        out,
+        &mut err,
+    );
+    Ok((status, err))
+}
+
+// A device that fails when there is no room left.
+#[derive(Drop)]
+struct ShortOutput {
+    bytes: Vec<u8>,
+    room: usize,
+}
+
+impl Write for ShortOutput {
+    fn write(&mut self, bytes: &[u8]) -> io::Result<usize> {
+        let count = usize::min(self.room, bytes.len());
+        if count == 0 {
+            return Err(io::Error::from(ErrorKind::BrokenPipe));
+        }
+        self.bytes
+            .extend_from_slice(&bytes[..count])
+            .map_err(|_| io::Error::from(ErrorKind::OutOfMemory))?;
+        self.room -= count;
+        Ok(count)
+    }
+
+    fn flush(&mut self) -> io::Result<()> {
+        Ok(())
     }
 }
 

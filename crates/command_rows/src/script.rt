@@ -55,6 +55,10 @@ impl Script {
                 let folder = &self.shelf;
                 return Ok(Reply::Said(Said::of(alloc, &folder, words)?));
             }
+            Line::CutOff { room, words } => {
+                let folder = &self.shelf;
+                return Ok(Reply::Said(Said::cut_off(alloc, &folder, words, room)?));
+            }
             Line::OnDisk(words) => {
                 return Ok(Reply::Said(Said::of(alloc, &Disk { runtime }, words)?));
             }
