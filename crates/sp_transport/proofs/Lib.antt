@@ -1,0 +1,14 @@
+pub mod SaidLemmas
+pub mod OrderLemmas
+pub mod LinesLemmas
+pub mod StepLemmas
+pub mod HolderLemmas
+pub mod MakingLemmas
+pub mod DialLemmas
+pub mod GoingLemmas
+pub mod ViewLemmas
+pub mod RowLemmas
+pub mod OpeningLemmas
+pub mod DialledLemmas
+pub mod AnsweringLemmas
+pub mod EndingLemmas

@@ -1,0 +1,17 @@
+use Rattle.std.proofs.Common.{refl}
+use Rattle.sp_rules.specs.State.{opening}
+use Rattle.sp_transport.proofs.ViewLemmas.{opening-lines}
+use Rattle.sp_transport.proofs.transport.Transport.new.Goals as goal
+
+pub returns : goal.returns
+unfolding opening
+returns c = record {
+  leases = c.new.ensures;
+  connections = c.new-2.ensures;
+  asked = c.new-3.ensures;
+  calls_made = refl;
+  groups_made = refl;
+  fresh = refl;
+  notes = c.new-4.ensures;
+  lines = opening-lines;
+}

@@ -1,0 +1,77 @@
+//! Room, made before an event changes anything.
+
+ghost use Rattle.std.specs.Prelude.{◌≡◌, ◌≤◌, ℕ, OnOk, length};
+ghost use Rattle.dgc_client.specs.DueCalls.{HasRoomFor};
+ghost use Rattle.dgc_client.specs.Table as client;
+ghost use Rattle.sp_rules.specs.State.{State};
+
+use crate::Transport;
+use space_ids::Uuid;
+use std::alloc::AllocError;
+
+impl Transport {
+    ghost use Rattle.sp_transport.specs.Rooms.{HasRow, KeepsRows, Spends, connection_room, lease_room, note_room, peer_room, references_in};
+    ghost use Rattle.sp_transport.specs.Transports.{IsTransport};
+
+    /// Makes room for this many references that were never held. Nothing else changes, at out of memory
+    /// too.
+    pub fn reserve_holders(&mut self, references: usize) -> Result<(), AllocError>
+        ensures room { OnOk result (references ≤ lease_room self.new) }
+        ensures same { (s : State) → IsTransport s self.old → IsTransport s self.new }
+        ensures rooms { Spends 0 0 0 0 self.old self.new }
+        ensures rows { KeepsRows self.old self.new }
+    {
+        self.leases.reserve(references)
+    }
+
+    /// Makes room for this many more connections, and for this many more peers to be dialled. Nothing
+    /// else changes, at out of memory too.
+    pub fn reserve_connections(
+        &mut self,
+        connections: usize,
+        peers: usize,
+    ) -> Result<(), AllocError>
+        ensures connections { OnOk result (connections ≤ connection_room self.new) }
+        ensures peers { OnOk result (peers ≤ peer_room self.new) }
+        ensures same { (s : State) → IsTransport s self.old → IsTransport s self.new }
+        ensures rooms { Spends 0 0 0 0 self.old self.new }
+        ensures rows { KeepsRows self.old self.new }
+    {
+        self.connections.reserve(connections, peers)
+    }
+
+    /// Gives a peer a row, if it has none, and makes room in it for this many more requests that wait,
+    /// calls that are out, and groups that are out. Nothing else changes, at out of memory too.
+    pub fn reserve_requests(
+        &mut self,
+        peer: &Uuid,
+        waiting: usize,
+        calls: usize,
+        groups: usize,
+    ) -> Result<(), AllocError>
+        ensures room { OnOk result (HasRow peer.now waiting calls groups self.new) }
+        ensures same { (s : State) → IsTransport s self.old → IsTransport s self.new }
+        ensures rooms { Spends 0 0 0 0 self.old self.new }
+        ensures rows { KeepsRows self.old self.new }
+    {
+        self.peers.reserve(peer, waiting, calls, groups)
+    }
+
+    /// Makes room for this many more outputs. Nothing else changes, at out of memory too.
+    pub fn reserve_notes(&mut self, notes: usize) -> Result<(), AllocError>
+        ensures room { OnOk result (notes ≤ note_room self.new) }
+        ensures same { (s : State) → IsTransport s self.old → IsTransport s self.new }
+        ensures rooms { Spends 0 0 0 0 self.old self.new }
+        ensures rows { KeepsRows self.old self.new }
+    {
+        self.outputs.reserve(notes)
+    }
+
+    /// How many foreign references were ever held. At most that many dirty and clean calls can be due.
+    pub fn references(&self) -> usize
+        ensures count { result ≡ references_in self.now }
+        ensures held { (s : State) → IsTransport s self.now → result ≡ length (client.held s.leases) }
+    {
+        self.leases.references()
+    }
+}
