@@ -12,3 +12,6 @@ pub mod OpeningLemmas
 pub mod DialledLemmas
 pub mod AnsweringLemmas
 pub mod EndingLemmas
+pub mod DueLemmas
+pub mod SettleLemmas
+pub mod LoopLemmas

@@ -5,6 +5,7 @@
 //! the state is a function of the rules, so that an event of a space is a row of calls.
 #![tactic(auto)]
 
+pub use settling::DueRoom;
 pub use transport::{Fresh, Transport};
 
 mod answering;
@@ -15,4 +16,5 @@ mod making;
 mod opening;
 mod reserving;
 mod saying;
+mod settling;
 mod transport;
