@@ -176,7 +176,7 @@ now-parked s t conn number peers asked a = record {
 lines-acked : (p : LineParts) (peer : Uuid) (n : ℕ) (m : Message) (g : Connection) → AreLines p → AreNumbered (recorded p.connections p.notes) → dialled_to (recorded p.connections p.notes) peer ≡ Some g → g.number ≡ n → call_number_in m ≡ [] → sequence_in m ≡ []
     → AreLines (record p { notes = p.notes ++ Sends Acks n m ∷ [] })
 lines-acked p peer n m g a numbered there number nil none = record {
-  sent = sent-lines (asked_up_to p.made p.fresh) p.told p.told Acks n m p.notes p.connections peer g numbered there number (omega arith) (line-plain {asked_up_to p.made p.fresh} {p.told} {g} m nil none (a.sent peer g there)) a.sent;
+  sent = sent-lines (asked_up_to p.made p.fresh) p.told p.told Acks n m p.notes p.connections peer g numbered there number (omega arith) (line-plain {asked = asked_up_to p.made p.fresh} {told = p.told} {c = g} m nil none (a.sent peer g there)) a.sent;
   waiting = a.waiting;
   out = a.out;
   rising = a.rising;

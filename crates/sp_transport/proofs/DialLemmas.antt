@@ -12,9 +12,9 @@ turned : (b : Bool) → not (not b) ≡ b
 turned true = refl
 turned false = refl
 
--- whether a peer is known, by whether it is no news
-pub known-of : (known news b : Bool) → news ≡ not known → not news ≡ b → known ≡ b
-known-of known news b is no = sym (turned known) ∙ (sym (ap not is) ∙ no)
+-- whether a peer is known, by whether it is news
+pub known-of : (known news b : Bool) → news ≡ not known → news ≡ b → known ≡ not b
+known-of known news b is e = sym (turned known) ∙ (ap not (sym is) ∙ ap not e)
 
 pub known-dialled : (peer : Uuid) (rows : List Connection) (dialling : List Uuid) → (is_some (to_peer peer rows) || is_dialled peer dialling) ≡ true → dialled_once peer rows dialling ≡ dialling
 known-dialled peer rows dialling known = ap (λ b. cond b dialling (dialling ++ peer ∷ [])) known

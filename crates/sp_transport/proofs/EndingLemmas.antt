@@ -92,6 +92,7 @@ lines-left s cs dialling is a found same = record {
 -- one that a peer dialled
 pub now-closed : (s : State) (t : Transport) (conn : ℕ) (c : Connection) (connections : Connections) → s.notes ≡ [] → connection_at s conn ≡ Some c → c.dialled ≡ None → AreConnections (without conn s.connections) s.dialling connections → IsTransport s t
     → IsTransport (without_connection conn s) (record t { connections = connections })
+unfolding in_order
 now-closed s t conn c connections none at its links a = record {
   leases = a.leases;
   connections = links;
@@ -110,7 +111,6 @@ now-closed s t conn c connections none at its links a = record {
     first = lines-first s t none a
 
     left : AreLines (record (line_parts s) { connections = without conn s.connections; notes = [] })
-    unfolding in_order
     left = record {
       sent = λ q d e. first.sent q d (sym (same q) ∙ e);
       waiting = all-weaken (WaitsForHello s.connections s.dialling) (WaitsForHello (without conn s.connections) s.dialling) s.requests (λ r w is. let x = w is in (ap (λ o. is_some o || list_any (bytes_eq r.peer) s.dialling) (same r.peer) ∙ x.0, ap hello_came (same r.peer) ∙ x.1)) first.waiting;
@@ -194,27 +194,20 @@ now-refused s t peer connections peers none is links asked a = record {
 
 -- ---- what is told
 
+both-empty : (xs ys : List ℕ) → xs ++ ys ≡ [] → (xs ≡ []) × (ys ≡ [])
+both-empty [] ys f = (refl, f)
+both-empty (x ∷ xs) ys f = absurd (cons x (xs ++ ys) f)
+  where
+    cons : (y : ℕ) (zs : List ℕ) → y ∷ zs ≡ [] → ⊥
+    cons y zs h = cc
+
 -- no call is among the last frames if none went out
 none-unsent : (unsent : ℕ) (sent : List Message) → flat_map call_number_in sent ≡ [] → flat_map call_number_in (take unsent sent) ≡ []
-none-unsent unsent [] e = within unsent
-  where
-    within : (n : ℕ) → flat_map call_number_in (take n []) ≡ []
-    within n = refl
-none-unsent unsent (m ∷ ms) e = pick unsent
-  where
-    split : (xs ys : List ℕ) → xs ++ ys ≡ [] → (xs ≡ []) × (ys ≡ [])
-    split [] ys f = (refl, f)
-    split (x ∷ xs) ys f = absurd (cons x (xs ++ ys) f)
-      where
-        cons : (y : ℕ) (zs : List ℕ) → y ∷ zs ≡ [] → ⊥
-        cons y zs h = cc
-
-    parts : (call_number_in m ≡ []) × (flat_map call_number_in ms ≡ [])
-    parts = split (call_number_in m) (flat_map call_number_in ms) e
-
-    pick : (n : ℕ) → flat_map call_number_in (take n (m ∷ ms)) ≡ []
-    pick zero = refl
-    pick (suc n) = ap (λ (l : List ℕ). l ++ flat_map call_number_in (take n ms)) parts.0 ∙ none-unsent n ms parts.1
+none-unsent zero [] e = refl
+none-unsent zero (m ∷ ms) e = refl
+none-unsent (suc n) [] e = refl
+none-unsent (suc n) (m ∷ ms) e =
+    let parts = both-empty (call_number_in m) (flat_map call_number_in ms) e in ap (λ (l : List ℕ). l ++ flat_map call_number_in (take n ms)) parts.0 ∙ none-unsent n ms parts.1
 
 told-alike : (unsent : List ℕ) (stage : rules.Stage) (asks : List (ℕ × Asker)) → (is_waiting stage ≡ true → unsent ≡ []) → map (ended_at unsent stage) asks ≡ map (λ (row : ℕ × Asker). record { asker = row.1; unsent = list_any (◌==◌ row.0) unsent }) asks
 told-alike unsent stage [] quiet = refl

@@ -64,26 +64,26 @@ pub call-out : (s : State) (t : Transport) (turn : Turn) (conn : ℕ) (peer : Uu
     → hello_came (connection_to s peer) ≡ Some conn → IsNamed (asked_of asked) → AreNextOut s peer (call_number (asked_of asked)) → CallsMayGo (turn_of turn) s → GoesOut t peer number (asker.Call task lent kind) peers → notes_of outputs ≡ notes_of t.outputs ++ Sends (turn_of turn) conn m ∷ [] → IsTransport s t
     → IsTransport (go_out (turn_of turn) conn (record { peer = peer; asked = asked_of asked; stage = Waits }) s) (record t { peers = peers; outputs = outputs })
 unfolding go_out
-call-out s t turn conn peer asked number task lent kind m peers outputs is no hello named next may out e a =
+call-out s t turn conn peer asked number task lent kind m peers outputs is isnt hello named next may out e a =
     let l = line-of s t peer conn hello a in
     let its : IsNamed (Calls number task lent (kind_of kind) m) = subst (λ (x : kept.Asked). IsNamed (asked_of x)) is named in
     let first : AreNextOut s peer (number ∷ []) = subst (λ (x : kept.Asked). AreNextOut s peer (call_number (asked_of x))) is next in
     let question = Calls number task lent (kind_of kind) m in
     subst (λ (x : kept.Asked). IsTransport (go_out (turn_of turn) conn (record { peer = peer; asked = asked_of x; stage = Waits }) s) (record t { peers = peers; outputs = outputs })) (sym is)
-    (now-called s t (turn_of turn) conn peer question number m peers outputs l no refl its (no-sequence m number its) first may
+    (now-called s t (turn_of turn) conn peer question number m peers outputs l isnt refl its (no-sequence m number its) first may
     (out (said s) s.requests l.row question m a.asked l.there (called-above s peer question number l.row refl l.there first) (ap (λ (k : ResultKind). (number, asker.Call task lent k) ∷ []) (same-kind kind)) its its) e a)
 
 pub lookup-out : (s : State) (t : Transport) (turn : Turn) (conn : ℕ) (peer : Uuid) (asked : kept.Asked) (number task : ℕ) (name : List ℕ) (peers : Peers) (outputs : Outputs) → asked ≡ kept_asked.Lookup number task name → is_acks (turn_of turn) ≡ false
     → hello_came (connection_to s peer) ≡ Some conn → AreNextOut s peer (call_number (asked_of asked)) → CallsMayGo (turn_of turn) s → GoesOut t peer number (asker.Lookup task) peers → notes_of outputs ≡ notes_of t.outputs ++ Sends (turn_of turn) conn (message.Lookup number name) ∷ [] → IsTransport s t
     → IsTransport (go_out (turn_of turn) conn (record { peer = peer; asked = asked_of asked; stage = Waits }) s) (record t { peers = peers; outputs = outputs })
 unfolding go_out
-lookup-out s t turn conn peer asked number task name peers outputs is no hello next may out e a =
+lookup-out s t turn conn peer asked number task name peers outputs is isnt hello next may out e a =
     let l = line-of s t peer conn hello a in
     let first : AreNextOut s peer (number ∷ []) = subst (λ (x : kept.Asked). AreNextOut s peer (call_number (asked_of x))) is next in
     let question = LooksUp number task name in
     let m = message.Lookup number name in
     subst (λ (x : kept.Asked). IsTransport (go_out (turn_of turn) conn (record { peer = peer; asked = asked_of x; stage = Waits }) s) (record t { peers = peers; outputs = outputs })) (sym is)
-    (now-called s t (turn_of turn) conn peer question number m peers outputs l no refl refl refl first may
+    (now-called s t (turn_of turn) conn peer question number m peers outputs l isnt refl refl refl first may
     (out (said s) s.requests l.row question m a.asked l.there (called-above s peer question number l.row refl l.there first) refl tt refl) e a)
 
 -- What the table of peers promises of dirty or clean calls that go out.
@@ -94,7 +94,7 @@ TellsOut t peer sequence call group peers = (connections : List Connection) (req
 pub tell-out : (s : State) (t : Transport) (turn : Turn) (conn call : ℕ) (part : Group) (sequence : ℕ) (leases : Clients) (peers : Peers) (outputs : Outputs) → is_acks (turn_of turn) ≡ false → sequence ≡ client.numbers_of s.leases + 1 → hello_came (connection_to s part.peer) ≡ Some conn → GroupsMayGo (turn_of turn) s
     → client.IsAfter (client.sent part call s.leases) leases → TellsOut t part.peer sequence call part peers → notes_of outputs ≡ notes_of t.outputs ++ Sends (turn_of turn) conn (group_frame part.kind sequence part.ids) ∷ [] → IsTransport s t
     → IsTransport (part_goes_out (turn_of turn) conn call s part) (record t { leases = leases; peers = peers; outputs = outputs })
-tell-out s t turn conn call part sequence leases peers outputs no number hello may after out e a =
+tell-out s t turn conn call part sequence leases peers outputs isnt number hello may after out e a =
     let l = line-of s t part.peer conn hello a in
     let told = (a.lines.sent part.peer l.row l.there).told_of in
-    now-told s t (turn_of turn) conn call part sequence leases peers outputs l no number may after (out (said s) s.requests l.row a.asked l.there (omega (arith, told, number))) e a
+    now-told s t (turn_of turn) conn call part sequence leases peers outputs l isnt number may after (out (said s) s.requests l.row a.asked l.there (omega (arith, told, number))) e a

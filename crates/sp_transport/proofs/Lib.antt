@@ -15,3 +15,4 @@ pub mod EndingLemmas
 pub mod DueLemmas
 pub mod SettleLemmas
 pub mod LoopLemmas
+pub mod ConcludingLemmas

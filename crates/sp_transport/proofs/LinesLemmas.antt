@@ -73,7 +73,7 @@ line-wider {asked} {told} {more} {later} {c} le lt a = record { called = let x :
 
 -- a call or lookup goes out, after the peer's Hello
 pub line-call : {asked told : ℕ} {c : Connection} (m : Message) (n : ℕ) → call_number_in m ≡ n ∷ [] → sequence_in m ≡ [] → n ≤ asked → is_some c.peer ≡ true → IsLine asked told c → IsLine asked told (with_frame m c)
-line-call {asked} {told} {c} m n number nil le some a = record {
+line-call {asked = asked} {told = told} {c = c} m n number nil le some a = record {
   called = subst (λ (l : List ℕ). newest (l ++ flat_map call_number_in c.sent) ≤ asked) (sym number) le;
   told_of = subst (λ (l : List ℕ). newest (l ++ flat_map sequence_in c.sent) ≤ told) (sym nil) a.told_of;
   quiet = λ none. absurd (true≢false (sym some ∙ ap is_some none));
@@ -81,7 +81,7 @@ line-call {asked} {told} {c} m n number nil le some a = record {
 
 -- dirty or clean calls go out, after it
 pub line-group : {asked told : ℕ} {c : Connection} (m : Message) (n : ℕ) → call_number_in m ≡ [] → sequence_in m ≡ n ∷ [] → n ≤ told → is_some c.peer ≡ true → IsLine asked told c → IsLine asked told (with_frame m c)
-line-group {asked} {told} {c} m n nil number le some a = record {
+line-group {asked = asked} {told = told} {c = c} m n nil number le some a = record {
   called = subst (λ (l : List ℕ). newest (l ++ flat_map call_number_in c.sent) ≤ asked) (sym nil) a.called;
   told_of = subst (λ (l : List ℕ). newest (l ++ flat_map sequence_in c.sent) ≤ told) (sym number) le;
   quiet = λ none. absurd (true≢false (sym some ∙ ap is_some none));
@@ -89,10 +89,10 @@ line-group {asked} {told} {c} m n nil number le some a = record {
 
 -- another frame goes out
 pub line-plain : {asked told : ℕ} {c : Connection} (m : Message) → call_number_in m ≡ [] → sequence_in m ≡ [] → IsLine asked told c → IsLine asked told (with_frame m c)
-line-plain {asked} {told} {c} m nil none a = record {
+line-plain {asked = asked} {told = told} {c = c} m nil none a = record {
   called = subst (λ (l : List ℕ). newest (l ++ flat_map call_number_in c.sent) ≤ asked) (sym nil) a.called;
   told_of = subst (λ (l : List ℕ). newest (l ++ flat_map sequence_in c.sent) ≤ told) (sym none) a.told_of;
-  quiet = λ no. ap (λ (l : List ℕ). l ++ flat_map call_number_in c.sent) nil ∙ a.quiet no;
+  quiet = λ isnt. ap (λ (l : List ℕ). l ++ flat_map call_number_in c.sent) nil ∙ a.quiet isnt;
 }
 
 -- the connections of two peers that have one number are one
@@ -115,7 +115,7 @@ sent-lines asked told more turn n m notes cs peer g numbered there number le gro
     pick (sent-found n m (recorded cs notes) q c (sym (ap (λ (l : List Connection). dialled_to l q) (recorded-sent turn n m notes cs)) ∙ e))
   where
     pick : (dialled_to (recorded cs notes) q ≡ Some c) ⊎ IsSentOn n m (dialled_to (recorded cs notes) q) c → IsLine asked more c
-    pick (inl f) = line-wider {asked} {told} {asked} {more} {c} (omega arith) le (lines q c f)
+    pick (inl f) = line-wider {asked = asked} {told = told} {more = asked} {later = more} {c = c} (omega arith) le (lines q c f)
     pick (inr s) =
         let one : g ≡ s.before = one-line (recorded cs notes) peer q g s.before numbered there s.there (s.number ∙ sym number) in
         subst (IsLine asked more) (ap (with_frame m) one ∙ sym s.is) grows
@@ -192,7 +192,7 @@ up-to-made made (r ∷ rs) = omega arith
 -- no fewer calls were asked
 pub lines-asked : (p : LineParts) (made : ℕ) (fresh : List Request) → AreLines p → asked_up_to p.made p.fresh ≤ asked_up_to made fresh → AllOf (IsFresh made) fresh → AreLines (record p { made = made; fresh = fresh })
 lines-asked p made fresh a le is = record {
-  sent = λ q c e. line-wider {asked_up_to p.made p.fresh} {p.told} {asked_up_to made fresh} {p.told} {c} le (omega arith) (a.sent q c e);
+  sent = λ q c e. line-wider {asked = asked_up_to p.made p.fresh} {told = p.told} {more = asked_up_to made fresh} {later = p.told} {c = c} le (omega arith) (a.sent q c e);
   waiting = a.waiting;
   out = a.out;
   rising = rises-top 0 (asked_up_to p.made p.fresh) (asked_up_to made fresh) (waiting_numbers p.requests) le a.rising;

@@ -70,7 +70,7 @@ opened-lines asked told cs conn dialled m hello lines q c e = pick (sent-found c
 
     pick : (dialled_to (cs ++ new ∷ []) q ≡ Some c) ⊎ IsSentOn conn m (dialled_to (cs ++ new ∷ []) q) c → IsLine asked told c
     pick (inl f) = base c (more-found cs new q c f)
-    pick (inr s) = subst (IsLine asked told) (sym s.is) (line-plain {asked} {told} {s.before} m (hello-no-call hello) (hello-no-group hello) (base s.before (more-found cs new q s.before s.there)))
+    pick (inr s) = subst (IsLine asked told) (sym s.is) (line-plain {asked = asked} {told = told} {c = s.before} m (hello-no-call hello) (hello-no-group hello) (base s.before (more-found cs new q s.before s.there)))
 
 lines-opened : (p : LineParts) (conn : ℕ) (dialled : Option Uuid) (dialling : List Uuid) (m : Message) → IsHello m → AreLines (record p { notes = [] }) → AllOf (WaitsForHello (p.connections ++ opened conn dialled ∷ []) dialling) p.requests → AllOf (WentAfterHello (p.connections ++ opened conn dialled ∷ [])) p.requests
     → AreLines (record p { connections = p.connections ++ opened conn dialled ∷ []; dialling = dialling; notes = Sends Hellos conn m ∷ [] })
@@ -255,7 +255,7 @@ now-welcome s t conn peer c connections peers none at its links asked a = record
 
     line : (q : Uuid) (d : Connection) → (dialled_to s.connections q ≡ Some d) ⊎ IsChangedOn (speaks peer) (dialled_to s.connections q) d → IsLine (asked_up_to s.calls_made s.fresh) (client.numbers_of s.leases) d
     line q d (inl f) = first.sent q d f
-    line q d (inr x) = let old = first.sent q x.before x.there in subst (IsLine (asked_up_to s.calls_made s.fresh) (client.numbers_of s.leases)) (sym x.is) (record { called = old.called; told_of = old.told_of; quiet = λ no. absurd (some peer no) })
+    line q d (inr x) = let old = first.sent q x.before x.there in subst (IsLine (asked_up_to s.calls_made s.fresh) (client.numbers_of s.leases)) (sym x.is) (record { called = old.called; told_of = old.told_of; quiet = λ isnt. absurd (some peer isnt) })
 
     not-true : (b : Bool) → not b ≡ true → b ≡ false
     not-true true e = absurd (true≢false (sym e))

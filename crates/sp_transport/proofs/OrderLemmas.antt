@@ -213,7 +213,7 @@ alike-call turn n m notes cs first noted alike = alike-frame turn n m notes cs (
 -- dirty or clean calls
 pub alike-group : (turn : Turn) (n : ℕ) (m : Message) (notes : List Note) (cs : List Connection) → call_number_in m ≡ [] → AllOf (IsNotAfterButAcks turn) notes → AllOf IsNoted notes → AreLinesAlike (recorded cs notes) (recorded_in_order cs notes)
     → AreLinesAlike (recorded cs (notes ++ Sends turn n m ∷ [])) (recorded_in_order cs (notes ++ Sends turn n m ∷ []))
-alike-group turn n m notes cs no first noted alike = alike-frame turn n m notes cs (both (IsNotAfterButAcks turn) IsNoted (λ (x : Note). (rank x ≤ turn_rank turn) ⊎ Passes (Send n m) (output_of x)) notes each first noted) alike
+alike-group turn n m notes cs isnt first noted alike = alike-frame turn n m notes cs (both (IsNotAfterButAcks turn) IsNoted (λ (x : Note). (rank x ≤ turn_rank turn) ⊎ Passes (Send n m) (output_of x)) notes each first noted) alike
   where
     last : (t : Turn) (k : ℕ) (f : Message) → is_acks t ≡ true → IsOfTurn t f → Passes (Send n m) (Send k f)
     last Hellos k f e is = absurd (true≢false (sym e))
@@ -222,7 +222,7 @@ alike-group turn n m notes cs no first noted alike = alike-frame turn n m notes 
     last Cleans k f e is = absurd (true≢false (sym e))
     last Dirties k f e is = absurd (true≢false (sym e))
     last Calls k f e is = absurd (true≢false (sym e))
-    last Acks k f e is = λ ds. swap-sent n k m f ds no is.0 is.1
+    last Acks k f e is = λ ds. swap-sent n k m f ds isnt is.0 is.1
 
     ahead : (t : Turn) (k : ℕ) (f : Message) → IsOfTurn t f → (turn_rank t ≤ turn_rank turn) ⊎ (is_acks t ≡ true) → (turn_rank t ≤ turn_rank turn) ⊎ Passes (Send n m) (Send k f)
     ahead t k f is (inl le) = inl le

@@ -37,8 +37,8 @@ count-more m e = record {
 
 -- two frames that are no calls, of which one is no dirty or clean call either, may stand in either order
 count-swap : (m a : Message) (ms : List Message) → call_number_in m ≡ [] → call_number_in a ≡ [] → sequence_in a ≡ [] → CountAlike (m ∷ a ∷ ms) (a ∷ m ∷ ms)
-count-swap m a ms no none nil = record {
-  calls = ap (λ (l : List ℕ). l ∷ call_number_in a ∷ map call_number_in ms) (no ∙ sym none) ∙ ap (λ (l : List ℕ). call_number_in a ∷ l ∷ map call_number_in ms) (none ∙ sym no);
+count-swap m a ms isnt none nil = record {
+  calls = ap (λ (l : List ℕ). l ∷ call_number_in a ∷ map call_number_in ms) (isnt ∙ sym none) ∙ ap (λ (l : List ℕ). call_number_in a ∷ l ∷ map call_number_in ms) (none ∙ sym isnt);
   sequences = ap (λ (l : List ℕ). sequence_in m ++ (l ++ flat_map sequence_in ms)) nil ∙ sym (ap (λ (l : List ℕ). l ++ (sequence_in m ++ flat_map sequence_in ms)) nil);
 }
 
@@ -107,10 +107,10 @@ alike-outputs (o ∷ os) cs ds a = alike-outputs os (output_sent cs o) (output_s
 
 -- two such frames go out in either order, on whatever connections
 pub swap-sent : (n k : ℕ) (m a : Message) (cs : List Connection) → call_number_in m ≡ [] → call_number_in a ≡ [] → sequence_in a ≡ [] → AreLinesAlike (sent_on n m (sent_on k a cs)) (sent_on k a (sent_on n m cs))
-swap-sent n k m a [] no none nil = tt
-swap-sent n k m a (c ∷ cs) no none nil =
+swap-sent n k m a [] isnt none nil = tt
+swap-sent n k m a (c ∷ cs) isnt none nil =
     subst (λ (l : List Connection). AreLinesAlike l (sent_on k a (sent_on n m (c ∷ cs)))) (sym (left-is (c.number == k)))
-    (subst (λ (l : List Connection). AreLinesAlike (left (c.number == n) (c.number == k)) l) (sym (right-is (c.number == n))) (pick (c.number == n) (c.number == k) (swap-sent n k m a cs no none nil)))
+    (subst (λ (l : List Connection). AreLinesAlike (left (c.number == n) (c.number == k)) l) (sym (right-is (c.number == n))) (pick (c.number == n) (c.number == k) (swap-sent n k m a cs isnt none nil)))
   where
     left : Bool → Bool → List Connection
     left b d = cond d (cond b (with_frame m (with_frame a c) ∷ cs) (with_frame a c ∷ sent_on n m cs)) (cond b (with_frame m c ∷ sent_on k a cs) (c ∷ sent_on n m (sent_on k a cs)))
@@ -127,7 +127,7 @@ swap-sent n k m a (c ∷ cs) no none nil =
     right-is false = refl
 
     pick : (b d : Bool) → AreLinesAlike (sent_on n m (sent_on k a cs)) (sent_on k a (sent_on n m cs)) → AreLinesAlike (left b d) (right b d)
-    pick true true go = (record { number = refl; dialled = refl; peer = refl; sent = λ is. count-swap m a c.sent no none nil }, alike-self cs)
+    pick true true go = (record { number = refl; dialled = refl; peer = refl; sent = λ is. count-swap m a c.sent isnt none nil }, alike-self cs)
     pick true false go = alike-self (with_frame m c ∷ sent_on k a cs)
     pick false true go = alike-self (with_frame a c ∷ sent_on n m cs)
     pick false false go = (line-self c, go)
@@ -261,6 +261,14 @@ found-hello (Some c) (Some d) a = ap (λ (p : Option Uuid). cond (is_some p) (So
 -- whether a peer's Hello came does not depend on what is noted
 pub hello-noted : (notes : List Note) (cs : List Connection) (q : Uuid) → hello_came (dialled_to cs q) ≡ hello_came (dialled_to (recorded cs notes) q)
 hello-noted notes cs q = found-hello (dialled_to cs q) (dialled_to (recorded cs notes) q) (rows-dialled cs (recorded cs notes) q (rows-noted notes cs))
+
+-- nor does whether a connection was dialled to it
+pub none-noted : (notes : List Note) (cs : List Connection) (q : Uuid) → dialled_to cs q ≡ None → dialled_to (recorded cs notes) q ≡ None
+none-noted notes cs q e = pick (dialled_to (recorded cs notes) q) (subst (λ (o : Option Connection). AreSameFound o (dialled_to (recorded cs notes) q)) e (rows-dialled cs (recorded cs notes) q (rows-noted notes cs)))
+  where
+    pick : (o : Option Connection) → AreSameFound None o → o ≡ None
+    pick None same = refl
+    pick (Some c) same = absurd same
 
 -- The connection that was dialled to a peer has this number, and the peer's Hello came on it.
 pub record IsGreeted (n : ℕ) (o : Option Connection) : Type 0 where

@@ -131,7 +131,7 @@ accepts-all n (x ∷ xs) apart is = pick (x.number == n) refl (accepts-all n xs 
 -- a frame that answers goes out
 pub now-answered : (s : State) (t : Transport) (turn : Turn) (conn : ℕ) (m : Message) (outputs : Outputs) → is_acks turn ≡ false → ((c : Connection) → connection_at s conn ≡ Some c → c.dialled ≡ None) → notes_of outputs ≡ notes_of t.outputs ++ Sends turn conn m ∷ []
     → IsTransport s t → IsTransport (record s { notes = s.notes ++ Sends turn conn m ∷ [] }) (record t { outputs = outputs })
-now-answered s t turn conn m outputs no is e a =
+now-answered s t turn conn m outputs isnt is e a =
     let accepts = accepts-all conn s.connections a.connections.numbered_once is in
     let here = recorded s.connections s.notes in record {
       leases = a.leases;
@@ -142,17 +142,17 @@ now-answered s t turn conn m outputs no is e a =
       groups_made = a.groups_made;
       fresh = a.fresh;
       notes = e ∙ ap (λ (l : List Note). l ++ Sends turn conn m ∷ []) a.notes;
-      lines = lines-answer (line_parts s) turn conn m a.lines accepts (fits turn no);
+      lines = lines-answer (line_parts s) turn conn m a.lines accepts (fits turn isnt);
     }
   where
     fits : (u : Turn) → is_acks u ≡ false → IsOfTurn u m
-    fits event.Hellos no = tt
-    fits event.Replies no = tt
-    fits event.Waited no = tt
-    fits event.Cleans no = tt
-    fits event.Dirties no = tt
-    fits event.Calls no = tt
-    fits event.Acks no = absurd (true≢false no)
+    fits event.Hellos isnt = tt
+    fits event.Replies isnt = tt
+    fits event.Waited isnt = tt
+    fits event.Cleans isnt = tt
+    fits event.Dirties isnt = tt
+    fits event.Calls isnt = tt
+    fits event.Acks isnt = absurd (true≢false isnt)
 
 -- ---- requests that wait
 
@@ -208,7 +208,7 @@ line-of s t peer conn hello a =
 pub now-called : (s : State) (t : Transport) (turn : Turn) (conn : ℕ) (peer : Uuid) (asked : Asked) (n : ℕ) (m : Message) (peers : Peers) (outputs : Outputs) → (l : HasLine s peer conn) → is_acks turn ≡ false → call_number asked ≡ n ∷ [] → call_number_in m ≡ n ∷ [] → sequence_in m ≡ []
     → AreNextOut s peer (call_number asked) → CallsMayGo turn s → AreAsked (sent_on l.row.number m (said s)) (s.requests ++ record { peer = peer; asked = asked; stage = Out l.row.number 0 } ∷ []) peers → notes_of outputs ≡ notes_of t.outputs ++ Sends turn conn m ∷ [] → IsTransport s t
     → IsTransport (send turn conn m (add_request (record { peer = peer; asked = asked; stage = Out conn 0 }) s)) (record t { peers = peers; outputs = outputs })
-now-called s t turn conn peer asked n m peers outputs l no number its nil next may out e a =
+now-called s t turn conn peer asked n m peers outputs l isnt number its nil next may out e a =
     subst (λ (u : State). IsTransport u (record t { peers = peers; outputs = outputs })) (send-open turn conn m (add_request r s) l.stands) (record {
       leases = a.leases;
       connections = a.connections;
@@ -219,7 +219,7 @@ now-called s t turn conn peer asked n m peers outputs l no number its nil next m
       fresh = a.fresh;
       notes = e ∙ ap (λ (x : List Note). x ++ Sends turn conn m ∷ []) a.notes;
       lines = lines-out (line_parts s) (client.numbers_of s.leases) r turn conn m l.row a.lines a.asked.numbered_once refl l.hello l.there l.number (omega arith)
-          (line-call {asked_up_to s.calls_made s.fresh} {client.numbers_of s.leases} {l.row} m n its nil within l.greeted (a.lines.sent peer l.row l.there)) (fits turn no)
+          (line-call {asked = asked_up_to s.calls_made s.fresh} {told = client.numbers_of s.leases} {c = l.row} m n its nil within l.greeted (a.lines.sent peer l.row l.there)) (fits turn isnt)
           (alike-call turn conn m s.notes s.connections may a.lines.noted a.lines.alike);
     })
   where
@@ -230,13 +230,13 @@ now-called s t turn conn peer asked n m peers outputs l no number its nil next m
     within = let x : RisesWithin (last_call l.row.sent) (asked_up_to s.calls_made s.fresh) (n ∷ []) = subst (RisesWithin (last_call l.row.sent) (asked_up_to s.calls_made s.fresh)) number (next l.row l.there) in x.1
 
     fits : (u : Turn) → is_acks u ≡ false → IsOfTurn u m
-    fits event.Hellos no = tt
-    fits event.Replies no = tt
-    fits event.Waited no = tt
-    fits event.Cleans no = tt
-    fits event.Dirties no = tt
-    fits event.Calls no = tt
-    fits event.Acks no = absurd (true≢false no)
+    fits event.Hellos isnt = tt
+    fits event.Replies isnt = tt
+    fits event.Waited isnt = tt
+    fits event.Cleans isnt = tt
+    fits event.Dirties isnt = tt
+    fits event.Calls isnt = tt
+    fits event.Acks isnt = absurd (true≢false isnt)
 
 -- its number is above those of all that went before
 pub called-above : (s : State) (peer : Uuid) (asked : Asked) (n : ℕ) (c : Connection) → call_number asked ≡ n ∷ [] → dialled_to (said s) peer ≡ Some c → AreNextOut s peer (call_number asked) → last_call c.sent < n
@@ -257,7 +257,7 @@ pub now-told : (s : State) (t : Transport) (turn : Turn) (conn call : ℕ) (part
     → GroupsMayGo turn s → client.IsAfter (client.sent part call s.leases) leases → AreAsked (sent_on l.row.number (group_frame part.kind sequence part.ids) (said s)) (s.requests ++ record { peer = part.peer; asked = Tells call part; stage = Out l.row.number sequence } ∷ []) peers
     → notes_of outputs ≡ notes_of t.outputs ++ Sends turn conn (group_frame part.kind sequence part.ids) ∷ [] → IsTransport s t → IsTransport (part_goes_out turn conn call s part) (record t { leases = leases; peers = peers; outputs = outputs })
 unfolding part_goes_out
-now-told s t turn conn call part sequence leases peers outputs l no number may after out e a =
+now-told s t turn conn call part sequence leases peers outputs l isnt number may after out e a =
     subst (λ (k : ℕ). IsTransport (send turn conn (group_frame part.kind k part.ids) (add_request (record { peer = part.peer; asked = Tells call part; stage = Out conn k }) told)) new) number
     (subst (λ (u : State). IsTransport u new) (send-open turn conn m (add_request r told) l.stands) (record {
       leases = after;
@@ -269,8 +269,8 @@ now-told s t turn conn call part sequence leases peers outputs l no number may a
       fresh = a.fresh;
       notes = e ∙ ap (λ (x : List Note). x ++ Sends turn conn m ∷ []) a.notes;
       lines = lines-out (line_parts s) (client.numbers_of told.leases) r turn conn m l.row a.lines a.asked.numbered_once refl l.hello l.there l.number (omega (arith, given))
-          (line-group {asked_up_to s.calls_made s.fresh} {client.numbers_of told.leases} {l.row} m sequence (frame-calls part.kind sequence part.ids) (frame-sequence part.kind sequence part.ids) (omega (arith, number, given)) l.greeted
-          (line-wider {asked_up_to s.calls_made s.fresh} {client.numbers_of s.leases} {asked_up_to s.calls_made s.fresh} {client.numbers_of told.leases} {l.row} (omega arith) (omega (arith, given)) (a.lines.sent part.peer l.row l.there))) (fits turn no)
+          (line-group {asked = asked_up_to s.calls_made s.fresh} {told = client.numbers_of told.leases} {c = l.row} m sequence (frame-calls part.kind sequence part.ids) (frame-sequence part.kind sequence part.ids) (omega (arith, number, given)) l.greeted
+          (line-wider {asked = asked_up_to s.calls_made s.fresh} {told = client.numbers_of s.leases} {more = asked_up_to s.calls_made s.fresh} {later = client.numbers_of told.leases} {c = l.row} (omega arith) (omega (arith, given)) (a.lines.sent part.peer l.row l.there))) (fits turn isnt)
           (alike-group turn conn m s.notes s.connections (frame-calls part.kind sequence part.ids) may a.lines.noted a.lines.alike);
     }))
   where
@@ -290,10 +290,10 @@ now-told s t turn conn call part sequence leases peers outputs l no number may a
     given = ap (λ n. n + 1) (sent-numbers part.kind part call s.leases)
 
     fits : (u : Turn) → is_acks u ≡ false → IsOfTurn u (group_frame part.kind sequence part.ids)
-    fits event.Hellos no = tt
-    fits event.Replies no = tt
-    fits event.Waited no = tt
-    fits event.Cleans no = tt
-    fits event.Dirties no = tt
-    fits event.Calls no = tt
-    fits event.Acks no = absurd (true≢false no)
+    fits event.Hellos isnt = tt
+    fits event.Replies isnt = tt
+    fits event.Waited isnt = tt
+    fits event.Cleans isnt = tt
+    fits event.Dirties isnt = tt
+    fits event.Calls isnt = tt
+    fits event.Acks isnt = absurd (true≢false isnt)

@@ -37,3 +37,7 @@ make_calls calls s = record s { groups_made = s.groups_made + 1; leases = client
 -- The Hello of a peer that was dialled has come, and what waits for it is taken.
 abbrev pub welcome : Uuid → ℕ → State → State
 welcome peer conn s = without_waiting peer (greeted peer conn s)
+
+-- a moment passes for the leases of foreign references
+abbrev pub pass_moment : ℕ → State → State
+pass_moment moment s = record s { leases = client.At moment ∷ s.leases }

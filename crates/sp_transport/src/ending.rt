@@ -1,7 +1,6 @@
 //! Connections that end, and peers that refuse.
 
-ghost use Rattle.std.specs.Prelude.{◌≡◌, ℕ, List, [], None, Some, IfOk, false, filter, take};
-ghost use Rattle.std.specs.Str.{bytes_eq};
+ghost use Rattle.std.specs.Prelude.{◌≡◌, ℕ, [], None, Some, IfOk, true, filter};
 ghost use Rattle.sp_rules.specs.Endings.{is_of_connection, unsent_calls, without_connection};
 ghost use Rattle.sp_rules.specs.OwnEvents.{dialled_no_more};
 ghost use Rattle.sp_rules.specs.ParkedFrames.{remove_requests};
@@ -39,7 +38,7 @@ impl Transport {
         ensures rooms { Spends 0 0 0 0 self.old self.new }
         ensures rows { KeepsOtherRows peer.now self.old self.new }
     {
-        let _ = self.connections.close(conn);
+        let _closed = self.connections.close(conn);
         self.peers.end_reserved(peer, ending)
     }
 

@@ -8,6 +8,7 @@ use crate::Transport;
 use space_ids::ForeignId;
 
 impl Transport {
+    ghost use Rattle.sp_transport.specs.Asking.{pass_moment};
     ghost use Rattle.sp_transport.specs.Rooms.{KeepsRows, Spends, lease_room};
     ghost use Rattle.sp_transport.specs.Transports.{IsTransport};
 
@@ -53,5 +54,15 @@ impl Transport {
         for reference in references {
             self.drop_holder(reference);
         }
+    }
+
+    /// Sets the moment that is now, in milliseconds, for the leases of foreign references. A moment below
+    /// the last changes nothing.
+    pub fn moment(&mut self, moment: u64)
+        ensures moment { (s : State) → IsTransport s self.old → IsTransport (pass_moment moment s) self.new }
+        ensures rooms { Spends 0 0 0 0 self.old self.new }
+        ensures rows { KeepsRows self.old self.new }
+    {
+        self.leases.moment(moment);
     }
 }

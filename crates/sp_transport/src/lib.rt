@@ -9,6 +9,7 @@ pub use settling::DueRoom;
 pub use transport::{Fresh, Transport};
 
 mod answering;
+mod concluding;
 mod ending;
 mod going;
 mod holders;

@@ -1,16 +1,16 @@
 //! Room, made before an event changes anything.
 
-ghost use Rattle.std.specs.Prelude.{◌≡◌, ◌≤◌, ℕ, OnOk, length};
-ghost use Rattle.dgc_client.specs.DueCalls.{HasRoomFor};
+ghost use Rattle.std.specs.Prelude.{◌≡◌, ◌≤◌, ℕ, [], None, OnOk, length};
 ghost use Rattle.dgc_client.specs.Table as client;
-ghost use Rattle.sp_rules.specs.State.{State};
+ghost use Rattle.sp_rules.specs.State.{State, connection_to};
+ghost use Rattle.sp_requests.specs.Peers.{of_peer};
 
 use crate::Transport;
 use space_ids::Uuid;
 use std::alloc::AllocError;
 
 impl Transport {
-    ghost use Rattle.sp_transport.specs.Rooms.{HasRow, KeepsRows, Spends, connection_room, lease_room, note_room, peer_room, references_in};
+    ghost use Rattle.sp_transport.specs.Rooms.{HasRow, KeepsOtherRows, KeepsRows, Spends, connection_room, lease_room, note_room, peer_room, references_in};
     ghost use Rattle.sp_transport.specs.Transports.{IsTransport};
 
     /// Makes room for this many references that were never held. Nothing else changes, at out of memory
@@ -55,6 +55,17 @@ impl Transport {
         ensures rows { KeepsRows self.old self.new }
     {
         self.peers.reserve(peer, waiting, calls, groups)
+    }
+
+    /// Lets the row of a peer go of which nothing is asked and to which no connection was dialled: what is left
+    /// if an event made [room](Transport::reserve_requests) in vain.
+    pub fn release(&mut self, peer: &Uuid)
+        ensures released { (s : State) → IsTransport s self.old → connection_to s peer.now ≡ None → of_peer peer.now s.requests ≡ [] → IsTransport s self.new }
+        ensures gone { (w c g : ℕ) → HasRow peer.now w c g self.new → ⊥ }
+        ensures rooms { Spends 0 0 0 0 self.old self.new }
+        ensures rows { KeepsOtherRows peer.now self.old self.new }
+    {
+        self.peers.release(peer);
     }
 
     /// Makes room for this many more outputs. Nothing else changes, at out of memory too.

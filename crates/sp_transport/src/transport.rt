@@ -1,6 +1,7 @@
 //! A space's side of the transport, and what is seen of it.
 
-ghost use Rattle.std.specs.Prelude.{◌≡◌, ℕ, None, Some, option_map, if◌then◌else◌};
+ghost use Rattle.std.specs.Prelude.{◌≡◌, ℕ, None, Some, IfOk, filter, option_map, if◌then◌else◌};
+ghost use Rattle.dgc_client.specs.Lease.{is_renewed_at, lapses_at};
 ghost use Rattle.dgc_client.specs.Table as client;
 ghost use Rattle.sp_rules.specs.Holders.{lease_now};
 ghost use Rattle.sp_rules.specs.Requests.{hello_came};
@@ -13,7 +14,7 @@ use sp_outputs::Outputs;
 use sp_peers::Peers;
 use sp_requests::Asked;
 use space_ids::{ForeignId, Uuid};
-use std::alloc::Global;
+use std::alloc::{AllocError, Global};
 
 /// The call or lookup of the event under way, which it asks of the peer as it ends.
 #[derive(Debug, Drop)]
@@ -79,6 +80,21 @@ impl Transport {
         ensures { (s : State) → IsTransport s self.now → result ≡ lease_now s reference.now }
     {
         self.leases.lease(reference)
+    }
+
+    /// The foreign references whose lease is due for renewal once this moment has come, in the order in which
+    /// they were first held.
+    pub fn renewals(&self, moment: u64) -> Result<Vec<ForeignId>, AllocError>
+        ensures { IfOk result (λ references. (s : State) → IsTransport s self.now → references.items ≡ filter (λ r. is_renewed_at moment (lease_now s r)) (client.held s.leases)) }
+    {
+        self.leases.renewals(self.alloc, moment)
+    }
+
+    /// The foreign references whose lease this moment ends, in the order in which they were first held.
+    pub fn lapsed(&self, moment: u64) -> Result<Vec<ForeignId>, AllocError>
+        ensures { IfOk result (λ references. (s : State) → IsTransport s self.now → references.items ≡ filter (λ r. lapses_at moment (lease_now s r)) (client.held s.leases)) }
+    {
+        self.leases.lapsed(self.alloc, moment)
     }
 
     /// How many calls and lookups were made: the number of the last, or 0.

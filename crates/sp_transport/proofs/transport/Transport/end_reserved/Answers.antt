@@ -19,5 +19,5 @@ returns-clause-ended c = λ s k unsent a none at its e.
 
 pub returns-clause-left : goal.returns-clause-left
 returns-clause-left c = λ s k a none at its.
-    now-ended s c.args.self.now c.args.conn c.args.peer.now k c.close.new.self c.end_reserved.new.self none at its (c.close.ensures.closed s.connections s.dialling a.connections)
+    now-ended s c.args.self.now c.args.conn c.args.peer.now k c.close-closed.new.self c.end_reserved.new.self none at its (c.close-closed.ensures.closed s.connections s.dialling a.connections)
     (c.end_reserved.ensures.left s.connections s.requests k (asked-first s c.args.self.now none a) (number-line s.connections c.args.conn k c.args.peer.now a.connections.dialled_once at its)) a

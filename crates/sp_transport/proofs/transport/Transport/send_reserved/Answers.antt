@@ -8,7 +8,7 @@ use Rattle.sp_transport.proofs.transport.Transport.send_reserved.Goals as goal
 pub returns-in-Some-clause-sent : goal.returns-in-Some-clause-sent
 returns-in-Some-clause-sent c = λ s a accepts.
     let stands : is_open s c.args.conn ≡ true = sym (open-seen _) ∙ sym (ap is_some (c.in-Some.ensures s.connections s.dialling a.connections)) in
-    subst (λ (u : State). IsTransport u _) (send-open (turn_of c.args.turn) c.args.conn c.args.message s stands)
+    subst (λ (u : State). IsTransport u (record c.args.self.now { outputs = c.send_reserved.new.self })) (send-open (turn_of c.args.turn) c.args.conn c.args.message s stands)
     (now-answered s c.args.self.now (turn_of c.args.turn) c.args.conn c.args.message c.send_reserved.new.self c.requires.turn accepts c.send_reserved.ensures.notes a)
 
 pub returns-in-None-clause-sent : goal.returns-in-None-clause-sent

@@ -16,7 +16,7 @@ use Rattle.sp_transport.proofs.transport.Transport.wait_reserved.Goals as goal
 pub returns-then-not-dial_reserved-clause-waits : goal.returns-then-not-dial_reserved-clause-waits
 returns-then-not-dial_reserved-clause-waits c = λ s a none named next.
     let peer = c.args.peer.now in
-    let known : (is_some (connection_to s peer) || is_dialling s peer) ≡ true = known-of (is_some (connection_to s peer) || is_dialling s peer) c.dial_reserved.result true (c.dial_reserved.ensures.news s.connections s.dialling a.connections) c.if-not-dial_reserved.true in
+    let known : (is_some (connection_to s peer) || is_dialling s peer) ≡ true = known-of (is_some (connection_to s peer) || is_dialling s peer) c.dial_reserved.result false (c.dial_reserved.ensures.news s.connections s.dialling a.connections) c.if-not-dial_reserved.true in
     subst (λ (u : State). IsTransport u (record c.args.self.now { peers = c.wait_reserved.new.self; connections = c.dial_reserved.new.self })) (dial-known peer (add_request (record { peer = peer; asked = asked_of c.args.asked; stage = Waits }) s) known)
     (now-waits s c.args.self.now peer (asked_of c.args.asked) s.dialling c.wait_reserved.new.self c.dial_reserved.new.self none next (λ q is. is) known
     (subst (λ (l : List Uuid). AreConnections s.connections l c.dial_reserved.new.self) (known-dialled peer s.connections s.dialling known) (c.dial_reserved.ensures.dialled s.connections s.dialling a.connections))
@@ -25,7 +25,7 @@ returns-then-not-dial_reserved-clause-waits c = λ s a none named next.
 pub returns-clause-waits : goal.returns-clause-waits
 returns-clause-waits c = λ s a none named next.
     let peer = c.args.peer.now in
-    let new : (is_some (connection_to s peer) || is_dialling s peer) ≡ false = known-of (is_some (connection_to s peer) || is_dialling s peer) c.dial_reserved.result false (c.dial_reserved.ensures.news s.connections s.dialling a.connections) c.if-not-dial_reserved.false in
+    let new : (is_some (connection_to s peer) || is_dialling s peer) ≡ false = known-of (is_some (connection_to s peer) || is_dialling s peer) c.dial_reserved.result true (c.dial_reserved.ensures.news s.connections s.dialling a.connections) c.if-not-dial_reserved.false in
     let waits = now-waits s c.args.self.now peer (asked_of c.args.asked) (s.dialling ++ peer ∷ []) c.wait_reserved.new.self c.dial_reserved.new.self none next (λ q is. wider-dialled q s.dialling peer is) (new-known (is_some (connection_to s peer)) peer s.dialling)
         (subst (λ (l : List Uuid). AreConnections s.connections l c.dial_reserved.new.self) (new-dialled peer s.connections s.dialling new) (c.dial_reserved.ensures.dialled s.connections s.dialling a.connections))
         (c.wait_reserved.ensures.waits _ s.requests a.asked named) a in
