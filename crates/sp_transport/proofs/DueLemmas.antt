@@ -48,12 +48,12 @@ numbers-made group call h = numbers-on-each (client.references_at group.peer gro
 -- ---- steps
 
 -- A step leaves connections and the call of the event. It gives at most this many sequence numbers, makes at most this many groups, and notes frames of one turn and dials alone.
-pub record IsStep (turn : Turn) (numbers groups : ℕ) (s t : State) : Type 0 where
+pub record IsStep (turn : Turn) (n g : ℕ) (s t : State) : Type 1 where
   pub connections : t.connections ≡ s.connections
   pub fresh : t.fresh ≡ s.fresh
   pub calls : t.calls_made ≡ s.calls_made
-  pub numbers : client.numbers_of t.leases ≤ client.numbers_of s.leases + numbers
-  pub groups : t.groups_made ≤ s.groups_made + groups
+  pub numbers : client.numbers_of t.leases ≤ client.numbers_of s.leases + n
+  pub groups : t.groups_made ≤ s.groups_made + g
   pub notes : (P : Note → Type 0) → ((conn : ℕ) (m : Message) → P (Sends turn conn m)) → ((peer : Uuid) → P (Says (Dial peer))) → AllOf P s.notes → AllOf P t.notes
 
 pub no-step : (turn : Turn) (s : State) → IsStep turn 0 0 s s
@@ -179,7 +179,7 @@ group-step s group =
 -- ---- what all groups leave
 
 -- The call of the event stays, and what is noted are frames of dirty and clean calls, and dials.
-pub record IsQuiet (s t : State) : Type 0 where
+pub record IsQuiet (s t : State) : Type 1 where
   pub fresh : t.fresh ≡ s.fresh
   pub notes : (P : Note → Type 0) → ((kind : Due) (conn : ℕ) (m : Message) → P (Sends (requests.turn_of kind) conn m)) → ((peer : Uuid) → P (Says (Dial peer))) → AllOf P s.notes → AllOf P t.notes
 

@@ -1,5 +1,5 @@
 -- The groups and their parts that an event makes, one after the other.
-use Rattle.std.proofs.Common.{◌≡◌, ℕ, zero, suc, ◌+◌, ◌-◌, ◌<◌, ◌≤◌, Bool, true, false, List, get_or, [], ◌∷◌, ◌++◌, length, take, drop, min, None, Some, refl, sym, ap, subst, ◌∙◌, arith, inl, inr, ⊎_elim, length-append, length-drop}
+use Rattle.std.proofs.Common.{◌≡◌, ℕ, zero, suc, ◌+◌, ◌-◌, ◌^◌, ◌<◌, ◌≤◌, Bool, true, false, List, get_or, [], ◌∷◌, ◌++◌, length, take, drop, min, None, Some, refl, sym, ap, subst, ◌∙◌, arith, inl, inr, ⊎_elim, length-append, length-drop}
 use Rattle.std.specs.Prelude.{All, Err, Ok, OnOk, Option, Result, filter, find, map}
 use Rattle.std.specs.List.{flat_map, slice_index_or}
 use Rattle.std.proofs.lemmas.Bool.{false≢true}
@@ -195,3 +195,8 @@ calls-may-go s r is may =
     dues-rank : (kind : Due) → turn_rank (turn_of kind) ≤ turn_rank event.Calls
     dues-rank due.Dirty = omega arith
     dues-rank (due.Clean strong) = omega arith
+
+pub turn-of-call : (asked : Asked) → is_group asked ≡ false → requests.turn_asked asked ≡ event.Calls
+turn-of-call (Calls number task lent kind m) call = refl
+turn-of-call (LooksUp number task name) call = refl
+turn-of-call (Tells n group) call = absurd (false≢true (sym call))

@@ -11,7 +11,7 @@ use Rattle.sp_transport.proofs.SettleLemmas.{calls-may-go, fresh-is-call, on-ok}
 use Rattle.sp_transport.proofs.transport.Transport.settle.Goals as goal
 
 pub returns-in-Some : goal.returns-in-Some
-returns-in-Some c = on-ok c.ask.result _ _
+returns-in-Some c = record { settled = on-ok c.ask.result _ _
     (λ asks s stands may.
         let due : State = make_due s in
         let stands_due : IsTransport due c.make_due.new.self = c.in_ok-make_due.ensures s stands may.due in
@@ -22,10 +22,10 @@ returns-in-Some c = on-ok c.ask.result _ _
         let waits : AllOf (λ (q : Request). AreNextWaiting (take_fresh due) (call_number q.asked)) (r ∷ []) = subst (λ (rs : List Request). AllOf (λ (q : Request). AreNextWaiting (take_fresh due) (call_number q.asked)) rs) fresh (c.in-Some.ensures.waits due stands_due) in
         subst (λ (t : State). IsTransport t c.ask.new.self) (sym (settle-one s r fresh))
         (asks (take_fresh due) (c.in-Some.ensures.taken due stands_due) (fresh-is-call due r stands_due.lines fresh) named.0 out.0 waits.0 (calls-may-go s r fresh may)))
-    c.ask.ensures
+    c.ask.ensures }
 
 pub returns-in-None : goal.returns-in-None
-returns-in-None c = λ s stands may.
+returns-in-None c = record { settled = λ s stands may.
     let due : State = make_due s in
     let stands_due : IsTransport due c.make_due.new.self = c.in_ok-make_due.ensures s stands may.due in
-    subst (λ (t : State). IsTransport t c.take_fresh.new.self) (sym (settle-none s (sym (c.in-None.ensures.call due stands_due)))) (c.in-None.ensures.taken due stands_due)
+    subst (λ (t : State). IsTransport t c.take_fresh.new.self) (sym (settle-none s (sym (c.in-None.ensures.call due stands_due)))) (c.in-None.ensures.taken due stands_due) }
