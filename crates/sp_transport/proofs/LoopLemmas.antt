@@ -109,7 +109,7 @@ making-due-step {old} {mid} {calls} {rest} new first more making one split count
       let group : Group = mine.group in
       (
         requests.make_group before.0 group,
-        goes before.0 group before.1 mine.is (making-may s group rest more before.0 next (omega (arith, many, count)) before.2) (omega (arith, before.2.groups, many, count, mine.some)),
+        goes before.0 group before.1 mine.is (making-may s group rest more before.0 next (omega (arith, many, count)) before.2) (omega (arith, before.2.counted, many, count, mine.some)),
         making-step s group rest more before.0 next (omega (arith, many, count)) before.2,
       );
 }

@@ -80,7 +80,7 @@ told-out turn conn call group s = refl
 pub record IsMaking (s : State) (rest : List DueCall) (t : State) : Type 0 where
   pub left : each requests.make_group (groups.grouped rest) t ≡ requests.make_due s
   pub numbers : client.numbers_of t.leases + length rest < 2 ^ 63
-  pub groups : t.groups_made + length rest < 2 ^ 64
+  pub counted : t.groups_made + length rest < 2 ^ 64
   pub notes : All (λ (g : Group). GroupsMayGo (turn_of g.kind) t) (groups.grouped rest)
   pub first : AreCleansFirst (groups.grouped rest)
 
@@ -111,7 +111,7 @@ unfolding requests.make_due requests.due_groups
 making-start s may = record {
   left = refl;
   numbers = omega (arith, may.numbers, in-order-few (client.due_of s.leases));
-  groups = omega (arith, may.groups, in-order-few (client.due_of s.leases));
+  counted = omega (arith, may.groups, in-order-few (client.due_of s.leases));
   notes = all-any (λ (g : Group). GroupsMayGo (turn_of g.kind) s) (λ g. all-weaken (IsNotAfterButAcks event.Cleans) (IsNotAfterButAcks (turn_of g.kind)) s.notes (not-before event.Cleans (turn_of g.kind) (cleans-rank g.kind)) may.notes) (groups.grouped (groups.in_order (client.due_of s.leases)));
   first = cleans-in-order (client.due_of s.leases);
 }
@@ -125,7 +125,7 @@ making-step s group rest more t next count making =
     record {
       left = sym (each-cons requests.make_group group (groups.grouped more) t) ∙ ap (λ (gs : List Group). each requests.make_group gs t) (sym next) ∙ making.left;
       numbers = omega (arith, step.numbers, making.numbers, count);
-      groups = omega (arith, step.groups, making.groups, count, some-ids group more rest next);
+      counted = omega (arith, step.groups, making.counted, count, some-ids group more rest next);
       notes = λ k d lt. step.notes (IsNotAfterButAcks (turn_of (slice_index_or (groups.grouped more) k d).kind)) (λ conn m. inl (kinds-rank group.kind _ (λ dirty. first.0 dirty k d lt))) (λ peer. tt) (All-tail (λ (g : Group). GroupsMayGo (turn_of g.kind) t) group (groups.grouped more) notes k d lt);
       first = first.1;
     }

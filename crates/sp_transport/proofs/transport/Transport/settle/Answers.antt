@@ -15,7 +15,7 @@ returns-in-Some c = record { settled = on-ok c.ask.result _ _
     (λ asks s stands may.
         let due : State = make_due s in
         let stands_due : IsTransport due c.make_due.new.self = c.in_ok-make_due.ensures s stands may.due in
-        let r : Request = record { peer = c.in-Some.peer; asked = asked_of c.in-Some.asked; stage = Waits } in
+        let r : Request = record { peer = c.in-Some.call.peer; asked = asked_of c.in-Some.call.asked; stage = Waits } in
         let fresh : due.fresh ≡ r ∷ [] = sym (c.in-Some.ensures.call due stands_due) in
         let named : AllOf (λ (q : Request). IsNamed q.asked) (r ∷ []) = subst (λ (rs : List Request). AllOf (λ (q : Request). IsNamed q.asked) rs) fresh (c.in-Some.ensures.named due stands_due) in
         let out : AllOf (λ (q : Request). AreNextOut (take_fresh due) q.peer (call_number q.asked)) (r ∷ []) = subst (λ (rs : List Request). AllOf (λ (q : Request). AreNextOut (take_fresh due) q.peer (call_number q.asked)) rs) fresh (c.in-Some.ensures.out due stands_due) in
