@@ -122,6 +122,6 @@ making-due-step {old} {mid} {calls} {rest} new first more making one split count
     many = sym (length-calls mine.group.peer mine.group.kind mine.group.ids) ∙ ap (λ (cs : List DueCall). length cs) (sym mine.calls_are)
 
 pub making-due-all : {old new : Transport} {calls rest : List DueCall} (s : State) → IsMakingDue old new calls rest → length rest ≡ 0 → IsTransport s old → MayMakeDue s → calls ≡ groups.in_order (client.due_of s.leases) → IsTransport (requests.make_due s) new
-making-due-all {old} {new} {calls} {[]} s making none stands may are =
+making-due-all {old = old} {new = new} {calls = calls} {rest = []} s making none stands may are =
     let after = making.made s stands may are in subst (λ (t : State). IsTransport t new) (making-all s after.0 after.2) after.1
 making-due-all {rest = call ∷ rest} s making none stands may are = absurd (omega (arith, none))

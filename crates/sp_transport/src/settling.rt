@@ -13,7 +13,7 @@ ghost use Rattle.sp_requests.specs.Asking.{IsNamed, asked_of};
 ghost use Rattle.sp_outputs.specs.Notes.{turn_of as noted_turn};
 ghost use Rattle.sp_groups.specs.Rooms.{AreOneGroup};
 
-use crate::Transport;
+use crate::{Fresh, Transport};
 use dgc_client::{Due, DueCall, DueCalls};
 use sp_groups::{GroupRoom, MOST_IDS, first_group};
 use sp_outputs::Turn;
@@ -53,7 +53,10 @@ impl Transport {
     {
         self.make_due(room)?;
         match self.take_fresh() {
-            Some(call) => self.ask(&call.peer, call.asked),
+            Some(call) => {
+                let Fresh { peer, asked } = call;
+                self.ask(&peer, asked)
+            }
             None => Ok(()),
         }
     }

@@ -7,7 +7,7 @@ use Rattle.sp_transport.proofs.LoopLemmas.{making-due-all, making-due-start, mak
 use Rattle.sp_transport.proofs.transport.Transport.make_due.Goals as goal
 
 pub loop-rest-init : goal.loop-rest-init
-loop-rest-init c = making-due-start c.due_reserved.new.self c.as_slice.result.now
+loop-rest-init c = making-due-start c.due_reserved.new.self c.as_slice-rest.result.now
 
 pub make_group-requires : goal.make_group-requires
 make_group-requires c = subst (λ (cs : List DueCall). AreOneGroup cs) (sym c.split_at.ensures.front) c.first_group.ensures.one
@@ -27,4 +27,4 @@ loop-rest-preserved c =
 pub returns : goal.returns
 returns c = λ s stands may.
     let none : length c.loop-rest.rest.now ≡ 0 = search (arith, c.loop-rest-test.false, c.is_empty.ensures) in
-    making-due-all s c.loop-rest.invariant none (c.due_reserved.ensures.same s stands) may (c.as_slice.ensures ∙ c.due_reserved.ensures.calls s stands)
+    making-due-all s c.loop-rest.invariant none (c.due_reserved.ensures.same s stands) may (c.as_slice-rest.ensures ∙ c.due_reserved.ensures.calls s stands)
