@@ -41,7 +41,7 @@ returns-in_err-index-clause-task c =
     let m = c.self.inside.rows in
     let id = c.args.id in
     let none : row_of id m.entries ≡ None = none-from (row_of id m.entries) c.in_err-index.ensures.found in
-    rw (← c.self.view_is) (sym (ap (hand_of id) (lookup-by id m.entries c.self.invariant.distinct ∙ none)))
+    rw (c.from_residual.ensures, ← c.self.view_is) (sym (ap (hand_of id) (lookup-by id m.entries c.self.invariant.distinct ∙ none)))
 
 pub returns-in_err-index-clause-rows : goal.returns-in_err-index-clause-rows
 returns-in_err-index-clause-rows c =
