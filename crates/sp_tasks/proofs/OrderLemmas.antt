@@ -1,4 +1,4 @@
-use Rattle.std.proofs.Common.{◌≡◌, ℕ, zero, suc, ◌+◌, ◌≤◌, ◌<◌, ◌≢◌, ◌^◌, min, nat_eq, nat_lt, Bool, true, false, cond, not, ◌||◌, List, [], ◌∷◌, ◌++◌, length, map, find, option_map, Option, None, Some, is_some, refl, sym, ap, subst, ◌∙◌, true≢false, arith}
+use Rattle.std.proofs.Common.{◌≡◌, ℕ, suc, ◌≤◌, ◌<◌, ◌≢◌, ◌^◌, min, nat_eq, nat_lt, Bool, true, false, cond, ◌||◌, List, [], ◌∷◌, length, map, find, option_map, Option, None, Some, is_some, refl, sym, ap, subst, ◌∙◌, true≢false, arith}
 use Rattle.std.specs.Prelude.{◌==◌, unwrap_or}
 use Rattle.std.specs.List.{AllByRecursion, IsDistinct, list_any}
 use Rattle.std.specs.Cmp.{nat_eq_equiv}
@@ -7,7 +7,7 @@ use Rattle.std.proofs.lemmas.Bool.{eqb-true, eqb-false, ltb-true, ltb-false, ne_
 use Rattle.std.proofs.lemmas.Map.Keys.{IsDistinct-head, IsDistinct-tail}
 use Rattle.std.proofs.lemmas.Map.Made.{is_some-lookup}
 use Rattle.rising_map.specs.Rows.{AreAbove, AreBelow, Rises}
-use Rattle.rising_map.proofs.RowLemmas.{rises-distinct, same-numbers}
+use Rattle.rising_map.proofs.RowLemmas.{same-numbers}
 use Rattle.sp_tasks.specs.Least.{least, nothing}
 use Rattle.sp_tasks.specs.Rows.{TaskRow, by_id, first_ready, is_ready, row_of, with_row}
 use Rattle.sp_tasks.specs.Tables.{ready_number, some_id_of}

@@ -1,15 +1,14 @@
-use Rattle.std.proofs.Common.{◌≡◌, ℕ, ◌+◌, ◌-◌, ◌≤◌, ◌<◌, Bool, true, false, cond, List, [], ◌∷◌, ◌++◌, length, None, Some, is_some, nat_eq, refl, sym, ap, subst, ◌∙◌, map, append_assoc, arith}
-use Rattle.std.specs.Prelude.{◌||◌, ◌==◌, ◌^◌, IfSome, IsSomeAnd, Option, option_copied, not, Result, Ok, Err, OnOk, OnErr}
+use Rattle.std.proofs.Common.{◌≡◌, ℕ, ◌+◌, ◌≤◌, ◌<◌, Bool, true, false, cond, List, [], ◌∷◌, ◌++◌, None, Some, is_some, nat_eq, refl, sym, ap, subst, ◌∙◌, map, append_assoc, arith}
+use Rattle.std.specs.Prelude.{◌||◌, ◌==◌, IfSome, IsSomeAnd, Option, option_copied, not, Result, Ok, Err, OnOk, OnErr}
 use Rattle.std.specs.List.{IsDistinct, AllByRecursion, list_any}
 use Rattle.std.specs.Cmp.{nat_eq_equiv}
 use Rattle.std.specs.Borrow.{Bor}
 use Rattle.std.specs.Map.Iter.{deref_pair}
-use Rattle.std.specs.Map.{lookup_entry, keys_of, remove_entry, set_value}
+use Rattle.std.specs.Map.{keys_of, remove_entry, set_value}
 use Rattle.std.proofs.lemmas.Bool.{eqb-true, false≢true, ne_eqb}
-use Rattle.std.proofs.lemmas.List.{map-append, take_all}
+use Rattle.std.proofs.lemmas.List.{map-append}
 use Rattle.std.proofs.lemmas.List.Folds.{list_any-append}
-use Rattle.std.proofs.lemmas.Map.Keys.{IsDistinct-head, IsDistinct-tail, IsDistinct-cons, IsDistinct-push}
-use Rattle.std.proofs.lemmas.Map.{keys-set_value}
+use Rattle.std.proofs.lemmas.Map.Keys.{IsDistinct-head, IsDistinct-tail, IsDistinct-push}
 use Rattle.std.proofs.lemmas.Map.Made.{is_some-lookup}
 use Rattle.sp_tasks.specs.Rows.{TaskRow, Hand, at_row, is_in_hand, row_of, without}
 use Rattle.sp_tasks.proofs.SameLemmas.{and-right, record-same}

@@ -1,4 +1,4 @@
-use Rattle.std.proofs.Common.{◌≡◌, ℕ, zero, suc, ◌+◌, ◌-◌, ◌≤◌, ◌<◌, ◌^◌, nat_eq, Bool, true, false, cond, List, [], ◌∷◌, ◌++◌, length, map, set, take, get_or, position, slice_get, swap_remove, IfSome, not, ◌||◌, Option, None, Some, refl, sym, ap, subst, ◌∙◌, arith}
+use Rattle.std.proofs.Common.{◌≡◌, ℕ, zero, suc, ◌+◌, ◌-◌, ◌≤◌, ◌<◌, ◌^◌, nat_eq, true, false, cond, List, [], ◌∷◌, ◌++◌, length, map, set, take, get_or, position, slice_get, swap_remove, IfSome, not, ◌||◌, Option, None, Some, refl, sym, ap, subst, ◌∙◌, arith}
 use Rattle.std.specs.Prelude.{◌==◌, Result, Ok, Err, OnOk, OnErr}
 use Rattle.std.specs.List.{AllByRecursion, IsDistinct}
 use Rattle.std.specs.Cmp.{nat_eq_equiv}
@@ -65,7 +65,7 @@ pub row-changed : {S : Type 0} (m : IndexMap ℕ TaskRow S) (id i : ℕ) (v w : 
 row-changed m id i v w f distinct there found is =
     let es = m.entries in
     let moved = replaced (by_id es) es (set_value_at es i w) id w (rises-by es distinct) (λ q. sym (lookup-by q es distinct)) (rw found refl)
-        (λ q. (updates-with_value_at m i w nat_eq_equiv distinct id v there).0 q) in
+    (λ q. (updates-with_value_at m i w nat_eq_equiv distinct id v there).0 q) in
     shown (set_value_at es i w) (set_value (nat_eq id) (by_id es) w) (subst (λ (ks : List ℕ). IsDistinct nat_eq ks) (sym (keys-at es i w)) distinct) moved
     ∙ ap (set_value (nat_eq id) (by_id es)) is ∙ written id f v (by_id es) (lookup-by id es distinct ∙ found)
 

@@ -1,5 +1,5 @@
 -- The record of a living task, as the rules of spaces tell it. (This project's own.)
-use Rattle.std.specs.Prelude.{ℕ, ◌-◌, map, vec_len}
+use Rattle.std.specs.Prelude.{◌-◌, map, vec_len}
 use Rattle.std.specs.Vec.{vec_capacity}
 use Rattle.sp_rules.specs.State as rules
 use Rattle.sp_tasks.specs.Behaviours.{reply_of}

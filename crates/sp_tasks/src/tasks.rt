@@ -349,7 +349,11 @@ fn insert_held(
 fn some_id(number: u64) -> Option<u64>
     ensures { result ≡ some_id_of number }
 {
-    if number == NOTHING { None } else { Some(number) }
+    if number == NOTHING {
+        None
+    } else {
+        Some(number)
+    }
 }
 
 // The id of a task if it may go on, and otherwise the number that stands for none.

@@ -1,4 +1,4 @@
-use Rattle.std.proofs.Common.{◌≡◌, None, Some, refl, set, sym, ap, ◌∙◌}
+use Rattle.std.proofs.Common.{◌≡◌, None, Some, set, sym, ap, ◌∙◌}
 use Rattle.sp_tasks.specs.Rows.{TaskRow, hand_of, lent_row, row_of}
 use Rattle.sp_tasks.specs.Tables.{ready_number}
 use Rattle.rising_map.proofs.RowLemmas.{entry-at, none-from}

@@ -21,7 +21,7 @@ returns c =
     let gone = c.swap_remove_index.ensures.entry ∙ at.1 in
     rw (← c.self.view_is)
     (let e = row-removed c.args.id m.entries c.swap_remove_index.new.self.entries c.self.invariant.distinct c.swap_remove_index.ensures.unique
-         (λ q. (if-some c.swap_remove_index.result (c.args.id, at.0) _ c.swap_remove_index.ensures.updates gone).0 q) in λ j. record { made = c.self.inside.made; room = c.self.inside.room; rows = e j })
+    (λ q. (if-some c.swap_remove_index.result (c.args.id, at.0) _ c.swap_remove_index.ensures.updates gone).0 q) in λ j. record { made = c.self.inside.made; room = c.self.inside.room; rows = e j })
 
 pub returns-in_err-index : goal.returns-in_err-index
 returns-in_err-index c =

@@ -3,7 +3,7 @@ use Rattle.sp_tasks.specs.Rows.{TaskRow, roomy_row, row_of, is_in_hand}
 use Rattle.sp_tasks.specs.Tables.{ready_number}
 use Rattle.rising_map.proofs.RowLemmas.{entry-at, none-from}
 use Rattle.sp_tasks.proofs.RowLemmas.{on-err, on-ok}
-use Rattle.sp_tasks.proofs.TableLemmas.{in-view, out-of-view, either-way, kept, row-changed, row-kept}
+use Rattle.sp_tasks.proofs.TableLemmas.{out-of-view, either-way, kept, row-changed, row-kept}
 use Rattle.sp_tasks.proofs.tasks.Tasks.reserve_answer.Goals as goal
 
 pub invariant_of-self : goal.invariant_of-self

@@ -1,4 +1,4 @@
-use Rattle.std.proofs.Common.{◌≡◌, ◌+◌, ◌-◌, None, nat_eq, sym, ap, ◌∙◌, arith}
+use Rattle.std.proofs.Common.{◌≡◌, ◌+◌, ◌-◌, None, nat_eq, ◌∙◌, arith}
 use Rattle.indexmap.specs.IndexMap.{spare}
 use Rattle.indexmap.proofs.CallerLemmas.{insert_entry-new}
 use Rattle.sp_tasks.specs.Rows.{row_of}
@@ -24,4 +24,4 @@ returns-clause-started c =
     let none : row_of (made + 1) m.entries ≡ None = above (made + 1) made m.entries (omega arith) is.below in
     rw (← c.self.view_is, ← c.into_row.ensures.row)
     (let e = row-started made c.into_row.result m.entries c.insert.new.self.entries is.distinct is.below (c.in-Ok.ensures.entries ∙ insert_entry-new nat_eq m (made + 1) c.into_row.result none) (λ q. c.in-Ok.ensures.updates.0 q) in
-     λ j. record { made = made + 1; room = c.self.inside.room - 1; rows = e j })
+    λ j. record { made = made + 1; room = c.self.inside.room - 1; rows = e j })
