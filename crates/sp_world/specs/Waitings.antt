@@ -1,0 +1,125 @@
+-- When a value stands for a world of the rules of spaces. (This project's own.)
+use Rattle.std.specs.Prelude.{◌≡◌, ℕ, Bool, true, false, List, [], ◌∷◌, Option, None, Some, drop, is_none, slice_get}
+use Rattle.std.specs.Map.{lookup}
+use Rattle.std.specs.Str.{bytes_eq}
+use Rattle.uuid.specs.declared.Uuid.{Uuid}
+use Rattle.sp_rules.specs.Classes.{Setting}
+use Rattle.sp_rules.specs.Events.{Event, Output}
+use Rattle.sp_rules.specs.Lists.{at_index, each}
+use Rattle.sp_rules.specs.Refusals.{Refusal}
+use Rattle.sp_rules.specs.Worlds as rules
+use Rattle.sp_rules.specs.Worlds.{number_of, put}
+use Rattle.sp_pipes.specs.Asked.{asked}
+use Rattle.sp_pipes.specs.Connections.{ArePipes, comes_over}
+use Rattle.sp_world.specs.Happenings.{TellsRefusal}
+use Rattle.sp_world.specs.Residents.{AreResidents, grown_all, row_in}
+use Rattle.sp_world.specs.Steps.{answers_to}
+use Rattle.sp_world.specs.declared.resident.Resident.{Resident}
+use Rattle.sp_world.specs.declared.wiring.Wiring.{Wiring}
+use Rattle.sp_world.specs.declared.world.Waiting.{Waiting}
+use Rattle.sp_world.specs.declared.world.World.{World}
+
+-- ---- what is between the spaces
+
+-- Each space is found by its id, and the connections and the dials that wait are those of the world.
+pub record IsWired (w : rules.World) (wiring : Wiring) : Type 0 where
+  pub numbers : (peer : Uuid) → lookup (bytes_eq peer) wiring.numbers.entries ≡ number_of w.spaces peer
+  pub pipes : ArePipes w.pipes wiring.pipes
+  pub dials : w.asked ≡ asked wiring.dials
+
+-- The world comes of these outputs of a space, which are still to be put into the queues.
+pub record Awaits (w : rules.World) (writer : ℕ) (outputs : List Output) (wiring : Wiring) : Type 0 where
+  pub base : rules.World
+  pub wired : IsWired base wiring
+  pub is : w ≡ each (put writer) outputs base
+
+-- ---- worlds
+
+abbrev pub writer_of : Option Waiting → ℕ
+writer_of None = 0
+writer_of (Some x) = x.writer
+
+abbrev pub row_of : {S : Type 0} → Option (Resident S) → ℕ → List Output
+row_of None n = []
+row_of (Some r) n = row_in n r
+
+abbrev pub left_of : {S : Type 0} → Option Waiting → List (Resident S) → List Output
+left_of None residents = []
+left_of (Some x) residents = drop x.next (row_of (slice_get residents x.writer) x.row)
+
+-- whether nothing is still to be put into the queues
+abbrev pub is_settled : {S : Type 0} → World S → Bool
+is_settled world = is_none world.waiting
+
+-- A value stands for a world of the rules: each space is there with its history and what it answered, the last refusal is told, and what is
+-- between the spaces is that of the world, with what is still to be put there.
+pub record IsWorld {S : Type 0} (is_space : Setting → List Event → S → Type 0) (w : rules.World) (world : World S) : Type 0 where
+  pub spaces : AreResidents is_space w.spaces world.residents.items
+  pub refused : TellsRefusal w.refused world.refused
+  pub waiting : Awaits w (writer_of world.waiting) (left_of world.waiting world.residents.items) world.wiring
+
+-- the same of a world in which nothing is still to be put there, whatever was refused
+pub record IsStill {S : Type 0} (is_space : Setting → List Event → S → Type 0) (w : rules.World) (world : World S) : Type 0 where
+  pub spaces : AreResidents is_space w.spaces world.residents.items
+  pub wired : IsWired w world.wiring
+
+-- the spaces to which nothing has happened, of these settings
+abbrev pub AreNew : {S : Type 0} → (Setting → List Event → S → Type 0) → List Setting → List S → Type 0
+AreNew is_space [] [] = Unit {0}
+AreNew is_space [] (s ∷ ss) = ⊥
+AreNew is_space (g ∷ gs) [] = ⊥
+AreNew is_space (g ∷ gs) (s ∷ ss) = is_space g [] s × AreNew is_space gs ss
+
+-- the space of a number stands at the end of its history
+abbrev pub IsSpaceAt : {S : Type 0} → (Setting → List Event → S → Type 0) → Option rules.Space → Option S → Type 0
+IsSpaceAt is_space None None = Unit {0}
+IsSpaceAt is_space None (Some space) = ⊥
+IsSpaceAt is_space (Some s) None = ⊥
+IsSpaceAt is_space (Some s) (Some space) = is_space s.setting s.history space
+
+-- ---- what a space was told
+
+-- It took events, and what it answered is still to be put into the queues.
+pub record Took {S : Type 0} (is_space : Setting → List Event → S → Type 0) (spaces : List rules.Space) (i : ℕ) (why : rules.Space → Option Refusal) (events : rules.Space → List Event) (after : World S) : Type 0 where
+  pub space : rules.Space
+  pub there : slice_get spaces i ≡ Some space
+  pub accepted : why space ≡ None
+  pub spaces : AreResidents is_space (at_index (grown_all (events space)) i spaces) after.residents.items
+  pub left : left_of after.waiting after.residents.items ≡ answers_to space.setting space.history (events space)
+  pub writer : writer_of after.waiting ≡ i
+  pub refused : after.refused ≡ None
+
+-- There is none, or it refused them.
+abbrev pub MissedBy : (why : rules.Space → Option Refusal) → Option rules.Space → Option Rattle.sp_events.specs.declared.fault.CoreFault.CoreFault → Type 0
+MissedBy why None fault = fault ≡ None
+MissedBy why (Some s) fault = (r : Refusal) × ((why s ≡ Some r) × TellsRefusal (Some r) fault)
+
+pub record Missed {S : Type 0} (is_space : Setting → List Event → S → Type 0) (spaces : List rules.Space) (i : ℕ) (why : rules.Space → Option Refusal) (after : World S) : Type 0 where
+  pub missed : MissedBy why (slice_get spaces i) after.refused
+  pub spaces : AreResidents is_space spaces after.residents.items
+  pub still : is_settled after ≡ true
+
+abbrev pub Heard : {S : Type 0} → (Setting → List Event → S → Type 0) → List rules.Space → ℕ → (rules.Space → Option Refusal) → (rules.Space → List Event) → World S → Bool → Type 0
+Heard is_space spaces i why events after true = Took is_space spaces i why events after
+Heard is_space spaces i why events after false = Missed is_space spaces i why after
+
+-- What is heard of the space of a number, whatever spaces of the rules these are.
+abbrev pub IsHeard : {S : Type 0} → (Setting → List Event → S → Type 0) → ℕ → (rules.Space → Option Refusal) → (rules.Space → List Event) → Bool → World S → World S → Type 0
+IsHeard is_space i why events taken old new = (spaces : List rules.Space) → AreResidents is_space spaces old.residents.items → Heard is_space spaces i why events new taken
+
+-- ---- what happens
+
+-- A value that stood for a world, with nothing still to be put into the queues, stands for what is made of it.
+abbrev pub Makes : {S : Type 0} → (Setting → List Event → S → Type 0) → (rules.World → rules.World) → World S → World S → Type 0
+Makes is_space made old new = (w : rules.World) → IsStill is_space w old → w.refused ≡ None → IsWorld is_space (made w) new
+
+-- It stands for the same world.
+pub record Keeps {S : Type 0} (is_space : Setting → List Event → S → Type 0) (old new : World S) : Type 0 where
+  pub spaces : (spaces : List rules.Space) → AreResidents is_space spaces old.residents.items → AreResidents is_space spaces new.residents.items
+  pub refused : new.refused ≡ old.refused
+  pub waiting : new.waiting ≡ old.waiting
+  pub wired : (w : rules.World) → IsWired w old.wiring → IsWired w new.wiring
+
+-- Towards a live end of a space no frame comes: that the other end has ended comes, if it has.
+abbrev pub deliver_last : ℕ → rules.End → ℕ → rules.World → rules.World
+deliver_last conn to space w = rules.deliver_first conn to w space (comes_over (rules.other to) (slice_get w.pipes conn)) []
