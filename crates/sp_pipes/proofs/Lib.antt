@@ -1,1 +1,2 @@
+pub mod DialLemmas
 pub mod PipeLemmas

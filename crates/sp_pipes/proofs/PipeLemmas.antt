@@ -1,13 +1,16 @@
 -- Connections, as one of them changes.
-use Rattle.std.proofs.Common.{◌≡◌, ◌∙◌, ℕ, zero, suc, ◌≤◌, ◌<◌, ◌||◌, Bool, true, false, List, [], ◌∷◌, ◌++◌, Option, None, Some, refl, sym, ap, subst, arith, length, map, set, take, drop, cond, not, ltb, ◌+◌, lt-ltb, le-ltb, ltb-true, ltb-false}
-use Rattle.std.specs.Prelude.{position, slice_get, option_map}
+use Rattle.std.proofs.Common.{◌≡◌, ◌∙◌, ℕ, zero, suc, ◌≤◌, ◌<◌, ◌||◌, Bool, true, false, List, [], ◌∷◌, ◌++◌, Option, None, Some, refl, sym, ap, subst, arith, length, map, set, take, drop, cond, get_or, not, vec_len, ltb, ◌+◌, lt-ltb, le-ltb, ltb-true, ltb-false}
+use Rattle.std.specs.Prelude.{position, slice_get, option_map, Result, Ok, Err, OnErr}
 use Rattle.std.specs.List.{list_any, prefix_len}
 use Rattle.std.proofs.lemmas.Bool.{true≢false}
-use Rattle.std.proofs.lemmas.Option.{none-some, same_Some}
+use Rattle.std.specs.Global.{Vec}
+use Rattle.std.proofs.lemmas.List.{length-map}
+use Rattle.std.proofs.lemmas.Option.{none-some, same_Some, slice_get_read}
 use Rattle.net_message.specs.declared.message.Message.{Message}
 use Rattle.sp_rules.specs.Lists.{at_index}
 use Rattle.sp_rules.specs.Worlds.{Pipe, Side, End, Dialler, Accepter, set_side, is_unopened, without_front, new_pipe}
 use Rattle.sp_pipes.specs.Connections.{ArePipes, pipe_of, waits, waits_at, lowest_waiting}
+use Rattle.sp_pipes.specs.declared.pipe.Pipe.{Pipe as Row}
 use Rattle.sp_pipes.specs.declared.pipes.Pipes.{Pipes}
 
 -- ---- rows
@@ -78,15 +81,73 @@ less-side f k Dialler p h = h
 less-side f k Accepter p h = k p.accepter
 
 -- what is left of the table after such a change, and after the lowest is found
-pub found : (f : Pipe → Pipe) → ((p : Pipe) → waits p ≡ false → waits (f p) ≡ false) → (i : ℕ) (pipes : List Pipe) (t v : Pipes) (rows : List Pipe)
-    → rows ≡ at_index f i (map pipe_of t.rows.items)
-    → (t.unaccepted ≤ length rows → list_any waits (take t.unaccepted rows) ≡ false → ArePipes rows v) → ArePipes pipes t → ArePipes (at_index f i pipes) v
-found f k i pipes t v rows e to a =
-    let same : rows ≡ at_index f i pipes = e ∙ ap (at_index f i) a.rows in
+pub found : (f : Pipe → Pipe) → ((p : Pipe) → waits p ≡ false → waits (f p) ≡ false) → (i : ℕ) (pipes : List Pipe) (t v : Pipes) (ys : List Row)
+    → map pipe_of ys ≡ at_index f i (map pipe_of t.rows.items)
+    → (t.unaccepted ≤ length ys → list_any waits (take t.unaccepted (map pipe_of ys)) ≡ false → ArePipes (map pipe_of ys) v) → ArePipes pipes t → ArePipes (at_index f i pipes) v
+found f k i pipes t v ys e to a =
+    let same : map pipe_of ys ≡ at_index f i pipes = e ∙ ap (at_index f i) a.rows in
+    let many : length ys ≡ length pipes = sym (length-map ys pipe_of) ∙ ap length same ∙ length-at f i pipes in
     subst (λ (l : List Pipe). ArePipes l v) same
     (to
-      (let l = length-at f i pipes in let w = a.within in subst (λ (xs : List Pipe). t.unaccepted ≤ length xs) (sym same) (omega (arith, l, w)))
+      (subst (λ (n : ℕ). t.unaccepted ≤ n) (sym many) a.within)
       (subst (λ (xs : List Pipe). list_any waits (take t.unaccepted xs) ≡ false) (sym same) (still-none f k t.unaccepted i pipes a.below)))
+
+-- ---- rows of the table
+
+pub row-there : (t : Pipes) (n i : ℕ) (x : Row) → n ≡ vec_len t.rows → i < n → x ≡ get_or t.rows.items i x → slice_get t.rows.items i ≡ Some x
+row-there t n i x e lt is = slice_get_read t.rows.items n i x (e ∙ t.rows.ok.0) lt is
+
+pub many-rows : (t : Pipes) (n : ℕ) (pipes : List Pipe) → n ≡ vec_len t.rows → ArePipes pipes t → n ≡ length pipes
+many-rows t n pipes e a = e ∙ t.rows.ok.0 ∙ sym (length-map t.rows.items pipe_of) ∙ ap length a.rows
+
+-- there is no connection of the number
+pub absent : (f : Pipe → Pipe) (pipes : List Pipe) (t : Pipes) (n i : ℕ) → n ≡ vec_len t.rows → n ≤ i → ArePipes pipes t → ArePipes (at_index f i pipes) t
+absent f pipes t n i e le a = subst (λ (l : List Pipe). ArePipes l t) (sym (past f i pipes (subst (λ (k : ℕ). k ≤ i) (many-rows t n pipes e a) le))) a
+
+-- a row that is shown twice is the same
+pub same-row : (xs : List Row) (i : ℕ) (x y : Row) → slice_get xs i ≡ Some x → slice_get xs i ≡ Some y → x ≡ y
+same-row xs i x y e d = same_Some x y (sym e ∙ d)
+
+-- a connection stays as it is
+pub kept : (i : ℕ) (pipes : List Pipe) (t u : Pipes) (x y : Row) → slice_get t.rows.items i ≡ Some x → pipe_of y ≡ pipe_of x → u.rows.items ≡ set t.rows.items i y → u.unaccepted ≡ t.unaccepted → ArePipes pipes t → ArePipes pipes u
+kept i pipes t u x y there e items s a = subst (λ (l : List Pipe). ArePipes l u) (at-same i pipes)
+    (quiet (λ p. p) (λ p. refl) i pipes t u (ap (map pipe_of) items ∙ changed pipe_of (λ p. p) t.rows.items i x y there e) s a)
+  where
+    at-same : (n : ℕ) (xs : List Pipe) → at_index (λ p. p) n xs ≡ xs
+    at-same n [] = refl
+    at-same zero (z ∷ xs) = refl
+    at-same (suc n) (z ∷ xs) = ap (λ (l : List Pipe). z ∷ l) (at-same n xs)
+
+-- ---- the lowest is found
+
+not-one : (b : Bool) → not b ≡ true → b ≡ false
+not-one true e = absurd (true≢false (sym e))
+not-one false e = refl
+
+not-none : (b : Bool) → not b ≡ false → b ≡ true
+not-none true e = refl
+not-none false e = absurd (true≢false e)
+
+pub passed : (n m : ℕ) (xs : List Pipe) → m ≡ suc n → not (waits_at (slice_get xs n)) ≡ true → list_any waits (take n xs) ≡ false → list_any waits (take m xs) ≡ false
+passed n m xs e s h = subst (λ (k : ℕ). list_any waits (take k xs) ≡ false) (sym e) (by (slice_get xs n) refl s)
+  where
+    by : (o : Option Pipe) → slice_get xs n ≡ o → not (waits_at o) ≡ true → list_any waits (take (suc n) xs) ≡ false
+    by None is t = absurd (true≢false (sym t))
+    by (Some x) is t = none-more n xs x is (not-one (waits x) t) h
+
+pub passed-within : (n m : ℕ) (xs : List Pipe) → m ≡ suc n → not (waits_at (slice_get xs n)) ≡ true → m ≤ length xs
+passed-within n m [] e s = absurd (true≢false (sym s))
+passed-within zero m (x ∷ xs) e s = omega (arith, e)
+passed-within (suc n) m (x ∷ xs) e s = let h = passed-within n (suc n) xs refl s in omega (arith, e, h)
+
+pub arrived : (t u : Pipes) → u.rows ≡ t.rows → list_any waits (take u.unaccepted (map pipe_of u.rows.items)) ≡ false → u.unaccepted ≤ length u.rows.items
+    → not (waits_at (slice_get (map pipe_of u.rows.items) u.unaccepted)) ≡ false → ArePipes (map pipe_of t.rows.items) u
+arrived t u e b w s = subst (λ (l : List Pipe). ArePipes l u) (ap (λ (v : Vec Row). map pipe_of v.items) e) (record {
+  rows = refl;
+  below = b;
+  stands = not-none (waits_at (slice_get (map pipe_of u.rows.items) u.unaccepted)) s;
+  within = subst (λ (n : ℕ). u.unaccepted ≤ n) (sym (length-map u.rows.items pipe_of)) w;
+})
 
 -- one connection more
 push-below : (n : ℕ) (xs : List Pipe) (x : Pipe) → n ≤ length xs → list_any waits (take n xs) ≡ false → list_any waits (take n (xs ++ x ∷ [])) ≡ false
@@ -108,7 +169,7 @@ map-more : {A B : Type 0} (v : A → B) (xs : List A) (x : A) → map v (xs ++ x
 map-more v [] x = refl
 map-more {A} {B} v (y ∷ xs) x = ap (λ (l : List B). v y ∷ l) (map-more v xs x)
 
-pub opened : (a b : ℕ) (pipes : List Pipe) (t u : Pipes) (p : Rattle.sp_pipes.specs.declared.pipe.Pipe.Pipe) → u.rows.items ≡ t.rows.items ++ p ∷ [] → u.unaccepted ≡ t.unaccepted → pipe_of p ≡ new_pipe a b
+pub opened : (a b : ℕ) (pipes : List Pipe) (t u : Pipes) (p : Row) → u.rows.items ≡ t.rows.items ++ p ∷ [] → u.unaccepted ≡ t.unaccepted → pipe_of p ≡ new_pipe a b
     → ArePipes pipes t → ArePipes (pipes ++ new_pipe a b ∷ []) u
 opened a b pipes t u p e s n q = record {
   rows = ap (map pipe_of) e ∙ map-more pipe_of t.rows.items p ∙ ap (λ (x : Pipe). map pipe_of t.rows.items ++ x ∷ []) n ∙ ap (λ (l : List Pipe). l ++ new_pipe a b ∷ []) q.rows;
@@ -130,12 +191,12 @@ place-no : (k n : ℕ) (t : Bool) → ltb k n ≡ t → place false k n ≡ opti
 place-no k n true e = let q : 1 + k ≡ suc k = omega arith in ap (λ (t : Bool). cond t (Some (1 + k)) None) (lt-ltb (1 + k) (suc n) (let h = ltb-true k n e in omega (arith, h))) ∙ ap Some q
 place-no k n false e = ap (λ (t : Bool). cond t (Some (1 + k)) None) (le-ltb (1 + k) (suc n) (let h = ltb-false k n e in omega (arith, h)))
 
-position-no : {A : Type 0} (p : A → Bool) (x : A) (xs : List A) → p x ≡ false → position p (x ∷ xs) ≡ option_map suc (position p xs)
+pub position-no : {A : Type 0} (p : A → Bool) (x : A) (xs : List A) → p x ≡ false → position p (x ∷ xs) ≡ option_map suc (position p xs)
 position-no {A} p x xs e =
     let k = prefix_len (λ (y : A). not (p y)) xs in
     ap (λ (b : Bool). place b k (length xs)) e ∙ place-no k (length xs) (ltb k (length xs)) refl
 
-position-yes : {A : Type 0} (p : A → Bool) (x : A) (xs : List A) → p x ≡ true → position p (x ∷ xs) ≡ Some 0
+pub position-yes : {A : Type 0} (p : A → Bool) (x : A) (xs : List A) → p x ≡ true → position p (x ∷ xs) ≡ Some 0
 position-yes {A} p x xs e =
     let k = prefix_len (λ (y : A). not (p y)) xs in
     ap (λ (b : Bool). place b k (length xs)) e ∙ place-yes k (length xs)
@@ -153,3 +214,7 @@ no-lowest (suc n) (x ∷ xs) b w = let q = no-or (waits x) (list_any waits (take
 pub front-gone : (ms : List Message) → drop 1 ms ≡ without_front ms
 front-gone [] = refl
 front-gone (m ∷ ms) = refl
+
+pub on-err : {T E P Q : Type 0} (r : Result T E) → (P → Q) → OnErr r P → OnErr r Q
+on-err (Ok x) f h = tt
+on-err (Err e) f h = f h

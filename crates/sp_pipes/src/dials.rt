@@ -1,6 +1,6 @@
 //! The dials that wait to be opened or refused.
 
-ghost use Rattle.std.specs.Prelude.{◌≡◌, [], ◌∷◌, ◌++◌, OnOk, OnErr, map};
+ghost use Rattle.std.specs.Prelude.{◌≡◌, [], ◌∷◌, ◌++◌, OnOk, OnErr, map, position};
 ghost use Rattle.std.specs.List.{list_any};
 ghost use Rattle.sp_rules.specs.Worlds.{is_pair, without_pair};
 
@@ -22,7 +22,7 @@ pub struct Dials {
 }
 
 impl Dials {
-    ghost use Rattle.sp_pipes.specs.Asked.{asked, first_pair, pair_of};
+    ghost use Rattle.sp_pipes.specs.Asked.{asked, pair_of};
 
     /// No dial.
     pub fn new(alloc: Global) -> Dials
@@ -60,20 +60,18 @@ impl Dials {
     pub fn remove(&mut self, dialler: usize, dialled: usize)
         ensures { asked self.new ≡ without_pair dialler dialled (asked self.old) }
     {
-        if let Some(index) = self.find(dialler, dialled) {
-            let _ = self.rows.remove(index);
-        }
+        let Some(index) = self.find(dialler, dialled) else {
+            return;
+        };
+        let _ = self.rows.remove(index);
     }
 
     // The index of the first dial of a space to another.
     fn find(&self, dialler: usize, dialled: usize) -> Option<usize>
-        ensures { result ≡ first_pair dialler dialled (asked self.now) }
+        ensures { result ≡ position (λ dial. is_pair dialler dialled (pair_of dial)) self.now.rows.items }
     {
-        for (index, dial) in self.rows.iter().enumerate() {
-            if dial.dialler == dialler && dial.dialled == dialled {
-                return Some(index);
-            }
-        }
-        None
+        self.rows
+            .iter()
+            .position(|dial| dial.dialler == dialler && dial.dialled == dialled)
     }
 }

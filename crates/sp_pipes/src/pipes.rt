@@ -1,6 +1,6 @@
 //! All connections of a world.
 
-ghost use Rattle.std.specs.Prelude.{◌≡◌, ◌≤◌, ◌<◌, false, List, [], ◌∷◌, ◌++◌, OnOk, OnErr, length, map, option_copied, option_map, slice_get, take};
+ghost use Rattle.std.specs.Prelude.{◌≡◌, ◌≤◌, ◌<◌, false, List, [], ◌∷◌, ◌++◌, OnOk, OnErr, length, map, not, option_copied, option_map, slice_get, take};
 ghost use Rattle.std.specs.List.{list_any};
 ghost use Rattle.sp_rules.specs.Lists.{at_index};
 ghost use Rattle.sp_rules.specs.Worlds.{Pipe as Row, begin_side, cut_end, end_of as end_at, ends as over, new_pipe, other, queue_up as queued, set_side, take_front as rest_of, End as Ends};
@@ -23,7 +23,7 @@ pub struct Pipes {
 }
 
 impl Pipes {
-    ghost use Rattle.sp_pipes.specs.Connections.{ArePipes, comes_over, end_of, has_frames_or_end, live_space, lost_at, lowest_waiting, front_at, pipe_of, room, unopened_space, waits};
+    ghost use Rattle.sp_pipes.specs.Connections.{ArePipes, comes_over, end_of, has_frames_or_end, live_space, lost_at, lowest_waiting, front_at, pipe_of, room, unopened_space, waits, waits_at};
 
     /// No connection.
     pub fn new(alloc: Global) -> Pipes
@@ -227,8 +227,18 @@ impl Pipes {
         ensures found { self.old.unaccepted ≤ length self.old.rows.items → list_any waits (take self.old.unaccepted (map pipe_of self.old.rows.items)) ≡ false → ArePipes (map pipe_of self.old.rows.items) self.new }
         ensures room { room self.new ≡ room self.old }
     {
-        'up: while self.unaccepted < self.rows.len() && !self.rows[self.unaccepted].is_unopened() {
+        'up: while self.is_passed() {
             self.unaccepted += 1;
+        }
+    }
+
+    // Whether the connection that counted as the lowest that waits to be accepted is there and does not.
+    fn is_passed(&self) -> bool
+        ensures { result ≡ not (waits_at (slice_get (map pipe_of self.now.rows.items) self.now.unaccepted)) }
+    {
+        match self.rows.get(self.unaccepted) {
+            Some(pipe) => !pipe.is_unopened(),
+            None => false,
         }
     }
 }

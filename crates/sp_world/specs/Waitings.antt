@@ -1,14 +1,17 @@
 -- When a value stands for a world of the rules of spaces. (This project's own.)
-use Rattle.std.specs.Prelude.{◌≡◌, ℕ, Bool, true, false, List, [], ◌∷◌, Option, None, Some, drop, is_none, slice_get}
+use Rattle.std.specs.Prelude.{◌≡◌, ℕ, Bool, true, false, List, [], ◌∷◌, ◌++◌, Option, None, Some, drop, is_none, length, slice_get}
 use Rattle.std.specs.Map.{lookup}
 use Rattle.std.specs.Str.{bytes_eq}
+use Rattle.net_message.specs.declared.message.Message.{Message}
 use Rattle.uuid.specs.declared.Uuid.{Uuid}
 use Rattle.sp_rules.specs.Classes.{Setting}
-use Rattle.sp_rules.specs.Events.{Event, Output}
+use Rattle.sp_rules.specs.Events.{Event, Opened, Output, Received}
 use Rattle.sp_rules.specs.Lists.{at_index, each}
 use Rattle.sp_rules.specs.Refusals.{Refusal}
+use Rattle.sp_rules.specs.Space.{state_of}
 use Rattle.sp_rules.specs.Worlds as rules
 use Rattle.sp_rules.specs.Worlds.{number_of, put}
+use Rattle.sp_events.specs.declared.fault.CoreFault.{CoreFault}
 use Rattle.sp_pipes.specs.Asked.{asked}
 use Rattle.sp_pipes.specs.Connections.{ArePipes, comes_over}
 use Rattle.sp_world.specs.Happenings.{TellsRefusal}
@@ -83,6 +86,7 @@ IsSpaceAt is_space (Some s) (Some space) = is_space s.setting s.history space
 pub record Took {S : Type 0} (is_space : Setting → List Event → S → Type 0) (spaces : List rules.Space) (i : ℕ) (why : rules.Space → Option Refusal) (events : rules.Space → List Event) (after : World S) : Type 0 where
   pub space : rules.Space
   pub there : slice_get spaces i ≡ Some space
+  pub state : space.state ≡ state_of space.setting space.history
   pub accepted : why space ≡ None
   pub spaces : AreResidents is_space (at_index (grown_all (events space)) i spaces) after.residents.items
   pub left : left_of after.waiting after.residents.items ≡ answers_to space.setting space.history (events space)
@@ -90,9 +94,9 @@ pub record Took {S : Type 0} (is_space : Setting → List Event → S → Type 0
   pub refused : after.refused ≡ None
 
 -- There is none, or it refused them.
-abbrev pub MissedBy : (why : rules.Space → Option Refusal) → Option rules.Space → Option Rattle.sp_events.specs.declared.fault.CoreFault.CoreFault → Type 0
+abbrev pub MissedBy : (rules.Space → Option Refusal) → Option rules.Space → Option CoreFault → Type 0
 MissedBy why None fault = fault ≡ None
-MissedBy why (Some s) fault = (r : Refusal) × ((why s ≡ Some r) × TellsRefusal (Some r) fault)
+MissedBy why (Some s) fault = (s.state ≡ state_of s.setting s.history) × ((r : Refusal) × ((why s ≡ Some r) × TellsRefusal (Some r) fault))
 
 pub record Missed {S : Type 0} (is_space : Setting → List Event → S → Type 0) (spaces : List rules.Space) (i : ℕ) (why : rules.Space → Option Refusal) (after : World S) : Type 0 where
   pub missed : MissedBy why (slice_get spaces i) after.refused
@@ -123,3 +127,15 @@ pub record Keeps {S : Type 0} (is_space : Setting → List Event → S → Type 
 -- Towards a live end of a space no frame comes: that the other end has ended comes, if it has.
 abbrev pub deliver_last : ℕ → rules.End → ℕ → rules.World → rules.World
 deliver_last conn to space w = rules.deliver_first conn to w space (comes_over (rules.other to) (slice_get w.pipes conn)) []
+
+-- the first frame towards a live end of a space comes
+abbrev pub deliver_front : ℕ → rules.End → ℕ → Message → rules.World → rules.World
+deliver_front conn to space m w = rules.act w space (Received conn m) (rules.on_side rules.take_front conn to w)
+
+-- a dial that waits comes to the next connection
+abbrev pub open_next : ℕ → ℕ → rules.World → rules.World
+open_next a b w = rules.act w a (Opened (length w.pipes) (rules.id_at b w)) (record w { asked = rules.without_pair a b w.asked; pipes = w.pipes ++ rules.new_pipe a b ∷ [] })
+
+-- a dial that waits is refused
+abbrev pub refuse_next : ℕ → ℕ → rules.World → rules.World
+refuse_next a b w = rules.refuse_to w a (rules.id_at b w) (record w { asked = rules.without_pair a b w.asked })

@@ -11,40 +11,74 @@ use std::alloc::{AllocError, Global};
 pub(crate) fn copy_message(alloc: Global, message: &Message) -> Result<Message, AllocError>
     ensures { IfOk result (λ copy. copy ≡ message.now) }
 {
-    Ok(match message {
-        Message::Hello { version, space, digest } => Message::Hello { version: *version, space: *space, digest: *digest },
-        Message::Call { number, object, method, fuel, arguments } => Message::Call {
+    match message {
+        Message::Hello {
+            version,
+            space,
+            digest,
+        } => Ok(Message::Hello {
+            version: *version,
+            space: *space,
+            digest: *digest,
+        }),
+        Message::Call {
+            number,
+            object,
+            method,
+            fuel,
+            arguments,
+        } => Ok(Message::Call {
             number: *number,
             object: *object,
             method: *method,
             fuel: *fuel,
             arguments: copy_values(alloc, arguments.as_slice())?,
-        },
-        Message::Returned { number, fuel, value } => Message::Returned {
+        }),
+        Message::Returned {
+            number,
+            fuel,
+            value,
+        } => Ok(Message::Returned {
             number: *number,
             fuel: *fuel,
             value: copy_result(alloc, value)?,
-        },
-        Message::Threw { number, class } => Message::Threw { number: *number, class: *class },
-        Message::Spent { number } => Message::Spent { number: *number },
-        Message::Ack { number } => Message::Ack { number: *number },
-        Message::Dirty { sequence, period, objects } => Message::Dirty {
+        }),
+        Message::Threw { number, class } => Ok(Message::Threw {
+            number: *number,
+            class: *class,
+        }),
+        Message::Spent { number } => Ok(Message::Spent { number: *number }),
+        Message::Ack { number } => Ok(Message::Ack { number: *number }),
+        Message::Dirty {
+            sequence,
+            period,
+            objects,
+        } => Ok(Message::Dirty {
             sequence: *sequence,
             period: *period,
             objects: copy_ids(alloc, objects.as_slice())?,
-        },
-        Message::Lease { sequence, period } => Message::Lease { sequence: *sequence, period: *period },
-        Message::Clean { sequence, strong, objects } => Message::Clean {
+        }),
+        Message::Lease { sequence, period } => Ok(Message::Lease {
+            sequence: *sequence,
+            period: *period,
+        }),
+        Message::Clean {
+            sequence,
+            strong,
+            objects,
+        } => Ok(Message::Clean {
             sequence: *sequence,
             strong: *strong,
             objects: copy_ids(alloc, objects.as_slice())?,
-        },
-        Message::Cleaned { sequence } => Message::Cleaned { sequence: *sequence },
-        Message::Lookup { number, name } => Message::Lookup {
+        }),
+        Message::Cleaned { sequence } => Ok(Message::Cleaned {
+            sequence: *sequence,
+        }),
+        Message::Lookup { number, name } => Ok(Message::Lookup {
             number: *number,
-            name: Row::new(name.as_slice().to_vec(alloc)?),
-        },
-    })
+            name: copy_name(alloc, name.as_slice())?,
+        }),
+    }
 }
 
 fn copy_values(alloc: Global, values: &[Value]) -> Result<Row<Value>, AllocError>
@@ -70,4 +104,10 @@ fn copy_ids(alloc: Global, ids: &[ObjId]) -> Result<Row<ObjId>, AllocError>
     ensures { IfOk result (λ copy. copy ≡ ids.now) }
 {
     Ok(Row::new(ids.to_vec(alloc)?))
+}
+
+fn copy_name(alloc: Global, name: &[u8]) -> Result<Row<u8>, AllocError>
+    ensures { IfOk result (λ copy. copy ≡ name.now) }
+{
+    Ok(Row::new(name.to_vec(alloc)?))
 }

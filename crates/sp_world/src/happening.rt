@@ -10,6 +10,7 @@ ghost use Rattle.sp_world.specs.Happenings.{happening_of};
 use crate::copies::copy_message;
 use crate::world::Waiting;
 use crate::{Inhabitant, World, WorldEvent};
+use net_message::Message;
 use sp_events::{CoreFault, Event};
 use sp_pipes::End;
 use space_ids::Value;
@@ -17,7 +18,7 @@ use std::alloc::AllocError;
 
 impl<S: Inhabitant + Drop> World<S> {
     ghost use Rattle.sp_world.specs.Residents.{one_event, refused_event, refused_step, step_events_of};
-    ghost use Rattle.sp_world.specs.Waitings.{IsHeard, IsWorld, Keeps, Makes, deliver_last, is_settled};
+    ghost use Rattle.sp_world.specs.Waitings.{IsHeard, IsWorld, Keeps, Makes, deliver_front, deliver_last, is_settled, open_next, refuse_next};
 
     /// Lets an event happen. One that does not fit changes nothing but what [refused](World::refused)
     /// tells. At out of memory it has not happened, and it stays the same world.
@@ -63,11 +64,11 @@ impl<S: Inhabitant + Drop> World<S> {
         ensures made { OnOk result (Makes S.is_space (happens (Own space (event_of event.now))) self.old self.new) }
         ensures kept { OnErr result (Keeps S.is_space self.old self.new) }
     {
-        if !is_own_event(event) {
-            self.refused = None;
+        if is_own_event(event) {
+            let _taken = self.tell(space, event)?;
             return Ok(());
         }
-        let _ = self.tell(space, event)?;
+        self.refused = None;
         Ok(())
     }
 
@@ -83,12 +84,7 @@ impl<S: Inhabitant + Drop> World<S> {
         ensures made { OnOk result (Makes S.is_space (happens (Own space (Roots method arguments.now fuel))) self.old self.new) }
         ensures kept { OnErr result (Keeps S.is_space self.old self.new) }
     {
-        if space >= self.residents.len() {
-            self.refused = None;
-            return Ok(());
-        }
-        let answer = self.residents[space].root(method, arguments, fuel);
-        let _ = self.hear(space, answer)?;
+        let _taken = self.tell_root(space, method, arguments, fuel)?;
         Ok(())
     }
 
@@ -98,97 +94,138 @@ impl<S: Inhabitant + Drop> World<S> {
         ensures made { OnOk result (Makes S.is_space (step_task space task) self.old self.new) }
         ensures kept { OnErr result (Keeps S.is_space self.old self.new) }
     {
-        if space >= self.residents.len() {
-            self.refused = None;
-            return Ok(());
-        }
-        let answer = self.residents[space].step(task);
-        let _ = self.hear(space, answer)?;
+        let _taken = self.tell_step(space, task)?;
         Ok(())
     }
 
-    // A dial that waits comes to a connection.
+    // A dial comes to a connection, if it waits.
     fn open(&mut self, dialler: usize, dialled: usize) -> Result<(), AllocError>
         requires { is_settled self.old ≡ true }
         ensures made { OnOk result (Makes S.is_space (open_pipe dialler dialled) self.old self.new) }
         ensures kept { OnErr result (Keeps S.is_space self.old self.new) }
     {
-        if !self.wiring.dials.contains(dialler, dialled) {
-            self.refused = None;
-            return Ok(());
+        if self.wiring.dials.contains(dialler, dialled) {
+            return self.open_asked(dialler, dialled);
         }
-        let peer = self.id(dialled);
+        self.refused = None;
+        Ok(())
+    }
+
+    // A dial that waits comes to a connection.
+    fn open_asked(&mut self, dialler: usize, dialled: usize) -> Result<(), AllocError>
+        requires { is_settled self.old ≡ true }
+        ensures made { OnOk result (Makes S.is_space (open_next dialler dialled) self.old self.new) }
+        ensures kept { OnErr result (Keeps S.is_space self.old self.new) }
+    {
         self.wiring.pipes.reserve()?;
         let event = Event::Opened {
             conn: self.wiring.pipes.len(),
-            dialled: peer,
+            dialled: self.id(dialled),
         };
         if self.tell(dialler, &event)? {
             self.wiring.dials.remove(dialler, dialled);
             self.wiring.pipes.open_reserved(dialler, dialled);
+            return Ok(());
         }
         Ok(())
     }
 
-    // A dial that waits is refused.
+    // A dial is refused, if it waits.
     fn refuse(&mut self, dialler: usize, dialled: usize) -> Result<(), AllocError>
         requires { is_settled self.old ≡ true }
         ensures made { OnOk result (Makes S.is_space (refuse dialler dialled) self.old self.new) }
         ensures kept { OnErr result (Keeps S.is_space self.old self.new) }
     {
-        if !self.wiring.dials.contains(dialler, dialled) {
-            self.refused = None;
-            return Ok(());
+        if self.wiring.dials.contains(dialler, dialled) {
+            return self.refuse_asked(dialler, dialled);
         }
-        let Some(peer) = self.id(dialled) else {
-            self.refused = None;
-            return Ok(());
-        };
-        if self.tell(dialler, &Event::Refused { peer })? {
-            self.wiring.dials.remove(dialler, dialled);
-        }
+        self.refused = None;
         Ok(())
     }
 
-    // The space that was dialled accepts a connection.
+    // A dial that waits is refused.
+    fn refuse_asked(&mut self, dialler: usize, dialled: usize) -> Result<(), AllocError>
+        requires { is_settled self.old ≡ true }
+        ensures made { OnOk result (Makes S.is_space (refuse_next dialler dialled) self.old self.new) }
+        ensures kept { OnErr result (Keeps S.is_space self.old self.new) }
+    {
+        match self.id(dialled) {
+            Some(peer) => {
+                if self.tell(dialler, &Event::Refused { peer })? {
+                    self.wiring.dials.remove(dialler, dialled);
+                    return Ok(());
+                }
+                Ok(())
+            }
+            None => {
+                self.refused = None;
+                Ok(())
+            }
+        }
+    }
+
+    // The space that was dialled accepts a connection, if it waits for that.
     fn accept(&mut self, conn: u64) -> Result<(), AllocError>
         requires { is_settled self.old ≡ true }
         ensures made { OnOk result (Makes S.is_space (accept conn) self.old self.new) }
         ensures kept { OnErr result (Keeps S.is_space self.old self.new) }
     {
-        let Some(space) = self.wiring.pipes.unopened_space(conn) else {
-            self.refused = None;
-            return Ok(());
-        };
-        let event = Event::Opened {
-            conn,
-            dialled: None,
-        };
-        if self.tell(space, &event)? {
-            self.wiring.pipes.begin(conn);
+        match self.wiring.pipes.unopened_space(conn) {
+            Some(space) => {
+                let event = Event::Opened {
+                    conn,
+                    dialled: None,
+                };
+                if self.tell(space, &event)? {
+                    self.wiring.pipes.begin(conn);
+                    return Ok(());
+                }
+                Ok(())
+            }
+            None => {
+                self.refused = None;
+                Ok(())
+            }
         }
-        Ok(())
     }
 
-    // The first frame comes to an end, or that the other end has ended.
+    // The first frame comes to an end that is live, or that the other end has ended.
     fn deliver(&mut self, conn: u64, to: End) -> Result<(), AllocError>
         requires { is_settled self.old ≡ true }
         ensures made { OnOk result (Makes S.is_space (deliver conn (end_of to)) self.old self.new) }
         ensures kept { OnErr result (Keeps S.is_space self.old self.new) }
     {
-        let Some(space) = self.wiring.pipes.live_space(conn, to) else {
-            self.refused = None;
-            return Ok(());
-        };
-        let Some(message) = self.wiring.pipes.front(conn, to) else {
-            return self.deliver_end(space, conn, to);
-        };
-        let event = Event::Received {
-            conn,
-            message: copy_message(self.alloc, message)?,
-        };
+        match self.wiring.pipes.live_space(conn, to) {
+            Some(space) => match self.wiring.pipes.front(conn, to) {
+                Some(message) => {
+                    let copy = copy_message(self.alloc, message)?;
+                    self.deliver_frame(space, conn, to, copy)
+                }
+                None => self.deliver_end(space, conn, to),
+            },
+            None => {
+                self.refused = None;
+                Ok(())
+            }
+        }
+    }
+
+    // The first frame, of which this is a copy, comes to an end.
+    fn deliver_frame(
+        &mut self,
+        space: usize,
+        conn: u64,
+        to: End,
+        message: Message,
+    ) -> Result<(), AllocError>
+        requires { is_settled self.old ≡ true }
+        ensures made { OnOk result (Makes S.is_space (deliver_front conn (end_of to) space message) self.old self.new) }
+        ensures kept { OnErr result (Keeps S.is_space self.old self.new) }
+    {
+        let event = Event::Received { conn, message };
         if self.tell(space, &event)? {
             self.wiring.pipes.take_front(conn, to);
+            return Ok(());
         }
         Ok(())
     }
@@ -199,49 +236,60 @@ impl<S: Inhabitant + Drop> World<S> {
         ensures made { OnOk result (Makes S.is_space (deliver_last conn (end_of to) space) self.old self.new) }
         ensures kept { OnErr result (Keeps S.is_space self.old self.new) }
     {
-        if !self.wiring.pipes.is_over(conn, to.other()) {
-            self.refused = None;
+        if self.wiring.pipes.is_over(conn, to.other()) {
+            if self.tell(space, &Event::Closed { conn })? {
+                self.wiring.pipes.end(conn, to);
+                return Ok(());
+            }
             return Ok(());
         }
-        if self.tell(space, &Event::Closed { conn })? {
-            self.wiring.pipes.end(conn, to);
-        }
+        self.refused = None;
         Ok(())
     }
 
-    // A read fails at an end.
+    // A read fails at an end that is live.
     fn read_fails(&mut self, conn: u64, at: End) -> Result<(), AllocError>
         requires { is_settled self.old ≡ true }
         ensures made { OnOk result (Makes S.is_space (read_fails conn (end_of at)) self.old self.new) }
         ensures kept { OnErr result (Keeps S.is_space self.old self.new) }
     {
-        let Some(space) = self.wiring.pipes.live_space(conn, at) else {
-            self.refused = None;
-            return Ok(());
-        };
-        if self.tell(space, &Event::ReadFailed { conn })? {
-            self.wiring.pipes.end(conn, at);
+        match self.wiring.pipes.live_space(conn, at) {
+            Some(space) => {
+                if self.tell(space, &Event::ReadFailed { conn })? {
+                    self.wiring.pipes.end(conn, at);
+                    return Ok(());
+                }
+                Ok(())
+            }
+            None => {
+                self.refused = None;
+                Ok(())
+            }
         }
-        Ok(())
     }
 
-    // A write fails at an end: the last frames that it wrote are lost.
+    // A write fails at an end that is live: the last frames that it wrote are lost.
     fn write_fails(&mut self, conn: u64, at: End, unsent: u64) -> Result<(), AllocError>
         requires { is_settled self.old ≡ true }
         ensures made { OnOk result (Makes S.is_space (write_fails conn (end_of at) unsent) self.old self.new) }
         ensures kept { OnErr result (Keeps S.is_space self.old self.new) }
     {
-        let Some(space) = self.wiring.pipes.live_space(conn, at) else {
-            self.refused = None;
-            return Ok(());
-        };
-        let lost = self.wiring.pipes.lost(conn, at, unsent);
-        let event = Event::WriteFailed { conn, unsent: lost };
-        if self.tell(space, &event)? {
-            self.wiring.pipes.cut_end(conn, at.other(), lost);
-            self.wiring.pipes.end(conn, at);
+        match self.wiring.pipes.live_space(conn, at) {
+            Some(space) => {
+                let lost = self.wiring.pipes.lost(conn, at, unsent);
+                let event = Event::WriteFailed { conn, unsent: lost };
+                if self.tell(space, &event)? {
+                    self.wiring.pipes.cut_end(conn, at.other(), lost);
+                    self.wiring.pipes.end(conn, at);
+                    return Ok(());
+                }
+                Ok(())
+            }
+            None => {
+                self.refused = None;
+                Ok(())
+            }
         }
-        Ok(())
     }
 
     // Tells a space of an event. Returns whether there is such a space and it took the event.
@@ -256,6 +304,42 @@ impl<S: Inhabitant + Drop> World<S> {
             return Ok(false);
         }
         let answer = self.residents[space].on(event);
+        self.hear(space, answer)
+    }
+
+    // The same of a root.
+    fn tell_root(
+        &mut self,
+        space: usize,
+        method: u32,
+        arguments: &[Value],
+        fuel: u64,
+    ) -> Result<bool, AllocError>
+        requires { is_settled self.old ≡ true }
+        ensures heard { IfOk result (λ taken. IsHeard S.is_space space (refused_event (Roots method arguments.now fuel)) (one_event (Roots method arguments.now fuel)) taken self.old self.new) }
+        ensures kept { OnErr result (Keeps S.is_space self.old self.new) }
+        ensures wiring { self.new.wiring ≡ self.old.wiring }
+    {
+        if space >= self.residents.len() {
+            self.refused = None;
+            return Ok(false);
+        }
+        let answer = self.residents[space].root(method, arguments, fuel);
+        self.hear(space, answer)
+    }
+
+    // The same of an instruction of a task.
+    fn tell_step(&mut self, space: usize, task: u64) -> Result<bool, AllocError>
+        requires { is_settled self.old ≡ true }
+        ensures heard { IfOk result (λ taken. IsHeard S.is_space space (refused_step task) (step_events_of task) taken self.old self.new) }
+        ensures kept { OnErr result (Keeps S.is_space self.old self.new) }
+        ensures wiring { self.new.wiring ≡ self.old.wiring }
+    {
+        if space >= self.residents.len() {
+            self.refused = None;
+            return Ok(false);
+        }
+        let answer = self.residents[space].step(task);
         self.hear(space, answer)
     }
 

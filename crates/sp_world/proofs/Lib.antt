@@ -1,0 +1,5 @@
+pub mod ActLemmas
+pub mod FitLemmas
+pub mod ResidentLemmas
+pub mod WiringLemmas
+pub mod WorldLemmas

@@ -1,0 +1,133 @@
+-- The spaces of a world, as one of them takes events.
+use Rattle.std.proofs.Common.{◌≡◌, ◌∙◌, ℕ, zero, suc, ◌≤◌, ◌⊎◌, inl, inr, Bool, true, false, List, [], ◌∷◌, ◌++◌, Option, None, Some, refl, sym, ap, subst, arith, length, map, set, append_assoc}
+use Rattle.std.specs.Prelude.{slice_get}
+use Rattle.std.specs.Global.{Vec}
+use Rattle.std.specs.List.{flat_map}
+use Rattle.std.proofs.lemmas.List.{append-nil}
+use Rattle.std.proofs.lemmas.Option.{none-some, same_Some}
+use Rattle.sp_rules.specs.Classes.{Setting}
+use Rattle.sp_rules.specs.Events as events
+use Rattle.sp_rules.specs.Events.{Event}
+use Rattle.sp_rules.specs.Lists.{with_some, at_index}
+use Rattle.sp_rules.specs.Refusals.{Refusal, refusal}
+use Rattle.sp_rules.specs.Space.{on, outputs_of, state_of}
+use Rattle.sp_rules.specs.Worlds.{Space, grown, lent_for}
+use Rattle.sp_events.specs.Events.{event_of}
+use Rattle.sp_events.specs.declared.event.Event.{Event as Happens}
+use Rattle.sp_events.specs.declared.event.Event.TheVariants as event
+use Rattle.sp_outputs.specs.Notes.{output_of}
+use Rattle.sp_outputs.specs.declared.output.Output.{Output}
+use Rattle.sp_world.specs.Residents.{AreResidents, IsResident, grown_all, row_in, told, told_in}
+use Rattle.sp_world.specs.Steps.{answers_to, grown_by, refusal_of}
+use Rattle.sp_world.specs.declared.resident.Resident.{Resident}
+use Rattle.sp_world.proofs.ActLemmas.{grown-setting, next-state}
+
+-- ---- a space after events
+
+pub grown-history : (es : List Event) (s : Space) → (grown_all es s).history ≡ grown_by s.history es
+grown-history [] s = refl
+grown-history (e ∷ es) s = grown-history es (grown e s)
+
+grown-state : (es : List Event) (s : Space) → s.state ≡ state_of s.setting s.history → (grown_all es s).state ≡ state_of (grown_all es s).setting (grown_all es s).history
+grown-state [] s st = st
+grown-state (e ∷ es) s st = grown-state es (grown e s) (next-state e s st)
+
+grown-outputs : (es : List Event) (s : Space) → s.state ≡ state_of s.setting s.history → (grown_all es s).outputs ≡ s.outputs ++ answers_to s.setting s.history es
+unfolding outputs_of
+grown-outputs [] s st = sym (append-nil s.outputs)
+grown-outputs (e ∷ es) s st =
+    let rest : List events.Output = answers_to s.setting (e ∷ s.history) es in
+    grown-outputs es (grown e s) (next-state e s st)
+    ∙ append_assoc s.outputs (on s.setting e s.state).1 rest
+    ∙ ap (λ t. s.outputs ++ ((on s.setting e t).1 ++ rest)) st
+
+told-more : (rows : List (Vec Output)) (row : Vec Output) → told (rows ++ row ∷ []) ≡ told rows ++ told_in row
+told-more [] row = append-nil (told_in row)
+told-more (r ∷ rows) row = ap (λ (l : List events.Output). told_in r ++ l) (told-more rows row) ∙ sym (append_assoc (told_in r) (told rows) (told_in row))
+
+pub took : {S : Type 0} (is_space : Setting → List Event → S → Type 0) (s : Space) (old new : Resident S) (es : List Event) (row : Vec Output)
+    → IsResident is_space s old → new.answers.items ≡ old.answers.items ++ row ∷ [] → map output_of row.items ≡ answers_to s.setting s.history es
+    → is_space s.setting (grown_by s.history es) new.space → IsResident is_space (grown_all es s) new
+took {S} is_space s old new es row r items answers stands = record {
+  space = subst (λ (g : Setting). is_space g (grown_all es s).history new.space) (sym (grown-setting es s)) (subst (λ (h : List Event). is_space s.setting h new.space) (sym (grown-history es s)) stands);
+  state = grown-state es s r.state;
+  outputs = grown-outputs es s r.state
+    ∙ ap (λ (xs : List events.Output). xs ++ answers_to s.setting s.history es) r.outputs
+    ∙ ap (λ (ys : List events.Output). told old.answers.items ++ ys) (sym answers)
+    ∙ sym (told-more old.answers.items row)
+    ∙ ap told (sym items);
+}
+
+row-last : {A : Type 0} (xs : List A) (x : A) → slice_get (xs ++ x ∷ []) (length xs) ≡ Some x
+row-last [] x = refl
+row-last (y ∷ xs) x = row-last xs x
+
+pub kept-row : {S : Type 0} (old new : Resident S) (row : Vec Output) → new.answers.items ≡ old.answers.items ++ row ∷ [] → row_in (length old.answers.items) new ≡ told_in row
+kept-row old new row items =
+    ap (λ (rows : List (Vec Output)). Rattle.sp_world.specs.Residents.row_at (slice_get rows (length old.answers.items))) items
+    ∙ ap Rattle.sp_world.specs.Residents.row_at (row-last old.answers.items row)
+
+-- ---- one event
+
+pub lent-none : (e : Happens) → lent_for (event_of e) ≡ []
+lent-none (event.Moment moment) = refl
+lent-none event.Sweep = refl
+lent-none (event.RootAck task) = refl
+lent-none (event.Bind name value) = refl
+lent-none (event.Rebind name value) = refl
+lent-none (event.Unbind name) = refl
+lent-none (event.Lookup peer name) = refl
+lent-none (event.Opened conn dialled) = refl
+lent-none (event.Refused peer) = refl
+lent-none (event.Received conn message) = refl
+lent-none (event.Closed conn) = refl
+lent-none (event.ReadFailed conn) = refl
+lent-none (event.Bad conn) = refl
+lent-none (event.WriteFailed conn unsent) = refl
+
+itself : (x : Option Refusal) → with_some x None (λ why. Some why) ≡ x
+itself None = refl
+itself (Some why) = refl
+
+pub one-refusal : (g : Setting) (h : List Event) (e : Event) → lent_for e ≡ [] → refusal_of g h (e ∷ []) ≡ refusal g [] (state_of g h) e
+one-refusal g h e lent = itself (refusal g (lent_for e) (state_of g h) e) ∙ ap (λ (l : List ℕ). refusal g l (state_of g h) e) lent
+
+pub one-answer : (g : Setting) (h : List Event) (e : Event) → answers_to g h (e ∷ []) ≡ outputs_of g h e
+one-answer g h e = append-nil (outputs_of g h e)
+
+-- ---- all spaces
+
+pub resident-at : {S : Type 0} (is_space : Setting → List Event → S → Type 0) (ss : List Space) (rs : List (Resident S)) (i : ℕ) (r : Resident S)
+    → AreResidents is_space ss rs → slice_get rs i ≡ Some r → (s : Space) × ((slice_get ss i ≡ Some s) × IsResident is_space s r)
+resident-at is_space [] [] i r a e = absurd (none-some r e)
+resident-at is_space [] (x ∷ rs) i r a e = absurd a
+resident-at is_space (s ∷ ss) [] i r a e = absurd a
+resident-at is_space (s ∷ ss) (x ∷ rs) zero r a e = (s, (refl, subst (IsResident is_space s) (same_Some x r e) a.0))
+resident-at is_space (s ∷ ss) (x ∷ rs) (suc i) r a e = resident-at is_space ss rs i r a.1 e
+
+pub nobody-at : {S : Type 0} (is_space : Setting → List Event → S → Type 0) (ss : List Space) (rs : List (Resident S)) (i : ℕ) → AreResidents is_space ss rs → slice_get rs i ≡ None → slice_get ss i ≡ None
+nobody-at is_space [] [] i a e = refl
+nobody-at is_space [] (x ∷ rs) i a e = absurd a
+nobody-at is_space (s ∷ ss) [] i a e = absurd a
+nobody-at is_space (s ∷ ss) (x ∷ rs) zero a e = absurd (none-some x (sym e))
+nobody-at is_space (s ∷ ss) (x ∷ rs) (suc i) a e = nobody-at is_space ss rs i a.1 e
+
+pub resident-set : {S : Type 0} (is_space : Setting → List Event → S → Type 0) (f : Space → Space) (ss : List Space) (rs : List (Resident S)) (i : ℕ) (s : Space) (r : Resident S)
+    → AreResidents is_space ss rs → slice_get ss i ≡ Some s → IsResident is_space (f s) r → AreResidents is_space (at_index f i ss) (set rs i r)
+resident-set is_space f [] rs i s r a e t = absurd (none-some s e)
+resident-set is_space f (x ∷ ss) [] i s r a e t = absurd a
+resident-set is_space f (x ∷ ss) (y ∷ rs) zero s r a e t = (subst (λ z. IsResident is_space (f z) r) (sym (same_Some x s e)) t, a.1)
+resident-set is_space f (x ∷ ss) (y ∷ rs) (suc i) s r a e t = (a.0, resident-set is_space f ss rs i s r a.1 e t)
+
+pub resident-kept : {S : Type 0} (is_space : Setting → List Event → S → Type 0) (ss : List Space) (rs : List (Resident S)) (i : ℕ) (r t : Resident S)
+    → AreResidents is_space ss rs → slice_get rs i ≡ Some r → ((s : Space) → IsResident is_space s r → IsResident is_space s t) → AreResidents is_space ss (set rs i t)
+resident-kept is_space [] [] i r t a e k = absurd (none-some r e)
+resident-kept is_space [] (y ∷ rs) i r t a e k = absurd a
+resident-kept is_space (x ∷ ss) [] i r t a e k = absurd a
+resident-kept is_space (x ∷ ss) (y ∷ rs) zero r t a e k = (k x (subst (IsResident is_space x) (same_Some y r e) a.0), a.1)
+resident-kept is_space (x ∷ ss) (y ∷ rs) (suc i) r t a e k = (a.0, resident-kept is_space ss rs i r t a.1 e k)
+
+pub set-there : {A : Type 0} (xs : List A) (i : ℕ) (x y : A) → slice_get xs i ≡ Some x → slice_get (set xs i y) i ≡ Some y
+set-there [] i x y e = absurd (none-some x e)
+set-there (z ∷ xs) zero x y e = refl
+set-there (z ∷ xs) (suc i) x y e = set-there xs i x y e
