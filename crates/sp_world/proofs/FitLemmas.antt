@@ -8,7 +8,7 @@ use Rattle.sp_rules.specs.Events.{Event, Opened, Refused, Received, Closed, Read
 use Rattle.sp_rules.specs.Lists.{with_some}
 use Rattle.sp_rules.specs.Worlds.{World, Pipe, Side, End, Accepter, Phase, Unopened, Live, Over, Own, act, accept, accept_at, begin_side, cut_end, deliver, deliver_first, ends, happens, id_at, is_asked, is_ended, is_live, is_own, is_unopened, lost, new_pipe, on_side, open_pipe, other, read_fails, refuse, refuse_to, side, take_front, without_pair, write_fails}
 use Rattle.sp_pipes.specs.Connections.{comes_over, first_of, front_at, live_space, lost_at, unopened_space}
-use Rattle.sp_world.specs.Waitings.{deliver_last}
+use Rattle.sp_world.specs.Waitings.{close_end, deliver_front, deliver_last, deliver_next}
 
 -- ---- a space's own events
 
@@ -32,15 +32,15 @@ open-not a b w not = ap (λ (x : Bool). if x then act w a (Opened (length w.pipe
 abbrev without : ℕ → ℕ → World → World
 without a b w = record w { asked = without_pair a b w.asked }
 
-refuse-asked : (a b : ℕ) (w : World) → is_asked a b w ≡ true → refuse a b w ≡ refuse_to w a (id_at b w) (without a b w)
+pub refuse-asked : (a b : ℕ) (w : World) → is_asked a b w ≡ true → refuse a b w ≡ refuse_to w a (id_at b w) (without a b w)
 unfolding refuse
 refuse-asked a b w fits = ap (λ (x : Bool). if x then refuse_to w a (id_at b w) (without a b w) else w) fits
 
-pub refuse-fits : (a b : ℕ) (w : World) (peer : Uuid) → is_asked a b w ≡ true → id_at b w ≡ Some peer → refuse a b w ≡ act w a (Refused peer) (without a b w)
-refuse-fits a b w peer fits is = refuse-asked a b w fits ∙ ap (λ (o : Option Uuid). refuse_to w a o (without a b w)) is
+pub refuse-fits : (a b : ℕ) (w : World) (peer : Uuid) → id_at b w ≡ Some peer → refuse_to w a (id_at b w) (without a b w) ≡ act w a (Refused peer) (without a b w)
+refuse-fits a b w peer is = ap (λ (o : Option Uuid). refuse_to w a o (without a b w)) is
 
-pub refuse-nobody : (a b : ℕ) (w : World) → is_asked a b w ≡ true → id_at b w ≡ None → refuse a b w ≡ w
-refuse-nobody a b w fits is = refuse-asked a b w fits ∙ ap (λ (o : Option Uuid). refuse_to w a o (without a b w)) is
+pub refuse-nobody : (a b : ℕ) (w : World) → id_at b w ≡ None → refuse_to w a (id_at b w) (without a b w) ≡ w
+refuse-nobody a b w is = ap (λ (o : Option Uuid). refuse_to w a o (without a b w)) is
 
 pub refuse-not : (a b : ℕ) (w : World) → is_asked a b w ≡ false → refuse a b w ≡ w
 unfolding refuse
@@ -101,32 +101,24 @@ pub deliver-not : (conn : ℕ) (to : End) (w : World) → live_space to (slice_g
 unfolding deliver
 deliver-not conn to w e = live-not w (delivered conn to w) to (slice_get w.pipes conn) e
 
--- the same of a queue whose first frame is known, or that is empty
-first-frame : (conn : ℕ) (to : End) (w : World) (space s : ℕ) (over : Bool) (queue : List Message) (m : Message) → s ≡ space → first_of queue ≡ Some m
-    → deliver_first conn to w s over queue ≡ act w space (Received conn m) (on_side take_front conn to w)
-first-frame conn to w space s over [] m same e = absurd (none-some m e)
-first-frame conn to w space s over (x ∷ queue) m same e =
-    ap (λ (n : ℕ). act w n (Received conn x) (on_side take_front conn to w)) same ∙ ap (λ (y : Message). act w space (Received conn y) (on_side take_front conn to w)) (same_Some x m e)
+by-queue : (conn : ℕ) (to : End) (w : World) (space s : ℕ) (over : Bool) (queue : List Message) → s ≡ space
+    → deliver_first conn to w s over queue ≡ with_some (first_of queue) (deliver_first conn to w space over []) (λ m. deliver_front conn to space m w)
+by-queue conn to w space s over [] same = ap (λ (n : ℕ). deliver_first conn to w n over []) same
+by-queue conn to w space s over (x ∷ queue) same = ap (λ (n : ℕ). act w n (Received conn x) (on_side take_front conn to w)) same
 
-no-frame : (conn : ℕ) (to : End) (w : World) (space s : ℕ) (over : Bool) (queue : List Message) → s ≡ space → first_of queue ≡ None
-    → deliver_first conn to w s over queue ≡ deliver_first conn to w space over []
-no-frame conn to w space s over [] same e = ap (λ (n : ℕ). deliver_first conn to w n over []) same
-no-frame conn to w space s over (x ∷ queue) same e = absurd (none-some x (sym e))
-
-pub deliver-frame : (conn space : ℕ) (to : End) (w : World) (m : Message) → live_space to (slice_get w.pipes conn) ≡ Some space → front_at to (slice_get w.pipes conn) ≡ Some m
-    → deliver conn to w ≡ act w space (Received conn m) (on_side take_front conn to w)
+pub deliver-fits : (conn space : ℕ) (to : End) (w : World) → live_space to (slice_get w.pipes conn) ≡ Some space → deliver conn to w ≡ deliver_next conn to space w
 unfolding deliver
-deliver-frame conn space to w m e f = live-fits w (delivered conn to w) to (slice_get w.pipes conn) space (act w space (Received conn m) (on_side take_front conn to w)) e
-    (λ p is same. first-frame conn to w space (side to p).space (is_ended (side (other to) p).phase) (side to p).queue m same (subst (λ (o : Option Pipe). front_at to o ≡ Some m) is f))
+deliver-fits conn space to w e = live-fits w (delivered conn to w) to (slice_get w.pipes conn) space (deliver_next conn to space w) e
+    (λ p is same. by-queue conn to w space (side to p).space (is_ended (side (other to) p).phase) (side to p).queue same
+        ∙ ap (λ (o : Option Pipe). with_some (front_at to o) (deliver_first conn to w space (comes_over (other to) o) []) (λ m. deliver_front conn to space m w)) (sym is))
 
-pub deliver-empty : (conn space : ℕ) (to : End) (w : World) → live_space to (slice_get w.pipes conn) ≡ Some space → front_at to (slice_get w.pipes conn) ≡ None
-    → deliver conn to w ≡ deliver_last conn to space w
-unfolding deliver
-deliver-empty conn space to w e f = live-fits w (delivered conn to w) to (slice_get w.pipes conn) space (deliver_last conn to space w) e
-    (λ p is same. no-frame conn to w space (side to p).space (is_ended (side (other to) p).phase) (side to p).queue same (subst (λ (o : Option Pipe). front_at to o ≡ None) is f)
-        ∙ ap (λ (o : Option Pipe). deliver_first conn to w space (comes_over (other to) o) []) (sym is))
+pub next-frame : (conn space : ℕ) (to : End) (w : World) (m : Message) → front_at to (slice_get w.pipes conn) ≡ Some m → deliver_next conn to space w ≡ deliver_front conn to space m w
+next-frame conn space to w m e = ap (λ (o : Option Message). with_some o (deliver_last conn to space w) (λ y. deliver_front conn to space y w)) e
 
-pub last-fits : (conn space : ℕ) (to : End) (w : World) → comes_over (other to) (slice_get w.pipes conn) ≡ true → deliver_last conn to space w ≡ act w space (Closed conn) (on_side ends conn to w)
+pub next-end : (conn space : ℕ) (to : End) (w : World) → front_at to (slice_get w.pipes conn) ≡ None → deliver_next conn to space w ≡ deliver_last conn to space w
+next-end conn space to w e = ap (λ (o : Option Message). with_some o (deliver_last conn to space w) (λ y. deliver_front conn to space y w)) e
+
+pub last-fits : (conn space : ℕ) (to : End) (w : World) → comes_over (other to) (slice_get w.pipes conn) ≡ true → deliver_last conn to space w ≡ close_end conn to space w
 last-fits conn space to w e = ap (λ (b : Bool). deliver_first conn to w space b []) e
 
 pub last-not : (conn space : ℕ) (to : End) (w : World) → comes_over (other to) (slice_get w.pipes conn) ≡ false → deliver_last conn to space w ≡ w

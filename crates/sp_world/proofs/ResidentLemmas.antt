@@ -17,7 +17,7 @@ use Rattle.sp_events.specs.declared.event.Event.{Event as Happens}
 use Rattle.sp_events.specs.declared.event.Event.TheVariants as event
 use Rattle.sp_outputs.specs.Notes.{output_of}
 use Rattle.sp_outputs.specs.declared.output.Output.{Output}
-use Rattle.sp_world.specs.Residents.{AreResidents, IsResident, grown_all, row_in, told, told_in}
+use Rattle.sp_world.specs.Residents.{AreResidents, IsResident, TakesRow, grown_all, row_in, told, told_in}
 use Rattle.sp_world.specs.Steps.{answers_to, grown_by, refusal_of}
 use Rattle.sp_world.specs.declared.resident.Resident.{Resident}
 use Rattle.sp_world.proofs.ActLemmas.{grown-setting, next-state}
@@ -131,3 +131,17 @@ pub set-there : {A : Type 0} (xs : List A) (i : ℕ) (x y : A) → slice_get xs 
 set-there [] i x y e = absurd (none-some x e)
 set-there (z ∷ xs) zero x y e = refl
 set-there (z ∷ xs) (suc i) x y e = set-there xs i x y e
+
+-- a space of a world took the events, whose answer is kept in the next row
+pub takes : {S : Type 0} (is_space : Setting → List Event → S → Type 0) (s : Space) (old new : Resident S) (es : List Event) (why : Option Refusal) (row : Vec Output) (n : ℕ)
+    → IsResident is_space s old → why ≡ None → new.answers.items ≡ old.answers.items ++ row ∷ [] → n ≡ length old.answers.items → map output_of row.items ≡ answers_to s.setting s.history es
+    → is_space s.setting (grown_by s.history es) new.space → TakesRow is_space s why es n new
+takes is_space s old new es why row n r ok items at answers stands = record {
+  accepted = ok;
+  resident = took is_space s old new es row r items answers stands;
+  answers = ap (λ (k : ℕ). row_in k new) at ∙ kept-row old new row items ∙ answers;
+}
+
+-- the space stays as it is, with more room for what it answers
+pub stays : {S : Type 0} (is_space : Setting → List Event → S → Type 0) (s : Space) (old new : Resident S) → is_space s.setting s.history new.space → new.answers.items ≡ old.answers.items → IsResident is_space s old → IsResident is_space s new
+stays is_space s old new stands items r = record { space = stands; state = r.state; outputs = r.outputs ∙ ap told (sym items) }

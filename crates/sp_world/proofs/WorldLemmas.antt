@@ -46,7 +46,7 @@ heard {S} is_space i row why events old new r t at items wait refused takes = λ
       there = q.1.0;
       state = q.1.1.state;
       accepted = k.accepted;
-      spaces = subst (AreResidents is_space (at_index (grown_all (events q.0)) i spaces)) (sym items)
+      residents = subst (AreResidents is_space (at_index (grown_all (events q.0)) i spaces)) (sym items)
         (resident-set is_space (grown_all (events q.0)) spaces old.residents.items i q.0 t a q.1.0 k.resident);
       left = ap (λ (x : Option Waiting). left_of x new.residents.items) wait
         ∙ ap (λ (rs : List (Resident S)). row_of (slice_get rs i) row) items
@@ -66,7 +66,7 @@ missed {S} is_space i why events old new r t f at items refused still real refus
     record {
       missed = subst (λ (o : Option rules.Space). MissedBy why o new.refused) (sym q.1.0)
         (q.1.1.state, by (why q.0) (refuses q.0 q.1.1));
-      spaces = subst (AreResidents is_space spaces) (sym items) (resident-kept is_space spaces old.residents.items i r t a at same);
+      residents = subst (AreResidents is_space spaces) (sym items) (resident-kept is_space spaces old.residents.items i r t a at same);
       still = still;
     }
   where
@@ -80,7 +80,7 @@ pub nobody : {S : Type 0} (is_space : Setting → List Event → S → Type 0) (
     → slice_get old.residents.items i ≡ None → new.residents.items ≡ old.residents.items → new.refused ≡ None → is_settled new ≡ true → IsHeard is_space i why events false old new
 nobody is_space i why events old new none items refused still = λ spaces a. record {
       missed = subst (λ (o : Option rules.Space). MissedBy why o new.refused) (sym (nobody-at is_space spaces old.residents.items i a none)) refused;
-      spaces = subst (AreResidents is_space spaces) (sym items) a;
+      residents = subst (AreResidents is_space spaces) (sym items) a;
       still = still;
     }
 
@@ -108,7 +108,7 @@ world-took {S} is_space spaces i why events mid new v p t ps pr residents waitin
     record {
       spaces = subst (λ (ss : List rules.Space). AreResidents is_space ss new.residents.items)
         (sym (ap (λ (u : rules.World). u.spaces) e ∙ puts-spaces i outs base ∙ ap (at_index (grown_all es) i) ps))
-        (subst (AreResidents is_space (at_index (grown_all es) i spaces)) (sym residents) t.spaces);
+        (subst (AreResidents is_space (at_index (grown_all es) i spaces)) (sym residents) t.residents);
       refused = subst (λ (x : Option Refusal). TellsRefusal x new.refused) (sym (ap (λ (u : rules.World). u.refused) e ∙ puts-refused i outs base ∙ pr))
         (subst (TellsRefusal None) (sym (refused ∙ t.refused)) tt);
       waiting = record {
@@ -118,7 +118,7 @@ world-took {S} is_space spaces i why events mid new v p t ps pr residents waitin
       };
     }
 
-still-waits : {S : Type 0} (v : rules.World) (new : World S) → is_settled new ≡ true → IsWired v new.wiring → Awaits v (writer_of new.waiting) (left_of new.waiting new.residents.items) new.wiring
+pub still-waits : {S : Type 0} (v : rules.World) (new : World S) → is_settled new ≡ true → IsWired v new.wiring → Awaits v (writer_of new.waiting) (left_of new.waiting new.residents.items) new.wiring
 unfolding each
 still-waits {S} v new still wired = subst (λ (x : Option Waiting). Awaits v (writer_of x) (left_of x new.residents.items) new.wiring) (sym (none-there new.waiting still))
     (record { base = v; wired = wired; is = refl })
@@ -154,7 +154,7 @@ told-missed {S} is_space i e w p v mid new m is ps none residents waiting refuse
     by (slice_get w.spaces i) refl m.missed
   where
     spaces : AreResidents is_space w.spaces new.residents.items
-    spaces = subst (AreResidents is_space w.spaces) (sym residents) m.spaces
+    spaces = subst (AreResidents is_space w.spaces) (sym residents) m.residents
 
     still : is_settled new ≡ true
     still = ap is_none waiting ∙ m.still

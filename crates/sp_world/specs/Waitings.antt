@@ -5,15 +5,15 @@ use Rattle.std.specs.Str.{bytes_eq}
 use Rattle.net_message.specs.declared.message.Message.{Message}
 use Rattle.uuid.specs.declared.Uuid.{Uuid}
 use Rattle.sp_rules.specs.Classes.{Setting}
-use Rattle.sp_rules.specs.Events.{Event, Opened, Output, Received}
-use Rattle.sp_rules.specs.Lists.{at_index, each}
+use Rattle.sp_rules.specs.Events.{Event, Closed, Opened, Output, ReadFailed, Received, Refused, WriteFailed}
+use Rattle.sp_rules.specs.Lists.{at_index, each, with_some}
 use Rattle.sp_rules.specs.Refusals.{Refusal}
 use Rattle.sp_rules.specs.Space.{state_of}
 use Rattle.sp_rules.specs.Worlds as rules
 use Rattle.sp_rules.specs.Worlds.{number_of, put}
 use Rattle.sp_events.specs.declared.fault.CoreFault.{CoreFault}
 use Rattle.sp_pipes.specs.Asked.{asked}
-use Rattle.sp_pipes.specs.Connections.{ArePipes, comes_over}
+use Rattle.sp_pipes.specs.Connections.{ArePipes, comes_over, front_at}
 use Rattle.sp_world.specs.Happenings.{TellsRefusal}
 use Rattle.sp_world.specs.Residents.{AreResidents, grown_all, row_in}
 use Rattle.sp_world.specs.Steps.{answers_to}
@@ -88,7 +88,7 @@ pub record Took {S : Type 0} (is_space : Setting → List Event → S → Type 0
   pub there : slice_get spaces i ≡ Some space
   pub state : space.state ≡ state_of space.setting space.history
   pub accepted : why space ≡ None
-  pub spaces : AreResidents is_space (at_index (grown_all (events space)) i spaces) after.residents.items
+  pub residents : AreResidents is_space (at_index (grown_all (events space)) i spaces) after.residents.items
   pub left : left_of after.waiting after.residents.items ≡ answers_to space.setting space.history (events space)
   pub writer : writer_of after.waiting ≡ i
   pub refused : after.refused ≡ None
@@ -100,7 +100,7 @@ MissedBy why (Some s) fault = (s.state ≡ state_of s.setting s.history) × ((r 
 
 pub record Missed {S : Type 0} (is_space : Setting → List Event → S → Type 0) (spaces : List rules.Space) (i : ℕ) (why : rules.Space → Option Refusal) (after : World S) : Type 0 where
   pub missed : MissedBy why (slice_get spaces i) after.refused
-  pub spaces : AreResidents is_space spaces after.residents.items
+  pub residents : AreResidents is_space spaces after.residents.items
   pub still : is_settled after ≡ true
 
 abbrev pub Heard : {S : Type 0} → (Setting → List Event → S → Type 0) → List rules.Space → ℕ → (rules.Space → Option Refusal) → (rules.Space → List Event) → World S → Bool → Type 0
@@ -119,18 +119,40 @@ Makes is_space made old new = (w : rules.World) → IsStill is_space w old → w
 
 -- It stands for the same world.
 pub record Keeps {S : Type 0} (is_space : Setting → List Event → S → Type 0) (old new : World S) : Type 0 where
-  pub spaces : (spaces : List rules.Space) → AreResidents is_space spaces old.residents.items → AreResidents is_space spaces new.residents.items
+  pub spaces : (ss : List rules.Space) → AreResidents is_space ss old.residents.items → AreResidents is_space ss new.residents.items
   pub refused : new.refused ≡ old.refused
   pub waiting : new.waiting ≡ old.waiting
   pub wired : (w : rules.World) → IsWired w old.wiring → IsWired w new.wiring
 
--- Towards a live end of a space no frame comes: that the other end has ended comes, if it has.
+-- ---- one event of a space, in a world that is prepared for it
+
+-- a frame comes to a space at an end of a connection
+abbrev pub deliver_front : ℕ → rules.End → ℕ → Message → rules.World → rules.World
+deliver_front conn to space m w = rules.act w space (Received conn m) (rules.on_side rules.take_front conn to w)
+
+-- that the other end has ended comes to it
+abbrev pub close_end : ℕ → rules.End → ℕ → rules.World → rules.World
+close_end conn to space w = rules.act w space (Closed conn) (rules.on_side rules.ends conn to w)
+
+-- the same if the other end has ended
 abbrev pub deliver_last : ℕ → rules.End → ℕ → rules.World → rules.World
 deliver_last conn to space w = rules.deliver_first conn to w space (comes_over (rules.other to) (slice_get w.pipes conn)) []
 
--- the first frame towards a live end of a space comes
-abbrev pub deliver_front : ℕ → rules.End → ℕ → Message → rules.World → rules.World
-deliver_front conn to space m w = rules.act w space (Received conn m) (rules.on_side rules.take_front conn to w)
+-- what comes to it: the first frame, or that
+abbrev pub deliver_next : ℕ → rules.End → ℕ → rules.World → rules.World
+deliver_next conn to space w = with_some (front_at to (slice_get w.pipes conn)) (deliver_last conn to space w) (λ m. deliver_front conn to space m w)
+
+-- a read fails at its end
+abbrev pub unread_end : ℕ → rules.End → ℕ → rules.World → rules.World
+unread_end conn end space w = rules.act w space (ReadFailed conn) (rules.on_side rules.ends conn end w)
+
+-- a write fails there, and so many frames are lost
+abbrev pub unwritten_end : ℕ → rules.End → ℕ → ℕ → rules.World → rules.World
+unwritten_end conn end space lost w = rules.act w space (WriteFailed conn lost) (rules.on_side rules.ends conn end (rules.on_side (rules.cut_end lost) conn (rules.other end) w))
+
+-- it accepts a connection
+abbrev pub accept_end : ℕ → ℕ → rules.World → rules.World
+accept_end conn space w = rules.act w space (Opened conn None) (rules.on_side rules.begin_side conn rules.Accepter w)
 
 -- a dial that waits comes to the next connection
 abbrev pub open_next : ℕ → ℕ → rules.World → rules.World
@@ -139,3 +161,7 @@ open_next a b w = rules.act w a (Opened (length w.pipes) (rules.id_at b w)) (rec
 -- a dial that waits is refused
 abbrev pub refuse_next : ℕ → ℕ → rules.World → rules.World
 refuse_next a b w = rules.refuse_to w a (rules.id_at b w) (record w { asked = rules.without_pair a b w.asked })
+
+-- the same of a dial to a space of this id
+abbrev pub refuse_peer : ℕ → ℕ → Uuid → rules.World → rules.World
+refuse_peer a b peer w = rules.act w a (Refused peer) (record w { asked = rules.without_pair a b w.asked })

@@ -13,12 +13,12 @@ use crate::{Inhabitant, World, WorldEvent};
 use net_message::Message;
 use sp_events::{CoreFault, Event};
 use sp_pipes::End;
-use space_ids::Value;
+use space_ids::{Uuid, Value};
 use std::alloc::AllocError;
 
 impl<S: Inhabitant + Drop> World<S> {
     ghost use Rattle.sp_world.specs.Residents.{one_event, refused_event, refused_step, step_events_of};
-    ghost use Rattle.sp_world.specs.Waitings.{IsHeard, IsWorld, Keeps, Makes, deliver_front, deliver_last, is_settled, open_next, refuse_next};
+    ghost use Rattle.sp_world.specs.Waitings.{IsHeard, IsWorld, Keeps, Makes, accept_end, close_end, deliver_front, deliver_last, deliver_next, is_settled, open_next, refuse_next, refuse_peer, unread_end, unwritten_end};
 
     /// Lets an event happen. One that does not fit changes nothing but what [refused](World::refused)
     /// tells. At out of memory it has not happened, and it stays the same world.
@@ -122,7 +122,8 @@ impl<S: Inhabitant + Drop> World<S> {
             conn: self.wiring.pipes.len(),
             dialled: self.id(dialled),
         };
-        if self.tell(dialler, &event)? {
+        let taken = self.tell(dialler, &event)?;
+        if taken {
             self.wiring.dials.remove(dialler, dialled);
             self.wiring.pipes.open_reserved(dialler, dialled);
             return Ok(());
@@ -150,18 +151,26 @@ impl<S: Inhabitant + Drop> World<S> {
         ensures kept { OnErr result (Keeps S.is_space self.old self.new) }
     {
         match self.id(dialled) {
-            Some(peer) => {
-                if self.tell(dialler, &Event::Refused { peer })? {
-                    self.wiring.dials.remove(dialler, dialled);
-                    return Ok(());
-                }
-                Ok(())
-            }
+            Some(peer) => self.refuse_to(dialler, dialled, peer),
             None => {
                 self.refused = None;
                 Ok(())
             }
         }
+    }
+
+    // A space is told that its dial to this one is refused.
+    fn refuse_to(&mut self, dialler: usize, dialled: usize, peer: Uuid) -> Result<(), AllocError>
+        requires { is_settled self.old ≡ true }
+        ensures made { OnOk result (Makes S.is_space (refuse_peer dialler dialled peer) self.old self.new) }
+        ensures kept { OnErr result (Keeps S.is_space self.old self.new) }
+    {
+        let taken = self.tell(dialler, &Event::Refused { peer })?;
+        if taken {
+            self.wiring.dials.remove(dialler, dialled);
+            return Ok(());
+        }
+        Ok(())
     }
 
     // The space that was dialled accepts a connection, if it waits for that.
@@ -171,22 +180,30 @@ impl<S: Inhabitant + Drop> World<S> {
         ensures kept { OnErr result (Keeps S.is_space self.old self.new) }
     {
         match self.wiring.pipes.unopened_space(conn) {
-            Some(space) => {
-                let event = Event::Opened {
-                    conn,
-                    dialled: None,
-                };
-                if self.tell(space, &event)? {
-                    self.wiring.pipes.begin(conn);
-                    return Ok(());
-                }
-                Ok(())
-            }
+            Some(space) => self.accept_at(space, conn),
             None => {
                 self.refused = None;
                 Ok(())
             }
         }
+    }
+
+    // A space accepts a connection.
+    fn accept_at(&mut self, space: usize, conn: u64) -> Result<(), AllocError>
+        requires { is_settled self.old ≡ true }
+        ensures made { OnOk result (Makes S.is_space (accept_end conn space) self.old self.new) }
+        ensures kept { OnErr result (Keeps S.is_space self.old self.new) }
+    {
+        let event = Event::Opened {
+            conn,
+            dialled: None,
+        };
+        let taken = self.tell(space, &event)?;
+        if taken {
+            self.wiring.pipes.begin(conn);
+            return Ok(());
+        }
+        Ok(())
     }
 
     // The first frame comes to an end that is live, or that the other end has ended.
@@ -196,17 +213,26 @@ impl<S: Inhabitant + Drop> World<S> {
         ensures kept { OnErr result (Keeps S.is_space self.old self.new) }
     {
         match self.wiring.pipes.live_space(conn, to) {
-            Some(space) => match self.wiring.pipes.front(conn, to) {
-                Some(message) => {
-                    let copy = copy_message(self.alloc, message)?;
-                    self.deliver_frame(space, conn, to, copy)
-                }
-                None => self.deliver_end(space, conn, to),
-            },
+            Some(space) => self.deliver_to(space, conn, to),
             None => {
                 self.refused = None;
                 Ok(())
             }
+        }
+    }
+
+    // The same at a live end of a space.
+    fn deliver_to(&mut self, space: usize, conn: u64, to: End) -> Result<(), AllocError>
+        requires { is_settled self.old ≡ true }
+        ensures made { OnOk result (Makes S.is_space (deliver_next conn (end_of to) space) self.old self.new) }
+        ensures kept { OnErr result (Keeps S.is_space self.old self.new) }
+    {
+        match self.wiring.pipes.front(conn, to) {
+            Some(message) => {
+                let copy = copy_message(self.alloc, message)?;
+                self.deliver_frame(space, conn, to, copy)
+            }
+            None => self.deliver_end(space, conn, to),
         }
     }
 
@@ -223,7 +249,8 @@ impl<S: Inhabitant + Drop> World<S> {
         ensures kept { OnErr result (Keeps S.is_space self.old self.new) }
     {
         let event = Event::Received { conn, message };
-        if self.tell(space, &event)? {
+        let taken = self.tell(space, &event)?;
+        if taken {
             self.wiring.pipes.take_front(conn, to);
             return Ok(());
         }
@@ -237,13 +264,23 @@ impl<S: Inhabitant + Drop> World<S> {
         ensures kept { OnErr result (Keeps S.is_space self.old self.new) }
     {
         if self.wiring.pipes.is_over(conn, to.other()) {
-            if self.tell(space, &Event::Closed { conn })? {
-                self.wiring.pipes.end(conn, to);
-                return Ok(());
-            }
-            return Ok(());
+            return self.close(space, conn, to);
         }
         self.refused = None;
+        Ok(())
+    }
+
+    // It comes to a live end that the other end has ended.
+    fn close(&mut self, space: usize, conn: u64, to: End) -> Result<(), AllocError>
+        requires { is_settled self.old ≡ true }
+        ensures made { OnOk result (Makes S.is_space (close_end conn (end_of to) space) self.old self.new) }
+        ensures kept { OnErr result (Keeps S.is_space self.old self.new) }
+    {
+        let taken = self.tell(space, &Event::Closed { conn })?;
+        if taken {
+            self.wiring.pipes.end(conn, to);
+            return Ok(());
+        }
         Ok(())
     }
 
@@ -254,18 +291,26 @@ impl<S: Inhabitant + Drop> World<S> {
         ensures kept { OnErr result (Keeps S.is_space self.old self.new) }
     {
         match self.wiring.pipes.live_space(conn, at) {
-            Some(space) => {
-                if self.tell(space, &Event::ReadFailed { conn })? {
-                    self.wiring.pipes.end(conn, at);
-                    return Ok(());
-                }
-                Ok(())
-            }
+            Some(space) => self.read_fails_at(space, conn, at),
             None => {
                 self.refused = None;
                 Ok(())
             }
         }
+    }
+
+    // A read fails at a live end of a space.
+    fn read_fails_at(&mut self, space: usize, conn: u64, at: End) -> Result<(), AllocError>
+        requires { is_settled self.old ≡ true }
+        ensures made { OnOk result (Makes S.is_space (unread_end conn (end_of at) space) self.old self.new) }
+        ensures kept { OnErr result (Keeps S.is_space self.old self.new) }
+    {
+        let taken = self.tell(space, &Event::ReadFailed { conn })?;
+        if taken {
+            self.wiring.pipes.end(conn, at);
+            return Ok(());
+        }
+        Ok(())
     }
 
     // A write fails at an end that is live: the last frames that it wrote are lost.
@@ -277,19 +322,35 @@ impl<S: Inhabitant + Drop> World<S> {
         match self.wiring.pipes.live_space(conn, at) {
             Some(space) => {
                 let lost = self.wiring.pipes.lost(conn, at, unsent);
-                let event = Event::WriteFailed { conn, unsent: lost };
-                if self.tell(space, &event)? {
-                    self.wiring.pipes.cut_end(conn, at.other(), lost);
-                    self.wiring.pipes.end(conn, at);
-                    return Ok(());
-                }
-                Ok(())
+                self.write_fails_at(space, conn, at, lost)
             }
             None => {
                 self.refused = None;
                 Ok(())
             }
         }
+    }
+
+    // A write fails at a live end of a space: so many of the last frames that it wrote are lost.
+    fn write_fails_at(
+        &mut self,
+        space: usize,
+        conn: u64,
+        at: End,
+        lost: u64,
+    ) -> Result<(), AllocError>
+        requires { is_settled self.old ≡ true }
+        ensures made { OnOk result (Makes S.is_space (unwritten_end conn (end_of at) space lost) self.old self.new) }
+        ensures kept { OnErr result (Keeps S.is_space self.old self.new) }
+    {
+        let event = Event::WriteFailed { conn, unsent: lost };
+        let taken = self.tell(space, &event)?;
+        if taken {
+            self.wiring.pipes.cut_end(conn, at.other(), lost);
+            self.wiring.pipes.end(conn, at);
+            return Ok(());
+        }
+        Ok(())
     }
 
     // Tells a space of an event. Returns whether there is such a space and it took the event.

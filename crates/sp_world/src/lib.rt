@@ -7,7 +7,7 @@
 
 pub use event::WorldEvent;
 pub use inhabitant::Inhabitant;
-pub use run::{RunOutcome, run};
+pub use runs::{RunOutcome, run};
 pub use sp_events::{CoreFault, Event, StartFault};
 pub use sp_outputs::Output;
 pub use sp_pipes::{Dial, End};
@@ -18,6 +18,6 @@ mod event;
 mod happening;
 mod inhabitant;
 mod resident;
-mod run;
+mod runs;
 mod wiring;
 mod world;

@@ -1,12 +1,13 @@
 //! One space of a world, and what it answered.
 
-ghost use Rattle.std.specs.Prelude.{◌≡◌, ◌<◌, ◌∷◌, ◌++◌, [], IfOk, IfErr, OnErr, length, vec_len};
+ghost use Rattle.std.specs.Prelude.{◌≡◌, ◌<◌, ◌∷◌, ◌++◌, [], IfOk, IfErr, OnErr, length, map, vec_len};
 ghost use Rattle.std.specs.Vec.{vec_capacity};
 ghost use Rattle.sp_rules.specs.Classes.{Setting};
 ghost use Rattle.sp_rules.specs.Events.{Root as Roots};
 ghost use Rattle.sp_rules.specs.Worlds.{Space, new_space};
 ghost use Rattle.sp_events.specs.Events.{event_of};
 ghost use Rattle.sp_events.specs.FaultNames.{RefusesOrLacks};
+ghost use Rattle.sp_outputs.specs.Notes.{output_of};
 
 use crate::Inhabitant;
 use sp_events::{CoreFault, Event};
@@ -22,7 +23,7 @@ pub(crate) struct Resident<S> {
 }
 
 impl<S: Inhabitant> Resident<S> {
-    ghost use Rattle.sp_world.specs.Residents.{IsResident, TakesRow, one_event, refused_event, refused_step, step_events_of};
+    ghost use Rattle.sp_world.specs.Residents.{IsResident, TakesRow, one_event, refused_event, refused_step, row_in, step_events_of};
 
     // A space to which nothing has happened.
     pub(crate) fn new(alloc: Global, space: S) -> Resident<S>
@@ -40,7 +41,9 @@ impl<S: Inhabitant> Resident<S> {
         ensures refused { IfErr result (λ fault. (s : Space) → IsResident S.is_space s self.old → RefusesOrLacks (refused_event (event_of event.now) s) fault) }
         ensures same { OnErr result ((s : Space) → IsResident S.is_space s self.old → IsResident S.is_space s self.new) }
     {
-        self.answers.reserve(1)?;
+        if self.answers.reserve(1).is_err() {
+            return Err(CoreFault::Memory);
+        }
         let outputs = self.space.on(event)?;
         Ok(self.keep_reserved(outputs))
     }
@@ -56,7 +59,9 @@ impl<S: Inhabitant> Resident<S> {
         ensures refused { IfErr result (λ fault. (s : Space) → IsResident S.is_space s self.old → RefusesOrLacks (refused_event (Roots method arguments.now fuel) s) fault) }
         ensures same { OnErr result ((s : Space) → IsResident S.is_space s self.old → IsResident S.is_space s self.new) }
     {
-        self.answers.reserve(1)?;
+        if self.answers.reserve(1).is_err() {
+            return Err(CoreFault::Memory);
+        }
         let outputs = self.space.root(method, arguments, fuel)?;
         Ok(self.keep_reserved(outputs))
     }
@@ -67,9 +72,21 @@ impl<S: Inhabitant> Resident<S> {
         ensures refused { IfErr result (λ fault. (s : Space) → IsResident S.is_space s self.old → RefusesOrLacks (refused_step task s) fault) }
         ensures same { OnErr result ((s : Space) → IsResident S.is_space s self.old → IsResident S.is_space s self.new) }
     {
-        self.answers.reserve(1)?;
+        if self.answers.reserve(1).is_err() {
+            return Err(CoreFault::Memory);
+        }
         let outputs = self.space.step(task)?;
         Ok(self.keep_reserved(outputs))
+    }
+
+    // A row that the space answered, if it is there.
+    pub(crate) fn row(&self, row: usize) -> &[Output]
+        ensures { map output_of result.now ≡ row_in row self.now }
+    {
+        match self.answers.get(row) {
+            Some(outputs) => outputs.as_slice(),
+            None => &[],
+        }
     }
 
     // Keeps a row that the space answered. Returns its number. It takes no memory.

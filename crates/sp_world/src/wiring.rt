@@ -2,12 +2,13 @@
 
 ghost use Rattle.std.specs.Prelude.{◌≡◌, List, [], ◌∷◌, ◌++◌, OnOk, OnErr, drop, length, map};
 ghost use Rattle.sp_rules.specs.Classes.{Setting};
-ghost use Rattle.sp_rules.specs.Events.{Dial};
+ghost use Rattle.sp_rules.specs.Events.{Dial, Send};
 ghost use Rattle.sp_rules.specs.Worlds.{World as Rules, new_world, put};
 ghost use Rattle.sp_outputs.specs.Notes.{output_of};
 
 use crate::copies::copy_message;
 use indexmap::IndexMap;
+use net_message::Message;
 use sp_outputs::Output;
 use sp_pipes::{Dials, Pipes};
 use space_ids::Uuid;
@@ -30,18 +31,20 @@ impl Wiring {
     pub(crate) fn new(alloc: Global) -> Wiring
         ensures { IsWired (new_world []) result }
     {
+        let numbers = IndexMap::new(alloc);
+        let pipes = Pipes::new(alloc);
+        let dials = Dials::new(alloc);
         Wiring {
             alloc,
-            numbers: IndexMap::new(alloc),
-            pipes: Pipes::new(alloc),
-            dials: Dials::new(alloc),
+            numbers,
+            pipes,
+            dials,
         }
     }
 
     // Another space comes, under the next number. The first of an id is found by it.
     pub(crate) fn enter(&mut self, id: &Uuid, number: usize) -> Result<(), AllocError>
-        ensures entered { OnOk result ((settings : List Setting) (g : Setting) → g.id ≡ id.now → length settings ≡ number → IsWired (new_world settings) self.old → IsWired (new_world (settings ++ g ∷ [])) self.new) }
-        ensures same { OnErr result ((w : Rules) → IsWired w self.old → IsWired w self.new) }
+        ensures { OnOk result ((settings : List Setting) (g : Setting) → g.id ≡ id.now → length settings ≡ number → IsWired (new_world settings) self.old → IsWired (new_world (settings ++ g ∷ [])) self.new) }
     {
         if self.numbers.contains_key(id) {
             return Ok(());
@@ -75,10 +78,7 @@ impl Wiring {
         ensures same { OnErr result ((w : Rules) → IsWired w self.old → IsWired w self.new) }
     {
         match output {
-            Output::Send { conn, message } => {
-                let copy = copy_message(self.alloc, message)?;
-                self.pipes.queue_up(*conn, writer, copy)
-            }
+            Output::Send { conn, message } => self.send(writer, *conn, message),
             Output::Dial(peer) => self.dial(writer, peer),
             Output::Close(conn) => {
                 self.pipes.close(*conn, writer);
@@ -90,6 +90,15 @@ impl Wiring {
             Output::Denied(_) => Ok(()),
             Output::Ready(_) => Ok(()),
         }
+    }
+
+    // A frame that a space wrote comes into the queue towards the other end.
+    fn send(&mut self, writer: usize, conn: u64, message: &Message) -> Result<(), AllocError>
+        ensures sent { OnOk result ((w : Rules) → IsWired w self.old → IsWired (put writer w (Send conn message.now)) self.new) }
+        ensures same { OnErr result ((w : Rules) → IsWired w self.old → IsWired w self.new) }
+    {
+        let copy = copy_message(self.alloc, message)?;
+        self.pipes.queue_up(conn, writer, copy)
     }
 
     // A space dials the space of an id, if there is one in the world.

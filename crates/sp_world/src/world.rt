@@ -74,19 +74,26 @@ impl<S: Inhabitant + Drop> World<S> {
             return Ok(());
         };
         let row = row_of(&self.residents, waiting.writer, waiting.row);
-        let put = self.wiring.put_all(waiting.writer, row, &mut waiting.next);
-        self.waiting = match put {
-            Ok(()) => None,
-            Err(_) => Some(waiting),
-        };
-        put
+        match self
+            .wiring
+            .put_all(waiting.writer, row, &mut waiting.next)
+        {
+            Ok(()) => {
+                self.waiting = None;
+                Ok(())
+            }
+            Err(fault) => {
+                self.waiting = Some(waiting);
+                Err(fault)
+            }
+        }
     }
 
     /// The space of a number.
     pub fn space(&self, number: usize) -> Option<&S>
         ensures { (w : Rules) → IsWorld S.is_space w self.now → IsSpaceAt S.is_space (slice_get w.spaces number) (option_copied result) }
     {
-        match self.residents.get(number) {
+        match self.resident(number) {
             Some(resident) => Some(&resident.space),
             None => None,
         }
@@ -97,7 +104,7 @@ impl<S: Inhabitant + Drop> World<S> {
     pub fn outputs(&self, number: usize) -> Option<&[Vec<Output>]>
         ensures { (w : Rules) → IsWorld S.is_space w self.now → option_map (λ rows. told rows.now) result ≡ option_map (λ (s : Space). s.outputs) (slice_get w.spaces number) }
     {
-        match self.residents.get(number) {
+        match self.resident(number) {
             Some(resident) => Some(resident.answers.as_slice()),
             None => None,
         }
@@ -139,10 +146,12 @@ impl<S: Inhabitant + Drop> World<S> {
         ensures world { IsWorld S.is_space (new_world []) result }
         ensures settled { is_settled result ≡ true }
     {
+        let residents = Vec::new(alloc);
+        let wiring = Wiring::new(alloc);
         World {
             alloc,
-            residents: Vec::new(alloc),
-            wiring: Wiring::new(alloc),
+            residents,
+            wiring,
             refused: None,
             waiting: None,
         }
@@ -150,8 +159,9 @@ impl<S: Inhabitant + Drop> World<S> {
 
     // Adds a space to a world to which nothing has happened.
     fn add(&mut self, space: S) -> Result<(), AllocError>
+        requires { is_settled self.old ≡ true }
         ensures world { OnOk result ((settings : List Setting) (g : Setting) → IsWorld S.is_space (new_world settings) self.old → S.is_space g [] space → IsWorld S.is_space (new_world (settings ++ g ∷ [])) self.new) }
-        ensures settled { is_settled self.new ≡ is_settled self.old }
+        ensures settled { OnOk result (is_settled self.new ≡ true) }
     {
         let id = space.id();
         self.wiring.enter(&id, self.residents.len())?;
@@ -163,22 +173,26 @@ impl<S: Inhabitant + Drop> World<S> {
     pub(crate) fn id(&self, number: usize) -> Option<Uuid>
         ensures { (w : Rules) → AreResidents S.is_space w.spaces self.now.residents.items → result ≡ id_at number w }
     {
-        match self.residents.get(number) {
+        match self.resident(number) {
             Some(resident) => Some(resident.space.id()),
             None => None,
         }
     }
+
+    // The space of a number, and what it answered.
+    fn resident(&self, number: usize) -> Option<&Resident<S>>
+        ensures { option_copied result ≡ slice_get self.now.residents.items number }
+    {
+        self.residents.get(number)
+    }
 }
 
 // The outputs of a row of a space.
-fn row_of<S>(residents: &[Resident<S>], writer: usize, row: usize) -> &[Output]
+fn row_of<S: Inhabitant>(residents: &[Resident<S>], writer: usize, row: usize) -> &[Output]
     ensures { map output_of result.now ≡ outputs_of_row (slice_get residents.now writer) row }
 {
     match residents.get(writer) {
-        Some(resident) => match resident.answers.get(row) {
-            Some(outputs) => outputs.as_slice(),
-            None => &[],
-        },
+        Some(resident) => resident.row(row),
         None => &[],
     }
 }
