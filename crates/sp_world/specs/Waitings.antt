@@ -146,7 +146,7 @@ deliver_next conn to space w = with_some (front_at to (slice_get w.pipes conn)) 
 abbrev pub unread_end : ℕ → rules.End → ℕ → rules.World → rules.World
 unread_end conn end space w = rules.act w space (ReadFailed conn) (rules.on_side rules.ends conn end w)
 
--- a write fails there, and so many frames are lost
+-- a write fails there, and this many frames are lost
 abbrev pub unwritten_end : ℕ → rules.End → ℕ → ℕ → rules.World → rules.World
 unwritten_end conn end space lost w = rules.act w space (WriteFailed conn lost) (rules.on_side rules.ends conn end (rules.on_side (rules.cut_end lost) conn (rules.other end) w))
 

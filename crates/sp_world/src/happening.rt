@@ -331,7 +331,7 @@ impl<S: Inhabitant + Drop> World<S> {
         }
     }
 
-    // A write fails at a live end of a space: so many of the last frames that it wrote are lost.
+    // A write fails at a live end of a space: this many of the last frames that it wrote are lost.
     fn write_fails_at(
         &mut self,
         space: usize,

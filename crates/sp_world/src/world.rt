@@ -29,7 +29,7 @@ pub(crate) struct Waiting {
 /// A world: spaces, the queues of frames between them, and the dials that wait.
 ///
 /// A space answers a row of outputs, and its world keeps that row. Putting the outputs into the queues
-/// takes memory: where there is none, the rest of the row is put there later ([settle](World::settle)),
+/// takes memory: at out of memory the rest of the row is put there later ([settle](World::settle)),
 /// so that nothing of it is lost.
 ///
 /// A contract names the world of the rules of spaces for which the value stands.
