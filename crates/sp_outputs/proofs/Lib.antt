@@ -1,0 +1,4 @@
+pub mod OrderLemmas
+pub mod RoomLemmas
+pub mod SlotLemmas
+pub mod TurnLemmas

@@ -1,9 +1,10 @@
 -- What an event answers, in the terms of the rules of spaces. (This project's own.)
-use Rattle.std.specs.Prelude.{ℕ, ◌-◌, min, Bool, true, false, List, [], ◌∷◌, Option, None, Some, vec_len}
+use Rattle.std.specs.Prelude.{ℕ, ◌-◌, min, List, [], ◌∷◌, Option, None, Some, vec_len}
 use Rattle.std.specs.List.{flat_map}
 use Rattle.std.specs.Vec.{vec_capacity}
 use Rattle.sp_rules.specs.Events as rules
 use Rattle.sp_tasks.specs.Behaviours.{outcome_of}
+pub use Rattle.sp_outputs.specs.Said.{is_said}
 use Rattle.sp_outputs.specs.declared.note.Note.{Note}
 use Rattle.sp_outputs.specs.declared.note.Note.TheVariants as note
 use Rattle.sp_outputs.specs.declared.output.Output.{Output}
@@ -33,23 +34,23 @@ turn_of turn.Dirties = rules.Dirties
 turn_of turn.Calls = rules.Calls
 turn_of turn.Acks = rules.Acks
 
--- whether an output is no frame: a frame is noted with its turn
-abbrev pub is_said : Output → Bool
-is_said (output.Send conn message) = false
-is_said _ = true
-
 -- the note of the rules
 abbrev pub note_of : Note → rules.Note
 note_of (note.Says output) = rules.Says (output_of output)
 note_of (note.Sends turn conn message) = rules.Sends (turn_of turn) conn message
 
-abbrev pub left : Option Note → List rules.Note
-left None = []
-left (Some n) = note_of n ∷ []
+-- the notes in a slot: one, or none once it is taken
+abbrev pub noted_at : Option Note → List rules.Note
+noted_at None = []
+noted_at (Some n) = note_of n ∷ []
+
+-- the notes in slots, in their order
+abbrev pub noted : List (Option Note) → List rules.Note
+noted slots = flat_map noted_at slots
 
 -- the notes of the rules, in the order in which they were made
 unfoldable pub notes_of : Outputs → List rules.Note
-notes_of outputs = flat_map left outputs.notes.items
+notes_of outputs = noted outputs.notes.items
 
 -- for how many more notes there is room
 unfoldable pub room : Outputs → ℕ

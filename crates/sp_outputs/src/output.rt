@@ -1,5 +1,8 @@
 //! What a space answers to an event.
 
+ghost use Rattle.std.specs.Prelude.{◌≡◌};
+ghost use Rattle.sp_rules.specs.Events as rules;
+
 use net_message::Message;
 use sp_registry::RegistryFault;
 use sp_tasks::Outcome;
@@ -43,4 +46,49 @@ pub enum Turn {
     Calls,
     /// An `Ack`.
     Acks,
+}
+
+// How many ranks there are.
+pub(crate) const RANKS: u8 = 14;
+
+impl Output {
+    ghost use Rattle.sp_outputs.specs.Notes.{output_of};
+
+    // The rank of an output that is no frame.
+    pub(crate) fn rank(&self) -> u8
+        ensures { result ≡ rules.output_rank (output_of self.now) }
+    {
+        match self {
+            Output::Started(_) => 0,
+            Output::Ended(_, _) => 1,
+            Output::Withdrawn(_) => 2,
+            Output::Denied(_) => 3,
+            Output::Send {
+                conn: _,
+                message: _,
+            } => RANKS,
+            Output::Dial(_) => 11,
+            Output::Close(_) => 12,
+            Output::Ready(_) => 13,
+        }
+    }
+}
+
+impl Turn {
+    ghost use Rattle.sp_outputs.specs.Notes.{turn_of};
+
+    // The rank of a frame.
+    pub(crate) fn rank(&self) -> u8
+        ensures { result ≡ rules.turn_rank (turn_of self.now) }
+    {
+        match self {
+            Turn::Hellos => 4,
+            Turn::Replies => 5,
+            Turn::Waited => 6,
+            Turn::Cleans => 7,
+            Turn::Dirties => 8,
+            Turn::Calls => 9,
+            Turn::Acks => 10,
+        }
+    }
 }

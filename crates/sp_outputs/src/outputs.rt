@@ -1,11 +1,14 @@
 //! What one event answers.
 
-ghost use Rattle.std.specs.Prelude.{◌≡◌, ℕ, ◌≤◌, ◌<◌, ◌+◌, ◌++◌, true, List, [], ◌∷◌, OnOk, length, map};
-ghost use Rattle.std.specs.List.{flat_map};
+ghost use Rattle.std.specs.Prelude.{◌≡◌, ℕ, ◌≤◌, ◌<◌, ◌+◌, ◌++◌, true, List, [], ◌∷◌, OnOk, length, map, vec_len};
+ghost use Rattle.std.specs.Vec.{vec_capacity};
+ghost use Rattle.std.specs.List.{flat_map, list_all};
 ghost use Rattle.sp_rules.specs.Events.{Says, Sends, in_order};
 ghost use Rattle.sp_outputs.specs.Frames.{frames_in, noted_in, turns};
+ghost use Rattle.sp_outputs.specs.Said.{is_noted};
 
-use crate::note::Note;
+use crate::note::{Note, tell_rank};
+use crate::output::RANKS;
 use crate::{Output, Turn};
 use net_message::Message;
 use std::alloc::{AllocError, Global};
@@ -19,7 +22,11 @@ use std::mem;
 pub struct Outputs {
     alloc: Global,
     notes: Vec<Option<Note>>,
+    // Nothing is told yet; its room is that of the notes.
     told: Vec<Output>,
+    ghost said: { list_all is_noted notes.items ≡ true },
+    ghost none_told: { vec_len told ≡ 0 },
+    ghost room_to_tell: { vec_len notes ≤ vec_capacity told },
 }
 
 impl Outputs {
@@ -42,12 +49,12 @@ impl Outputs {
         ensures same { notes_of self.new ≡ notes_of self.old }
         ensures room { room self.old ≤ room self.new }
     {
-        let ahead = self.notes.len().saturating_add(notes);
         self.notes.reserve(notes)?;
-        self.told.reserve(ahead)
+        self.told.reserve(self.notes.capacity())
     }
 
-    /// Notes an output that is no frame. It takes no memory: the caller owes [room](Outputs::reserve) for it.
+    /// Notes an output that is no frame. It takes no memory: the caller owes [room](Outputs::reserve) for
+    /// it.
     pub fn say_reserved(&mut self, output: Output)
         requires said { is_said output ≡ true }
         requires room { 0 < room self.old }
@@ -79,17 +86,19 @@ impl Outputs {
 
     /// Takes all that is noted, as outputs in their order: Started, Ended, Withdrawn, Denied, Send, Dial,
     /// Close, Ready; and of frames Hello, replies, requests that waited, Clean, Dirty, Call and Lookup, Ack.
-    /// Outputs of one kind and frames of one turn stand as they were noted. It takes no memory. No room is
-    /// left.
+    /// Outputs of one kind and frames of one turn stand as they were noted. It takes no memory, and leaves
+    /// no note and no room.
     pub fn take_in_order(&mut self) -> Vec<Output>
         ensures ordered { map output_of result.items ≡ in_order (notes_of self.old) }
         ensures frames { frames_in (map output_of result.items) ≡ flat_map (noted_in (notes_of self.old)) turns }
         ensures whole { length result.items ≡ length (notes_of self.old) }
         ensures notes { notes_of self.new ≡ [] }
     {
-        let notes = mem::replace(&mut self.notes, Vec::new(self.alloc));
-        let told = mem::replace(&mut self.told, Vec::new(self.alloc));
-        let _ = notes;
+        let mut notes = mem::replace(&mut self.notes, Vec::new(self.alloc));
+        let mut told = mem::replace(&mut self.told, Vec::new(self.alloc));
+        for rank in 0..RANKS {
+            tell_rank(&mut notes, rank, &mut told);
+        }
         told
     }
 }
