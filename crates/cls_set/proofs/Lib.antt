@@ -5,7 +5,6 @@ pub use Rattle.cls_order.proofs.Walks
 pub mod Arranged
 pub mod Broken
 pub mod Built
-pub mod Inherits
 pub mod Numbering
 pub mod Orders
 pub mod Overrides

@@ -5,6 +5,5 @@ pub use Rattle.cls_order.specs.Sets
 pub use Rattle.cls_order.specs.Subtypes
 pub mod ClassRules
 pub mod Faults
-pub mod Inheriting
 pub mod Orders
 pub mod Rules

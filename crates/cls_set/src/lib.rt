@@ -13,9 +13,6 @@ pub use space_ids::ClassId;
 
 mod arranging;
 mod class_set;
-mod descending;
-mod inheriting;
-mod key_numbers;
 mod members;
 mod ordering;
 mod overriding;

@@ -53,7 +53,7 @@ fn by_length<'a>(name: &'a [u8], descriptor: &'a [u8]) -> (&'a [u8], &'a [u8], b
     }
 }
 
-pub(crate) fn compare_keys(a_name: &[u8], a_descriptor: &[u8], b_name: &[u8], b_descriptor: &[u8]) -> Ordering
+fn compare_keys(a_name: &[u8], a_descriptor: &[u8], b_name: &[u8], b_descriptor: &[u8]) -> Ordering
     ensures { result ≡ key_cmp (a_name.now, a_descriptor.now) (b_name.now, b_descriptor.now) }
 {
     let (a_shorter, a_longer, a_is_short) = by_length(a_name, a_descriptor);

@@ -12,7 +12,7 @@ ghost use Rattle.cls_set.specs.Rules.{Breaks};
 ghost use Rattle.cls_order.specs.declared.fault.SetRule.TheVariants.{BadSuper, TooMany};
 
 use super::ordering::orders;
-use super::descending::find_overriding;
+use super::overriding::overrides_badly;
 use super::remote::{MemberKind, find_remote, find_unfit};
 use super::{SetFault, SetRule};
 use cf_reader::{Flags, Row};
@@ -108,8 +108,6 @@ pub(crate) struct Facts {
     pub(crate) methods: Vec<bool>,
     // Its methods in their order.
     pub(crate) orders: Vec<Row<u16>>,
-    // Whether it has a method that may not stand below one of a superclass.
-    pub(crate) overriding: Vec<Option<bool>>,
 }
 
 pub(crate) fn find_facts(alloc: Global, entries: &[Entry]) -> Result<Facts, AllocError>
@@ -122,13 +120,11 @@ pub(crate) fn find_facts(alloc: Global, entries: &[Entry]) -> Result<Facts, Allo
     let fields = find_unfit(alloc, entries, order.as_slice(), told, MemberKind::Fields)?;
     let methods = find_unfit(alloc, entries, order.as_slice(), told, MemberKind::Methods)?;
     let orders = orders(alloc, entries, MemberKind::Methods)?;
-    let overriding = find_overriding(alloc, entries)?;
     Ok(Facts {
         remote,
         fields,
         methods,
         orders,
-        overriding,
     })
 }
 
@@ -164,7 +160,7 @@ fn breaks(entries: &[Entry], facts: &Facts, index: usize, rule: ClassRule) -> bo
         ClassRule::FinalSuper => extends_one_with(entries, class, Flags::FINAL),
         ClassRule::RemoteField => !class.is_interface() && facts.has_unfit_field(index),
         ClassRule::RemoteMethod => class.is_interface() && facts.has_unfit_method(index),
-        ClassRule::Override => facts.overriding[index].unwrap_or(false),
+        ClassRule::Override => overrides_badly(entries, facts.orders.as_slice(), index),
     }
 }
 
