@@ -59,14 +59,7 @@ fn run<F: Folder, O: Write>(
 ) -> Result<(u8, Vec<u8>), AllocError> {
     let words = words_of(alloc, words)?;
     let mut err = Vec::new(alloc);
-    let status = command(
-        alloc,
-        &words,
-        folder,
-        &mut b"".as_slice(),
-        out,
-        &mut err,
-    );
+    let status = command(alloc, &words, folder, &mut b"".as_slice(), out, &mut err);
     Ok((status, err))
 }
 
