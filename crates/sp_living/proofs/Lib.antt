@@ -1,0 +1,2 @@
+pub mod TaskLemmas
+pub mod ResultLemmas
