@@ -1,0 +1,68 @@
+//! Replies to tasks that wait.
+
+ghost use Rattle.std.specs.Prelude.{◌≡◌, ◌≤◌, ℕ, List, length};
+ghost use Rattle.space_ids.specs.declared.ids.Ref.{Ref as Held};
+ghost use Rattle.sp_rules.specs.Classes.{Setting};
+ghost use Rattle.sp_rules.specs.Holders.{hold_ids};
+ghost use Rattle.sp_rules.specs.LivingTasks.{reply_task};
+ghost use Rattle.sp_rules.specs.References.{foreign_ids};
+ghost use Rattle.sp_rules.specs.State.{State};
+ghost use Rattle.sp_tasks.specs.Behaviours.{reply_of};
+ghost use Rattle.sp_transport.specs.Rooms.{KeepsRows, Spends, lease_room};
+ghost use Rattle.sp_transport.specs.Transports.{IsTransport};
+
+use crate::Living;
+use crate::holding::hold_all;
+use sp_outputs::Output;
+use sp_tasks::Reply;
+
+impl Living {
+    ghost use Rattle.sp_living.specs.Holding.{held_at, held_from};
+    ghost use Rattle.sp_living.specs.Livings.{IsLiving};
+    ghost use Rattle.sp_living.specs.Premises.{WaitsIfThere};
+    ghost use Rattle.sp_living.specs.Rooms.{Costs, HasRoomToReply};
+
+    /// Gives a task that waits the reply to its call, of which these are two copies: it holds the reference
+    /// in it too, and may go on. Nothing happens if no such task waits. It takes no memory: the caller
+    /// owes room for a holder and an output.
+    pub fn reply_reserved(&mut self, id: u64, reply: Reply, copy: Reply)
+        requires same { copy ≡ reply }
+        requires room { HasRoomToReply self.old }
+        ensures replied { (g : Setting) (s : State) → IsLiving g s self.old → WaitsIfThere s id → IsLiving g (reply_task g id (reply_of reply) s) self.new }
+        ensures costs { Costs 1 1 0 self.old self.new }
+    {
+        if !self.tasks.waits(id) {
+            return;
+        }
+        let before = self.count_held(id);
+        self.tasks.answer_reserved(id, reply, copy);
+        self.hold_from(id, before);
+        self.transport.say_reserved(Output::Ready(id));
+    }
+
+    // How many references a task holds.
+    fn count_held(&self, id: u64) -> usize
+        ensures { result ≡ length (held_at id self.now) }
+    {
+        match self.tasks.held(id) {
+            Some(held) => held.len(),
+            None => 0,
+        }
+    }
+
+    // Adds a holder of each foreign reference that a task holds from this place on.
+    fn hold_from(&mut self, id: u64, before: usize)
+        requires { length (foreign_ids self.old.id (held_from before id self.old)) ≤ lease_room self.old.transport }
+        ensures others { self.new ≡ record self.old { transport = self.new.transport } }
+        ensures held { (s : State) → IsTransport s self.old.transport → IsTransport (hold_ids (foreign_ids self.old.id (held_from before id self.old)) s) self.new.transport }
+        ensures rooms { Spends (length (foreign_ids self.old.id (held_from before id self.old))) 0 0 0 self.old.transport self.new.transport }
+        ensures rows { KeepsRows self.old.transport self.new.transport }
+    {
+        let Some(held) = self.tasks.held(id) else {
+            return;
+        };
+        if before <= held.len() {
+            hold_all(&mut self.transport, &self.id, &held[before..]);
+        }
+    }
+}
