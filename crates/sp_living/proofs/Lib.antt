@@ -1,2 +1,4 @@
 pub mod TaskLemmas
 pub mod ResultLemmas
+pub mod LivingLemmas
+pub mod StepLemmas

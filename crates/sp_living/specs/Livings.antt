@@ -6,11 +6,15 @@ use Rattle.sp_transport.specs.Transports.{IsTransport}
 use Rattle.sp_living.specs.Parts.{AreParkedIn, AreResults, AreTasks}
 use Rattle.sp_living.specs.declared.living.Living.{Living}
 
--- The tasks, results and parked frames are those of the state, and so is the space's side of the transport.
-pub record IsLiving (g : Setting) (s : State) (l : Living) : Type 0 where
+-- All parts but the tasks: the results and parked frames are those of the state, and so is the space's side of the transport.
+pub record IsBeside (g : Setting) (s : State) (l : Living) : Type 0 where
   pub id : l.id ≡ g.id
   pub moment : l.moment ≡ s.moment
   pub transport : IsTransport s l.transport
-  pub tasks : AreTasks g s.tasks_made s.tasks l.tasks
   pub results : AreResults s.moment s.results l.results l.call_results
   pub parked : AreParkedIn s.parked l.parked
+
+-- The tasks are those of the state too.
+pub record IsLiving (g : Setting) (s : State) (l : Living) : Type 0 where
+  pub beside : IsBeside g s l
+  pub tasks : AreTasks g s.tasks_made s.tasks l.tasks

@@ -1,11 +1,15 @@
 //! Tasks that end.
 
 ghost use Rattle.std.specs.Prelude.{◌≡◌, ◌<◌, ◌≤◌, ℕ, Some, OnErr, OnOk};
-ghost use Rattle.net_message.specs.declared.message.Message.{Message as Frame};
 ghost use Rattle.sp_rules.specs.Classes.{Setting};
+ghost use Rattle.sp_rules.specs.Holders.{drop_ids};
 ghost use Rattle.sp_rules.specs.LivingTasks.{after_steps, end_with, reply_frame, report};
 ghost use Rattle.sp_rules.specs.State.{Living as Task, OfCall, OfRoot, State, task_at};
+ghost use Rattle.sp_rules.specs.References.{foreign_ids};
 ghost use Rattle.sp_tasks.specs.Behaviours.{outcome_of};
+ghost use Rattle.sp_tasks.specs.Rows.{without};
+ghost use Rattle.sp_transport.specs.Rooms.{KeepsRows, Spends};
+ghost use Rattle.sp_transport.specs.Transports.{IsTransport};
 
 use crate::Living;
 use crate::holding::drop_all;
@@ -15,13 +19,14 @@ use sp_tasks::Outcome;
 use std::alloc::AllocError;
 
 impl Living {
+    ghost use Rattle.sp_living.specs.Holding.{held_at};
     ghost use Rattle.sp_living.specs.Livings.{IsLiving};
     ghost use Rattle.sp_living.specs.Premises.{IsReportable};
     ghost use Rattle.sp_living.specs.Rooms.{Costs, HasRoomToKeep, IsFreeFor, holder_room, note_room};
 
     /// Holds the result of a task of a call that came, and answers the call with this frame, if its
-    /// connection is open. Otherwise nothing happens. It takes no memory: the caller owes room for the result, for a holder
-    /// and for an output.
+    /// connection is open. Otherwise nothing happens. It takes no memory: the caller owes room for the
+    /// result, for a holder and for an output.
     pub fn report_reserved(&mut self, conn: u64, number: u64, outcome: Outcome, frame: Message)
         requires keep { HasRoomToKeep conn self.old }
         requires room { 0 < note_room self.old }
@@ -76,7 +81,12 @@ impl Living {
     }
 
     // Lets a task go, and what it holds.
-    fn let_go(&mut self, id: u64) {
+    fn let_go(&mut self, id: u64)
+        ensures others { self.new ≡ record self.old { tasks = record self.old.tasks { rows = without id self.old.tasks.rows }; transport = self.new.transport } }
+        ensures dropped { (s : State) → IsTransport s self.old.transport → IsTransport (drop_ids (foreign_ids self.old.id (held_at id self.old)) s) self.new.transport }
+        ensures rooms { Spends 0 0 0 0 self.old.transport self.new.transport }
+        ensures rows { KeepsRows self.old.transport self.new.transport }
+    {
         if let Some(held) = self.tasks.held(id) {
             drop_all(&mut self.transport, &self.id, held);
         }
