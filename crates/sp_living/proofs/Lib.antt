@@ -2,3 +2,4 @@ pub mod TaskLemmas
 pub mod ResultLemmas
 pub mod LivingLemmas
 pub mod StepLemmas
+pub mod HolderLemmas

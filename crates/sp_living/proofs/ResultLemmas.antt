@@ -19,7 +19,7 @@ use Rattle.sp_living.specs.Views.{kept}
 pub root-kept : (moment task : ℕ) (value : Option Value) (results : List KeptResult) (roots : List (ℕ × Option Value)) (calls : CallResults) → AreResults moment results roots calls
     → AreResults moment (results ++ record { until = RootAcked task; value = value } ∷ []) (roots ++ (task, value) ∷ []) calls
 root-kept moment task value results roots calls are = record {
-  of_own = map-append kept roots _ ∙ ap (λ (rs : List KeptResult). rs ++ kept (task, value) ∷ []) are.of_own ∙ sym (filter-append _ results _);
+  of_own = map-append kept roots ((task, value) ∷ []) ∙ ap (λ (rs : List KeptResult). rs ++ kept (task, value) ∷ []) are.of_own ∙ sym (filter-append (λ (r : KeptResult). not (is_of_call r)) results (kept (task, value) ∷ []));
   of_calls = root-comes moment results (kept (task, value)) calls refl are.of_calls;
 }
 
@@ -42,11 +42,11 @@ waits-as moment task results roots calls are = rows roots ∙ ap (list_any (is_o
     rows [] = refl
     rows (r ∷ rs) = ap (λ b. (r.0 == task) || b) (rows rs)
 
-    of : (u : Until) (value : Option Value) (rest more : Bool) → more ≡ rest → list_any (is_of_root task) [] ≡ false
+    of : (u : Until) (value : Option Value) (rest more : Bool) → more ≡ rest
         → (is_of_root task (record { until = u; value = value }) || rest) ≡ cond (not (is_of_call (record { until = u; value = value }))) (is_of_root task (record { until = u; value = value }) || more) more
-    of (RootAcked t) value rest more same none = ap (λ b. (t == task) || b) (sym same)
-    of (Acked c n) value rest more same none = sym same
-    of (Passed m) value rest more same none = sym same
+    of (RootAcked t) value rest more same = ap (λ b. (t == task) || b) (sym same)
+    of (Acked c n) value rest more same = sym same
+    of (Passed m) value rest more same = sym same
 
     pull : (b : Bool) (r : KeptResult) (xs : List KeptResult) → list_any (is_of_root task) (cond b (r ∷ xs) xs) ≡ cond b (is_of_root task r || list_any (is_of_root task) xs) (list_any (is_of_root task) xs)
     pull true r xs = refl
@@ -54,4 +54,4 @@ waits-as moment task results roots calls are = rows roots ∙ ap (list_any (is_o
 
     all : (rs : List KeptResult) → list_any (is_of_root task) (of_roots rs) ≡ list_any (is_of_root task) rs
     all [] = refl
-    all (r ∷ rs) = pull (not (is_of_call r)) r (of_roots rs) ∙ sym (of r.until r.value (list_any (is_of_root task) rs) (list_any (is_of_root task) (of_roots rs)) (all rs) refl)
+    all (r ∷ rs) = pull (not (is_of_call r)) r (of_roots rs) ∙ sym (of r.until r.value (list_any (is_of_root task) rs) (list_any (is_of_root task) (of_roots rs)) (all rs))

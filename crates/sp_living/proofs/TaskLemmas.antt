@@ -69,10 +69,10 @@ pub tasks-started : (g : Setting) (made : ℕ) (ts : List Living) (table new : T
     → AreTasks g (made + 1) (ts ++ new_task g (made + 1) origin method arguments fuel ∷ []) new
 unfolding start steps
 tasks-started g made ts table new origin method arguments fuel is are = subst (AreTasks g (made + 1) (ts ++ new_task g (made + 1) origin method arguments fuel ∷ [])) (sym is) (record {
-  rows = map-append seen_row table.rows _ ∙ (λ j. are.rows j ++ seen_row (are.last j + 1, started_row origin method arguments fuel) ∷ []) ∙ sym (map-append seen ts _);
+  rows = map-append seen_row table.rows ((table.made + 1, started_row origin method arguments fuel) ∷ []) ∙ (λ j. are.rows j ++ seen_row (are.last j + 1, started_row origin method arguments fuel) ∷ []) ∙ sym (map-append seen ts (new_task g (made + 1) origin method arguments fuel ∷ []));
   last = ap (λ n. n + 1) are.last;
   runs = recorded-append g ts (new_task g (made + 1) origin method arguments fuel) are.runs refl;
-  numbers = all-more _ ts _ (all-weaken (λ (t : Living). t.id ≤ made) (λ (t : Living). t.id ≤ made + 1) ts (λ t low. omega (arith, low)) are.numbers) (omega arith);
+  numbers = all-more (λ (t : Living). t.id ≤ made + 1) ts (new_task g (made + 1) origin method arguments fuel) (all-weaken (λ (t : Living). t.id ≤ made) (λ (t : Living). t.id ≤ made + 1) ts (λ t low. omega (arith, low)) are.numbers) (omega arith);
 })
 
 low-rows : (made : ℕ) (es : List (ℕ × TaskRow)) (ts : List Living) → map seen_row es ≡ map seen ts → AllOf (λ (t : Living). t.id ≤ made) ts → AllOf (λ (x : Seen). x.id ≤ made) (map seen_row es)
