@@ -18,3 +18,7 @@ pub record IsBeside (g : Setting) (s : State) (l : Living) : Type 0 where
 pub record IsLiving (g : Setting) (s : State) (l : Living) : Type 0 where
   pub beside : IsBeside g s l
   pub tasks : AreTasks g s.tasks_made s.tasks l.tasks
+
+-- The tasks stay.
+abbrev pub LeavesTasks : Living → Living → Type 0
+LeavesTasks old new = new.tasks ≡ old.tasks

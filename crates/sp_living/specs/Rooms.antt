@@ -41,9 +41,13 @@ pub record HasRoomToReply (l : Living) : Type 0 where
   pub notes : 0 < note_room l
   pub holders : 0 < holder_room l
 
+-- There is room for the result of a call of this connection.
+abbrev pub HasResultRoom : ℕ → Living → Type 0
+HasResultRoom conn l = calls.HasRoom conn l.call_results
+
 -- There is room for the result of a call of this connection, and for what it holds.
 pub record HasRoomToKeep (conn : ℕ) (l : Living) : Type 0 where
-  pub results : calls.HasRoom conn l.call_results
+  pub results : HasResultRoom conn l
   pub holders : 0 < holder_room l
 
 -- No result of this task is held, so that one may be.
@@ -55,3 +59,7 @@ pub record Costs (held noted started : ℕ) (old new : Living) : Type 0 where
   pub transport : Spends held 0 0 noted old.transport new.transport
   pub rows : KeepsRows old.transport new.transport
   pub tasks : task_room old ≤ task_room new + started
+
+-- The room for results of calls stays.
+abbrev pub KeepsResultRoom : Living → Living → Type 0
+KeepsResultRoom old new = (conn : ℕ) → HasResultRoom conn old → HasResultRoom conn new

@@ -20,7 +20,7 @@ use std::alloc::AllocError;
 
 impl Living {
     ghost use Rattle.sp_living.specs.Holding.{held_at};
-    ghost use Rattle.sp_living.specs.Livings.{IsLiving};
+    ghost use Rattle.sp_living.specs.Livings.{IsBeside, IsLiving, LeavesTasks};
     ghost use Rattle.sp_living.specs.Premises.{IsReportable};
     ghost use Rattle.sp_living.specs.Rooms.{Costs, HasRoomToKeep, IsFreeFor, holder_room, note_room};
 
@@ -31,6 +31,8 @@ impl Living {
         requires keep { HasRoomToKeep conn self.old }
         requires room { 0 < note_room self.old }
         ensures reported { (g : Setting) (s : State) (id fuel : ℕ) → IsLiving g s self.old → IsReportable s id (OfCall conn number) → frame ≡ reply_frame g number fuel (outcome_of outcome) → IsLiving g (report g (OfCall conn number) id fuel (outcome_of outcome) s) self.new }
+        ensures beside { (g : Setting) (s : State) (id fuel : ℕ) → IsBeside g s self.old → IsReportable s id (OfCall conn number) → frame ≡ reply_frame g number fuel (outcome_of outcome) → IsBeside g (report g (OfCall conn number) id fuel (outcome_of outcome) s) self.new }
+        ensures tasks { LeavesTasks self.old self.new }
         ensures costs { Costs 1 1 0 self.old self.new }
     {
         if self.transport.connection(conn).is_none() {

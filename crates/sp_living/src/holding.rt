@@ -14,7 +14,7 @@ use space_ids::{ForeignId, Ref, Uuid};
 
 impl Living {
     ghost use Rattle.sp_living.specs.Livings.{IsLiving};
-    ghost use Rattle.sp_living.specs.Rooms.{Costs, HasRoomToHold, foreign_count};
+    ghost use Rattle.sp_living.specs.Rooms.{Costs, KeepsResultRoom, HasRoomToHold, foreign_count};
 
     /// Adds a holder of each foreign reference among these. It takes no memory: the caller owes
     /// [room](Living::reserve_holders) for each.
@@ -22,6 +22,7 @@ impl Living {
         requires { HasRoomToHold references.now self.old }
         ensures held { (g : Setting) (s : State) → IsLiving g s self.old → IsLiving g (hold g references.now s) self.new }
         ensures costs { Costs (foreign_count self.old references.now) 0 0 self.old self.new }
+        ensures results { KeepsResultRoom self.old self.new }
     {
         hold_all(&mut self.transport, &self.id, references);
     }
@@ -30,6 +31,7 @@ impl Living {
     pub fn drop_holders(&mut self, references: &[Ref])
         ensures dropped { (g : Setting) (s : State) → IsLiving g s self.old → IsLiving g (drop g references.now s) self.new }
         ensures costs { Costs 0 0 0 self.old self.new }
+        ensures results { KeepsResultRoom self.old self.new }
     {
         drop_all(&mut self.transport, &self.id, references);
     }

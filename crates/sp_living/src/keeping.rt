@@ -21,7 +21,7 @@ use space_ids::{Ref, Uuid, Value};
 use std::alloc::AllocError;
 
 impl Living {
-    ghost use Rattle.sp_living.specs.Livings.{IsLiving};
+    ghost use Rattle.sp_living.specs.Livings.{IsBeside, IsLiving, LeavesTasks};
     ghost use Rattle.sp_living.specs.Rooms.{Costs, HasRoomToKeep, IsFreeFor, holder_room};
 
     /// Holds the result of a call or lookup that came, of whose number on its connection none is held, until
@@ -29,6 +29,8 @@ impl Living {
     pub fn keep_reserved(&mut self, conn: u64, number: u64, value: Option<Value>)
         requires { HasRoomToKeep conn self.old }
         ensures kept { (g : Setting) (s : State) → IsLiving g s self.old → list_any (is_acked_by conn number) s.results ≡ false → IsLiving g (keep g (Acked conn number) value s) self.new }
+        ensures beside { (g : Setting) (s : State) → IsBeside g s self.old → list_any (is_acked_by conn number) s.results ≡ false → IsBeside g (keep g (Acked conn number) value s) self.new }
+        ensures tasks { LeavesTasks self.old self.new }
         ensures costs { Costs 1 0 0 self.old self.new }
     {
         let found = reference_in(&value);
@@ -42,6 +44,8 @@ impl Living {
         requires free { IsFreeFor task self.old }
         requires room { 0 < holder_room self.old }
         ensures kept { OnOk result ((g : Setting) (s : State) → IsLiving g s self.old → IsLiving g (keep g (RootAcked task) value s) self.new) }
+        ensures beside { OnOk result ((g : Setting) (s : State) → IsBeside g s self.old → IsBeside g (keep g (RootAcked task) value s) self.new) }
+        ensures tasks { LeavesTasks self.old self.new }
         ensures same { OnErr result (self.new ≡ self.old) }
         ensures costs { Costs 1 0 0 self.old self.new }
     {
@@ -51,10 +55,12 @@ impl Living {
         Ok(())
     }
 
-    /// Holds the result with which a task of a call that came ends, if it returned, until its Ack.
+    // Holds the result with which a task of a call that came ends, if it returned, until its Ack.
     pub(crate) fn keep_outcome_reserved(&mut self, conn: u64, number: u64, outcome: Outcome)
         requires { HasRoomToKeep conn self.old }
         ensures kept { (g : Setting) (s : State) → IsLiving g s self.old → list_any (is_acked_by conn number) s.results ≡ false → IsLiving g (keep_result g (Acked conn number) (outcome_of outcome) s) self.new }
+        ensures beside { (g : Setting) (s : State) → IsBeside g s self.old → list_any (is_acked_by conn number) s.results ≡ false → IsBeside g (keep_result g (Acked conn number) (outcome_of outcome) s) self.new }
+        ensures tasks { LeavesTasks self.old self.new }
         ensures costs { Costs 1 0 0 self.old self.new }
     {
         match outcome {
@@ -64,11 +70,17 @@ impl Living {
         }
     }
 
-    /// Holds the result with which a root or lookup ends, if it returned. At out of memory nothing happens.
-    pub(crate) fn keep_root_outcome(&mut self, task: u64, outcome: Outcome) -> Result<(), AllocError>
+    // Holds the result with which a root or lookup ends, if it returned. At out of memory nothing happens.
+    pub(crate) fn keep_root_outcome(
+        &mut self,
+        task: u64,
+        outcome: Outcome,
+    ) -> Result<(), AllocError>
         requires free { IsFreeFor task self.old }
         requires room { 0 < holder_room self.old }
         ensures kept { OnOk result ((g : Setting) (s : State) → IsLiving g s self.old → IsLiving g (keep_result g (RootAcked task) (outcome_of outcome) s) self.new) }
+        ensures beside { OnOk result ((g : Setting) (s : State) → IsBeside g s self.old → IsBeside g (keep_result g (RootAcked task) (outcome_of outcome) s) self.new) }
+        ensures tasks { LeavesTasks self.old self.new }
         ensures same { OnErr result (self.new ≡ self.old) }
         ensures costs { Costs 1 0 0 self.old self.new }
     {

@@ -13,7 +13,7 @@ use sp_outputs::{Output, Turn};
 impl Living {
     ghost use Rattle.sp_living.specs.Livings.{IsLiving};
     ghost use Rattle.sp_living.specs.Premises.{IsAccepted};
-    ghost use Rattle.sp_living.specs.Rooms.{Costs, note_room};
+    ghost use Rattle.sp_living.specs.Rooms.{Costs, KeepsResultRoom, note_room};
 
     /// Answers an output that is no frame. It takes no memory: the caller owes
     /// [room](Living::reserve_notes) for it.
@@ -22,6 +22,7 @@ impl Living {
         requires room { 0 < note_room self.old }
         ensures said { (g : Setting) (s : State) → IsLiving g s self.old → IsLiving g (say (output_of output) s) self.new }
         ensures costs { Costs 0 1 0 self.old self.new }
+        ensures results { KeepsResultRoom self.old self.new }
     {
         self.transport.say_reserved(output);
     }
@@ -34,6 +35,7 @@ impl Living {
         requires room { 0 < note_room self.old }
         ensures sent { (g : Setting) (s : State) → IsLiving g s self.old → IsAccepted s conn → IsLiving g (send (turn_of turn) conn message s) self.new }
         ensures costs { Costs 0 1 0 self.old self.new }
+        ensures results { KeepsResultRoom self.old self.new }
     {
         self.transport.send_reserved(turn, conn, message);
     }

@@ -14,7 +14,7 @@ use sp_tasks::NewTask;
 
 impl Living {
     ghost use Rattle.sp_living.specs.Livings.{IsLiving};
-    ghost use Rattle.sp_living.specs.Rooms.{Costs, HasRoomToStart, foreign_count};
+    ghost use Rattle.sp_living.specs.Rooms.{Costs, KeepsResultRoom, HasRoomToStart, foreign_count};
 
     /// Starts a task under the next id, which it returns: a root's, or that of a call that came. The task
     /// holds the references among its arguments, stands after all others, and is not lent. It takes no
@@ -24,6 +24,7 @@ impl Living {
         ensures id { (g : Setting) (s : State) → IsLiving g s self.old → result ≡ s.tasks_made + 1 }
         ensures started { (g : Setting) (s : State) (origin : Start) (method : ℕ) (arguments : List Carried) (fuel : ℕ) → IsLiving g s self.old → new ≡ started_row origin method arguments fuel → IsLiving g (add_task g origin method arguments fuel s) self.new }
         ensures costs { Costs (foreign_count self.old new.held) 2 1 self.old self.new }
+        ensures results { KeepsResultRoom self.old self.new }
     {
         let id = self.tasks.made() + 1;
         self.transport.say_reserved(Output::Started(id));
