@@ -79,10 +79,10 @@ now-replied g s l id reply tasks t2 t3 is waits new held ready = by (row_of id l
         let a0 : IsTransport begun l.transport = beside s s.tasks_made begun.tasks s.results s.parked s.retired l.transport is.beside.transport in
         let was : held_at id l ≡ row.held = ap (λ (o : Option TaskRow). unwrap_or (option_map (λ (r : TaskRow). r.held) o) []) at in
         let now : held_at id (record l { tasks = tasks }) ≡ after =
-            ap (λ (table : TaskTable). unwrap_or (option_map (λ (r : TaskRow). r.held) (row_of id table.rows)) []) new
-            ∙ ap (λ (o : Option TaskRow). unwrap_or (option_map (λ (r : TaskRow). r.held) o) []) (row-changed id (answered_row reply) l.tasks.rows ∙ ap (option_map (answered_row reply)) at) in
+        ap (λ (table : TaskTable). unwrap_or (option_map (λ (r : TaskRow). r.held) (row_of id table.rows)) []) new
+        ∙ ap (λ (o : Option TaskRow). unwrap_or (option_map (λ (r : TaskRow). r.held) o) []) (row-changed id (answered_row reply) l.tasks.rows ∙ ap (option_map (answered_row reply)) at) in
         let got : held_from (length (held_at id l)) id (record l { tasks = tasks }) ≡ gained t.task (answer g reply t.task) =
-            (λ j. drop (length (was j)) (now j)) ∙ sym (gained-is g reply t.task row.held after (ap (λ (x : Seen). x.held) same) refl) in
+        (λ j. drop (length (was j)) (now j)) ∙ sym (gained-is g reply t.task row.held after (ap (λ (x : Seen). x.held) same) refl) in
         let holds : State = hold g (gained t.task (answer g reply t.task)) begun in
         let ids : foreign_ids l.id (held_from (length (held_at id l)) id (record l { tasks = tasks })) ≡ foreign_ids g.id (gained t.task (answer g reply t.task)) = λ j. foreign_ids (is.beside.id j) (got j) in
         let a2 : IsTransport holds t2 = subst (λ (rs : List ForeignId). IsTransport (hold_ids rs begun) t2) ids (held begun a0) in

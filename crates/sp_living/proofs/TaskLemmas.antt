@@ -134,7 +134,7 @@ rows-answered : (id : ℕ) (reply : Reply) (es : List (ℕ × TaskRow)) → is_p
 rows-answered id reply [] waits = refl
 rows-answered id reply (e ∷ es) waits =
     elim (nat_eq id e.0) as (λ b. nat_eq id e.0 ≡ b → is_parked (cond b (Some e.1) (row_of id es)) ≡ true
-        → map seen_row (at_row id (answered_row reply) (e ∷ es)) ≡ at_first (λ (x : Seen). x.id == id) (answered reply) (seen_row e ∷ map seen_row es)) [
+    → map seen_row (at_row id (answered_row reply) (e ∷ es)) ≡ at_first (λ (x : Seen). x.id == id) (answered reply) (seen_row e ∷ map seen_row es)) [
       | true ↦ λ here w. let mine = sym (nat_eq_equiv.symm id e.0) ∙ here in
           ap (λ b. map seen_row (cond b ((e.0, answered_row reply e.1) ∷ es) (e ∷ at_row id (answered_row reply) es))) mine
           ∙ (λ j. record { id = e.0; origin = e.1.origin; waits = false; held = with_references e.1.held (references_in (value_given reply)); past = with_entry e.1.steps (sym w j) reply e.1.past; steps = 0 } ∷ map seen_row es)

@@ -60,8 +60,7 @@ impl Living {
         ensures results { KeepsResultRoom self.old self.new }
     {
         self.keep_root_outcome(task, copy)?;
-        self.transport
-            .say_reserved(Output::Ended(task, outcome));
+        self.transport.say_reserved(Output::Ended(task, outcome));
         Ok(())
     }
 
