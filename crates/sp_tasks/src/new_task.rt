@@ -6,7 +6,7 @@ ghost use Rattle.sp_tasks.specs.Rows.{is_ready, started_row};
 
 use crate::Origin;
 use crate::living::LivingTask;
-use space_ids::{Ref, Value};
+use space_ids::Value;
 use std::alloc::{AllocError, Global};
 use std::marker::Model;
 
@@ -41,13 +41,6 @@ impl NewTask {
     {
         let task = LivingTask::start(alloc, origin, method, arguments, fuel)?;
         Ok(NewTask { task })
-    }
-
-    /// The references that it holds.
-    pub fn held(&self) -> &[Ref]
-        ensures { result.now ≡ self.now.held }
-    {
-        self.task.held()
     }
 
     // Its row, which may go on.
