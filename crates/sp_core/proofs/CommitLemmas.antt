@@ -58,6 +58,8 @@ held-replied g k reply t = answer-held g reply (steps k t.task) ∙ ap (λ held.
 seen-replied : (g : Setting) (k : ℕ) (reply : Reply) (t : Living) → t.waits ≡ false → seen (replied g k reply t) ≡ answered k reply (seen t)
 seen-replied g k reply t waits = λ j. record {
   id = t.id;
+  origin = t.origin;
+  waits = sym waits j;
   held = held-replied g k reply t j;
   past = record { began = t.began; given = turned t.given ++ record { steps = t.steps + k; lent = waits j; reply = reply } ∷ [] };
   steps = 0;

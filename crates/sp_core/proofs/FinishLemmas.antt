@@ -42,7 +42,7 @@ abbrev later : ℕ → Seen → Seen
 later k x = record x { steps = x.steps + k }
 
 seen-later : (k : ℕ) (t : Living) → seen (after_steps k t) ≡ later k (seen t)
-seen-later k t = λ j. record { id = t.id; held = steps-held k t.task j; past = (seen t).past; steps = t.steps + k }
+seen-later k t = λ j. record { id = t.id; origin = t.origin; waits = t.waits; held = steps-held k t.task j; past = (seen t).past; steps = t.steps + k }
 
 pub ended-at : (made : ℕ) (old new : List (ℕ × TaskRow)) → ((id : ℕ) → row_of id old ≡ None → row_of id new ≡ None) → (rs : List (ℕ × Option Value))
     → AllOf (λ (k : ℕ × Option Value). (k.0 ≤ made) × (row_of k.0 old ≡ None)) rs → AllOf (λ (k : ℕ × Option Value). (k.0 ≤ made) × (row_of k.0 new ≡ None)) rs

@@ -29,6 +29,10 @@ use Rattle.sp_core.specs.declared.space.SpaceCore.{SpaceCore}
 
 -- ---- rows and living tasks
 
+-- a task as it is lent
+abbrev pub itself : (id : ℕ) (row : TaskRow) → Hand
+itself id row = record { id = id; past = row.past; steps = row.steps; made = 0; room = false }
+
 abbrev seen_at : ℕ → List Seen → Option Seen
 seen_at id xs = find (λ (x : Seen). x.id == id) xs
 
@@ -324,23 +328,46 @@ pub row-taken : (o : Option TaskRow) (hand : Hand) → rows.is_in_hand o hand �
 row-taken None hand here = absurd (false≢true here)
 row-taken (Some row) hand here = (row, refl)
 
+lent-unseen : (k : ℕ) (row : TaskRow) → seen_row (k, rows.lent_row row) ≡ seen_row (k, row)
+lent-unseen k row = elim row.waits as (λ b. seen_row (k, cond b row (record row { lent = true })) ≡ seen_row (k, row)) [ true ↦ refl | false ↦ refl ]
+
 pub lend-state : (g : Setting) (s : State) (core : SpaceCore) (id : ℕ) (tasks : rows.TaskTable) → tasks ≡ record core.tasks { rows = rows.at_row id rows.lent_row core.tasks.rows } → IsCore g s core → IsCore g s (record core { tasks = tasks })
 lend-state g s core id tasks after is =
     lent-state g s core tasks (ap (λ (t : rows.TaskTable). t.made) after)
-    (ap (λ (t : rows.TaskTable). map seen_row t.rows) after ∙ rows-unseen id rows.lent_row core.tasks.rows (λ k row. refl))
+    (ap (λ (t : rows.TaskTable). map seen_row t.rows) after ∙ rows-unseen id rows.lent_row core.tasks.rows lent-unseen)
     (λ q none. ap (λ (t : rows.TaskTable). row_of q t.rows) after ∙ absent-at id q rows.lent_row core.tasks.rows none) is
 
-lends-one : (id : ℕ) (o : Option TaskRow) → is_some (rows.hand_of id o) ≡ (is_some o && not (unwrap_or (option_map (λ (row : TaskRow). row.lent) o) false))
-lends-one id None = refl
-lends-one id (Some row) =
+abbrev waits-at : Option TaskRow → Bool
+waits-at o = unwrap_or (option_map (λ (row : TaskRow). row.waits) o) false
+
+lends-one : (id : ℕ) (o : Option TaskRow) → waits-at o ≡ false → is_some (rows.hand_of id o) ≡ (is_some o && not (unwrap_or (option_map (λ (row : TaskRow). row.lent) o) false))
+lends-one id None idle = refl
+lends-one id (Some row) idle =
     let nil : Option Hand = None in
-    let one : Hand = record { id = id; past = row.past; steps = row.steps; made = 0 } in
-    elim row.lent as (λ b. is_some (cond b nil (Some one)) ≡ (true && not b)) [ true ↦ refl | false ↦ refl ]
+    let one : Hand = itself id row in
+    ap (λ b. is_some (cond (b || row.lent) nil (Some one))) idle ∙ elim row.lent as (λ b. is_some (cond b nil (Some one)) ≡ (true && not b)) [ true ↦ refl | false ↦ refl ]
+
+ready-idle : (p : Option Living) (t : Living) → that_is_ready p ≡ Some t → t.waits ≡ false
+ready-idle None t e = cc
+ready-idle (Some u) t e =
+    elim u.waits as (λ b. u.waits ≡ b → cond b None (Some u) ≡ Some t → t.waits ≡ false) [
+      | true ↦ λ w none. cc
+      | false ↦ λ w some. ap (λ (v : Living). v.waits) (sym (only u t some)) ∙ w
+    ] refl e
+
+-- no living task waits
+pub idle-row : (g : Setting) (s : State) (core : SpaceCore) (id : ℕ) → IsCore g s core → waits-at (row_of id core.tasks.rows) ≡ false
+idle-row g s core id is = at (row_of id core.tasks.rows) (ready_at s id) refl (matched g s core id is)
+  where
+    at : (o : Option TaskRow) (p : Option Living) → ready_at s id ≡ p → option_map (λ (row : TaskRow). seen_row (id, row)) o ≡ option_map seen p → waits-at o ≡ false
+    at None p ready e = refl
+    at (Some row) None ready e = cc
+    at (Some row) (Some t) ready e = ap (λ (x : Seen). x.waits) (only (seen_row (id, row)) (seen t) e) ∙ ready-idle (task_at s id) t ready
 
 pub lend-lent : (g : Setting) (s : State) (core : SpaceCore) (id : ℕ) (lent : List ℕ) (r : Option Hand) → r ≡ rows.hand_of id (row_of id core.tasks.rows) → IsCore g s core → Lends core lent
     → is_some r ≡ (is_some (ready_at s id) && not (list_any (◌==◌ id) lent))
 lend-lent g s core id lent r at is lends =
-    ap is_some at ∙ lends-one id (row_of id core.tasks.rows) ∙ (λ j. sym (ready-is g s core id is) j && not (sym (lends id) j))
+    ap is_some at ∙ lends-one id (row_of id core.tasks.rows) (idle-row g s core id is) ∙ (λ j. sym (ready-is g s core id is) j && not (sym (lends id) j))
 
 -- what is lent is the living task
 pub lend-hand : (core : SpaceCore) (id : ℕ) (r : Option Hand) → r ≡ rows.hand_of id (row_of id core.tasks.rows) → IfSome r (λ hand. (g : Setting) (s : State) → IsCore g s core → is_historys (ready_at s id) hand ≡ true)
@@ -352,13 +379,31 @@ lend-hand core id (Some hand) at = λ g s is. by g s (row_of id core.tasks.rows)
     by g s (Some row) None e at = cc
     by g s (Some row) (Some t) e at =
         let same : seen_row (id, row) ≡ seen t = only (seen_row (id, row)) (seen t) e in
-        elim row.lent as (λ b. Some hand ≡ cond b None (Some (record { id = id; past = row.past; steps = row.steps; made = 0 })) → is_historys (Some t) hand ≡ true) [
+        elim (row.waits || row.lent) as (λ b. Some hand ≡ cond b None (Some (itself id row)) → is_historys (Some t) hand ≡ true) [
           | true ↦ λ none. cc
           | false ↦ λ some.
-              let mine : hand ≡ record { id = id; past = row.past; steps = row.steps; made = 0 } = only hand (record { id = id; past = row.past; steps = row.steps; made = 0 }) some in
+              let mine : hand ≡ itself id row = only hand (itself id row) some in
               (λ j. (sym same j).steps == (mine j).steps && is_recorded (sym same j).past (mine j).past)
               ∙ (λ j. eq-eqb row.steps row.steps refl j && is_recorded row.past row.past) ∙ record-itself row.past
         ] at
+
+or-left : (a b : Bool) → (a || b) ≡ false → a ≡ false
+or-left true b h = h
+or-left false b h = refl
+
+no-one : (one : Hand) → None ≡ Some one → ⊥
+no-one one e = cc
+
+-- a task that is lent does not wait
+pub idle-then : (id : ℕ) (row : TaskRow) (hand : Hand) → Some hand ≡ rows.hand_of id (Some row) → row.waits ≡ false
+idle-then id row hand at =
+    elim (row.waits || row.lent) as (λ b. (row.waits || row.lent) ≡ b → Some hand ≡ cond b None (Some (itself id row)) → row.waits ≡ false) [
+      | true ↦ λ taken none. absurd (no-one hand (sym none))
+      | false ↦ λ free some. or-left row.waits row.lent free
+    ] refl at
+
+lent-then : (id : ℕ) (row : TaskRow) (hand : Hand) → Some hand ≡ rows.hand_of id (Some row) → (rows.lent_row row).lent ≡ true
+lent-then id row hand at = ap (λ b. (cond b row (record row { lent = true })).lent) (idle-then id row hand at)
 
 pub lend-others : (core new : SpaceCore) (id : ℕ) (r : Option Hand) → r ≡ rows.hand_of id (row_of id core.tasks.rows) → new.tasks.rows ≡ rows.at_row id rows.lent_row core.tasks.rows
     → IfSome r (λ hand. (other : ℕ) → is_lent new other ≡ (other == id || is_lent core other))
@@ -367,10 +412,7 @@ lend-others core new id (Some hand) at same = λ other. by (row_of id core.tasks
   where
     by : (o : Option TaskRow) → row_of id core.tasks.rows ≡ o → Some hand ≡ rows.hand_of id o → (other : ℕ) → is_lent new other ≡ (other == id || is_lent core other)
     by None found at other = cc
-    by (Some row) found at other = lent-at core new id rows.lent_row row found same other ∙ lent-or (other == id) true (is_lent core other) refl
-
-no-one : (one : Hand) → None ≡ Some one → ⊥
-no-one one e = cc
+    by (Some row) found at other = lent-at core new id rows.lent_row row found same other ∙ lent-or (other == id) (rows.lent_row row).lent (is_lent core other) (lent-then id row hand at)
 
 abbrev flag : Option TaskRow → Bool
 flag o = unwrap_or (option_map (λ (r : TaskRow). r.lent) o) false
@@ -389,8 +431,11 @@ lend-none core new id None at same = λ other.
     by None none = refl
     by (Some row) none =
         let nil : Option Hand = None in
-        let one : Hand = record { id = id; past = row.past; steps = row.steps; made = 0 } in
-        elim row.lent as (λ b. nil ≡ cond b nil (Some one) → true ≡ b) [ true ↦ λ n. refl | false ↦ λ n. absurd (no-one one n) ] none
+        let one : Hand = itself id row in
+        elim row.waits as (λ w. nil ≡ cond (w || row.lent) nil (Some one) → (cond w row (record row { lent = true })).lent ≡ row.lent) [
+          | true ↦ λ n. refl
+          | false ↦ elim row.lent as (λ b. nil ≡ cond b nil (Some one) → true ≡ b) [ true ↦ λ n. refl | false ↦ λ n. absurd (no-one one n) ]
+        ] none
 
 -- ---- given back
 

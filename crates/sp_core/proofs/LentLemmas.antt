@@ -1,5 +1,5 @@
 use Rattle.std.proofs.Common.{◌≡◌, ℕ, ◌+◌, Bool, true, false, cond, List, Option, None, Some, refl, sym, ap, ◌∙◌}
-use Rattle.std.specs.Prelude.{IfSome, ◌==◌, ◌&&◌, option_map}
+use Rattle.std.specs.Prelude.{IfSome, ◌==◌, ◌&&◌, ◌||◌, option_map}
 use Rattle.std.proofs.lemmas.Bool.{eq-eqb, eqb-true, false≢true}
 use Rattle.sp_rules.specs.Behaviours.{Reply}
 use Rattle.sp_tasks.specs.Recorded.{Recorded, with_given}
@@ -9,15 +9,12 @@ use Rattle.sp_tasks.specs.Same.{is_recorded}
 use Rattle.sp_tasks.proofs.SameLemmas.{and-left, and-right, record-itself, record-same}
 use Rattle.sp_core.specs.Cores.{has_lent}
 use Rattle.sp_core.specs.declared.space.SpaceCore.{SpaceCore}
-use Rattle.sp_core.proofs.HandLemmas.{row-at}
+use Rattle.sp_core.proofs.HandLemmas.{idle-then, itself, row-at}
 
 -- the row of an id after it was changed
 own-row : (id : ℕ) (f : TaskRow → TaskRow) (row : TaskRow) (es : List (ℕ × TaskRow)) → row_of id es ≡ Some row → row_of id (rows.at_row id f es) ≡ Some (f row)
 own-row id f row es found =
     row-at id id f es ∙ ap (λ b. cond b (option_map f (row_of id es)) (row_of id es)) (eq-eqb id id refl) ∙ ap (λ (o : Option TaskRow). option_map f o) found
-
-abbrev itself : (id : ℕ) (row : TaskRow) → Hand
-itself id row = record { id = id; past = row.past; steps = row.steps; made = 0 }
 
 -- what is lent is in hand
 pub lent-own : (core new : SpaceCore) (id : ℕ) (r : Option Hand) → r ≡ rows.hand_of id (row_of id core.tasks.rows)
@@ -28,13 +25,14 @@ lent-own core new id (Some hand) at same = by (row_of id core.tasks.rows) refl a
     by : (o : Option TaskRow) → row_of id core.tasks.rows ≡ o → Some hand ≡ rows.hand_of id o → has_lent new hand ≡ true
     by None found at = cc
     by (Some row) found at =
-        elim row.lent as (λ b. Some hand ≡ cond b None (Some (itself id row)) → has_lent new hand ≡ true) [
+        elim (row.waits || row.lent) as (λ b. Some hand ≡ cond b None (Some (itself id row)) → has_lent new hand ≡ true) [
           | true ↦ λ none. cc
           | false ↦ λ some.
               let mine : hand ≡ itself id row = cc in
               ap (λ (h : Hand). rows.is_in_hand (row_of h.id new.tasks.rows) h) mine
               ∙ ap (λ (es : List (ℕ × TaskRow)). rows.is_in_hand (row_of id es) (itself id row)) same
               ∙ ap (λ (o : Option TaskRow). rows.is_in_hand o (itself id row)) (own-row id rows.lent_row row core.tasks.rows found)
+              ∙ ap (λ w. rows.is_in_hand (Some (cond w row (record row { lent = true }))) (itself id row)) (idle-then id row hand at)
               ∙ (λ j. eq-eqb row.steps row.steps refl j && is_recorded row.past row.past)
               ∙ record-itself row.past
         ] at

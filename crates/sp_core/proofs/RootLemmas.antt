@@ -196,14 +196,14 @@ ended-push made k v tasks (row ∷ rows) next all =
 
 pub rooted : (g : Setting) (s : State) (core : SpaceCore) (tasks : TaskTable) (method : ℕ) (arguments : List Value) (fuel : ℕ) → IsCore g s core
     → list_all (is_own_standing g s) (references_of arguments) ≡ true
-    → tasks.made ≡ core.tasks.made + 1 → tasks.rows ≡ core.tasks.rows ++ (core.tasks.made + 1, started_row method arguments fuel) ∷ []
+    → tasks.made ≡ core.tasks.made + 1 → tasks.rows ≡ core.tasks.rows ++ (core.tasks.made + 1, started_row OfRoot method arguments fuel) ∷ []
     → IsCore g (on g (Root method arguments fuel) s).0 (record core { tasks = tasks }) × ((on g (Root method arguments fuel) s).1 ≡ Started tasks.made ∷ Ready tasks.made ∷ [])
 unfolding start
 rooted g s core tasks method arguments fuel is standing-all more rows =
     let own : AreOwn g (with_references [] (references_of arguments)) = own-fold g s [] (references_of arguments) refl standing-all in
     let after = on-root g s method arguments fuel is.alone own in
     let number : tasks.made ≡ s.tasks_made + 1 = more ∙ ap (λ n. n + 1) is.tasks_made in
-    let row : TaskRow = started_row method arguments fuel in
+    let row : TaskRow = started_row OfRoot method arguments fuel in
     let new : SpaceCore = record core { tasks = tasks } in (
       subst (λ (t : State). IsCore g t new) (sym (ap (λ (p : State × List Output). p.0) after)) (record {
         id = is.id;

@@ -12,7 +12,7 @@ use Rattle.sp_rules.specs.Classes.{Setting}
 use Rattle.sp_rules.specs.Laws.{AllOf}
 use Rattle.sp_rules.specs.References.{is_id}
 use Rattle.sp_rules.specs.State.{State, Living, Object}
-use Rattle.sp_tasks.specs.Rows.{TaskRow, first_ready, row_of}
+use Rattle.sp_tasks.specs.Rows.{TaskRow, first_ready, is_ready, row_of}
 use Rattle.sp_core.specs.Cores.{IsCore, Lends, Seen, seen, seen_row}
 use Rattle.sp_core.specs.Shown.{lowest_ready, shown}
 use Rattle.sp_core.specs.declared.space.SpaceCore.{SpaceCore}
@@ -37,15 +37,24 @@ own-rows (e ∷ es) distinct = (
 abbrev free : List ℕ → Seen → Bool
 free lent x = not (list_any (◌==◌ x.id) lent)
 
-rows-free : (lent : List ℕ) (es : List (ℕ × TaskRow)) → AllOf (λ (row : ℕ × TaskRow). list_any (◌==◌ row.0) lent ≡ row.1.lent) es
+rows-free : (lent : List ℕ) (es : List (ℕ × TaskRow)) → AllOf (λ (row : ℕ × TaskRow). list_any (◌==◌ row.0) lent ≡ row.1.lent) es → AllOf (λ (row : ℕ × TaskRow). row.1.waits ≡ false) es
     → option_map (λ (x : Seen). x.id) (find (free lent) (map seen_row es)) ≡ first_ready es
-rows-free lent [] all = refl
-rows-free lent (e ∷ es) all =
+rows-free lent [] all idle = refl
+rows-free lent (e ∷ es) all idle =
     ap (λ b. option_map (λ (x : Seen). x.id) (cond (not b) (Some (seen_row e)) (find (free lent) (map seen_row es)))) all.0
-    ∙ elim e.1.lent as (λ b. option_map (λ (x : Seen). x.id) (cond (not b) (Some (seen_row e)) (find (free lent) (map seen_row es))) ≡ option_map (λ (row : ℕ × TaskRow). row.0) (cond (not b) (Some e) (find (λ (row : ℕ × TaskRow). not row.1.lent) es))) [
-      | true ↦ rows-free lent es all.1
+    ∙ elim e.1.lent as (λ b. option_map (λ (x : Seen). x.id) (cond (not b) (Some (seen_row e)) (find (free lent) (map seen_row es))) ≡ option_map (λ (row : ℕ × TaskRow). row.0) (cond (not b) (Some e) (find (λ (row : ℕ × TaskRow). is_ready row.1) es))) [
+      | true ↦ rows-free lent es all.1 idle.1
       | false ↦ refl
     ]
+    ∙ ap (λ w. option_map (λ (row : ℕ × TaskRow). row.0) (cond (not (w || e.1.lent)) (Some e) (find (λ (row : ℕ × TaskRow). is_ready row.1) es))) (sym idle.0)
+
+-- no row of an idle task waits
+rows-idle : (es : List (ℕ × TaskRow)) (ts : List Living) → map seen_row es ≡ map seen ts → AllOf (λ (t : Living). t.waits ≡ false) ts → AllOf (λ (row : ℕ × TaskRow). row.1.waits ≡ false) es
+rows-idle [] ts same all = tt
+rows-idle (e ∷ es) [] same all = absurd (cc)
+rows-idle (e ∷ es) (t ∷ ts) same all =
+    let first : seen_row e ≡ seen t = cc in
+    let rest : map seen_row es ≡ map seen ts = cc in (ap (λ (x : Seen). x.waits) first ∙ all.0, rows-idle es ts rest all.1)
 
 tasks-free : (lent : List ℕ) (ts : List Living) → AllOf (λ (t : Living). t.waits ≡ false) ts
     → option_map (λ (x : Seen). x.id) (find (free lent) (map seen ts)) ≡ option_map (λ (t : Living). t.id) (find (λ (t : Living). not (t.waits || list_any (◌==◌ t.id) lent)) ts)
@@ -66,7 +75,7 @@ pub ready-lowest : (g : Setting) (s : State) (core : SpaceCore) (lent : List ℕ
     → r ≡ lowest_ready lent s
 unfolding flag
 ready-lowest g s core lent r first distinct is lends =
-    first ∙ sym (rows-free lent core.tasks.rows (flags lent core.tasks.rows core.tasks.rows lends (own-rows core.tasks.rows distinct)))
+    first ∙ sym (rows-free lent core.tasks.rows (flags lent core.tasks.rows core.tasks.rows lends (own-rows core.tasks.rows distinct)) (rows-idle core.tasks.rows s.tasks is.tasks is.alone.ready))
     ∙ ap (λ (xs : List Seen). option_map (λ (x : Seen). x.id) (find (free lent) xs)) is.tasks ∙ tasks-free lent s.tasks is.alone.ready
 
 -- ---- objects

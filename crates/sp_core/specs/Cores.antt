@@ -11,7 +11,7 @@ use Rattle.sp_rules.specs.Holders.{fields_of}
 use Rattle.sp_rules.specs.Laws.{AllOf}
 use Rattle.sp_rules.specs.References.{foreign_ids, references_in, references_of}
 use Rattle.sp_rules.specs.Runs.{AreRecorded}
-use Rattle.sp_rules.specs.State.{State, Living, KeptResult, Object, OfRoot, RootAcked, ready_at, standing}
+use Rattle.sp_rules.specs.State.{State, Living, KeptResult, Object, Origin, OfRoot, RootAcked, ready_at, standing}
 use Rattle.sp_store.specs.Stores as stores
 use Rattle.sp_store.specs.Stores.{made, holds_of}
 use Rattle.sp_tasks.specs.Recorded.{Recorded}
@@ -22,10 +22,12 @@ use Rattle.sp_core.specs.declared.space.SpaceCore.{SpaceCore}
 
 -- ---- tasks
 
--- what a core sees of a living task, beside its machine: the references that it holds, its record, and its own instructions since the
--- last reply
+-- what a core sees of a living task, beside its machine: how it began, whether it waits, the references that it holds, its record, and
+-- its own instructions since the last reply
 pub record Seen : Type 0 where
   pub id : ℕ
+  pub origin : Origin
+  pub waits : Bool
   pub held : List Ref
   pub past : Recorded
   pub steps : ℕ
@@ -35,11 +37,11 @@ abbrev pub recorded_in : Living → Recorded
 recorded_in t = record { began = t.began; given = turned t.given }
 
 abbrev pub seen : Living → Seen
-seen t = record { id = t.id; held = t.task.held; past = recorded_in t; steps = t.steps }
+seen t = record { id = t.id; origin = t.origin; waits = t.waits; held = t.task.held; past = recorded_in t; steps = t.steps }
 
 -- the same of a core's row
 abbrev pub seen_row : ℕ × TaskRow → Seen
-seen_row row = record { id = row.0; held = row.1.held; past = row.1.past; steps = row.1.steps }
+seen_row row = record { id = row.0; origin = row.1.origin; waits = row.1.waits; held = row.1.held; past = row.1.past; steps = row.1.steps }
 
 -- ---- results
 

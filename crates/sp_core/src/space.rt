@@ -66,7 +66,7 @@ impl SpaceCore {
             entries: RefList::new(alloc),
             leases: Clients::new(alloc),
             fuel,
-            tasks: Tasks::new(alloc)?,
+            tasks: Tasks::new(alloc),
             calls_made: 0,
             results: Results::new(alloc)?,
         })

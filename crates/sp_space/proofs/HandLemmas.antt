@@ -71,9 +71,9 @@ lowest-there g s core id is lowest = ap is_some (kept.all-ready g s core id is) 
 pub hand-is : (id : ℕ) (o : Option TaskRow) (hand : Hand) → Some hand ≡ hand_of id o → (hand.id ≡ id) × (hand.made ≡ 0)
 hand-is id None hand given = absurd (cc)
 hand-is id (Some r) hand given =
-    elim r.lent as (λ b. Some hand ≡ cond b None (Some (record { id = id; past = r.past; steps = r.steps; made = 0 })) → (hand.id ≡ id) × (hand.made ≡ 0)) [
+    elim (r.waits || r.lent) as (λ b. Some hand ≡ cond b None (Some (record { id = id; past = r.past; steps = r.steps; made = 0; room = false })) → (hand.id ≡ id) × (hand.made ≡ 0)) [
       | true ↦ λ e. absurd (cc)
-      | false ↦ λ e. let same : hand ≡ record { id = id; past = r.past; steps = r.steps; made = 0 } = ap (λ o. unwrap_or o hand) e in (ap (λ (x : Hand). x.id) same, ap (λ (x : Hand). x.made) same)
+      | false ↦ λ e. let same : hand ≡ record { id = id; past = r.past; steps = r.steps; made = 0; room = false } = ap (λ o. unwrap_or o hand) e in (ap (λ (x : Hand). x.id) same, ap (λ (x : Hand). x.made) same)
     ] given
 
 itself : (n : ℕ) → (n == n) ≡ true

@@ -1,17 +1,15 @@
-use Rattle.std.proofs.Common.{◌≡◌, ℕ, ◌+◌, ◌-◌, ◌≤◌, ◌<◌, Bool, true, false, cond, List, [], ◌∷◌, ◌++◌, length, None, Some, is_some, nat_eq, refl, sym, ap, subst, ◌∙◌, map, append_assoc, arith}
-use Rattle.std.specs.Prelude.{◌||◌, ◌==◌, ◌^◌, not, Result, Ok, Err, OnOk, OnErr}
+use Rattle.std.proofs.Common.{◌≡◌, ℕ, ◌+◌, ◌≤◌, ◌<◌, Bool, true, false, cond, List, [], ◌∷◌, ◌++◌, None, Some, is_some, nat_eq, refl, sym, ap, subst, ◌∙◌, map, append_assoc, arith}
+use Rattle.std.specs.Prelude.{◌||◌, ◌==◌, IfSome, IsSomeAnd, Option, option_copied, not, Result, Ok, Err, OnOk, OnErr}
 use Rattle.std.specs.List.{IsDistinct, AllByRecursion, list_any}
 use Rattle.std.specs.Cmp.{nat_eq_equiv}
 use Rattle.std.specs.Borrow.{Bor}
 use Rattle.std.specs.Map.Iter.{deref_pair}
-use Rattle.std.specs.Map.{lookup_entry, keys_of, remove_entry, set_value}
-use Rattle.std.proofs.lemmas.Bool.{eqb-true, ne_eqb}
-use Rattle.std.proofs.lemmas.List.{map-append, take_all}
+use Rattle.std.specs.Map.{keys_of, remove_entry, set_value}
+use Rattle.std.proofs.lemmas.Bool.{eqb-true, false≢true, ne_eqb}
+use Rattle.std.proofs.lemmas.List.{map-append}
 use Rattle.std.proofs.lemmas.List.Folds.{list_any-append}
-use Rattle.std.proofs.lemmas.Map.Keys.{IsDistinct-head, IsDistinct-tail, IsDistinct-cons, IsDistinct-push}
-use Rattle.std.proofs.lemmas.Map.{keys-set_value}
+use Rattle.std.proofs.lemmas.Map.Keys.{IsDistinct-head, IsDistinct-tail, IsDistinct-push}
 use Rattle.std.proofs.lemmas.Map.Made.{is_some-lookup}
-use Rattle.lru.specs.LruCache.{LruCache, demoted, lru_cache, put_entries}
 use Rattle.sp_tasks.specs.Rows.{TaskRow, Hand, at_row, is_in_hand, row_of, without}
 use Rattle.sp_tasks.proofs.SameLemmas.{and-right, record-same}
 
@@ -64,50 +62,6 @@ removed id (e ∷ es) distinct =
           ∙ sym (ap (λ t. cond (not t) (e ∷ without id es) (without id es)) (sym (flip id e.0) ∙ apart))
     ] refl
 
-absent-removed : (id k : ℕ) (es : List (ℕ × TaskRow)) → AllByRecursion (λ x. nat_eq k x ≡ false) (keys_of es)
-    → AllByRecursion (λ x. nat_eq k x ≡ false) (keys_of (remove_entry (nat_eq id) es))
-absent-removed id k [] h = h
-absent-removed id k (e ∷ es) h =
-    elim (nat_eq id e.0) as (λ t. AllByRecursion (λ x. nat_eq k x ≡ false) (keys_of (cond t es (e ∷ remove_entry (nat_eq id) es))))
-    [ true ↦ h.1 | false ↦ (h.0, absent-removed id k es h.1) ]
-
-pub distinct-removed : (id : ℕ) (es : List (ℕ × TaskRow)) → IsDistinct nat_eq (keys_of es) → IsDistinct nat_eq (keys_of (remove_entry (nat_eq id) es))
-distinct-removed id [] distinct = distinct
-distinct-removed id (e ∷ es) distinct =
-    let tail = IsDistinct-tail nat_eq e.0 (keys_of es) distinct in
-    elim (nat_eq id e.0) as (λ t. IsDistinct nat_eq (keys_of (cond t es (e ∷ remove_entry (nat_eq id) es)))) [
-      | true ↦ tail
-      | false ↦ IsDistinct-cons nat_eq e.0 (keys_of (remove_entry (nat_eq id) es)) (absent-removed id e.0 es (IsDistinct-head nat_eq e.0 (keys_of es) distinct)) (distinct-removed id es tail)
-    ]
-
--- ---- a new row is put before all others, and then goes after them
-
-entry-none : (id : ℕ) (es : List (ℕ × TaskRow)) → row_of id es ≡ None → lookup_entry (nat_eq id) es ≡ None
-entry-none id [] absent = refl
-entry-none id (e ∷ es) absent =
-    elim (nat_eq id e.0) as (λ t. cond t (Some e.1) (row_of id es) ≡ None → cond t (Some e) (lookup_entry (nat_eq id) es) ≡ None) [
-      | true ↦ λ none. cc
-      | false ↦ λ none. entry-none id es none
-    ] absent
-
-started-last : (id : ℕ) (v : TaskRow) (cache : LruCache ℕ TaskRow) → row_of id cache.entries ≡ None
-    → length cache.entries + 1 ≤ cache.cap → demoted (nat_eq id) (put_entries nat_eq cache id v) ≡ cache.entries ++ (id, v) ∷ []
-started-last id v cache absent fits =
-    let few : length cache.entries ≤ cache.cap - 1 = omega arith in
-    let put : put_entries nat_eq cache id v ≡ (id, v) ∷ cache.entries =
-    rw (entry-none id cache.entries absent) (ap (λ es. (id, v) ∷ es) (take_all (cache.cap - 1) cache.entries few)) in
-    rw (put, itself id) refl
-
-pub started-after : (id : ℕ) (v : TaskRow) (cache put new : LruCache ℕ TaskRow) → row_of id cache.entries ≡ None
-    → length cache.entries + 1 ≤ cache.cap → put ≡ lru_cache (put_entries nat_eq cache id v) cache.cap → new ≡ lru_cache (demoted (nat_eq id) put.entries) put.cap
-    → (new.entries ≡ cache.entries ++ (id, v) ∷ []) × (new.cap ≡ cache.cap)
-started-after id v cache put new absent fits at_first then = (
-  ap (λ (l : LruCache ℕ TaskRow). l.entries) then
-      ∙ ap (λ (l : LruCache ℕ TaskRow). demoted (nat_eq id) l.entries) at_first
-      ∙ started-last id v cache absent fits,
-  ap (λ (l : LruCache ℕ TaskRow). l.cap) then ∙ ap (λ (l : LruCache ℕ TaskRow). l.cap) at_first,
-)
-
 keys-push : (es : List (ℕ × TaskRow)) (e : ℕ × TaskRow) → keys_of (es ++ e ∷ []) ≡ keys_of es ++ e.0 ∷ []
 keys-push [] e = refl
 keys-push (x ∷ es) e = ap (λ (ks : List ℕ). x.0 ∷ ks) (keys-push es e)
@@ -152,20 +106,6 @@ pub made-started : (made : ℕ) (v : TaskRow) (es : List (ℕ × TaskRow)) → A
 made-started made v [] all = (omega arith, tt)
 made-started made v (e ∷ es) all = let low : e.0 ≤ made = all.0 in (omega (arith, low), made-started made v es all.1)
 
-pub made-removed : (id made : ℕ) (es : List (ℕ × TaskRow)) → AllByRecursion (λ k. k ≤ made) (keys_of es) → AllByRecursion (λ k. k ≤ made) (keys_of (remove_entry (nat_eq id) es))
-made-removed id made [] all = all
-made-removed id made (e ∷ es) all =
-    elim (nat_eq id e.0) as (λ t. AllByRecursion (λ k. k ≤ made) (keys_of (cond t es (e ∷ remove_entry (nat_eq id) es)))) [ true ↦ all.1 | false ↦ (all.0, made-removed id made es all.1) ]
-
--- ---- lending
-
-keys-at : (id : ℕ) (w : TaskRow) (made : ℕ) (es : List (ℕ × TaskRow)) → AllByRecursion (λ k. k ≤ made) (keys_of es) → AllByRecursion (λ k. k ≤ made) (keys_of (set_value (nat_eq id) es w))
-keys-at id w made es all = rw (keys-set_value (nat_eq id) es w) all
-
-pub kept-keys : (id : ℕ) (w : TaskRow) (made cap : ℕ) (es : List (ℕ × TaskRow)) → IsDistinct nat_eq (keys_of es) × (cap ≡ 2 ^ 64 - 1) × AllByRecursion (λ k. k ≤ made) (keys_of es)
-    → IsDistinct nat_eq (keys_of (set_value (nat_eq id) es w)) × (cap ≡ 2 ^ 64 - 1) × AllByRecursion (λ k. k ≤ made) (keys_of (set_value (nat_eq id) es w))
-kept-keys id w made cap es all = (rw (keys-set_value (nat_eq id) es w) all.0, all.1, keys-at id w made es all.2)
-
 pub found-below : (id made : ℕ) (es : List (ℕ × TaskRow)) (v : TaskRow) → row_of id es ≡ Some v → AllByRecursion (λ k. k ≤ made) (keys_of es) → id ≤ made
 found-below id made [] v found all = cc
 found-below id made (e ∷ es) v found all =
@@ -177,6 +117,16 @@ found-below id made (e ∷ es) v found all =
 -- the record of a task in hand is that of its row
 pub hand-past : (row : TaskRow) (hand : Hand) → is_in_hand (Some row) hand ≡ true → row.past ≡ hand.past
 hand-past row hand here = record-same row.past hand.past (and-right (row.steps == hand.steps) _ (and-right row.lent _ here))
+
+-- what is found is below the last id that was given
+pub found-made : (id made : ℕ) (es : List (ℕ × TaskRow)) (r : Option (Bor TaskRow)) → option_copied r ≡ row_of id es → AllByRecursion (λ k. k ≤ made) (keys_of es) → IfSome r (λ _. id ≤ made)
+found-made id made es None found all = tt
+found-made id made es (Some x) found all = found-below id made es x.now (sym found) all
+
+-- a task that is lent does not wait
+pub idle : {A : Type 0} (spare : Option A) (P : A → Type 0) → not (is_some spare) ≡ true → IsSomeAnd spare P → ⊥
+idle None P lent some = some
+idle (Some x) P lent some = false≢true lent
 
 -- ---- results
 

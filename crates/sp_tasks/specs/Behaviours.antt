@@ -1,14 +1,21 @@
 -- What a task and its space tell one another, as the rules of spaces have it. (This project's own.)
 use Rattle.sp_rules.specs.Behaviours as rules
+use Rattle.sp_rules.specs.State as state
 use Rattle.sp_rules.specs.Tasks as tasks
 use Rattle.sp_tasks.specs.declared.behaviour.Outcome.{Outcome}
 use Rattle.sp_tasks.specs.declared.behaviour.Outcome.TheVariants as outcome
 use Rattle.sp_tasks.specs.declared.behaviour.Op.{Op}
 use Rattle.sp_tasks.specs.declared.behaviour.Op.TheVariants as op
+use Rattle.sp_tasks.specs.declared.origin.Origin.{Origin}
+use Rattle.sp_tasks.specs.declared.origin.Origin.TheVariants as origin
 use Rattle.sp_tasks.specs.declared.behaviour.Reply.{Reply}
 use Rattle.sp_tasks.specs.declared.behaviour.Reply.TheVariants as reply
 use Rattle.sp_tasks.specs.declared.behaviour.Stand.{Stand}
 use Rattle.sp_tasks.specs.declared.behaviour.Stand.TheVariants as stand
+
+abbrev pub origin_of : Origin → state.Origin
+origin_of origin.Root = state.OfRoot
+origin_of (origin.Call conn number) = state.OfCall conn number
 
 abbrev pub outcome_of : Outcome → rules.Outcome
 outcome_of (outcome.Returned value) = rules.Returned value

@@ -1,5 +1,7 @@
 pub mod Behaviours
+pub mod Least
 pub mod Recorded
 pub mod Records
 pub mod Rows
 pub mod Same
+pub mod Tables

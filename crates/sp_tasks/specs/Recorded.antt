@@ -1,5 +1,5 @@
 -- What is recorded of a living task. (This project's own.)
-use Rattle.std.specs.Prelude.{ℕ, false, List, [], ◌∷◌, ◌++◌}
+use Rattle.std.specs.Prelude.{ℕ, Bool, false, true, List, [], ◌∷◌, ◌++◌}
 use Rattle.sp_rules.specs.Behaviours.{Reply}
 use Rattle.sp_rules.specs.State as rules
 
@@ -8,6 +8,19 @@ pub record Recorded : Type 0 where
   pub began : rules.Beginning
   pub given : List rules.Given
 
--- a reply to an operation on the store, after this number of the task's own instructions
+-- what is recorded of a task, and for how many more replies its record has room
+pub record RecordedRoom : Type 0 where
+  pub past : Recorded
+  pub room : ℕ
+
+-- a reply, after this number of the task's own instructions, for which it lent its fuel or not
+abbrev pub with_entry : ℕ → Bool → Reply → Recorded → Recorded
+with_entry steps lent reply past = record past { given = past.given ++ record { steps = steps; lent = lent; reply = reply } ∷ [] }
+
+-- a reply to an operation on the store
 abbrev pub with_given : ℕ → Reply → Recorded → Recorded
-with_given steps reply past = record past { given = past.given ++ record { steps = steps; lent = false; reply = reply } ∷ [] }
+with_given steps reply past = with_entry steps false reply past
+
+-- a reply to a call
+abbrev pub with_answer : ℕ → Reply → Recorded → Recorded
+with_answer steps reply past = with_entry steps true reply past

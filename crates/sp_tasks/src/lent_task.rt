@@ -1,44 +1,47 @@
 //! A task in hand.
 
-ghost use Rattle.std.specs.Prelude.{◌≡◌, ◌+◌, ◌^◌, ◌<◌, ◌≤◌, OnOk, OnErr};
+ghost use Rattle.std.specs.Prelude.{◌≡◌, ◌+◌, ◌^◌, ◌<◌, ◌≤◌, true, false, OnOk, OnErr};
 ghost use Rattle.sp_tasks.specs.Behaviours.{reply_of};
-ghost use Rattle.sp_tasks.specs.Rows.{replied_hand};
+ghost use Rattle.sp_tasks.specs.Rows.{replied_hand, roomy_hand};
 
 use crate::{Record, Reply};
 use std::alloc::AllocError;
 use std::marker::Model;
 
 /// A task that a core lends, beside its machine: its id, its record and its own instructions as it was
-/// lent, and the instructions that its machine made since.
+/// lent, the instructions that its machine made since, and whether its record has room for the reply to
+/// its next call.
 #[derive(Debug, Drop)]
 pub struct LentTask {
     id: u64,
     past: Record,
     steps: u64,
     made: u64,
+    room: bool,
 }
 
 impl Model for LentTask {
-    ghost use Rattle.std.specs.Prelude.{◌+◌, ◌^◌, ◌<◌};
+    ghost use Rattle.std.specs.Prelude.{◌≡◌, ◌+◌, ◌^◌, ◌<◌, true};
     ghost use Rattle.sp_tasks.specs.Rows.{Hand};
 
     ghost Value = { Hand };
 
-    ghost view = { λ task. record { id = task.id; past = task.past; steps = task.steps; made = task.made } };
+    ghost view = { λ task. record { id = task.id; past = task.past.past; steps = task.steps; made = task.made; room = task.room } };
 
-    ghost invariant = { λ task. task.steps + task.made < 2 ^ 64 };
+    ghost invariant = { λ task. (task.steps + task.made < 2 ^ 64) × (task.room ≡ true → 0 < task.past.room) };
 }
 
 impl LentTask {
     // The task of this id and record, after this number of instructions since its last reply.
     pub(crate) fn new(id: u64, past: Record, steps: u64) -> LentTask
-        ensures { result ≡ record { id = id; past = past; steps = steps; made = 0 } }
+        ensures { result ≡ record { id = id; past = past.past; steps = steps; made = 0; room = false } }
     {
         LentTask {
             id,
             past,
             steps,
             made: 0,
+            room: false,
         }
     }
 
@@ -51,7 +54,7 @@ impl LentTask {
 
     /// Its record, as it was lent or as the last reply left it.
     pub fn record(&self) -> &Record
-        ensures { result.now ≡ self.now.past }
+        ensures { result.now.past ≡ self.now.past }
     {
         &self.past
     }
@@ -79,27 +82,40 @@ impl LentTask {
         self.made += made;
     }
 
-    // Its record.
+    // Its record, which has room for a reply if the task has.
     pub(crate) fn into_record(self) -> Record
-        ensures { result ≡ self.past }
+        ensures past { result.past ≡ self.past }
+        ensures room { self.room ≡ true → 0 < result.room }
     {
         let LentTask {
             id: _,
             past,
             steps: _,
             made: _,
+            room: _,
         } = self;
         past
     }
 
-    // Enters a reply to an operation on the store. At out of memory nothing happens.
-    pub(crate) fn enter(&mut self, reply: Reply) -> Result<(), AllocError>
-        ensures ok { OnOk result (self.new ≡ replied_hand (reply_of reply) self.old) }
+    // Makes room for the reply to its next call. At out of memory nothing happens.
+    pub(crate) fn reserve(&mut self) -> Result<(), AllocError>
+        ensures ok { OnOk result (self.new ≡ roomy_hand self.old) }
         ensures err { OnErr result (self.new ≡ self.old) }
     {
-        self.past.enter(self.steps + self.made, reply)?;
+        self.past.reserve()?;
+        self.room = true;
+        Ok(())
+    }
+
+    // Enters a reply to an operation on the store, for which there is room. It takes no memory.
+    pub(crate) fn enter_reserved(&mut self, reply: Reply)
+        requires { self.old.room ≡ true }
+        ensures { self.new ≡ replied_hand (reply_of reply) self.old }
+    {
+        self.past
+            .enter_reserved(self.steps + self.made, false, reply);
         self.steps = 0;
         self.made = 0;
-        Ok(())
+        self.room = false;
     }
 }

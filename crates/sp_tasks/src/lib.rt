@@ -7,13 +7,18 @@
 pub use behaviour::{Op, Outcome, Reply, Stand};
 pub use copies::{copy_outcome, copy_reply, copy_value};
 pub use lent_task::LentTask;
+pub use new_task::NewTask;
+pub use origin::Origin;
 pub use record::Record;
 pub use tasks::Tasks;
 
 mod behaviour;
 mod copies;
+mod least;
 mod lent_task;
 mod living;
+mod new_task;
+mod origin;
 mod record;
 mod same;
 mod tasks;

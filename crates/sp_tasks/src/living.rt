@@ -5,33 +5,39 @@ ghost use Rattle.std.specs.List.{list_all, list_any};
 ghost use Rattle.std.specs.Str.{bytes_eq};
 ghost use Rattle.sp_rules.specs.References.{is_id, is_reference_in, reference_of, references_in, references_of, with_references};
 ghost use Rattle.sp_rules.specs.Refusals.{result_of};
-ghost use Rattle.sp_tasks.specs.Behaviours.{op_of, outcome_of, reply_of};
-ghost use Rattle.sp_tasks.specs.Rows.{back_row, hand_of, is_in_hand, lent_row, replied_hand, replied_row, row_holds, row_holds_op, started_row, value_given, with_gained};
+ghost use Rattle.sp_tasks.specs.Behaviours.{op_of, origin_of, outcome_of, reply_of};
+ghost use Rattle.sp_tasks.specs.Rows.{answered_row, back_row, hand_of, is_in_hand, is_ready, lent_row, parked_row, replied_hand, replied_row, roomy_hand, roomy_row, row_holds, row_holds_op, started_row, value_given, with_gained};
 
-use crate::{LentTask, Op, Outcome, Record, Reply};
+use crate::{LentTask, Op, Origin, Outcome, Record, Reply};
 use space_ids::{ObjId, Ref, Uuid, Value};
 use std::alloc::{AllocError, Global};
 use std::marker::Model;
 
-/// A living task: the references that it holds, each once, its record, and its own instructions since
-/// the last reply. While it is not lent, a second record waits to be lent with it.
+/// A living task: how it began, the references that it holds, each once, its record, and its own
+/// instructions since the last reply. While it is not lent, a second record waits to be lent with it. A
+/// task that waits for the reply to a call has room for it in both records and among its references.
 #[derive(Debug, Drop)]
 pub(crate) struct LivingTask {
+    origin: Origin,
+    waits: bool,
     held: Vec<Ref>,
     past: Record,
     steps: u64,
     spare: Option<Record>,
+    room: bool,
 }
 
 impl Model for LivingTask {
-    ghost use Rattle.std.specs.Prelude.{◌≡◌, IfSome, is_some, not};
+    ghost use Rattle.std.specs.Prelude.{◌≡◌, ◌<◌, IfSome, IsSomeAnd, is_some, not, true, vec_len};
+    ghost use Rattle.std.specs.Vec.{vec_capacity};
+    ghost use Rattle.sp_tasks.specs.Behaviours.{origin_of};
     ghost use Rattle.sp_tasks.specs.Rows.{TaskRow};
 
     ghost Value = { TaskRow };
 
-    ghost view = { λ task. record { held = task.held.items; past = task.past; steps = task.steps; lent = not (is_some task.spare) } };
+    ghost view = { λ task. record { origin = origin_of task.origin; waits = task.waits; held = task.held.items; past = task.past.past; steps = task.steps; lent = not (is_some task.spare); room = task.room } };
 
-    ghost invariant = { λ task. IfSome task.spare (λ past. past ≡ task.past) };
+    ghost invariant = { λ task. IfSome task.spare (λ spare. spare.past ≡ task.past.past) × (task.room ≡ true → (0 < task.past.room) × (vec_len task.held < vec_capacity task.held)) × (task.waits ≡ true → (task.room ≡ true) × IsSomeAnd task.spare (λ spare. 0 < spare.room)) };
 }
 
 impl LivingTask {
@@ -39,21 +45,32 @@ impl LivingTask {
     // once, in the order in which they come.
     pub(crate) fn start(
         alloc: Global,
+        origin: Origin,
         method: u32,
         arguments: &[Value],
         fuel: u64,
     ) -> Result<LivingTask, AllocError>
-        ensures { IfOk result (λ task. task ≡ started_row method arguments.now fuel) }
+        ensures { IfOk result (λ task. task ≡ started_row (origin_of origin) method arguments.now fuel) }
     {
         let held = held_by(alloc, arguments)?;
         let past = Record::start(alloc, method, arguments, fuel)?;
         let spare = Record::start(alloc, method, arguments, fuel)?;
         Ok(LivingTask {
+            origin,
+            waits: false,
             held,
             past,
             steps: 0,
             spare: Some(spare),
+            room: false,
         })
+    }
+
+    // How it began.
+    pub(crate) fn origin(&self) -> Origin
+        ensures { origin_of result ≡ self.now.origin }
+    {
+        self.origin
     }
 
     // The references that it holds.
@@ -93,17 +110,28 @@ impl LivingTask {
         }
     }
 
-    pub(crate) fn is_lent(&self) -> bool
-        ensures { result ≡ self.now.lent }
+    // Whether it waits for the reply to a call.
+    pub(crate) fn waits(&self) -> bool
+        ensures { result ≡ self.now.waits }
     {
-        self.spare.is_none()
+        self.waits
     }
 
-    // Lends the task, under its id, if it is not lent.
+    // Whether it may go on: it is not lent, and does not wait.
+    pub(crate) fn is_ready(&self) -> bool
+        ensures { result ≡ is_ready self.now }
+    {
+        !(self.waits || self.spare.is_none())
+    }
+
+    // Lends the task, under its id, if it may go on.
     pub(crate) fn lend(&mut self, id: u64) -> Option<LentTask>
         ensures task { result ≡ hand_of id (Some self.old) }
         ensures row { self.new ≡ lent_row self.old }
     {
+        if self.waits {
+            return None;
+        }
         match self.spare.take() {
             Some(past) => Some(LentTask::new(id, past, self.steps)),
             None => None,
@@ -126,6 +154,33 @@ impl LivingTask {
         self.spare = Some(task.into_record());
     }
 
+    // Takes the task back, which waits for the reply to its call. Both have room for it.
+    pub(crate) fn park(&mut self, task: LentTask)
+        requires lent { is_in_hand (Some self.old) task ≡ true }
+        requires row { self.old.room ≡ true }
+        requires task { task.room ≡ true }
+        ensures { self.new ≡ parked_row task.made self.old }
+    {
+        let made = task.made();
+        self.spare = Some(task.into_record());
+        self.steps += made;
+        self.waits = true;
+    }
+
+    // Makes room for the reply to the next call of the task in hand. At out of memory nothing happens.
+    pub(crate) fn reserve_answer(&mut self, task: &mut LentTask) -> Result<(), AllocError>
+        ensures row { OnOk result (self.new ≡ roomy_row self.old) }
+        ensures task { OnOk result (task.new ≡ roomy_hand task.old) }
+        ensures err { OnErr result (self.new ≡ self.old) }
+        ensures kept { OnErr result (task.new ≡ task.old) }
+    {
+        self.held.reserve(1)?;
+        self.past.reserve()?;
+        task.reserve()?;
+        self.room = true;
+        Ok(())
+    }
+
     // Gives the task a reply to its operation on the store, of which these are two copies. It holds the
     // reference in it too. At out of memory nothing happens.
     pub(crate) fn reply(
@@ -142,21 +197,34 @@ impl LivingTask {
         ensures kept { OnErr result (task.new ≡ task.old) }
     {
         let gained = gained(&self.held, &reply);
-        self.held.reserve(1)?;
-        self.past.enter(task.steps() + task.made(), reply)?;
-        match task.enter(copy) {
-            Ok(()) => {}
-            Err(fault) => {
-                self.past.take_back();
-                return Err(fault);
-            }
-        }
-        match gained {
-            Some(reference) => self.held.push_reserved(reference),
-            None => {}
-        }
+        self.reserve_answer(task)?;
+        self.past
+            .enter_reserved(task.steps() + task.made(), false, reply);
+        task.enter_reserved(copy);
+        hold(&mut self.held, gained);
         self.steps = 0;
+        self.room = false;
         Ok(())
+    }
+
+    // Gives the task the reply to the call for which it waits, of which these are two copies. It holds
+    // the reference in it too, and may go on. It takes no memory.
+    pub(crate) fn answer_reserved(&mut self, reply: Reply, copy: Reply)
+        requires waits { self.old.waits ≡ true }
+        requires same { copy ≡ reply }
+        ensures { self.new ≡ answered_row (reply_of reply) self.old }
+    {
+        let gained = gained(&self.held, &reply);
+        let Some(mut spare) = self.spare.take() else {
+            unreachable!();
+        };
+        self.past.enter_reserved(self.steps, true, reply);
+        spare.enter_reserved(self.steps, true, copy);
+        self.spare = Some(spare);
+        hold(&mut self.held, gained);
+        self.waits = false;
+        self.steps = 0;
+        self.room = false;
     }
 }
 
@@ -171,6 +239,17 @@ fn gained(held: &[Ref], reply: &Reply) -> Option<Ref>
             fuel: _,
         } if !is_among(held, reference) => Some(*reference),
         _ => None,
+    }
+}
+
+// Adds the reference that is gained, if one is. There is room for it.
+fn hold(held: &mut Vec<Ref>, gained: Option<Ref>)
+    requires { vec_len held.old < vec_capacity held.old }
+    ensures { held.new.items ≡ with_gained held.old.items gained }
+{
+    match gained {
+        Some(reference) => held.push_reserved(reference),
+        None => {}
     }
 }
 

@@ -1,8 +1,8 @@
 //! The record of a living task.
 
-ghost use Rattle.std.specs.Prelude.{◌≡◌, ◌++◌, [], ◌∷◌, false, IfOk, OnOk, OnErr};
+ghost use Rattle.std.specs.Prelude.{◌≡◌, ◌<◌, ◌≤◌, [], IfOk, OnOk};
 ghost use Rattle.sp_tasks.specs.Behaviours.{reply_of};
-ghost use Rattle.sp_tasks.specs.Recorded.{with_given};
+ghost use Rattle.sp_tasks.specs.Recorded.{with_entry};
 ghost use Rattle.sp_tasks.specs.Same.{is_recorded};
 
 use crate::Reply;
@@ -22,7 +22,7 @@ pub struct Record {
     given: Vec<Given>,
 }
 
-/// A reply, and the instructions of the task's own before it. The task lent its fuel for it, or not.
+// A reply, and the instructions of the task's own before it. The task lent its fuel for it, or not.
 #[derive(Debug, Drop)]
 pub(crate) struct Given {
     pub(crate) steps: u64,
@@ -31,13 +31,13 @@ pub(crate) struct Given {
 }
 
 impl Model for Record {
-    ghost use Rattle.sp_tasks.specs.Recorded.{Recorded};
+    ghost use Rattle.sp_tasks.specs.Recorded.{RecordedRoom};
 
-    ghost Value = { Recorded };
+    ghost Value = { RecordedRoom };
 
-    ghost use Rattle.sp_tasks.specs.Records.{recorded_of};
+    ghost use Rattle.sp_tasks.specs.Records.{room_of};
 
-    ghost view = { recorded_of };
+    ghost view = { room_of };
 }
 
 impl Record {
@@ -48,7 +48,7 @@ impl Record {
         arguments: &[Value],
         fuel: u64,
     ) -> Result<Record, AllocError>
-        ensures { IfOk result (λ past. past ≡ record { began = record { method = method; arguments = arguments.now; fuel = fuel }; given = [] }) }
+        ensures { IfOk result (λ started. started.past ≡ record { began = record { method = method; arguments = arguments.now; fuel = fuel }; given = [] }) }
     {
         Ok(Record {
             method,
@@ -60,7 +60,7 @@ impl Record {
 
     /// Whether the two records are the same.
     pub fn is_same(&self, other: &Record) -> bool
-        ensures { result ≡ is_recorded self.now other.now }
+        ensures { result ≡ is_recorded self.now.past other.now.past }
     {
         (self.method == other.method
             && (self.fuel == other.fuel
@@ -68,24 +68,21 @@ impl Record {
             && same_givens(&self.given, &other.given)
     }
 
-    // Enters a reply to an operation on the store, and how many instructions came before it. If
-    // memory runs out, nothing changes.
-    pub(crate) fn enter(&mut self, steps: u64, reply: Reply) -> Result<(), AllocError>
-        ensures ok { OnOk result (self.new ≡ with_given steps (reply_of reply) self.old) }
-        ensures err { OnErr result (self.new ≡ self.old) }
+    // Makes room for one more reply. What is recorded stays, at out of memory too.
+    pub(crate) fn reserve(&mut self) -> Result<(), AllocError>
+        ensures ok { OnOk result (0 < self.new.room) }
+        ensures past { self.new.past ≡ self.old.past }
+        ensures room { self.old.room ≤ self.new.room }
     {
-        self.given.push(Given {
-            steps,
-            lent: false,
-            reply,
-        })?;
-        Ok(())
+        self.given.reserve(1)
     }
 
-    // Takes the last entry out.
-    pub(crate) fn take_back(&mut self)
-        ensures { (past : _) (steps : _) (reply : _) → self.old ≡ with_given steps reply past → self.new ≡ past }
+    // Enters a reply, how many instructions came before it, and whether the task lent its fuel for it.
+    // It takes no memory.
+    pub(crate) fn enter_reserved(&mut self, steps: u64, lent: bool, reply: Reply)
+        requires { 0 < self.old.room }
+        ensures { self.new.past ≡ with_entry steps lent (reply_of reply) self.old.past }
     {
-        let _ = self.given.pop();
+        self.given.push_reserved(Given { steps, lent, reply });
     }
 }

@@ -18,12 +18,12 @@ returns c = λ g same most. record {
   names = c.in_ok-new.ensures;
   entries = c.new-3.ensures;
   leases = c.new-4.ensures;
-  tasks_made = ap (λ (t : TaskTable). t.made) c.in_ok-new-2.ensures;
+  tasks_made = ap (λ (t : TaskTable). t.made) c.new-5.ensures;
   fuel = sym most;
-  tasks = ap (λ (t : TaskTable). map seen_row t.rows) c.in_ok-new-2.ensures;
+  tasks = ap (λ (t : TaskTable). map seen_row t.rows) c.new-5.ensures;
   runs = tt;
   calls_made = refl;
-  results = ap (λ (rows : List (ℕ × Option Value)). map kept rows) c.in_ok-new-3.ensures;
-  ended = subst (AllOf (λ (row : ℕ × Option Value). (row.0 ≤ c.in_ok-new-2.field-0.made) × (row_of row.0 c.in_ok-new-2.field-0.rows ≡ None))) (sym c.in_ok-new-3.ensures) tt;
+  results = ap (λ (rows : List (ℕ × Option Value)). map kept rows) c.in_ok-new-2.ensures;
+  ended = subst (AllOf (λ (row : ℕ × Option Value). (row.0 ≤ c.new-5.result.made) × (row_of row.0 c.new-5.result.rows ≡ None))) (sym c.in_ok-new-2.ensures) tt;
   alone = record { connections = refl; requests = refl; dialling = refl; parked = refl; held = refl; fresh = refl; notes = refl; ready = tt; roots = tt; tasks = tt; fields = tt; results = tt };
 }

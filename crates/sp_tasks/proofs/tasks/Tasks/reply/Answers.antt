@@ -1,19 +1,49 @@
-use Rattle.std.proofs.Common.{nat_eq, sym, ◌∙◌}
-use Rattle.std.proofs.lemmas.Map.Steps.{set_value_same}
+use Rattle.std.proofs.Common.{◌≡◌, Some, sym, ap, ◌∙◌, Option, None, true≢false}
 use Rattle.sp_tasks.specs.Behaviours.{reply_of}
-use Rattle.sp_tasks.specs.Rows.{replied_row}
-use Rattle.sp_tasks.proofs.RowLemmas.{kept-keys, on-err, on-ok, written}
+use Rattle.sp_tasks.specs.Rows.{TaskRow, replied_row, row_of, is_in_hand}
+use Rattle.sp_tasks.specs.Tables.{ready_number}
+use Rattle.rising_map.proofs.RowLemmas.{entry-at, none-from}
+use Rattle.sp_tasks.proofs.RowLemmas.{on-err, on-ok}
+use Rattle.sp_tasks.proofs.TableLemmas.{in-view, out-of-view, either-way, kept, row-changed, row-kept}
 use Rattle.sp_tasks.proofs.tasks.Tasks.reply.Goals as goal
 
 pub invariant_of-self : goal.invariant_of-self
-invariant_of-self c = kept-keys c.id.result c.reply.new.self c.self.inside.made c.self.inside.rows.cap c.self.inside.rows.entries c.self.invariant
+invariant_of-self c =
+    let m = c.self.inside.rows in
+    let id = c.id.result in
+    let v = c.index_mut.result.now in
+    let entry = entry-at id m.entries c.in-Some.index v (sym c.in-Some.ensures.index) c.index_mut.ensures.value in
+    kept _ _ _ m.entries c.self.inside.ready id c.in-Some.index v c.reply.new.self entry
+    (either-way c.reply.result _ _ _ c.reply.ensures.row c.reply.ensures.err (λ e. ap (λ (x : TaskRow). ready_number (id, x)) e) (λ e. ap (λ (x : TaskRow). ready_number (id, x)) e)) c.self.invariant
 
 pub returns-clause-rows : goal.returns-clause-rows
 returns-clause-rows c =
-    on-ok c.reply.result _ _ c.reply.ensures.row (λ e. rw (e, ← c.self.view_is, ← c.id.ensures)
-    (let w = written c.id.result (replied_row c.args.task.now.made (reply_of c.args.reply)) _ c.self.inside.rows.entries (sym c.in-Some.ensures.value) in λ j. record { made = c.self.inside.made; rows = w j }))
+    let m = c.self.inside.rows in
+    let id = c.id.result in
+    let v = c.index_mut.result.now in
+    let entry = entry-at id m.entries c.in-Some.index v (sym c.in-Some.ensures.index) c.index_mut.ensures.value in
+    let found : row_of id m.entries ≡ Some v = sym c.in-Some.ensures.value ∙ c.index_mut.ensures.value in
+    on-ok c.reply.result _ _ c.reply.ensures.row (λ same. rw (← c.self.view_is, ← c.id.ensures)
+    (let e = row-changed m id c.in-Some.index v c.reply.new.self (replied_row c.args.task.now.made (reply_of c.args.reply)) c.self.invariant.distinct entry found same in λ j. record { made = c.self.inside.made; room = c.self.inside.room; rows = e j }))
 
 pub returns-clause-err : goal.returns-clause-err
 returns-clause-err c =
-    on-err c.reply.result _ _ c.reply.ensures.err (λ e. rw (e)
-    ((let w = set_value_same (nat_eq c.id.result) c.self.inside.rows.entries _ (sym c.in-Some.ensures.value) in λ j. record { made = c.self.inside.made; rows = w j }) ∙ c.self.view_is))
+    let m = c.self.inside.rows in
+    let id = c.id.result in
+    let v = c.index_mut.result.now in
+    let entry = entry-at id m.entries c.in-Some.index v (sym c.in-Some.ensures.index) c.index_mut.ensures.value in
+    let found : row_of id m.entries ≡ Some v = sym c.in-Some.ensures.value ∙ c.index_mut.ensures.value in
+    on-err c.reply.result _ _ c.reply.ensures.err (λ same.
+    (let e = row-kept m id c.in-Some.index v c.reply.new.self c.self.invariant.distinct entry found same in λ j. record { made = c.self.inside.made; room = c.self.inside.room; rows = e j }) ∙ c.self.view_is)
+
+pub unreachable-requires : goal.unreachable-requires
+unreachable-requires c =
+    let none = out-of-view c.id.result c.self.inside.rows.entries c.self.invariant.distinct (none-from _ c.in-None.ensures.found) in
+    let seen : row_of c.args.task.now.id c.args.self.now.rows ≡ None = rw (← c.self.view_is, ← c.id.ensures) none in true≢false (sym c.requires.lent ∙ ap (λ (o : Option TaskRow). is_in_hand o c.args.task.now) seen)
+
+pub reply-requires-clause-lent : goal.reply-requires-clause-lent
+reply-requires-clause-lent c =
+    let m = c.self.inside.rows in
+    let v = c.index_mut.result.now in
+    let found : row_of c.id.result m.entries ≡ Some v = sym c.in-Some.ensures.value ∙ c.index_mut.ensures.value in
+    let seen : row_of c.args.task.now.id c.args.self.now.rows ≡ Some v = rw (← c.self.view_is, ← c.id.ensures) (in-view c.id.result m.entries v c.self.invariant.distinct found) in ap (λ (o : Option TaskRow). is_in_hand o c.args.task.now) (sym seen) ∙ c.requires.lent

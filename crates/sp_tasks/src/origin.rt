@@ -1,0 +1,10 @@
+//! How a task began.
+
+/// How a task began: a root started it, or a call of this number that came on this connection.
+#[derive(Clone, Copy, Debug, PartialEq, Eq)]
+pub enum Origin {
+    /// A root of the space.
+    Root,
+    /// A call from another space.
+    Call { conn: u64, number: u64 },
+}
