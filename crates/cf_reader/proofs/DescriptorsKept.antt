@@ -8,7 +8,7 @@ use Rattle.std.specs.BTreeMap.{BTreeMap, get, Updates}
 use Rattle.cf_pool.specs.declared.pool.Entry.{Entry}
 use Rattle.cf_pool.specs.Pools.{utf8_at}
 
-same_index : (index other : ℕ) → is_eq (nat_cmp index other) ≡ true → index ≡ other
+pub same_index : (index other : ℕ) → is_eq (nat_cmp index other) ≡ true → index ≡ other
 same_index index other is = by (nat_cmp index other) refl is
   where
     by : (r : Ordering) → r ≡ nat_cmp index other → is_eq r ≡ true → index ≡ other

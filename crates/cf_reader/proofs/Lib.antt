@@ -7,3 +7,4 @@ pub mod ClassOrder
 pub mod SpellsLaws
 pub mod WellFormedLaws
 pub mod DescriptorsKept
+pub mod NamesKept

@@ -3,6 +3,7 @@ pub mod Profile
 pub mod Checks
 pub mod Seen
 pub mod Descriptors
+pub mod MemberNames
 pub mod Builds
 pub mod Says
 pub mod Spells

@@ -1,8 +1,8 @@
 -- The table by which a second member of one name and descriptor is found: it has those of the members before. (This project's own.)
-use Rattle.std.specs.Prelude.{◌≡◌, ℕ, Bool, ◌&&◌, List, Some}
+use Rattle.std.specs.Prelude.{◌≡◌, ℕ, Bool, ◌&&◌, List, Some, if◌then◌else◌, length, nat_le}
 use Rattle.std.specs.List.{list_any}
 use Rattle.std.specs.declared.cmp.Ordering.{Ordering}
-use Rattle.std.specs.Ordering.{nat_cmp, ordering_then}
+use Rattle.std.specs.Ordering.{bool_cmp, nat_cmp, ordering_then}
 use Rattle.std.specs.Cmp.Lexicographic.{slice_cmp}
 use Rattle.std.specs.BTreeSet.{contains}
 use denote.Ref.{Bor}
@@ -12,18 +12,28 @@ use Rattle.cf_layout.specs.declared.items.Member.{Member}
 use Rattle.cf_reader.specs.declared.seen.Seen.{Seen}
 use Rattle.cf_reader.specs.Checks.{same_text}
 
--- a key: a descriptor and a name
+-- a key: two texts, and whether the first one is the name and the second one the descriptor, or the other way round
 abbrev pub Key : Type 0
-Key = Bor (List ℕ) × Bor (List ℕ)
+Key = (Bor (List ℕ) × Bor (List ℕ)) × Bool
 
 abbrev pub key_cmp : Key → Key → Ordering
-key_cmp a b = ordering_then (slice_cmp nat_cmp a.0.now b.0.now) (slice_cmp nat_cmp a.1.now b.1.now)
+key_cmp a b = ordering_then (ordering_then (slice_cmp nat_cmp a.0.0.now b.0.0.now) (slice_cmp nat_cmp a.0.1.now b.0.1.now)) (bool_cmp a.1 b.1)
+
+abbrev pub name_of : Key → List ℕ
+name_of key = if key.1 then key.0.0.now else key.0.1.now
+
+abbrev pub descriptor_of : Key → List ℕ
+descriptor_of key = if key.1 then key.0.1.now else key.0.0.now
+
+-- the first text is the shorter one: the name, if both are as long
+abbrev pub IsKey : Key → Type 0
+IsKey key = key.1 ≡ nat_le (length (name_of key)) (length (descriptor_of key))
 
 -- a member has a key's name and descriptor
 abbrev pub is_keyed : List Entry → Key → Member → Bool
 is_keyed pool key member =
-    same_text (Some key.1.now) (utf8_at pool member.name.value) && same_text (Some key.0.now) (utf8_at pool member.descriptor.value)
+    same_text (Some (name_of key)) (utf8_at pool member.name.value) && same_text (Some (descriptor_of key)) (utf8_at pool member.descriptor.value)
 
 -- the table has the keys of these members, and no others
 abbrev pub AreSeen : List Entry → Seen → List Member → Type 0
-AreSeen pool seen members = (key : Key) → contains key_cmp seen.keys key ≡ list_any (is_keyed pool key) members
+AreSeen pool seen members = (key : Key) → IsKey key → contains key_cmp seen.keys key ≡ list_any (is_keyed pool key) members

@@ -18,6 +18,7 @@ mod class_file;
 mod descriptors;
 mod flags;
 mod members;
+mod names;
 mod profile;
 mod read;
 mod rules;

@@ -1,29 +1,27 @@
 //! What is demanded of fields and methods (JVMS 4.5, 4.6).
 
-ghost use Rattle.std.specs.Prelude.{◌≡◌, ◌≤◌, Some};
+ghost use Rattle.std.specs.Prelude.{◌≡◌, ◌≤◌, OnOk, Some};
 ghost use Rattle.cf_text.specs.Reading.{Gives};
 ghost use Rattle.cf_text.specs.Types.{field_descriptor_of};
 ghost use Rattle.cf_text.specs.Demands.{of_each, verdict};
-ghost use Rattle.cf_text.specs.Names.{is_method_name, is_name};
-ghost use Rattle.cf_pool.specs.Pools.{named, utf8_at};
+ghost use Rattle.cf_pool.specs.Pools.{utf8_at};
 ghost use Rattle.cf_layout.specs.ReadInsides.{insides_of};
 ghost use Rattle.cf_reader.specs.Descriptors.{AreFieldTypes, AreMethodTypes};
-ghost use Rattle.cf_reader.specs.Checks.{are_few, field_demands, field_demands_if, field_descriptor_demands, field_flag_demands, field_known, field_type_demands, flag_demands, is_initializer, is_int_read, is_int_text, method_demands, method_demands_if, method_descriptor_demands, method_flag_demands, method_name_demands, method_type_demands, words_of};
+ghost use Rattle.cf_reader.specs.Checks.{are_few, field_demands, field_demands_if, field_descriptor_demands, field_flag_demands, field_known, field_type_demands, flag_demands, is_initializer, is_int_read, is_int_text, method_demands, method_demands_if, method_descriptor_demands, method_flag_demands, method_type_demands, words_of};
+ghost use Rattle.cf_reader.specs.MemberNames.{AreFieldNames, AreMethodNames};
 
 use super::Flags;
 use super::attributes::{CODE, CONSTANT_VALUE, Known, check_method_attributes, first_named};
 use super::descriptors::{FieldTypes, MethodTypes};
+use super::names::{FieldNames, MethodNames};
 use super::profile::{
     field_flags_in_profile, is_int_type, is_profile_type, method_flags_in_profile,
-    method_name_in_profile, method_type_in_profile,
+    method_type_in_profile,
 };
 use super::rules::{field_flags_fit, method_flags_fit};
 use super::seen::Seen;
 use cf_layout::{Item, Member};
-use cf_pool::{
-    ElementType, FieldType, INITIALIZER, Pool, ReadFault, Rule, Text, demand, is_method_name,
-    is_name,
-};
+use cf_pool::{ElementType, FieldType, INITIALIZER, Pool, ReadFault, Rule, Text, demand};
 use cf_text::Shared;
 use std::alloc::Global;
 
@@ -102,19 +100,6 @@ fn check_field_flags<'a>(
     check_flags(field.flags.at as usize, fit, is_new, is_in_profile)
 }
 
-#[tactic(auto, unfolding(cf_text::specs::Demands::verdict, cf_pool::specs::Pools::named))]
-fn check_field_name(pool: &Pool, name: Item) -> Result<(), ReadFault>
-    ensures { result ≡ verdict (named name.at (utf8_at pool.now name.value) is_name) }
-{
-    let Some(text) = pool.utf8(name.value) else {
-        return Err(ReadFault::Broken {
-            rule: Rule::Index,
-            at: name.at as usize,
-        });
-    };
-    demand(is_name(text.as_bytes()), Rule::Utf8, name.at as usize)
-}
-
 #[tactic(auto, unfolding(crate::specs::Checks::field_type_demands, cf_text::specs::Demands::verdict))]
 fn check_field_type<'a>(
     alloc: Global,
@@ -173,17 +158,20 @@ fn check_field<'a>(
     bytes: &[u8],
     pool: &'a Pool,
     known: &mut FieldTypes<'a>,
+    names: &mut FieldNames,
     class: Flags,
     is_new: bool,
     field: &Member,
 ) -> Result<(), ReadFault>
     requires known { AreFieldTypes pool.now known.old }
+    requires names { AreFieldNames pool.now names.old }
     ensures known { AreFieldTypes pool.now known.new }
+    ensures names { OnOk result (AreFieldNames pool.now names.new) }
     ensures value { Gives (verdict (field_demands_if (insides_of bytes.now) pool.now class.bits
         is_new field.now)) result }
 {
     check_field_flags(alloc, pool, known, class, is_new, field)?;
-    check_field_name(pool, field.name)?;
+    names.check(pool, field.name)?;
     check_field_descriptor(alloc, pool, known, field.descriptor)?;
     let known = field_known(Flags {
         bits: field.flags.value,
@@ -204,9 +192,12 @@ pub(crate) fn check_each_field(
 {
     let mut seen = Seen::new(alloc);
     let mut known = FieldTypes::new(alloc);
+    let mut names = FieldNames::new(alloc);
     for field in fields {
         let is_new = seen.add(pool, field)?;
-        check_field(alloc, bytes, pool, &mut known, class, is_new, field)?;
+        check_field(
+            alloc, bytes, pool, &mut known, &mut names, class, is_new, field,
+        )?;
     }
     Ok(())
 }
@@ -237,28 +228,6 @@ fn check_method_flags(
     let fit = method_flags_fit(class, has_code, is_initializer(pool, method.name), flags);
     let is_in_profile = method_flags_in_profile(class, flags);
     check_flags(method.flags.at as usize, fit, is_new, is_in_profile)
-}
-
-#[tactic(auto, unfolding(crate::specs::Checks::method_name_demands, cf_text::specs::Demands::verdict, cf_pool::specs::Pools::named))]
-fn check_method_name(pool: &Pool, name: Item) -> Result<(), ReadFault>
-    ensures { result ≡ verdict (method_name_demands pool.now name) }
-{
-    let Some(text) = pool.utf8(name.value) else {
-        return Err(ReadFault::Broken {
-            rule: Rule::Index,
-            at: name.at as usize,
-        });
-    };
-    demand(
-        is_method_name(text.as_bytes()),
-        Rule::Utf8,
-        name.at as usize,
-    )?;
-    demand(
-        method_name_in_profile(text),
-        Rule::OutOfProfile,
-        name.at as usize,
-    )
 }
 
 // How many words a value takes.
@@ -356,17 +325,20 @@ fn check_method<'a>(
     bytes: &[u8],
     pool: &'a Pool,
     known: &mut MethodTypes<'a>,
+    names: &mut MethodNames,
     class: Flags,
     is_new: bool,
     method: &Member,
 ) -> Result<(), ReadFault>
     requires known { AreMethodTypes pool.now known.old }
+    requires names { AreMethodNames pool.now names.old }
     ensures known { AreMethodTypes pool.now known.new }
+    ensures names { OnOk result (AreMethodNames pool.now names.new) }
     ensures value { Gives (verdict (method_demands_if (insides_of bytes.now) pool.now class.bits
         is_new method.now)) result }
 {
     check_method_flags(pool, class, is_new, method)?;
-    check_method_name(pool, method.name)?;
+    names.check(pool, method.name)?;
     check_method_descriptor(alloc, pool, known, method)?;
     check_method_attributes(alloc, bytes, pool, method.attributes.as_slice())
 }
@@ -384,9 +356,12 @@ pub(crate) fn check_each_method(
 {
     let mut seen = Seen::new(alloc);
     let mut known = MethodTypes::new(alloc);
+    let mut names = MethodNames::new(alloc);
     for method in methods {
         let is_new = seen.add(pool, method)?;
-        check_method(alloc, bytes, pool, &mut known, class, is_new, method)?;
+        check_method(
+            alloc, bytes, pool, &mut known, &mut names, class, is_new, method,
+        )?;
     }
     Ok(())
 }

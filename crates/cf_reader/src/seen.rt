@@ -1,20 +1,34 @@
-//! Which members stood before: a table of their descriptors and names.
+//! Which members stood before: a table of their names and descriptors.
 
 ghost use Rattle.std.specs.Prelude.{◌≡◌, ◌∷◌, ◌++◌, [], List, IfErr, IfOk, OnOk, not};
 ghost use Rattle.cf_pool.specs.declared.pool.Entry.{Entry};
 ghost use Rattle.cf_text.specs.declared.fault.ReadFault.TheVariants.{Memory};
 ghost use Rattle.cf_reader.specs.Checks.{occurs};
-ghost use Rattle.cf_reader.specs.Seen.{AreSeen};
+ghost use Rattle.cf_reader.specs.Seen.{descriptor_of, name_of, AreSeen, IsKey};
 
 use cf_layout::Member;
 use cf_pool::{Pool, ReadFault};
 use std::alloc::Global;
 use std::collections::BTreeSet;
 
-/// The descriptors and names of members so far.
+/// The names and descriptors of members so far. Of a name and a descriptor the shorter one is compared first:
+/// so a long text that many members share is compared only if the other one is the same too.
 #[derive(Drop)]
 pub(crate) struct Seen<'a> {
-    keys: BTreeSet<(&'a [u8], &'a [u8])>,
+    keys: BTreeSet<((&'a [u8], &'a [u8]), bool)>,
+}
+
+// The shorter one of a name and a descriptor, the longer one, and whether the name is the shorter one.
+fn key<'a>(name: &'a [u8], descriptor: &'a [u8]) -> ((&'a [u8], &'a [u8]), bool)
+    ensures name { name_of result ≡ name.now }
+    ensures descriptor { descriptor_of result ≡ descriptor.now }
+    ensures key { IsKey result }
+{
+    if name.len() <= descriptor.len() {
+        ((name, descriptor), true)
+    } else {
+        ((descriptor, name), false)
+    }
 }
 
 impl<'a> Seen<'a> {
@@ -40,7 +54,10 @@ impl<'a> Seen<'a> {
         let Some(name) = pool.utf8(member.name.value) else {
             return Ok(true);
         };
-        match self.keys.insert((descriptor.as_bytes(), name.as_bytes())) {
+        match self
+            .keys
+            .insert(key(name.as_bytes(), descriptor.as_bytes()))
+        {
             Ok(is_new) => Ok(is_new),
             Err(_) => Err(ReadFault::Memory),
         }

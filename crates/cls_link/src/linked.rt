@@ -8,7 +8,7 @@ use super::fields::{count_all, slot_in};
 use super::linking::link_class;
 use super::methods::selected;
 use super::{FieldSlot, LinkFault, LinkedMethod, MemberIndex, MethodId, Selection};
-use cls_resolve::KnownMembers;
+use cls_resolve::KnownEntries;
 use cls_search::{FieldIndex, MethodIndex, find_field, find_method, own_method};
 use cls_set::{ClassId, ClassSet, Method};
 use std::alloc::Global;
@@ -232,7 +232,7 @@ pub fn link(alloc: Global, set: ClassSet) -> Result<Linked, LinkFault>
     let field_counts = count_all(alloc, &set)?;
     let mut methods = Vec::new(alloc);
     let mut first = Vec::with_capacity(alloc, set.len())?;
-    let mut known = KnownMembers::new(alloc);
+    let mut known = KnownEntries::new(alloc);
     let mut marks = vec![in alloc; false; set.len()]?;
     for number in 0..set.len() {
         first.push(methods.len())?;

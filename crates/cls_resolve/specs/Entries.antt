@@ -10,7 +10,9 @@ use Rattle.cls_set.specs.Classes.{number_of}
 use Rattle.space_ids.specs.declared.ids.ClassId.{ClassId}
 use Rattle.cls_search.specs.FieldSearches.{field_at, ResolvesField}
 use Rattle.cls_search.specs.MethodSearches.{is_initializer, method_in, own_method, Resolves}
-use Rattle.cls_resolve.specs.declared.known.KnownMember.{KnownMember}
+use Rattle.cls_resolve.specs.declared.known.EntryMeaning.{EntryMeaning}
+use Rattle.cls_resolve.specs.declared.known.EntryMeaning.TheVariants as entries
+use Rattle.cls_resolve.specs.declared.known.KnownEntry.{KnownEntry}
 use Rattle.cls_resolve.specs.declared.named.MemberIndex.{MemberIndex}
 use Rattle.cls_resolve.specs.declared.meanings.ClassMeaning.{ClassMeaning}
 use Rattle.cls_resolve.specs.declared.meanings.ClassMeaning.TheVariants as meaning
@@ -109,9 +111,14 @@ IsMemberMeaning classes user index members.OfArray = IsOfArray classes user inde
 IsMemberMeaning classes user index members.OfAbsent = IsOfAbsent classes user index
 IsMemberMeaning classes user index (members.Entry e) = IsMemberEntry classes user index e
 
+-- what an entry means to the instructions that name it
+abbrev pub IsEntryMeaning : List Class → ClassId → ℕ → EntryMeaning → Type 0
+IsEntryMeaning classes user index (entries.Class m) = IsClassMeaning classes user index m
+IsEntryMeaning classes user index (entries.Member e) = IsMemberEntry classes user index e
+
 -- what is kept of entries is what they mean to instructions of the class with which they are kept
-pub record AreKnown (classes : List Class) (entries : List (Option KnownMember)) : Type 0 where
-  pub known : (index : ℕ) (k : KnownMember) → slice_get entries index ≡ Some (Some k) → IsMemberEntry classes k.user index k.entry
+pub record AreKnown (classes : List Class) (kept : List (Option KnownEntry)) : Type 0 where
+  pub known : (index : ℕ) (k : KnownEntry) → slice_get kept index ≡ Some (Some k) → IsEntryMeaning classes k.user index k.meaning
 
 -- ---- what is used
 

@@ -4,7 +4,7 @@
 
 pub use cf_insns::{ClassOperation, CodeRule, FieldOperation, InvokeKind};
 pub use cls_set::{ClassId, ClassSet, Field, Flags, Method, Numbered};
-pub use known::KnownMembers;
+pub use known::KnownEntries;
 pub use meanings::UsedMember;
 pub use members::member_use;
 pub use named::{CastType, MemberIndex};

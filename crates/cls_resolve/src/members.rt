@@ -14,7 +14,7 @@ ghost use Rattle.cls_resolve.specs.References as references;
 
 use super::LinkRule;
 use super::access::flags_of;
-use super::known::KnownMembers;
+use super::known::{EntryMeaning, KnownEntries};
 use super::meanings::{Member, MemberEntry, MemberMeaning, UsedMember, member_meaning};
 use super::references::{Asked, MemberOperation};
 use cf_pool::MemberKind;
@@ -183,7 +183,7 @@ fn known_meaning(
     set: &ClassSet,
     user: ClassId,
     index: u16,
-    known: &mut KnownMembers,
+    known: &mut KnownEntries,
     marks: &mut [bool],
 ) -> MemberMeaning
     requires set { IsClassSet set.now }
@@ -192,12 +192,12 @@ fn known_meaning(
     ensures meaning { IsMemberMeaning set.now user index result }
     ensures known { AreKnown set.now known.new }
 {
-    if let Some(entry) = known.find(user, index) {
+    if let Some(entry) = known.member(user, index) {
         return MemberMeaning::Entry(entry);
     }
     let meaning = member_meaning(set, user, index, marks);
     if let MemberMeaning::Entry(entry) = meaning {
-        known.note(user, index, entry);
+        known.note(user, index, EntryMeaning::Member(entry));
     }
     meaning
 }
@@ -213,7 +213,7 @@ pub fn member_use(
     method: &Method,
     operation: MemberOperation,
     index: u16,
-    known: &mut KnownMembers,
+    known: &mut KnownEntries,
     marks: &mut [bool],
 ) -> Result<UsedMember, LinkRule>
     requires set { IsClassSet set.now }

@@ -8,11 +8,13 @@ ghost use Rattle.cls_set.specs.Rules.{Has};
 ghost use Rattle.cls_search.specs.FieldSearches.{field_at};
 ghost use Rattle.cls_resolve.specs.Access as access;
 ghost use Rattle.cls_resolve.specs.Checks.{broken_of};
+ghost use Rattle.cls_resolve.specs.Entries.{AreKnown, IsClassMeaning};
 ghost use Rattle.cls_resolve.specs.LinkRules as spec;
 ghost use Rattle.cls_resolve.specs.LinkRules.{order, IsFirstBroken};
 ghost use Rattle.cls_resolve.specs.Meanings.{field_of, static_value, IsTypeAt};
 
 use super::access::flags_of;
+use super::known::{EntryMeaning, KnownEntries};
 use super::meanings::{ClassMeaning, class_meaning, field};
 use super::references::Asked;
 use super::{CastType, LinkRule, MemberIndex};
@@ -57,20 +59,45 @@ fn takes_array(operation: ClassOperation, is_of_ints: bool) -> bool
     operation != ClassOperation::New && is_of_ints
 }
 
+// What an index means to an instruction of the user that names a class or an array type: looked for if it
+// is not known.
+fn known_class(
+    set: &ClassSet,
+    user: ClassId,
+    index: u16,
+    known: &mut KnownEntries,
+) -> ClassMeaning
+    requires user { user.0 < length set.now }
+    requires known { AreKnown set.now known.old }
+    ensures meaning { IsClassMeaning set.now user index result }
+    ensures known { AreKnown set.now known.new }
+{
+    if let Some(meaning) = known.class(user, index) {
+        return meaning;
+    }
+    let meaning = class_meaning(set, user, index);
+    known.note(user, index, EntryMeaning::Class(meaning));
+    meaning
+}
+
 /// Returns the type that an instruction on a class or an array type names in code of the class
-/// `user`, or the first rule that it breaks: `AbsentClass`, `WrongRefKind`, `Access`, `Abstract`.
+/// `user`, or the first rule that it breaks: `AbsentClass`, `WrongRefKind`, `Access`, `Abstract`. A
+/// class that is known is not looked for again, and one that is looked for is known if there is room.
 pub fn class_use(
     set: &ClassSet,
     user: ClassId,
     operation: ClassOperation,
     index: u16,
+    known: &mut KnownEntries,
 ) -> Result<CastType, LinkRule>
-    requires { user.0 < length set.now }
+    requires user { user.0 < length set.now }
+    requires known { AreKnown set.now known.old }
     ensures broken { (method : methods.Method) → IsFirstBroken set.now (record { class = user; method = method; asked = Asked.Class operation; index = index }) order (broken_of result) }
     ensures named { IfOk result (IsTypeAt set.now user index) }
     ensures made { operation ≡ ClassOperation.New → IfOk result (λ type. type ≢ CastType.IntArray) }
+    ensures known { AreKnown set.now known.new }
 {
-    match class_meaning(set, user, index) {
+    match known_class(set, user, index, known) {
         ClassMeaning::NoEntry => Err(LinkRule::WrongRefKind),
         ClassMeaning::Array { is_of_ints } => {
             if takes_array(operation, is_of_ints) {

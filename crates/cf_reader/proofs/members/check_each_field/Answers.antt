@@ -11,7 +11,7 @@ use Rattle.cf_reader.specs.Seen.{AreSeen}
 use Rattle.cf_reader.proofs.members.check_each_field.Goals as goal
 
 pub loop-field-init : goal.loop-field-init
-loop-field-init c = record { judged = refl; seen = c.new-seen.ensures c.args.pool.now; known = c.new-known.ensures c.args.pool.now }
+loop-field-init c = record { judged = refl; seen = c.new-seen.ensures c.args.pool.now; known = c.new-known.ensures c.args.pool.now; names = c.new-names.ensures c.args.pool.now }
 
 pub returns-in_err-check_field : goal.returns-in_err-check_field
 returns-in_err-check_field c =
@@ -38,6 +38,7 @@ loop-field-preserved c =
       judged = of_each-goes_on (field_demands (insides_of c.args.bytes.now) pool c.args.class.bits fields) fields index item item c.loop-field-test.true (sym c.field-item.is) c.loop-field.invariant.judged holds;
       seen = subst (AreSeen pool c.add.new.self) (sym grown) (c.in_ok-is_new.ensures.added (take index fields) c.loop-field.invariant.seen);
       known = c.check_field.ensures.known;
+      names = c.in_ok-check_field.ensures.names;
     }
 
 pub returns : goal.returns

@@ -11,7 +11,7 @@ use Rattle.cf_reader.specs.Seen.{AreSeen}
 use Rattle.cf_reader.proofs.members.check_each_method.Goals as goal
 
 pub loop-method-init : goal.loop-method-init
-loop-method-init c = record { judged = refl; seen = c.new-seen.ensures c.args.pool.now; known = c.new-known.ensures c.args.pool.now }
+loop-method-init c = record { judged = refl; seen = c.new-seen.ensures c.args.pool.now; known = c.new-known.ensures c.args.pool.now; names = c.new-names.ensures c.args.pool.now }
 
 pub returns-in_err-check_method : goal.returns-in_err-check_method
 returns-in_err-check_method c =
@@ -38,6 +38,7 @@ loop-method-preserved c =
       judged = of_each-goes_on (method_demands (insides_of c.args.bytes.now) pool c.args.class.bits methods) methods index item item c.loop-method-test.true (sym c.method-item.is) c.loop-method.invariant.judged holds;
       seen = subst (AreSeen pool c.add.new.self) (sym grown) (c.in_ok-is_new.ensures.added (take index methods) c.loop-method.invariant.seen);
       known = c.check_method.ensures.known;
+      names = c.in_ok-check_method.ensures.names;
     }
 
 pub returns : goal.returns

@@ -11,10 +11,10 @@ returns-in_default-utf8-clause-value c = λ members are. none-tells c.args.pool.
 
 pub returns-in-Ok-clause-value : goal.returns-in-Ok-clause-value
 returns-in-Ok-clause-value c = λ members are.
-    let key : Key = (c.as_bytes.result, c.as_bytes-2.result) in
-    c.in-Ok.ensures.added ∙ ap not (key-tells c.args.pool.now c.args.member.now key (search rules) (search rules) c.args.self.now members are)
+    let key : Key = c.key.result in
+    c.in-Ok.ensures.added ∙ ap not (key-tells c.args.pool.now c.args.member.now key c.key.ensures.key (search rules) (search rules) c.args.self.now members are)
 
 pub returns-in-Ok-clause-added : goal.returns-in-Ok-clause-added
 returns-in-Ok-clause-added c = λ members are.
-    let key : Key = (c.as_bytes.result, c.as_bytes-2.result) in
-    key-put c.args.pool.now c.args.member.now key (search rules) (search rules) c.args.self.now (record { keys = c.insert.new.self }) members c.in-Ok.ensures.updates.0 are
+    let key : Key = c.key.result in
+    key-put c.args.pool.now c.args.member.now key c.key.ensures.key (search rules) (search rules) c.args.self.now (record { keys = c.insert.new.self }) members c.in-Ok.ensures.updates.0 are

@@ -1,8 +1,8 @@
 use Rattle.std.proofs.Common.{◌≡◌, ◌∙◌, ℕ, ap, Some, get_or, subst, sym, arith}
 use Rattle.std.proofs.lemmas.Option.{slice_get-get_or}
 use Rattle.space_ids.specs.declared.ids.ClassId.{ClassId}
-use Rattle.cls_resolve.specs.Entries.{AreKnown, IsMemberEntry}
-use Rattle.cls_resolve.proofs.known.KnownMembers.find.Goals as goal
+use Rattle.cls_resolve.specs.Entries.{AreKnown, IsEntryMeaning}
+use Rattle.cls_resolve.proofs.known.KnownEntries.find.Goals as goal
 
 pub returns-then-known-user : goal.returns-then-known-user
 returns-then-known-user c classes have =
@@ -15,4 +15,4 @@ returns-then-known-user c classes have =
     let at = slice_get-get_or entries c.args.index c.index.result.now (omega (arith, inside, same, long))
     ∙ ap (λ o. Some o) (ap (λ i. get_or entries i c.index.result.now) (sym c.from-2.ensures) ∙ (sym c.index.ensures ∙ c.in_ok-known.was)) in
     let mine : known.user ≡ c.args.user = ap (λ (n : ℕ). record { 0 = n }) c.if-known-user.true in
-    subst (λ (u : ClassId). IsMemberEntry classes u c.args.index known.entry) mine (kept.known c.args.index known at)
+    subst (λ (u : ClassId). IsEntryMeaning classes u c.args.index known.meaning) mine (kept.known c.args.index known at)
