@@ -6,5 +6,4 @@ pub mod PlacedLaws
 pub mod ClassOrder
 pub mod SpellsLaws
 pub mod WellFormedLaws
-pub mod DescriptorsKept
 pub mod NamesKept

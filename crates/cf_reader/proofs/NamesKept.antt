@@ -10,7 +10,7 @@ use Rattle.cf_pool.specs.Pools.{named, utf8_at}
 use Rattle.cf_reader.specs.Checks.{demand, method_name_demands}
 use Rattle.cf_reader.specs.MemberNames.{IsFieldName, IsMethodName}
 use Rattle.cf_reader.specs.Profile.{method_name_in_profile}
-use Rattle.cf_reader.proofs.DescriptorsKept.{same_index}
+use Rattle.cf_descriptors.proofs.DescriptorsKept.{same_index}
 
 -- demands that hold at one item hold at another
 one_text : (fits : Bool) (a b : ℕ) → verdict (record { at = a; rule = rules.Utf8; holds = fits } ∷ record { at = a; rule = rules.Index; holds = true } ∷ []) ≡ Ok tt

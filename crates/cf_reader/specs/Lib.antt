@@ -2,7 +2,6 @@ pub mod Rules
 pub mod Profile
 pub mod Checks
 pub mod Seen
-pub mod Descriptors
 pub mod MemberNames
 pub mod Builds
 pub mod Says

@@ -1,14 +1,14 @@
 //! What a layout says, once its demands hold.
 
-ghost use Rattle.cf_reader.specs.Descriptors.{AreFieldTypes, AreMethodTypes};
 ghost use Rattle.std.specs.Prelude.{◌≡◌, ◌≤◌, None, length};
+ghost use Rattle.cf_descriptors.specs.Descriptors.{AreFieldTypes, AreMethodTypes};
 ghost use Rattle.cf_text.specs.Reading.{Gives, GivesSeen};
 ghost use Rattle.cf_layout.specs.CodeLengths.{IsShort};
 ghost use Rattle.cf_reader.specs.Builds.{class_from, class_name_of, code_from, code_in, constant_attribute, constant_from, each, field_from, method_from, table_in, text_of};
 
 use super::attributes::{CODE, CONSTANT_VALUE, STACK_MAP_TABLE, first_named};
-use super::descriptors::{FieldTypes, MethodTypes};
 use super::{ClassFile, Code, Field, Flags, Method};
+use cf_descriptors::{FieldTypes, MethodTypes};
 use cf_layout::{Attribute, CodeLayout, Item, Layout, Member, between, read_code, read_constant};
 use cf_pool::{Pool, ReadFault, Row, Rule, Table, Text};
 use cf_text::Shared;

@@ -15,7 +15,6 @@ mod attributes;
 mod build;
 mod check;
 mod class_file;
-mod descriptors;
 mod flags;
 mod members;
 mod names;

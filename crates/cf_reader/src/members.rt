@@ -6,13 +6,12 @@ ghost use Rattle.cf_text.specs.Types.{field_descriptor_of};
 ghost use Rattle.cf_text.specs.Demands.{of_each, verdict};
 ghost use Rattle.cf_pool.specs.Pools.{utf8_at};
 ghost use Rattle.cf_layout.specs.ReadInsides.{insides_of};
-ghost use Rattle.cf_reader.specs.Descriptors.{AreFieldTypes, AreMethodTypes};
+ghost use Rattle.cf_descriptors.specs.Descriptors.{AreFieldTypes, AreMethodTypes};
 ghost use Rattle.cf_reader.specs.Checks.{are_few, field_demands, field_demands_if, field_descriptor_demands, field_flag_demands, field_known, field_type_demands, flag_demands, is_initializer, is_int_read, is_int_text, method_demands, method_demands_if, method_descriptor_demands, method_flag_demands, method_type_demands, words_of};
 ghost use Rattle.cf_reader.specs.MemberNames.{AreFieldNames, AreMethodNames};
 
 use super::Flags;
 use super::attributes::{CODE, CONSTANT_VALUE, Known, check_method_attributes, first_named};
-use super::descriptors::{FieldTypes, MethodTypes};
 use super::names::{FieldNames, MethodNames};
 use super::profile::{
     field_flags_in_profile, is_int_type, is_profile_type, method_flags_in_profile,
@@ -20,6 +19,7 @@ use super::profile::{
 };
 use super::rules::{field_flags_fit, method_flags_fit};
 use super::seen::Seen;
+use cf_descriptors::{FieldTypes, MethodTypes};
 use cf_layout::{Item, Member};
 use cf_pool::{ElementType, FieldType, INITIALIZER, Pool, ReadFault, Rule, Text, demand};
 use cf_text::Shared;

@@ -54,10 +54,8 @@ impl FieldNames {
             return Ok(());
         }
         check_field_name(pool, name)?;
-        match self.kept.insert(name.value) {
-            Ok(_) => Ok(()),
-            Err(_) => Err(ReadFault::Memory),
-        }
+        self.kept.insert(name.value)?;
+        Ok(())
     }
 }
 
@@ -109,9 +107,7 @@ impl MethodNames {
             return Ok(());
         }
         check_method_name(pool, name)?;
-        match self.kept.insert(name.value) {
-            Ok(_) => Ok(()),
-            Err(_) => Err(ReadFault::Memory),
-        }
+        self.kept.insert(name.value)?;
+        Ok(())
     }
 }

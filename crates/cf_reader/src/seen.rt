@@ -54,12 +54,8 @@ impl<'a> Seen<'a> {
         let Some(name) = pool.utf8(member.name.value) else {
             return Ok(true);
         };
-        match self
+        Ok(self
             .keys
-            .insert(key(name.as_bytes(), descriptor.as_bytes()))
-        {
-            Ok(is_new) => Ok(is_new),
-            Err(_) => Err(ReadFault::Memory),
-        }
+            .insert(key(name.as_bytes(), descriptor.as_bytes()))?)
     }
 }

@@ -60,10 +60,10 @@ module _ (entries : List Entry) (rank : ℕ) (p q : Pass) (old : IsPass entries 
       }
 
   -- a class has one direct supertype more behind it
-  pub passes : (index place more : ℕ) (class : ClassId) → index < length entries → place ≡ get_or p.passed.items index 0 → more ≤ place + 1
-      → slice_get (ups_at (classes_of entries) (record { 0 = index })) place ≡ Some class → IsMarked p.ranked.items class.0
+  pub passes : (index supertype more : ℕ) (class : ClassId) → index < length entries → supertype ≡ get_or p.passed.items index 0 → more ≤ supertype + 1
+      → slice_get (ups_at (classes_of entries) (record { 0 = index })) supertype ≡ Some class → IsMarked p.ranked.items class.0
       → q.met.items ≡ p.met.items → q.ranked.items ≡ p.ranked.items → q.passed.items ≡ set p.passed.items index more → q.path.items ≡ p.path.items → IsPass entries (rank + 1) q
-  passes index place more class inside is few at marked met ranked passed path =
+  passes index supertype more class inside is few at marked met ranked passed path =
       let back : (k : ℕ) → IsMarked q.ranked.items k → IsMarked p.ranked.items k = λ k m. subst (λ xs. IsMarked xs k) ranked m in
       let long = old.passed in
       record {
@@ -80,10 +80,10 @@ module _ (entries : List Entry) (rank : ℕ) (p q : Pass) (old : IsPass entries 
             (λ same.
             let here : i < more = subst (λ n. i < n) (get_or-set_same p.passed.items index more 0 (omega (arith, inside, long))) (subst (λ j. i < get_or (set p.passed.items index more) j 0) same (subst (λ (xs : List ℕ). i < get_or xs k 0) passed h)) in
             let seen : slice_get (ups_at (classes_of entries) (record { 0 = index })) i ≡ Some s = subst (λ j. slice_get (ups_at (classes_of entries) (record { 0 = j })) i ≡ Some s) same there in
-            elim (before i place) [
+            elim (before i supertype) [
               | inl low ↦ old.behind index i s (subst (λ n. i < n) is low) seen
               | inr high ↦
-                  let last : place ≡ i = omega (arith, here, few, high) in
+                  let last : supertype ≡ i = omega (arith, here, few, high) in
                   let one : class ≡ s = same_some (sym at ∙ (ap (slice_get (ups_at (classes_of entries) (record { 0 = index }))) last ∙ seen)) in
                   subst (λ (c : ClassId). IsMarked p.ranked.items c.0) one marked
             ])
@@ -158,12 +158,12 @@ ranks_one entries rank p q index y old inside high same unranked end met ranked 
     }
 
 -- a direct supertype stands in the list
-pub up_within : (entries : List Entry) (index place : ℕ) (class : ClassId) → AreWithin (length entries) (classes_of entries)
-    → slice_get (ups_at (classes_of entries) (record { 0 = index })) place ≡ Some class → class.0 < length entries
-up_within entries index place class within at =
+pub up_within : (entries : List Entry) (index supertype : ℕ) (class : ClassId) → AreWithin (length entries) (classes_of entries)
+    → slice_get (ups_at (classes_of entries) (record { 0 = index })) supertype ≡ Some class → class.0 < length entries
+up_within entries index supertype class within at =
     let above = ups_at (classes_of entries) (record { 0 = index }) in
-    subst (λ (s : ClassId). s.0 < length entries) (get_or_from_slice_get above place class class at)
-    (ups_within (length entries) (classes_of entries) (record { 0 = index }) within place class (slice_get_within above place class at))
+    subst (λ (s : ClassId). s.0 < length entries) (get_or_from_slice_get above supertype class class at)
+    (ups_within (length entries) (classes_of entries) (record { 0 = index }) within supertype class (slice_get_within above supertype class at))
 
 -- if each class has a rank, each is ranked above its direct supertypes
 pub all_ranked : (entries : List Entry) (rank : ℕ) (p : Pass) → IsPass entries rank p → AreWithin (length entries) (classes_of entries) → ((k : ℕ) → k < length entries → IsMarked p.ranked.items k) → All (IsRanked entries) entries

@@ -21,15 +21,15 @@ pub(crate) struct Pass {
     pub(crate) path: Vec<usize>,
 }
 
-// A direct supertype of a class, by its place among them: the superclass stands after the superinterfaces.
-fn up(class: &Draft, place: usize) -> Option<Index>
-    ensures { result ≡ slice_get (ups class.now) place }
+// A direct supertype of a class, by its index among them: the superclass stands after the superinterfaces.
+fn up(class: &Draft, index: usize) -> Option<Index>
+    ensures { result ≡ slice_get (ups class.now) index }
 {
     let interfaces = class.interfaces.as_slice();
-    if place < interfaces.len() {
-        return Some(interfaces[place]);
+    if index < interfaces.len() {
+        return Some(interfaces[index]);
     }
-    if place == interfaces.len() {
+    if index == interfaces.len() {
         class.superclass
     } else {
         None
@@ -55,17 +55,17 @@ fn go_on(
         let _ = pass.path.pop();
         return Ok(true);
     }
-    let place = pass.passed[index];
-    let Some(class) = up(&entries[index].class, place) else {
+    let supertype = pass.passed[index];
+    let Some(class) = up(&entries[index].class, supertype) else {
         entries[index].rank = rank;
         pass.ranked[index] = true;
         return Ok(true);
     };
     if pass.ranked[class.get()] {
-        if place == usize::MAX {
+        if supertype == usize::MAX {
             return Ok(false);
         }
-        pass.passed[index] = place + 1;
+        pass.passed[index] = supertype + 1;
         return Ok(true);
     }
     if pass.met[class.get()] {

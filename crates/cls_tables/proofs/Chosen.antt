@@ -85,7 +85,7 @@ so_next classes levels keys class ms old mid new above root made i own m key val
     let x = get_or keys id.0 0 in
     let inherited = find old levels above x in
     let same : agree levels x key ≡ is_same other m = ap (agree levels x) key_is ∙ told.told id own other m there at in
-    let place = place_next ms i m other.name other.descriptor inside is in
+    let index = place_next ms i m other.name other.descriptor inside is in
     let start = length (declared_from 0 (take class.0 classes)) in
     let code = λ (o : Option ℕ). first_code classes (option_map (λ j. record { 0 = start + j }) o) inherited in
     elim (cases (is_same other m)) [
@@ -97,12 +97,12 @@ so_next classes levels keys class ms old mid new above root made i own m key val
           ∙ (value_is
           ∙ (ap (own_code classes own) from
           ∙ (ap (λ n. own_code classes (record { 0 = n }) inherited) number
-          ∙ sym (ap code place ∙ ap (λ b. code (if b then Some i else first_from (suc i) (drop (suc i) ms) other.name other.descriptor)) alike)))))
+          ∙ sym (ap code index ∙ ap (λ b. code (if b then Some i else first_from (suc i) (drop (suc i) ms) other.name other.descriptor)) alike)))))
       | inr unlike ↦
           found x
           ∙ (ap (λ b. if b then value else find mid levels root x) (same ∙ unlike)
           ∙ (so id other there
-          ∙ sym (ap code place ∙ ap (λ b. code (if b then Some i else first_from (suc i) (drop (suc i) ms) other.name other.descriptor)) unlike)))
+          ∙ sym (ap code index ∙ ap (λ b. code (if b then Some i else first_from (suc i) (drop (suc i) ms) other.name other.descriptor)) unlike)))
     ]
 
 -- a method that is added as the code adds it: the next one to the front

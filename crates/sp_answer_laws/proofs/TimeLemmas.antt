@@ -283,14 +283,14 @@ one-way {settings} {w} G conn k n p a b between there c = by (slice_get w.pipes 
         id : a.setting.id ≡ x.setting.id
         id = own-hello x c.conn c.version a.setting.id c.digest (at-all (λ (s : Space). (n : ℕ) → BeginsInOrder s n) q.dialler.space w.spaces x e G.begins c.conn) h
 
-        place : q.dialler.space ≡ p.dialler.space
-        place = F.kind.ids q.dialler.space p.dialler.space x.setting a.setting (setting-at F q.dialler.space x e) (setting-at F p.dialler.space a between.dialled) (subst (λ u. bytes_eq x.setting.id u ≡ true) (sym id) (same-peer x.setting.id))
+        index : q.dialler.space ≡ p.dialler.space
+        index = F.kind.ids q.dialler.space p.dialler.space x.setting a.setting (setting-at F q.dialler.space x e) (setting-at F p.dialler.space a between.dialled) (subst (λ u. bytes_eq x.setting.id u ≡ true) (sym id) (same-peer x.setting.id))
 
         who : x ≡ a
-        who = some-same (sym e ∙ (ap (slice_get w.spaces) place ∙ between.dialled))
+        who = some-same (sym e ∙ (ap (slice_get w.spaces) index ∙ between.dialled))
 
         here : slice_get w.spaces q.dialler.space ≡ Some a
-        here = ap (slice_get w.spaces) place ∙ between.dialled
+        here = ap (slice_get w.spaces) index ∙ between.dialled
 
     dials : (q : Pipe) → slice_get w.pipes c.conn ≡ Some q → q.dialler.space ≡ p.accepter.space → (o : Option Space) → slice_get w.spaces q.accepter.space ≡ o → IsOneOf old.0 (sent_on c.conn (outputs_in o)) → c.conn ≡ conn
     dials q is at None e o = absurd (none-sent old.0 o)

@@ -134,8 +134,8 @@ others {s} {e} {p} q rows notes h = record {
   notes = subst (λ rs. AllOf (λ (n : Note). Goes s e rs (output_of n)) q.notes) (sym rows) (subst (λ ns. AllOf (λ (n : Note). Goes s e p.connections (output_of n)) ns) (sym notes) h.notes);
 }
 
-row-place : (s : State) (e : Event) (rows : List Connection) (conn : ℕ) → AllOf (Row s e) rows → has_row conn rows ≡ true → IsOpenAt s e conn
-row-place s e rows conn a is = by (find (λ (c : Connection). c.number == conn) rows) refl is
+row-open : (s : State) (e : Event) (rows : List Connection) (conn : ℕ) → AllOf (Row s e) rows → has_row conn rows ≡ true → IsOpenAt s e conn
+row-open s e rows conn a is = by (find (λ (c : Connection). c.number == conn) rows) refl is
   where
     by : (o : Option Connection) → find (λ (c : Connection). c.number == conn) rows ≡ o → is_some o ≡ true → IsOpenAt s e conn
     by None f g = absurd (true≢false (sym g))
@@ -196,11 +196,11 @@ placed_flow g e s = record {
   finds = λ c n name r is own. tt;
   quiet = λ l t u eq k. subst (Placed s e) (sym eq) k;
   says = λ l t output is so k. noted (Says output) (said g e s t output is so) k;
-  sends = λ l t turn c m may there held k. noted (Sends turn c m) (row-place s e t.connections c k.rows there) k;
+  sends = λ l t turn c m may there held k. noted (Sends turn c m) (row-open s e t.connections c k.rows there) k;
   clears = λ t k. record { rows = k.rows; notes = tt };
   adds = λ l t q k. others _ refl refl k;
-  calls_out = λ l t turn c peer number task lent kind m known there k. others _ refl refl (noted (Sends turn c m) (row-place s e t.connections c k.rows there) k);
-  looks_out = λ l t turn c peer number task name known there k. others _ refl refl (noted (Sends turn c (Rattle.net_message.specs.declared.message.Message.TheVariants.Lookup number name)) (row-place s e t.connections c k.rows there) k);
+  calls_out = λ l t turn c peer number task lent kind m known there k. others _ refl refl (noted (Sends turn c m) (row-open s e t.connections c k.rows there) k);
+  looks_out = λ l t turn c peer number task name known there k. others _ refl refl (noted (Sends turn c (Rattle.net_message.specs.declared.message.Message.TheVariants.Lookup number name)) (row-open s e t.connections c k.rows there) k);
   tells = λ l t q call group eq k. others _ refl refl k;
   told = λ l t peer call group k. k;
   unfresh = λ l t k. others _ refl refl k;

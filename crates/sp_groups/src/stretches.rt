@@ -19,7 +19,7 @@ pub fn first_group(calls: &[DueCall]) -> usize
     next_group(first, calls).unwrap_or(calls.len())
 }
 
-// The place of the first call that is of another peer or kind than this one.
+// The index of the first call that is of another peer or kind than this one.
 fn next_group(first: &DueCall, calls: &[DueCall]) -> Option<usize>
     ensures { result ≡ position (λ call. not (is_of first.now.reference.space first.now.kind call)) calls.now }
 {

@@ -36,16 +36,16 @@ pub same-bytes : (u v : Uuid) → u ≡ v → bytes_eq u v ≡ true
 same-bytes u v e = (bytes_eq-Decides u v).1 e
 
 -- spaces of one id are one
-pub one-place : {settings : List Setting} {w : World} → Facts settings w → (i j : ℕ) (a b : Space)
+pub one-index : {settings : List Setting} {w : World} → Facts settings w → (i j : ℕ) (a b : Space)
     → slice_get w.spaces i ≡ Some a → slice_get w.spaces j ≡ Some b → a.setting.id ≡ b.setting.id → i ≡ j
-one-place F i j a b at atj same =
+one-index F i j a b at atj same =
     F.kind.ids i j a.setting b.setting (setting-at F i a at) (setting-at F j b atj)
     (same-bytes a.setting.id b.setting.id same)
 
 pub one-space : {settings : List Setting} {w : World} → Facts settings w → (i j : ℕ) (a b : Space)
     → slice_get w.spaces i ≡ Some a → slice_get w.spaces j ≡ Some b → a.setting.id ≡ b.setting.id → a ≡ b
 one-space {settings} {w} F i j a b at atj same =
-    some-same (sym at ∙ (ap (slice_get w.spaces) (one-place F i j a b at atj same) ∙ atj))
+    some-same (sym at ∙ (ap (slice_get w.spaces) (one-index F i j a b at atj same) ∙ atj))
 
 -- ---- connections that a space dialled
 
@@ -69,17 +69,17 @@ between-of {settings} {w} F i j conn a b peer at atj same opens = by (slice_get 
     found p e d None f g = absurd (some-none peer (sym g))
     found p e d (Some x) f g =
         let id : x.setting.id ≡ b.setting.id = some-same g ∙ same in
-        let place : p.accepter.space ≡ j = one-place F p.accepter.space j x b f atj id in
+        let index : p.accepter.space ≡ j = one-index F p.accepter.space j x b f atj id in
         record {
           pipe = p;
           dials = d;
-          accepts = place;
+          accepts = index;
           between =
               record {
                 pipe = e;
                 dialled = ap (slice_get w.spaces) d ∙ at;
                 accepted =
-                    ap (slice_get w.spaces) place ∙ atj;
+                    ap (slice_get w.spaces) index ∙ atj;
               };
         }
 

@@ -272,9 +272,9 @@ came-sent {settings} {w} {v} F V L i j conn n a b c at atj B came =
         (one-left m (came_on conn b.history) q.accepter.queue came.1.1)
 
     -- who dialled it is the client
-    place : (q : Pipe) (u : Space) → slice_get w.spaces q.dialler.space ≡ Some u → IsOneOf m (sent_on conn u.outputs)
+    index : (q : Pipe) (u : Space) → slice_get w.spaces q.dialler.space ≡ Some u → IsOneOf m (sent_on conn u.outputs)
         → q.dialler.space ≡ i
-    place q u atu sent =
+    index q u atu sent =
         let opens = opened-as u.history conn true
         (went u.history conn m u.outputs (at-all HasDirections q.dialler.space w.spaces u atu F.directions).sent
         sent) in
@@ -300,7 +300,7 @@ came-sent {settings} {w} {v} F V L i j conn n a b c at atj B came =
     by (Some q) e (inl f) = absurd (dialled-back q e f)
     by (Some q) e (inr f) =
         let u = to-end q e f in
-        let same : u.0 ≡ a = some-same (sym u.1.0 ∙ (ap (slice_get w.spaces) (place q u.0 u.1.0 u.1.1) ∙ at)) in
+        let same : u.0 ≡ a = some-same (sym u.1.0 ∙ (ap (slice_get w.spaces) (index q u.0 u.1.0 u.1.1) ∙ at)) in
         (m, (inl refl, subst (λ (s : Space). IsOneOf m (sent_on conn s.outputs)) same u.1.1))
 
 pub client-sent : {settings : List Setting} {w v : World} → Facts settings w → Facts settings v

@@ -33,7 +33,7 @@ use Rattle.sp_kept_laws.proofs.ReachLaws.{at-row}
 use Rattle.sp_held_laws.specs.Entries.{GrantedHaveEntries, GrantedReferencesHaveEntries, LeasesComeOfEntries}
 use Rattle.sp_held_laws.specs.Lost.{NothingHeldIsLost, WhatIsNamedStands, CallsFound, CallsFindTheirObjects}
 use Rattle.sp_held_laws.specs.Premises.{LetsNoneExpire, NothingExpires, HoldersAreFew}
-use Rattle.sp_held_laws.proofs.BetweenLemmas.{same-bytes, one-place}
+use Rattle.sp_held_laws.proofs.BetweenLemmas.{same-bytes, one-index}
 use Rattle.sp_held_laws.proofs.ClientSteps.{Gives, Came, client-step, client-silent, taken-before, setting-stays, lease-answers}
 use Rattle.sp_held_laws.proofs.GivenLaws.{Below, Quiet, quiet-of, AreFew, held-granted}
 use Rattle.sp_held_laws.proofs.HolderLemmas.{started-foreign}
@@ -420,5 +420,5 @@ leases_come_of_entries B settings events r kind fine lets few conn number period
         by : (x : Bool) → bytes_eq r.space a.setting.id ≡ x → x ≡ false
         by false e = refl
         by true e = absurd (at-all HasTwoEnds conn w.pipes p between.pipe F.two
-            (one-place F p.dialler.space p.accepter.space a b between.dialled between.accepted
+            (one-index F p.dialler.space p.accepter.space a b between.dialled between.accepted
             (sym ((bytes_eq-Decides r.space a.setting.id).0 e) ∙ own)))

@@ -294,13 +294,13 @@ out-peer {settings} {w} G conn n p a b q between there out =
     (subst (IsJoined w.spaces p.dialler.space stands.row.dialled) (ends-of w.pipes conn p between.pipe)
     (row-opened G.facts p.dialler.space conn a stands.row between.dialled stands.found))
   where
-    place : StandsOn a.state.connections q.peer q.stage × GoesTo q.peer q.asked
-    place = one-of (λ (x : Request). StandsOn a.state.connections x.peer x.stage × GoesTo x.peer x.asked)
+    ways : StandsOn a.state.connections q.peer q.stage × GoesTo q.peer q.asked
+    ways = one-of (λ (x : Request). StandsOn a.state.connections x.peer x.stage × GoesTo x.peer x.asked)
         a.state.requests q (at-all (λ (s : Space). AreInPlace s.state) p.dialler.space w.spaces a between.dialled
         G.facts.places).requests there
 
     stands : IsDialledTo a.state.connections conn q.peer
-    stands = subst (StandsOn a.state.connections q.peer) out place.0
+    stands = subst (StandsOn a.state.connections q.peer) out ways.0
 
     by : (d : Option Uuid) → stands.row.dialled ≡ d → is_to q.peer d ≡ true
         → IsJoined w.spaces p.dialler.space d (Some (p.dialler.space, p.accepter.space)) → q.peer ≡ b.setting.id

@@ -19,7 +19,7 @@ use Rattle.sp_requests.specs.declared.requests.Requests.{Requests}
 use Rattle.sp_requests.specs.declared.asked.Asked.{Asked}
 use Rattle.sp_requests.specs.declared.asked.Asker.{Asker}
 use Rattle.sp_requests.specs.declared.asked.OutCall.{OutCall}
-use Rattle.sp_requests.specs.Asking.{AreRequests, IsNamed, IsOfCall, IsOn, asked_of, asks_by, call_at, call_row, calls_in, first_of, group_at, group_row, groups_in, last_call, out_row, place_of, shown, waiting_in, was_sent}
+use Rattle.sp_requests.specs.Asking.{AreRequests, IsNamed, IsOfCall, IsOn, asked_of, asks_by, call_at, call_row, calls_in, first_of, group_at, group_row, groups_in, last_call, out_row, index_of, shown, waiting_in, was_sent}
 
 -- ---- tests
 
@@ -171,7 +171,7 @@ none-out conn n sent rows on none = pick (find (is_call_on conn n) rows) refl
 
 -- where a row is found one is out
 pub some-out : (conn n : ℕ) (sent : List Message) (rows : List rules.Request) (call : OutCall) → AllOf (λ (r : rules.Request). IsOn conn r.stage) rows → AllOf (λ (row : ℕ × OutCall). was_sent row.0 sent ≡ true) (calls_in sent rows)
-    → lookup (nat_eq n) (calls_in sent rows) ≡ Some call → (call.place ≡ place_of n sent) × (was_sent n sent ≡ true)
+    → lookup (nat_eq n) (calls_in sent rows) ≡ Some call → (call.index ≡ index_of n sent) × (was_sent n sent ≡ true)
 some-out conn n sent [] call on were f = cc
 some-out conn n sent (r ∷ rs) call on were f = pick (call-cases conn sent r.stage r.asked on.0) (λ w e. some-out conn n sent rs call on.1 w e)
   where
@@ -179,7 +179,7 @@ some-out conn n sent (r ∷ rs) call on were f = pick (call-cases conn sent r.st
     rest = calls_in sent rs
 
     Result : Type 0
-    Result = (call.place ≡ place_of n sent) × (was_sent n sent ≡ true)
+    Result = (call.index ≡ index_of n sent) × (was_sent n sent ≡ true)
 
     Were : List (ℕ × OutCall) → Type 0
     Were l = AllOf (λ (row : ℕ × OutCall). was_sent row.0 sent ≡ true) l
@@ -187,7 +187,7 @@ some-out conn n sent (r ∷ rs) call on were f = pick (call-cases conn sent r.st
     at : (k : ℕ) (by : Asker) (answered : Bool) → Were (out_row sent answered (k, by) ∷ rest) → (b : Bool) → nat_eq n k ≡ b → cond b (Some (out_row sent answered (k, by)).1) (lookup (nat_eq n) rest) ≡ Some call → (Were rest → lookup (nat_eq n) rest ≡ Some call → Result) → Result
     at k by answered w true e g go =
         let same : n ≡ k = eqb-true n k e in let its : (out_row sent answered (k, by)).1 ≡ call = cc in
-        (sym (ap (λ (x : OutCall). x.place) its) ∙ ap (λ m. place_of m sent) (sym same), ap (λ m. was_sent m sent) same ∙ w.0)
+        (sym (ap (λ (x : OutCall). x.index) its) ∙ ap (λ m. index_of m sent) (sym same), ap (λ m. was_sent m sent) same ∙ w.0)
     at k by answered w false e g go = go w.1 g
 
     pick : IsCall conn sent r.stage r.asked ⊎ IsOther conn sent r.stage r.asked → (Were rest → lookup (nat_eq n) rest ≡ Some call → Result) → Result

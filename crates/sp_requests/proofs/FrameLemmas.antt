@@ -20,7 +20,7 @@ use Rattle.sp_requests.specs.declared.requests.Requests.{Requests}
 use Rattle.sp_requests.specs.declared.asked.Asked.{Asked}
 use Rattle.sp_requests.specs.declared.asked.Asker.{Asker}
 use Rattle.sp_requests.specs.declared.asked.OutCall.{OutCall}
-use Rattle.sp_requests.specs.Asking.{AreRequests, IsNamed, IsOfCall, IsOn, asked_of, asks_by, call_at, call_row, calls_in, group_in, group_row, groups_in, last_call, last_sequence, newest, out_row, place_of, sequence_in, waiting_in, was_sent}
+use Rattle.sp_requests.specs.Asking.{AreRequests, IsNamed, IsOfCall, IsOn, asked_of, asks_by, call_at, call_row, calls_in, group_in, group_row, groups_in, last_call, last_sequence, newest, out_row, index_of, sequence_in, waiting_in, was_sent}
 use Rattle.sp_requests.proofs.AskingLemmas.{all-join, all-left, all-right, flat-more, found-some, gone-call, length-found}
 
 pub is-le : (m n : ℕ) → m ≤ n → nat_le m n ≡ true
@@ -57,8 +57,8 @@ keys-append (x ∷ xs) ys = ap (λ (l : List ℕ). x.0 ∷ l) (keys-append xs ys
 rows-sent : (m : Message) (sent : List Message) (answered : Bool) (askers : List (ℕ × Asker)) → IsOfNone m (keys_of (map (out_row sent answered) askers)) → map (out_row (m ∷ sent) answered) askers ≡ map (out_row sent answered) askers
 rows-sent m sent answered [] none = refl
 rows-sent m sent answered (x ∷ xs) none =
-    let place = ap (λ b. cond b (length sent) (place_of x.0 sent)) none.0 in
-    let first : out_row (m ∷ sent) answered x ≡ out_row sent answered x = λ j. (x.0, record { asker = x.1; answered = answered; place = place j }) in
+    let index = ap (λ b. cond b (length sent) (index_of x.0 sent)) none.0 in
+    let first : out_row (m ∷ sent) answered x ≡ out_row sent answered x = λ j. (x.0, record { asker = x.1; answered = answered; index = index j }) in
     let rest = rows-sent m sent answered xs none.1 in λ j. first j ∷ rest j
 
 row-sent : (m : Message) (sent : List Message) (stage : rules.Stage) (question : rules.Asked) → IsOfNone m (keys_of (call_at sent stage question)) → call_at (m ∷ sent) stage question ≡ call_at sent stage question
@@ -160,18 +160,18 @@ waiting-more (x ∷ xs) r e = pick (is_waiting x.stage) (waiting-more xs r e)
 
 pub call-sent : (conn number : ℕ) (by : Asker) (rows : List rules.Request) (sent : List Message) (peer : Uuid) (question : rules.Asked) (m : Message) (old new : Requests) → new.waiting ≡ old.waiting → new.groups ≡ old.groups → new.frames ≡ suc (length sent)
     → number < 2 ^ 64 → last_call sent < number → asks_by question ≡ (number, by) ∷ [] → IsNamed question → call_number_in m ≡ number ∷ []
-    → ((calls : List (ℕ × OutCall)) → AreRows calls old.calls → AreBelow number (keys_of calls) → AreRows (calls ++ (number, record { asker = by; answered = false; place = old.frames }) ∷ []) new.calls)
+    → ((calls : List (ℕ × OutCall)) → AreRows calls old.calls → AreBelow number (keys_of calls) → AreRows (calls ++ (number, record { asker = by; answered = false; index = old.frames }) ∷ []) new.calls)
     → AreRequests conn rows sent old → AreRequests conn (rows ++ record { peer = peer; asked = question; stage = rules.Out conn 0 } ∷ []) (m ∷ sent) new
 call-sent conn number by rows sent peer question m old new waiting groups frames small above asks named its pushed a =
     let lc : last_call (m ∷ sent) ≡ number = ap (λ (l : List ℕ). newest (l ++ flat_map call_number_in sent)) its in
     let ls = no-sequence-last m sent (call-alone number m its) in
     let r : rules.Request = record { peer = peer; asked = question; stage = rules.Out conn 0 } in
-    let call : OutCall = record { asker = by; answered = false; place = old.frames } in
+    let call : OutCall = record { asker = by; answered = false; index = old.frames } in
     let below : AreBelow number (keys_of (calls_in sent rows)) = below-more (suc (last_call sent)) number (keys_of (calls_in sent rows)) (omega (arith, above)) a.called in
     let same = calls-sent m sent rows (of-above m number (keys_of (calls_in sent rows)) its below) in
     let mine : list_any (◌==◌ number) (call_number_in m) ≡ true = ap (list_any (◌==◌ number)) its ∙ ap (λ b. b || false) (eq-eqb number number refl) in
-    let place : place_of number (m ∷ sent) ≡ old.frames = ap (λ b. cond b (length sent) (place_of number sent)) mine ∙ sym a.frames in
-    let row : call_row (m ∷ sent) r ≡ (number, call) ∷ [] = ap (map (out_row (m ∷ sent) false)) asks ∙ (λ j. (number, record { asker = by; answered = false; place = place j }) ∷ []) in
+    let index : index_of number (m ∷ sent) ≡ old.frames = ap (λ b. cond b (length sent) (index_of number sent)) mine ∙ sym a.frames in
+    let row : call_row (m ∷ sent) r ≡ (number, call) ∷ [] = ap (map (out_row (m ∷ sent) false)) asks ∙ (λ j. (number, record { asker = by; answered = false; index = index j }) ∷ []) in
     let all : calls_in (m ∷ sent) (rows ++ r ∷ []) ≡ calls_in sent rows ++ (number, call) ∷ [] = flat-more (call_row (m ∷ sent)) rows r ∙ (λ j. same j ++ row j) in
     let told : groups_in (rows ++ r ∷ []) ≡ groups_in rows = flat-more group_row rows r ∙ ap (λ l. groups_in rows ++ l) (no-group-in 0 number by question asks) ∙ append-nil (groups_in rows) in
     let count : length (calls_in sent rows ++ (number, call) ∷ []) ≡ length (calls_in sent rows) + 1 = length-append (calls_in sent rows) ((number, call) ∷ []) in record {
@@ -206,31 +206,31 @@ acknowledge-call conn n rows sent m old mid new b others frames none neither the
 
 -- ---- frames that were not sent whole
 
-pub place-below : (n : ℕ) (sent : List Message) → was_sent n sent ≡ true → place_of n sent < length sent
-place-below n [] e = absurd (true≢false (sym e))
-place-below n (m ∷ sent) e = pick (list_any (◌==◌ n) (call_number_in m)) refl (place-below n sent)
+pub index-below : (n : ℕ) (sent : List Message) → was_sent n sent ≡ true → index_of n sent < length sent
+index-below n [] e = absurd (true≢false (sym e))
+index-below n (m ∷ sent) e = pick (list_any (◌==◌ n) (call_number_in m)) refl (index-below n sent)
   where
-    pick : (b : Bool) → list_any (◌==◌ n) (call_number_in m) ≡ b → (was_sent n sent ≡ true → place_of n sent < length sent) → cond b (length sent) (place_of n sent) < length (m ∷ sent)
+    pick : (b : Bool) → list_any (◌==◌ n) (call_number_in m) ≡ b → (was_sent n sent ≡ true → index_of n sent < length sent) → cond b (length sent) (index_of n sent) < length (m ∷ sent)
     pick true f go = omega arith
     pick false f go =
         let there : was_sent n sent ≡ true = ap (λ b. b || was_sent n sent) (sym f) ∙ sym (list_any-append (◌==◌ n) (call_number_in m) (flat_map call_number_in sent)) ∙ e in
         let low = go there in omega (arith, low)
 
 -- A call is among the last frames if no more went out since.
-pub unsent : (n : ℕ) (sent : List Message) (u : ℕ) → was_sent n sent ≡ true → list_any (◌==◌ n) (flat_map call_number_in (take u sent)) ≡ nat_le (length sent) (place_of n sent + u)
+pub unsent : (n : ℕ) (sent : List Message) (u : ℕ) → was_sent n sent ≡ true → list_any (◌==◌ n) (flat_map call_number_in (take u sent)) ≡ nat_le (length sent) (index_of n sent + u)
 unsent n [] u e = absurd (true≢false (sym e))
-unsent n (m ∷ sent) zero e = let low = place-below n (m ∷ sent) e in sym (not-le (length (m ∷ sent)) (place_of n (m ∷ sent) + 0) (omega (arith, low)))
+unsent n (m ∷ sent) zero e = let low = index-below n (m ∷ sent) e in sym (not-le (length (m ∷ sent)) (index_of n (m ∷ sent) + 0) (omega (arith, low)))
 unsent n (m ∷ sent) (suc u) e =
     list_any-append (◌==◌ n) (call_number_in m) (flat_map call_number_in (take u sent)) ∙ pick (list_any (◌==◌ n) (call_number_in m)) refl (unsent n sent u)
   where
     last : Bool
     last = list_any (◌==◌ n) (flat_map call_number_in (take u sent))
 
-    pick : (b : Bool) → list_any (◌==◌ n) (call_number_in m) ≡ b → (was_sent n sent ≡ true → last ≡ nat_le (length sent) (place_of n sent + u)) → (b || last) ≡ nat_le (length (m ∷ sent)) (cond b (length sent) (place_of n sent) + suc u)
+    pick : (b : Bool) → list_any (◌==◌ n) (call_number_in m) ≡ b → (was_sent n sent ≡ true → last ≡ nat_le (length sent) (index_of n sent + u)) → (b || last) ≡ nat_le (length (m ∷ sent)) (cond b (length sent) (index_of n sent) + suc u)
     pick true f go = sym (is-le (length (m ∷ sent)) (length sent + suc u) (omega arith))
     pick false f go =
         let there : was_sent n sent ≡ true = ap (λ b. b || was_sent n sent) (sym f) ∙ sym (list_any-append (◌==◌ n) (call_number_in m) (flat_map call_number_in sent)) ∙ e in
-        go there ∙ suc-le (length sent) (place_of n sent) u
+        go there ∙ suc-le (length sent) (index_of n sent) u
 
-pub sums : (place n calls last_call last_sequence u : ℕ) → place < n → n + calls ≤ 1 + (2 * last_call + last_sequence) → last_call < 2 ^ 64 → last_sequence < 2 ^ 64 → u < 2 ^ 64 → min (place + u) (2 ^ 128 - 1) ≡ place + u
-sums place n calls last_call last_sequence u below few low least small = omega (arith, below, few, low, least, small)
+pub sums : (index n calls last_call last_sequence u : ℕ) → index < n → n + calls ≤ 1 + (2 * last_call + last_sequence) → last_call < 2 ^ 64 → last_sequence < 2 ^ 64 → u < 2 ^ 64 → min (index + u) (2 ^ 128 - 1) ≡ index + u
+sums index n calls last_call last_sequence u below few low least small = omega (arith, below, few, low, least, small)

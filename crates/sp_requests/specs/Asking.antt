@@ -55,9 +55,9 @@ abbrev pub was_sent : ℕ → List Message → Bool
 was_sent number sent = list_any (◌==◌ number) (flat_map call_number_in sent)
 
 -- how many frames went out before the call or lookup of this number
-abbrev pub place_of : ℕ → List Message → ℕ
-place_of number [] = 0
-place_of number (m ∷ sent) = if list_any (◌==◌ number) (call_number_in m) then length sent else place_of number sent
+abbrev pub index_of : ℕ → List Message → ℕ
+index_of number [] = 0
+index_of number (m ∷ sent) = if list_any (◌==◌ number) (call_number_in m) then length sent else index_of number sent
 
 -- the sequence number of dirty or clean calls
 abbrev pub sequence_in : Message → List ℕ
@@ -81,7 +81,7 @@ last_sequence sent = newest (flat_map sequence_in sent)
 -- ---- rows
 
 abbrev pub out_row : List Message → Bool → ℕ × Asker → ℕ × OutCall
-out_row sent answered row = (row.0, record { asker = row.1; answered = answered; place = place_of row.0 sent })
+out_row sent answered row = (row.0, record { asker = row.1; answered = answered; index = index_of row.0 sent })
 
 abbrev pub call_at : List Message → rules.Stage → rules.Asked → List (ℕ × OutCall)
 call_at sent rules.Waits question = []

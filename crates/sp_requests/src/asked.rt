@@ -58,7 +58,7 @@ pub struct OutCall {
     /// Its result has come and is parked.
     pub answered: bool,
     /// How many frames went out on the connection before its own.
-    pub place: u128,
+    pub index: u128,
 }
 
 /// Dirty or clean calls that went out in one frame, under the number under which they were made.

@@ -76,7 +76,7 @@ impl Requests {
         ensures { (conn : ℕ) (rows : List Request) (sent : List Frame) → AreRequests conn rows sent self.now → is_some (find (is_call_on conn number) rows) ≡ true → result ≡ list_any (◌==◌ number) (flat_map call_number_in (take unsent sent)) }
     {
         match self.calls.get(number) {
-            Some(call) => self.frames <= call.place.saturating_add(u128::from(unsent)),
+            Some(call) => self.frames <= call.index.saturating_add(u128::from(unsent)),
             None => false,
         }
     }
@@ -142,7 +142,7 @@ impl Requests {
         let call = OutCall {
             asker,
             answered: false,
-            place: self.frames,
+            index: self.frames,
         };
         self.calls.push_reserved(number, call);
         self.count_frame();

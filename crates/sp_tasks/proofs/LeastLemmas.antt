@@ -3,32 +3,32 @@ use Rattle.std.proofs.lemmas.Bool.{eqb-true, eqb-false, ltb-true, ltb-false}
 use Rattle.std.proofs.lemmas.List.{get_or_past, length-take}
 use Rattle.sp_tasks.specs.Least.{IsLow, IsTree, least, least_below, nothing, number_at}
 
--- ---- a place is settled
+-- ---- a index is settled
 
-settled-other : (ns lows : List ℕ) (place other v : ℕ) → other ≢ place → 2 * other + 1 ≢ place → 2 * other + 2 ≢ place → IsLow ns lows other → IsLow ns (set lows place v) other
-settled-other ns lows place other v here left right low =
-    get_or-set_other lows place other v nothing here ∙ low
-    ∙ sym (λ j. min (number_at ns other) (min (get_or-set_other lows place (2 * other + 1) v nothing left j) (get_or-set_other lows place (2 * other + 2) v nothing right j)))
+settled-other : (ns lows : List ℕ) (index other v : ℕ) → other ≢ index → 2 * other + 1 ≢ index → 2 * other + 2 ≢ index → IsLow ns lows other → IsLow ns (set lows index v) other
+settled-other ns lows index other v here left right low =
+    get_or-set_other lows index other v nothing here ∙ low
+    ∙ sym (λ j. min (number_at ns other) (min (get_or-set_other lows index (2 * other + 1) v nothing left j) (get_or-set_other lows index (2 * other + 2) v nothing right j)))
 
-settled-here : (ns lows : List ℕ) (place v : ℕ) → place < length lows → v ≡ min (number_at ns place) (least_below lows place) → IsLow ns (set lows place v) place
-settled-here ns lows place v within is =
-    get_or-set_same lows place v nothing within ∙ is
-    ∙ sym (λ j. min (number_at ns place) (min (get_or-set_other lows place (2 * place + 1) v nothing (λ e. omega (arith, e)) j) (get_or-set_other lows place (2 * place + 2) v nothing (λ e. omega (arith, e)) j)))
+settled-here : (ns lows : List ℕ) (index v : ℕ) → index < length lows → v ≡ min (number_at ns index) (least_below lows index) → IsLow ns (set lows index v) index
+settled-here ns lows index v within is =
+    get_or-set_same lows index v nothing within ∙ is
+    ∙ sym (λ j. min (number_at ns index) (min (get_or-set_other lows index (2 * index + 1) v nothing (λ e. omega (arith, e)) j) (get_or-set_other lows index (2 * index + 2) v nothing (λ e. omega (arith, e)) j)))
 
--- All places but one are right. Once that is settled, all but the one above it are.
-pub settled : (ns lows : List ℕ) (place v : ℕ) → place < length lows → v ≡ min (number_at ns place) (least_below lows place) → ((other : ℕ) → other ≢ place → IsLow ns lows other)
-    → (other : ℕ) → 2 * other + 1 ≢ place → 2 * other + 2 ≢ place → IsLow ns (set lows place v) other
-settled ns lows place v within is others other left right =
-    elim (nat_eq other place) as (λ b. nat_eq other place ≡ b → IsLow ns (set lows place v) other) [
-      | true ↦ λ here. subst (λ (k : ℕ). IsLow ns (set lows place v) k) (sym (eqb-true other place here)) (settled-here ns lows place v within is)
-      | false ↦ λ apart. let ne : other ≢ place = eqb-false other place apart in settled-other ns lows place other v ne left right (others other ne)
+-- All indices but one are right. Once that is settled, all but the one above it are.
+pub settled : (ns lows : List ℕ) (index v : ℕ) → index < length lows → v ≡ min (number_at ns index) (least_below lows index) → ((other : ℕ) → other ≢ index → IsLow ns lows other)
+    → (other : ℕ) → 2 * other + 1 ≢ index → 2 * other + 2 ≢ index → IsLow ns (set lows index v) other
+settled ns lows index v within is others other left right =
+    elim (nat_eq other index) as (λ b. nat_eq other index ≡ b → IsLow ns (set lows index v) other) [
+      | true ↦ λ here. subst (λ (k : ℕ). IsLow ns (set lows index v) k) (sym (eqb-true other index here)) (settled-here ns lows index v within is)
+      | false ↦ λ apart. let ne : other ≢ index = eqb-false other index apart in settled-other ns lows index other v ne left right (others other ne)
     ] refl
 
--- A place below which nothing changed is right if it is not the one above.
+-- A index below which nothing changed is right if it is not the one above.
 pub above : (ns lows : List ℕ) (at : ℕ) → 0 < at → ((other : ℕ) → 2 * other + 1 ≢ at → 2 * other + 2 ≢ at → IsLow ns lows other) → (other : ℕ) → other ≢ (at - 1) / 2 → IsLow ns lows other
 above ns lows at some low other apart = low other (λ e. apart (omega (arith, e))) (λ e. apart (omega (arith, e)))
 
--- ---- what stands at a place
+-- ---- what stands at a index
 
 pub number-more : (lows : List ℕ) (k : ℕ) → number_at (lows ++ nothing ∷ []) k ≡ number_at lows k
 number-more [] zero = refl
@@ -47,8 +47,8 @@ pushed-low ns lows n tree other apart =
     number-more lows other ∙ tree.low other
     ∙ sym (λ j. min (number-push ns n other apart j) (min (number-more lows (2 * other + 1) j) (number-more lows (2 * other + 2) j)))
 
-pub put-low : (ns lows : List ℕ) (place n : ℕ) → IsTree ns lows → (other : ℕ) → other ≢ place → IsLow (set ns place n) lows other
-put-low ns lows place n tree other apart = tree.low other ∙ sym (ap (λ m. min m (least_below lows other)) (get_or-set_other ns place other n nothing apart))
+pub put-low : (ns lows : List ℕ) (index n : ℕ) → IsTree ns lows → (other : ℕ) → other ≢ index → IsLow (set ns index n) lows other
+put-low ns lows index n tree other apart = tree.low other ∙ sym (ap (λ m. min m (least_below lows other)) (get_or-set_other ns index other n nothing apart))
 
 -- past the end stands nothing
 cut-out : (l : List ℕ) (m k : ℕ) → m ≤ k → number_at (take m l) k ≡ nothing
@@ -74,7 +74,7 @@ popped-low ns lows m tree long other left right =
           cut-other lows m other much ne ∙ low ∙ sym (λ j. min (cut-other ns m other long ne j) (below j))
     ] refl
 
--- ---- the first place has the least
+-- ---- the first index has the least
 
 least-at : (ns : List ℕ) (p : ℕ) → least ns ≤ number_at ns p
 least-at [] p = omega arith
@@ -98,7 +98,7 @@ lower ns lows tree (suc fuel) p past =
     let right = lower ns lows tree fuel (2 * p + 2) (omega (arith, past)) in
     let low = tree.low p in omega (arith, here, left, right, low)
 
--- the place above one is at most what it is
+-- the index above one is at most what it is
 up : (ns lows : List ℕ) → IsTree ns lows → (q : ℕ) → number_at lows (q / 2) ≤ number_at lows (suc q)
 up ns lows tree q =
     let low = tree.low (q / 2) in

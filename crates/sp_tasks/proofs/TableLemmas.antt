@@ -8,7 +8,7 @@ use Rattle.indexmap.specs.IndexMap.{IndexMap, set_value_at}
 use Rattle.indexmap.proofs.CallerLemmas.{updates-with_value_at}
 use Rattle.indexmap.proofs.SetLemmas.{map-swap_remove}
 use Rattle.rising_map.proofs.RowLemmas.{entry-at, pushed, replaced, rises-distinct, taken}
-use Rattle.sp_tasks.specs.Least.{Places, nothing}
+use Rattle.sp_tasks.specs.Least.{Least, nothing}
 use Rattle.sp_tasks.specs.Rows.{TaskRow, at_row, by_id, is_ready, lent_row, row_of, without}
 use Rattle.sp_tasks.specs.Tables.{IsTable, ready_number}
 use Rattle.sp_tasks.proofs.OrderLemmas.{below-by, lookup-by, rises-by, shown}
@@ -36,7 +36,7 @@ numbers-kept id v w (e ∷ es) zero there keeps =
 numbers-kept id v w (e ∷ es) (suc i) there keeps = ap (λ (ns : List ℕ). ready_number e ∷ ns) (numbers-kept id v w es i there keeps)
 
 -- a row is changed, and its number in the tree with it
-pub changed : (made spare free : ℕ) (es : List (ℕ × TaskRow)) (tree new : Places) (id i : ℕ) (v w : TaskRow) → slice_get es i ≡ Some (id, v)
+pub changed : (made spare free : ℕ) (es : List (ℕ × TaskRow)) (tree new : Least) (id i : ℕ) (v w : TaskRow) → slice_get es i ≡ Some (id, v)
     → new.numbers ≡ set tree.numbers i (ready_number (id, w)) → new.room ≡ tree.room → IsTable made spare free es tree → IsTable made spare free (set_value_at es i w) new
 changed made spare free es tree new id i v w there put room is = record {
   distinct = subst (λ (ks : List ℕ). IsDistinct nat_eq ks) (sym (keys-at es i w)) is.distinct;
@@ -44,11 +44,11 @@ changed made spare free es tree new id i v w there put room is = record {
   last = is.last;
   numbers = put ∙ ap (λ (ns : List ℕ). set ns i (ready_number (id, w))) is.numbers ∙ sym (numbers-at id v w es i there);
   room = is.room;
-  places = subst (λ (n : ℕ). spare ≤ n) (sym room) is.places;
+  indices = subst (λ (n : ℕ). spare ≤ n) (sym room) is.indices;
 }
 
 -- a row is changed that stays as ready as it was
-pub kept : (made spare free : ℕ) (es : List (ℕ × TaskRow)) (tree : Places) (id i : ℕ) (v w : TaskRow) → slice_get es i ≡ Some (id, v)
+pub kept : (made spare free : ℕ) (es : List (ℕ × TaskRow)) (tree : Least) (id i : ℕ) (v w : TaskRow) → slice_get es i ≡ Some (id, v)
     → ready_number (id, w) ≡ ready_number (id, v) → IsTable made spare free es tree → IsTable made spare free (set_value_at es i w) tree
 kept made spare free es tree id i v w there keeps is = record {
   distinct = subst (λ (ks : List ℕ). IsDistinct nat_eq ks) (sym (keys-at es i w)) is.distinct;
@@ -56,7 +56,7 @@ kept made spare free es tree id i v w there keeps is = record {
   last = is.last;
   numbers = is.numbers ∙ sym (numbers-kept id v w es i there keeps);
   room = is.room;
-  places = is.places;
+  indices = is.indices;
 }
 
 -- what a change of a row shows
@@ -77,9 +77,9 @@ pub row-kept : {S : Type 0} (m : IndexMap ℕ TaskRow S) (id i : ℕ) (v w : Tas
     → row_of id m.entries ≡ Some v → w ≡ v → by_id (set_value_at m.entries i w) ≡ by_id m.entries
 row-kept m id i v w distinct there found is = row-changed m id i v w (λ r. r) distinct there found is ∙ at-same id (by_id m.entries)
 
--- a place of the table is one of the tree
-pub place : (made spare free : ℕ) (es : List (ℕ × TaskRow)) (tree : Places) (i : ℕ) → IsTable made spare free es tree → i < length es → i < length tree.numbers
-place made spare free es tree i is within = subst (λ (n : ℕ). i < n) (sym (ap length is.numbers ∙ length-map es ready_number)) within
+-- a index of the table is one of the tree
+pub in_tree : (made spare free : ℕ) (es : List (ℕ × TaskRow)) (tree : Least) (i : ℕ) → IsTable made spare free es tree → i < length es → i < length tree.numbers
+in_tree made spare free es tree i is within = subst (λ (n : ℕ). i < n) (sym (ap length is.numbers ∙ length-map es ready_number)) within
 
 -- one of the two happens
 pub either-way : {A E : Type 0} (r : Result A E) (P Q R : Type 0) → OnOk r P → OnErr r Q → (P → R) → (Q → R) → R
@@ -96,16 +96,16 @@ lent-number id v =
 
 -- ---- a row comes
 
-pub started-table : (made spare free more : ℕ) (row : TaskRow) (es new : List (ℕ × TaskRow)) (tree after : Places) → IsTable made spare free es tree → made < 2 ^ 63 → 0 < spare → is_ready row ≡ true
+pub started-table : (made spare free more : ℕ) (row : TaskRow) (es new : List (ℕ × TaskRow)) (tree after : Least) → IsTable made spare free es tree → made < 2 ^ 63 → 0 < spare → is_ready row ≡ true
     → new ≡ es ++ (made + 1, row) ∷ [] → free ≤ more + 1 → after.numbers ≡ tree.numbers ++ (made + 1) ∷ [] → tree.room ≤ after.room + 1 → IsTable (made + 1) (spare - 1) more new after
-started-table made spare free more row es new tree after is last some ready entries left numbers places =
+started-table made spare free more row es new tree after is last some ready entries left numbers indices =
     let absent = above (made + 1) made es (omega arith) is.below in record {
       distinct = subst (λ (rs : List (ℕ × TaskRow)). IsDistinct nat_eq (keys_of rs)) (sym entries) (distinct-started (made + 1) row es is.distinct absent);
       below = subst (λ (rs : List (ℕ × TaskRow)). Below (made + 1) rs) (sym entries) (made-started made row es is.below);
       last = omega (arith, last);
       numbers = numbers ∙ (λ j. is.numbers j ++ cond (sym ready j) (made + 1) nothing ∷ []) ∙ sym (map-append ready_number es ((made + 1, row) ∷ [])) ∙ ap (map ready_number) (sym entries);
       room = let enough = is.room in omega (arith, enough, left, some);
-      places = let enough = is.places in omega (arith, enough, places, some);
+      indices = let enough = is.indices in omega (arith, enough, indices, some);
     }
 
 pub row-started : (made : ℕ) (row : TaskRow) (es new : List (ℕ × TaskRow)) → IsDistinct nat_eq (keys_of es) → Below made es → new ≡ es ++ (made + 1, row) ∷ []
@@ -127,7 +127,7 @@ value-at [] i p there = cc
 value-at (e ∷ es) zero p there = let same : e ≡ p = cc in λ j. Some ((same j).1)
 value-at (e ∷ es) (suc i) p there = value-at es i p there
 
--- the row of an id that has a place
+-- the row of an id that has a index
 pub there : (id i : ℕ) (es : List (ℕ × TaskRow)) → position (nat_eq id) (keys_of es) ≡ Some i → i < length es → (v : TaskRow) × (slice_get es i ≡ Some (id, v))
 there id i es index within = let p = exists-at es i within in (p.0.1, entry-at id es i p.0.1 index (value-at es i p.0 p.1))
 
@@ -158,9 +158,9 @@ some-there : (es : List (ℕ × TaskRow)) (i : ℕ) (p : ℕ × TaskRow) → sli
 some-there [] i p there = cc
 some-there (e ∷ es) i p there = omega arith
 
-pub removed-table : (made spare free more : ℕ) (es new : List (ℕ × TaskRow)) (tree after : Places) (i : ℕ) (p : ℕ × TaskRow) → IsTable made spare free es tree → slice_get es i ≡ Some p → new ≡ swap_remove es i p
+pub removed-table : (made spare free more : ℕ) (es new : List (ℕ × TaskRow)) (tree after : Least) (i : ℕ) (p : ℕ × TaskRow) → IsTable made spare free es tree → slice_get es i ≡ Some p → new ≡ swap_remove es i p
     → IsDistinct nat_eq (keys_of new) → free ≤ more → ((other : ℕ) → after.numbers ≡ swap_remove tree.numbers i other) → tree.room ≤ after.room → IsTable made spare more new after
-removed-table made spare free more es new tree after i p is there entries distinct left numbers places = record {
+removed-table made spare free more es new tree after i p is there entries distinct left numbers indices = record {
   distinct = distinct;
   below =
       let low = below-found made es i p there is.below in
@@ -169,7 +169,7 @@ removed-table made spare free more es new tree after i p is there entries distin
   last = is.last;
   numbers = numbers (ready_number p) ∙ ap (λ (ns : List ℕ). swap_remove ns i (ready_number p)) is.numbers ∙ sym (map-swap_remove ready_number es i p (some-there es i p there)) ∙ ap (map ready_number) (sym entries);
   room = let enough = is.room in omega (arith, enough, left);
-  places = let enough = is.places in omega (arith, enough, places);
+  indices = let enough = is.indices in omega (arith, enough, indices);
 }
 
 pub row-removed : (id : ℕ) (es new : List (ℕ × TaskRow)) → IsDistinct nat_eq (keys_of es) → IsDistinct nat_eq (keys_of new) → ((q : ℕ) → row_of q new ≡ cond (nat_eq id q) None (row_of q es)) → by_id new ≡ without id (by_id es)

@@ -32,7 +32,7 @@ pub struct Tasks {
     // For how many more tasks there is room in both of the following.
     room: usize,
     rows: IndexMap<u64, LivingTask>,
-    // At the place of each row its id, if the task may go on.
+    // At the index of each row its id, if the task may go on.
     ready: LeastTree,
 }
 

@@ -1,5 +1,5 @@
 use Rattle.std.proofs.Common.{◌≡◌, drop}
-use Rattle.cf_reader.specs.Descriptors.{AreFieldTypes}
+use Rattle.cf_descriptors.specs.Descriptors.{AreFieldTypes}
 use Rattle.cf_reader.specs.Builds.{field_from, each}
 use Rattle.cf_reader.proofs.Each.{before}
 use Rattle.cf_reader.proofs.build.fields_from.Given as goal

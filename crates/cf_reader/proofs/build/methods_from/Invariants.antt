@@ -1,5 +1,5 @@
 use Rattle.std.proofs.Common.{◌≡◌, drop}
-use Rattle.cf_reader.specs.Descriptors.{AreMethodTypes}
+use Rattle.cf_descriptors.specs.Descriptors.{AreMethodTypes}
 use Rattle.cf_reader.specs.Builds.{method_from, each}
 use Rattle.cf_reader.proofs.Each.{before}
 use Rattle.cf_reader.proofs.build.methods_from.Given as goal

@@ -2,7 +2,7 @@ use Rattle.std.proofs.Common.{◌≡◌, drop, take}
 use Rattle.cf_text.specs.Demands.{of_each, verdict}
 use Rattle.cf_layout.specs.ReadInsides.{insides_of}
 use Rattle.cf_reader.specs.Checks.{method_demands}
-use Rattle.cf_reader.specs.Descriptors.{AreMethodTypes}
+use Rattle.cf_descriptors.specs.Descriptors.{AreMethodTypes}
 use Rattle.cf_reader.specs.MemberNames.{AreMethodNames}
 use Rattle.cf_reader.specs.Seen.{AreSeen}
 use Rattle.cf_reader.proofs.members.check_each_method.Given as goal

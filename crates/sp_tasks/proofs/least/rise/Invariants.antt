@@ -2,10 +2,10 @@ use Rattle.std.proofs.Common.{ℕ, ◌+◌, ◌*◌, ◌<◌, ◌≢◌, length}
 use Rattle.sp_tasks.specs.Least.{IsLow}
 use Rattle.sp_tasks.proofs.least.rise.Given as goal
 
--- all places are right but the one above
+-- all indices are right but the one above
 abbrev pub invariant-loop-at : goal.invariant-loop-at
 invariant-loop-at l = record {
-  place : l.at < length l.lows;
+  index : l.at < length l.lows;
   low : (other : ℕ) → 2 * other + 1 ≢ l.at → 2 * other + 2 ≢ l.at → IsLow l.numbers l.lows other;
 }
 

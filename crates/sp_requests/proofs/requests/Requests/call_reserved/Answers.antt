@@ -15,4 +15,4 @@ returns-clause-sent c = λ conn rows sent peer asked frame a above asks named it
     call-sent conn c.args.number c.args.asker rows sent peer asked frame old _ (ap (λ (t : Requests). t.waiting) e) (ap (λ (t : Requests). t.groups) e)
     (ap (λ (t : Requests). t.frames) e ∙ ap (λ n. min (n + 1) (2 ^ 128 - 1)) a.frames ∙ fits (length sent) (length (calls_in sent rows)) (last_call sent) (last_sequence sent) a.few a.call_fits a.sequence_fits)
     c.ranges.number.fits above asks named its
-    (λ calls b below. subst (λ (m : RisingMap OutCall). AreRows (calls ++ (c.args.number, record { asker = c.args.asker; answered = false; place = old.frames }) ∷ []) m) (sym (ap (λ (t : Requests). t.calls) e)) (c.push_reserved.ensures.pushed calls b below)) a
+    (λ calls b below. subst (λ (m : RisingMap OutCall). AreRows (calls ++ (c.args.number, record { asker = c.args.asker; answered = false; index = old.frames }) ∷ []) m) (sym (ap (λ (t : Requests). t.calls) e)) (c.push_reserved.ensures.pushed calls b below)) a

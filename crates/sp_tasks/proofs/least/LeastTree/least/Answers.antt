@@ -5,4 +5,4 @@ use Rattle.sp_tasks.proofs.least.LeastTree.least.Goals as goal
 
 pub returns : goal.returns
 returns c =
-    rw (← c.self.view_is) (c.at_place.ensures ∙ ap (λ (l : List ℕ). number_at l 0) c.deref.ensures.value ∙ tree-least c.self.inside.numbers.items c.self.inside.lows.items c.self.invariant)
+    rw (← c.self.view_is) (c.at_index.ensures ∙ ap (λ (l : List ℕ). number_at l 0) c.deref.ensures.value ∙ tree-least c.self.inside.numbers.items c.self.inside.lows.items c.self.invariant)

@@ -2,11 +2,11 @@ use Rattle.std.proofs.Common.{◌≡◌, Some, set, sym, ap, ◌∙◌, Option, 
 use Rattle.sp_tasks.specs.Behaviours.{reply_of}
 use Rattle.sp_tasks.specs.Rows.{answered_row, row_of, TaskRow, is_parked}
 use Rattle.rising_map.proofs.RowLemmas.{entry-at, none-from}
-use Rattle.sp_tasks.proofs.TableLemmas.{in-view, out-of-view, changed, place, row-changed}
+use Rattle.sp_tasks.proofs.TableLemmas.{in-view, out-of-view, changed, in_tree, row-changed}
 use Rattle.sp_tasks.proofs.tasks.Tasks.answer_reserved.Goals as goal
 
 pub put-requires : goal.put-requires
-put-requires c = place _ _ _ _ _ c.in-Some.index c.self.invariant c.in-Some.ensures.within
+put-requires c = in_tree _ _ _ _ _ c.in-Some.index c.self.invariant c.in-Some.ensures.within
 
 pub invariant_of-self : goal.invariant_of-self
 invariant_of-self c =

@@ -4,11 +4,11 @@ use Rattle.sp_tasks.specs.Tables.{ready_number}
 use Rattle.rising_map.proofs.RowLemmas.{entry-at, none-from}
 use Rattle.sp_tasks.proofs.OrderLemmas.{lookup-by}
 use Rattle.sp_tasks.proofs.RowLemmas.{unwritten}
-use Rattle.sp_tasks.proofs.TableLemmas.{changed, lent-number, place, row-changed}
+use Rattle.sp_tasks.proofs.TableLemmas.{changed, lent-number, in_tree, row-changed}
 use Rattle.sp_tasks.proofs.tasks.Tasks.lend.Goals as goal
 
 pub put-requires : goal.put-requires
-put-requires c = place _ _ _ _ _ c.in_ok-index.index c.self.invariant c.in_ok-index.ensures.within
+put-requires c = in_tree _ _ _ _ _ c.in_ok-index.index c.self.invariant c.in_ok-index.ensures.within
 
 pub invariant_of-self : goal.invariant_of-self
 invariant_of-self c =

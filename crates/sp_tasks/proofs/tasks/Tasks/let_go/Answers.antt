@@ -1,10 +1,10 @@
 use Rattle.std.proofs.Common.{sym, ◌∙◌}
 use Rattle.rising_map.proofs.RowLemmas.{none-from}
-use Rattle.sp_tasks.proofs.TableLemmas.{if-some, place, removed-table, row-absent, row-removed, there}
+use Rattle.sp_tasks.proofs.TableLemmas.{if-some, in_tree, removed-table, row-absent, row-removed, there}
 use Rattle.sp_tasks.proofs.tasks.Tasks.let_go.Goals as goal
 
 pub swap_remove-requires : goal.swap_remove-requires
-swap_remove-requires c = place _ _ _ _ _ c.in_ok-index.index c.self.invariant c.in_ok-index.ensures.within
+swap_remove-requires c = in_tree _ _ _ _ _ c.in_ok-index.index c.self.invariant c.in_ok-index.ensures.within
 
 pub invariant_of-self : goal.invariant_of-self
 invariant_of-self c =

@@ -1,7 +1,7 @@
 use Rattle.cf_text.proofs.DescriptorLaws.{field_descriptor_again, field_descriptor_takes}
 use Rattle.cf_text.specs.Descriptors.{IsFieldType}
 use Rattle.std.proofs.Common.{rules}
-use Rattle.cf_reader.proofs.DescriptorsKept.{kept_more}
+use Rattle.cf_descriptors.proofs.DescriptorsKept.{kept_more}
 use Rattle.cf_reader.proofs.descriptors.FieldTypes.read.Goals as goal
 
 pub returns-in-Some-clause-value : goal.returns-in-Some-clause-value

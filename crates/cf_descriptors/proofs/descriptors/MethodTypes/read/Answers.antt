@@ -1,7 +1,7 @@
 use Rattle.cf_text.proofs.DescriptorLaws.{method_descriptor_again, method_descriptor_takes}
 use Rattle.cf_text.specs.Descriptors.{IsMethodType}
 use Rattle.std.proofs.Common.{rules}
-use Rattle.cf_reader.proofs.DescriptorsKept.{kept_more}
+use Rattle.cf_descriptors.proofs.DescriptorsKept.{kept_more}
 use Rattle.cf_reader.proofs.descriptors.MethodTypes.read.Goals as goal
 
 pub returns-in-Some-clause-value : goal.returns-in-Some-clause-value

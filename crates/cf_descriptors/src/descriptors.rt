@@ -5,7 +5,7 @@ ghost use Rattle.cf_text.specs.Reading.{Gives};
 ghost use Rattle.cf_text.specs.Types.{field_descriptor_of, method_descriptor_of};
 ghost use Rattle.cf_pool.specs.declared.pool.Entry.{Entry};
 ghost use Rattle.cf_pool.specs.Pools.{utf8_at};
-ghost use Rattle.cf_reader.specs.Descriptors.{AreFieldTypes, AreMethodTypes};
+ghost use Rattle.cf_descriptors.specs.Descriptors.{AreFieldTypes, AreMethodTypes};
 
 use cf_layout::Item;
 use cf_pool::{
@@ -18,14 +18,14 @@ use std::collections::BTreeMap;
 
 /// The types that fields of a class name, by the indices of their descriptors.
 #[derive(Drop)]
-pub(crate) struct FieldTypes<'a> {
+pub struct FieldTypes<'a> {
     by_index: BTreeMap<u16, Shared<FieldType>>,
     types: KnownTypes<'a>,
 }
 
 impl<'a> FieldTypes<'a> {
     /// No descriptor is read yet.
-    pub(crate) fn new(alloc: Global) -> FieldTypes<'a>
+    pub fn new(alloc: Global) -> FieldTypes<'a>
         ensures { (pool : List Entry) → AreFieldTypes pool result }
     {
         FieldTypes {
@@ -35,7 +35,7 @@ impl<'a> FieldTypes<'a> {
     }
 
     /// What the descriptor that an item names says: it is read if it was not read before.
-    pub(crate) fn read(
+    pub fn read(
         &mut self,
         alloc: Global,
         pool: &Pool,
@@ -59,14 +59,14 @@ impl<'a> FieldTypes<'a> {
 
 /// The types that methods of a class name, by the indices of their descriptors.
 #[derive(Drop)]
-pub(crate) struct MethodTypes<'a> {
+pub struct MethodTypes<'a> {
     by_index: BTreeMap<u16, Shared<MethodDescriptor>>,
     types: KnownTypes<'a>,
 }
 
 impl<'a> MethodTypes<'a> {
     /// No descriptor is read yet.
-    pub(crate) fn new(alloc: Global) -> MethodTypes<'a>
+    pub fn new(alloc: Global) -> MethodTypes<'a>
         ensures { (pool : List Entry) → AreMethodTypes pool result }
     {
         MethodTypes {
@@ -76,7 +76,7 @@ impl<'a> MethodTypes<'a> {
     }
 
     /// What the descriptor that an item names says: it is read if it was not read before.
-    pub(crate) fn read(
+    pub fn read(
         &mut self,
         alloc: Global,
         pool: &Pool,

@@ -7,8 +7,8 @@ use Rattle.cf_text.specs.declared.types.MethodDescriptor.{MethodDescriptor}
 use Rattle.cf_text.specs.Descriptors.{IsFieldType, IsMethodType}
 use Rattle.cf_pool.specs.declared.pool.Entry.{Entry}
 use Rattle.cf_pool.specs.Pools.{utf8_at}
-use Rattle.cf_reader.specs.declared.descriptors.FieldTypes.{FieldTypes}
-use Rattle.cf_reader.specs.declared.descriptors.MethodTypes.{MethodTypes}
+use Rattle.cf_descriptors.specs.declared.descriptors.FieldTypes.{FieldTypes}
+use Rattle.cf_descriptors.specs.declared.descriptors.MethodTypes.{MethodTypes}
 
 -- what is kept of an index is what the text of this index says
 abbrev pub AreFieldTypes : List Entry → FieldTypes → Type 0
