@@ -2,7 +2,7 @@
 
 ghost use Rattle.std.specs.Prelude.{◌≡◌, ◌==◌, map};
 ghost use Rattle.space_ids.specs.declared.ids.ClassId.{ClassId};
-ghost use Rattle.sp_core.specs.ClassSets.{kind_of};
+ghost use Rattle.sp_call_classes.specs.ClassSets.{kind_of};
 
 use sp_core::{ClassSet, FieldKind};
 use space_ids::ClassId;

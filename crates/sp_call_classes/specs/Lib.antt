@@ -1,1 +1,2 @@
+pub mod ClassSets
 pub mod Thrown

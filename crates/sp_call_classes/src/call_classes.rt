@@ -5,7 +5,7 @@ ghost use Rattle.sp_rules.specs.Classes.{Classes, fit_kinds, told_class};
 ghost use Rattle.sp_requests.specs.Asking.{kind_of};
 ghost use Rattle.sp_call_classes.specs.Thrown.{thrown_class};
 
-use sp_core::ClassSet;
+use crate::ClassSet;
 use sp_requests::ResultKind;
 use space_ids::{ClassId, Value};
 

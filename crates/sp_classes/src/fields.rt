@@ -1,7 +1,7 @@
 //! The fields of remote objects.
 
 ghost use Rattle.std.specs.Prelude.{◌≡◌, [], IfNone, IfSome, length, map, option_map, slice_get};
-ghost use Rattle.sp_core.specs.ClassSets.{kind_of};
+ghost use Rattle.sp_call_classes.specs.ClassSets.{kind_of};
 ghost use Rattle.sp_classes.specs.Fields.{fields_of, kind_of_word};
 
 use sp_core::FieldKind;

@@ -25,9 +25,9 @@ use Rattle.sp_store.specs.Stores.{made, holds_of, made_after, field_after, field
 use Rattle.sp_store.specs.declared.store.Store.{Store}
 use Rattle.sp_tasks.specs.Rows.{Hand, row_of, value_given}
 use Rattle.sp_tasks.specs.Rows as rows
-use Rattle.sp_core.specs.ClassSets.{kind_of}
+use Rattle.sp_call_classes.specs.ClassSets.{kind_of}
 use Rattle.sp_core.specs.Cores.{AreOwn, IsCore, Lends, lent_as}
-use Rattle.sp_core.specs.declared.class_set.FieldKind.{FieldKind}
+use Rattle.sp_call_classes.specs.declared.class_set.FieldKind.{FieldKind}
 use Rattle.sp_core.specs.declared.space.SpaceCore.{SpaceCore}
 use Rattle.sp_core.proofs.CommitLemmas.{committed-state, core-replied, stored, with-reply}
 use Rattle.sp_core.proofs.FinishLemmas.{own-among}

@@ -5,14 +5,13 @@
 //! leaves, and answers what the rules say.
 #![tactic(auto)]
 
-pub use class_set::{ClassSet, FieldKind};
 pub use event::{Event, Output, Root};
 pub use fault::{CoreFault, StartFault};
 pub use objects::Shown;
+pub use sp_call_classes::{ClassSet, FieldKind};
 pub use sp_tasks::{LentTask, Op, Outcome, Record, Reply, Stand};
 pub use space::SpaceCore;
 
-mod class_set;
 mod committing;
 mod event;
 mod fault;

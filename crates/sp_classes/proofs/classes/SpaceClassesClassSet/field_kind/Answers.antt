@@ -1,5 +1,5 @@
 use Rattle.std.specs.Prelude.{option_map, slice_get}
-use Rattle.sp_core.specs.ClassSets.{kind_of}
+use Rattle.sp_call_classes.specs.ClassSets.{kind_of}
 use Rattle.sp_rules.specs.Classes.{Classes}
 use Rattle.sp_classes.proofs.Told.{told}
 use Rattle.sp_classes.specs.Classes.{classes_of}

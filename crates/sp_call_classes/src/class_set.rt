@@ -2,7 +2,7 @@
 
 ghost use Rattle.std.specs.Prelude.{◌≡◌, length, option_map};
 ghost use Rattle.sp_rules.specs.Classes.{Classes, field_kind};
-ghost use Rattle.sp_core.specs.ClassSets.{kind_of};
+ghost use Rattle.sp_call_classes.specs.ClassSets.{kind_of};
 
 use space_ids::ClassId;
 
