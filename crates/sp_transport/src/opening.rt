@@ -63,9 +63,9 @@ impl Transport {
         self.connections.greet(conn, space);
     }
 
-    /// Notes that the Hello of a peer that was dialled has come on its connection. Returns what waits for it,
-    /// in the order in which it was made, which is to go out now.
-    pub fn welcome(&mut self, conn: u64, peer: &Uuid) -> Vec<Asked>
+    // Notes that the Hello of a peer that was dialled has come on its connection. Returns what waits for it,
+    // in the order in which it was made, which is to go out now.
+    pub(crate) fn welcome(&mut self, conn: u64, peer: &Uuid) -> Vec<Asked>
         ensures waited { (s : State) (c : Row) → IsTransport s self.old → connection_at s conn ≡ Some c → c.dialled ≡ Some peer.now → map asked_of result.items ≡ map (λ (r : Request). r.asked) (filter (waits_for peer.now) s.requests) }
         ensures welcomed { (s : State) (c : Row) → IsTransport s self.old → s.notes ≡ [] → connection_at s conn ≡ Some c → c.dialled ≡ Some peer.now → IsTransport (welcome peer.now conn s) self.new }
         ensures hello { (s : State) (c : Row) → IsTransport s self.old → connection_at s conn ≡ Some c → c.dialled ≡ Some peer.now → hello_came (connection_to (welcome peer.now conn s) peer.now) ≡ Some conn }
