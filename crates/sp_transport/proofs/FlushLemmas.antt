@@ -1,6 +1,6 @@
 -- The requests that wait for a Hello, as they go out, and the parts of a group.
 use Rattle.std.proofs.Common.{◌≡◌, ℕ, ◌+◌, ◌≤◌, Bool, true, false, cond, List, [], ◌∷◌, ◌++◌, Option, None, Some, ◌⊎◌, inl, inr, refl, sym, ap, subst, ◌∙◌, arith, append-nil, append_assoc}
-use Rattle.std.specs.Prelude.{◌&&◌, filter, find, map}
+use Rattle.std.specs.Prelude.{◌&&◌, filter, find, map, not}
 use Rattle.std.specs.List.{flat_map}
 use Rattle.std.specs.Str.{bytes_eq}
 use Rattle.std.proofs.lemmas.Bool.{false≢true}
@@ -28,6 +28,14 @@ use Rattle.sp_transport.proofs.GoesLemmas.{IsStep, each-cons, each-more, each-no
 
 hello-of : (s t : State) (peer : Uuid) → t.connections ≡ s.connections → hello_came (connection_to t peer) ≡ hello_came (connection_to s peer)
 hello-of s t peer same = ap (λ (cs : List Connection). hello_came (find (λ (c : Connection). is_to peer c.dialled) cs)) same
+
+-- two peers that are not told apart are one
+pub not-apart : (p q : Uuid) (apart : Bool) → apart ≡ not (bytes_eq p q) → apart ≡ false → p ≡ q
+not-apart p q apart is isnt = pick (bytes_eq p q) refl (sym is ∙ isnt)
+  where
+    pick : (b : Bool) → bytes_eq p q ≡ b → not b ≡ false → p ≡ q
+    pick true e h = one-peer p q e
+    pick false e h = absurd (false≢true (sym h))
 
 -- ---- parts of a group
 
@@ -87,12 +95,12 @@ each-of conn peer (r ∷ rs) s a =
 
 waits-peer : (peer : Uuid) (rs : List Request) → AllOf (λ (r : Request). r.peer ≡ peer) (filter (waits_for peer) rs)
 waits-peer peer [] = tt
-waits-peer peer (r ∷ rs) = pick (bytes_eq r.peer peer) (is_waiting r.stage) refl
+waits-peer peer (r ∷ rs) = pick (bytes_eq r.peer peer) (is_waiting r.stage) refl (waits-peer peer rs)
   where
-    pick : (b w : Bool) → bytes_eq r.peer peer ≡ b → AllOf (λ (q : Request). q.peer ≡ peer) (cond (b && w) (r ∷ filter (waits_for peer) rs) (filter (waits_for peer) rs))
-    pick true true e = (one-peer r.peer peer e, waits-peer peer rs)
-    pick true false e = waits-peer peer rs
-    pick false w e = waits-peer peer rs
+    pick : (b w : Bool) → bytes_eq r.peer peer ≡ b → AllOf (λ (q : Request). q.peer ≡ peer) (filter (waits_for peer) rs) → AllOf (λ (q : Request). q.peer ≡ peer) (cond (b && w) (r ∷ filter (waits_for peer) rs) (filter (waits_for peer) rs))
+    pick true true e rest = (one-peer r.peer peer e, rest)
+    pick true false e rest = rest
+    pick false w e rest = rest
 
 flush-is : (conn : ℕ) (peer : Uuid) (s : State) → requests.flush_waiting peer conn (greeted peer conn s) ≡ each (goes_after conn peer) (waiting_of peer s) (welcome peer conn s)
 unfolding requests.flush_waiting

@@ -20,7 +20,7 @@ use Rattle.sp_rules.specs.Lists.{each, with_some}
 use Rattle.sp_rules.specs.Requests as requests
 use Rattle.sp_rules.specs.Requests.{hello_came, turn_of}
 use Rattle.sp_rules.specs.State.{State, Connection, Request, Asked, Calls, LooksUp, Tells, Waits, connection_to, is_to}
-use Rattle.sp_transport.specs.Asking.{make_calls}
+use Rattle.sp_transport.specs.Asking.{make_calls, take_fresh}
 use Rattle.sp_transport.specs.Said.{CallsMayGo, GroupsMayGo, IsNotAfter, IsNotAfterButAcks, MayGo}
 use Rattle.sp_transport.specs.Settling.{MayMakeDue, MaySettle}
 use Rattle.sp_transport.specs.Transports.{AreLines, IsFresh, IsTransport, call_number, line_parts}
@@ -77,11 +77,11 @@ all-flat P f (x ∷ xs) each = all-append P (f x) (flat_map f xs) (each x) (all-
 
 all-kept : {A : Type 0} (P : A → Type 0) (is : A → Bool) (xs : List A) → ((x : A) → is x ≡ true → P x) → AllOf P (filter is xs)
 all-kept P is [] h = tt
-all-kept {A} P is (x ∷ xs) h = pick (is x) refl
+all-kept P is (x ∷ xs) h = pick (is x) refl (all-kept P is xs h)
   where
-    pick : (b : Bool) → is x ≡ b → AllOf P (cond b (x ∷ filter is xs) (filter is xs))
-    pick true e = (h x e, all-kept P is xs h)
-    pick false e = all-kept P is xs h
+    pick : (b : Bool) → is x ≡ b → AllOf P (filter is xs) → AllOf P (cond b (x ∷ filter is xs) (filter is xs))
+    pick true e rest = (h x e, rest)
+    pick false e rest = rest
 
 and-right : (a b : Bool) → (a && b) ≡ true → b ≡ true
 and-right true b e = e
@@ -243,13 +243,13 @@ due-notes s a = groups-notes (IsNotAfter event.Calls) (requests.due_groups s.lea
     all-of P h (g ∷ all) = (h g, all-of P h all)
 
 -- what the event asks as its own is a call or lookup, and stands after the calls that are due
-pub fresh-may-go : (s : State) (t : Transport) (r : Request) → (requests.make_due s).fresh ≡ r ∷ [] → MaySettle s → IsTransport (requests.make_due s) t → MayGo (requests.turn_asked r.asked) r.asked (requests.make_due s)
+pub fresh-may-go : (s : State) (t : Transport) (r : Request) → (requests.make_due s).fresh ≡ r ∷ [] → MaySettle s → IsTransport (requests.make_due s) t → MayGo (requests.turn_asked r.asked) r.asked (take_fresh (requests.make_due s))
 fresh-may-go s t r is may a = by r.asked (subst (λ (rs : List Request). AllOf (IsFresh (requests.make_due s).calls_made) rs) is a.lines.fresh_is).0.0
   where
     notes : CallsMayGo event.Calls (requests.make_due s)
     notes = due-notes s (subst (λ (rs : List Request). AllOf (λ (q : Request). CallsMayGo event.Calls s) rs) (sym (due-fresh s) ∙ is) may.fresh).0
 
-    by : (asked : Asked) → call_number asked ≡ (requests.make_due s).calls_made ∷ [] → MayGo (requests.turn_asked asked) asked (requests.make_due s)
+    by : (asked : Asked) → call_number asked ≡ (requests.make_due s).calls_made ∷ [] → MayGo (requests.turn_asked asked) asked (take_fresh (requests.make_due s))
     by (Calls number task lent kind m) e = notes
     by (LooksUp number task name) e = notes
     by (Tells call group) e = cc

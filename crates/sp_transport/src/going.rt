@@ -118,13 +118,7 @@ impl Transport {
     }
 
     // Sends one part of a group, under the next sequence number.
-    fn tell_part(
-        &mut self,
-        turn: Turn,
-        conn: u64,
-        call: u64,
-        part: Group,
-    ) -> Result<(), AllocError>
+    fn tell_part(&mut self, turn: Turn, conn: u64, call: u64, part: Group) -> Result<(), AllocError>
         requires { is_acks (turn_of turn) ≡ false }
         ensures { OnOk result ((s : State) → IsTransport s self.old → hello_came (connection_to s part.peer) ≡ Some conn → GroupsMayGo (turn_of turn) s → IsTransport (part_goes_out (turn_of turn) conn call s part) self.new) }
     {

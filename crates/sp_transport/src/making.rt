@@ -34,8 +34,6 @@ impl Transport {
         ensures named { (s : State) → IsTransport s self.old → AllOf (λ (r : Request). IsNamed r.asked) s.fresh }
         ensures out { (s : State) → IsTransport s self.old → AllOf (λ (r : Request). AreNextOut (take_fresh s) r.peer (call_number r.asked)) s.fresh }
         ensures waits { (s : State) → IsTransport s self.old → AllOf (λ (r : Request). AreNextWaiting (take_fresh s) (call_number r.asked)) s.fresh }
-        ensures rooms { Spends 0 0 0 0 self.old self.new }
-        ensures rows { KeepsRows self.old self.new }
     {
         self.fresh.take()
     }

@@ -71,9 +71,6 @@ impl Transport {
         ensures hello { (s : State) (c : Row) → IsTransport s self.old → connection_at s conn ≡ Some c → c.dialled ≡ Some peer.now → hello_came (connection_to (welcome peer.now conn s) peer.now) ≡ Some conn }
         ensures named { (s : State) (c : Row) → IsTransport s self.old → connection_at s conn ≡ Some c → c.dialled ≡ Some peer.now → AllOf IsNamed (map asked_of result.items) }
         ensures out { (s : State) (c : Row) → IsTransport s self.old → s.notes ≡ [] → connection_at s conn ≡ Some c → c.dialled ≡ Some peer.now → c.peer ≡ None → AreNextOut (welcome peer.now conn s) peer.now (flat_map call_number (map asked_of result.items)) }
-        ensures rooms { Spends 0 0 0 0 self.old self.new }
-        ensures row { (c g : ℕ) → HasRow peer.now 0 c g self.old → HasRow peer.now 0 c g self.new }
-        ensures rows { KeepsOtherRows peer.now self.old self.new }
     {
         let asked = self.peers.take_waiting(peer, self.alloc);
         self.connections.greet(conn, *peer);

@@ -1,7 +1,6 @@
 //! The requests of an event: those that waited for a Hello, and those that it makes as it ends.
 
-ghost use Rattle.std.specs.Prelude.{◌≡◌, ℕ, None, Some, OnOk};
-ghost use Rattle.dgc_client.specs.declared.groups.Group.{Group as CallGroup};
+ghost use Rattle.std.specs.Prelude.{◌≡◌, ℕ, [], None, Some, OnOk};
 ghost use Rattle.sp_rules.specs.Frames.{greeted};
 ghost use Rattle.sp_rules.specs.Requests.{ask, flush_waiting, make_due, make_group, settle, turn_asked, turn_of as turn_of_calls};
 ghost use Rattle.sp_rules.specs.State.{Connection as Row, State, Waits, connection_at};
@@ -22,7 +21,8 @@ impl Transport {
     ghost use Rattle.sp_transport.specs.Transports.{IsTransport, call_number};
 
     /// Notes that the Hello of a peer that was dialled has come on its connection. All that waits for it goes
-    /// out there, in the order in which it was made.
+    /// out there, in the order in which it was made. It fails at out of memory, and if sequence numbers come
+    /// to 2^63; the value is then of no more use.
     pub fn flush_waiting(&mut self, peer: &Uuid, conn: u64) -> Result<(), AllocError>
         ensures { OnOk result ((s : State) (c : Row) → IsTransport s self.old → s.notes ≡ [] → connection_at s conn ≡ Some c → c.dialled ≡ Some peer.now → c.peer ≡ None → IsTransport (flush_waiting peer.now conn (greeted peer.now conn s)) self.new) }
     {
@@ -34,7 +34,8 @@ impl Transport {
     }
 
     /// Ends an event: makes the dirty and clean calls that are due, and then asks the call or lookup of the
-    /// event, if it made one.
+    /// event, if it made one. It fails at out of memory, and if sequence numbers come to 2^63; the value is
+    /// then of no more use.
     pub fn settle(&mut self) -> Result<(), AllocError>
         ensures { OnOk result ((s : State) → IsTransport s self.old → MaySettle s → IsTransport (settle s) self.new) }
     {
