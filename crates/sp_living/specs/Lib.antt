@@ -1,0 +1,6 @@
+pub mod Views
+pub mod Parts
+pub mod Livings
+pub mod Holding
+pub mod Steps
+pub mod Hands
