@@ -4,3 +4,6 @@ pub mod Livings
 pub mod Holding
 pub mod Steps
 pub mod Hands
+pub mod Frames
+pub mod Tickets
+pub mod Ends

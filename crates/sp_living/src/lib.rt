@@ -8,11 +8,16 @@
 pub use living::Living;
 
 mod ending;
+mod ends;
+mod failing;
+mod frames;
 mod holding;
 mod keeping;
 mod lending;
 mod living;
+mod passing;
 mod releasing;
 mod replying;
 mod saying;
 mod starting;
+mod telling;
