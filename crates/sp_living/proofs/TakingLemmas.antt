@@ -1,7 +1,7 @@
 -- Frames go, fail or are dropped one after the other: so all of them may be taken out first.
-use Rattle.std.proofs.Common.{◌≡◌, ℕ, Bool, true, false, cond, List, [], ◌∷◌, ◌++◌, Option, None, Some, refl, sym, ap, subst, ◌∙◌, append-nil, append_assoc}
-use Rattle.std.specs.Prelude.{filter, find, not, ◌==◌, ◌&&◌, nat_eq}
-use Rattle.std.specs.List.{list_all}
+use Rattle.std.proofs.Common.{◌≡◌, ℕ, Bool, true, false, cond, List, [], ◌∷◌, ◌++◌, Option, None, Some, refl, sym, ap, subst, ◌∙◌, true≢false, append_assoc}
+use Rattle.std.specs.Prelude.{filter, find, not, ◌==◌, ◌&&◌, ◌||◌}
+use Rattle.std.specs.List.{list_any}
 use Rattle.std.proofs.lemmas.Bool.{eq-eqb}
 use Rattle.std.proofs.lemmas.Cmp.{nat_eq_equiv}
 use Rattle.sp_rules.specs.Classes.{Setting}
@@ -99,6 +99,26 @@ once-filter is (p ∷ ps) once =
         let more = fewer qs all.1 in
         elim (is q) as (λ b. Apart p (cond b (q ∷ filter is qs) (filter is qs))) [ true ↦ (all.0, more) | false ↦ more ]
 
+first-false : (a b : Bool) → (a || b) ≡ false → a ≡ false
+first-false true b h = h
+first-false false b h = refl
+
+second-false : (a b : Bool) → (a || b) ≡ false → b ≡ false
+second-false true b h = absurd (true≢false h)
+second-false false b h = h
+
+-- one more under another connection or number
+pub once-more : (ps : List ParkedFrame) (x : ParkedFrame) → AreOnce ps → list_any (is_parked_at x.conn x.number) ps ≡ false → AreOnce (ps ++ x ∷ [])
+once-more [] x once none = (tt, tt)
+once-more (p ∷ ps) x once none = (
+  more ps once.0,
+  once-more ps x once.1 (second-false (is_parked_at x.conn x.number p) (list_any (is_parked_at x.conn x.number) ps) none),
+)
+  where
+    more : (qs : List ParkedFrame) → Apart p qs → Apart p (qs ++ x ∷ [])
+    more [] all = (at-other p x ∙ first-false (is_parked_at x.conn x.number p) (list_any (is_parked_at x.conn x.number) ps) none, tt)
+    more (q ∷ qs) all = (all.0, more qs all.1)
+
 -- ---- one frame
 
 let-go : (x : ParkedFrame) (parked : List ParkedFrame) (s : State) → filter (is_parked_at x.conn x.number) parked ≡ x ∷ [] → let_go_parked x parked s ≡ drop_ids x.references s
@@ -117,10 +137,10 @@ pub takes-go : (g : Setting) → Takes (go g) (pass_on g)
 unfolding go
 takes-go g = record {
   taken = λ x kept rest s are once.
-      let one : filter (is_parked_at x.conn x.number) s.parked ≡ x ∷ [] = ap (filter (is_parked_at x.conn x.number)) are ∙ filter-at x kept rest once in
-      ap (λ o. with_some o s (λ q. let_go_parked x s.parked (go_frame g q q.frame (take_parked x s)))) (ap (find (is_parked_at x.conn x.number)) are ∙ find-at x kept rest once)
-      ∙ let-go x s.parked (go_frame g x x.frame (take_parked x s)) one
-      ∙ ap (λ t. drop_ids x.references (go_frame g x x.frame t)) (left x kept rest s are once);
+  let one : filter (is_parked_at x.conn x.number) s.parked ≡ x ∷ [] = ap (filter (is_parked_at x.conn x.number)) are ∙ filter-at x kept rest once in
+  ap (λ o. with_some o s (λ q. let_go_parked x s.parked (go_frame g q q.frame (take_parked x s)))) (ap (find (is_parked_at x.conn x.number)) are ∙ find-at x kept rest once)
+  ∙ let-go x s.parked (go_frame g x x.frame (take_parked x s)) one
+  ∙ ap (λ t. drop_ids x.references (go_frame g x x.frame t)) (left x kept rest s are once);
   apart = λ x ps s. pass-apart g x ps s;
 }
 
@@ -128,18 +148,18 @@ pub takes-fail : (g : Setting) → Takes (fail_parked g) (give_up g)
 unfolding fail_parked
 takes-fail g = record {
   taken = λ x kept rest s are once.
-      let one : filter (is_parked_at x.conn x.number) s.parked ≡ x ∷ [] = ap (filter (is_parked_at x.conn x.number)) are ∙ filter-at x kept rest once in
-      ap (fail_frame g x x.frame) (let-go x s.parked (take_parked x s) one)
-      ∙ ap (λ t. fail_frame g x x.frame (drop_ids x.references t)) (left x kept rest s are once);
+  let one : filter (is_parked_at x.conn x.number) s.parked ≡ x ∷ [] = ap (filter (is_parked_at x.conn x.number)) are ∙ filter-at x kept rest once in
+  ap (fail_frame g x x.frame) (let-go x s.parked (take_parked x s) one)
+  ∙ ap (λ t. fail_frame g x x.frame (drop_ids x.references t)) (left x kept rest s are once);
   apart = λ x ps s. give-apart g x ps s;
 }
 
 pub takes-unpark : Takes unpark let_references_go
 takes-unpark = record {
   taken = λ x kept rest s are once.
-      let one : filter (is_parked_at x.conn x.number) s.parked ≡ x ∷ [] = ap (filter (is_parked_at x.conn x.number)) are ∙ filter-at x kept rest once in
-      let-go x s.parked (take_parked x s) one
-      ∙ ap (drop_ids x.references) (left x kept rest s are once);
+  let one : filter (is_parked_at x.conn x.number) s.parked ≡ x ∷ [] = ap (filter (is_parked_at x.conn x.number)) are ∙ filter-at x kept rest once in
+  let-go x s.parked (take_parked x s) one
+  ∙ ap (drop_ids x.references) (left x kept rest s are once);
   apart = λ x ps s. let-apart x ps s;
 }
 
@@ -154,15 +174,15 @@ each-taken step one takes is kept (x ∷ rest) s are once =
     elim (is x) as (λ b. each step (cond b (x ∷ filter is rest) (filter is rest)) s
     ≡ each one (cond b (x ∷ filter is rest) (filter is rest)) (with_parked (kept ++ cond (not b) (x ∷ filter (λ p. not (is p)) rest) (filter (λ p. not (is p)) rest)) s)) [
       | true ↦
-          let now = one (with_parked (kept ++ rest) s) x in
-          let here : now.parked ≡ kept ++ rest = ap (λ (t : State). t.parked) (takes.apart x (kept ++ rest) s) in
-          ap (each step (filter is rest)) (takes.taken x kept rest s are once)
-          ∙ each-taken step one takes is kept rest now here (once-without x kept rest once)
-          ∙ ap (each one (filter is rest)) (ap (with_parked (kept ++ filter (λ p. not (is p)) rest)) (takes.apart x (kept ++ rest) s) ∙ sym (takes.apart x (kept ++ filter (λ p. not (is p)) rest) s))
+        let now = one (with_parked (kept ++ rest) s) x in
+        let here : now.parked ≡ kept ++ rest = ap (λ (t : State). t.parked) (takes.apart x (kept ++ rest) s) in
+        ap (each step (filter is rest)) (takes.taken x kept rest s are once)
+        ∙ each-taken step one takes is kept rest now here (once-without x kept rest once)
+        ∙ ap (each one (filter is rest)) (ap (with_parked (kept ++ filter (λ p. not (is p)) rest)) (takes.apart x (kept ++ rest) s) ∙ sym (takes.apart x (kept ++ filter (λ p. not (is p)) rest) s))
       | false ↦
-          let same : (qs : List ParkedFrame) → (kept ++ x ∷ []) ++ qs ≡ kept ++ x ∷ qs = λ qs. append_assoc kept (x ∷ []) qs in
-          each-taken step one takes is (kept ++ x ∷ []) rest s (are ∙ sym (same rest)) (subst AreOnce (sym (same rest)) once)
-          ∙ ap (λ ps. each one (filter is rest) (with_parked ps s)) (same (filter (λ p. not (is p)) rest))
+        let same : (qs : List ParkedFrame) → (kept ++ x ∷ []) ++ qs ≡ kept ++ x ∷ qs = λ qs. append_assoc kept (x ∷ []) qs in
+        each-taken step one takes is (kept ++ x ∷ []) rest s (are ∙ sym (same rest)) (subst AreOnce (sym (same rest)) once)
+        ∙ ap (λ ps. each one (filter is rest) (with_parked ps s)) (same (filter (λ p. not (is p)) rest))
     ]
 
 pub all-taken : (step one : State → ParkedFrame → State) → Takes step one → (is : ParkedFrame → Bool) (s : State) → AreOnce s.parked

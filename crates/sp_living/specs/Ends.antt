@@ -1,11 +1,12 @@
 -- What was asked of a peer, as all of it ends together. (This project's own; that calls end with an exception is the Java RMI specification's appendix A.)
-use Rattle.std.specs.Prelude.{◌≡◌, ℕ, ◌==◌, Bool, not, List, [], ◌∷◌, filter, if◌then◌else◌}
+use Rattle.std.specs.Prelude.{◌≡◌, ℕ, ◌==◌, Bool, not, List, [], ◌∷◌, Option, filter, if◌then◌else◌}
 use Rattle.std.specs.List.{list_any}
 use Rattle.net_message.specs.declared.message.Message.TheVariants as message
 use Rattle.space_ids.specs.declared.ids.ClassId.{ClassId}
+use Rattle.uuid.specs.declared.Uuid.{Uuid}
 use Rattle.sp_rules.specs.Behaviours.{Throws}
 use Rattle.sp_rules.specs.Classes.{Setting}
-use Rattle.sp_rules.specs.Endings.{end_request, fail_group, is_group, is_of_connection, unpark, without_connection}
+use Rattle.sp_rules.specs.Endings.{end_request, fail_group, is_group, is_of_connection, unpark}
 use Rattle.sp_rules.specs.Lists.{each}
 use Rattle.sp_rules.specs.LivingTasks.{reply_to}
 use Rattle.sp_rules.specs.ParkedFrames.{remove_requests}
@@ -45,9 +46,9 @@ end_each g why requests s =
     each (end_request g why) (filter (λ (r : Request). is_group r.asked) requests)
     (each (end_request g why) (filter (λ (r : Request). not (is_group r.asked)) requests) s)
 
--- A connection ends that was dialled, with all that is asked of its peer; its results are held on.
-abbrev pub end_line : Setting → (Asked → ClassId) → Connection → State → State
-end_line g why c s =
-    let ending = is_of_connection c.number c.dialled in
-    let left = remove_requests ending (record s { connections = filter (λ (d : Connection). not (d.number == c.number)) s.connections }) in
-    end_each g why (filter ending s.requests) (each unpark (filter (λ (p : ParkedFrame). p.conn == c.number) s.parked) left)
+-- A connection ends, with all that is asked of its peer, if this space dialled it.
+abbrev pub end_line : Setting → (Asked → ClassId) → ℕ → Option Uuid → State → State
+end_line g why conn dialled s =
+    let ending = is_of_connection conn dialled in
+    let left = remove_requests ending (record s { connections = filter (λ (d : Connection). not (d.number == conn)) s.connections }) in
+    end_each g why (filter ending s.requests) (each unpark (filter (λ (p : ParkedFrame). p.conn == conn) s.parked) left)

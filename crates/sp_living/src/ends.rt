@@ -1,15 +1,13 @@
 //! Connections that end, peers that refuse, and what was asked on them.
 
-ghost use Rattle.std.specs.Prelude.{◌≡◌, ◌==◌, ℕ, List, [], OnOk, Some, None, filter, map, not, if◌then◌else◌};
-ghost use Rattle.std.specs.List.{flat_map};
+ghost use Rattle.std.specs.Prelude.{◌≡◌, ◌==◌, ℕ, List, [], OnOk, Some, filter, map};
 ghost use Rattle.sp_call_classes.specs.Thrown.{thrown_class};
-ghost use Rattle.sp_rules.specs.Classes.{Classes, Setting};
-ghost use Rattle.sp_rules.specs.Endings.{by_unmarshal, close, end_connection, end_request, fail_write, is_group, is_of_connection, orphan, unpark, unsent_calls, without_connection};
+ghost use Rattle.sp_rules.specs.Classes.{Setting};
+ghost use Rattle.sp_rules.specs.Endings.{by_unmarshal, close, end_connection, fail_write, orphan, unpark, unsent_calls};
 ghost use Rattle.sp_rules.specs.Lists.{each};
 ghost use Rattle.sp_rules.specs.OwnEvents.{on_refused};
-ghost use Rattle.sp_rules.specs.ParkedFrames.{remove_requests};
 ghost use Rattle.sp_rules.specs.State.{Asked as Question, Connection as Line, ParkedFrame as Row, Request, State, connection_at};
-ghost use Rattle.sp_transport.specs.Answers.{AreEnded, ended_as};
+ghost use Rattle.sp_transport.specs.Answers.{AreEnded};
 ghost use Rattle.space_ids.specs.declared.ids.ClassId.{ClassId as Class};
 
 use crate::Living;
@@ -138,7 +136,7 @@ impl Living {
         unsent: u64,
         thrown: Thrown,
     ) -> Result<(), AllocError>
-        ensures { OnOk result ((g : Setting) (s : State) (c : Line) (why : Question → Class) → IsLiving g s self.old → s.notes ≡ [] → C.tells classes.now g.classes → connection_at s conn ≡ Some c → c.dialled ≡ Some peer.now → AreThrown why (unsent_calls s conn unsent) thrown → IsLiving g (end_line g why c s) self.new) }
+        ensures { OnOk result ((g : Setting) (s : State) (c : Line) (why : Question → Class) → IsLiving g s self.old → s.notes ≡ [] → C.tells classes.now g.classes → connection_at s conn ≡ Some c → c.dialled ≡ Some peer.now → AreThrown why (unsent_calls s conn unsent) thrown → IsLiving g (end_line g why conn (Some peer.now) s) self.new) }
     {
         let ending = self.transport.ending(peer, unsent)?;
         let ended = self.transport.end_reserved(conn, peer, ending);

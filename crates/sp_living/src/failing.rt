@@ -2,9 +2,8 @@
 
 ghost use Rattle.std.specs.Prelude.{◌≡◌, ◌&&◌, [], ◌∷◌, IfOk, OnOk, is_none, filter};
 ghost use Rattle.dgc_client.specs.Lease.{is_made};
-ghost use Rattle.dgc_client.specs.Table.{references_at};
 ghost use Rattle.dgc_client.specs.declared.lease.Due.TheVariants as due;
-ghost use Rattle.sp_rules.specs.Classes.{Classes, Setting};
+ghost use Rattle.sp_rules.specs.Classes.{Setting};
 ghost use Rattle.sp_rules.specs.Endings.{fail_dirty, fail_group};
 ghost use Rattle.sp_rules.specs.Lists.{each};
 ghost use Rattle.sp_rules.specs.ParkedFrames.{fail_parked, names};

@@ -5,7 +5,7 @@ ghost use Rattle.std.specs.List.{IsDistinct, list_all, list_any};
 ghost use Rattle.dgc_client.specs.Table.{is_same};
 ghost use Rattle.sp_parked.specs.Parkings.{AreParked, parked_of};
 ghost use Rattle.sp_parked.specs.declared.frame.ParkedFrame.{ParkedFrame as Waiting};
-ghost use Rattle.sp_rules.specs.Classes.{Classes, Setting};
+ghost use Rattle.sp_rules.specs.Classes.{Setting};
 ghost use Rattle.sp_rules.specs.Lists.{each};
 ghost use Rattle.sp_rules.specs.ParkedFrames.{go_all, has_lease, is_parked_at, park_frame};
 ghost use Rattle.sp_rules.specs.State.{State};

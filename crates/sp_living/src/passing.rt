@@ -1,12 +1,12 @@
 //! What becomes of frames that were parked: a call starts its task, a result is passed on to who asked, and
 //! either may fail.
 
-ghost use Rattle.std.specs.Prelude.{◌≡◌, ◌∷◌, ℕ, List, IfOk, OnOk, Some, not, true, filter, map, option_map};
-ghost use Rattle.space_ids.specs.declared.ids.ClassId.{ClassId as Class};
+ghost use Rattle.std.specs.Prelude.{◌≡◌, ◌∷◌, Bool, List, IfOk, OnOk, not, true, filter, map, option_map};
 ghost use Rattle.space_ids.specs.declared.ids.Ref.{Ref as Reference};
+ghost use Rattle.space_ids.specs.declared.value.Value.{Value as Carried};
 ghost use Rattle.space_ids.specs.declared.value.Value.TheVariants as values;
-ghost use Rattle.sp_parked.specs.Parkings.{AreParked, parked_of};
-ghost use Rattle.sp_rules.specs.Classes.{Classes, Setting};
+ghost use Rattle.sp_parked.specs.Parkings.{parked_of};
+ghost use Rattle.sp_rules.specs.Classes.{Setting};
 ghost use Rattle.sp_rules.specs.ParkedFrames.{answer_parked, answer_threw, start_call, start_selected};
 ghost use Rattle.sp_rules.specs.State.{Object, ParkedFrame as Row, State, object_at};
 ghost use Rattle.sp_store.specs.Stores.{IsAfter};
@@ -93,12 +93,14 @@ impl Living {
     fn receiver(&self, store: &Store, target: ObjId) -> Option<Ref>
         ensures { (g : Setting) (s : State) → IsLiving g s self.now → IsAfter g s.store store.now → result ≡ option_map (λ (o : Object). record { space = g.id; id = target; class = o.class }) (object_at s target) }
     {
-        let class = store.class_of(target)?;
-        Some(Ref {
-            space: self.id,
-            id: target,
-            class,
-        })
+        match store.class_of(target) {
+            Some(class) => Some(Ref {
+                space: self.id,
+                id: target,
+                class,
+            }),
+            None => None,
+        }
     }
 
     // Starts the task of a call at the method that is selected, if there is one; else the answer is

@@ -1,8 +1,8 @@
 //! Answers to dirty and clean calls.
 
-ghost use Rattle.std.specs.Prelude.{◌≡◌, ℕ, [], OnOk, Some, true, false};
+ghost use Rattle.std.specs.Prelude.{◌≡◌, [], OnOk, Some, true, false};
 ghost use Rattle.dgc_client.specs.History.Event.{CleanAnswered, DirtyAnswered};
-ghost use Rattle.sp_rules.specs.Classes.{Classes, Setting};
+ghost use Rattle.sp_rules.specs.Classes.{Setting};
 ghost use Rattle.sp_rules.specs.Frames.{told_by};
 ghost use Rattle.sp_rules.specs.State.{Connection as Line, State, connection_at};
 ghost use Rattle.sp_store.specs.Stores.{IsAfter};
