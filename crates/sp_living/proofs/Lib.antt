@@ -1,0 +1,4 @@
+pub mod LivingLemmas
+pub mod HolderLemmas
+pub mod TaskLemmas
+pub mod ResultLemmas
