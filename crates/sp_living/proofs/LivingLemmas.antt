@@ -1,10 +1,12 @@
 -- What lives in a space, as its parts change one by one.
-use Rattle.std.proofs.Common.{◌≡◌, ℕ, ◌+◌, List, [], ◌∷◌, ◌++◌, refl, sym, ap, subst, ◌∙◌}
+use Rattle.std.proofs.Common.{◌≡◌, ℕ, ◌+◌, true, false, cond, List, [], ◌∷◌, ◌++◌, refl, sym, ap, subst, ◌∙◌}
 use Rattle.space_ids.specs.declared.ids.ForeignId.{ForeignId}
+use Rattle.net_message.specs.declared.message.Message.{Message}
 use Rattle.sp_rules.specs.Classes.{Setting}
+use Rattle.sp_rules.specs.Events.{Sends, Turn}
 use Rattle.sp_rules.specs.Holders.{drop_ids, hold_ids, holder_comes, holder_goes}
 use Rattle.sp_rules.specs.Lists.{each}
-use Rattle.sp_rules.specs.State.{State, KeptResult}
+use Rattle.sp_rules.specs.State.{State, KeptResult, is_open, send}
 use Rattle.sp_rules.specs.State as rules
 use Rattle.sp_transport.specs.Transports.{IsTransport}
 use Rattle.sp_transport.specs.declared.transport.Transport.{Transport}
@@ -90,3 +92,9 @@ held-one r s = refl
 pub dropped-one : (r : ForeignId) (s : State) → drop_ids (r ∷ []) s ≡ holder_goes s r
 unfolding drop_ids each
 dropped-one r s = refl
+
+-- ---- frames
+
+pub sent-own : (turn : Turn) (conn : ℕ) (m : Message) (s : State) → own_of (send turn conn m s) ≡ own_of s
+unfolding send
+sent-own turn conn m s = elim (is_open s conn) as (λ b. own_of (cond b (record s { notes = s.notes ++ Sends turn conn m ∷ [] }) s) ≡ own_of s) [ true ↦ refl | false ↦ refl ]

@@ -77,19 +77,19 @@ both {A} p q (x ∷ xs) = by (p x) (q x) refl refl (both p q xs)
 
 pub any-none : {A : Type 0} (p : A → Bool) (xs : List A) → filter p xs ≡ [] → list_any p xs ≡ false
 any-none p [] h = refl
-any-none p (x ∷ xs) h = by (p x) h
+any-none p (x ∷ xs) h = by (p x) h (any-none p xs)
   where
-    by : (b : Bool) → cond b (x ∷ filter p xs) (filter p xs) ≡ [] → (b || list_any p xs) ≡ false
-    by true h = cc
-    by false h = any-none p xs h
+    by : (b : Bool) → cond b (x ∷ filter p xs) (filter p xs) ≡ [] → (filter p xs ≡ [] → list_any p xs ≡ false) → (b || list_any p xs) ≡ false
+    by true h rest = cc
+    by false h rest = rest h
 
 pub any-some : {A : Type 0} (p : A → Bool) (xs : List A) (y : A) (ys : List A) → filter p xs ≡ y ∷ ys → list_any p xs ≡ true
 any-some p [] y ys h = cc
-any-some p (x ∷ xs) y ys h = by (p x) h
+any-some p (x ∷ xs) y ys h = by (p x) h (any-some p xs y ys)
   where
-    by : (b : Bool) → cond b (x ∷ filter p xs) (filter p xs) ≡ y ∷ ys → (b || list_any p xs) ≡ true
-    by true h = refl
-    by false h = any-some p xs y ys h
+    by : (b : Bool) → cond b (x ∷ filter p xs) (filter p xs) ≡ y ∷ ys → (filter p xs ≡ y ∷ ys → list_any p xs ≡ true) → (b || list_any p xs) ≡ true
+    by true h rest = refl
+    by false h rest = rest h
 
 -- ---- results that go
 

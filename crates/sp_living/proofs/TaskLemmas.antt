@@ -18,7 +18,7 @@ use Rattle.sp_rules.specs.Tasks.{Task, answer, gained, pay, pay_with, start, ste
 use Rattle.sp_rules.proofs.AllLemmas.{all-append, all-filter, all-first, all-more, all-weaken}
 use Rattle.sp_tasks.specs.Recorded.{with_entry}
 use Rattle.sp_tasks.specs.Rows.{TaskRow, TaskTable, answered_row, at_row, is_parked, row_of, started_row, value_given, with_started, without}
-use Rattle.sp_living.specs.Parts.{AreTasks}
+use Rattle.sp_living.specs.Parts.{AreTasks, IsIdle}
 use Rattle.sp_living.specs.Steps.{started}
 use Rattle.sp_living.specs.Views.{Seen, seen, seen_row, turned}
 
@@ -63,6 +63,7 @@ tasks-started g made ts table new origin method arguments fuel is are = subst (A
   last = ap (λ n. n + 1) are.last;
   runs = recorded-append g ts (started g (made + 1) origin method arguments fuel) are.runs refl;
   numbers = all-more (λ (t : Living). t.id ≤ made + 1) ts (started g (made + 1) origin method arguments fuel) (all-weaken (λ (t : Living). t.id ≤ made) (λ (t : Living). t.id ≤ made + 1) ts (λ t low. omega (arith, low)) are.numbers) (omega arith);
+  idle = all-more IsIdle table.rows (table.made + 1, started_row origin method arguments fuel) are.idle (λ w. refl);
 })
 
 low-rows : (made : ℕ) (es : List (ℕ × TaskRow)) (ts : List Living) → map seen_row es ≡ map seen ts → AllOf (λ (t : Living). t.id ≤ made) ts → AllOf (λ (x : Seen). x.id ≤ made) (map seen_row es)
@@ -161,6 +162,7 @@ tasks-replied g made id ts table new reply is waits are = subst (AreTasks g made
   last = are.last;
   runs = recorded-answered g id reply ts are.runs;
   numbers = all-first (λ (t : Living). t.id ≤ made) (λ (t : Living). t.id == id) (after_reply g reply) ts (λ t low. low) are.numbers;
+  idle = all-first IsIdle (λ (row : ℕ × TaskRow). row.0 == id) (λ (row : ℕ × TaskRow). (row.0, answered_row reply row.1)) table.rows (λ row _ w. absurd (false≢true w)) are.idle;
 })
 
 -- what is found of an id whose row has been changed
@@ -209,4 +211,5 @@ tasks-ended g made id ts table new is are = subst (AreTasks g made (filter (λ (
   last = are.last;
   runs = recorded-left g id ts are.runs;
   numbers = all-filter (λ (t : Living). t.id ≤ made) (λ (t : Living). not (t.id == id)) ts are.numbers;
+  idle = all-filter IsIdle (λ (row : ℕ × TaskRow). not (row.0 == id)) table.rows are.idle;
 })

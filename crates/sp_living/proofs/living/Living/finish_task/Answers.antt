@@ -1,0 +1,4 @@
+use Rattle.sp_living.proofs.living.Living.finish_task.Goals as goal
+
+pub returns : goal.returns
+returns w c = ?
