@@ -1,6 +1,6 @@
 -- Tasks in hand: what they are among the living tasks, and what becomes of them.
 use Rattle.std.proofs.Common.{◌≡◌, ℕ, zero, suc, ◌+◌, ◌≤◌, Bool, true, false, cond, nat_eq, List, [], ◌∷◌, ◌++◌, Option, None, Some, refl, sym, ap, subst, ◌∙◌, map, length, drop, arith}
-use Rattle.std.specs.Prelude.{IfSome, find, ◌==◌, ◌&&◌, ◌||◌, option_map, unwrap_or}
+use Rattle.std.specs.Prelude.{IfSome, OnOk, Ok, Err, Result, find, ◌==◌, ◌&&◌, ◌||◌, option_map, unwrap_or}
 use Rattle.std.specs.Cmp.{nat_eq_equiv}
 use Rattle.std.proofs.lemmas.Bool.{eq-eqb, eqb-true, false≢true}
 use Rattle.space_ids.specs.declared.ids.Ref.{Ref}
@@ -15,7 +15,7 @@ use Rattle.sp_rules.specs.State.{State, Living, ready_at, task_at, that_is_ready
 use Rattle.sp_rules.specs.Tasks.{Task, Stand, Runs, AsksFor, HasEnded, answer, lend_fuel, stand, step, step_at, steps}
 use Rattle.sp_rules.proofs.AllLemmas.{all-first}
 use Rattle.sp_tasks.specs.Recorded.{Recorded, with_entry, with_given}
-use Rattle.sp_tasks.specs.Rows.{TaskRow, TaskTable, Hand, at_row, back_row, hand_of, is_in_hand, lent_row, parked_row, replied_hand, replied_row, row_of, value_given}
+use Rattle.sp_tasks.specs.Rows.{TaskRow, TaskTable, Hand, at_row, back_row, hand_of, has_room, is_in_hand, lent_row, parked_row, replied_hand, replied_row, roomy_hand, roomy_row, row_of, value_given}
 use Rattle.sp_tasks.specs.Same.{is_recorded}
 use Rattle.sp_tasks.proofs.SameLemmas.{and-left, and-right, record-itself, record-same}
 use Rattle.sp_living.specs.Hands.{has_lent, task_of}
@@ -271,7 +271,7 @@ held-lent : (t : Task) → (lend_fuel t).held ≡ t.held
 unfolding lend_fuel
 held-lent t = refl
 
-pub tasks-waiting : (g : Setting) (s : State) (l : Lives) (hand : Hand) (new : TaskTable) → (h : InHand g s l hand) → map seen_row new.rows ≡ map seen_row (at_row hand.id (parked_row hand.made) l.tasks.rows) → new.made ≡ l.tasks.made → AllOf IsIdle new.rows
+tasks-waiting : (g : Setting) (s : State) (l : Lives) (hand : Hand) (new : TaskTable) → (h : InHand g s l hand) → map seen_row new.rows ≡ map seen_row (at_row hand.id (parked_row hand.made) l.tasks.rows) → new.made ≡ l.tasks.made → AllOf IsIdle new.rows
     → AreTasks g s.tasks_made s.tasks l.tasks → AreTasks g s.tasks_made (at_first (is_task hand.id) (waiting hand.made) s.tasks) new
 tasks-waiting g s l hand new h same made idle are =
     let k = hand.made in record {
@@ -356,3 +356,35 @@ given-own l new hand reply here same = by (row_of hand.id l.tasks.rows) refl her
         ∙ ap (λ (o : Option TaskRow). is_in_hand o (replied_hand reply hand)) (row-at hand.id (replied_row hand.made reply) row l.tasks.rows found)
         ∙ (λ j. lent j && is_recorded (with_given (steps j + hand.made) reply (past j)) (with_given (hand.steps + hand.made) reply hand.past))
         ∙ record-itself (with_given (hand.steps + hand.made) reply hand.past)
+
+-- and with room for the reply to its call
+pub roomy-own : (table new : TaskTable) (hand now : Hand) → is_in_hand (row_of hand.id table.rows) hand ≡ true → new ≡ record table { rows = at_row hand.id roomy_row table.rows } → now ≡ roomy_hand hand
+    → (is_in_hand (row_of now.id new.rows) now ≡ true) × (has_room (row_of now.id new.rows) ≡ true)
+roomy-own table new hand now here same mine = by (row_of hand.id table.rows) refl here
+  where
+    by : (o : Option TaskRow) → row_of hand.id table.rows ≡ o → is_in_hand o hand ≡ true → (is_in_hand (row_of now.id new.rows) now ≡ true) × (has_room (row_of now.id new.rows) ≡ true)
+    by None found here = absurd (false≢true here)
+    by (Some row) found here = (
+      (λ j. is_in_hand (row_of (mine j).id (same j).rows) (mine j)) ∙ ap (λ (o : Option TaskRow). is_in_hand o (roomy_hand hand)) (row-at hand.id roomy_row row table.rows found) ∙ here,
+      (λ j. has_room (row_of (mine j).id (same j).rows)) ∙ ap (λ (o : Option TaskRow). has_room o) (row-at hand.id roomy_row row table.rows found),
+    )
+
+parked-rows : (id k : ℕ) (es : List (ℕ × TaskRow)) → map seen_row (at_row id (parked_row k) (at_row id roomy_row es)) ≡ map seen_row (at_row id (parked_row k) es)
+parked-rows id k es =
+    rows-change id (parked_row k) (waiting_on k) (at_row id roomy_row es) (λ q row found. refl)
+    ∙ ap (at_first (λ (x : Seen). x.id == id) (waiting_on k)) (rows-unseen id roomy_row es (λ q row. refl))
+    ∙ sym (rows-change id (parked_row k) (waiting_on k) es (λ q row found. refl))
+
+pub tasks-parked : (g : Setting) (s : State) (l : Lives) (hand now : Hand) (mid new : TaskTable) → (h : InHand g s l hand) → mid ≡ record l.tasks { rows = at_row hand.id roomy_row l.tasks.rows } → now ≡ roomy_hand hand
+    → new ≡ record mid { rows = at_row now.id (parked_row now.made) mid.rows } → AreTasks g s.tasks_made s.tasks l.tasks → AreTasks g s.tasks_made (at_first (is_task hand.id) (waiting hand.made) s.tasks) new
+tasks-parked g s l hand now mid new h roomy mine is are =
+    let table : TaskTable = record l.tasks { rows = at_row hand.id (parked_row hand.made) (at_row hand.id roomy_row l.tasks.rows) } in
+    let same : new ≡ table = is ∙ (λ j. record (roomy j) { rows = at_row (mine j).id (parked_row (mine j).made) (roomy j).rows }) in
+    let once : AllOf IsIdle (at_row hand.id roomy_row l.tasks.rows) = all-first IsIdle (is_row hand.id) (change_row roomy_row) l.tasks.rows (λ row idle. idle) are.idle in
+    let idle : AllOf IsIdle table.rows = all-first IsIdle (is_row hand.id) (change_row (parked_row hand.made)) (at_row hand.id roomy_row l.tasks.rows) (λ row _ w. refl) once in
+    subst (AreTasks g s.tasks_made (at_first (is_task hand.id) (waiting hand.made) s.tasks)) (sym same) (tasks-waiting g s l hand table h (parked-rows hand.id hand.made l.tasks.rows) refl idle are)
+
+-- what two clauses say of what is returned
+pub on-both : {A E : Type 0} (r : Result A E) (P Q R : Type 0) → OnOk r P → OnOk r Q → (P → Q → R) → OnOk r R
+on-both (Ok x) P Q R p q f = f p q
+on-both (Err e) P Q R p q f = p

@@ -1,20 +1,28 @@
 -- What single changes of the tasks and results make of what lives in a space.
-use Rattle.std.proofs.Common.{◌≡◌, ℕ, ◌+◌, ◌≤◌, Bool, true, false, cond, List, [], ◌∷◌, ◌++◌, Option, None, Some, refl, sym, ap, subst, ◌∙◌, filter, length, drop, arith}
-use Rattle.std.specs.Prelude.{not, find, ◌==◌, is_none, is_some, option_map, unwrap_or}
+use Rattle.std.proofs.Common.{◌≡◌, ℕ, ◌+◌, ◌≤◌, ◌<◌, nat_lt, Bool, true, false, cond, List, [], ◌∷◌, ◌++◌, Option, None, Some, refl, sym, ap, subst, ◌∙◌, filter, length, drop, arith}
+use Rattle.std.specs.Prelude.{not, find, ◌==◌, is_some, option_map, unwrap_or}
+use Rattle.std.proofs.lemmas.Bool.Decides.{nat_tests}
 use Rattle.std.proofs.lemmas.Bool.{eq-eqb, eqb-true, false≢true}
 use Rattle.space_ids.specs.declared.ids.ForeignId.{ForeignId}
 use Rattle.space_ids.specs.declared.ids.Ref.{Ref}
 use Rattle.space_ids.specs.declared.value.Value.{Value}
-use Rattle.sp_rules.specs.Behaviours.{Reply}
-use Rattle.sp_rules.specs.Classes.{Setting}
+use Rattle.sp_rules.specs.Behaviours.{Call, Outcome, Reply}
+use Rattle.sp_rules.specs.Classes.{Kind, Setting}
+use Rattle.sp_rules.specs.Frames.{release}
 use Rattle.sp_rules.specs.Holders.{hold_ids, holder_comes}
+use Rattle.sp_rules.specs.Holders.{drop as drop_all}
+use Rattle.sp_rules.specs.OwnEvents.{is_over_at, on_moment}
+use Rattle.dgc_client.specs.Table as client
+use Rattle.dgc_list.specs.History as owner
 use Rattle.sp_rules.specs.Laws.{AllOf}
-use Rattle.sp_rules.specs.Lists.{each}
-use Rattle.sp_rules.specs.LivingTasks.{after_reply, after_steps, keep_result, outcome_of as outcome_in, reply_task, reply_to}
+use Rattle.sp_rules.specs.Lists.{each, with_some}
+use Rattle.sp_rules.specs.LivingTasks.{after_reply, after_steps, end_at, end_with, finish_task, keep_result, outcome_of as outcome_in, park_at, park_call, reply_task, reply_to, waiting}
 use Rattle.sp_rules.specs.References.{references_in, references_of, with_references}
 use Rattle.sp_rules.specs.State.{State, KeptResult, Origin, RootAcked, say, set_task, task_at}
 use Rattle.sp_rules.specs.State as rules
-use Rattle.sp_rules.specs.Tasks.{Task, answer, gained, start, steps}
+use Rattle.sp_rules.specs.Tasks.{Task, Stand, AsksFor, HasEnded, answer, gained, lent, stand, start, steps}
+use Rattle.net_message.specs.declared.message.Message.TheVariants as message
+use Rattle.sp_call_results.specs.Held.{AreCallResults, left_at, references_of_results}
 use Rattle.sp_call_results.specs.declared.call_results.CallResults.{CallResults}
 use Rattle.sp_connections.specs.Tables.{seen as shown}
 use Rattle.sp_connections.specs.declared.connection.Connection.{Connection as Shown}
@@ -24,16 +32,20 @@ use Rattle.sp_requests.specs.declared.asked.ResultKind.{ResultKind}
 use Rattle.sp_rules.specs.Events.{Ended}
 use Rattle.sp_tasks.specs.Behaviours.{origin_of}
 use Rattle.sp_tasks.specs.declared.origin.Origin.{Origin as Told}
-use Rattle.sp_tasks.specs.Rows.{TaskRow, TaskTable, Hand, answered_row, at_row, back_row, is_parked, lent_row, replied_row, row_of, started_row, value_given, with_started, without}
+use Rattle.sp_tasks.specs.Rows.{TaskRow, TaskTable, Hand, answered_row, at_row, back_row, is_parked, lent_row, parked_row, replied_row, roomy_hand, roomy_row, row_of, started_row, value_given, with_started, without}
+use Rattle.sp_transport.specs.Asking.{make_call, pass_moment}
 use Rattle.sp_transport.specs.Transports.{IsTransport}
+use Rattle.sp_transport.specs.declared.transport.Transport.{Transport}
+use Rattle.sp_living.specs.Hands.{task_of}
 use Rattle.sp_living.specs.Holding.{held_at}
 use Rattle.sp_living.specs.Livings.{IsLiving}
 use Rattle.sp_living.specs.Parts.{AreResults, AreTasks}
 use Rattle.sp_living.specs.Steps.{started, with_task}
 use Rattle.sp_living.specs.Views.{Seen, seen, seen_row}
 use Rattle.sp_living.specs.declared.living.Living.{Living}
-use Rattle.sp_living.proofs.HandLemmas.{InHand, steps-held, tasks-back, tasks-given, tasks-lent}
+use Rattle.sp_living.proofs.HandLemmas.{InHand, steps-held, task-is, tasks-back, tasks-given, tasks-lent, tasks-parked}
 use Rattle.sp_living.proofs.LivingLemmas.{beside}
+use Rattle.sp_living.proofs.ResultLemmas.{released-as, results-passed}
 use Rattle.sp_living.proofs.TaskLemmas.{answer-held, matched, start-holds, tasks-ended, tasks-replied, tasks-started}
 
 -- ---- parts
@@ -170,10 +182,10 @@ held-set (x ∷ xs) f id s = held-set xs f id (holder_comes s x)
 
 -- ---- what is found
 
-pub no-origin : (r : Option Told) (o : Option TaskRow) → is_none r ≡ true → option_map origin_of r ≡ option_map (λ (row : TaskRow). row.origin) o → o ≡ None
+pub no-origin : (r : Option Told) (o : Option TaskRow) → is_some r ≡ false → option_map origin_of r ≡ option_map (λ (row : TaskRow). row.origin) o → o ≡ None
 no-origin None None none same = refl
 no-origin None (Some row) none same = cc
-no-origin (Some x) o none same = absurd (false≢true none)
+no-origin (Some x) o none same = absurd (false≢true (sym none))
 
 -- a task that waits lives
 pub waits-there : (g : Setting) (s : State) (l : Living) (id : ℕ) → is_parked (row_of id l.tasks.rows) ≡ true → IsLiving g s l → (t : rules.Living) × (task_at s id ≡ Some t)
@@ -185,9 +197,9 @@ waits-there g s l id waits is = by (row_of id l.tasks.rows) (task_at s id) waits
     by (Some row) (Some t) w there e = (t, there)
 
 -- a connection that is found is open
-pub found-open : (r : Option Shown) (o : Option rules.Connection) → r ≡ option_map shown o → is_none r ≡ false → is_some o ≡ true
-found-open r None same none = absurd (false≢true (sym none ∙ ap (λ x. is_none x) same))
-found-open r (Some c) same none = refl
+pub found-open : (r : Option Shown) (o : Option rules.Connection) → r ≡ option_map shown o → is_some r ≡ true → is_some o ≡ true
+found-open r None same some = absurd (false≢true (sym (ap (λ x. is_some x) same) ∙ some))
+found-open r (Some c) same some = refl
 
 -- ---- who asked
 
@@ -204,3 +216,64 @@ unfolding reply_to
 asked-lookup g (rules.Calls n t l k m) task reply s e = cc
 asked-lookup g (rules.LooksUp n t name) task reply s e = let same : t ≡ task = cc in ap (λ id. keep_result g (RootAcked id) (outcome_in reply) (say (Ended id (outcome_in reply)) s)) same
 asked-lookup g (rules.Tells call group) task reply s e = cc
+
+-- ---- a task waits for the reply to its call
+
+pub now-waiting : (g : Setting) (s : State) (l : Living) (hand now : Hand) (mid table : TaskTable) → (h : InHand g s l hand) → mid ≡ record l.tasks { rows = at_row hand.id roomy_row l.tasks.rows } → now ≡ roomy_hand hand
+    → table ≡ record mid { rows = at_row now.id (parked_row now.made) mid.rows } → IsLiving g s l → IsLiving g (set_task (waiting hand.made) hand.id s) (record l { tasks = table })
+now-waiting g s l hand now mid table h roomy mine is a =
+    tasks-now g s l s.tasks_made (set_task (waiting hand.made) hand.id s).tasks s.retired table (tasks-parked g s l hand now mid table h roomy mine is a.tasks) a
+
+pub parks : (g : Setting) (s : State) (l : Living) (hand : Hand) (target : Ref) (method : ℕ) (arguments : List Value) (fuel number id : ℕ) (kind : Kind) → IsLiving g s l → (h : InHand g s l hand)
+    → stand (task_of g hand) ≡ AsksFor (Call target method arguments) → fuel ≡ lent (task_of g hand) → number ≡ s.calls_made → id ≡ hand.id → kind ≡ g.classes.result method
+    → park_call g hand.id hand.made s ≡ make_call target.space (rules.Calls (number + 1) id fuel kind (message.Call (number + 1) target.id method fuel arguments)) (set_task (waiting hand.made) hand.id s)
+unfolding park_call
+parks g s l hand target method arguments fuel number id kind is h stands lends num mine kinds =
+    let k = hand.made in
+    let here : steps k h.living.task ≡ task_of g hand = task-is g s l hand is h in
+    let left : lent (steps k h.living.task) ≡ fuel = ap (λ (t : Task). lent t) here ∙ sym lends in
+    ap (λ (o : Option rules.Living). with_some o s (λ t. park_at g hand.id k t (stand (steps k t.task)) s)) h.ready
+    ∙ ap (λ (x : Stand). park_at g hand.id k h.living x s) (ap stand here ∙ stands)
+    ∙ (λ j. make_call target.space (rules.Calls (sym num j + 1) (sym mine j) (left j) (sym kinds j) (message.Call (sym num j + 1) target.id method (left j) arguments)) (set_task (waiting k) hand.id s))
+
+-- ---- a task in hand ends
+
+pub finishes : (g : Setting) (s : State) (l : Living) (hand : Hand) (outcome : Outcome) → IsLiving g s l → (h : InHand g s l hand) → stand (task_of g hand) ≡ HasEnded outcome
+    → finish_task g hand.id hand.made s ≡ end_with g hand.id (after_steps hand.made h.living) outcome s
+unfolding finish_task
+finishes g s l hand outcome is h stands =
+    ap (λ (o : Option rules.Living). with_some o s (λ t. end_at g hand.id (after_steps hand.made t) (stand (steps hand.made t.task)) s)) h.ready
+    ∙ ap (λ (x : Stand). end_at g hand.id (after_steps hand.made h.living) x s) (ap stand (task-is g s l hand is h) ∙ stands)
+
+-- ---- a moment
+
+pub late : (g : Setting) (moment : ℕ) (s : State) → moment < s.moment → on_moment g moment s ≡ s
+unfolding on_moment
+late g moment s h = let early : nat_lt moment s.moment ≡ true = grind (arith, nat_tests) in ap (λ b. cond b s (release g (is_over_at moment) (record s { moment = moment; owner = record s.owner { entries = owner.Moment moment ∷ s.owner.entries }; leases = client.At moment ∷ s.leases }))) early
+
+-- what is left, before what goes lets go its references
+abbrev pub left_by_moment : ℕ → State → State
+left_by_moment moment s = record s {
+  moment = moment;
+  owner = record s.owner { entries = owner.Moment moment ∷ s.owner.entries };
+  leases = client.At moment ∷ s.leases;
+  results = left_at moment s.results;
+}
+
+pub in-time : (g : Setting) (moment : ℕ) (s : State) (refs : List Ref) → s.moment ≤ moment → references_of_results (filter (is_over_at moment) s.results) ≡ refs → on_moment g moment s ≡ drop_all g refs (left_by_moment moment s)
+unfolding on_moment
+in-time g moment s refs h goes =
+    let after : State = record s { moment = moment; owner = record s.owner { entries = owner.Moment moment ∷ s.owner.entries }; leases = client.At moment ∷ s.leases } in
+    let early : nat_lt moment s.moment ≡ false = grind (arith, nat_tests) in
+    ap (λ b. cond b s (release g (is_over_at moment) after)) early ∙ released-as g after (is_over_at moment) refs goes
+
+pub now-passed : (g : Setting) (s : State) (l : Living) (moment : ℕ) (calls : CallResults) (t : Transport) → s.moment ≤ moment → AreCallResults moment (left_at moment s.results) calls → IsTransport (pass_moment moment s) t → IsLiving g s l
+    → IsLiving g (left_by_moment moment s) (record l { moment = moment; call_results = calls; transport = t })
+now-passed g s l moment calls t h results now is = record {
+  id = is.id;
+  moment = refl;
+  transport = record { leases = now.leases; connections = now.connections; asked = now.asked; calls_made = now.calls_made; groups_made = now.groups_made; fresh = now.fresh; notes = now.notes; lines = now.lines };
+  tasks = is.tasks;
+  results = results-passed s.moment moment s.results l.results l.call_results calls results is.results;
+  parked = is.parked;
+}

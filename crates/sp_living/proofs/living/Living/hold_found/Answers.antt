@@ -7,5 +7,5 @@ use Rattle.sp_living.specs.Livings.{IsLiving}
 use Rattle.sp_living.proofs.LivingLemmas.{held-none}
 use Rattle.sp_living.proofs.living.Living.hold_found.Goals as goal
 
-pub returns-in-None : goal.returns-in-None
-returns-in-None c = λ g s a. subst (λ (u : State). IsLiving g u c.args.self.now) (sym (ap (λ (o : Option Ref). hold g (listed o) s) c.in-None.is ∙ held-none s)) a
+pub returns-in-None-clause-held : goal.returns-in-None-clause-held
+returns-in-None-clause-held c = λ g s a. subst (λ (u : State). IsLiving g u c.args.self.now) (sym (ap (λ (o : Option Ref). hold g (listed o) s) c.in-None.is ∙ held-none s)) a

@@ -19,4 +19,4 @@ returns c = on_ok_weaker c.hold_found.result (λ held. λ g s a.
     let none = sym (c.contains.ensures s.moment s.results a.results.of_calls) ∙ c.if-contains.false in
     let calls = c.hold_reserved.ensures s.moment s.results (c.in_ok-reserve.ensures.same s.moment s.results a.results.of_calls) none in
     let now = results-now g s l (with_acked conn number value s.results) l.results c.hold_reserved.new.self (call-kept s.moment conn number value s.results l.results l.call_results c.hold_reserved.new.self calls a.results) a in
-    subst (λ (refs : List Ref). IsLiving g (hold g refs kept) c.hold_found.new.self) (sym c.reference_in-found.ensures) (held g kept now)) c.hold_found.ensures
+    subst (λ (refs : List Ref). IsLiving g (hold g refs kept) c.hold_found.new.self) (sym c.reference_in-found.ensures) (held g kept now)) c.hold_found.ensures.held
