@@ -1,3 +1,9 @@
+pub mod LivingLemmas
+pub mod HolderLemmas
+pub mod TaskLemmas
+pub mod ResultLemmas
+pub mod HandLemmas
+pub mod StepLemmas
 pub mod ApartLemmas
 pub mod TakingLemmas
 pub mod StoreLemmas

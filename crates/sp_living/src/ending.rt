@@ -29,8 +29,9 @@ impl Living {
     ) -> Result<(), AllocError>
         ensures { OnOk result ((g : Setting) (s : State) (t : Task) (k : ℕ) → IsLiving g s self.old → C.tells classes.now g.classes → task_at s id ≡ Some t → fuel ≡ (steps k t.task).fuel → IsLiving g (end_with g id (after_steps k t) (outcome_of outcome) s) self.new) }
     {
-        let Some(origin) = self.tasks.origin(id) else {
-            return Ok(());
+        let origin = match self.tasks.origin(id) {
+            Some(origin) => origin,
+            None => return Ok(()),
         };
         let held = self.held(id)?;
         self.tasks.end(id);

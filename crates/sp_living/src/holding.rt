@@ -52,7 +52,8 @@ impl Living {
 
     // Adds a holder of a reference, if there is one and it is foreign.
     pub(crate) fn hold_found(&mut self, found: Option<Ref>) -> Result<(), AllocError>
-        ensures { OnOk result ((g : Setting) (s : State) → IsLiving g s self.old → IsLiving g (hold g (listed found) s) self.new) }
+        ensures tasks { self.new.tasks ≡ self.old.tasks }
+        ensures held { OnOk result ((g : Setting) (s : State) → IsLiving g s self.old → IsLiving g (hold g (listed found) s) self.new) }
     {
         match found {
             Some(reference) => self.hold_one(&reference),
@@ -72,7 +73,8 @@ impl Living {
 
     // Adds a holder of a reference, if it is foreign.
     fn hold_one(&mut self, reference: &Ref) -> Result<(), AllocError>
-        ensures { OnOk result ((g : Setting) (s : State) → IsLiving g s self.old → IsLiving g (hold_ids (foreign_id g.id reference.now) s) self.new) }
+        ensures tasks { self.new.tasks ≡ self.old.tasks }
+        ensures held { OnOk result ((g : Setting) (s : State) → IsLiving g s self.old → IsLiving g (hold_ids (foreign_id g.id reference.now) s) self.new) }
     {
         if reference.space == self.id {
             return Ok(());

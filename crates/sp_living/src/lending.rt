@@ -11,10 +11,16 @@ ghost use Rattle.sp_tasks.specs.Rows.{hand_of, replied_hand, row_of};
 ghost use Rattle.sp_living.specs.Steps.{give_reply};
 
 use crate::Living;
+use net_message::Message;
 use sp_call_classes::CallClasses;
-use sp_tasks::{LentTask, Outcome, Reply};
+use sp_requests::Asked;
+use sp_tasks::{LentTask, Outcome, Reply, copy_reply};
 use space_ids::{Ref, Row, Value};
 use std::alloc::AllocError;
+
+// The last number that a call may have. A space whose next number would be that is worn out, and takes no
+// event (98).
+const LAST_CALL: u64 = 1 << 63;
 
 impl Living {
     ghost use Rattle.sp_living.specs.Hands.{has_lent, task_of};
@@ -38,14 +44,19 @@ impl Living {
     }
 
     /// Gives a lent task the reply to its operation on the store: it is entered into its record, and the task
-    /// holds the reference in it too. The task is unchanged at out of memory.
+    /// holds the reference in it too. At out of memory the task is unchanged.
     pub fn give_reply(&mut self, task: &mut LentTask, reply: &Reply) -> Result<(), AllocError>
         requires { has_lent self.old task.old ≡ true }
         ensures given { OnOk result ((g : Setting) (s : State) → IsLiving g s self.old → IsLiving g (give_reply g task.old.id task.old.made (reply_of reply.now) s) self.new) }
         ensures task { OnOk result (task.new ≡ replied_hand (reply_of reply.now) task.old) }
         ensures own { OnOk result (has_lent self.new task.new ≡ true) }
+        ensures kept { OnErr result (task.new ≡ task.old) }
     {
-        Err(AllocError)
+        let gained = self.gained(task.id(), reply);
+        let entered = copy_reply(self.alloc, reply)?;
+        let copy = copy_reply(self.alloc, reply)?;
+        self.hold_found(gained)?;
+        self.tasks.reply(task, entered, copy)
     }
 
     /// Lets a lent task wait for the reply to the call for which it asks, and to which it lends this fuel.
@@ -63,7 +74,31 @@ impl Living {
         ensures parked { OnOk result ((g : Setting) (s : State) → IsLiving g s self.old → C.tells classes.now g.classes → stand (task_of g task) ≡ AsksFor (Calls target method arguments) → fuel ≡ lent (task_of g task) → IsLiving g (park_call g task.id task.made s) self.new) }
         ensures back { IfErr result (λ back. back ≡ task) }
     {
-        Err(task)
+        let mut task = task;
+        let number = self.transport.calls_made();
+        if number >= LAST_CALL {
+            return Err(task);
+        }
+        match self.tasks.reserve_answer(&mut task) {
+            Ok(()) => {}
+            Err(_) => return Err(task),
+        }
+        let asked = Asked::Call {
+            number: number + 1,
+            task: task.id(),
+            lent: fuel,
+            kind: classes.result_kind(method),
+            message: Message::Call {
+                number: number + 1,
+                object: target.id,
+                method,
+                fuel,
+                arguments,
+            },
+        };
+        self.tasks.park(task);
+        self.transport.make_call(&target.space, asked);
+        Ok(())
     }
 
     /// Lets a lent task go that has ended so, with this fuel left, as [`Living::end_task`] does.

@@ -33,8 +33,9 @@ impl Living {
     pub fn release_root(&mut self, task: u64)
         ensures { (g : Setting) (s : State) → IsLiving g s self.old → IsLiving g (release g (is_of_root task) s) self.new }
     {
-        if let Some(value) = self.results.take(task) {
-            self.drop_found(reference_in(&value));
+        match self.results.take(task) {
+            Some(value) => self.drop_found(reference_in(&value)),
+            None => {}
         }
     }
 

@@ -64,7 +64,7 @@ impl Living {
     }
 
     // The reference in a reply, if there is one and the task does not hold it.
-    fn gained(&self, id: u64, reply: &Reply) -> Option<Ref>
+    pub(crate) fn gained(&self, id: u64, reply: &Reply) -> Option<Ref>
         ensures { listed result ≡ drop (length (held_at id self.now)) (with_references (held_at id self.now) (references_in (value_given (reply_of reply.now)))) }
     {
         match reply {

@@ -13,7 +13,7 @@ use sp_tasks::{NewTask, Origin};
 use space_ids::Value;
 use std::alloc::AllocError;
 
-// The ids that may be given: a space starts fewer than 2^63 tasks (law `numbers_are_fresh`).
+// The last id that a task may have. A space whose next id would be that is worn out, and takes no event (98).
 const LAST_ID: u64 = 1 << 63;
 
 impl Living {

@@ -1,11 +1,10 @@
 //! Results that wait to be acknowledged.
 
-ghost use Rattle.std.specs.Prelude.{◌≡◌, ◌++◌, ◌||◌, [], ◌∷◌, false, filter, nat_eq, IfOk, OnOk, OnErr};
+ghost use Rattle.std.specs.Prelude.{◌≡◌, ◌++◌, ◌||◌, [], ◌∷◌, false, filter, IfOk, OnOk, OnErr};
 ghost use Rattle.std.specs.List.{list_any};
-ghost use Rattle.std.specs.Map.{lookup};
 ghost use Rattle.space_ids.specs.declared.ids.ObjId.{ObjId};
 ghost use Rattle.sp_rules.specs.References.{is_id_in, own_ids, references_in};
-ghost use Rattle.sp_results.specs.Waiting.{is_waiting, without};
+ghost use Rattle.sp_results.specs.Waiting.{is_waiting, of_task, row_of, without};
 
 use lru::LruCache;
 use sp_store::IdSet;
@@ -76,7 +75,7 @@ impl Results {
 
     /// Lets the result of the task go, if one waits, and returns it. The order of the others stays.
     pub fn take(&mut self, task: u64) -> Option<Option<Value>>
-        ensures value { result ≡ lookup (nat_eq task) self.old }
+        ensures value { of_task task self.old ≡ row_of task result }
         ensures left { self.new ≡ without task self.old }
     {
         self.results.pop(&task)
