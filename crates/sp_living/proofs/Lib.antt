@@ -4,11 +4,12 @@ pub mod TaskLemmas
 pub mod ResultLemmas
 pub mod HandLemmas
 pub mod StepLemmas
+pub mod PartLemmas
 pub mod ApartLemmas
 pub mod TakingLemmas
 pub mod StoreLemmas
 pub mod EachLemmas
 pub mod TicketLemmas
-pub mod PartLemmas
+pub mod TableLemmas
 pub mod EndLemmas
 pub mod FoundLemmas

@@ -1,5 +1,5 @@
 -- What single changes of the tasks and results make of what lives in a space.
-use Rattle.std.proofs.Common.{◌≡◌, ℕ, ◌+◌, ◌≤◌, ◌<◌, nat_lt, Bool, true, false, cond, List, [], ◌∷◌, ◌++◌, Option, None, Some, refl, sym, ap, subst, ◌∙◌, filter, length, drop, arith}
+use Rattle.std.proofs.Common.{◌≡◌, ℕ, ◌+◌, ◌≤◌, ◌<◌, nat_lt, true, false, cond, List, [], ◌∷◌, ◌++◌, Option, None, Some, refl, sym, ap, ◌∙◌, filter, length, drop, arith}
 use Rattle.std.specs.Prelude.{not, find, ◌==◌, is_some, option_map, unwrap_or}
 use Rattle.std.proofs.lemmas.Bool.Decides.{nat_tests}
 use Rattle.std.proofs.lemmas.Bool.{eq-eqb, eqb-true, false≢true}
@@ -17,7 +17,7 @@ use Rattle.dgc_list.specs.History as owner
 use Rattle.sp_rules.specs.Laws.{AllOf}
 use Rattle.sp_rules.specs.Lists.{each, with_some}
 use Rattle.sp_rules.specs.LivingTasks.{after_reply, after_steps, end_at, end_with, finish_task, keep_result, outcome_of as outcome_in, park_at, park_call, reply_task, reply_to, waiting}
-use Rattle.sp_rules.specs.References.{references_in, references_of, with_references}
+use Rattle.sp_rules.specs.References.{references_in, with_references}
 use Rattle.sp_rules.specs.State.{State, KeptResult, Origin, RootAcked, say, set_task, task_at}
 use Rattle.sp_rules.specs.State as rules
 use Rattle.sp_rules.specs.Tasks.{Task, Stand, AsksFor, HasEnded, answer, gained, lent, stand, start, steps}
@@ -46,7 +46,7 @@ use Rattle.sp_living.specs.declared.living.Living.{Living}
 use Rattle.sp_living.proofs.HandLemmas.{InHand, steps-held, task-is, tasks-back, tasks-given, tasks-lent, tasks-parked}
 use Rattle.sp_living.proofs.LivingLemmas.{beside}
 use Rattle.sp_living.proofs.ResultLemmas.{released-as, results-passed}
-use Rattle.sp_living.proofs.TaskLemmas.{answer-held, matched, start-holds, tasks-ended, tasks-replied, tasks-started}
+use Rattle.sp_living.proofs.TaskLemmas.{answer-held, matched, tasks-ended, tasks-replied, tasks-started}
 
 -- ---- parts
 
