@@ -13,3 +13,6 @@ pub mod TicketLemmas
 pub mod TableLemmas
 pub mod EndLemmas
 pub mod FoundLemmas
+pub mod PassLemmas
+pub mod ToldLemmas
+pub mod FailLemmas
