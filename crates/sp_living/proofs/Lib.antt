@@ -4,4 +4,4 @@ pub mod TaskLemmas
 pub mod ResultLemmas
 pub mod HandLemmas
 pub mod StepLemmas
-pub mod PartLemmas
+pub mod LivingParts

@@ -7,12 +7,10 @@
 
 pub use living::Living;
 
-mod ending;
 mod holding;
-mod keeping;
 mod lending;
 mod living;
-mod releasing;
 mod replying;
+mod results;
 mod saying;
-mod starting;
+mod tasks;
