@@ -4,7 +4,7 @@ pub mod TaskLemmas
 pub mod ResultLemmas
 pub mod HandLemmas
 pub mod StepLemmas
-pub mod PartLemmas
+pub mod LivingParts
 pub mod ApartLemmas
 pub mod TakingLemmas
 pub mod StoreLemmas

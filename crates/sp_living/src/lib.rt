@@ -7,17 +7,15 @@
 
 pub use living::Living;
 
-mod ending;
 mod ends;
 mod failing;
 mod frames;
 mod holding;
-mod keeping;
 mod lending;
 mod living;
 mod passing;
-mod releasing;
 mod replying;
+mod results;
 mod saying;
-mod starting;
+mod tasks;
 mod telling;
