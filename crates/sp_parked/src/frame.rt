@@ -17,10 +17,7 @@ pub enum Frame {
     /// A call that came.
     Call(ParkedCall),
     /// The result of a call or lookup.
-    Returned {
-        value: Option<Value>,
-        fuel: u64,
-    },
+    Returned { value: Option<Value>, fuel: u64 },
 }
 
 /// A frame that waits, the connection on which it came and its number there, and the foreign references in
