@@ -162,15 +162,16 @@ acts-taken before i (e ∷ es) p s at ok =
 pub acts-refused : (before : World) (i : ℕ) (es : List Event) (p : World) (s : Space) (why : Refusal) → slice_get p.spaces i ≡ Some s → refusal_of s.setting s.state es ≡ Some why
     → acts before i es p ≡ record before { refused = Some why }
 unfolding acts
-acts-refused before i [] p s why at no = absurd (none-some why no)
-acts-refused before i (e ∷ es) p s why at no =
+acts-refused before i [] p s why at refused = absurd (none-some why refused)
+acts-refused before i (e ∷ es) p s why at refused =
     ap (asked_of before i e es p) at
-    ∙ by (refusal s.setting (lent_for e) s.state e) no
+    ∙ by (λ f. acts-refused before i es (take_event i e s p) (grown e s) why (next-there i e s p at) f) (refusal s.setting (lent_for e) s.state e) refused
   where
-    by : (x : Option Refusal) → with_some x (refusal_of s.setting (on s.setting e s.state).0 es) (λ r. Some r) ≡ Some why
+    by : (refusal_of s.setting (on s.setting e s.state).0 es ≡ Some why → acts before i es (take_event i e s p) ≡ record before { refused = Some why })
+        → (x : Option Refusal) → with_some x (refusal_of s.setting (on s.setting e s.state).0 es) (λ r. Some r) ≡ Some why
         → with_some x (acts before i es (take_event i e s p)) (λ r. record before { refused = Some r }) ≡ record before { refused = Some why }
-    by None f = acts-refused before i es (take_event i e s p) (grown e s) why (next-there i e s p at) f
-    by (Some r) f = ap (λ (x : Option Refusal). record before { refused = x }) f
+    by later None f = later f
+    by later (Some r) f = ap (λ (x : Option Refusal). record before { refused = x }) f
 
 pub acts-nowhere : (before : World) (i : ℕ) (e : Event) (es : List Event) (p : World) → slice_get p.spaces i ≡ None → acts before i (e ∷ es) p ≡ before
 unfolding acts
@@ -204,7 +205,7 @@ step-taken i id w s at ok = let q = by (task_at s.state id) ok in (step-is i id 
 
 pub step-refused : (i id : ℕ) (w : World) (s : Space) (why : Refusal) → slice_get w.spaces i ≡ Some s → step_refusal s.setting s.state id ≡ Some why
     → step_task i id w ≡ record w { refused = Some why }
-step-refused i id w s why at no = step-is i id w s at ∙ by (task_at s.state id) no
+step-refused i id w s why at refused = step-is i id w s at ∙ by (task_at s.state id) refused
   where
     ready : (es : List Event) (b : Bool) → (if b then Some NotLent else refusal_of s.setting s.state es) ≡ Some why
         → (if b then record w { refused = Some NotLent } else acts w i es w) ≡ record w { refused = Some why }

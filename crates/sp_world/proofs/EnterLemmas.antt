@@ -119,6 +119,10 @@ new-many is_space [] (y ∷ rs) a = absurd a
 new-many is_space (x ∷ ss) [] a = absurd a
 new-many is_space (x ∷ ss) (y ∷ rs) a = ap suc (new-many is_space ss rs a.1)
 
+pub new-none : {S : Type 0} (is_space : Setting → State → S → Type 0) (settings : List Setting) → AreNew is_space settings [] → settings ≡ []
+new-none is_space [] a = refl
+new-none is_space (g ∷ settings) a = absurd a
+
 -- the last space, and the others
 pub new-split : {S : Type 0} (is_space : Setting → State → S → Type 0) (settings : List Setting) (ys : List S) (y : S) → AreNew is_space settings (ys ++ y ∷ [])
     → (gs : List Setting) × ((g : Setting) × ((settings ≡ gs ++ g ∷ []) × (AreNew is_space gs ys × is_space g opening y)))

@@ -6,6 +6,7 @@ use Rattle.sp_rules.specs.Classes.{Setting}
 use Rattle.sp_rules.specs.Events.{Event}
 use Rattle.sp_rules.specs.Lists.{with_some}
 use Rattle.sp_rules.specs.Refusals.{Refusal}
+use Rattle.sp_rules.specs.State.{State}
 use Rattle.sp_rules.specs.Worlds as rules
 use Rattle.sp_rules.specs.Worlds.{act, step_task}
 use Rattle.sp_events.specs.FaultNames.{RefusesOrLacks}
@@ -24,7 +25,7 @@ use Rattle.sp_world.specs.declared.world.Waiting.{Waiting}
 use Rattle.sp_world.specs.declared.world.World.{World}
 use Rattle.sp_world.proofs.ActLemmas.{acts-taken, step-nowhere, step-refused, step-taken}
 use Rattle.sp_world.proofs.ResidentLemmas.{resident-kept}
-use Rattle.sp_world.proofs.WiringLemmas.{none-left}
+use Rattle.sp_world.proofs.WiringLemmas.{all-err, none-left}
 use Rattle.sp_world.proofs.WorldLemmas.{heard, missed, none-there, still-waits, told-missed, told-taken, world-kept, world-same, world-took}
 
 -- ---- what is taken up of an answer
@@ -40,13 +41,9 @@ memory-or fault.WornOut = inr (λ e. cc)
 memory-or fault.Busy = inr (λ e. cc)
 memory-or fault.Memory = inl refl
 
-none-ok : {E : Type 0} {P : Bool → Type 0} (x : Result Bool E) → is_err x ≡ true → IfOk x P
-none-ok (Ok b) e = absurd (true≢false (sym e))
-none-ok (Err f) e = tt
-
-all-err : {E Q : Type 0} (x : Result Bool E) → Q → OnErr x Q
-all-err (Ok b) q = tt
-all-err (Err f) q = q
+none-ok : {E : Type 0} (P : Bool → Type 0) (x : Result Bool E) → is_err x ≡ true → IfOk x P
+none-ok P (Ok b) e = absurd (true≢false (sym e))
+none-ok P (Err f) e = tt
 
 -- how an answer is taken up: the facts that `hear` ensures
 pub record IsTakenUp {S E : Type 0} (i : ℕ) (answer : Result ℕ CoreFault) (mid new : World S) (result : Result Bool E) : Type 0 where
@@ -70,7 +67,7 @@ heard-of {S} {E} is_space i why events old mid new r t (Ok row) result still at 
 heard-of {S} {E} is_space i why events old mid new r t (Err f) result still at items k h = by (memory-or f)
   where
     by : (f ≡ fault.Memory) ⊎ (f ≡ fault.Memory → ⊥) → IfOk result (λ b. IsHeard is_space i why events b old new)
-    by (inl m) = none-ok result (h.lacks (ap Err m)).0
+    by (inl m) = none-ok (λ b. IsHeard is_space i why events b old new) result (h.lacks (ap Err m)).0
     by (inr n) = let q = h.refused n in
         subst (λ (x : Result Bool E). IfOk x (λ b. IsHeard is_space i why events b old new)) (sym q.0)
         (missed is_space i why events old new r t f at
@@ -125,8 +122,8 @@ pub makes-taken : {S : Type 0} (is_space : Setting → State → S → Type 0) (
     → ((w : rules.World) → IsStill is_space w old → f w ≡ act w i e (prepare w)) → ((w : rules.World) → (prepare w).spaces ≡ w.spaces) → ((w : rules.World) → (prepare w).refused ≡ w.refused)
     → new.residents.items ≡ mid.residents.items → new.waiting ≡ mid.waiting → new.refused ≡ mid.refused
     → ((w : rules.World) → IsWired w old.wiring → IsWired (prepare w) new.wiring) → Makes is_space f old new
-makes-taken is_space i e f prepare old mid new b yes heard is ps pr residents waiting refused wired = λ w h none.
-    told-taken is_space i e w (prepare w) (f w) mid new (subst (λ (x : Bool). IsHeard is_space i (refused_event e) (one_event e) x old mid) yes heard w.spaces h.spaces)
+makes-taken is_space i e f prepare old mid new b taken told is ps pr residents waiting refused wired = λ w h none.
+    told-taken is_space i e w (prepare w) (f w) mid new (subst (λ (x : Bool). IsHeard is_space i (refused_event e) (one_event e) x old mid) taken told w.spaces h.spaces)
     (is w h) (ps w) (pr w ∙ none) residents waiting refused (wired w h.wired)
 
 -- there is no such space, or it refused the event
@@ -135,8 +132,8 @@ pub makes-missed : {S : Type 0} (is_space : Setting → State → S → Type 0) 
     → ((w : rules.World) → IsStill is_space w old → f w ≡ act w i e (prepare w)) → ((w : rules.World) → (prepare w).spaces ≡ w.spaces)
     → new.residents.items ≡ mid.residents.items → new.waiting ≡ mid.waiting → new.refused ≡ mid.refused
     → ((w : rules.World) → IsWired w old.wiring → IsWired w new.wiring) → Makes is_space f old new
-makes-missed is_space i e f prepare old mid new b no heard is ps residents waiting refused wired = λ w h none.
-    told-missed is_space i e w (prepare w) (f w) mid new (subst (λ (x : Bool). IsHeard is_space i (refused_event e) (one_event e) x old mid) no heard w.spaces h.spaces)
+makes-missed is_space i e f prepare old mid new b not told is ps residents waiting refused wired = λ w h none.
+    told-missed is_space i e w (prepare w) (f w) mid new (subst (λ (x : Bool). IsHeard is_space i (refused_event e) (one_event e) x old mid) not told w.spaces h.spaces)
     (is w h) (ps w) none residents waiting refused (wired w h.wired)
 
 -- one event of a space, in the world as it is

@@ -84,3 +84,7 @@ wired-dialled w v old mid new same numbers pipes spaces lines dials h =
 pub on-err : {T E P Q : Type 0} (r : Result T E) → (P → Q) → OnErr r P → OnErr r Q
 on-err (Ok x) f h = tt
 on-err (Err e) f h = f h
+
+pub all-err : {T E Q : Type 0} (r : Result T E) → Q → OnErr r Q
+all-err (Ok x) q = tt
+all-err (Err e) q = q

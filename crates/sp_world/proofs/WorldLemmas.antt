@@ -44,7 +44,6 @@ heard {S} is_space i row why events old new r t at items wait refused takes = λ
     record {
       space = q.0;
       there = q.1.0;
-      state = q.1.1.state;
       accepted = k.accepted;
       residents = subst (AreResidents is_space (at_index (grown_all (events q.0)) i spaces)) (sym items)
         (resident-set is_space (grown_all (events q.0)) spaces old.residents.items i q.0 t a q.1.0 k.resident);
@@ -65,7 +64,7 @@ missed {S} is_space i why events old new r t f at items refused still real refus
     let q = resident-at is_space spaces old.residents.items i r a at in
     record {
       missed = subst (λ (o : Option rules.Space). MissedBy why o new.refused) (sym q.1.0)
-        (q.1.1.state, by (why q.0) (refuses q.0 q.1.1));
+        (by (why q.0) (refuses q.0 q.1.1));
       residents = subst (AreResidents is_space spaces) (sym items) (resident-kept is_space spaces old.residents.items i r t a at same);
       still = still;
     }

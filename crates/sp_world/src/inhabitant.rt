@@ -15,9 +15,10 @@ use sp_events::{CoreFault, Event};
 use sp_outputs::Output;
 use space_ids::{Uuid, Value};
 
-/// A space as a world needs it. It keeps the rules of spaces: it stands at the end of a history, and each
-/// call adds events to it, or is refused and changes nothing. Of several refusals the lowest number
-/// counts, but 98 before all others; out of memory may come in place of any.
+/// A space as a world needs it. It keeps the rules of spaces: each call makes of its state what the rules
+/// say, or is refused and changes nothing. Of several refusals the lowest number counts, but 98 before all
+/// others. Out of memory may come in place of any answer, and changes nothing either: a call is made whole
+/// or not at all.
 ///
 /// A space answers a row of outputs, which the world keeps as it is: of more memory that a world needs for
 /// them no space has to know.

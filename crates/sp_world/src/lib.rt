@@ -7,7 +7,7 @@
 
 pub use event::WorldEvent;
 pub use inhabitant::Inhabitant;
-pub use runs::{RunOutcome, run};
+pub use runs::{Unfinished, run};
 pub use sp_events::{CoreFault, Event, StartFault};
 pub use sp_outputs::Output;
 pub use sp_pipes::{Dial, End};
