@@ -1,6 +1,6 @@
 -- Worlds of the rules of spaces, as one space takes events one after the other.
-use Rattle.std.proofs.Common.{◌≡◌, ◌∙◌, ℕ, zero, suc, ◌+◌, Bool, true, false, List, [], ◌∷◌, ◌++◌, Option, None, Some, refl, sym, ap, subst, length, cond, not, ltb, append_assoc}
-use Rattle.std.specs.Prelude.{slice_get, position, if◌then◌else◌}
+use Rattle.std.proofs.Common.{◌≡◌, ◌∙◌, ℕ, zero, suc, ◌+◌, Bool, true, false, List, [], ◌∷◌, ◌++◌, Option, None, Some, refl, sym, ap, subst, length, cond, not, ltb}
+use Rattle.std.specs.Prelude.{slice_get, if◌then◌else◌}
 use Rattle.std.specs.List.{prefix_len}
 use Rattle.std.specs.Str.{bytes_eq}
 use Rattle.std.proofs.lemmas.Option.{none-some, same_Some}
@@ -11,7 +11,7 @@ use Rattle.sp_rules.specs.Lists.{each, with_some, at_index}
 use Rattle.sp_rules.specs.Refusals.{Refusal, NotLent, refusal}
 use Rattle.sp_rules.specs.Space.{on}
 use Rattle.sp_rules.specs.State.{Living, State, task_at}
-use Rattle.sp_rules.specs.Worlds.{World, Space, grown, put, acts, act, take_event, lent_for, number_of, asks_for, step_task, step_events}
+use Rattle.sp_rules.specs.Worlds.{World, Space, grown, put, acts, take_event, lent_for, number_of, asks_for, step_task, step_events}
 use Rattle.sp_world.specs.Residents.{grown_all}
 use Rattle.sp_world.specs.Steps.{answers_to, refusal_of, events_of_step, step_at, step_refusal}
 
@@ -144,8 +144,8 @@ took-more i e es s p =
     let outs : List Output = (on s.setting e s.state).1 in
     let rest : List Output = answers_to s.setting (on s.setting e s.state).0 es in
     ap (each (put i) rest)
-      (sym (puts-grow (grown_all es) (grown-setting es) i i outs (grow (grown e) i p))
-        ∙ ap (λ (xs : List Space). each (put i) outs (record p { spaces = xs })) (at-twice (grown_all es) (grown e) i p.spaces))
+    (sym (puts-grow (grown_all es) (grown-setting es) i i outs (grow (grown e) i p))
+    ∙ ap (λ (xs : List Space). each (put i) outs (record p { spaces = xs })) (at-twice (grown_all es) (grown e) i p.spaces))
     ∙ sym (each-append (put i) outs rest (grow (grown_all (e ∷ es)) i p))
 
 pub acts-taken : (before : World) (i : ℕ) (es : List Event) (p : World) (s : Space) → slice_get p.spaces i ≡ Some s → refusal_of s.setting s.state es ≡ None

@@ -1,5 +1,5 @@
 -- Worlds to which nothing has happened, as another space comes.
-use Rattle.std.proofs.Common.{◌≡◌, ◌∙◌, ℕ, zero, suc, Bool, true, false, List, [], ◌∷◌, ◌++◌, Option, None, Some, refl, sym, ap, subst, length, cond, map}
+use Rattle.std.proofs.Common.{◌≡◌, ◌∙◌, ℕ, suc, Bool, true, false, List, [], ◌∷◌, ◌++◌, Option, None, Some, refl, sym, ap, subst, length, cond, map}
 use Rattle.std.specs.Prelude.{is_some, option_map}
 use Rattle.std.specs.Map.{lookup}
 use Rattle.std.specs.Str.{bytes_eq}
@@ -7,9 +7,8 @@ use Rattle.std.proofs.lemmas.Bool.{true≢false}
 use Rattle.std.proofs.lemmas.List.{map-append, length-map}
 use Rattle.uuid.specs.declared.Uuid.{Uuid}
 use Rattle.sp_rules.specs.Classes.{Setting}
-use Rattle.sp_rules.specs.Events.{Event}
 use Rattle.sp_rules.specs.State.{State, opening}
-use Rattle.sp_rules.specs.Worlds.{Space, World, new_space, new_world, number_of}
+use Rattle.sp_rules.specs.Worlds.{Space, new_space, new_world, number_of}
 use Rattle.sp_rules.proofs.LineLemmas.{one-peer}
 use Rattle.sp_pipes.proofs.PipeLemmas.{position-no, position-yes}
 use Rattle.sp_world.specs.Residents.{AreResidents, IsResident}
@@ -84,11 +83,11 @@ pub entered : (settings : List Setting) (g : Setting) (id : Uuid) (n : ℕ) (old
 unfolding new_world
 entered settings g id n old new is many absent updates pipes dials h = record {
   numbers = λ q. updates q
-    ∙ ap (λ (o : Option ℕ). cond (bytes_eq id q) (Some n) o) (h.numbers q)
-    ∙ ap (λ (m : ℕ). cond (bytes_eq id q) (Some m) (number_of (map new_space settings) q)) (sym many ∙ sym (length-map settings new_space))
-    ∙ ap (λ (p : Uuid). cond (bytes_eq p q) (Some (length (map new_space settings))) (number_of (map new_space settings) q)) (sym is)
-    ∙ entered-new (map new_space settings) (new_space g) q (ap (λ (p : Uuid). is_some (number_of (map new_space settings) p)) is ∙ ap is_some (sym (h.numbers id)) ∙ absent)
-    ∙ ap (λ (ss : List Space). number_of ss q) (sym (map-append new_space settings (g ∷ [])));
+      ∙ ap (λ (o : Option ℕ). cond (bytes_eq id q) (Some n) o) (h.numbers q)
+      ∙ ap (λ (m : ℕ). cond (bytes_eq id q) (Some m) (number_of (map new_space settings) q)) (sym many ∙ sym (length-map settings new_space))
+      ∙ ap (λ (p : Uuid). cond (bytes_eq p q) (Some (length (map new_space settings))) (number_of (map new_space settings) q)) (sym is)
+      ∙ entered-new (map new_space settings) (new_space g) q (ap (λ (p : Uuid). is_some (number_of (map new_space settings) p)) is ∙ ap is_some (sym (h.numbers id)) ∙ absent)
+      ∙ ap (λ (ss : List Space). number_of ss q) (sym (map-append new_space settings (g ∷ [])));
   pipes = subst (λ ps. Rattle.sp_pipes.specs.Connections.ArePipes [] ps) (sym pipes) h.pipes;
   dials = h.dials ∙ ap Rattle.sp_pipes.specs.Asked.asked (sym dials);
 }
@@ -98,8 +97,8 @@ pub known : (settings : List Setting) (g : Setting) (id : Uuid) (wiring : Wiring
 unfolding new_world
 known settings g id wiring is there h = record {
   numbers = λ q. h.numbers q
-    ∙ entered-old (map new_space settings) (new_space g) q (ap (λ (p : Uuid). is_some (number_of (map new_space settings) p)) is ∙ ap is_some (sym (h.numbers id)) ∙ there)
-    ∙ ap (λ (ss : List Space). number_of ss q) (sym (map-append new_space settings (g ∷ [])));
+      ∙ entered-old (map new_space settings) (new_space g) q (ap (λ (p : Uuid). is_some (number_of (map new_space settings) p)) is ∙ ap is_some (sym (h.numbers id)) ∙ there)
+      ∙ ap (λ (ss : List Space). number_of ss q) (sym (map-append new_space settings (g ∷ [])));
   pipes = h.pipes;
   dials = h.dials;
 }
@@ -139,7 +138,7 @@ pub added : {S : Type 0} (is_space : Setting → State → S → Type 0) (settin
 unfolding new_world
 added {S} is_space settings g old new r items resident refused still wired h = record {
   spaces = subst (λ (ss : List Space). AreResidents is_space ss new.residents.items) (sym (map-append new_space settings (g ∷ [])))
-    (subst (AreResidents is_space (map new_space settings ++ new_space g ∷ [])) (sym items) (residents-more is_space (map new_space settings) old.residents.items (new_space g) r h.spaces resident));
+      (subst (AreResidents is_space (map new_space settings ++ new_space g ∷ [])) (sym items) (residents-more is_space (map new_space settings) old.residents.items (new_space g) r h.spaces resident));
   refused = subst (TellsRefusal None) (sym refused) h.refused;
   waiting = still-waits (new_world (settings ++ g ∷ [])) new still wired;
 }

@@ -4,9 +4,9 @@ use Rattle.std.specs.Prelude.{slice_get, if◌then◌else◌}
 use Rattle.std.proofs.lemmas.Option.{none-some, same_Some}
 use Rattle.net_message.specs.declared.message.Message.{Message}
 use Rattle.uuid.specs.declared.Uuid.{Uuid}
-use Rattle.sp_rules.specs.Events.{Event, Opened, Refused, Received, Closed, ReadFailed, WriteFailed}
+use Rattle.sp_rules.specs.Events.{Event, Opened, Refused, Received, ReadFailed, WriteFailed}
 use Rattle.sp_rules.specs.Lists.{with_some}
-use Rattle.sp_rules.specs.Worlds.{World, Pipe, Side, End, Accepter, Phase, Unopened, Live, Over, Own, act, accept, accept_at, begin_side, cut_end, deliver, deliver_first, ends, happens, id_at, is_asked, is_ended, is_live, is_own, is_unopened, lost, new_pipe, on_side, open_pipe, other, read_fails, refuse, refuse_to, side, take_front, without_pair, write_fails}
+use Rattle.sp_rules.specs.Worlds.{World, Pipe, End, Accepter, Phase, Unopened, Live, Over, Own, act, accept, accept_at, begin_side, cut_end, deliver, deliver_first, ends, happens, id_at, is_asked, is_ended, is_live, is_own, is_unopened, lost, new_pipe, on_side, open_pipe, other, read_fails, refuse, refuse_to, side, take_front, without_pair, write_fails}
 use Rattle.sp_pipes.specs.Connections.{comes_over, first_of, front_at, live_space, lost_at, unopened_space}
 use Rattle.sp_world.specs.Waitings.{close_end, deliver_front, deliver_last, deliver_next}
 
@@ -110,7 +110,7 @@ pub deliver-fits : (conn space : ℕ) (to : End) (w : World) → live_space to (
 unfolding deliver
 deliver-fits conn space to w e = live-fits w (delivered conn to w) to (slice_get w.pipes conn) space (deliver_next conn to space w) e
     (λ p is same. by-queue conn to w space (side to p).space (is_ended (side (other to) p).phase) (side to p).queue same
-        ∙ ap (λ (o : Option Pipe). with_some (front_at to o) (deliver_first conn to w space (comes_over (other to) o) []) (λ m. deliver_front conn to space m w)) (sym is))
+    ∙ ap (λ (o : Option Pipe). with_some (front_at to o) (deliver_first conn to w space (comes_over (other to) o) []) (λ m. deliver_front conn to space m w)) (sym is))
 
 pub next-frame : (conn space : ℕ) (to : End) (w : World) (m : Message) → front_at to (slice_get w.pipes conn) ≡ Some m → deliver_next conn to space w ≡ deliver_front conn to space m w
 next-frame conn space to w m e = ap (λ (o : Option Message). with_some o (deliver_last conn to space w) (λ y. deliver_front conn to space y w)) e

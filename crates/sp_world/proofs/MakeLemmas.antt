@@ -1,5 +1,5 @@
 -- What is made of a value that stands for a world, by what a space was told.
-use Rattle.std.proofs.Common.{◌≡◌, ◌∙◌, ℕ, ◌⊎◌, inl, inr, Bool, true, false, List, [], ◌∷◌, Option, None, Some, refl, sym, ap, subst, set, drop, map}
+use Rattle.std.proofs.Common.{◌≡◌, ◌∙◌, ℕ, ◌⊎◌, inl, inr, Bool, true, false, List, Option, None, Some, refl, sym, ap, subst, set, drop, map}
 use Rattle.std.specs.Prelude.{Result, Ok, Err, IfOk, IfErr, OnErr, is_err, is_none, slice_get}
 use Rattle.std.proofs.lemmas.Bool.{true≢false}
 use Rattle.sp_rules.specs.Classes.{Setting}
@@ -63,7 +63,7 @@ pub heard-of : {S E : Type 0} (is_space : Setting → State → S → Type 0) (i
 heard-of {S} {E} is_space i why events old mid new r t (Ok row) result still at items k h =
     subst (λ (x : Result Bool E). IfOk x (λ b. IsHeard is_space i why events b old new)) (sym h.taken.0)
     (heard is_space i row why events old new r t at
-      (ap (λ (w : World S). w.residents.items) h.taken.1 ∙ items) (ap (λ (w : World S). w.waiting) h.taken.1) (ap (λ (w : World S). w.refused) h.taken.1) k.taken)
+    (ap (λ (w : World S). w.residents.items) h.taken.1 ∙ items) (ap (λ (w : World S). w.waiting) h.taken.1) (ap (λ (w : World S). w.refused) h.taken.1) k.taken)
 heard-of {S} {E} is_space i why events old mid new r t (Err f) result still at items k h = by (memory-or f)
   where
     by : (f ≡ fault.Memory) ⊎ (f ≡ fault.Memory → ⊥) → IfOk result (λ b. IsHeard is_space i why events b old new)
@@ -71,7 +71,7 @@ heard-of {S} {E} is_space i why events old mid new r t (Err f) result still at i
     by (inr n) = let q = h.refused n in
         subst (λ (x : Result Bool E). IfOk x (λ b. IsHeard is_space i why events b old new)) (sym q.0)
         (missed is_space i why events old new r t f at
-          (ap (λ (w : World S). w.residents.items) q.1 ∙ items) (ap (λ (w : World S). w.refused) q.1) (ap (λ (w : World S). is_settled w) q.1 ∙ still) n k.refused k.same)
+        (ap (λ (w : World S). w.residents.items) q.1 ∙ items) (ap (λ (w : World S). w.refused) q.1) (ap (λ (w : World S). is_settled w) q.1 ∙ still) n k.refused k.same)
 
 pub kept-of : {S E : Type 0} (is_space : Setting → State → S → Type 0) (i : ℕ) (why : rules.Space → Option Refusal) (events : rules.Space → List Event) (old mid new : World S) (r t : Resident S) (answer : Result ℕ CoreFault) (result : Result Bool E)
     → slice_get old.residents.items i ≡ Some r → mid.residents.items ≡ set old.residents.items i t → mid.refused ≡ old.refused → mid.waiting ≡ old.waiting → mid.wiring ≡ old.wiring
@@ -214,7 +214,7 @@ settle-rest {S} is_space w old new x n row is outputs residents refused some res
   spaces = subst (AreResidents is_space w.spaces) (sym residents) h.spaces;
   refused = subst (TellsRefusal w.refused) (sym refused) h.refused;
   waiting = subst (λ (y : Option Waiting). Awaits w (writer_of y) (left_of y new.residents.items) new.wiring) (sym some)
-    (subst (λ (rs : List (Resident S)). Awaits w x.writer (drop n (row_of (slice_get rs x.writer) x.row)) new.wiring) (sym residents)
+      (subst (λ (rs : List (Resident S)). Awaits w x.writer (drop n (row_of (slice_get rs x.writer) x.row)) new.wiring) (sym residents)
       (subst (λ os. Awaits w x.writer (drop n os) new.wiring) outputs (rest (awaits-row is_space w old x row is outputs h))));
 }
 

@@ -1,8 +1,7 @@
 -- The spaces of a world, as one of them takes events.
-use Rattle.std.proofs.Common.{◌≡◌, ◌∙◌, ℕ, zero, suc, ◌≤◌, ◌⊎◌, inl, inr, Bool, true, false, List, [], ◌∷◌, ◌++◌, Option, None, Some, refl, sym, ap, subst, arith, length, map, set, append_assoc}
+use Rattle.std.proofs.Common.{◌≡◌, ◌∙◌, ℕ, zero, suc, List, [], ◌∷◌, ◌++◌, Option, None, Some, refl, sym, ap, subst, length, map, set, append_assoc}
 use Rattle.std.specs.Prelude.{slice_get}
 use Rattle.std.specs.Global.{Vec}
-use Rattle.std.specs.List.{flat_map}
 use Rattle.std.proofs.lemmas.List.{append-nil}
 use Rattle.std.proofs.lemmas.Option.{none-some, same_Some}
 use Rattle.sp_rules.specs.Classes.{Setting}
@@ -45,10 +44,10 @@ pub took : {S : Type 0} (is_space : Setting → State → S → Type 0) (s : Spa
 took {S} is_space s old new es row r items answers stands = record {
   space = subst (λ (g : Setting). is_space g (grown_all es s).state new.space) (sym (grown-setting es s)) (subst (λ (x : State). is_space s.setting x new.space) (sym (grown-state es s)) stands);
   outputs = grown-outputs es s
-    ∙ ap (λ (xs : List events.Output). xs ++ answers_to s.setting s.state es) r.outputs
-    ∙ ap (λ (ys : List events.Output). told old.answers.items ++ ys) (sym answers)
-    ∙ sym (told-more old.answers.items row)
-    ∙ ap told (sym items);
+      ∙ ap (λ (xs : List events.Output). xs ++ answers_to s.setting s.state es) r.outputs
+      ∙ ap (λ (ys : List events.Output). told old.answers.items ++ ys) (sym answers)
+      ∙ sym (told-more old.answers.items row)
+      ∙ ap told (sym items);
 }
 
 row-last : {A : Type 0} (xs : List A) (x : A) → slice_get (xs ++ x ∷ []) (length xs) ≡ Some x

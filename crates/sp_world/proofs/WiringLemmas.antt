@@ -1,5 +1,5 @@
 -- Outputs go into the queues one after the other.
-use Rattle.std.proofs.Common.{◌≡◌, ◌∙◌, ℕ, zero, suc, ◌≤◌, List, [], ◌∷◌, ◌++◌, Option, None, Some, refl, sym, ap, subst, arith, length, map, drop}
+use Rattle.std.proofs.Common.{◌≡◌, ◌∙◌, ℕ, zero, suc, ◌≤◌, List, [], ◌∷◌, Some, refl, sym, ap, subst, arith, length, map, drop}
 use Rattle.std.specs.Prelude.{Result, Ok, Err, OnErr, slice_get}
 use Rattle.std.proofs.lemmas.Option.{none-some, same_Some}
 use Rattle.sp_rules.specs.Events as events
@@ -79,7 +79,7 @@ pub wired-dialled : (w v : World) (old mid new : Wiring) → mid ≡ old → new
 wired-dialled w v old mid new same numbers pipes spaces lines dials h =
     wired-all w v old new spaces (numbers ∙ ap (λ (x : Wiring). x.numbers) same) (dials w.asked (h.dials ∙ sym (ap (λ (x : Wiring). asked x.dials) same)) refl)
     (subst (λ (ps : List Pipe). ArePipes ps new.pipes) (sym lines)
-      (subst (ArePipes w.pipes) (sym pipes) (subst (λ (x : Wiring). ArePipes w.pipes x.pipes) (sym same) h.pipes))) h
+    (subst (ArePipes w.pipes) (sym pipes) (subst (λ (x : Wiring). ArePipes w.pipes x.pipes) (sym same) h.pipes))) h
 
 pub on-err : {T E P Q : Type 0} (r : Result T E) → (P → Q) → OnErr r P → OnErr r Q
 on-err (Ok x) f h = tt

@@ -1,9 +1,7 @@
 -- Values that stand for worlds of the rules of spaces.
-use Rattle.std.proofs.Common.{◌≡◌, ◌∙◌, ℕ, ◌⊎◌, inl, inr, Bool, true, false, List, [], ◌∷◌, Option, None, Some, refl, sym, ap, subst, drop, set}
+use Rattle.std.proofs.Common.{◌≡◌, ◌∙◌, ℕ, inl, inr, true, false, List, [], ◌∷◌, Option, None, Some, refl, sym, ap, subst, set}
 use Rattle.std.specs.Prelude.{is_none, slice_get}
 use Rattle.std.proofs.lemmas.Bool.{true≢false}
-use Rattle.std.proofs.lemmas.Option.{none-some, same_Some}
-use Rattle.uuid.specs.declared.Uuid.{Uuid}
 use Rattle.sp_rules.specs.Classes.{Setting}
 use Rattle.sp_rules.specs.Events.{Event, Output}
 use Rattle.sp_rules.specs.Lists.{at_index, each}
@@ -11,13 +9,13 @@ use Rattle.sp_rules.specs.Refusals.{Refusal}
 use Rattle.sp_rules.specs.State.{State}
 use Rattle.sp_rules.specs.Worlds as rules
 use Rattle.sp_rules.specs.Worlds.{act, acts, number_of, put}
-use Rattle.sp_events.specs.FaultNames.{RefusesOrLacks, Refuses}
+use Rattle.sp_events.specs.FaultNames.{RefusesOrLacks}
 use Rattle.sp_events.specs.declared.fault.CoreFault.{CoreFault}
 use Rattle.sp_events.specs.declared.fault.CoreFault.TheVariants as fault
 use Rattle.sp_world.specs.Happenings.{TellsRefusal}
-use Rattle.sp_world.specs.Residents.{AreResidents, IsResident, TakesRow, grown_all, one_event, refused_event, row_in}
+use Rattle.sp_world.specs.Residents.{AreResidents, IsResident, TakesRow, grown_all, one_event, refused_event}
 use Rattle.sp_world.specs.Steps.{answers_to}
-use Rattle.sp_world.specs.Waitings.{Awaits, Heard, IsHeard, IsStill, IsWired, IsWorld, Keeps, Missed, MissedBy, Took, is_settled, left_of, row_of, writer_of}
+use Rattle.sp_world.specs.Waitings.{Awaits, IsHeard, IsStill, IsWired, IsWorld, Missed, MissedBy, Took, is_settled, left_of, row_of, writer_of}
 use Rattle.sp_world.specs.declared.resident.Resident.{Resident}
 use Rattle.sp_world.specs.declared.wiring.Wiring.{Wiring}
 use Rattle.sp_world.specs.declared.world.Waiting.{Waiting}
@@ -46,11 +44,11 @@ heard {S} is_space i row why events old new r t at items wait refused takes = λ
       there = q.1.0;
       accepted = k.accepted;
       residents = subst (AreResidents is_space (at_index (grown_all (events q.0)) i spaces)) (sym items)
-        (resident-set is_space (grown_all (events q.0)) spaces old.residents.items i q.0 t a q.1.0 k.resident);
+          (resident-set is_space (grown_all (events q.0)) spaces old.residents.items i q.0 t a q.1.0 k.resident);
       left = ap (λ (x : Option Waiting). left_of x new.residents.items) wait
-        ∙ ap (λ (rs : List (Resident S)). row_of (slice_get rs i) row) items
-        ∙ ap (λ (o : Option (Resident S)). row_of o row) (set-there old.residents.items i r t at)
-        ∙ k.answers;
+          ∙ ap (λ (rs : List (Resident S)). row_of (slice_get rs i) row) items
+          ∙ ap (λ (o : Option (Resident S)). row_of o row) (set-there old.residents.items i r t at)
+          ∙ k.answers;
       writer = ap writer_of wait;
       refused = refused;
     }
@@ -64,7 +62,7 @@ missed {S} is_space i why events old new r t f at items refused still real refus
     let q = resident-at is_space spaces old.residents.items i r a at in
     record {
       missed = subst (λ (o : Option rules.Space). MissedBy why o new.refused) (sym q.1.0)
-        (by (why q.0) (refuses q.0 q.1.1));
+          (by (why q.0) (refuses q.0 q.1.1));
       residents = subst (AreResidents is_space spaces) (sym items) (resident-kept is_space spaces old.residents.items i r t a at same);
       still = still;
     }
@@ -78,10 +76,10 @@ missed {S} is_space i why events old new r t f at items refused still real refus
 pub nobody : {S : Type 0} (is_space : Setting → State → S → Type 0) (i : ℕ) (why : rules.Space → Option Refusal) (events : rules.Space → List Event) (old new : World S)
     → slice_get old.residents.items i ≡ None → new.residents.items ≡ old.residents.items → new.refused ≡ None → is_settled new ≡ true → IsHeard is_space i why events false old new
 nobody is_space i why events old new none items refused still = λ spaces a. record {
-      missed = subst (λ (o : Option rules.Space). MissedBy why o new.refused) (sym (nobody-at is_space spaces old.residents.items i a none)) refused;
-      residents = subst (AreResidents is_space spaces) (sym items) a;
-      still = still;
-    }
+  missed = subst (λ (o : Option rules.Space). MissedBy why o new.refused) (sym (nobody-at is_space spaces old.residents.items i a none)) refused;
+  residents = subst (AreResidents is_space spaces) (sym items) a;
+  still = still;
+}
 
 -- ---- worlds
 
@@ -106,10 +104,10 @@ world-took {S} is_space spaces i why events mid new v p t ps pr residents waitin
     let writer : writer_of new.waiting ≡ i = ap writer_of waiting ∙ t.writer in
     record {
       spaces = subst (λ (ss : List rules.Space). AreResidents is_space ss new.residents.items)
-        (sym (ap (λ (u : rules.World). u.spaces) e ∙ puts-spaces i outs base ∙ ap (at_index (grown_all es) i) ps))
-        (subst (AreResidents is_space (at_index (grown_all es) i spaces)) (sym residents) t.residents);
+          (sym (ap (λ (u : rules.World). u.spaces) e ∙ puts-spaces i outs base ∙ ap (at_index (grown_all es) i) ps))
+          (subst (AreResidents is_space (at_index (grown_all es) i spaces)) (sym residents) t.residents);
       refused = subst (λ (x : Option Refusal). TellsRefusal x new.refused) (sym (ap (λ (u : rules.World). u.refused) e ∙ puts-refused i outs base ∙ pr))
-        (subst (TellsRefusal None) (sym (refused ∙ t.refused)) tt);
+          (subst (TellsRefusal None) (sym (refused ∙ t.refused)) tt);
       waiting = record {
         base = base;
         wired = wired-grow (grown_all es) (grown-setting es) i p new.wiring wired;

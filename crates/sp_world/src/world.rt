@@ -10,9 +10,9 @@ ghost use Rattle.sp_pipes.specs.Connections.{end_of};
 ghost use Rattle.sp_world.specs.Happenings.{TellsRefusal};
 ghost use Rattle.sp_world.specs.Waitings.{row_of as outputs_of_row};
 
+use crate::Inhabitant;
 use crate::resident::Resident;
 use crate::wiring::Wiring;
-use crate::Inhabitant;
 use sp_events::CoreFault;
 use sp_outputs::Output;
 use sp_pipes::{Dial, End};
@@ -75,10 +75,7 @@ impl<S: Inhabitant + Drop> World<S> {
             return Ok(());
         };
         let row = row_of(&self.residents, waiting.writer, waiting.row);
-        match self
-            .wiring
-            .put_all(waiting.writer, row, &mut waiting.next)
-        {
+        match self.wiring.put_all(waiting.writer, row, &mut waiting.next) {
             Ok(()) => {
                 self.waiting = None;
                 Ok(())

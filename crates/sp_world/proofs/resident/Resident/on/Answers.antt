@@ -1,4 +1,4 @@
-use Rattle.std.proofs.Common.{◌≡◌, ◌∙◌, ◌∷◌, ◌++◌, [], ap, sym, subst, refl, length}
+use Rattle.std.proofs.Common.{◌∙◌, ◌∷◌, ◌++◌, [], ap, sym, subst, length}
 use Rattle.std.specs.Prelude.{Option}
 use Rattle.sp_rules.specs.Refusals.{Refusal}
 use Rattle.sp_rules.specs.Space.{on as after_event}

@@ -1,4 +1,4 @@
-use Rattle.std.proofs.Common.{◌≡◌, ◌∙◌, ℕ, ◌+◌, ◌≤◌, suc, arith, length, refl}
+use Rattle.std.proofs.Common.{◌+◌, arith, length, refl}
 use Rattle.std.proofs.lemmas.Option.{slice_get_read}
 use Rattle.sp_world.proofs.WiringLemmas.{all-err, put-end, put-one}
 use Rattle.sp_world.proofs.wiring.Wiring.put_all.Goals as goal

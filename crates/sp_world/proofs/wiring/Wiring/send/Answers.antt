@@ -2,9 +2,8 @@ use Rattle.std.proofs.Common.{refl, subst}
 use Rattle.std.proofs.lemmas.Result.{on_ok_weaker}
 use Rattle.net_message.specs.declared.message.Message.{Message}
 use Rattle.sp_rules.specs.Events.{Send}
-use Rattle.sp_rules.specs.Worlds.{World, put}
+use Rattle.sp_rules.specs.Worlds.{put}
 use Rattle.sp_pipes.specs.Connections.{ArePipes}
-use Rattle.sp_world.specs.Waitings.{IsWired}
 use Rattle.sp_world.proofs.WiringLemmas.{on-err, wired-pipes}
 use Rattle.sp_world.proofs.wiring.Wiring.send.Goals as goal
 

@@ -1,9 +1,9 @@
-use Rattle.std.proofs.Common.{◌≡◌, ◌∙◌, ap, refl, subst, sym}
+use Rattle.std.proofs.Common.{◌∙◌, ap, sym}
 use Rattle.std.specs.Prelude.{option_copied}
 use Rattle.std.proofs.lemmas.Result.{on_ok_weaker}
 use Rattle.sp_pipes.specs.Connections.{end_of}
-use Rattle.sp_world.specs.Waitings.{deliver_front, deliver_last, deliver_next}
-use Rattle.sp_world.proofs.FitLemmas.{next-end, next-frame}
+use Rattle.sp_world.specs.Waitings.{deliver_last, deliver_next}
+use Rattle.sp_world.proofs.FitLemmas.{next-end}
 use Rattle.sp_world.proofs.MakeLemmas.{makes-other}
 use Rattle.sp_world.proofs.world.World.deliver_to.Goals as goal
 

@@ -1,4 +1,4 @@
-use Rattle.std.proofs.Common.{◌≡◌, ◌∙◌, ap, sym}
+use Rattle.std.proofs.Common.{◌∙◌, ap, sym}
 use Rattle.std.specs.Prelude.{Some, option_copied}
 use Rattle.sp_rules.specs.Worlds.{id_in}
 use Rattle.sp_world.proofs.ResidentLemmas.{nobody-at, resident-at}

@@ -11,7 +11,7 @@ use Rattle.sp_world.proofs.world.World.new.Goals as goal
 pub loop-space-preserved : goal.loop-space-preserved
 loop-space-preserved g c = record {
   world = λ settings a. let q = new-split g.S.Inhabitant.is_space settings c.loop-space.yielded c.in-Some.space a in
-    subst (λ (l : List Setting). IsWorld g.S.Inhabitant.is_space (new_world l) c.add.new.self) (sym q.1.1.0) (c.in_ok-add.ensures.world q.0 q.1.0 (c.loop-space.invariant.world q.0 q.1.1.1.0) q.1.1.1.1);
+      subst (λ (l : List Setting). IsWorld g.S.Inhabitant.is_space (new_world l) c.add.new.self) (sym q.1.1.0) (c.in_ok-add.ensures.world q.0 q.1.0 (c.loop-space.invariant.world q.0 q.1.1.1.0) q.1.1.1.1);
   settled = c.in_ok-add.ensures.settled;
 }
 

@@ -1,4 +1,4 @@
-use Rattle.std.proofs.Common.{◌≡◌, ◌∙◌, ap, sym}
+use Rattle.std.proofs.Common.{◌∙◌, ap, sym}
 use Rattle.std.specs.Prelude.{Some, option_copied, option_map}
 use Rattle.sp_rules.specs.Worlds.{Space}
 use Rattle.sp_world.specs.Residents.{told}

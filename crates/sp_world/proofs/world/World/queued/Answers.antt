@@ -1,6 +1,5 @@
 use Rattle.std.proofs.Common.{◌∙◌}
 use Rattle.std.specs.Prelude.{slice_get}
-use Rattle.sp_rules.specs.Worlds.{is_queued}
 use Rattle.sp_pipes.specs.Connections.{end_of}
 use Rattle.sp_world.proofs.MakeLemmas.{shown-queued, still-wired}
 use Rattle.sp_world.proofs.world.World.queued.Goals as goal

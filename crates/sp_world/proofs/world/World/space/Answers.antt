@@ -1,5 +1,5 @@
-use Rattle.std.proofs.Common.{◌≡◌, ◌∙◌, Option, None, Some, ap, subst, sym}
-use Rattle.std.specs.Prelude.{option_copied, slice_get}
+use Rattle.std.proofs.Common.{◌∙◌, Option, None, Some, ap, subst, sym}
+use Rattle.std.specs.Prelude.{option_copied}
 use Rattle.sp_rules.specs.Worlds.{Space}
 use Rattle.sp_world.specs.Waitings.{IsSpaceAt}
 use Rattle.sp_world.proofs.ResidentLemmas.{nobody-at, resident-at}

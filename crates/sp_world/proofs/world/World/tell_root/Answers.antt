@@ -1,11 +1,9 @@
-use Rattle.std.proofs.Common.{◌≡◌, ◌∙◌, ℕ, ◌≤◌, None, refl, subst, length}
-use Rattle.std.specs.Prelude.{slice_get}
+use Rattle.std.proofs.Common.{◌∙◌, ℕ, ◌≤◌, None, refl, subst, length}
 use Rattle.std.specs.Vec.{with_item}
 use Rattle.std.proofs.lemmas.Option.{slice_get_past, slice_get_read}
 use Rattle.sp_rules.specs.Events.{Root}
 use Rattle.sp_world.specs.Residents.{one_event, refused_event}
-use Rattle.sp_world.specs.declared.world.World.{World}
-use Rattle.sp_world.proofs.MakeLemmas.{Answers, IsTakenUp, heard-of, kept-of, wiring-of}
+use Rattle.sp_world.proofs.MakeLemmas.{heard-of, kept-of, wiring-of}
 use Rattle.sp_world.proofs.WorldLemmas.{nobody}
 use Rattle.sp_world.proofs.world.World.tell_root.Goals as goal
 

@@ -1,4 +1,4 @@
-use Rattle.std.proofs.Common.{◌∙◌, ap, refl, sym}
+use Rattle.std.proofs.Common.{◌∙◌, refl, sym}
 use Rattle.std.proofs.lemmas.Result.{on_ok_weaker}
 use Rattle.sp_rules.specs.Worlds.{write_fails}
 use Rattle.sp_pipes.specs.Connections.{end_of}
@@ -9,8 +9,8 @@ use Rattle.sp_world.proofs.world.World.write_fails.Goals as goal
 
 pub returns-in-Some-clause-made : goal.returns-in-Some-clause-made
 returns-in-Some-clause-made g c = on_ok_weaker c.write_fails_at.result (λ made.
-    makes-other g.S.Inhabitant.is_space (unwritten_end c.args.conn (end_of c.args.at) c.in-Some.space c.lost.result) (write_fails c.args.conn (end_of c.args.at) c.args.unsent) c.args.self.now c.write_fails_at.new.self
-    (λ w h. write-fits c.args.conn c.in-Some.space c.args.unsent c.lost.result (end_of c.args.at) w (sym (c.live_space.ensures w.pipes h.pipes) ∙ c.in-Some.is) (sym (c.lost.ensures w.pipes h.pipes))) made) c.write_fails_at.ensures.made
+    makes-other g.S.Inhabitant.is_space (unwritten_end c.args.conn (end_of c.args.at) c.in-Some.space c.lost-lost.result) (write_fails c.args.conn (end_of c.args.at) c.args.unsent) c.args.self.now c.write_fails_at.new.self
+    (λ w h. write-fits c.args.conn c.in-Some.space c.args.unsent c.lost-lost.result (end_of c.args.at) w (sym (c.live_space.ensures w.pipes h.pipes) ∙ c.in-Some.is) (sym (c.lost-lost.ensures w.pipes h.pipes))) made) c.write_fails_at.ensures.made
 
 pub returns-in-None-clause-made : goal.returns-in-None-clause-made
 returns-in-None-clause-made g c =
