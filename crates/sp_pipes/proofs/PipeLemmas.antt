@@ -89,8 +89,8 @@ found f k i pipes t v ys e to a =
     let many : length ys ≡ length pipes = sym (length-map ys pipe_of) ∙ ap length same ∙ length-at f i pipes in
     subst (λ (l : List Pipe). ArePipes l v) same
     (to
-      (subst (λ (n : ℕ). t.unaccepted ≤ n) (sym many) a.within)
-      (subst (λ (xs : List Pipe). list_any waits (take t.unaccepted xs) ≡ false) (sym same) (still-none f k t.unaccepted i pipes a.below)))
+    (subst (λ (n : ℕ). t.unaccepted ≤ n) (sym many) a.within)
+    (subst (λ (xs : List Pipe). list_any waits (take t.unaccepted xs) ≡ false) (sym same) (still-none f k t.unaccepted i pipes a.below)))
 
 -- ---- rows of the table
 

@@ -142,8 +142,8 @@ impl Pipes {
         if index >= self.rows.len() {
             return;
         }
-        let end = self.rows[index].end_at(writer);
-        self.rows[index].end(end);
+        let side = self.rows[index].end_at(writer);
+        self.rows[index].end(side);
         self.advance();
     }
 

@@ -13,8 +13,8 @@ returns-clause-closed c = λ pipes a.
     let x : Row = c.index_mut.result.now in
     let there = row-there c.args.self.now c.len.result c.args.conn x c.len.ensures c.if-index-len.false c.index_mut.ensures.value in
     let seen = row-there c.args.self.now c.len.result c.args.conn c.index.result.now c.len.ensures c.if-index-len.false c.index.ensures in
-    let at : end_of c.end_at-end.result ≡ end_at c.args.writer (pipe_of x) = c.end_at-end.ensures
-        ∙ ap (λ (y : Row). end_at c.args.writer (pipe_of y)) (same-row c.args.self.now.rows.items c.args.conn c.index.result.now x seen there) in
+    let at : end_of c.end_at-side.result ≡ end_at c.args.writer (pipe_of x) = c.end_at-side.ensures
+    ∙ ap (λ (y : Row). end_at c.args.writer (pipe_of y)) (same-row c.args.self.now.rows.items c.args.conn c.index.result.now x seen there) in
     found (λ (p : Pipe). set_side ends (end_at c.args.writer p) p) (λ p. less-side ends (λ s. refl) (end_at c.args.writer p) p) c.args.conn pipes c.args.self.now _ _
     (changed pipe_of (λ (p : Pipe). set_side ends (end_at c.args.writer p) p) c.args.self.now.rows.items c.args.conn x c.end.new.self there
-      (c.end.ensures ∙ ap (λ (n : End). set_side ends n (pipe_of x)) at)) c.advance.ensures.found a
+    (c.end.ensures ∙ ap (λ (n : End). set_side ends n (pipe_of x)) at)) c.advance.ensures.found a

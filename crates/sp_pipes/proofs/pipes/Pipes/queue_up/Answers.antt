@@ -16,11 +16,11 @@ returns-clause-queued c = on_ok_weaker c.queue_up.result (λ e pipes a.
     let there = row-there c.args.self.now c.len.result c.args.conn x c.len.ensures c.if-index-len.false c.index_mut.ensures.value in
     let seen = row-there c.args.self.now c.len.result c.args.conn c.index.result.now c.len.ensures c.if-index-len.false c.index.ensures in
     let to : end_of c.other-to.result ≡ other (end_at c.args.writer (pipe_of x)) = c.other-to.ensures ∙ ap other (c.end_at.ensures
-        ∙ ap (λ (y : Row). end_at c.args.writer (pipe_of y)) (same-row c.args.self.now.rows.items c.args.conn c.index.result.now x seen there)) in
+    ∙ ap (λ (y : Row). end_at c.args.writer (pipe_of y)) (same-row c.args.self.now.rows.items c.args.conn c.index.result.now x seen there)) in
     quiet (λ (p : Pipe). set_side (queue_up c.args.message) (other (end_at c.args.writer p)) p) (λ p. quiet-side (queue_up c.args.message) (λ s. refl) (other (end_at c.args.writer p)) p)
     c.args.conn pipes c.args.self.now _
     (changed pipe_of (λ (p : Pipe). set_side (queue_up c.args.message) (other (end_at c.args.writer p)) p) c.args.self.now.rows.items c.args.conn x c.queue_up.new.self there
-      (e ∙ ap (λ (n : End). set_side (queue_up c.args.message) n (pipe_of x)) to)) refl a) c.queue_up.ensures.queued
+    (e ∙ ap (λ (n : End). set_side (queue_up c.args.message) n (pipe_of x)) to)) refl a) c.queue_up.ensures.queued
 
 pub returns-clause-same : goal.returns-clause-same
 returns-clause-same c = on-err c.queue_up.result (λ e pipes a.
