@@ -52,7 +52,9 @@ pub trait Inhabitant {
         ensures unchanged { OnErr result ((g : Setting) (s : State) → is_space g s self.old → is_space g s self.new) };
 
     /// Lets a task make one instruction, and answers the outputs of the events that it is. The fault is
-    /// NotLent if the task does not live or waits for a reply.
+    /// NotLent if the task does not live or waits for a reply. A machine takes no instruction back: one
+    /// whose instruction is refused, or finds no memory, may stand behind it, as long as the space is as
+    /// it was and the next step of the task is that instruction.
     fn step(&mut self, task: u64) -> Result<Vec<Output>, CoreFault>
         ensures accepted { OnOk result ((g : Setting) (s : State) → is_space g s self.old → step_refusal g s task ≡ None) }
         ensures outputs { IfOk result (λ outputs. (g : Setting) (s : State) → is_space g s self.old → map output_of outputs.items ≡ answers_to g s (step_at s task)) }
