@@ -1,0 +1,2 @@
+pub mod DialLemmas
+pub mod PipeLemmas

@@ -1,0 +1,4 @@
+pub mod Happenings
+pub mod Residents
+pub mod Steps
+pub mod Waitings
