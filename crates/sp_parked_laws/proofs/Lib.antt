@@ -1,0 +1,3 @@
+pub mod ApartLemmas
+pub mod WaitRules
+pub mod WaitLemmas
