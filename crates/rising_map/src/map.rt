@@ -14,7 +14,7 @@ use std::mem;
 /// there are.
 ///
 /// A contract names the lists of rows, in their order, that the value may stand for.
-#[derive(Debug, Drop)]
+#[derive(Clone, Debug, Drop)]
 pub struct RisingMap<T> {
     rows: IndexMap<u64, T>,
 }
@@ -117,6 +117,18 @@ impl<T: Drop> RisingMap<T> {
         let mut numbers = self.keys(alloc)?;
         numbers.sort_unstable();
         Ok(numbers)
+    }
+
+    /// Returns a map of clones of the rows, each under the number of its row. It has room for what it
+    /// has, and maybe for no more. It costs a step a row.
+    pub fn copy(&self) -> Result<RisingMap<T>, AllocError>
+    where
+        T: Clone,
+        ensures copied { IfOk result (λ copy. ((row other : T) → T.is_clone row other → other ≡ row) → (rows : List (ℕ × T)) → AreRows rows self.now → AreRows rows copy) }
+    {
+        Ok(RisingMap {
+            rows: self.rows.clone()?,
+        })
     }
 
     // The numbers of all rows, in some order.
