@@ -64,6 +64,20 @@ impl Clients {
         }
     }
 
+    /// Returns a table of the same history, with no room for more references. It takes a step a reference.
+    pub fn copy(&self) -> Result<Clients, AllocError>
+        ensures copied { IfOk result (λ copy. (h : List Told) → IsAfter h self.now → IsAfter h copy) }
+    {
+        Ok(Clients {
+            leases: self.leases.copy()?,
+            touched: self.touched.clone()?,
+            later: self.later.clone()?,
+            plans: self.plans.clone()?,
+            moved: self.moved,
+            numbers: self.numbers,
+        })
+    }
+
     /// Returns what is kept of a reference.
     pub fn lease(&self, reference: &ForeignId) -> ClientLease
         ensures { (h : List Told) → IsAfter h self.now → result ≡ lease_of (own reference.now h) }
