@@ -16,6 +16,8 @@ pub fn copy_cache<K: Copy + Eq + Hash, V: CopyIn>(
     ensures cap { IfOk result (λ copy. copy.cap ≡ cache.now.cap) }
 {
     let alloc = *cache.allocator();
+    // No key comes twice, as `len` tells a proof.
+    let _ = cache.len();
     let mut copy = LruCache::sparse(alloc, cache.cap())?;
     for (key, value) in cache.iter().rev() {
         copy.put(*key, value.copy_in(alloc)?)?;
