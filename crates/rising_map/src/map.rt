@@ -8,19 +8,20 @@ ghost use Rattle.std.specs.Map.{keys_of, lookup, remove_entry, set_value, values
 use indexmap::IndexMap;
 use std::alloc::{AllocError, Global};
 use std::mem;
+use table_copies::{CopyIn, copy_map};
 
 /// Rows by numbers. A row that comes has a number above all that are there, so the rows have the order
 /// in which they came. A row is found, changed and taken away at a cost that does not depend on how many
 /// there are.
 ///
 /// A contract names the lists of rows, in their order, that the value may stand for.
-#[derive(Clone, Debug, Drop)]
+#[derive(Debug, Drop)]
 pub struct RisingMap<T> {
     rows: IndexMap<u64, T>,
 }
 
 impl<T: Drop> RisingMap<T> {
-    ghost use Rattle.rising_map.specs.Rows.{AreBelow, AreRows, first_row, room};
+    ghost use Rattle.rising_map.specs.Rows.{AreBelow, AreRows, HasRowsOf, first_row, room};
 
     /// No row.
     pub fn new(alloc: Global) -> RisingMap<T>
@@ -119,15 +120,15 @@ impl<T: Drop> RisingMap<T> {
         Ok(numbers)
     }
 
-    /// Returns a map of clones of the rows, each under the number of its row. It has room for what it
-    /// has, and maybe for no more. It costs a step a row.
+    /// Returns a map of copies of the rows, each under the number of its row. It may have no room for
+    /// more. It costs a step a row.
     pub fn copy(&self) -> Result<RisingMap<T>, AllocError>
     where
-        T: Clone,
-        ensures copied { IfOk result (λ copy. ((row other : T) → T.is_clone row other → other ≡ row) → (rows : List (ℕ × T)) → AreRows rows self.now → AreRows rows copy) }
+        T: CopyIn,
+        ensures copied { IfOk result (λ copy. HasRowsOf T.is_copy self.now copy) }
     {
         Ok(RisingMap {
-            rows: self.rows.clone()?,
+            rows: copy_map(&self.rows)?,
         })
     }
 
@@ -137,5 +138,15 @@ impl<T: Drop> RisingMap<T> {
         ensures distinct { IsDistinct nat_eq (keys_of self.now.rows.entries) }
     {
         self.rows.keys().copied().collect(alloc)
+    }
+}
+
+impl<T: CopyIn> CopyIn for RisingMap<T> {
+    ghost use Rattle.rising_map.specs.Rows.{HasRowsOf};
+
+    ghost is_copy = { HasRowsOf T.is_copy };
+
+    fn copy_in(&self, _alloc: Global) -> Result<RisingMap<T>, AllocError> {
+        self.copy()
     }
 }

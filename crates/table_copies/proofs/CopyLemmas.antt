@@ -7,7 +7,7 @@ use Rattle.std.specs.Map.{keys_of, lookup, lookup_entry, remove_entry}
 use Rattle.std.specs.Map.Iter.{deref_pair}
 use Rattle.std.specs.Option.{option_map_or}
 use Rattle.std.proofs.lemmas.List.{length-append, map-append, take_all}
-use Rattle.std.proofs.lemmas.List.Elements.{AllZip-push}
+use Rattle.std.proofs.lemmas.List.Elements.{same_from_all_zip, AllZip-push}
 use Rattle.std.proofs.lemmas.Map.Keys.{IsDistinct-head, IsDistinct-tail}
 use Rattle.indexmap.specs.IndexMap.{IndexMap, insert_entry}
 use Rattle.indexmap.proofs.CallerLemmas.{insert_entry-new}
@@ -28,6 +28,10 @@ module _ {K V : Type 0} (eq : K → K → Bool) (copies : V → V → Type 0) wh
   length-copied [] (f ∷ fs) a = absurd a
   length-copied (e ∷ es) [] a = absurd a
   length-copied (e ∷ es) (f ∷ fs) a = ap suc (length-copied es fs a.1)
+
+  -- copies that are the values are the entries
+  pub same-copies : ((value copy : V) → copies value copy → copy ≡ value) → (es fs : List (K × V)) → AreCopies copies es fs → fs ≡ es
+  same-copies same es fs a = same_from_all_zip (λ (e f : K × V). (f.0 ≡ e.0) × copies e.1 f.1) es fs a (λ e f h i. (h.0 i, same e.1 f.1 h.1 i))
 
   -- ---- a map
 
