@@ -1,6 +1,7 @@
 -- What a map or a cache is after one more copy.
-use Rattle.std.proofs.Common.{◌≡◌, suc, ◌+◌, ◌-◌, ◌≤◌, Bool, false, cond, List, [], ◌∷◌, ◌++◌, length, map, take, None, Some, refl, sym, ap, subst, ◌∙◌, append_assoc, arith}
+use Rattle.std.proofs.Common.{◌≡◌, suc, ◌+◌, ◌-◌, ◌≤◌, Bool, true, false, cond, List, [], ◌∷◌, ◌++◌, Option, length, map, take, None, Some, refl, sym, ap, subst, ◌∙◌, append_assoc, arith}
 use Rattle.std.specs.Borrow.{Bor}
+use Rattle.std.specs.Prelude.{MatchOption}
 use Rattle.std.specs.Cmp.{IsEquivalence}
 use Rattle.std.specs.List.{AllByRecursion, IsDistinct}
 use Rattle.std.specs.Map.{keys_of, lookup, lookup_entry, remove_entry}
@@ -32,6 +33,31 @@ module _ {K V : Type 0} (eq : K → K → Bool) (copies : V → V → Type 0) wh
   -- copies that are the values are the entries
   pub same-copies : ((value copy : V) → copies value copy → copy ≡ value) → (es fs : List (K × V)) → AreCopies copies es fs → fs ≡ es
   same-copies same es fs a = same_from_all_zip (λ (e f : K × V). (f.0 ≡ e.0) × copies e.1 f.1) es fs a (λ e f h i. (h.0 i, same e.1 f.1 h.1 i))
+
+  -- what is found in the copies is a copy of what is found
+  abbrev pub IsCopyFound : Option V → Option V → Type 0
+  IsCopyFound None None = Unit {0}
+  IsCopyFound None (Some copy) = ⊥
+  IsCopyFound (Some value) None = ⊥
+  IsCopyFound (Some value) (Some copy) = copies value copy
+
+  pub lookup-copied : (test : K → Bool) (es fs : List (K × V)) → AreCopies copies es fs → IsCopyFound (lookup test es) (lookup test fs)
+  lookup-copied test [] [] a = tt
+  lookup-copied test [] (f ∷ fs) a = absurd a
+  lookup-copied test (e ∷ es) [] a = absurd a
+  lookup-copied test (e ∷ es) (f ∷ fs) a =
+      subst (λ (t : Bool). IsCopyFound (lookup test (e ∷ es)) (cond t (Some f.1) (lookup test fs))) (sym (ap test a.0.0)) (by (test e.0) (lookup-copied test es fs a.1))
+    where
+      by : (t : Bool) → IsCopyFound (lookup test es) (lookup test fs) → IsCopyFound (cond t (Some e.1) (lookup test es)) (cond t (Some f.1) (lookup test fs))
+      by true rest = a.0.1
+      by false rest = rest
+
+  -- what holds of what is found holds of the copy
+  pub match-copied : (none : Type 0) (is : V → Type 0) → ((value copy : V) → copies value copy → is value → is copy) → (o p : Option V) → IsCopyFound o p → MatchOption o none is → MatchOption p none is
+  match-copied none is kept None None found m = m
+  match-copied none is kept None (Some copy) found m = absurd found
+  match-copied none is kept (Some value) None found m = absurd found
+  match-copied none is kept (Some value) (Some copy) found m = kept value copy found m
 
   -- ---- a map
 
