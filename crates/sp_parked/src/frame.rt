@@ -1,6 +1,10 @@
 //! A frame that waits.
 
+ghost use Rattle.std.specs.Prelude.{◌≡◌};
+
 use space_ids::{ForeignId, ObjId, Row, Value};
+use std::alloc::{AllocError, Global};
+use table_copies::{CopyIn, copy_result, copy_values};
 
 /// A frame that waits for leases.
 #[derive(Debug, Drop)]
@@ -27,4 +31,41 @@ pub struct ParkedFrame {
     pub number: u64,
     pub frame: Frame,
     pub references: Row<ForeignId>,
+}
+
+impl CopyIn for Frame {
+    ghost is_copy = { λ frame copy. copy ≡ frame };
+
+    fn copy_in(&self, alloc: Global) -> Result<Frame, AllocError> {
+        match self {
+            Frame::Call {
+                target,
+                method,
+                fuel,
+                arguments,
+            } => Ok(Frame::Call {
+                target: *target,
+                method: *method,
+                fuel: *fuel,
+                arguments: Row::new(copy_values(alloc, arguments.as_slice())?),
+            }),
+            Frame::Returned { value, fuel } => Ok(Frame::Returned {
+                value: copy_result(alloc, value)?,
+                fuel: *fuel,
+            }),
+        }
+    }
+}
+
+impl CopyIn for ParkedFrame {
+    ghost is_copy = { λ frame copy. copy ≡ frame };
+
+    fn copy_in(&self, alloc: Global) -> Result<ParkedFrame, AllocError> {
+        Ok(ParkedFrame {
+            conn: self.conn,
+            number: self.number,
+            frame: self.frame.copy_in(alloc)?,
+            references: Row::new(self.references.as_slice().to_vec(alloc)?),
+        })
+    }
 }
