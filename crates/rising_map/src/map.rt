@@ -21,7 +21,7 @@ pub struct RisingMap<T> {
 }
 
 impl<T: Drop> RisingMap<T> {
-    ghost use Rattle.rising_map.specs.Rows.{AreBelow, AreRows, HasRowsOf, first_row, room};
+    ghost use Rattle.rising_map.specs.Rows.{AreBelow, AreRows, first_row, room};
 
     /// No row.
     pub fn new(alloc: Global) -> RisingMap<T>
@@ -120,24 +120,26 @@ impl<T: Drop> RisingMap<T> {
         Ok(numbers)
     }
 
-    /// Returns a map of copies of the rows, each under the number of its row. It may have no room for
-    /// more. It costs a step a row.
-    pub fn copy(&self) -> Result<RisingMap<T>, AllocError>
-    where
-        T: CopyIn,
-        ensures copied { IfOk result (λ copy. HasRowsOf T.is_copy self.now copy) }
-    {
-        Ok(RisingMap {
-            rows: copy_map(&self.rows)?,
-        })
-    }
-
     // The numbers of all rows, in some order.
     fn keys(&self, alloc: Global) -> Result<Vec<u64>, AllocError>
         ensures keys { IfOk result (λ numbers. numbers.items ≡ keys_of self.now.rows.entries) }
         ensures distinct { IsDistinct nat_eq (keys_of self.now.rows.entries) }
     {
         self.rows.keys().copied().collect(alloc)
+    }
+}
+
+impl<T: CopyIn> RisingMap<T> {
+    ghost use Rattle.rising_map.specs.Rows.{HasRowsOf};
+
+    /// Returns a map of copies of the rows, each under the number of its row. It may have no room for
+    /// more. It costs a step a row.
+    pub fn copy(&self) -> Result<RisingMap<T>, AllocError>
+        ensures copied { IfOk result (λ copy. HasRowsOf T.is_copy self.now copy) }
+    {
+        Ok(RisingMap {
+            rows: copy_map(&self.rows)?,
+        })
     }
 }
 
