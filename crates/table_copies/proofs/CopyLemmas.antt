@@ -72,7 +72,7 @@ module _ {K V : Type 0} (eq : K → K → Bool) (copies : V → V → Type 0) wh
   absent laws (d ∷ done) rest [] e a distinct = absurd a
   absent laws (d ∷ done) rest (f ∷ fs) e a distinct =
       let apart : eq e.0 f.0 ≡ false =
-          ap (eq e.0) a.0.0 ∙ laws.symm e.0 d.0 ∙ in-middle (λ k. eq d.0 k ≡ false) done rest e (IsDistinct-head eq d.0 (keys_of (done ++ e ∷ rest)) distinct) in
+      ap (eq e.0) a.0.0 ∙ laws.symm e.0 d.0 ∙ in-middle (λ k. eq d.0 k ≡ false) done rest e (IsDistinct-head eq d.0 (keys_of (done ++ e ∷ rest)) distinct) in
       ap (λ t. cond t (Some f.1) (lookup (eq e.0) fs)) apart ∙ absent laws done rest fs e a.1 (IsDistinct-tail eq d.0 (keys_of (done ++ e ∷ rest)) distinct)
 
   pub map-more : {S : Type 0} → IsEquivalence eq → (done rest all new : List (K × V)) (copy : IndexMap K V S) (e : K × V) (v : V) → done ++ e ∷ rest ≡ all → IsDistinct eq (keys_of all)
@@ -101,6 +101,6 @@ module _ {K V : Type 0} (eq : K → K → Bool) (copies : V → V → Type 0) wh
       let long : length rest + suc (length done) ≡ length all = sym (length-append rest (e ∷ done)) ∙ ap length whole in
       let few : length copy.entries ≤ copy.cap - 1 = omega (arith, long, fits, length-copied done copy.entries a) in
       let first : put_entries eq copy e.0 v ≡ (e.0, v) ∷ copy.entries =
-          ap (λ o. option_map_or (λ (f : K × V). (f.0, v) ∷ remove_entry (eq e.0) copy.entries) o ((e.0, v) ∷ take (copy.cap - 1) copy.entries)) none
-          ∙ ap (λ es. (e.0, v) ∷ es) (take_all (copy.cap - 1) copy.entries few) in
+      ap (λ o. option_map_or (λ (f : K × V). (f.0, v) ∷ remove_entry (eq e.0) copy.entries) o ((e.0, v) ∷ take (copy.cap - 1) copy.entries)) none
+      ∙ ap (λ es. (e.0, v) ∷ es) (take_all (copy.cap - 1) copy.entries few) in
       subst (λ (fs : List (K × V)). AreCopies copies (e ∷ done) fs) (sym (ap (λ (c : LruCache K V). c.entries) put ∙ first)) ((refl, is), a)

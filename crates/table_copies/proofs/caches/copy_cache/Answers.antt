@@ -10,10 +10,12 @@ use Rattle.table_copies.proofs.caches.copy_cache.Goals as goal
 pub loop-key-init : goal.loop-key-init
 loop-key-init g c = record {
   cap = ap (λ (l : LruCache g.row.K.Denot g.row.V.Denot). l.cap) c.in_ok-copy.ensures ∙ c.cap.ensures;
-  copied = ([],
+  copied = (
+    [],
     append-nil c.into_iter-key-iterator.result.iter
-    ∙ ap (λ (r : Rev (List (g.row.K.Denot × g.row.V.Denot))). r.iter) c.into_iter-key-iterator.ensures.into_iter_gives ∙ c.rev-key-items.ensures.source ∙ c.iter.ensures.rest,
-    rw (c.in_ok-copy.ensures) tt);
+        ∙ ap (λ (r : Rev (List (g.row.K.Denot × g.row.V.Denot))). r.iter) c.into_iter-key-iterator.ensures.into_iter_gives ∙ c.rev-key-items.ensures.source ∙ c.iter.ensures.rest,
+    rw (c.in_ok-copy.ensures) tt,
+  );
 }
 
 pub loop-key-preserved : goal.loop-key-preserved
@@ -22,11 +24,14 @@ loop-key-preserved g c =
     let inv = c.loop-key.invariant in
     let done = inv.copied.0 in
     let whole : c.next.new.self.iter ++ deref_pair y ∷ done ≡ c.args.cache.now.entries =
-        sym (append_assoc c.next.new.self.iter (deref_pair y ∷ []) done) ∙ ap (λ (it : List (g.row.K.Denot × g.row.V.Denot)). it ++ done) (sym c.in-Some.ensures.steps) ∙ inv.copied.1 in record {
+    sym (append_assoc c.next.new.self.iter (deref_pair y ∷ []) done) ∙ ap (λ (it : List (g.row.K.Denot × g.row.V.Denot)). it ++ done) (sym c.in-Some.ensures.steps) ∙ inv.copied.1 in record {
       cap = ap (λ (l : LruCache g.row.K.Denot g.row.V.Denot). l.cap) c.in_ok-put.ensures.entries ∙ inv.cap;
-      copied = (deref_pair y ∷ done, whole,
+      copied = (
+        deref_pair y ∷ done,
+        whole,
         cache-more g.K.PartialEq.eq g.V.CopyIn.is_copy c.next.new.self.iter done c.args.cache.now.entries c.loop-key.copy c.put.new.self (deref_pair y) c.in_ok-copy_in.field-0
-        whole c.len.ensures.valid.0 (subst (λ n. length c.args.cache.now.entries ≤ n) (sym inv.cap) c.len.ensures.valid.1) inv.copied.2 c.in_ok-copy_in.ensures c.in_ok-put.ensures.entries);
+            whole c.len.ensures.valid.0 (subst (λ n. length c.args.cache.now.entries ≤ n) (sym inv.cap) c.len.ensures.valid.1) inv.copied.2 c.in_ok-copy_in.ensures c.in_ok-put.ensures.entries,
+      );
     }
 
 pub loop-key-preserved-in_ok-put : goal.loop-key-preserved-in_ok-put
@@ -35,11 +40,14 @@ loop-key-preserved-in_ok-put g c =
     let inv = c.loop-key.invariant in
     let done = inv.copied.0 in
     let whole : c.next.new.self.iter ++ deref_pair y ∷ done ≡ c.args.cache.now.entries =
-        sym (append_assoc c.next.new.self.iter (deref_pair y ∷ []) done) ∙ ap (λ (it : List (g.row.K.Denot × g.row.V.Denot)). it ++ done) (sym c.in-Some.ensures.steps) ∙ inv.copied.1 in record {
+    sym (append_assoc c.next.new.self.iter (deref_pair y ∷ []) done) ∙ ap (λ (it : List (g.row.K.Denot × g.row.V.Denot)). it ++ done) (sym c.in-Some.ensures.steps) ∙ inv.copied.1 in record {
       cap = ap (λ (l : LruCache g.row.K.Denot g.row.V.Denot). l.cap) c.in_ok-put.ensures.entries ∙ inv.cap;
-      copied = (deref_pair y ∷ done, whole,
+      copied = (
+        deref_pair y ∷ done,
+        whole,
         cache-more g.K.PartialEq.eq g.V.CopyIn.is_copy c.next.new.self.iter done c.args.cache.now.entries c.loop-key.copy c.put.new.self (deref_pair y) c.in_ok-copy_in.field-0
-        whole c.len.ensures.valid.0 (subst (λ n. length c.args.cache.now.entries ≤ n) (sym inv.cap) c.len.ensures.valid.1) inv.copied.2 c.in_ok-copy_in.ensures c.in_ok-put.ensures.entries);
+            whole c.len.ensures.valid.0 (subst (λ n. length c.args.cache.now.entries ≤ n) (sym inv.cap) c.len.ensures.valid.1) inv.copied.2 c.in_ok-copy_in.ensures c.in_ok-put.ensures.entries,
+      );
     }
 
 pub returns-clause-entries : goal.returns-clause-entries

@@ -15,7 +15,7 @@ loop-key-preserved g c =
       copied =
           subst (λ (es : List (g.row.K.Denot × g.row.V.Denot)). AreCopies copies es c.insert.new.self.entries) (sym (map-append deref_pair c.loop-key.yielded (y ∷ [])))
           (map-more g.K.PartialEq.eq copies g.met.K.Eq.laws done c.next.new.self c.args.map.now.entries c.insert.new.self.entries c.loop-key.copy (deref_pair y) c.in_ok-copy_in.field-0
-            (subst (λ (it : List (g.row.K.Denot × g.row.V.Denot)). done ++ it ≡ c.args.map.now.entries) first c.loop-key.invariant.whole) c.iter-key-items.ensures.unique c.loop-key.invariant.copied c.in_ok-copy_in.ensures c.in_ok-insert.ensures.entries);
+          (subst (λ (it : List (g.row.K.Denot × g.row.V.Denot)). done ++ it ≡ c.args.map.now.entries) first c.loop-key.invariant.whole) c.iter-key-items.ensures.unique c.loop-key.invariant.copied c.in_ok-copy_in.ensures c.in_ok-insert.ensures.entries);
       whole = order-more c.loop-key.yielded y c.loop-key.key-iterator c.next.new.self c.args.map.now.entries first c.loop-key.invariant.whole;
     }
 
@@ -28,12 +28,12 @@ loop-key-preserved-in_ok-insert g c =
       copied =
           subst (λ (es : List (g.row.K.Denot × g.row.V.Denot)). AreCopies copies es c.insert.new.self.entries) (sym (map-append deref_pair c.loop-key.yielded (y ∷ [])))
           (map-more g.K.PartialEq.eq copies g.met.K.Eq.laws done c.next.new.self c.args.map.now.entries c.insert.new.self.entries c.loop-key.copy (deref_pair y) c.in_ok-copy_in.field-0
-            (subst (λ (it : List (g.row.K.Denot × g.row.V.Denot)). done ++ it ≡ c.args.map.now.entries) first c.loop-key.invariant.whole) c.iter-key-items.ensures.unique c.loop-key.invariant.copied c.in_ok-copy_in.ensures c.in_ok-insert.ensures.entries);
+          (subst (λ (it : List (g.row.K.Denot × g.row.V.Denot)). done ++ it ≡ c.args.map.now.entries) first c.loop-key.invariant.whole) c.iter-key-items.ensures.unique c.loop-key.invariant.copied c.in_ok-copy_in.ensures c.in_ok-insert.ensures.entries);
       whole = order-more c.loop-key.yielded y c.loop-key.key-iterator c.next.new.self c.args.map.now.entries first c.loop-key.invariant.whole;
     }
 
 pub returns : goal.returns
 returns g c =
     let whole : map deref_pair c.loop-key.yielded ≡ c.args.map.now.entries =
-        sym (append-nil (map deref_pair c.loop-key.yielded)) ∙ subst (λ (it : List (g.row.K.Denot × g.row.V.Denot)). map deref_pair c.loop-key.yielded ++ it ≡ c.args.map.now.entries) c.in-None.ensures.steps.0 c.loop-key.invariant.whole in
+    sym (append-nil (map deref_pair c.loop-key.yielded)) ∙ subst (λ (it : List (g.row.K.Denot × g.row.V.Denot)). map deref_pair c.loop-key.yielded ++ it ≡ c.args.map.now.entries) c.in-None.ensures.steps.0 c.loop-key.invariant.whole in
     subst (λ (es : List (g.row.K.Denot × g.row.V.Denot)). AreCopies g.V.CopyIn.is_copy es c.loop-key.copy.entries) whole c.loop-key.invariant.copied
