@@ -1,6 +1,6 @@
 use Rattle.std.proofs.Common.{◌≡◌, ◌≤◌, take}
 use Rattle.cls_set.specs.Rules.{package_name}
-use Rattle.cls_set.proofs.overriding.package_name.Given as goal
+use Rattle.cls_set.proofs.inheriting.package_name.Given as goal
 
 -- the package of the bytes so far
 abbrev pub invariant-loop-index : goal.invariant-loop-index

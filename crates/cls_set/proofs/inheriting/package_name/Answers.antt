@@ -1,8 +1,8 @@
 use Rattle.std.proofs.Common.{◌≡◌, ◌<◌, get_or, length, take, ap, ◌∙◌, arith}
 use Rattle.std.proofs.lemmas.Bool.Decides.{nat_tests}
 use Rattle.cls_set.proofs.Overrides.{package_slash, package_other}
-use Rattle.cls_set.proofs.overriding.package_name.Goals as goal
-use Rattle.cls_set.proofs.overriding.package_name.Goals.{then-byte-eq47, else-byte-eq47}
+use Rattle.cls_set.proofs.inheriting.package_name.Goals as goal
+use Rattle.cls_set.proofs.inheriting.package_name.Goals.{then-byte-eq47, else-byte-eq47}
 
 pub loop-index-preserved : goal.loop-index-preserved
 loop-index-preserved c =
