@@ -1,5 +1,5 @@
 -- Numbers of names with descriptors, as they stand in their order.
-use Rattle.std.proofs.Common.{◌≡◌, ℕ, ◌+◌, ◌<◌, ◌⊎◌, inl, inr, Bool, true, false, Some, List, [], ◌∷◌, ◌++◌, length, get_or, refl, sym, subst, ap, ◌∙◌, arith}
+use Rattle.std.proofs.Common.{◌≡◌, ℕ, ◌+◌, ◌<◌, ◌≤◌, ◌⊎◌, inl, inr, Bool, true, false, Some, List, [], ◌∷◌, ◌++◌, length, get_or, refl, sym, subst, ap, ◌∙◌, arith}
 use Rattle.std.specs.Prelude.{◌↔◌, Contains, slice_get}
 use Rattle.std.specs.List.Sorted.{IsNonDecreasingBy, IsPartitionedBy}
 use Rattle.std.specs.Ordering.{is_lt, ordering_index, ordering_reverse}
@@ -7,18 +7,24 @@ use Rattle.std.specs.declared.cmp.Ordering.{Ordering}
 use Rattle.std.specs.declared.cmp.Ordering.TheVariants.{Less, Equal, Greater}
 use Rattle.std.proofs.Math.ListN.{get_or-append}
 use Rattle.std.proofs.lemmas.List.{get_or_push, length-append}
-use Rattle.std.proofs.lemmas.List.Elements.{Contains-append_left}
+use Rattle.std.proofs.lemmas.List.Elements.{Contains-append_left, Contains-append_right}
 use Rattle.std.proofs.lemmas.List.Sorted.{searchable_from_sorted}
+use Rattle.std.proofs.lemmas.Option.{slice_get_cases}
+use Rattle.cf_reader.specs.declared.class_file.ClassFile.{ClassFile}
 use Rattle.cls_order.specs.declared.entries.Entry.{Entry}
-use Rattle.cls_order.proofs.Hierarchy.{true_false}
+use Rattle.cls_order.specs.Entries.{classes_of}
+use Rattle.cls_order.proofs.Heights.{long_classes}
+use Rattle.cls_order.proofs.Hierarchy.{class_read, same_read, true_false}
 use Rattle.cls_order.proofs.Walks.{before}
 use Rattle.cls_set.specs.declared.key_numbers.Declared.{Declared}
-use Rattle.cls_set.specs.KeyNumbers.{comes_before, declared_key, keys_at, number_at, AreKeyNumbers, AreNumbersOf, AreSorted, HoldsBelow, IsKeyNumber}
-use Rattle.cls_set.specs.Orders.{key_at, key_cmp, Key}
+use Rattle.cls_set.specs.KeyNumbers.{comes_before, declared_key, keys_at, keys_in, number_at, AreKeyNumbers, AreNumbersOf, AreSorted, HoldsBelow, IsKeyNumber}
+use Rattle.cls_set.specs.declared.remote.MemberKind.TheVariants.{Methods}
+use Rattle.cls_set.specs.Orders.{key_at, key_cmp, keys_of, Key}
 use Rattle.cls_set.proofs.Orders.{key_equal, key_itself, key_total, lower_index}
 use Rattle.number_trees.specs.Rows.{Starts}
 use Rattle.number_trees.specs.Trees.{agree, Covers}
 use Rattle.number_trees.proofs.Agreeing.{agree_is, agree_same}
+use Rattle.number_trees.proofs.Grown.{starts_both, starts_on}
 
 -- one more of a row of which something is known of each
 pub each_more : {A : Type 0} (P : ℕ → A → Type 0) (xs : List A) (n : ℕ) (x d : A) → length xs ≡ n
@@ -31,9 +37,62 @@ each_more {A} P xs n x d long old new i h =
           subst (P i) (sym (get_or_push xs x d i (long ∙ sym same))) (subst (λ j. P j x) (sym same) new)
     ]
 
+-- only a class that there is has methods
+pub class_within : (entries : List Entry) (k i : ℕ) → i < length (keys_at entries k) → k < length entries
+class_within entries k i h =
+    elim (slice_get_cases (classes_of entries) k).1 [
+      | inl r ↦ let low = r.1 in let long = long_classes entries in omega (arith, low, long)
+      | inr r ↦ let none : i < 0 = subst (λ o. i < length (keys_in o)) r.1 h in absurd (omega (arith, none))
+    ]
+
 -- what stands among some stands among more
 pub stays : {old new : List Declared} → Starts old new → (x : Declared) → Contains old x → Contains new x
 stays {old} {new} on x among = subst (λ xs. Contains xs x) (sym on.is) (Contains-append_left old on.more x among)
+
+-- the methods of a class, as they are read
+pub keys_read : (entries : List Entry) (m : Entry) (k : ℕ) → k < length entries → (file : ClassFile) → file ≡ (get_or entries k m).class.file → keys_at entries k ≡ keys_of Methods file
+keys_read entries m k h file is = ap keys_in (class_read entries m k k refl h) ∙ ap (keys_of Methods) (sym is)
+
+-- a method of a class more
+pub method_added : (class n : ℕ) (first old new : List Declared) → Starts first old × ((i : ℕ) → i < n → Contains old (record { class = class; method = i }))
+    → new ≡ old ++ record { class = class; method = n } ∷ [] → Starts first new × ((i : ℕ) → i < n + 1 → Contains new (record { class = class; method = i }))
+method_added class n first old new was pushed =
+    let own : Declared = record { class = class; method = n } in
+    let on : Starts old new = starts_on old new (own ∷ []) pushed in (
+      starts_both was.0 on,
+      λ i h.
+          elim (before i n) [
+            | inl less ↦ stays on (record { class = class; method = i }) (was.1 i less)
+            | inr more ↦
+                let same : n ≡ i = omega (arith, h, more) in
+                subst (λ (k : ℕ). Contains new (record { class = class; method = k })) same
+                (subst (λ xs. Contains xs own) (sym pushed) (Contains-append_right old (own ∷ []) own (0, omega arith, refl)))
+          ],
+    )
+
+-- a number more, and the numbers of one class more
+pub number_more : (entries : List Entry) (all : List Declared) (class n : ℕ) (numbers new : List ℕ) (x : ℕ)
+    → (length numbers ≡ n) × ((i : ℕ) → i < n → IsKeyNumber entries all (key_at (keys_at entries class) i) (get_or numbers i 0))
+    → new ≡ numbers ++ x ∷ [] → IsKeyNumber entries all (key_at (keys_at entries class) n) x
+    → (length new ≡ n + 1) × ((i : ℕ) → i < n + 1 → IsKeyNumber entries all (key_at (keys_at entries class) i) (get_or new i 0))
+number_more entries all class n numbers new x was pushed is = (
+  (let long = ap (λ xs. length xs) pushed in let one = length-append numbers (x ∷ []) in let old = was.0 in omega (arith, long, one, old)),
+  λ i h.
+      subst (λ xs. IsKeyNumber entries all (key_at (keys_at entries class) i) (get_or xs i 0)) (sym pushed)
+      (each_more (λ j y. IsKeyNumber entries all (key_at (keys_at entries class) j) y) numbers n x 0 was.0 was.1 is i h),
+)
+
+pub row_more : (entries : List Entry) (all : List Declared) (n : ℕ) (numbers new : List (List ℕ)) (row : List ℕ)
+    → (length numbers ≡ n) × ((k : ℕ) → k < n → AreNumbersOf entries all k (get_or numbers k [])) → new ≡ numbers ++ row ∷ [] → AreNumbersOf entries all n row
+    → (length new ≡ n + 1) × ((k : ℕ) → k < n + 1 → AreNumbersOf entries all k (get_or new k []))
+row_more entries all n numbers new row was pushed is = (
+  (let long = ap (λ xs. length xs) pushed in let one = length-append numbers (row ∷ []) in let old = was.0 in omega (arith, long, one, old)),
+  λ k h. subst (λ xs. AreNumbersOf entries all k (get_or xs k [])) (sym pushed) (each_more (λ j r. AreNumbersOf entries all j r) numbers n row [] was.0 was.1 is k h),
+)
+
+-- a number, as it is read
+pub number_read : (numbers : List (List ℕ)) (k i : ℕ) (row d : List ℕ) → k < length numbers → row ≡ get_or numbers k d → get_or row i 0 ≡ number_at numbers k i
+number_read numbers k i row d h is = ap (λ r. get_or r i 0) (is ∙ same_read numbers k d [] h)
 
 -- the methods of one class more
 pub holds_more : (entries : List Entry) (n : ℕ) (old new : List Declared) → HoldsBelow entries n old → Starts old new
@@ -122,9 +181,10 @@ module _ (entries : List Entry) (all : List Declared) (a : AreSorted entries all
 
   -- all numbers
   pub numbers_told : (levels : ℕ) (numbers : List (List ℕ)) → Covers levels (length all) → length numbers ≡ length entries
-      → ((k : ℕ) → k < length entries → AreNumbersOf entries all k (get_or numbers k [])) → ((k i : ℕ) → i < length (keys_at entries k) → k < length entries)
+      → ((k : ℕ) → k < length entries → AreNumbersOf entries all k (get_or numbers k []))
       → AreKeyNumbers entries levels numbers
-  numbers_told levels numbers covers long each within =
+  numbers_told levels numbers covers long each =
+      let within = class_within entries in
       record {
         one_each = long;
         rows = λ k h. (each k h).one_each;

@@ -70,16 +70,16 @@ barred_out lower upper low high (v, inr (n, inr (inr (h, o)))) = rules.MayNotSta
 
 -- the superclasses of a class that is arranged: its direct one, and those of that
 module _ (entries : List Entry) (a : AreArranged entries) (c : Class) (among : Contains (classes_of entries) c) where
-  direct_in : (s : ClassId) (k : Class) → c.superclass ≡ Some s → slice_get (classes_of entries) s.0 ≡ Some k → HasSuperclass (origins_of entries) c.file k.file
+  pub direct_in : (s : ClassId) (k : Class) → c.superclass ≡ Some s → slice_get (classes_of entries) s.0 ≡ Some k → HasSuperclass (origins_of entries) c.file k.file
   direct_in s k is e =
       subst (λ os. HasSuperclass os c.file k.file) (origins_of_classes entries) (superclass_in (classes_of entries) a.ordered a.resolved c (resolved_member entries a c among) s k is e)
 
-  direct_out : (s : ClassId) (k : Class) (f : ClassFile) → c.superclass ≡ Some s → slice_get (classes_of entries) s.0 ≡ Some k → HasSuperclass (origins_of entries) c.file f → f ≡ k.file
+  pub direct_out : (s : ClassId) (k : Class) (f : ClassFile) → c.superclass ≡ Some s → slice_get (classes_of entries) s.0 ≡ Some k → HasSuperclass (origins_of entries) c.file f → f ≡ k.file
   direct_out s k f is e h =
       superclass_out (classes_of entries) a.ordered a.resolved c (resolved_member entries a c among) s k f is e
       (subst (λ os. HasSuperclass os c.file f) (sym (origins_of_classes entries)) h)
 
-  none_above : (f : ClassFile) → c.superclass ≡ None → HasSuperclass (origins_of entries) c.file f → ⊥
+  pub none_above : (f : ClassFile) → c.superclass ≡ None → HasSuperclass (origins_of entries) c.file f → ⊥
   none_above f is h = superclass_none (classes_of entries) a.ordered a.resolved c (resolved_member entries a c among) f is (subst (λ os. HasSuperclass os c.file f) (sym (origins_of_classes entries)) h)
 
 -- a class of the entries, as it is read

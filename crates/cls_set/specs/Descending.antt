@@ -1,5 +1,5 @@
 -- What each class inherits, as it is found on the way down from superclasses. (This project's own.)
-use Rattle.std.specs.Prelude.{◌≡◌, ◌<◌, ◌⊎◌, ◌↔◌, ℕ, Bool, Some, List, Contains, if◌then◌else◌, length, slice_get, slice_index_or}
+use Rattle.std.specs.Prelude.{◌≡◌, ◌<◌, ◌⊎◌, ◌↔◌, ℕ, Bool, Option, Some, None, List, Contains, if◌then◌else◌, length, slice_get, slice_index_or}
 use Rattle.cf_reader.specs.declared.class_file.ClassFile.{ClassFile}
 use Rattle.cf_reader.specs.declared.class_file.Method.{Method}
 use Rattle.cls_order.specs.Building.{origins_of}
@@ -16,6 +16,7 @@ use Rattle.cls_set.specs.KeyNumbers.{keys_at, number_at}
 use Rattle.cls_set.specs.Orders.{key_at, method_key, Key}
 use Rattle.cls_set.specs.Rules.{package_name, IsSuperclass, OverridesBadly}
 use Rattle.number_trees.specs.Rows.{Starts}
+use Rattle.space_ids.specs.declared.ids.ClassId.{ClassId}
 use Rattle.number_trees.specs.Trees.{agree, find, IsTree}
 
 -- the methods of the superclasses of a class, its own, the first n of its own, and what is inherited from it
@@ -73,6 +74,11 @@ pub record AreStarted (trees : Trees) : Type 0 where
   pub nothing : Inherited
   pub first : slice_get trees.known.items 0 ≡ Some nothing
   pub none : (low : Method) (home : List ℕ) → Forbids nothing low home → ⊥
+
+-- the tree of what the superclass of a class passes on
+abbrev pub root_above : List ℕ → Option ClassId → ℕ
+root_above roots None = 0
+root_above roots (Some superclass) = slice_index_or roots superclass.0 0
 
 -- which classes have a method that may not stand below one of a superclass, by index
 pub record AreOverriding (entries : List Entry) (told : List Bool) : Type 0 where

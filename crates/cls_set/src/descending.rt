@@ -7,14 +7,14 @@ ghost use Rattle.cls_order.specs.declared.class.Class.{Class};
 ghost use Rattle.cls_order.specs.Entries.{classes_of, AreArranged};
 ghost use Rattle.cls_order.specs.Marks.{IsByRank};
 ghost use Rattle.cls_set.specs.declared.inheriting.Inherited as methods;
-ghost use Rattle.cls_set.specs.Descending.{Above, AreOverriding, AreStarted, Declares, HasInherited, IsDescending, IsGrown, Passes};
+ghost use Rattle.cls_set.specs.Descending.{Above, AreOverriding, AreStarted, Declares, HasInherited, IsDescending, IsGrown, Passes, root_above};
 ghost use Rattle.cls_set.specs.KeyNumbers.{AreKeyNumbers};
 ghost use Rattle.cls_set.specs.Rules.{OverridesBadly};
 ghost use Rattle.number_trees.specs.Trees.{find, IsTree};
 
 use super::inheriting::{Inherited, package_name};
 use super::key_numbers::{Keys, number_all};
-use cls_order::Entry;
+use cls_order::{Draft, Entry};
 use number_trees::{Node, find, with};
 use std::alloc::{AllocError, Global};
 
@@ -59,7 +59,7 @@ impl<'a> Trees<'a> {
     ) -> Result<u32, AllocError>
         requires { IsTree self.old.nodes.items levels root }
         ensures grown { OnOk result (IsGrown self.old self.new) }
-        ensures made { IfOk result (Declares self.old self.new levels root number inherited) }
+        ensures made { IfOk result (Declares self.old self.new levels root number inherited.entry) }
     {
         let index = self.known.len();
         if index >= u32::MAX as usize {
@@ -134,6 +134,19 @@ struct Walk<'a> {
     told: Vec<bool>,
 }
 
+// The tree of what the superclass of a class passes on: nothing where it has none.
+fn root_above(class: &Draft, roots: &[u32]) -> u32
+    ensures { result ≡ root_above roots.now class.now.superclass }
+{
+    let Some(superclass) = class.superclass else {
+        return 0;
+    };
+    match roots.get(superclass.get()) {
+        Some(root) => *root,
+        None => 0,
+    }
+}
+
 // Comes to a class, after its superclass.
 fn come_to<'a>(
     entries: &'a [Entry],
@@ -150,11 +163,7 @@ fn come_to<'a>(
     ensures { OnOk result (IsDescending entries.now keys.now (take (step + 1) order.now) walk.new) }
 {
     let index = order[step];
-    let class = &entries[index].class;
-    let above = match class.superclass {
-        Some(superclass) => walk.roots[superclass.get()],
-        None => 0,
-    };
+    let above = root_above(&entries[index].class, walk.roots.as_slice());
     walk.told[index] = overrides_badly(entries, keys, index, above, &walk.trees);
     walk.roots[index] = declare_own(entries, keys, index, above, &mut walk.trees)?;
     Ok(())
