@@ -6,9 +6,9 @@ use Rattle.cf_reader.proofs.names.FieldNames.check.Goals as goal
 pub returns-then-contains-clause-value : goal.returns-then-contains-clause-value
 returns-then-contains-clause-value c = c.requires.known c.args.name.value (sym c.contains.ensures ∙ c.if-contains.true) c.args.name.at
 
-pub returns-in-Ok-clause-known : goal.returns-in-Ok-clause-known
-returns-in-Ok-clause-known c =
+pub returns-clause-known : goal.returns-clause-known
+returns-clause-known c =
     let pool = c.args.pool.now in
     let name = c.args.name in
-    name_more (IsFieldName pool) c.args.self.now.kept c.insert.new.self name.value c.in-Ok.ensures.updates.0
+    name_more (IsFieldName pool) c.args.self.now.kept c.insert.new.self name.value c.in_ok-insert.ensures.updates.0
     (field_name pool name.value name.at (sym c.in_ok-check_field_name.ensures)) c.requires.known
