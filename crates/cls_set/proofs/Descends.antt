@@ -296,9 +296,9 @@ module _ (entries : List Entry) (keys : Keys) where
               (c, is, rules.IsSuperclass.further c.file k.file u direct (subst (λ (x : Class). IsSuperclass (origins_of entries) x.file u) same o.2), o.3)
           | inr o ↦
               let same : o.0 ≡ k = same_some (sym o.1 ∙ there) in
-              let file = o.2 ∙ ap (λ (x : Class). x.file) same in
-              (
-                c, is,
+              let file = o.2 ∙ ap (λ (x : Class). x.file) same in (
+                c,
+                is,
                 subst (IsSuperclass (origins_of entries) c.file) (sym file) (rules.IsSuperclass.direct c.file k.file direct),
                 subst (λ (f : ClassFile). Contains f.methods m) (sym o.2) o.3,
               )

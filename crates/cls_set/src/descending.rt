@@ -72,13 +72,7 @@ impl<'a> Trees<'a> {
 }
 
 // Whether a class has a method that may not stand below one of a superclass.
-fn overrides_badly(
-    entries: &[Entry],
-    keys: &Keys,
-    index: usize,
-    above: u32,
-    trees: &Trees,
-) -> bool
+fn overrides_badly(entries: &[Entry], keys: &Keys, index: usize, above: u32, trees: &Trees) -> bool
     requires numbers { AreKeyNumbers entries.now keys.now.levels keys.now.numbers.items }
     requires in_set { index < length entries.now }
     requires above { HasInherited entries.now keys.now trees.now above (Above entries.now index) }
