@@ -1,8 +1,8 @@
-use Rattle.std.proofs.Common.{◌≡◌, ℕ, ◌+◌, Bool, true, false, cond, List, Option, None, Some, refl, sym, ap, ◌∙◌}
+use Rattle.std.proofs.Common.{◌≡◌, ℕ, ◌+◌, true, false, cond, List, Option, None, Some, refl, ap, ◌∙◌}
 use Rattle.std.specs.Prelude.{IfSome, ◌==◌, ◌&&◌, ◌||◌, option_map}
 use Rattle.std.proofs.lemmas.Bool.{eq-eqb, eqb-true, false≢true}
 use Rattle.sp_rules.specs.Behaviours.{Reply}
-use Rattle.sp_tasks.specs.Recorded.{Recorded, with_given}
+use Rattle.sp_tasks.specs.Recorded.{with_given}
 use Rattle.sp_tasks.specs.Rows.{TaskRow, Hand, replied_hand, replied_row, row_of}
 use Rattle.sp_tasks.specs.Rows as rows
 use Rattle.sp_tasks.specs.Same.{is_recorded}

@@ -3,7 +3,7 @@ use Rattle.std.proofs.lemmas.Bool.{eqb-true, eqb-false, ltb-true, ltb-false}
 use Rattle.std.proofs.lemmas.List.{get_or_past, length-take}
 use Rattle.sp_tasks.specs.Least.{IsLow, IsTree, least, least_below, nothing, number_at}
 
--- ---- a index is settled
+-- ---- an index is settled
 
 settled-other : (ns lows : List ℕ) (index other v : ℕ) → other ≢ index → 2 * other + 1 ≢ index → 2 * other + 2 ≢ index → IsLow ns lows other → IsLow ns (set lows index v) other
 settled-other ns lows index other v here left right low =
@@ -24,11 +24,11 @@ settled ns lows index v within is others other left right =
       | false ↦ λ apart. let ne : other ≢ index = eqb-false other index apart in settled-other ns lows index other v ne left right (others other ne)
     ] refl
 
--- A index below which nothing changed is right if it is not the one above.
+-- An index below which nothing changed is right if it is not the one above.
 pub above : (ns lows : List ℕ) (at : ℕ) → 0 < at → ((other : ℕ) → 2 * other + 1 ≢ at → 2 * other + 2 ≢ at → IsLow ns lows other) → (other : ℕ) → other ≢ (at - 1) / 2 → IsLow ns lows other
 above ns lows at some low other apart = low other (λ e. apart (omega (arith, e))) (λ e. apart (omega (arith, e)))
 
--- ---- what stands at a index
+-- ---- what stands at an index
 
 pub number-more : (lows : List ℕ) (k : ℕ) → number_at (lows ++ nothing ∷ []) k ≡ number_at lows k
 number-more [] zero = refl

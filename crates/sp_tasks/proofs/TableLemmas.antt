@@ -77,7 +77,7 @@ pub row-kept : {S : Type 0} (m : IndexMap ℕ TaskRow S) (id i : ℕ) (v w : Tas
     → row_of id m.entries ≡ Some v → w ≡ v → by_id (set_value_at m.entries i w) ≡ by_id m.entries
 row-kept m id i v w distinct there found is = row-changed m id i v w (λ r. r) distinct there found is ∙ at-same id (by_id m.entries)
 
--- a index of the table is one of the tree
+-- an index of the table is one of the tree
 pub in_tree : (made spare free : ℕ) (es : List (ℕ × TaskRow)) (tree : Least) (i : ℕ) → IsTable made spare free es tree → i < length es → i < length tree.numbers
 in_tree made spare free es tree i is within = subst (λ (n : ℕ). i < n) (sym (ap length is.numbers ∙ length-map es ready_number)) within
 
@@ -127,7 +127,7 @@ value-at [] i p there = cc
 value-at (e ∷ es) zero p there = let same : e ≡ p = cc in λ j. Some ((same j).1)
 value-at (e ∷ es) (suc i) p there = value-at es i p there
 
--- the row of an id that has a index
+-- the row of an id that has an index
 pub there : (id i : ℕ) (es : List (ℕ × TaskRow)) → position (nat_eq id) (keys_of es) ≡ Some i → i < length es → (v : TaskRow) × (slice_get es i ≡ Some (id, v))
 there id i es index within = let p = exists-at es i within in (p.0.1, entry-at id es i p.0.1 index (value-at es i p.0 p.1))
 

@@ -9,15 +9,15 @@ abbrev pub least : List ℕ → ℕ
 least [] = nothing
 least (n ∷ ns) = min n (least ns)
 
--- the number of a index, or nothing
+-- the number of an index, or nothing
 abbrev pub number_at : List ℕ → ℕ → ℕ
 number_at numbers index = slice_index_or numbers index nothing
 
--- the least below a index: below it stand the indices 2 p + 1 and 2 p + 2
+-- the least below an index: below it stand the indices 2 p + 1 and 2 p + 2
 abbrev pub least_below : List ℕ → ℕ → ℕ
 least_below lows index = min (number_at lows (2 * index + 1)) (number_at lows (2 * index + 2))
 
--- A index has the least of its own number and of those below it.
+-- An index has the least of its own number and of those below it.
 abbrev pub IsLow : List ℕ → List ℕ → ℕ → Type 0
 IsLow numbers lows index = number_at lows index ≡ min (number_at numbers index) (least_below lows index)
 

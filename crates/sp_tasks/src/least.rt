@@ -71,7 +71,7 @@ impl LeastTree {
         rise(&self.numbers, &mut self.lows, index);
     }
 
-    // Puts another number at a index.
+    // Puts another number at an index.
     pub(crate) fn put(&mut self, index: usize, number: u64)
         requires { index < length self.old.numbers }
         ensures numbers { self.new.numbers ≡ slice_set self.old.numbers index number }
@@ -81,7 +81,7 @@ impl LeastTree {
         rise(&self.numbers, &mut self.lows, index);
     }
 
-    // Takes the number of a index away. The last takes its index.
+    // Takes the number of an index away. The last number takes that index.
     pub(crate) fn swap_remove(&mut self, index: usize)
         requires { index < length self.old.numbers }
         ensures numbers { (other : ℕ) → self.new.numbers ≡ swap_remove self.old.numbers index other }
@@ -108,7 +108,7 @@ impl LeastTree {
     }
 }
 
-// What stands at a index, or nothing.
+// What stands at an index, or nothing.
 fn at_index(numbers: &[u64], index: usize) -> u64
     ensures { result ≡ number_at numbers.now index }
 {
@@ -118,7 +118,7 @@ fn at_index(numbers: &[u64], index: usize) -> u64
     }
 }
 
-// The least below a index.
+// The least below an index.
 fn below(lows: &[u64], index: usize) -> u64
     requires { index < length lows.now }
     ensures { result ≡ least_below lows.now index }
@@ -130,7 +130,7 @@ fn below(lows: &[u64], index: usize) -> u64
     }
 }
 
-// Writes the least at a index and below it.
+// Writes the least at an index and below it.
 fn settle(numbers: &[u64], lows: &mut [u64], index: usize)
     requires index { index < length lows.old }
     ensures { lows.new ≡ slice_set lows.old index (min (number_at numbers.now index) (least_below lows.old index)) }
@@ -138,7 +138,7 @@ fn settle(numbers: &[u64], lows: &mut [u64], index: usize)
     lows[index] = at_index(numbers, index).min(below(lows, index));
 }
 
-// Mends the tree from a index up to the first, if all other indices are right.
+// Mends the tree from an index up to the first, if all other indices are right.
 fn rise(numbers: &[u64], lows: &mut [u64], index: usize)
     requires index { index < length lows.old }
     requires others { (other : ℕ) → other ≢ index → IsLow numbers.now lows.old other }

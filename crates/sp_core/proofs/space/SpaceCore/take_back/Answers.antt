@@ -1,4 +1,4 @@
-use Rattle.std.proofs.Common.{◌∷◌, cond, None, Some, refl, sym, ap, ◌∙◌}
+use Rattle.std.proofs.Common.{◌∷◌, cond, None, Some, refl, ap, ◌∙◌}
 use Rattle.std.specs.Prelude.{◌==◌}
 use Rattle.sp_rules.specs.Refusals.{NotLent}
 use Rattle.sp_tasks.specs.Rows.{TaskTable, back_row}
