@@ -4,3 +4,4 @@ pub mod Livings
 pub mod Holding
 pub mod Steps
 pub mod Hands
+pub mod Opening

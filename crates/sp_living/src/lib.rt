@@ -7,9 +7,12 @@
 
 pub use living::Living;
 
+mod asking;
+mod concluding;
 mod holding;
 mod lending;
 mod living;
+mod opening;
 mod replying;
 mod results;
 mod saying;
