@@ -5,3 +5,15 @@ pub mod ResultLemmas
 pub mod HandLemmas
 pub mod StepLemmas
 pub mod LivingParts
+pub mod PartLemmas
+pub mod ApartLemmas
+pub mod TakingLemmas
+pub mod StoreLemmas
+pub mod EachLemmas
+pub mod TicketLemmas
+pub mod TableLemmas
+pub mod EndLemmas
+pub mod FoundLemmas
+pub mod PassLemmas
+pub mod ToldLemmas
+pub mod FailLemmas

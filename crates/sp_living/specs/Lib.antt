@@ -5,3 +5,6 @@ pub mod Holding
 pub mod Steps
 pub mod Hands
 pub mod Opening
+pub mod Frames
+pub mod Tickets
+pub mod Ends

@@ -12,6 +12,7 @@ use Rattle.sp_call_results.specs.declared.call_results.CallResults.{CallResults}
 use Rattle.sp_parked.specs.Parkings.{AreParked, parked_of}
 use Rattle.sp_parked.specs.declared.frame.ParkedFrame.{ParkedFrame}
 use Rattle.sp_parked.specs.declared.parked.Parked.{Parked}
+use Rattle.sp_living.specs.Frames.{AreOnce}
 use Rattle.sp_living.specs.Views.{kept, seen, seen_row}
 
 -- A task that waits is not lent.
@@ -31,8 +32,9 @@ pub record AreResults (moment : ℕ) (results : List KeptResult) (roots : List (
   pub of_own : map kept roots ≡ of_roots results
   pub of_calls : AreCallResults moment results calls
 
--- The frames of the table are those that are parked, in their order.
+-- The frames of the table are those that are parked, in their order; under one connection and number one is parked (laws `calls_that_come_are_once` and `answers_are_parked`).
 pub record AreParkedIn (parked : List rules.ParkedFrame) (table : Parked) : Type 0 where
   pub frames : List (ℕ × ParkedFrame)
   pub are : map (λ (row : ℕ × ParkedFrame). parked_of row.1) frames ≡ parked
   pub ticketed : AreParked frames table
+  pub once : AreOnce parked

@@ -9,11 +9,16 @@ pub use living::Living;
 
 mod asking;
 mod concluding;
+mod ends;
+mod failing;
+mod frames;
 mod holding;
 mod lending;
 mod living;
 mod opening;
+mod passing;
 mod replying;
 mod results;
 mod saying;
 mod tasks;
+mod telling;
