@@ -1,6 +1,6 @@
 -- What requests that go out, one after the other, leave of a state, whatever they send.
-use Rattle.std.proofs.Common.{◌≡◌, ℕ, ◌+◌, ◌≤◌, Bool, true, false, cond, ◌||◌, List, [], ◌∷◌, ◌++◌, Option, None, Some, is_some, ◌⊎◌, inl, inr, refl, sym, ap, subst, ◌∙◌, arith}
-use Rattle.std.specs.Prelude.{map, if◌then◌else◌}
+use Rattle.std.proofs.Common.{◌≡◌, ℕ, ◌+◌, ◌≤◌, Bool, true, false, ◌||◌, List, [], ◌∷◌, ◌++◌, Some, is_some, ◌⊎◌, inl, inr, refl, sym, ap, subst, ◌∙◌, arith}
+use Rattle.std.specs.Prelude.{if◌then◌else◌}
 use Rattle.std.specs.List.{flat_map}
 use Rattle.uuid.specs.declared.Uuid.{Uuid}
 use Rattle.net_message.specs.declared.message.Message.{Message}
@@ -18,9 +18,8 @@ use Rattle.sp_rules.specs.Laws.{AllOf, RisesWithin}
 use Rattle.sp_rules.specs.Lines.{dialled_to}
 use Rattle.sp_rules.specs.Lists.{each}
 use Rattle.sp_rules.specs.Requests as requests
-use Rattle.sp_rules.specs.State.{State, Request, Asked, Calls, LooksUp, Tells, Waits, Out, Connection, connection_to, is_dialling, is_open, send}
+use Rattle.sp_rules.specs.State.{State, Request, Asked, Calls, LooksUp, Tells, Out, Connection, connection_to, is_dialling, is_open, send}
 use Rattle.sp_requests.specs.Asking.{IsNamed, last_call, newest}
-use Rattle.sp_peers.specs.AllAsked.{sent_on}
 use Rattle.sp_transport.specs.Asking.{AreNextOut}
 use Rattle.sp_transport.specs.Said.{said}
 use Rattle.sp_transport.specs.Transports.{asked_up_to, call_number}

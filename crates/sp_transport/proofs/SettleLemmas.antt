@@ -1,11 +1,10 @@
 -- The dirty and clean calls that an event makes: in which order, and what they leave.
 use Rattle.std.proofs.Common.{◌≡◌, ℕ, ◌+◌, ◌≤◌, Bool, true, false, cond, ◌&&◌, List, [], ◌∷◌, ◌++◌, Option, None, Some, inl, inr, ⊎_elim, refl, sym, ap, subst, ◌∙◌, arith, append-nil, append_assoc}
-use Rattle.std.specs.Prelude.{filter, map}
+use Rattle.std.specs.Prelude.{filter}
 use Rattle.std.specs.List.{flat_map}
 use Rattle.std.proofs.lemmas.Bool.{false≢true}
 use Rattle.uuid.specs.declared.Uuid.{Uuid}
 use Rattle.net_message.specs.declared.message.Message.{Message}
-use Rattle.space_ids.specs.declared.ids.ObjId.{ObjId}
 use Rattle.dgc_client.specs.declared.groups.DueCall.{DueCall}
 use Rattle.dgc_client.specs.declared.groups.Group.{Group}
 use Rattle.dgc_client.specs.declared.lease.Due.{Due}
@@ -19,11 +18,11 @@ use Rattle.sp_rules.specs.Laws.{AllOf}
 use Rattle.sp_rules.specs.Lists.{each, with_some}
 use Rattle.sp_rules.specs.Requests as requests
 use Rattle.sp_rules.specs.Requests.{hello_came, turn_of}
-use Rattle.sp_rules.specs.State.{State, Connection, Request, Asked, Calls, LooksUp, Tells, Waits, connection_to, is_to}
+use Rattle.sp_rules.specs.State.{State, Request, Asked, Calls, LooksUp, Tells, Waits, connection_to}
 use Rattle.sp_transport.specs.Asking.{make_calls, take_fresh}
 use Rattle.sp_transport.specs.Said.{CallsMayGo, GroupsMayGo, IsNotAfter, IsNotAfterButAcks, MayGo}
 use Rattle.sp_transport.specs.Settling.{MayMakeDue, MaySettle}
-use Rattle.sp_transport.specs.Transports.{AreLines, IsFresh, IsTransport, call_number, line_parts}
+use Rattle.sp_transport.specs.Transports.{IsFresh, IsTransport, call_number}
 use Rattle.sp_transport.specs.declared.transport.Transport.{Transport}
 use Rattle.sp_transport.proofs.GoesLemmas.{IsStep, each-cons, each-more, each-none, go-step, steps, wait-step}
 

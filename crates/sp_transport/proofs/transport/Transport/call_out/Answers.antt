@@ -1,4 +1,3 @@
-use Rattle.sp_rules.specs.State.{State}
 use Rattle.sp_transport.specs.Transports.{IsTransport}
 use Rattle.sp_transport.proofs.GoingLemmas.{asked-out}
 use Rattle.sp_transport.proofs.transport.Transport.call_out.Goals as goal

@@ -1,4 +1,3 @@
-use Rattle.std.proofs.Common.{◌≡◌, ap}
 use Rattle.sp_outputs.specs.Notes.{turn_of}
 use Rattle.sp_transport.proofs.GoingLemmas.{call-goes, group-goes, lookup-goes, on-ok}
 use Rattle.sp_transport.proofs.transport.Transport.go_out.Goals as goal

@@ -3,7 +3,6 @@ use Rattle.net_message.specs.declared.message.Message.{Message}
 use Rattle.sp_rules.specs.Events.{Sends}
 use Rattle.sp_rules.specs.Requests.{group_frame}
 use Rattle.sp_outputs.specs.Notes.{notes_of, turn_of}
-use Rattle.sp_rules.specs.State.{State}
 use Rattle.sp_transport.specs.Transports.{IsTransport}
 use Rattle.sp_transport.proofs.GoingLemmas.{tell-out}
 use Rattle.sp_transport.proofs.transport.Transport.tell_part.Goals as goal
