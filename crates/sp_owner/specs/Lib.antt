@@ -1,0 +1,4 @@
+pub mod Owners
+pub mod Names
+pub mod Sweeps
+pub mod Shown
