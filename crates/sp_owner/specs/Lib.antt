@@ -1,4 +1,1 @@
 pub mod Owners
-pub mod Names
-pub mod Sweeps
-pub mod Shown
