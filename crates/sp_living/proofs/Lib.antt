@@ -17,3 +17,4 @@ pub mod FoundLemmas
 pub mod PassLemmas
 pub mod ToldLemmas
 pub mod FailLemmas
+pub mod AskedLemmas

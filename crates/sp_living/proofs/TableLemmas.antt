@@ -48,4 +48,3 @@ results-changed g s l rs table a now = record {
   results = now;
   parked = a.parked;
 }
-

@@ -4,6 +4,7 @@ ghost use Rattle.std.specs.Prelude.{◌≡◌, [], None, Some, OnOk};
 ghost use Rattle.sp_rules.specs.Classes.{Setting};
 ghost use Rattle.sp_rules.specs.Frames.{counted, greeted};
 ghost use Rattle.sp_rules.specs.OwnEvents.{on_opened};
+ghost use Rattle.sp_rules.specs.Requests.{flush_waiting};
 ghost use Rattle.sp_rules.specs.State.{Connection as Line, State, connection_at};
 
 use crate::Living;
@@ -74,6 +75,14 @@ impl Living {
         ensures { (g : Setting) (s : State) → IsLiving g s self.old → s.notes ≡ [] → ((c : Line) → connection_at s conn ≡ Some c → c.dialled ≡ None) → IsLiving g (greeted space conn s) self.new }
     {
         self.transport.greet(conn, space);
+    }
+
+    /// Notes that the Hello of a peer that was dialled has come on its connection. All that waits for it goes
+    /// out there, in the order in which it was made.
+    pub fn flush_waiting(&mut self, peer: &Uuid, conn: u64) -> Result<(), AllocError>
+        ensures { OnOk result ((g : Setting) (s : State) (c : Line) → IsLiving g s self.old → s.notes ≡ [] → connection_at s conn ≡ Some c → c.dialled ≡ Some peer.now → c.peer ≡ None → IsLiving g (flush_waiting peer.now conn (greeted peer.now conn s)) self.new) }
+    {
+        self.transport.flush_waiting(peer, conn)
     }
 
     /// Notes the number of a Call or Lookup that came on a connection.

@@ -7,7 +7,6 @@ use Rattle.sp_living.specs.declared.ends.Thrown.{Thrown}
 use Rattle.sp_living.proofs.EndLemmas.{thrown-all}
 use Rattle.sp_living.proofs.living.Living.end_connection.Goals as goal
 
-
 pub returns : goal.returns
 returns w c = on_ok_weaker c.end_as.result (λ ended. λ g s a quiet tells.
     let class = c.thrown-class.ensures g.classes tells in

@@ -13,5 +13,5 @@ returns w c = on_ok_weaker c.end_as.result (λ ended. λ g s a quiet tells.
     let marshal = c.thrown.ensures g.classes tells in
     let others = c.thrown-2.ensures g.classes tells in
     let by : AreThrown (why_unsent g unsent) unsent (record { unsent = c.thrown.result; others = c.thrown-2.result }) = λ asked number asks is.
-        thrown-unsent g unsent asked number asks is ∙ (λ j. Rattle.sp_living.specs.Ends.thrown_at (record { unsent = sym marshal j; others = sym others j }) (Rattle.std.specs.List.list_any (Rattle.std.specs.Prelude.◌==◌ number) unsent)) in
+    thrown-unsent g unsent asked number asks is ∙ (λ j. Rattle.sp_living.specs.Ends.thrown_at (record { unsent = sym marshal j; others = sym others j }) (Rattle.std.specs.List.list_any (Rattle.std.specs.Prelude.◌==◌ number) unsent)) in
     ended g s (why_unsent g unsent) a quiet tells by) c.end_as.ensures
