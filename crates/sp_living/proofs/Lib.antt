@@ -5,7 +5,6 @@ pub mod ResultLemmas
 pub mod HandLemmas
 pub mod StepLemmas
 pub mod LivingParts
-pub mod PartLemmas
 pub mod ApartLemmas
 pub mod TakingLemmas
 pub mod StoreLemmas
