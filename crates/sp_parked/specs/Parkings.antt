@@ -15,7 +15,7 @@ use Rattle.sp_parked.specs.declared.parked.Parked.{Parked}
 
 -- a frame that waits, in the terms of the rules
 abbrev pub frame_of : Frame → rules.Frame
-frame_of (Call target method fuel arguments) = rules.CallFrame target method fuel arguments
+frame_of (Call c) = rules.CallFrame c.target c.method c.fuel c.arguments
 frame_of (Returned value fuel) = rules.ReturnedFrame value fuel
 
 abbrev pub parked_of : ParkedFrame → rules.ParkedFrame

@@ -2,16 +2,20 @@
 
 use space_ids::{ForeignId, ObjId, Row, Value};
 
+/// A call that came, of a method of one of the space's own objects, and the fuel that it lends.
+#[derive(Debug, Drop)]
+pub struct ParkedCall {
+    pub target: ObjId,
+    pub method: u32,
+    pub fuel: u64,
+    pub arguments: Row<Value>,
+}
+
 /// A frame that waits for leases.
 #[derive(Debug, Drop)]
 pub enum Frame {
     /// A call that came.
-    Call {
-        target: ObjId,
-        method: u32,
-        fuel: u64,
-        arguments: Row<Value>,
-    },
+    Call(ParkedCall),
     /// The result of a call or lookup.
     Returned {
         value: Option<Value>,

@@ -3,7 +3,7 @@
 //! A contract speaks of the list of the frames with their tickets, in the order in which they came.
 #![tactic(auto)]
 
-pub use frame::{Frame, ParkedFrame};
+pub use frame::{Frame, ParkedCall, ParkedFrame};
 pub use parked::Parked;
 
 mod by_connection;

@@ -2,7 +2,7 @@
 
 ghost use Rattle.std.specs.Prelude.{◌≡◌, ℕ, ◌+◌, ◌++◌, List, [], ◌∷◌, IfOk, OnOk, nat_eq, option_copied};
 ghost use Rattle.std.specs.List.{IsDistinct};
-ghost use Rattle.std.specs.Map.{lookup, remove_entry};
+ghost use Rattle.std.specs.Map.{keys_of, lookup, remove_entry};
 ghost use Rattle.dgc_client.specs.Table.{is_same};
 ghost use Rattle.sp_parked.specs.declared.frame.ParkedFrame.{ParkedFrame as Waiting};
 
@@ -50,6 +50,13 @@ impl Parked {
         ensures { (frames : List (ℕ × Waiting)) → AreParked frames self.now → option_copied result ≡ lookup (nat_eq ticket) frames }
     {
         self.frames.get(ticket)
+    }
+
+    /// The tickets of all frames, in the order in which these came.
+    pub fn tickets(&self, alloc: Global) -> Result<Vec<u64>, AllocError>
+        ensures { IfOk result (λ tickets. (frames : List (ℕ × Waiting)) → AreParked frames self.now → tickets.items ≡ keys_of frames) }
+    {
+        self.frames.numbers(alloc)
     }
 
     /// The tickets of the frames that name a reference, in the order in which these came.

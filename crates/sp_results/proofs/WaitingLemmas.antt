@@ -1,19 +1,18 @@
-use Rattle.std.proofs.Common.{◌≡◌, ℕ, ◌+◌, ◌-◌, ◌≤◌, Bool, true, false, cond, List, [], ◌∷◌, ◌++◌, length, filter, Option, None, Some, is_some, nat_eq, refl, sym, ap, subst, ◌∙◌, map, append_assoc, arith}
+use Rattle.std.proofs.Common.{◌≡◌, ℕ, ◌+◌, ◌-◌, ◌≤◌, Bool, true, false, cond, List, [], ◌∷◌, ◌++◌, length, Option, None, Some, is_some, nat_eq, refl, sym, ap, subst, ◌∙◌, map, append_assoc, arith}
 use Rattle.std.specs.Prelude.{◌||◌, ◌==◌, not}
 use Rattle.std.specs.List.{IsDistinct, AllByRecursion, list_any}
 use Rattle.std.specs.Cmp.{nat_eq_equiv}
 use Rattle.std.specs.Borrow.{Bor}
 use Rattle.std.specs.Map.Iter.{deref_pair}
 use Rattle.std.specs.Map.{lookup, lookup_entry, keys_of, remove_entry}
-use Rattle.std.proofs.lemmas.Bool.{eqb-true, eqb-false, eq-eqb, ne_eqb}
+use Rattle.std.proofs.lemmas.Bool.{eqb-true}
 use Rattle.std.proofs.lemmas.List.{map-append, take_all}
 use Rattle.std.proofs.lemmas.List.Folds.{list_any-append}
-use Rattle.std.proofs.lemmas.Map.{lookup-remove_entry}
 use Rattle.std.proofs.lemmas.Map.Keys.{IsDistinct-head, IsDistinct-tail, IsDistinct-cons, IsDistinct-push}
 use Rattle.std.proofs.lemmas.Map.Made.{is_some-lookup}
 use Rattle.lru.specs.LruCache.{LruCache, demoted, lru_cache, put_entries}
 use Rattle.space_ids.specs.declared.value.Value.{Value}
-use Rattle.sp_results.specs.Waiting.{is_waiting, without}
+use Rattle.sp_results.specs.Waiting.{is_waiting, of_task, row_of, without}
 
 flip : (a b : ℕ) → nat_eq a b ≡ (b == a)
 flip a b = nat_eq_equiv.symm a b
@@ -57,6 +56,22 @@ removed task (e ∷ es) distinct =
       | false ↦ λ apart.
           ap (λ rs. e ∷ rs) (removed task es (IsDistinct-tail nat_eq e.0 (keys_of es) distinct))
           ∙ sym (ap (λ t. cond (not t) (e ∷ without task es) (without task es)) (sym (flip task e.0) ∙ apart))
+    ] refl
+
+none-of : (task : ℕ) (es : List (ℕ × Option Value)) → AllByRecursion (λ k. nat_eq task k ≡ false) (keys_of es) → of_task task es ≡ []
+none-of task [] h = refl
+none-of task (e ∷ es) h = ap (λ t. cond t (e ∷ of_task task es) (of_task task es)) (sym (flip task e.0) ∙ h.0) ∙ none-of task es h.1
+
+-- what is found of a key is the only one of it
+pub found-only : (task : ℕ) (es : List (ℕ × Option Value)) → IsDistinct nat_eq (keys_of es) → of_task task es ≡ row_of task (lookup (nat_eq task) es)
+found-only task [] distinct = refl
+found-only task (e ∷ es) distinct =
+    elim (nat_eq task e.0) as (λ t. nat_eq task e.0 ≡ t → cond (e.0 == task) (e ∷ of_task task es) (of_task task es) ≡ row_of task (cond t (Some e.1) (lookup (nat_eq task) es))) [
+      | true ↦ λ here.
+          let same : e.0 ≡ task = sym (eqb-true task e.0 here) in
+          let others : of_task task es ≡ [] = none-of task es (absent-same e.0 task (keys_of es) same (IsDistinct-head nat_eq e.0 (keys_of es) distinct)) in
+          ap (λ t. cond t (e ∷ of_task task es) (of_task task es)) (sym (flip task e.0) ∙ here) ∙ (λ j. (same j, e.1) ∷ others j)
+      | false ↦ λ apart. ap (λ t. cond t (e ∷ of_task task es) (of_task task es)) (sym (flip task e.0) ∙ apart) ∙ found-only task es (IsDistinct-tail nat_eq e.0 (keys_of es) distinct)
     ] refl
 
 absent-removed : (task k : ℕ) (es : List (ℕ × Option Value)) → AllByRecursion (λ x. nat_eq k x ≡ false) (keys_of es)

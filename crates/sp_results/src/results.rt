@@ -4,7 +4,7 @@ ghost use Rattle.std.specs.Prelude.{◌≡◌, ◌++◌, ◌||◌, [], ◌∷◌
 ghost use Rattle.std.specs.List.{list_any};
 ghost use Rattle.space_ids.specs.declared.ids.ObjId.{ObjId};
 ghost use Rattle.sp_rules.specs.References.{is_id_in, own_ids, references_in};
-ghost use Rattle.sp_results.specs.Waiting.{is_waiting, without};
+ghost use Rattle.sp_results.specs.Waiting.{is_waiting, of_task, row_of, without};
 
 use lru::LruCache;
 use sp_store::IdSet;
@@ -70,7 +70,15 @@ impl Results {
     pub fn release(&mut self, task: u64)
         ensures { self.new ≡ without task self.old }
     {
-        let _ = self.results.pop(&task);
+        let _ = self.take(task);
+    }
+
+    /// Lets the result of the task go, if one waits, and returns it. The order of the others stays.
+    pub fn take(&mut self, task: u64) -> Option<Option<Value>>
+        ensures value { of_task task self.old ≡ row_of task result }
+        ensures left { self.new ≡ without task self.old }
+    {
+        self.results.pop(&task)
     }
 
     /// Adds the ids of the space's own objects that the results name.

@@ -1,5 +1,4 @@
 use Rattle.std.proofs.Common.{◌+◌, ◌≤◌, List, ℕ, Option, length, refl, ap, ◌∙◌, arith}
-use Rattle.lru.specs.LruCache.{LruCache}
 use Rattle.space_ids.specs.declared.value.Value.{Value}
 use Rattle.sp_results.specs.Waiting.{is_waiting}
 use Rattle.sp_results.proofs.WaitingLemmas.{absent-from, distinct-held, held-after}

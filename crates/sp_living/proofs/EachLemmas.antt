@@ -1,0 +1,62 @@
+-- What is done for each of a list in turn, as the list grows; and what is asked of peers, beside references that are let go.
+use Rattle.std.proofs.Common.{◌≡◌, ℕ, ◌++◌, Bool, true, false, cond, List, [], ◌∷◌, refl, sym, ap, ◌∙◌}
+use Rattle.std.specs.Prelude.{filter, not}
+use Rattle.space_ids.specs.declared.ids.ForeignId.{ForeignId}
+use Rattle.sp_rules.specs.Endings.{unpark}
+use Rattle.sp_rules.specs.Holders.{drop_ids, holder_goes}
+use Rattle.sp_rules.specs.Lists.{each}
+use Rattle.sp_rules.specs.ParkedFrames.{is_parked_at, let_go_parked, remove_requests, take_parked}
+use Rattle.sp_rules.specs.State.{State, ParkedFrame, Request}
+
+pub each-more : {S A : Type 0} (f : S → A → S) (xs : List A) (x : A) (s : S) → each f (xs ++ x ∷ []) s ≡ f (each f xs s) x
+unfolding each
+each-more f [] x s = refl
+each-more f (y ∷ ys) x s = each-more f ys x (f s y)
+
+-- ---- what is asked of peers, beside references that are let go
+
+abbrev with_requests : List Request → State → State
+with_requests rs s = record s { requests = rs }
+
+drop-asks : (ids : List ForeignId) (rs : List Request) (s : State) → drop_ids ids (with_requests rs s) ≡ with_requests rs (drop_ids ids s)
+unfolding drop_ids each
+drop-asks [] rs s = refl
+drop-asks (x ∷ xs) rs s = drop-asks xs rs (holder_goes s x)
+
+let-asks : (ps : List ParkedFrame) (rs : List Request) (s : State)
+    → each (λ t (q : ParkedFrame). drop_ids q.references t) ps (with_requests rs s) ≡ with_requests rs (each (λ t (q : ParkedFrame). drop_ids q.references t) ps s)
+unfolding each
+let-asks [] rs s = refl
+let-asks (p ∷ ps) rs s = ap (each (λ t (q : ParkedFrame). drop_ids q.references t) ps) (drop-asks p.references rs s) ∙ let-asks ps rs (drop_ids p.references s)
+
+unpark-asks : (ps : List ParkedFrame) (rs : List Request) (s : State) → each unpark ps (with_requests rs s) ≡ with_requests rs (each unpark ps s)
+unfolding each
+unpark-asks [] rs s = refl
+unpark-asks (p ∷ ps) rs s =
+    ap (each unpark ps) (let-asks (filter (is_parked_at p.conn p.number) s.parked) rs (take_parked p s)) ∙ unpark-asks ps rs (unpark s p)
+
+-- what is asked stays as frames are dropped
+pub unpark-requests : (ps : List ParkedFrame) (s : State) → (each unpark ps s).requests ≡ s.requests
+unpark-requests ps s = ap (λ (t : State). t.requests) (unpark-asks ps s.requests s)
+
+-- requests end before or after frames are dropped
+pub unpark-removed : (is : Request → Bool) (ps : List ParkedFrame) (s : State) → each unpark ps (remove_requests is s) ≡ remove_requests is (each unpark ps s)
+unpark-removed is ps s =
+    unpark-asks ps (filter (λ (r : Request). not (is r)) s.requests) s
+    ∙ ap (λ rs. with_requests (filter (λ (r : Request). not (is r)) rs) (each unpark ps s)) (sym (unpark-requests ps s))
+
+-- ---- nothing is asked
+
+none-of : (rs : List Request) → filter (λ (r : Request). false) rs ≡ []
+none-of [] = refl
+none-of (r ∷ rs) = none-of rs
+
+all-of : (rs : List Request) → filter (λ (r : Request). not false) rs ≡ rs
+all-of [] = refl
+all-of (r ∷ rs) = ap (λ l. r ∷ l) (all-of rs)
+
+pub none-ends : (rs : List Request) → filter (λ (r : Request). false) rs ≡ []
+none-ends rs = none-of rs
+
+pub none-removed : (s : State) → remove_requests (λ (r : Request). false) s ≡ s
+none-removed s = ap (λ rs. with_requests rs s) (all-of s.requests)

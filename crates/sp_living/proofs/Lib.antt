@@ -1,0 +1,14 @@
+pub mod LivingLemmas
+pub mod HolderLemmas
+pub mod TaskLemmas
+pub mod ResultLemmas
+pub mod HandLemmas
+pub mod StepLemmas
+pub mod ApartLemmas
+pub mod TakingLemmas
+pub mod StoreLemmas
+pub mod EachLemmas
+pub mod TicketLemmas
+pub mod PartLemmas
+pub mod EndLemmas
+pub mod FoundLemmas

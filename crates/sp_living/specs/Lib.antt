@@ -1,0 +1,9 @@
+pub mod Views
+pub mod Parts
+pub mod Livings
+pub mod Holding
+pub mod Steps
+pub mod Hands
+pub mod Frames
+pub mod Tickets
+pub mod Ends

@@ -1,0 +1,23 @@
+//! What lives in a space: its tasks, the results that it holds, the frames that wait for leases, and its
+//! side of the transport.
+//!
+//! A contract names the states of the rules of spaces that the value may stand for. What a call makes of
+//! the state is a function of the rules, so that an event of a space is a row of calls.
+#![tactic(auto)]
+
+pub use living::Living;
+
+mod ending;
+mod ends;
+mod failing;
+mod frames;
+mod holding;
+mod keeping;
+mod lending;
+mod living;
+mod passing;
+mod releasing;
+mod replying;
+mod saying;
+mod starting;
+mod telling;

@@ -1,0 +1,59 @@
+//! What lives in a space, and what is seen of it.
+
+ghost use Rattle.std.specs.Prelude.{◌≡◌, IfOk};
+ghost use Rattle.sp_rules.specs.Classes.{Setting};
+ghost use Rattle.sp_rules.specs.State.{State, opening};
+ghost use Rattle.sp_transport.specs.Transports.{IsTransport};
+
+use sp_call_results::CallResults;
+use sp_parked::Parked;
+use sp_results::Results;
+use sp_tasks::Tasks;
+use sp_transport::Transport;
+use space_ids::Uuid;
+use std::alloc::{AllocError, Global};
+
+/// What lives in a space: its tasks, the results that it holds, the frames that wait for leases, and its
+/// side of the transport.
+///
+/// A contract names the states of the rules that the value may stand for. A call that fails may leave it
+/// anywhere between two of them: what has failed is to be let go, and an equal value kept. What the laws of
+/// histories exclude is looked at, and answered like memory that lacks.
+#[derive(Debug, Drop)]
+pub struct Living {
+    pub(crate) alloc: Global,
+    pub(crate) id: Uuid,
+    pub(crate) moment: u64,
+    pub(crate) tasks: Tasks,
+    pub(crate) results: Results,
+    pub(crate) call_results: CallResults,
+    pub(crate) parked: Parked,
+    pub(crate) transport: Transport,
+}
+
+impl Living {
+    ghost use Rattle.sp_living.specs.Livings.{IsLiving};
+
+    /// Nothing lives in the space of this id.
+    pub fn new(alloc: Global, id: Uuid) -> Result<Living, AllocError>
+        ensures { IfOk result (λ living. (g : Setting) → g.id ≡ id → IsLiving g opening living) }
+    {
+        Ok(Living {
+            alloc,
+            id,
+            moment: 0,
+            tasks: Tasks::new(alloc),
+            results: Results::new(alloc)?,
+            call_results: CallResults::new(alloc),
+            parked: Parked::new(alloc),
+            transport: Transport::new(alloc),
+        })
+    }
+
+    /// The space's side of the transport.
+    pub fn transport(&self) -> &Transport
+        ensures { (g : Setting) (s : State) → IsLiving g s self.now → IsTransport s result.now }
+    {
+        &self.transport
+    }
+}

@@ -1,8 +1,0 @@
-use Rattle.sp_results.proofs.WaitingLemmas.{distinct-removed, removed}
-use Rattle.sp_results.proofs.results.Results.release.Goals as goal
-
-pub invariant_of-self : goal.invariant_of-self
-invariant_of-self c = rw (c.pop.ensures.entries) (distinct-removed c.args.task c.self.inside.results.entries c.self.invariant.0, c.self.invariant.1)
-
-pub returns : goal.returns
-returns c = rw (c.pop.ensures.entries, ← c.self.view_is) (removed c.args.task c.self.inside.results.entries c.self.invariant.0)
