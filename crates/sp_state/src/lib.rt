@@ -1,0 +1,5 @@
+//! The state of a space.
+#![tactic(auto)]
+
+/// Nothing.
+pub fn nothing() {}
