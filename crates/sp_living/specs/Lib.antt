@@ -7,3 +7,5 @@ pub mod Hands
 pub mod Frames
 pub mod Tickets
 pub mod Ends
+pub mod Opening
+pub mod Needs

@@ -7,6 +7,8 @@
 
 pub use living::Living;
 
+mod asking;
+mod concluding;
 mod ending;
 mod ends;
 mod failing;
@@ -15,6 +17,8 @@ mod holding;
 mod keeping;
 mod lending;
 mod living;
+mod needing;
+mod opening;
 mod passing;
 mod releasing;
 mod replying;

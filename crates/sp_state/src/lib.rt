@@ -1,5 +1,20 @@
-//! The state of a space.
+//! The state of a space, and what each event makes of it: what the space keeps for others, and what lives
+//! in it.
+//!
+//! A contract names the states of the rules of spaces that the value may stand for. What an event makes of
+//! the state is the function of the rules that has its name.
 #![tactic(auto)]
 
-/// Nothing.
-pub fn nothing() {}
+pub use space_state::SpaceState;
+
+mod acting;
+mod answers;
+mod arriving;
+mod calls;
+mod ending;
+mod hello;
+mod lookups;
+mod owning;
+mod refusing;
+mod space_state;
+mod sweeping;

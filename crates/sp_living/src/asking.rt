@@ -1,0 +1,79 @@
+//! Calls and lookups of the space's own: those that it makes, and the answers to them.
+
+ghost use Rattle.std.specs.Prelude.{◌≡◌, [], Some, OnOk, find, option_and_then, true};
+ghost use Rattle.net_message.specs.declared.message.Message.TheVariants as message;
+ghost use Rattle.sp_registry.specs.Names.{is_name};
+ghost use Rattle.sp_rules.specs.Classes.{Setting};
+ghost use Rattle.sp_rules.specs.Events.{Acks};
+ghost use Rattle.sp_rules.specs.OwnEvents.{on_lookup};
+ghost use Rattle.sp_rules.specs.ParkedFrames.{is_asked_on, is_call_on, remove_requests};
+ghost use Rattle.sp_rules.specs.State.{Connection as Line, State, connection_at, send};
+ghost use Rattle.uuid.specs.declared.Uuid.{Uuid as Peer};
+
+use crate::Living;
+use sp_outputs::Output;
+use sp_requests::{Asked, Asker};
+use space_ids::{Row, Uuid};
+use std::alloc::AllocError;
+
+// The last number that a call or task may have. A space whose next number would be that is worn out, and
+// takes no event (98).
+const LAST: u64 = 1 << 63;
+
+impl Living {
+    ghost use Rattle.sp_living.specs.Livings.{IsLiving};
+    ghost use Rattle.sp_transport.specs.Answers.{asker_in, park_answer};
+
+    /// Makes a lookup of an allowed name in the registry of a peer. The event asks it as it ends.
+    pub fn look_up(&mut self, peer: &Uuid, name: Row<u8>) -> Result<(), AllocError>
+        ensures { OnOk result ((g : Setting) (s : State) → IsLiving g s self.old → is_name name ≡ true → IsLiving g (on_lookup g peer.now name s) self.new) }
+    {
+        let number = self.transport.calls_made();
+        if number >= LAST || self.tasks.made() >= LAST {
+            return Err(AllocError);
+        }
+        let task = self.tasks.take_id();
+        self.transport.make_call(
+            peer,
+            Asked::Lookup {
+                number: number + 1,
+                task,
+                name,
+            },
+        );
+        self.say(Output::Started(task))
+    }
+
+    /// Who asks by the call or lookup of this number that is out on a connection and has no answer, if there
+    /// is one. This space dialled the connection.
+    pub fn asked(&self, conn: u64, number: u64) -> Option<Asker>
+        ensures { (g : Setting) (s : State) (c : Line) (peer : Peer) → IsLiving g s self.now → connection_at s conn ≡ Some c → c.dialled ≡ Some peer → result ≡ option_and_then asker_in (find (is_asked_on conn number) s.requests) }
+    {
+        self.transport.asked(conn, number)
+    }
+
+    /// Notes that the result of a call or lookup has come and is parked.
+    pub fn answer(&mut self, conn: u64, number: u64)
+        ensures { (g : Setting) (s : State) (c : Line) (peer : Peer) → IsLiving g s self.old → connection_at s conn ≡ Some c → c.dialled ≡ Some peer → IsLiving g (park_answer conn number s) self.new }
+    {
+        self.transport.answer(conn, number);
+    }
+
+    /// Lets a call or lookup go that is out on a connection, answered or not.
+    pub fn take_call(&mut self, conn: u64, number: u64)
+        ensures { (g : Setting) (s : State) (c : Line) (peer : Peer) → IsLiving g s self.old → connection_at s conn ≡ Some c → c.dialled ≡ Some peer → IsLiving g (remove_requests (is_call_on conn number) s) self.new }
+    {
+        let _ = self.transport.take_call(conn, number);
+    }
+
+    /// Lets a call or lookup go whose result has come, which is out on the connection, and sends its Ack.
+    pub fn acknowledge(&mut self, conn: u64, number: u64) -> Result<(), AllocError>
+        ensures { OnOk result ((g : Setting) (s : State) (c : Line) (peer : Peer) → IsLiving g s self.old → connection_at s conn ≡ Some c → c.dialled ≡ Some peer → IsLiving g (send Acks conn (message.Ack number) (remove_requests (is_call_on conn number) s)) self.new) }
+    {
+        self.transport.reserve_notes(1)?;
+        match self.transport.acknowledge_reserved(conn, number) {
+            Some(_) => Ok(()),
+            None => Err(AllocError),
+        }
+    }
+}

@@ -1,0 +1,76 @@
+//! The first frame of a connection. (This project's own protocol.)
+
+ghost use Rattle.std.specs.Prelude.{◌≡◌, ℕ, [], None, Some, OnOk};
+ghost use Rattle.net_message.specs.declared.message.Message.TheVariants as message;
+ghost use Rattle.sp_rules.specs.Classes.{Setting};
+ghost use Rattle.sp_rules.specs.Frames.{first_frame};
+ghost use Rattle.sp_rules.specs.State.{Connection as Line, State};
+
+use crate::SpaceState;
+use net_message::{Digest, Message};
+use sp_call_classes::{CallClasses, RemoteException};
+use space_ids::Uuid;
+use std::alloc::AllocError;
+
+impl SpaceState {
+    ghost use Rattle.sp_state.specs.Receiving.{ComesOn};
+    ghost use Rattle.sp_state.specs.Spaces.{IsSpace};
+
+    // Takes the first frame of a connection, dialled to this peer if it was. One that is no Hello closes it, and
+    // so does a Hello with another digest, or another id than was dialled.
+    pub(crate) fn first_frame<C: CallClasses>(
+        &mut self,
+        classes: &C,
+        conn: u64,
+        dialled: Option<Uuid>,
+        message: Message,
+    ) -> Result<(), AllocError>
+        ensures { OnOk result ((g : Setting) (s : State) (c : Line) → IsSpace g s self.old → s.notes ≡ [] → C.tells classes.now g.classes → ComesOn conn s c → c.dialled ≡ dialled → c.peer ≡ None → IsSpace g (first_frame g c message s) self.new) }
+    {
+        match message {
+            Message::Hello {
+                version: _,
+                space,
+                digest,
+            } => match dialled {
+                Some(peer) => self.hello_of_dialled(classes, conn, &peer, &space, digest),
+                None => self.hello(classes, conn, space, digest),
+            },
+            _ => self.close(classes, RemoteException::Unmarshal, conn),
+        }
+    }
+
+    // Takes the Hello of a peer that dialled this space.
+    fn hello<C: CallClasses>(
+        &mut self,
+        classes: &C,
+        conn: u64,
+        space: Uuid,
+        digest: Digest,
+    ) -> Result<(), AllocError>
+        ensures { OnOk result ((g : Setting) (s : State) (c : Line) (version : ℕ) → IsSpace g s self.old → s.notes ≡ [] → C.tells classes.now g.classes → ComesOn conn s c → c.dialled ≡ None → c.peer ≡ None → IsSpace g (first_frame g c (message.Hello version space digest) s) self.new) }
+    {
+        if digest != self.digest {
+            return self.close(classes, RemoteException::Unmarshal, conn);
+        }
+        self.living.greet(conn, space);
+        Ok(())
+    }
+
+    // Takes the Hello of a peer that this space dialled. What waits for it goes out.
+    fn hello_of_dialled<C: CallClasses>(
+        &mut self,
+        classes: &C,
+        conn: u64,
+        peer: &Uuid,
+        space: &Uuid,
+        digest: Digest,
+    ) -> Result<(), AllocError>
+        ensures { OnOk result ((g : Setting) (s : State) (c : Line) (version : ℕ) → IsSpace g s self.old → s.notes ≡ [] → C.tells classes.now g.classes → ComesOn conn s c → c.dialled ≡ Some peer.now → c.peer ≡ None → IsSpace g (first_frame g c (message.Hello version space.now digest) s) self.new) }
+    {
+        if digest != self.digest || *space != *peer {
+            return self.close(classes, RemoteException::Connect, conn);
+        }
+        self.living.flush_waiting(peer, conn)
+    }
+}
