@@ -12,3 +12,4 @@ pub mod TicketLemmas
 pub mod PartLemmas
 pub mod EndLemmas
 pub mod FoundLemmas
+pub mod SettlingLemmas

@@ -1,1 +1,3 @@
 pub mod QuietLemmas
+pub mod SpaceLemmas
+pub mod FrameLemmas

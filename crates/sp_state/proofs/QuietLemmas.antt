@@ -64,6 +64,9 @@ IsEarly turn = (turn_rank turn ≤ turn_rank Cleans) ⊎ (is_acks turn ≡ true)
 replies-early : IsEarly Replies
 replies-early = inl (lit≤ tt)
 
+hellos-early : IsEarly Hellos
+hellos-early = inl (lit≤ tt)
+
 waited-early : IsEarly Waited
 waited-early = inl (lit≤ tt)
 
@@ -325,6 +328,11 @@ told_by_keeps {P = P} F {s = s} c dirty sequence event e = some_keeps F (find (F
     tells (Tells call group) {t = t} h = F.frame t _ refl h
 
 -- ---- own events
+
+pub opened_keeps : {g : Setting} {P : State → Type 0} (F : IsQuiet g P) {s : State} (conn : ℕ) (dialled : Option Uuid) → P s → P (OwnEvents.on_opened g conn dialled s)
+unfolding OwnEvents.on_opened
+opened_keeps F {s = s} conn None e = send_keeps F _ conn _ hellos-early (F.frame s _ refl e)
+opened_keeps F {s = s} conn (Some peer) e = send_keeps F _ conn _ hellos-early (F.frame s _ refl e)
 
 pub refused_keeps : {g : Setting} {P : State → Type 0} (F : IsQuiet g P) {s : State} (peer : Uuid) → P s → P (OwnEvents.on_refused g peer s)
 unfolding OwnEvents.on_refused

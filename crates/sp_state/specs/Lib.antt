@@ -1,3 +1,5 @@
 pub mod Spaces
 pub mod Receiving
 pub mod Sweeping
+pub mod Denying
+pub mod Hellos

@@ -28,7 +28,8 @@ impl SpaceState {
         ensures id { IfOk result (λ id. (g : Setting) (s : State) → IsSpace g s self.old → id ≡ s.tasks_made + 1) }
         ensures started { OnOk result ((g : Setting) (s : State) → IsSpace g s self.old → IsSpace g (add_task g OfRoot method arguments.now fuel s) self.new) }
     {
-        self.living.start(Origin::Root, method, arguments, fuel)
+        let id = self.living.start(Origin::Root, method, arguments, fuel)?;
+        Ok(id)
     }
 
     /// Lets the result of a root or lookup go, if it is held. It takes no memory.

@@ -3,7 +3,7 @@
 ghost use Rattle.std.specs.Prelude.{◌≡◌, [], None, Some, OnOk};
 ghost use Rattle.sp_connections.specs.Tables.{seen};
 ghost use Rattle.sp_rules.specs.Classes.{Setting};
-ghost use Rattle.sp_rules.specs.Frames.{got, is_asking, receive};
+ghost use Rattle.sp_rules.specs.Frames.{got, is_asking, is_wrong_way, receive};
 ghost use Rattle.sp_rules.specs.OwnEvents.{received_on};
 ghost use Rattle.uuid.specs.declared.Uuid.{Uuid as Peer};
 ghost use Rattle.sp_rules.specs.State.{Connection as Line, State, connection_at};
@@ -48,7 +48,7 @@ impl SpaceState {
             return self.first_frame(classes, conn, connection.dialled, message);
         }
         let asks = is_asking(&message);
-        if asks == connection.dialled.is_some() {
+        if is_wrong_way(asks, connection.dialled.is_some()) {
             return self.close(classes, RemoteException::Unmarshal, conn);
         }
         if asks {
@@ -160,4 +160,12 @@ fn is_asking(message: &Message) -> bool
         | Message::Lookup { number: _, name: _ } => true,
         _ => false,
     }
+}
+
+// Whether a frame goes the wrong way: one that asks goes to the end that was dialled, one that answers to the
+// other.
+fn is_wrong_way(asks: bool, dialled: bool) -> bool
+    ensures { result ≡ is_wrong_way asks dialled }
+{
+    if asks { dialled } else { !dialled }
 }

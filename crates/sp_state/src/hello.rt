@@ -1,10 +1,10 @@
 //! The first frame of a connection. (This project's own protocol.)
 
-ghost use Rattle.std.specs.Prelude.{◌≡◌, ℕ, [], None, Some, OnOk};
-ghost use Rattle.net_message.specs.declared.message.Message.TheVariants as message;
+ghost use Rattle.std.specs.Prelude.{◌≡◌, [], None, Some, OnOk};
 ghost use Rattle.sp_rules.specs.Classes.{Setting};
 ghost use Rattle.sp_rules.specs.Frames.{first_frame};
 ghost use Rattle.sp_rules.specs.State.{Connection as Line, State};
+ghost use Rattle.sp_state.specs.Hellos.{hello_in};
 
 use crate::SpaceState;
 use net_message::{Digest, Message};
@@ -12,7 +12,15 @@ use sp_call_classes::{CallClasses, RemoteException};
 use space_ids::Uuid;
 use std::alloc::AllocError;
 
+// What a Hello says: who speaks, and over which classes.
+#[derive(Clone, Copy)]
+struct Hello {
+    space: Uuid,
+    digest: Digest,
+}
+
 impl SpaceState {
+    ghost use Rattle.sp_state.specs.Hellos.{take_hello};
     ghost use Rattle.sp_state.specs.Receiving.{ComesOn};
     ghost use Rattle.sp_state.specs.Spaces.{IsSpace};
 
@@ -27,16 +35,12 @@ impl SpaceState {
     ) -> Result<(), AllocError>
         ensures { OnOk result ((g : Setting) (s : State) (c : Line) → IsSpace g s self.old → s.notes ≡ [] → C.tells classes.now g.classes → ComesOn conn s c → c.dialled ≡ dialled → c.peer ≡ None → IsSpace g (first_frame g c message s) self.new) }
     {
-        match message {
-            Message::Hello {
-                version: _,
-                space,
-                digest,
-            } => match dialled {
-                Some(peer) => self.hello_of_dialled(classes, conn, &peer, &space, digest),
-                None => self.hello(classes, conn, space, digest),
-            },
-            _ => self.close(classes, RemoteException::Unmarshal, conn),
+        let Some(hello) = hello_in(&message) else {
+            return self.close(classes, RemoteException::Unmarshal, conn);
+        };
+        match dialled {
+            Some(peer) => self.hello_of_dialled(classes, conn, &peer, hello),
+            None => self.hello(classes, conn, hello),
         }
     }
 
@@ -45,15 +49,14 @@ impl SpaceState {
         &mut self,
         classes: &C,
         conn: u64,
-        space: Uuid,
-        digest: Digest,
+        hello: Hello,
     ) -> Result<(), AllocError>
-        ensures { OnOk result ((g : Setting) (s : State) (c : Line) (version : ℕ) → IsSpace g s self.old → s.notes ≡ [] → C.tells classes.now g.classes → ComesOn conn s c → c.dialled ≡ None → c.peer ≡ None → IsSpace g (first_frame g c (message.Hello version space digest) s) self.new) }
+        ensures { OnOk result ((g : Setting) (s : State) (c : Line) → IsSpace g s self.old → s.notes ≡ [] → C.tells classes.now g.classes → ComesOn conn s c → c.dialled ≡ None → IsSpace g (take_hello g c hello s) self.new) }
     {
-        if digest != self.digest {
+        if hello.digest != self.digest {
             return self.close(classes, RemoteException::Unmarshal, conn);
         }
-        self.living.greet(conn, space);
+        self.living.greet(conn, hello.space);
         Ok(())
     }
 
@@ -63,14 +66,30 @@ impl SpaceState {
         classes: &C,
         conn: u64,
         peer: &Uuid,
-        space: &Uuid,
-        digest: Digest,
+        hello: Hello,
     ) -> Result<(), AllocError>
-        ensures { OnOk result ((g : Setting) (s : State) (c : Line) (version : ℕ) → IsSpace g s self.old → s.notes ≡ [] → C.tells classes.now g.classes → ComesOn conn s c → c.dialled ≡ Some peer.now → c.peer ≡ None → IsSpace g (first_frame g c (message.Hello version space.now digest) s) self.new) }
+        ensures { OnOk result ((g : Setting) (s : State) (c : Line) → IsSpace g s self.old → s.notes ≡ [] → C.tells classes.now g.classes → ComesOn conn s c → c.dialled ≡ Some peer.now → c.peer ≡ None → IsSpace g (take_hello g c hello s) self.new) }
     {
-        if digest != self.digest || *space != *peer {
+        if hello.digest != self.digest || hello.space != *peer {
             return self.close(classes, RemoteException::Connect, conn);
         }
         self.living.flush_waiting(peer, conn)
+    }
+}
+
+// What a Hello says, if a frame is one.
+fn hello_in(message: &Message) -> Option<Hello>
+    ensures { result ≡ hello_in message.now }
+{
+    match message {
+        Message::Hello {
+            version: _,
+            space,
+            digest,
+        } => Some(Hello {
+            space: *space,
+            digest: *digest,
+        }),
+        _ => None,
     }
 }

@@ -6,8 +6,11 @@ ghost use Rattle.sp_rules.specs.Classes.{Setting};
 ghost use Rattle.sp_rules.specs.Holders.{own_object};
 ghost use Rattle.sp_rules.specs.OwnEvents.{on_moment, set_names};
 ghost use Rattle.sp_rules.specs.State.{State};
+ghost use Rattle.sp_living.specs.Livings.{IsLiving};
+ghost use Rattle.sp_state.specs.Denying.{told_denied};
 
 use crate::SpaceState;
+use sp_living::Living;
 use sp_outputs::Output;
 use sp_registry::RegistryFault;
 use space_ids::Value;
@@ -17,8 +20,7 @@ use std::alloc::AllocError;
 const END_OF_TIME: u64 = 1 << 63;
 
 impl SpaceState {
-    ghost use Rattle.sp_living.specs.Livings.{IsLiving};
-    ghost use Rattle.sp_state.specs.Spaces.{IsSpace, told_denied};
+    ghost use Rattle.sp_state.specs.Spaces.{IsSpace};
 
     /// Binds a name to the object of this space that the value names. What the registry refuses is answered
     /// as Denied.
@@ -26,7 +28,7 @@ impl SpaceState {
         ensures { OnOk result ((g : Setting) (s : State) → IsSpace g s self.old → IsSpace g (set_names (registry.bind s.owner.names name.now (own_object g s value.now)) s) self.new) }
     {
         let denied = self.owner.bind(name, value)?;
-        self.deny(denied)
+        deny(&mut self.living, denied)
     }
 
     /// Binds a name anew to the object of this space that the value names. What the registry refuses is
@@ -35,7 +37,7 @@ impl SpaceState {
         ensures { OnOk result ((g : Setting) (s : State) → IsSpace g s self.old → IsSpace g (set_names (registry.rebind s.owner.names name.now (own_object g s value.now)) s) self.new) }
     {
         let denied = self.owner.rebind(name, value)?;
-        self.deny(denied)
+        deny(&mut self.living, denied)
     }
 
     /// Takes a name away. What the registry refuses is answered as Denied.
@@ -43,20 +45,7 @@ impl SpaceState {
         ensures { OnOk result ((g : Setting) (s : State) → IsSpace g s self.old → IsSpace g (set_names (registry.unbind s.owner.names name.now) s) self.new) }
     {
         let denied = self.owner.unbind(name);
-        self.deny(denied)
-    }
-
-    // Answers why the registry denies a change of names, if it does.
-    fn deny(&mut self, denied: Option<RegistryFault>) -> Result<(), AllocError>
-        ensures owner { self.new.owner ≡ self.old.owner }
-        ensures id { self.new.id ≡ self.old.id }
-        ensures digest { self.new.digest ≡ self.old.digest }
-        ensures denied { OnOk result ((g : Setting) (s : State) → IsLiving g s self.old.living → IsLiving g (told_denied denied s) self.new.living) }
-    {
-        match denied {
-            Some(fault) => self.living.say(Output::Denied(fault)),
-            None => Ok(()),
-        }
+        deny(&mut self.living, denied)
     }
 
     /// Sets the moment that is now, in milliseconds: entries and leases expire, and results go that were held
@@ -72,5 +61,15 @@ impl SpaceState {
             self.living.pass_moment(moment)?;
         }
         Ok(())
+    }
+}
+
+// Answers why the registry denies a change of names, if it does.
+fn deny(living: &mut Living, denied: Option<RegistryFault>) -> Result<(), AllocError>
+    ensures { OnOk result ((g : Setting) (s : State) → IsLiving g s living.old → IsLiving g (told_denied denied s) living.new) }
+{
+    match denied {
+        Some(fault) => living.say(Output::Denied(fault)),
+        None => Ok(()),
     }
 }
