@@ -1,5 +1,7 @@
 -- What is done for each of a list in turn, as the list grows; and what is asked of peers, beside references that are let go.
-use Rattle.std.proofs.Common.{◌≡◌, ℕ, ◌++◌, Bool, true, false, cond, List, [], ◌∷◌, refl, sym, ap, ◌∙◌}
+use Rattle.std.proofs.Common.{◌≡◌, ℕ, ◌+◌, ◌<◌, ◌++◌, Bool, false, List, [], ◌∷◌, get_or, length, map, refl, sym, ap, ◌∙◌, take}
+use Rattle.std.proofs.lemmas.Grind.{take_at_read}
+use Rattle.std.proofs.lemmas.List.{map-append}
 use Rattle.std.specs.Prelude.{filter, not}
 use Rattle.space_ids.specs.declared.ids.ForeignId.{ForeignId}
 use Rattle.sp_rules.specs.Endings.{unpark}
@@ -12,6 +14,32 @@ pub each-more : {S A : Type 0} (f : S → A → S) (xs : List A) (x : A) (s : S)
 unfolding each
 each-more f [] x s = refl
 each-more f (y ∷ ys) x s = each-more f ys x (f s y)
+
+next : {A : Type 0} (xs : List A) (i : ℕ) (x : A) → i < length xs → x ≡ get_or xs i x → take (i + 1) xs ≡ take i xs ++ x ∷ []
+next {A} xs i x within is = (take_at_read xs i x within).1 ∙ ap (λ (y : A). take i xs ++ y ∷ []) (sym is)
+
+pub each-next : {S A : Type 0} (f : S → A → S) (xs : List A) (i : ℕ) (x : A) (s : S) → i < length xs → x ≡ get_or xs i x → each f (take (i + 1) xs) s ≡ f (each f (take i xs) s) x
+each-next {A = A} f xs i x s within is = ap (λ (l : List A). each f l s) (next xs i x within is) ∙ each-more f (take i xs) x s
+
+pub each-next-of : {S A B : Type 0} (f : S → B → S) (h : A → B) (xs : List A) (i : ℕ) (x : A) (s : S) → i < length xs → x ≡ get_or xs i x
+    → each f (map h (take (i + 1) xs)) s ≡ f (each f (map h (take i xs)) s) (h x)
+each-next-of {A = A} {B = B} f h xs i x s within is =
+    ap (λ (l : List B). each f l s) (ap (map h) (next xs i x within is) ∙ map-append h (take i xs) (x ∷ []))
+    ∙ each-more f (map h (take i xs)) (h x) s
+
+-- the same of one that is read with this in place of none
+pub each-read : {S A : Type 0} (f : S → A → S) (xs : List A) (i : ℕ) (d : A) (s : S) → i < length xs → each f (take (i + 1) xs) s ≡ f (each f (take i xs) s) (get_or xs i d)
+each-read {A = A} f xs i d s within = ap (λ (l : List A). each f l s) ((take_at_read xs i d within).1) ∙ each-more f (take i xs) (get_or xs i d) s
+
+pub each-read-of : {S A B : Type 0} (f : S → B → S) (h : A → B) (xs : List A) (i : ℕ) (d : A) (s : S) → i < length xs
+    → each f (map h (take (i + 1) xs)) s ≡ f (each f (map h (take i xs)) s) (h (get_or xs i d))
+each-read-of {A = A} {B = B} f h xs i d s within =
+    ap (λ (l : List B). each f l s) (ap (map h) ((take_at_read xs i d within).1) ∙ map-append h (take i xs) (get_or xs i d ∷ []))
+    ∙ each-more f (map h (take i xs)) (h (get_or xs i d)) s
+
+pub each-none : {S A : Type 0} (f : S → A → S) (s : S) → each f [] s ≡ s
+unfolding each
+each-none f s = refl
 
 -- ---- what is asked of peers, beside references that are let go
 

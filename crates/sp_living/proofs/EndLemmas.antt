@@ -108,9 +108,14 @@ thrown-all class unsent asked number by is = same (list_any (◌==◌ number) un
     same true = refl
     same false = refl
 
+one-row : (x y : ℕ × Asker) → x ∷ [] ≡ y ∷ [] → x ≡ y
+one-row x y is = cc
+
 pub thrown-unsent : (g : Setting) (unsent : List ℕ) → AreThrown (why_unsent g unsent) unsent (record { unsent = g.classes.marshal; others = g.classes.unmarshal })
-thrown-unsent g unsent (Calls n task lent kind m) number by is = let its : n ≡ number = cc in ap (λ (k : ℕ). cond (list_any (◌==◌ k) unsent) g.classes.marshal g.classes.unmarshal) its
-thrown-unsent g unsent (LooksUp n task name) number by is = let its : n ≡ number = cc in ap (λ (k : ℕ). cond (list_any (◌==◌ k) unsent) g.classes.marshal g.classes.unmarshal) its
+thrown-unsent g unsent (Calls n task lent kind m) number by is =
+    let row = one-row (n, asker.Call task lent (result_kind kind)) (number, by) is in let its : n ≡ number = ap (λ (r : ℕ × Asker). r.0) row in ap (λ (k : ℕ). cond (list_any (◌==◌ k) unsent) g.classes.marshal g.classes.unmarshal) its
+thrown-unsent g unsent (LooksUp n task name) number by is =
+    let row = one-row (n, asker.Lookup task) (number, by) is in let its : n ≡ number = ap (λ (r : ℕ × Asker). r.0) row in ap (λ (k : ℕ). cond (list_any (◌==◌ k) unsent) g.classes.marshal g.classes.unmarshal) its
 thrown-unsent g unsent (Tells call group) number by is = cc
 
 -- ---- connections

@@ -1,9 +1,8 @@
 -- Tasks in hand: what they are among the living tasks, and what becomes of them.
-use Rattle.std.proofs.Common.{◌≡◌, ℕ, zero, suc, ◌+◌, ◌≤◌, Bool, true, false, cond, nat_eq, List, [], ◌∷◌, ◌++◌, Option, None, Some, refl, sym, ap, subst, ◌∙◌, map, length, drop, arith}
+use Rattle.std.proofs.Common.{◌≡◌, ℕ, zero, suc, ◌+◌, ◌≤◌, Bool, true, false, cond, nat_eq, List, [], ◌∷◌, ◌++◌, Option, None, Some, refl, sym, ap, subst, ◌∙◌, map, arith}
 use Rattle.std.specs.Prelude.{IfSome, OnOk, Ok, Err, Result, find, ◌==◌, ◌&&◌, ◌||◌, option_map, unwrap_or}
 use Rattle.std.specs.Cmp.{nat_eq_equiv}
 use Rattle.std.proofs.lemmas.Bool.{eq-eqb, eqb-true, false≢true}
-use Rattle.space_ids.specs.declared.ids.Ref.{Ref}
 use Rattle.sp_rules.specs.Behaviours.{Reply}
 use Rattle.sp_rules.specs.Classes.{Setting}
 use Rattle.sp_rules.specs.Laws.{AllOf}

@@ -1,5 +1,5 @@
 -- Results that are held, of roots and of calls, as they come and go.
-use Rattle.std.proofs.Common.{◌≡◌, ℕ, Bool, true, false, cond, List, [], ◌∷◌, ◌++◌, Option, refl, sym, ap, subst, ◌∙◌, map, filter, append-nil}
+use Rattle.std.proofs.Common.{◌≡◌, ℕ, Bool, true, false, cond, List, [], ◌∷◌, ◌++◌, Option, refl, sym, ap, ◌∙◌, map, filter}
 use Rattle.std.specs.Prelude.{not, ◌==◌, ◌||◌}
 use Rattle.std.specs.List.{list_any}
 use Rattle.std.proofs.lemmas.List.{map-append}
@@ -8,9 +8,8 @@ use Rattle.space_ids.specs.declared.value.Value.{Value}
 use Rattle.space_ids.specs.declared.ids.Ref.{Ref}
 use Rattle.sp_rules.specs.Classes.{Setting}
 use Rattle.sp_rules.specs.Endings.{orphan}
-use Rattle.sp_rules.specs.Frames.{let_go, release}
+use Rattle.sp_rules.specs.Frames.{release}
 use Rattle.sp_rules.specs.Holders.{drop}
-use Rattle.sp_rules.specs.Lists.{each}
 use Rattle.sp_rules.specs.OwnEvents.{is_of_root}
 use Rattle.sp_rules.specs.State.{State, KeptResult, Until, RootAcked, Acked, Passed}
 use Rattle.sp_results.specs.Waiting.{is_waiting, of_task, without}

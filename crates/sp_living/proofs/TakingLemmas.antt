@@ -137,10 +137,10 @@ pub takes-go : (g : Setting) → Takes (go g) (pass_on g)
 unfolding go
 takes-go g = record {
   taken = λ x kept rest s are once.
-  let one : filter (is_parked_at x.conn x.number) s.parked ≡ x ∷ [] = ap (filter (is_parked_at x.conn x.number)) are ∙ filter-at x kept rest once in
-  ap (λ o. with_some o s (λ q. let_go_parked x s.parked (go_frame g q q.frame (take_parked x s)))) (ap (find (is_parked_at x.conn x.number)) are ∙ find-at x kept rest once)
-  ∙ let-go x s.parked (go_frame g x x.frame (take_parked x s)) one
-  ∙ ap (λ t. drop_ids x.references (go_frame g x x.frame t)) (left x kept rest s are once);
+      let one : filter (is_parked_at x.conn x.number) s.parked ≡ x ∷ [] = ap (filter (is_parked_at x.conn x.number)) are ∙ filter-at x kept rest once in
+      ap (λ o. with_some o s (λ q. let_go_parked x s.parked (go_frame g q q.frame (take_parked x s)))) (ap (find (is_parked_at x.conn x.number)) are ∙ find-at x kept rest once)
+      ∙ let-go x s.parked (go_frame g x x.frame (take_parked x s)) one
+      ∙ ap (λ t. drop_ids x.references (go_frame g x x.frame t)) (left x kept rest s are once);
   apart = λ x ps s. pass-apart g x ps s;
 }
 
@@ -148,18 +148,18 @@ pub takes-fail : (g : Setting) → Takes (fail_parked g) (give_up g)
 unfolding fail_parked
 takes-fail g = record {
   taken = λ x kept rest s are once.
-  let one : filter (is_parked_at x.conn x.number) s.parked ≡ x ∷ [] = ap (filter (is_parked_at x.conn x.number)) are ∙ filter-at x kept rest once in
-  ap (fail_frame g x x.frame) (let-go x s.parked (take_parked x s) one)
-  ∙ ap (λ t. fail_frame g x x.frame (drop_ids x.references t)) (left x kept rest s are once);
+      let one : filter (is_parked_at x.conn x.number) s.parked ≡ x ∷ [] = ap (filter (is_parked_at x.conn x.number)) are ∙ filter-at x kept rest once in
+      ap (fail_frame g x x.frame) (let-go x s.parked (take_parked x s) one)
+      ∙ ap (λ t. fail_frame g x x.frame (drop_ids x.references t)) (left x kept rest s are once);
   apart = λ x ps s. give-apart g x ps s;
 }
 
 pub takes-unpark : Takes unpark let_references_go
 takes-unpark = record {
   taken = λ x kept rest s are once.
-  let one : filter (is_parked_at x.conn x.number) s.parked ≡ x ∷ [] = ap (filter (is_parked_at x.conn x.number)) are ∙ filter-at x kept rest once in
-  let-go x s.parked (take_parked x s) one
-  ∙ ap (drop_ids x.references) (left x kept rest s are once);
+      let one : filter (is_parked_at x.conn x.number) s.parked ≡ x ∷ [] = ap (filter (is_parked_at x.conn x.number)) are ∙ filter-at x kept rest once in
+      let-go x s.parked (take_parked x s) one
+      ∙ ap (drop_ids x.references) (left x kept rest s are once);
   apart = λ x ps s. let-apart x ps s;
 }
 
@@ -174,15 +174,15 @@ each-taken step one takes is kept (x ∷ rest) s are once =
     elim (is x) as (λ b. each step (cond b (x ∷ filter is rest) (filter is rest)) s
     ≡ each one (cond b (x ∷ filter is rest) (filter is rest)) (with_parked (kept ++ cond (not b) (x ∷ filter (λ p. not (is p)) rest) (filter (λ p. not (is p)) rest)) s)) [
       | true ↦
-        let now = one (with_parked (kept ++ rest) s) x in
-        let here : now.parked ≡ kept ++ rest = ap (λ (t : State). t.parked) (takes.apart x (kept ++ rest) s) in
-        ap (each step (filter is rest)) (takes.taken x kept rest s are once)
-        ∙ each-taken step one takes is kept rest now here (once-without x kept rest once)
-        ∙ ap (each one (filter is rest)) (ap (with_parked (kept ++ filter (λ p. not (is p)) rest)) (takes.apart x (kept ++ rest) s) ∙ sym (takes.apart x (kept ++ filter (λ p. not (is p)) rest) s))
+          let now = one (with_parked (kept ++ rest) s) x in
+          let here : now.parked ≡ kept ++ rest = ap (λ (t : State). t.parked) (takes.apart x (kept ++ rest) s) in
+          ap (each step (filter is rest)) (takes.taken x kept rest s are once)
+          ∙ each-taken step one takes is kept rest now here (once-without x kept rest once)
+          ∙ ap (each one (filter is rest)) (ap (with_parked (kept ++ filter (λ p. not (is p)) rest)) (takes.apart x (kept ++ rest) s) ∙ sym (takes.apart x (kept ++ filter (λ p. not (is p)) rest) s))
       | false ↦
-        let same : (qs : List ParkedFrame) → (kept ++ x ∷ []) ++ qs ≡ kept ++ x ∷ qs = λ qs. append_assoc kept (x ∷ []) qs in
-        each-taken step one takes is (kept ++ x ∷ []) rest s (are ∙ sym (same rest)) (subst AreOnce (sym (same rest)) once)
-        ∙ ap (λ ps. each one (filter is rest) (with_parked ps s)) (same (filter (λ p. not (is p)) rest))
+          let same : (qs : List ParkedFrame) → (kept ++ x ∷ []) ++ qs ≡ kept ++ x ∷ qs = λ qs. append_assoc kept (x ∷ []) qs in
+          each-taken step one takes is (kept ++ x ∷ []) rest s (are ∙ sym (same rest)) (subst AreOnce (sym (same rest)) once)
+          ∙ ap (λ ps. each one (filter is rest) (with_parked ps s)) (same (filter (λ p. not (is p)) rest))
     ]
 
 pub all-taken : (step one : State → ParkedFrame → State) → Takes step one → (is : ParkedFrame → Bool) (s : State) → AreOnce s.parked

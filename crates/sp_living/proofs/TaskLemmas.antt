@@ -1,6 +1,6 @@
 -- Living tasks and their rows, as tasks start, are answered and end.
-use Rattle.std.proofs.Common.{◌≡◌, ℕ, zero, suc, ◌+◌, ◌≤◌, ◌<◌, Bool, true, false, cond, nat_eq, List, [], ◌∷◌, ◌++◌, Option, None, Some, refl, sym, ap, subst, ◌∙◌, map, filter, length, drop, arith}
-use Rattle.std.specs.Prelude.{not, find, ◌==◌, option_map, unwrap_or}
+use Rattle.std.proofs.Common.{◌≡◌, ℕ, zero, suc, ◌+◌, ◌≤◌, true, false, cond, nat_eq, List, [], ◌∷◌, ◌++◌, Option, None, Some, refl, sym, ap, subst, ◌∙◌, map, filter, length, drop, arith}
+use Rattle.std.specs.Prelude.{not, find, ◌==◌, option_map}
 use Rattle.std.specs.Cmp.{nat_eq_equiv}
 use Rattle.std.proofs.lemmas.Bool.{eqb-true, false≢true}
 use Rattle.std.proofs.lemmas.List.{map-append}
@@ -12,10 +12,10 @@ use Rattle.sp_rules.specs.Laws.{AllOf}
 use Rattle.sp_rules.specs.Lists.{at_first}
 use Rattle.sp_rules.specs.LivingTasks.{after_reply}
 use Rattle.sp_rules.specs.References.{references_in, references_of, with_references}
-use Rattle.sp_rules.specs.Runs.{AreRecorded, recorded, replayed, lent_if}
+use Rattle.sp_rules.specs.Runs.{AreRecorded, recorded}
 use Rattle.sp_rules.specs.State.{Living, Origin}
 use Rattle.sp_rules.specs.Tasks.{Task, answer, gained, pay, pay_with, start, steps}
-use Rattle.sp_rules.proofs.AllLemmas.{all-append, all-filter, all-first, all-more, all-weaken}
+use Rattle.sp_rules.proofs.AllLemmas.{all-filter, all-first, all-more, all-weaken}
 use Rattle.sp_tasks.specs.Recorded.{with_entry}
 use Rattle.sp_tasks.specs.Rows.{TaskRow, TaskTable, answered_row, at_row, is_parked, row_of, started_row, value_given, with_started, without}
 use Rattle.sp_living.specs.Parts.{AreTasks, IsIdle}

@@ -1,48 +1,20 @@
 //! Calls and lookups of the space's own: those that it makes, and the answers to them.
 
-ghost use Rattle.std.specs.Prelude.{◌≡◌, [], Some, OnOk, find, option_and_then, true};
+ghost use Rattle.std.specs.Prelude.{◌≡◌, Some, OnOk, find, option_and_then};
 ghost use Rattle.net_message.specs.declared.message.Message.TheVariants as message;
-ghost use Rattle.sp_registry.specs.Names.{is_name};
 ghost use Rattle.sp_rules.specs.Classes.{Setting};
 ghost use Rattle.sp_rules.specs.Events.{Acks};
-ghost use Rattle.sp_rules.specs.OwnEvents.{on_lookup};
 ghost use Rattle.sp_rules.specs.ParkedFrames.{is_asked_on, is_call_on, remove_requests};
 ghost use Rattle.sp_rules.specs.State.{Connection as Line, State, connection_at, send};
 ghost use Rattle.uuid.specs.declared.Uuid.{Uuid as Peer};
 
 use crate::Living;
-use sp_outputs::Output;
-use sp_requests::{Asked, Asker};
-use space_ids::{Row, Uuid};
+use sp_requests::Asker;
 use std::alloc::AllocError;
-
-// The last number that a call or task may have. A space whose next number would be that is worn out, and
-// takes no event (98).
-const LAST: u64 = 1 << 63;
 
 impl Living {
     ghost use Rattle.sp_living.specs.Livings.{IsLiving};
     ghost use Rattle.sp_transport.specs.Answers.{asker_in, park_answer};
-
-    /// Makes a lookup of an allowed name in the registry of a peer. The event asks it as it ends.
-    pub fn look_up(&mut self, peer: &Uuid, name: Row<u8>) -> Result<(), AllocError>
-        ensures { OnOk result ((g : Setting) (s : State) → IsLiving g s self.old → is_name name ≡ true → IsLiving g (on_lookup g peer.now name s) self.new) }
-    {
-        let number = self.transport.calls_made();
-        if number >= LAST || self.tasks.made() >= LAST {
-            return Err(AllocError);
-        }
-        let task = self.tasks.take_id();
-        self.transport.make_call(
-            peer,
-            Asked::Lookup {
-                number: number + 1,
-                task,
-                name,
-            },
-        );
-        self.say(Output::Started(task))
-    }
 
     /// Who asks by the call or lookup of this number that is out on a connection and has no answer, if there
     /// is one. This space dialled the connection.

@@ -68,9 +68,10 @@ impl Living {
         let lacks = lacks_lease(self.transport.lease(&reference), call);
         self.transport.dirty_failed(&group, call);
         if lacks {
-            self.fail_named(classes, &reference)?;
+            self.fail_named(classes, &reference)
+        } else {
+            Ok(())
         }
-        Ok(())
     }
 
     // Ends the frames that are parked for a reference, in the order in which they came.

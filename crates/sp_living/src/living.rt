@@ -1,9 +1,11 @@
 //! What lives in a space, and what is seen of it.
 
-ghost use Rattle.std.specs.Prelude.{◌≡◌, IfOk};
+ghost use Rattle.std.specs.Prelude.{◌≡◌, IfOk, map};
+ghost use Rattle.sp_call_results.specs.Held.{AreCallResults, of_roots};
 ghost use Rattle.sp_rules.specs.Classes.{Setting};
 ghost use Rattle.sp_rules.specs.State.{State, opening};
 ghost use Rattle.sp_transport.specs.Transports.{IsTransport};
+ghost use Rattle.sp_living.specs.Views.{kept};
 
 use sp_call_results::CallResults;
 use sp_parked::Parked;
@@ -33,6 +35,7 @@ pub struct Living {
 
 impl Living {
     ghost use Rattle.sp_living.specs.Livings.{IsLiving};
+    ghost use Rattle.sp_living.specs.Parts.{AreParkedIn, AreTasks};
 
     /// Nothing lives in the space of this id.
     pub fn new(alloc: Global, id: Uuid) -> Result<Living, AllocError>
@@ -55,5 +58,33 @@ impl Living {
         ensures { (g : Setting) (s : State) → IsLiving g s self.now → IsTransport s result.now }
     {
         &self.transport
+    }
+
+    /// The living tasks.
+    pub fn tasks(&self) -> &Tasks
+        ensures { (g : Setting) (s : State) → IsLiving g s self.now → AreTasks g s.tasks_made s.tasks result.now }
+    {
+        &self.tasks
+    }
+
+    /// The results of the space's own roots and lookups that are held.
+    pub fn results(&self) -> &Results
+        ensures { (g : Setting) (s : State) → IsLiving g s self.now → map kept result.now ≡ of_roots s.results }
+    {
+        &self.results
+    }
+
+    /// The results of calls and lookups that came.
+    pub fn call_results(&self) -> &CallResults
+        ensures { (g : Setting) (s : State) → IsLiving g s self.now → AreCallResults s.moment s.results result.now }
+    {
+        &self.call_results
+    }
+
+    /// The frames that wait for leases.
+    pub fn parked(&self) -> &Parked
+        ensures { (g : Setting) (s : State) → IsLiving g s self.now → AreParkedIn s.parked result.now }
+    {
+        &self.parked
     }
 }

@@ -5,9 +5,9 @@ ghost use Rattle.std.specs.Prelude.{◌≡◌, ◌∷◌, Bool, List, IfOk, OnOk
 ghost use Rattle.space_ids.specs.declared.ids.Ref.{Ref as Reference};
 ghost use Rattle.space_ids.specs.declared.value.Value.{Value as Carried};
 ghost use Rattle.space_ids.specs.declared.value.Value.TheVariants as values;
-ghost use Rattle.sp_parked.specs.Parkings.{parked_of};
+ghost use Rattle.sp_parked.specs.Parkings.{frame_of, parked_of};
 ghost use Rattle.sp_rules.specs.Classes.{Setting};
-ghost use Rattle.sp_rules.specs.ParkedFrames.{answer_parked, answer_threw, start_call, start_selected};
+ghost use Rattle.sp_rules.specs.ParkedFrames.{answer_parked, answer_threw, go_frame, start_call, start_selected};
 ghost use Rattle.sp_rules.specs.State.{Object, ParkedFrame as Row, State, object_at};
 ghost use Rattle.sp_store.specs.Stores.{IsAfter};
 ghost use Rattle.sp_tasks.specs.Behaviours.{reply_of};
@@ -58,14 +58,28 @@ impl Living {
             frame,
             references,
         } = frame;
-        match frame {
-            Frame::Call(call) => self.start_call(store, classes, conn, number, call)?,
-            Frame::Returned { value, fuel } => {
-                self.answer_parked(conn, number, Reply::GivesBack { value, fuel })?;
-            }
-        }
+        self.go_frame(store, classes, conn, number, frame)?;
         self.drop_ids(references.as_slice());
         Ok(())
+    }
+
+    // Starts the task of a call that was parked, or passes a result on.
+    fn go_frame<C: CallClasses>(
+        &mut self,
+        store: &Store,
+        classes: &C,
+        conn: u64,
+        number: u64,
+        frame: Frame,
+    ) -> Result<(), AllocError>
+        ensures { OnOk result ((g : Setting) (s : State) (p : Row) → IsLiving g s self.old → C.tells classes.now g.classes → IsAfter g s.store store.now → p.conn ≡ conn → p.number ≡ number → IsLiving g (go_frame g p (frame_of frame) s) self.new) }
+    {
+        match frame {
+            Frame::Call(call) => self.start_call(store, classes, conn, number, call),
+            Frame::Returned { value, fuel } => {
+                self.answer_parked(conn, number, Reply::GivesBack { value, fuel })
+            }
+        }
     }
 
     // Starts the task of a call that was parked, at the method that is selected for its target. If selection

@@ -1,4 +1,4 @@
-use Rattle.std.proofs.Common.{sym, subst}
+use Rattle.std.proofs.Common.{subst}
 use Rattle.std.proofs.lemmas.Result.{on_ok_weaker}
 use Rattle.sp_rules.specs.Events.{Ended}
 use Rattle.sp_rules.specs.LivingTasks.{keep_result}

@@ -1,7 +1,7 @@
-use Rattle.std.proofs.Common.{◌≡◌, sym, ap, ◌∙◌}
+use Rattle.std.proofs.Common.{◌≡◌, ◌∙◌}
 use Rattle.std.specs.Prelude.{max}
 use Rattle.sp_tasks.specs.Behaviours.{origin_of}
-use Rattle.sp_tasks.specs.Rows.{TaskRow, TaskTable, started_row, with_started}
+use Rattle.sp_tasks.specs.Rows.{started_row, with_started}
 use Rattle.sp_living.proofs.StepLemmas.{now-entered}
 use Rattle.sp_living.proofs.living.Living.enter.Goals as goal
 

@@ -4,4 +4,4 @@ use Rattle.sp_living.proofs.LivingLemmas.{moved}
 use Rattle.sp_living.proofs.living.Living.greet.Goals as goal
 
 pub returns : goal.returns
-returns c = λ g s a quiet ours. moved g s (greeted c.args.space c.args.conn s) c.args.self.now c.greet.new.self refl (λ t. c.greet.ensures.greeted s t quiet ours) a
+returns c = λ g s a quiet accepted. moved g s (greeted c.args.space c.args.conn s) c.args.self.now c.greet.new.self refl (λ t. c.greet.ensures.greeted s t quiet accepted) a

@@ -1,4 +1,4 @@
-use Rattle.std.proofs.Common.{◌≡◌, ℕ, List, Option, [], refl, sym, ap, subst, ◌∙◌}
+use Rattle.std.proofs.Common.{ℕ, List, Option, [], refl, sym, subst}
 use Rattle.space_ids.specs.declared.value.Value.{Value}
 use Rattle.sp_rules.specs.State.{opening}
 use Rattle.sp_tasks.specs.Rows.{TaskTable}
@@ -13,5 +13,5 @@ returns c = λ g same. record {
   transport = c.new-5.ensures;
   tasks = subst (λ (t : TaskTable). AreTasks g 0 [] t) (sym c.new.ensures) (record { rows = refl; last = refl; runs = tt; numbers = tt; idle = tt });
   results = subst (λ (rows : List (ℕ × Option Value)). AreResults 0 [] rows c.new-3.result) (sym c.in_ok-new.ensures) (record { of_own = refl; of_calls = c.new-3.ensures 0 });
-  parked = record { frames = []; are = refl; ticketed = c.new-4.ensures.frames };
+  parked = record { frames = []; are = refl; ticketed = c.new-4.ensures.frames; once = tt };
 }

@@ -2,7 +2,7 @@ use Rattle.std.proofs.Common.{◌≡◌, ℕ, refl, sym, ap, subst, ◌∙◌, m
 use Rattle.sp_call_results.specs.Held.{AreCallResults}
 use Rattle.sp_call_results.proofs.RootLemmas.{roots-orphaned}
 use Rattle.sp_rules.specs.Endings.{orphan}
-use Rattle.sp_living.proofs.PartLemmas.{results-changed}
+use Rattle.sp_living.proofs.TableLemmas.{results-changed}
 use Rattle.sp_living.proofs.living.Living.orphan_results.Goals as goal
 
 pub returns : goal.returns

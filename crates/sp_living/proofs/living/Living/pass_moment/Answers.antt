@@ -1,5 +1,4 @@
-use Rattle.std.proofs.Common.{◌≡◌, ◌≤◌, ◌<◌, sym, ap, subst, ◌∙◌, arith}
-use Rattle.sp_rules.specs.OwnEvents.{is_over_at}
+use Rattle.std.proofs.Common.{◌≤◌, ◌<◌, sym, subst, ◌∙◌, arith}
 use Rattle.sp_rules.specs.State.{State}
 use Rattle.sp_living.specs.Livings.{IsLiving}
 use Rattle.sp_living.proofs.StepLemmas.{in-time, late, left_by_moment, now-passed}

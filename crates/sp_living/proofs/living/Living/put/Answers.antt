@@ -4,7 +4,7 @@ use Rattle.sp_parked.specs.Parkings.{last_ticket, parked_of}
 use Rattle.sp_parked.specs.declared.frame.ParkedFrame.{ParkedFrame}
 use Rattle.sp_rules.specs.State as rules
 use Rattle.sp_living.specs.Parts.{AreParkedIn}
-use Rattle.sp_living.proofs.PartLemmas.{parked-changed}
+use Rattle.sp_living.proofs.TableLemmas.{parked-changed}
 use Rattle.sp_living.proofs.TakingLemmas.{once-more}
 use Rattle.sp_living.proofs.living.Living.put.Goals as goal
 

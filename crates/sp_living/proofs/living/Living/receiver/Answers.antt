@@ -8,11 +8,11 @@ use Rattle.sp_rules.specs.State.{Object, object_at}
 use Rattle.sp_living.proofs.living.Living.receiver.Goals as goal
 
 named : (own space : Uuid) (target : ObjId) (class : ClassId) (o : Option Object) → own ≡ space → Some class ≡ option_map (λ (o : Object). o.class) o
-    → Some (record { space = own; id = target; class = class }) ≡ option_map (λ (o : Object). record { space = space; id = target; class = o.class }) o
+    → ◌≡◌ {A = Option Ref} (Some (record { space = own; id = target; class = class })) (option_map (λ (o : Object). record { space = space; id = target; class = o.class }) o)
 named own space target class None same is = cc
 named own space target class (Some o) same is = let its : class ≡ o.class = cc in λ j. Some (record { space = same j; id = target; class = its j })
 
-nothing : (space : Uuid) (target : ObjId) (o : Option Object) → None ≡ option_map (λ (o : Object). o.class) o → None ≡ option_map (λ (o : Object). record { space = space; id = target; class = o.class }) o
+nothing : (space : Uuid) (target : ObjId) (o : Option Object) → ◌≡◌ {A = Option ClassId} None (option_map (λ (o : Object). o.class) o) → ◌≡◌ {A = Option Ref} None (option_map (λ (o : Object). record { space = space; id = target; class = o.class }) o)
 nothing space target None is = refl
 nothing space target (Some o) is = cc
 

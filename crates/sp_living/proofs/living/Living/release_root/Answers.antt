@@ -1,4 +1,4 @@
-use Rattle.std.proofs.Common.{◌≡◌, ℕ, List, [], ◌∷◌, Option, refl, sym, ap, subst, ◌∙◌, append-nil, map, filter}
+use Rattle.std.proofs.Common.{◌≡◌, ℕ, List, [], ◌∷◌, Option, sym, ap, subst, ◌∙◌, append-nil, map, filter}
 use Rattle.std.specs.Prelude.{not}
 use Rattle.space_ids.specs.declared.value.Value.{Value}
 use Rattle.sp_rules.specs.OwnEvents.{is_of_root}

@@ -1,5 +1,4 @@
-use Rattle.std.proofs.Common.{◌≡◌, ℕ, ◌+◌, List, sym, ap, subst, ◌∙◌}
-use Rattle.space_ids.specs.declared.ids.Ref.{Ref}
+use Rattle.std.proofs.Common.{◌≡◌, ℕ, ◌+◌, ap, subst, ◌∙◌}
 use Rattle.sp_rules.specs.Events.{Ready, Started}
 use Rattle.sp_rules.specs.Holders.{hold}
 use Rattle.sp_rules.specs.LivingTasks.{add_task}

@@ -10,7 +10,7 @@ use Rattle.sp_living.specs.Frames.{with_parked}
 use Rattle.sp_living.specs.Livings.{IsLiving}
 use Rattle.sp_living.specs.Parts.{AreParkedIn}
 use Rattle.sp_living.specs.declared.living.Living.{Living}
-use Rattle.sp_living.proofs.PartLemmas.{none-left, parked-changed}
+use Rattle.sp_living.proofs.TableLemmas.{none-left, parked-changed}
 use Rattle.sp_living.proofs.TakingLemmas.{once-filter}
 use Rattle.sp_living.proofs.TicketLemmas.{all-found, all-left, found-more, found_at, left-more, left_at, listed, rows-kept, values-parked}
 use Rattle.sp_living.proofs.living.Living.take_frames.Goals as goal
@@ -27,22 +27,22 @@ loop-ticket-preserved c =
     let more = next ts i c.loop-ticket-test.true in record {
       others = ap (λ (l : Living). record l { parked = c.take.new.self }) inv.others;
       found = λ frames a.
-        let had = c.take.ensures.frame (left_at (take i ts) frames) (inv.left frames a) in
-        let grown : found_at (take (i + 1) ts) frames ≡ found_at (take i ts) frames ++ listed (lookup (nat_eq (get_or ts i 0)) (left_at (take i ts) frames)) =
-        ap (λ (l : List ℕ). found_at l frames) more ∙ found-more (take i ts) (get_or ts i 0) frames in
-        elim c.match-take.branch [
-          | in-Some+in_ok-push w ↦
-            ap (λ v. v.items) w.taken-is ∙ w.in_ok-push.ensures.items
-            ∙ ap (λ (l : List ParkedFrame). l ++ w.in-Some.frame ∷ []) (inv.found frames a)
-            ∙ ap (λ (o : Option ParkedFrame). found_at (take i ts) frames ++ listed o) (sym w.in-Some.is ∙ had)
-            ∙ sym grown
-          | in_default w ↦
-            ap (λ v. v.items) w.taken-is ∙ inv.found frames a
-            ∙ sym (grown ∙ ap (λ (o : Option ParkedFrame). found_at (take i ts) frames ++ listed o) (sym had ∙ none-left c.take.result w.in_default.not-Some) ∙ append-nil (found_at (take i ts) frames))
-        ];
+          let had = c.take.ensures.frame (left_at (take i ts) frames) (inv.left frames a) in
+          let grown : found_at (take (i + 1) ts) frames ≡ found_at (take i ts) frames ++ listed (lookup (nat_eq (get_or ts i 0)) (left_at (take i ts) frames)) =
+          ap (λ (l : List ℕ). found_at l frames) more ∙ found-more (take i ts) (get_or ts i 0) frames in
+          elim c.match-take.branch [
+            | in-Some+in_ok-push w ↦
+                ap (λ v. v.items) w.taken-is ∙ w.in_ok-push.ensures.items
+                ∙ ap (λ (l : List ParkedFrame). l ++ w.in-Some.frame ∷ []) (inv.found frames a)
+                ∙ ap (λ (o : Option ParkedFrame). found_at (take i ts) frames ++ listed o) (sym w.in-Some.is ∙ had)
+                ∙ sym grown
+            | in_default w ↦
+                ap (λ v. v.items) w.taken-is ∙ inv.found frames a
+                ∙ sym (grown ∙ ap (λ (o : Option ParkedFrame). found_at (take i ts) frames ++ listed o) (sym had ∙ none-left c.take.result w.in_default.not-Some) ∙ append-nil (found_at (take i ts) frames))
+          ];
       left = λ frames a.
-        subst (λ (l : List (ℕ × ParkedFrame)). AreParked l c.take.new.self) (sym (ap (λ (l : List ℕ). left_at l frames) more ∙ left-more (take i ts) (get_or ts i 0) frames))
-        (c.take.ensures.taken (left_at (take i ts) frames) (inv.left frames a));
+          subst (λ (l : List (ℕ × ParkedFrame)). AreParked l c.take.new.self) (sym (ap (λ (l : List ℕ). left_at l frames) more ∙ left-more (take i ts) (get_or ts i 0) frames))
+          (c.take.ensures.taken (left_at (take i ts) frames) (inv.left frames a));
     }
 
 pub returns-clause-frames : goal.returns-clause-frames

@@ -48,25 +48,3 @@ results-changed g s l rs table a now = record {
   results = now;
   parked = a.parked;
 }
-
--- the parts of a state that the transport does not have
-pub record Others : Type 0 where
-  pub moment : ℕ
-  pub tasks_made : ℕ
-  pub tasks : List rules.Living
-  pub results : List KeptResult
-  pub parked : List ParkedFrame
-
-abbrev pub others_of : State → Others
-others_of s = record { moment = s.moment; tasks_made = s.tasks_made; tasks = s.tasks; results = s.results; parked = s.parked }
-
--- what happens to the transport alone
-pub transport-changed : (g : Setting) (s u : State) (l : Living) (t : Transport) → others_of s ≡ others_of u → IsLiving g s l → IsTransport u t → IsLiving g u (record l { transport = t })
-transport-changed g s u l t same a now = record {
-  id = a.id;
-  moment = a.moment ∙ ap (λ (o : Others). o.moment) same;
-  transport = now;
-  tasks = subst (λ (o : Others). AreTasks g o.tasks_made o.tasks l.tasks) same a.tasks;
-  results = subst (λ (o : Others). AreResults o.moment o.results l.results l.call_results) same a.results;
-  parked = subst (λ (o : Others). AreParkedIn o.parked l.parked) same a.parked;
-}
