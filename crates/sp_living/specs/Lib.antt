@@ -8,5 +8,3 @@ pub mod Opening
 pub mod Frames
 pub mod Tickets
 pub mod Ends
-pub mod Opening
-pub mod Needs
