@@ -18,3 +18,4 @@ pub mod PassLemmas
 pub mod ToldLemmas
 pub mod FailLemmas
 pub mod AskedLemmas
+pub mod LookupLemmas

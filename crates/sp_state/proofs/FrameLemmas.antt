@@ -5,6 +5,7 @@ use Rattle.std.specs.List.{list_any}
 use Rattle.std.specs.Str.{bytes_eq}
 use Rattle.net_message.specs.declared.message.Message.{Message}
 use Rattle.net_message.specs.declared.message.Message.TheVariants as message
+use Rattle.space_ids.specs.declared.ids.ClassId.{ClassId}
 use Rattle.uuid.specs.declared.Uuid.{Uuid}
 use Rattle.sp_connections.specs.Tables.{seen}
 use Rattle.sp_connections.specs.declared.connection.Connection.{Connection as Seen}
@@ -136,3 +137,7 @@ unfolding release each
 release-none g is s none =
     let none-is = no-others is s.results none in
     λ j. each (let_go g) (none-is.0 j) (record s { results = none-is.1 j })
+
+-- a connection is closed by the number of its row
+pub closed-at : (g : Setting) (class : ClassId) (conn : ℕ) (s : State) (c : Connection) (x : SpaceState) → ComesOn conn s c → IsSpace g (close g class conn s) x → IsSpace g (close g class c.number s) x
+closed-at g class conn s c x on is = subst (λ n. IsSpace g (close g class n s) x) (sym on.number) is

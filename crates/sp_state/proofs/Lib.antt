@@ -1,3 +1,5 @@
 pub mod QuietLemmas
 pub mod SpaceLemmas
 pub mod FrameLemmas
+pub mod CallLemmas
+pub mod EndLemmas

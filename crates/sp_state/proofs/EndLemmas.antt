@@ -1,0 +1,97 @@
+-- After each event that answers, the event may end: all that it noted stands before what is noted then.
+use Rattle.std.proofs.Common.{◌≡◌, ℕ, ◌+◌, Bool, true, false, cond, List, [], ◌∷◌, ◌++◌, Option, None, Some, refl, sym, ap, subst, ◌∙◌, true≢false}
+use Rattle.std.specs.Prelude.{◌||◌, ◌&&◌, Result, Ok, Err, is_none, is_some, nat_lt}
+use Rattle.dgc_client.specs.Table as client
+use Rattle.dgc_list.specs.History as owner
+use Rattle.net_message.specs.declared.message.Message.{Message}
+use Rattle.net_message.specs.declared.message.Message.TheVariants as message
+use Rattle.dgc_client.specs.History as lease_events
+use Rattle.sp_registry.specs.Bindings as registry
+use Rattle.sp_registry.specs.Names.{is_name}
+use Rattle.sp_registry.specs.declared.fault.RegistryFault.{RegistryFault}
+use Rattle.sp_registry.specs.declared.fault.RegistryFault.TheVariants.{BadName}
+use Rattle.sp_registry.specs.declared.registry.Binding.{Binding}
+use Rattle.uuid.specs.declared.Uuid.{Uuid}
+use Rattle.sp_rules.specs.Behaviours.{Op, Create, Get, Put, Call}
+use Rattle.sp_rules.specs.Classes.{Setting}
+use Rattle.sp_rules.specs.Endings.{by_unmarshal}
+use Rattle.sp_rules.specs.Events
+use Rattle.sp_rules.specs.Events.{Event, Moment, Sweep, Root, RootAck, Bind, Rebind, Unbind, Lookup, Opened, Refused, Received, Closed, ReadFailed, Bad, WriteFailed, Committed, Parked, GivenBack, Finished, Started, Denied, Withdrawn, Replies, Note, Says, Cleans}
+use Rattle.sp_rules.specs.Frames
+use Rattle.sp_rules.specs.Holders.{drop, fields_of, own_object}
+use Rattle.sp_rules.specs.Laws.{AllOf}
+use Rattle.sp_rules.specs.Lists.{each, with_some}
+use Rattle.sp_rules.specs.LivingTasks
+use Rattle.sp_rules.specs.OwnEvents
+use Rattle.sp_rules.specs.References.{references_of, foreign_ids}
+use Rattle.sp_rules.specs.Space.{answers_outputs, happen}
+use Rattle.sp_rules.specs.State.{State, Connection, Living, LooksUp, Object, OfRoot, Waits, connection_at, ready_at, say, tell_owner}
+use Rattle.sp_rules.specs.Tasks.{Stand, Runs, AsksFor, HasEnded, stand, steps}
+use Rattle.sp_rules.proofs.AllLemmas.{all-more}
+use Rattle.sp_transport.specs.Said.{IsNotAfterButAcks}
+use Rattle.sp_transport.specs.Settling.{MaySettle}
+use Rattle.sp_state.proofs.QuietLemmas
+
+-- An event that made no call may end.
+settles : (s : State) → QuietLemmas.MayEnd s → MaySettle s
+settles s may = record { due = may.0; fresh = subst (AllOf (λ r. Rattle.sp_transport.specs.Said.CallsMayGo Events.Calls s)) (sym may.1) tt }
+
+either : (b : Bool) (t u : State) → QuietLemmas.MayEnd t → QuietLemmas.MayEnd u → QuietLemmas.MayEnd (cond b t u)
+either true t u a b = a
+either false t u a b = b
+
+abbrev told : Setting → State → Type 0
+told g s = QuietLemmas.MayEnd s
+
+said : (g : Setting) (s : State) (o : Events.Output) → QuietLemmas.MayEnd s → QuietLemmas.MayEnd (say o s)
+said g s o may = QuietLemmas.say_keeps (QuietLemmas.may-end-quiet g) {s = s} o may
+
+named-may : (g : Setting) (r : Result (List Binding) RegistryFault) (s : State) → QuietLemmas.MayEnd s → QuietLemmas.MayEnd (OwnEvents.set_names r s)
+unfolding OwnEvents.set_names
+named-may g (Ok names) s may = may
+named-may g (Err fault) s may = said g s (Denied fault) may
+
+moment-may : (g : Setting) (moment : ℕ) (s : State) → QuietLemmas.MayEnd s → QuietLemmas.MayEnd (OwnEvents.on_moment g moment s)
+unfolding OwnEvents.on_moment
+moment-may g moment s may =
+    let after : State = record s { moment = moment; owner = record s.owner { entries = owner.Moment moment ∷ s.owner.entries }; leases = client.At moment ∷ s.leases } in
+    either (nat_lt moment s.moment) s (Frames.release g (OwnEvents.is_over_at moment) after) may
+    (QuietLemmas.release_keeps (QuietLemmas.may-end-quiet g) {s = after} (OwnEvents.is_over_at moment) may)
+
+sweep-may : (g : Setting) (s : State) → QuietLemmas.MayEnd s → QuietLemmas.MayEnd (OwnEvents.on_sweep g s)
+unfolding OwnEvents.on_sweep
+sweep-may g s may = sweeps (OwnEvents.without_reason g s)
+  where
+    withdraws : (gone : List Object) → QuietLemmas.MayEnd (OwnEvents.withdraw g s gone)
+    withdraws gone = said g _ (Withdrawn _)
+        (QuietLemmas.each_keeps (QuietLemmas.may-end-quiet g) (λ t (o : Object). drop g (references_of (fields_of g s o)) t) gone (λ t o h. QuietLemmas.drop_keeps (QuietLemmas.may-end-quiet g) {s = t} (foreign_ids g.id (references_of (fields_of g s o))) h)
+        (QuietLemmas.each_keeps (QuietLemmas.may-end-quiet g) (λ t id. tell_owner (owner.Forget id) t) _ (λ t id h. h) may))
+
+    sweeps : (gone : List Object) → QuietLemmas.MayEnd (OwnEvents.sweep_of g s gone)
+    sweeps [] = may
+    sweeps (o ∷ os) = withdraws (o ∷ os)
+
+frame-may : (g : Setting) (c : Connection) (m : Message) (s : State) → QuietLemmas.MayEnd s → QuietLemmas.MayEnd (Frames.got g c m s)
+unfolding Frames.got Frames.got_dirty Frames.got_clean
+frame-may g c (message.Hello version space digest) s may = QuietLemmas.close_keeps (QuietLemmas.may-end-quiet g) {s = s} g.classes.unmarshal c.number may
+frame-may g c (message.Call number object method fuel arguments) s may = QuietLemmas.got_call_keeps (QuietLemmas.may-end-quiet g) {s = s} c number object method fuel arguments may
+frame-may g c (message.Returned number fuel value) s may =
+    QuietLemmas.answered_by_keeps (QuietLemmas.may-end-quiet g) {s = s} c number (Frames.returned_for g c number fuel value) (λ asked. QuietLemmas.returned_keeps (QuietLemmas.may-end-quiet g) {s = s} c number fuel value asked may) may
+frame-may g c (message.Threw number class) s may =
+    QuietLemmas.answered_by_keeps (QuietLemmas.may-end-quiet g) {s = s} c number (Frames.ends_as g c number (λ a. Frames.thrown_reply g class)) (λ asked. QuietLemmas.ends_as_keeps (QuietLemmas.may-end-quiet g) {s = s} c number (λ a. Frames.thrown_reply g class) asked may) may
+frame-may g c (message.Spent number) s may =
+    QuietLemmas.answered_by_keeps (QuietLemmas.may-end-quiet g) {s = s} c number (Frames.ends_as g c number (Frames.spent_reply g)) (λ asked. QuietLemmas.ends_as_keeps (QuietLemmas.may-end-quiet g) {s = s} c number (Frames.spent_reply g) asked may) may
+frame-may g c (message.Ack number) s may = QuietLemmas.got_ack_keeps (QuietLemmas.may-end-quiet g) {s = s} c number may
+frame-may g c (message.Dirty sequence period objects) s may = QuietLemmas.send_keeps (QuietLemmas.may-end-quiet g) Replies c.number _ QuietLemmas.replies-early may
+frame-may g c (message.Lease sequence period) s may = QuietLemmas.told_by_keeps (QuietLemmas.may-end-quiet g) {s = s} c true sequence (λ call. lease_events.DirtyAnswered call period) may
+frame-may g c (message.Clean sequence strong objects) s may = QuietLemmas.send_keeps (QuietLemmas.may-end-quiet g) Replies c.number _ QuietLemmas.replies-early may
+frame-may g c (message.Cleaned sequence) s may = QuietLemmas.told_by_keeps (QuietLemmas.may-end-quiet g) {s = s} c false sequence lease_events.CleanAnswered may
+frame-may g c (message.Lookup number name) s may = QuietLemmas.got_lookup_keeps (QuietLemmas.may-end-quiet g) {s = s} c number name may
+
+received-may : (g : Setting) (o : Option Connection) (m : Message) (s : State) → QuietLemmas.MayEnd s → QuietLemmas.MayEnd (OwnEvents.received_on g o m s)
+unfolding Frames.receive
+received-may g None m s may = may
+received-may g (Some c) m s may =
+    either (is_none c.peer) (Frames.first_frame g c m s) (cond (Frames.is_wrong_way (Frames.is_asking m) (is_some c.dialled)) (Rattle.sp_rules.specs.Endings.close g g.classes.unmarshal c.number s) (Frames.got g c m s))
+    (QuietLemmas.first_frame_keeps (QuietLemmas.may-end-quiet g) {s = s} c m may)
+    (either (Frames.is_wrong_way (Frames.is_asking m) (is_some c.dialled)) _ _ (QuietLemmas.close_keeps (QuietLemmas.may-end-quiet g) {s = s} g.classes.unmarshal c.number may) (frame-may g c m s may))
