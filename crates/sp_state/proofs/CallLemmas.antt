@@ -5,11 +5,12 @@ use Rattle.std.specs.List.{list_any}
 use Rattle.space_ids.specs.declared.ids.ClassId.{ClassId}
 use Rattle.space_ids.specs.declared.ids.ObjId.{ObjId}
 use Rattle.space_ids.specs.declared.value.Value.{Value}
+use Rattle.uuid.specs.declared.Uuid.{Uuid}
 use Rattle.sp_call_classes.specs.declared.call_classes.RemoteException.TheVariants as exception
 use Rattle.sp_registry.specs.Bindings.{lookup}
 use Rattle.sp_rules.specs.Classes.{Setting, fit_kinds}
 use Rattle.sp_rules.specs.Endings.{close}
-use Rattle.sp_rules.specs.Frames.{call_of, call_on, counted, found, got_ack, got_call, got_lookup, is_acked_by, is_busy, object_of, release}
+use Rattle.sp_rules.specs.Frames.{call_of, call_on, client_of, counted, found, got_ack, got_call, got_lookup, is_acked_by, is_busy, object_of, release}
 use Rattle.sp_rules.specs.Holders.{is_refused}
 use Rattle.sp_rules.specs.ParkedFrames.{answer_threw, park_frame}
 use Rattle.sp_rules.specs.References.{foreign_ids, references_of, is_id}
@@ -118,3 +119,23 @@ found-one g conn number None id class s e = absurd (cc)
 found-one g conn number (Some o) id class s e =
     let same : told o ≡ (id, class) = sym (ap (λ (t : Option (ObjId × ClassId)). unwrap_or t (id, class)) e) in
     ap (λ (t : ObjId × ClassId). give_found g conn number t.0 t.1 s) same
+
+-- ---- acknowledgements
+
+pub acked : (g : Setting) (c : Connection) (conn number : ℕ) (s : State) → ComesOn conn s c → list_any (is_acked_by conn number) s.results ≡ true → got_ack g c number s ≡ release g (is_acked_by conn number) s
+unfolding got_ack
+acked g c conn number s on held =
+    ap (λ n. cond (list_any (is_acked_by n number) s.results) (release g (is_acked_by n number) s) (close g g.classes.unmarshal n s)) on.number
+    ∙ ap (λ b. cond b (release g (is_acked_by conn number) s) (close g g.classes.unmarshal conn s)) held
+
+pub unacked : (g : Setting) (c : Connection) (conn number : ℕ) (s : State) → ComesOn conn s c → list_any (is_acked_by conn number) s.results ≡ false → got_ack g c number s ≡ close g g.classes.unmarshal conn s
+unfolding got_ack
+unacked g c conn number s on none =
+    ap (λ n. cond (list_any (is_acked_by n number) s.results) (release g (is_acked_by n number) s) (close g g.classes.unmarshal n s)) on.number
+    ∙ ap (λ b. cond b (release g (is_acked_by conn number) s) (close g g.classes.unmarshal conn s)) none
+
+-- ---- dirty and clean calls
+
+pub client-so : (o : Option Uuid) (own : Uuid) → client_of o own ≡ unwrap_or o own
+client-so None own = refl
+client-so (Some peer) own = refl

@@ -3,3 +3,4 @@ pub mod SpaceLemmas
 pub mod FrameLemmas
 pub mod CallLemmas
 pub mod EndLemmas
+pub mod AnswerLemmas

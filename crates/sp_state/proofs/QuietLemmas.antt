@@ -61,7 +61,7 @@ beside_of s = record { objects_made = s.objects_made; store = s.store; owner = s
 abbrev pub IsEarly : Turn → Type 0
 IsEarly turn = (turn_rank turn ≤ turn_rank Cleans) ⊎ (is_acks turn ≡ true)
 
-replies-early : IsEarly Replies
+pub replies-early : IsEarly Replies
 replies-early = inl (lit≤ tt)
 
 hellos-early : IsEarly Hellos
@@ -70,7 +70,7 @@ hellos-early = inl (lit≤ tt)
 waited-early : IsEarly Waited
 waited-early = inl (lit≤ tt)
 
-acks-early : IsEarly Acks
+pub acks-early : IsEarly Acks
 acks-early = inr refl
 
 -- A property is quiet if it looks at those parts alone, and what is noted before an event ends keeps it.

@@ -3,3 +3,4 @@ pub mod Receiving
 pub mod Sweeping
 pub mod Denying
 pub mod Hellos
+pub mod Hands

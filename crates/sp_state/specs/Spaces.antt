@@ -1,5 +1,5 @@
 -- When the state of a space is that which the rules of spaces give: one line a part. (This project's own.)
-use Rattle.std.specs.Prelude.{◌≡◌}
+use Rattle.std.specs.Prelude.{◌≡◌, []}
 use Rattle.sp_rules.specs.Classes.{Setting}
 use Rattle.sp_rules.specs.State.{State}
 use Rattle.sp_owner.specs.Owners.{IsOwner}
@@ -12,3 +12,8 @@ pub record IsSpace (g : Setting) (s : State) (space : SpaceState) : Type 0 where
   pub digest : space.digest ≡ g.digest
   pub owner : IsOwner g s space.owner
   pub living : IsLiving g s space.living
+
+-- Between events nothing is noted, and no call waits to be asked.
+pub record IsAtRest (s : State) : Type 0 where
+  pub notes : s.notes ≡ []
+  pub fresh : s.fresh ≡ []

@@ -8,4 +8,4 @@ use Rattle.sp_state.proofs.acting.SpaceState.root_ack.Goals as goal
 
 pub returns : goal.returns
 returns c = λ g s is.
-    quiet g s (release g (is_of_root c.args.task) s) c.args.self.now c.release_root.new.self (release_keeps (parts-quiet g (owner_parts s)) (is_of_root c.args.task) refl) (c.release_root.ensures g s is.living) is
+    quiet g s (release g (is_of_root c.args.task) s) c.args.self.now c.release_root.new.self (release_keeps (parts-quiet g (owner_parts s)) {s = s} (is_of_root c.args.task) refl) (c.release_root.ensures g s is.living) is

@@ -8,4 +8,4 @@ use Rattle.sp_state.proofs.ending.SpaceState.opened.Goals as goal
 
 pub returns : goal.returns
 returns c = on_ok_weaker c.open.result (λ now. λ g s is silent.
-    quiet g s (on_opened g c.args.conn c.args.dialled s) c.args.self.now c.open.new.self (opened_keeps (parts-quiet g (owner_parts s)) c.args.conn c.args.dialled refl) (now g s is.living silent is.digest) is) c.open.ensures
+    quiet g s (on_opened g c.args.conn c.args.dialled s) c.args.self.now c.open.new.self (opened_keeps (parts-quiet g (owner_parts s)) {s = s} c.args.conn c.args.dialled refl) (now g s is.living silent is.digest) is) c.open.ensures

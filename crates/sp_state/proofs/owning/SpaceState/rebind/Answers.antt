@@ -14,6 +14,6 @@ returns c = on_ok_weaker c.deny.result (λ told. λ g s is.
     record {
       id = is.id;
       digest = is.digest;
-      owner = c.in_ok-rebind.ensures.rebound g s is.owner;
-      living = named g names s c.deny.new.living (subst (λ (d : Option RegistryFault). IsLiving g (told_denied d s) c.deny.new.living) (c.in_ok-rebind.ensures.denied g s is.owner) (told g s is.living));
+      owner = c.in_ok-denied.ensures.rebound g s is.owner;
+      living = named g names s c.deny.new.living (subst (λ (d : Option RegistryFault). IsLiving g (told_denied d s) c.deny.new.living) (c.in_ok-denied.ensures.denied g s is.owner) (told g s is.living));
     }) c.deny.ensures

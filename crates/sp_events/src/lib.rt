@@ -1,0 +1,10 @@
+//! What happens to a space from outside, and why a space refuses it, as values.
+//!
+//! `specs/` names the event of the rules of spaces that a value is, and the refusal that a fault is.
+#![tactic(auto)]
+
+pub use event::{Event, Root};
+pub use fault::{CoreFault, StartFault};
+
+mod event;
+mod fault;
