@@ -28,9 +28,10 @@ use Rattle.sp_rules.specs.Space.{answers_outputs, happen}
 use Rattle.sp_rules.specs.State.{State, Connection, Living, LooksUp, Object, OfRoot, Waits, connection_at, ready_at, say, tell_owner}
 use Rattle.sp_rules.specs.Tasks.{Stand, Runs, AsksFor, HasEnded, stand, steps}
 use Rattle.sp_rules.proofs.AllLemmas.{all-more}
-use Rattle.sp_transport.specs.Said.{IsNotAfterButAcks}
+use Rattle.sp_transport.specs.Said.{IsNotAfter, IsNotAfterButAcks}
 use Rattle.sp_transport.specs.Settling.{MaySettle}
 use Rattle.sp_state.proofs.QuietLemmas
+use Rattle.sp_state.specs.Spaces.{IsAtRest}
 
 -- An event that made no call may end.
 settles : (s : State) → QuietLemmas.MayEnd s → MaySettle s
@@ -95,3 +96,73 @@ received-may g (Some c) m s may =
     either (is_none c.peer) (Frames.first_frame g c m s) (cond (Frames.is_wrong_way (Frames.is_asking m) (is_some c.dialled)) (Rattle.sp_rules.specs.Endings.close g g.classes.unmarshal c.number s) (Frames.got g c m s))
     (QuietLemmas.first_frame_keeps (QuietLemmas.may-end-quiet g) {s = s} c m may)
     (either (Frames.is_wrong_way (Frames.is_asking m) (is_some c.dialled)) _ _ (QuietLemmas.close_keeps (QuietLemmas.may-end-quiet g) {s = s} g.classes.unmarshal c.number may) (frame-may g c m s may))
+
+-- ---- events that make a call
+
+none-noted : (s : State) → s.notes ≡ [] → AllOf (IsNotAfterButAcks Cleans) s.notes
+none-noted s quiet = subst (AllOf (IsNotAfterButAcks Cleans)) (sym quiet) tt
+
+none-after : (s : State) → s.notes ≡ [] → AllOf (IsNotAfter Events.Calls) s.notes
+none-after s quiet = subst (AllOf (IsNotAfter Events.Calls)) (sym quiet) tt
+
+rests : (s : State) → IsAtRest s → MaySettle s
+rests s rest = settles s (none-noted s rest.notes, rest.fresh)
+
+settles-either : (b : Bool) (t u : State) → MaySettle t → MaySettle u → MaySettle (cond b t u)
+settles-either true t u a b = a
+settles-either false t u a b = b
+
+settles-some : {A : Type 0} (o : Option A) (none : State) (some : A → State) → MaySettle none → ((x : A) → MaySettle (some x)) → MaySettle (with_some o none some)
+settles-some None none some a b = a
+settles-some (Some x) none some a b = b x
+
+lookup-settles : (g : Setting) (peer : Uuid) (name : List ℕ) (s : State) → IsAtRest s → MaySettle (OwnEvents.on_lookup g peer name s)
+unfolding OwnEvents.on_lookup
+lookup-settles g peer name s rest =
+    let made : State = say (Started (s.tasks_made + 1)) (record s {
+      tasks_made = s.tasks_made + 1;
+      calls_made = s.calls_made + 1;
+      fresh = record { peer = peer; asked = LooksUp (s.calls_made + 1) (s.tasks_made + 1) name; stage = Waits } ∷ [];
+    }) in
+    settles-either (is_name name) made (say (Denied BadName) s)
+    (record { due = all-more (IsNotAfterButAcks Cleans) s.notes (Says (Started (s.tasks_made + 1))) (none-noted s rest.notes) tt; fresh = (all-more (IsNotAfter Events.Calls) s.notes (Says (Started (s.tasks_made + 1))) (none-after s rest.notes) tt, tt) })
+    (settles (say (Denied BadName) s) (said g s (Denied BadName) (none-noted s rest.notes, rest.fresh)))
+
+park-settles : (g : Setting) (id k : ℕ) (s : State) → IsAtRest s → MaySettle (LivingTasks.park_call g id k s)
+unfolding LivingTasks.park_call
+park-settles g id k s rest = settles-some (ready_at s id) s (λ t. LivingTasks.park_at g id k t (stand (steps k t.task)) s) (rests s rest) (λ t. at t (stand (steps k t.task)))
+  where
+    parks : (t : Living) (op : Op) → MaySettle (LivingTasks.park_op g id k t op s)
+    parks t (Create class) = rests s rest
+    parks t (Get o slot) = rests s rest
+    parks t (Put o slot value) = rests s rest
+    parks t (Call target method arguments) = record { due = none-noted s rest.notes; fresh = (none-after s rest.notes, tt) }
+
+    at : (t : Living) (stands : Stand) → MaySettle (LivingTasks.park_at g id k t stands s)
+    at t Runs = rests s rest
+    at t (AsksFor op) = parks t op
+    at t (HasEnded outcome) = rests s rest
+
+-- ---- all events that answer
+
+pub happen-settles : (g : Setting) (e : Event) (s : State) → answers_outputs e ≡ true → IsAtRest s → MaySettle (happen g e s)
+unfolding happen
+happen-settles g (Moment moment) s a rest = settles _ (moment-may g moment s (none-noted s rest.notes, rest.fresh))
+happen-settles g Sweep s a rest = settles _ (sweep-may g s (none-noted s rest.notes, rest.fresh))
+happen-settles g (Root method arguments fuel) s a rest = settles _ (QuietLemmas.add_task_keeps (QuietLemmas.may-end-quiet g) {s = s} OfRoot method arguments fuel (none-noted s rest.notes, rest.fresh))
+happen-settles g (RootAck task) s a rest = settles _ (QuietLemmas.release_keeps (QuietLemmas.may-end-quiet g) {s = s} (OwnEvents.is_of_root task) (none-noted s rest.notes, rest.fresh))
+happen-settles g (Bind name value) s a rest = settles _ (named-may g (registry.bind s.owner.names name (own_object g s value)) s (none-noted s rest.notes, rest.fresh))
+happen-settles g (Rebind name value) s a rest = settles _ (named-may g (registry.rebind s.owner.names name (own_object g s value)) s (none-noted s rest.notes, rest.fresh))
+happen-settles g (Unbind name) s a rest = settles _ (named-may g (registry.unbind s.owner.names name) s (none-noted s rest.notes, rest.fresh))
+happen-settles g (Lookup peer name) s a rest = lookup-settles g peer name s rest
+happen-settles g (Opened conn dialled) s a rest = settles _ (QuietLemmas.opened_keeps (QuietLemmas.may-end-quiet g) {s = s} conn dialled (none-noted s rest.notes, rest.fresh))
+happen-settles g (Refused peer) s a rest = settles _ (QuietLemmas.refused_keeps (QuietLemmas.may-end-quiet g) {s = s} peer (none-noted s rest.notes, rest.fresh))
+happen-settles g (Received conn m) s a rest = settles _ (received-may g (connection_at s conn) m s (none-noted s rest.notes, rest.fresh))
+happen-settles g (Closed conn) s a rest = settles _ (QuietLemmas.end_connection_keeps (QuietLemmas.may-end-quiet g) {s = s} (by_unmarshal g) conn (none-noted s rest.notes, rest.fresh))
+happen-settles g (ReadFailed conn) s a rest = settles _ (QuietLemmas.end_connection_keeps (QuietLemmas.may-end-quiet g) {s = s} (by_unmarshal g) conn (none-noted s rest.notes, rest.fresh))
+happen-settles g (Bad conn) s a rest = settles _ (QuietLemmas.end_connection_keeps (QuietLemmas.may-end-quiet g) {s = s} (by_unmarshal g) conn (none-noted s rest.notes, rest.fresh))
+happen-settles g (WriteFailed conn unsent) s a rest = settles _ (QuietLemmas.fail_write_keeps (QuietLemmas.may-end-quiet g) {s = s} conn unsent (none-noted s rest.notes, rest.fresh))
+happen-settles g (Committed task k op) s a rest = absurd (true≢false (sym a))
+happen-settles g (Parked task k) s a rest = park-settles g task k s rest
+happen-settles g (GivenBack task k) s a rest = absurd (true≢false (sym a))
+happen-settles g (Finished task k) s a rest = settles _ (QuietLemmas.finish_keeps (QuietLemmas.may-end-quiet g) {s = s} task k (none-noted s rest.notes, rest.fresh))

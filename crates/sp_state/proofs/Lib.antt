@@ -4,3 +4,4 @@ pub mod FrameLemmas
 pub mod CallLemmas
 pub mod EndLemmas
 pub mod AnswerLemmas
+pub mod SweepLemmas

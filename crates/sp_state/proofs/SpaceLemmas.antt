@@ -1,5 +1,5 @@
 -- The state of a space, as what it keeps for others and what lives in it change one by one.
-use Rattle.std.proofs.Common.{◌≡◌, ℕ, ◌+◌, ◌≤◌, nat_lt, arith, cond, true, false, List, [], ◌∷◌, Option, None, Some, refl, sym, ap, subst, ◌∙◌}
+use Rattle.std.proofs.Common.{◌≡◌, ℕ, ◌+◌, ◌≤◌, ◌<◌, nat_lt, arith, cond, true, false, List, [], ◌∷◌, Option, None, Some, refl, sym, ap, subst, ◌∙◌}
 use Rattle.std.proofs.lemmas.Bool.Decides.{nat_tests}
 use Rattle.dgc_client.specs.Table as client
 use Rattle.dgc_list.specs.History as owner
@@ -21,7 +21,7 @@ use Rattle.sp_owner.specs.declared.owner.Owner.{Owner}
 use Rattle.sp_living.specs.Livings.{IsLiving}
 use Rattle.sp_living.specs.declared.living.Living.{Living}
 use Rattle.sp_state.specs.Denying.{told_denied}
-use Rattle.sp_state.specs.Spaces.{IsSpace}
+use Rattle.sp_state.specs.Spaces.{AreNumbered, IsSpace}
 use Rattle.sp_state.proofs.QuietLemmas.{parts-quiet, release_keeps}
 use Rattle.sp_state.specs.declared.space_state.SpaceState.{SpaceState}
 
@@ -32,6 +32,7 @@ pub quiet : (g : Setting) (s t : State) (space : SpaceState) (l : Living) → ow
 quiet g s t space l same now is = record {
   id = is.id;
   digest = is.digest;
+  numbers = subst AreNumbered (sym same) is.numbers;
   owner = subst (λ (p : OwnerParts). KeepsParts g p space.owner) (sym same) is.owner;
   living = now;
 }
@@ -66,6 +67,11 @@ pub named : (g : Setting) (r : Result (List Binding) RegistryFault) (s : State) 
 unfolding set_names
 named g (Ok names) s l is = living-still g (record { store = s.store; objects_made = s.objects_made; names = names; entries = s.owner.entries }) s l is
 named g (Err fault) s l is = is
+
+pub named-numbers : (r : Result (List Binding) RegistryFault) (s : State) → AreNumbered (owner_parts s) → AreNumbered (owner_parts (set_names r s))
+unfolding set_names
+named-numbers (Ok names) s is = is
+named-numbers (Err fault) s is = is
 
 -- ---- what leaves the owner's parts
 
@@ -103,3 +109,10 @@ moment-parts g moment s h =
     let early : nat_lt moment s.moment ≡ false = grind (arith, nat_tests) in
     ap (λ b. owner_parts (cond b s (release g (is_over_at moment) after))) early
     ∙ release_keeps (parts-quiet g (owner_parts after)) {s = after} (is_over_at moment) refl
+
+pub late : (g : Setting) (moment : ℕ) (s : State) → moment < s.moment → on_moment g moment s ≡ s
+unfolding on_moment
+late g moment s h =
+    let after : State = record s { moment = moment; owner = record s.owner { entries = owner.Moment moment ∷ s.owner.entries }; leases = client.At moment ∷ s.leases } in
+    let early : nat_lt moment s.moment ≡ true = grind (arith, nat_tests) in
+    ap (λ b. cond b s (release g (is_over_at moment) after)) early

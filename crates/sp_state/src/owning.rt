@@ -56,11 +56,12 @@ impl SpaceState {
         if moment >= END_OF_TIME {
             return Err(AllocError);
         }
-        if moment >= self.living.moment() {
-            self.owner.moment(moment);
-            self.living.pass_moment(moment)?;
+        let last = self.living.moment();
+        if moment < last {
+            return Ok(());
         }
-        Ok(())
+        self.owner.moment(moment);
+        self.living.pass_moment(moment)
     }
 }
 
