@@ -95,3 +95,8 @@ pub spent-lookup : (g : Setting) (task : ℕ) (asked : Asked) → first_of (asks
 spent-lookup g task (Calls n t l k m) e = cc
 spent-lookup g task (LooksUp n t name) e = refl
 spent-lookup g task (Tells call group) e = cc
+
+-- what is none of these is none
+pub none-left : {A : Type 0} (o : Option A) → ((x : A) → o ≡ Some x → ⊥) → o ≡ None
+none-left None no = refl
+none-left (Some x) no = absurd (no x refl)

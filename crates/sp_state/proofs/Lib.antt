@@ -5,3 +5,4 @@ pub mod CallLemmas
 pub mod EndLemmas
 pub mod AnswerLemmas
 pub mod SweepLemmas
+pub mod HappenLemmas

@@ -1,10 +1,12 @@
 //! Answers that come on connections that this space dialled.
 
-ghost use Rattle.std.specs.Prelude.{◌≡◌, [], Some, OnOk, true, false};
+ghost use Rattle.std.specs.Prelude.{◌≡◌, [], Some, OnOk, true, false, if◌then◌else◌};
 ghost use Rattle.dgc_client.specs.History.Event.{CleanAnswered, DirtyAnswered};
-ghost use Rattle.sp_rules.specs.Classes.{Setting};
+ghost use Rattle.sp_rules.specs.Classes.{Classes, Setting};
 ghost use Rattle.sp_rules.specs.Frames.{answered_by, ends_as, returned_for, spent_reply, thrown_reply, told_by};
 ghost use Rattle.sp_rules.specs.State.{Asked as Question, Connection as Line, State};
+ghost use Rattle.sp_tasks.specs.Behaviours.{reply_of};
+ghost use Rattle.sp_state.specs.Receiving.{IsAskedBy};
 ghost use Rattle.uuid.specs.declared.Uuid.{Uuid as Peer};
 
 use crate::SpaceState;
@@ -17,7 +19,7 @@ use space_ids::{ClassId, Row, Value};
 use std::alloc::AllocError;
 
 impl SpaceState {
-    ghost use Rattle.sp_state.specs.Receiving.{ComesOn, IsAskedBy, park_returned, refuse_returned};
+    ghost use Rattle.sp_state.specs.Receiving.{ComesOn, park_returned, refuse_returned};
     ghost use Rattle.sp_state.specs.Spaces.{IsSpace};
 
     // Takes the result of a call or lookup. One that does not fit gives UnmarshalException; else it waits until
@@ -94,11 +96,7 @@ impl SpaceState {
         let Some(asker) = self.living.asked(conn, number) else {
             return self.close(classes, RemoteException::Unmarshal, conn);
         };
-        let thrown = if classes.is_throwable(class) {
-            class
-        } else {
-            classes.thrown(RemoteException::Unmarshal)
-        };
+        let thrown = thrown_as(classes, class);
         self.living.take_call(conn, number);
         self.living.reply_to(asker, Reply::Throws(thrown))
     }
@@ -116,16 +114,7 @@ impl SpaceState {
         let Some(asker) = self.living.asked(conn, number) else {
             return self.close(classes, RemoteException::Unmarshal, conn);
         };
-        let reply = match asker {
-            Asker::Call {
-                task: _,
-                lent: _,
-                kind: _,
-            } => Reply::RunsOut,
-            Asker::Lookup { task: _ } => {
-                Reply::Throws(classes.thrown(RemoteException::Unmarshal))
-            }
-        };
+        let reply = spent_for(classes, &asker);
         self.living.take_call(conn, number);
         self.living.reply_to(asker, reply)
     }
@@ -155,5 +144,30 @@ impl SpaceState {
     {
         self.living
             .cleaned(self.owner.store(), classes, conn, sequence)
+    }
+}
+
+// The class that a task is told was thrown: one that is no Throwable is told as UnmarshalException.
+fn thrown_as<C: CallClasses>(classes: &C, class: ClassId) -> ClassId
+    ensures { (c : Classes) → C.tells classes.now c → result ≡ (if c.is_throwable class then class else c.unmarshal) }
+{
+    if classes.is_throwable(class) {
+        class
+    } else {
+        classes.thrown(RemoteException::Unmarshal)
+    }
+}
+
+// What who asks is told of fuel that was spent.
+fn spent_for<C: CallClasses>(classes: &C, asker: &Asker) -> Reply
+    ensures { (g : Setting) (question : Question) → C.tells classes.now g.classes → IsAskedBy asker.now question → reply_of result ≡ spent_reply g question }
+{
+    match asker {
+        Asker::Call {
+            task: _,
+            lent: _,
+            kind: _,
+        } => Reply::RunsOut,
+        Asker::Lookup { task: _ } => Reply::Throws(classes.thrown(RemoteException::Unmarshal)),
     }
 }

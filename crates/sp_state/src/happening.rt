@@ -26,7 +26,8 @@ impl SpaceState {
         ensures happened { OnOk result ((g : Setting) (s : State) → IsSpace g s self.old → IsAtRest s → C.tells classes.now g.classes → IsSpace g (on g (event_of event) s).0 self.new) }
     {
         self.happen(classes, event)?;
-        self.conclude()
+        let outputs = self.conclude()?;
+        Ok(outputs)
     }
 
     /// Starts a root. Returns what the event answers, in its order.
@@ -35,7 +36,8 @@ impl SpaceState {
         ensures happened { OnOk result ((g : Setting) (s : State) → IsSpace g s self.old → IsAtRest s → IsSpace g (on g (event_of_root root.now) s).0 self.new) }
     {
         let _ = self.root(root.method, root.arguments.as_slice(), root.fuel)?;
-        self.conclude()
+        let outputs = self.conclude()?;
+        Ok(outputs)
     }
 
     // What an event makes of the state, before its end.
@@ -56,9 +58,9 @@ impl SpaceState {
             Event::Opened { conn, dialled } => self.opened(conn, dialled),
             Event::Refused { peer } => self.refused(classes, &peer),
             Event::Received { conn, message } => self.received(classes, conn, message),
-            Event::Closed { conn } | Event::ReadFailed { conn } | Event::Bad { conn } => {
-                self.end_connection(classes, conn)
-            }
+            Event::Closed { conn } => self.end_connection(classes, conn),
+            Event::ReadFailed { conn } => self.end_connection(classes, conn),
+            Event::Bad { conn } => self.end_connection(classes, conn),
             Event::WriteFailed { conn, unsent } => self.fail_write(classes, conn, unsent),
         }
     }
