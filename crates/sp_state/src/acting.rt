@@ -19,12 +19,7 @@ impl SpaceState {
     ghost use Rattle.sp_state.specs.Spaces.{IsSpace};
 
     /// Starts a root at a method, under the next id, which it returns.
-    pub fn root(
-        &mut self,
-        method: u32,
-        arguments: &[Value],
-        fuel: u64,
-    ) -> Result<u64, AllocError>
+    pub fn root(&mut self, method: u32, arguments: &[Value], fuel: u64) -> Result<u64, AllocError>
         ensures id { IfOk result (λ id. (g : Setting) (s : State) → IsSpace g s self.old → id ≡ s.tasks_made + 1) }
         ensures started { OnOk result ((g : Setting) (s : State) → IsSpace g s self.old → IsSpace g (add_task g OfRoot method arguments.now fuel s) self.new) }
     {

@@ -37,7 +37,7 @@ impl SpaceState {
         self.living.count(conn, number);
         match self.refusal(classes, &call)? {
             Some(why) => self.answer_threw(classes, conn, number, why),
-            None => self.park_call(classes, conn, number, call),
+            None => self.park_received(classes, conn, number, call),
         }
     }
 
@@ -82,7 +82,7 @@ impl SpaceState {
     }
 
     // Parks a call until each foreign reference among its arguments has a lease.
-    fn park_call<C: CallClasses>(
+    fn park_received<C: CallClasses>(
         &mut self,
         classes: &C,
         conn: u64,

@@ -25,6 +25,6 @@ returns-in-Some w c = on_ok_weaker c.answer_threw.result (λ now. λ g s row is 
     let is1 = quiet g s t c.args.self.now c.count.new.self refl (c.count.ensures g s is.living silent) is in
     space-is g (take_call g conn number (Some c.in-Some.why) k.target k.method k.fuel k.arguments t) (got_call g row number k.target k.method k.fuel k.arguments s) c.answer_threw.new.self
     (called-new g row number k.target k.method k.fuel k.arguments s ?
-        ∙ ap (λ (n : ℕ). call_on g n number (object_at s k.target) k.method k.fuel k.arguments (counted n number s)) on.number
-        ∙ ?)
+    ∙ ap (λ (n : ℕ). call_on g n number (object_at s k.target) k.method k.fuel k.arguments (counted n number s)) on.number
+    ∙ ?)
     (now g t is1 tells)) c.answer_threw.ensures

@@ -1,5 +1,5 @@
 use Rattle.std.proofs.Common.{refl, sym, ap, subst, ◌∙◌}
-use Rattle.sp_state.proofs.calls.SpaceState.park_call.Goals as goal
+use Rattle.sp_state.proofs.calls.SpaceState.park_received.Goals as goal
 
 pub park-requires : goal.park-requires
 park-requires w c = ?
