@@ -1,9 +1,8 @@
 -- What frames that were parked make of a state does not depend on those that are parked.
-use Rattle.std.proofs.Common.{◌≡◌, ℕ, ◌+◌, Bool, true, false, cond, List, [], ◌∷◌, Option, None, Some, refl, sym, ap, ◌∙◌}
+use Rattle.std.proofs.Common.{◌≡◌, ℕ, ◌+◌, Bool, true, false, cond, List, [], ◌∷◌, Option, None, Some, refl, ap, ◌∙◌}
 use Rattle.std.specs.Prelude.{find, ◌++◌}
 use Rattle.net_message.specs.declared.message.Message.{Message}
 use Rattle.net_message.specs.declared.message.Message.TheVariants as message
-use Rattle.space_ids.specs.declared.ids.ClassId.{ClassId}
 use Rattle.space_ids.specs.declared.ids.ForeignId.{ForeignId}
 use Rattle.space_ids.specs.declared.ids.ObjId.{ObjId}
 use Rattle.space_ids.specs.declared.ids.Ref.{Ref}
@@ -11,11 +10,11 @@ use Rattle.space_ids.specs.declared.value.Value.{Value}
 use Rattle.space_ids.specs.declared.value.Value.TheVariants as values
 use Rattle.sp_rules.specs.Behaviours.{Outcome, Returned, Threw, Spent, Reply, GivesBack, Throws}
 use Rattle.sp_rules.specs.Classes.{Setting}
-use Rattle.sp_rules.specs.Events.{Turn, Sends, Started, Ready, Ended, Acks}
+use Rattle.sp_rules.specs.Events.{Turn, Sends, Ready, Ended, Acks}
 use Rattle.sp_rules.specs.Holders.{drop_ids, hold_ids, holder_comes, holder_goes}
 use Rattle.sp_rules.specs.Lists.{each, with_some}
 use Rattle.sp_rules.specs.LivingTasks.{add_task, after_reply, keep_result, outcome_of, reply_task, reply_to}
-use Rattle.sp_rules.specs.ParkedFrames.{answer_parked, answer_threw, fail_frame, go_frame, is_call_on, remove_requests, start_call, start_selected}
+use Rattle.sp_rules.specs.ParkedFrames.{answer_parked, fail_frame, go_frame, is_call_on, remove_requests, start_call, start_selected}
 use Rattle.sp_rules.specs.References.{foreign_ids, references_in}
 use Rattle.sp_rules.specs.State.{State, Living, Object, Origin, OfCall, Until, RootAcked, Request, Asked, Calls, LooksUp, Tells, Frame, CallFrame, ReturnedFrame, ParkedFrame, is_open, object_at, say, send, set_task, task_at}
 use Rattle.sp_rules.specs.Tasks.{answer, gained, start}

@@ -7,7 +7,7 @@ use Rattle.space_ids.specs.declared.ids.ForeignId.{ForeignId}
 use Rattle.sp_rules.specs.Endings.{unpark}
 use Rattle.sp_rules.specs.Holders.{drop_ids, holder_goes}
 use Rattle.sp_rules.specs.Lists.{each}
-use Rattle.sp_rules.specs.ParkedFrames.{is_parked_at, let_go_parked, remove_requests, take_parked}
+use Rattle.sp_rules.specs.ParkedFrames.{is_parked_at, remove_requests, take_parked}
 use Rattle.sp_rules.specs.State.{State, ParkedFrame, Request}
 
 pub each-more : {S A : Type 0} (f : S → A → S) (xs : List A) (x : A) (s : S) → each f (xs ++ x ∷ []) s ≡ f (each f xs s) x

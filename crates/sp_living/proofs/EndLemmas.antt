@@ -3,7 +3,6 @@ use Rattle.std.proofs.Common.{◌≡◌, ℕ, ◌++◌, Bool, true, false, cond,
 use Rattle.std.specs.Prelude.{filter, not, ◌==◌}
 use Rattle.std.specs.List.{flat_map, list_any}
 use Rattle.net_message.specs.declared.message.Message.{Message}
-use Rattle.dgc_client.specs.declared.groups.Group.{Group}
 use Rattle.space_ids.specs.declared.ids.ClassId.{ClassId}
 use Rattle.uuid.specs.declared.Uuid.{Uuid}
 use Rattle.sp_rules.specs.Behaviours.{Throws}
@@ -20,7 +19,6 @@ use Rattle.sp_requests.specs.Ends.{ended_group}
 use Rattle.sp_requests.specs.declared.asked.Asker.{Asker}
 use Rattle.sp_requests.specs.declared.asked.Asker.TheVariants as asker
 use Rattle.sp_requests.specs.declared.asked.OutGroup.{OutGroup}
-use Rattle.sp_requests.specs.declared.asked.ResultKind.{ResultKind}
 use Rattle.sp_requests.specs.declared.asked.ResultKind.TheVariants as result
 use Rattle.sp_requests.specs.declared.ended.EndedCall.{EndedCall}
 use Rattle.sp_transport.specs.Answers.{ended_as}

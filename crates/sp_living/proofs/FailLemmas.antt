@@ -1,5 +1,5 @@
 -- Dirty and clean calls that fail.
-use Rattle.std.proofs.Common.{◌≡◌, ℕ, ◌+◌, Bool, true, false, cond, List, [], ◌∷◌, refl, sym, ap, ◌∙◌}
+use Rattle.std.proofs.Common.{◌≡◌, ℕ, Bool, cond, List, [], ◌∷◌, refl, sym}
 use Rattle.std.specs.Prelude.{◌&&◌, is_none, filter}
 use Rattle.dgc_client.specs.History.Event.{CleanFailed, DirtyFailed}
 use Rattle.dgc_client.specs.Lease.{is_made}

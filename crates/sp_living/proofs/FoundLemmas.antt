@@ -3,7 +3,6 @@ use Rattle.std.proofs.Common.{◌≡◌, ℕ, Bool, true, false, cond, List, [],
 use Rattle.std.specs.Prelude.{filter, find, not, ◌==◌, ◌&&◌, option_and_then}
 use Rattle.std.proofs.lemmas.Bool.{eqb-true}
 use Rattle.dgc_client.specs.History as lease_events
-use Rattle.dgc_client.specs.declared.groups.Group.{Group}
 use Rattle.sp_rules.specs.Frames.{group_told, has_sequence, tells_of, tells_on}
 use Rattle.sp_rules.specs.ParkedFrames.{has_number, is_call_on, is_out_on, is_unanswered_on}
 use Rattle.sp_rules.specs.State.{State, Asked, Calls, LooksUp, Tells, Connection, Request, Stage, Waits, Out, Answered, connection_at}

@@ -19,3 +19,4 @@ pub mod ToldLemmas
 pub mod FailLemmas
 pub mod AskedLemmas
 pub mod LookupLemmas
+pub mod NeedLemmas

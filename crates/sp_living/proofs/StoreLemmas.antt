@@ -1,5 +1,5 @@
 -- Frames that go leave the objects of a space.
-use Rattle.std.proofs.Common.{◌≡◌, ℕ, ◌+◌, ◌++◌, Bool, true, false, cond, List, [], ◌∷◌, Option, None, Some, refl, sym, ap, ◌∙◌}
+use Rattle.std.proofs.Common.{◌≡◌, ℕ, ◌++◌, Bool, true, false, cond, List, [], ◌∷◌, Option, None, Some, refl, ◌∙◌}
 use Rattle.std.specs.Prelude.{find}
 use Rattle.net_message.specs.declared.message.Message.{Message}
 use Rattle.net_message.specs.declared.message.Message.TheVariants as message
@@ -10,7 +10,7 @@ use Rattle.space_ids.specs.declared.value.Value.{Value}
 use Rattle.space_ids.specs.declared.value.Value.TheVariants as values
 use Rattle.sp_rules.specs.Behaviours.{Outcome, Returned, Threw, Spent, Reply, GivesBack}
 use Rattle.sp_rules.specs.Classes.{Setting}
-use Rattle.sp_rules.specs.Events.{Turn, Sends, Started, Ready, Ended, Acks}
+use Rattle.sp_rules.specs.Events.{Turn, Sends, Ready, Ended, Acks}
 use Rattle.sp_rules.specs.Holders.{drop_ids, hold_ids, holder_comes, holder_goes}
 use Rattle.sp_rules.specs.Lists.{each, with_some}
 use Rattle.sp_rules.specs.LivingTasks.{add_task, after_reply, keep_result, outcome_of, reply_task, reply_to}

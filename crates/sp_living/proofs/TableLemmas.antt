@@ -1,7 +1,6 @@
 -- What lives in a space, as one part of it changes.
-use Rattle.std.proofs.Common.{◌≡◌, ℕ, List, Option, None, Some, refl, ap, subst, ◌∙◌}
+use Rattle.std.proofs.Common.{◌≡◌, List, Option, None, Some, refl}
 use Rattle.sp_rules.specs.Classes.{Setting}
-use Rattle.sp_rules.specs.State as rules
 use Rattle.sp_rules.specs.State.{State, KeptResult, ParkedFrame}
 use Rattle.sp_parked.specs.declared.parked.Parked.{Parked}
 use Rattle.sp_transport.specs.Transports.{IsTransport}
@@ -9,7 +8,7 @@ use Rattle.sp_transport.specs.declared.transport.Transport.{Transport}
 use Rattle.sp_call_results.specs.declared.call_results.CallResults.{CallResults}
 use Rattle.sp_living.specs.Frames.{with_parked}
 use Rattle.sp_living.specs.Livings.{IsLiving}
-use Rattle.sp_living.specs.Parts.{AreParkedIn, AreResults, AreTasks}
+use Rattle.sp_living.specs.Parts.{AreParkedIn, AreResults}
 use Rattle.sp_living.specs.declared.living.Living.{Living}
 
 pub none-left : {A : Type 0} (o : Option A) → ((x : A) → o ≡ Some x → ⊥) → o ≡ None

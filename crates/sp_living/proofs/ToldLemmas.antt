@@ -1,11 +1,10 @@
 -- Answers to dirty and clean calls, and connections, as the calls on the transport tell them.
-use Rattle.std.proofs.Common.{◌≡◌, ℕ, Bool, true, false, cond, List, Option, None, Some, refl, sym, ap, ◌∙◌, true≢false}
-use Rattle.std.specs.Prelude.{filter, find, not, option_map}
+use Rattle.std.proofs.Common.{◌≡◌, ℕ, Bool, true, false, cond, List, Option, None, Some, refl, ap, ◌∙◌}
+use Rattle.std.specs.Prelude.{find, option_map}
 use Rattle.dgc_client.specs.History as lease_events
 use Rattle.uuid.specs.declared.Uuid.{Uuid}
 use Rattle.sp_connections.specs.Tables.{is_dialled, link_of, seen, to_peer}
 use Rattle.sp_connections.specs.declared.connection.Connection.{Connection as Shown}
-use Rattle.sp_connections.specs.declared.connection.Link.{Link}
 use Rattle.sp_connections.specs.declared.connection.Link.TheVariants.{Dialling, Open}
 use Rattle.sp_rules.specs.Classes.{Setting}
 use Rattle.sp_rules.specs.Endings.{close}

@@ -8,3 +8,4 @@ pub mod Opening
 pub mod Frames
 pub mod Tickets
 pub mod Ends
+pub mod Needs

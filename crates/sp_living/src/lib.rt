@@ -16,6 +16,7 @@ mod holding;
 mod lending;
 mod living;
 mod lookups;
+mod needing;
 mod opening;
 mod passing;
 mod replying;

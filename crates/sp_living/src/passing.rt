@@ -1,7 +1,7 @@
 //! What becomes of frames that were parked: a call starts its task, a result is passed on to who asked, and
 //! either may fail.
 
-ghost use Rattle.std.specs.Prelude.{◌≡◌, ◌∷◌, Bool, List, IfOk, OnOk, not, true, filter, map, option_map};
+ghost use Rattle.std.specs.Prelude.{◌≡◌, ◌∷◌, Bool, List, IfOk, OnOk, not, filter, map, option_map};
 ghost use Rattle.space_ids.specs.declared.ids.Ref.{Ref as Reference};
 ghost use Rattle.space_ids.specs.declared.value.Value.{Value as Carried};
 ghost use Rattle.space_ids.specs.declared.value.Value.TheVariants as values;
@@ -11,7 +11,6 @@ ghost use Rattle.sp_rules.specs.ParkedFrames.{answer_parked, answer_threw, go_fr
 ghost use Rattle.sp_rules.specs.State.{Object, ParkedFrame as Row, State, object_at};
 ghost use Rattle.sp_store.specs.Stores.{IsAfter};
 ghost use Rattle.sp_tasks.specs.Behaviours.{reply_of};
-ghost use Rattle.sp_transport.specs.Transports.{IsTransport};
 ghost use Rattle.sp_living.specs.Frames.{give_up, pass_on, with_parked};
 
 use crate::Living;
@@ -26,7 +25,7 @@ use std::alloc::AllocError;
 
 impl Living {
     ghost use Rattle.sp_living.specs.Livings.{IsLiving};
-    ghost use Rattle.sp_living.specs.Tickets.{AreTicketsOf, IsOurs};
+    ghost use Rattle.sp_living.specs.Tickets.{AreTicketsOf};
 
     // Takes the frames of these tickets out, in this order.
     pub(crate) fn take_frames(&mut self, tickets: &[u64]) -> Result<Vec<ParkedFrame>, AllocError>
@@ -157,23 +156,13 @@ impl Living {
     fn answer_parked(&mut self, conn: u64, number: u64, reply: Reply) -> Result<(), AllocError>
         ensures { OnOk result ((g : Setting) (s : State) (p : Row) → IsLiving g s self.old → p.conn ≡ conn → p.number ≡ number → IsLiving g (answer_parked g p (reply_of reply) s) self.new) }
     {
-        if !self.is_ours(conn) {
+        if !self.is_dialled(conn) {
             return Err(AllocError);
         }
         self.transport.reserve_notes(1)?;
         match self.transport.acknowledge_reserved(conn, number) {
             Some(asker) => self.reply_to(asker, reply),
             None => Ok(()),
-        }
-    }
-
-    // Whether a connection is open that this space dialled.
-    pub(crate) fn is_ours(&self, conn: u64) -> bool
-        ensures { result ≡ true → (s : State) → IsTransport s self.now.transport → IsOurs conn s }
-    {
-        match self.transport.connection(conn) {
-            Some(connection) => connection.dialled.is_some(),
-            None => false,
         }
     }
 

@@ -14,6 +14,7 @@ use std::alloc::AllocError;
 
 impl Living {
     ghost use Rattle.sp_living.specs.Livings.{IsLiving};
+    ghost use Rattle.sp_living.specs.Tickets.{IsOurs};
 
     /// Answers an output that is no frame.
     pub fn say(&mut self, output: Output) -> Result<(), AllocError>
@@ -41,8 +42,9 @@ impl Living {
     }
 
     // Whether a connection is open that this space dialled.
-    fn is_dialled(&self, conn: u64) -> bool
-        ensures { result ≡ false → (s : State) (c : Connection) → IsTransport s self.now.transport → connection_at s conn ≡ Some c → c.dialled ≡ None }
+    pub(crate) fn is_dialled(&self, conn: u64) -> bool
+        ensures ours { result ≡ true → (s : State) → IsTransport s self.now.transport → IsOurs conn s }
+        ensures others { result ≡ false → (s : State) (c : Connection) → IsTransport s self.now.transport → connection_at s conn ≡ Some c → c.dialled ≡ None }
     {
         match self.transport.connection(conn) {
             Some(connection) => connection.dialled.is_some(),

@@ -28,7 +28,7 @@ impl Living {
     ) -> Result<(), AllocError>
         ensures { OnOk result ((g : Setting) (s : State) (c : Line) → IsLiving g s self.old → s.notes ≡ [] → C.tells classes.now g.classes → IsAfter g s.store store.now → connection_at s conn ≡ Some c → IsLiving g (told_by g c true sequence (λ call. DirtyAnswered call period) s) self.new) }
     {
-        if !self.is_ours(conn) {
+        if !self.is_dialled(conn) {
             return Err(AllocError);
         }
         match self.transport.take_group(conn, sequence, true) {
@@ -52,7 +52,7 @@ impl Living {
     ) -> Result<(), AllocError>
         ensures { OnOk result ((g : Setting) (s : State) (c : Line) → IsLiving g s self.old → s.notes ≡ [] → C.tells classes.now g.classes → IsAfter g s.store store.now → connection_at s conn ≡ Some c → IsLiving g (told_by g c false sequence CleanAnswered s) self.new) }
     {
-        if !self.is_ours(conn) {
+        if !self.is_dialled(conn) {
             return Err(AllocError);
         }
         match self.transport.take_group(conn, sequence, false) {

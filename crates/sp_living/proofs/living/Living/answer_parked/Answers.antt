@@ -1,4 +1,4 @@
-use Rattle.std.proofs.Common.{◌≡◌, Option, None, Some, refl, sym, ap, subst, ◌∙◌}
+use Rattle.std.proofs.Common.{Option, refl, sym, subst, ◌∙◌}
 use Rattle.std.specs.Prelude.{find}
 use Rattle.std.proofs.lemmas.Result.{on_ok_weaker}
 use Rattle.sp_rules.specs.Events.{Acks}
@@ -18,7 +18,7 @@ pub returns-in-Some : goal.returns-in-Some
 returns-in-Some c = on_ok_weaker c.reply_to.result (λ replied. λ g s p a at of.
     let conn = c.args.conn in
     let number = c.args.number in
-    let mine = c.is_ours.ensures c.if-not-is_ours.false s a.transport in
+    let mine = c.is_dialled.ensures.ours c.if-not-is_dialled.false s a.transport in
     let t = c.in_ok-reserve_notes.ensures.same s a.transport in
     let by = one-asks c.in-Some.asker (find (is_call_on conn number) s.requests) (sym c.in-Some.is ∙ c.acknowledge_reserved.ensures.asker s mine.row mine.peer t mine.stands mine.dialled) in
     let now = subst (λ (o : Option Request). IsTransport (with_some o s (λ (r : Request). acked conn number s)) c.acknowledge_reserved.new.self) by.there
@@ -31,7 +31,7 @@ pub returns-in-None : goal.returns-in-None
 returns-in-None c = λ g s p a at of.
     let conn = c.args.conn in
     let number = c.args.number in
-    let mine = c.is_ours.ensures c.if-not-is_ours.false s a.transport in
+    let mine = c.is_dialled.ensures.ours c.if-not-is_dialled.false s a.transport in
     let t = c.in_ok-reserve_notes.ensures.same s a.transport in
     let none = none-asks conn number s.requests (sym c.in-None.is ∙ c.acknowledge_reserved.ensures.asker s mine.row mine.peer t mine.stands mine.dialled) in
     let now = subst (λ (o : Option Request). IsTransport (with_some o s (λ (r : Request). acked conn number s)) c.acknowledge_reserved.new.self) none

@@ -1,4 +1,4 @@
-use Rattle.std.proofs.Common.{◌≡◌, ◌≤◌, false, List, get_or, take, length, sym, ap, subst, ◌∙◌, arith}
+use Rattle.std.proofs.Common.{false, List, get_or, take, sym, ap, subst, ◌∙◌, arith}
 use Rattle.std.proofs.lemmas.List.{take_all}
 use Rattle.space_ids.specs.declared.ids.ClassId.{ClassId}
 use Rattle.sp_requests.specs.declared.asked.Asker.TheVariants as asker

@@ -1,9 +1,8 @@
-use Rattle.std.proofs.Common.{◌≡◌, sym, ap, subst, ◌∙◌}
+use Rattle.std.proofs.Common.{sym, ap, subst, ◌∙◌}
 use Rattle.std.proofs.lemmas.Result.{on_ok_weaker}
 use Rattle.space_ids.specs.declared.ids.ClassId.{ClassId}
 use Rattle.sp_rules.specs.Endings.{by_unmarshal, unsent_calls}
 use Rattle.sp_living.specs.Ends.{AreThrown}
-use Rattle.sp_living.specs.declared.ends.Thrown.{Thrown}
 use Rattle.sp_living.proofs.EndLemmas.{thrown-all}
 use Rattle.sp_living.proofs.living.Living.end_connection.Goals as goal
 

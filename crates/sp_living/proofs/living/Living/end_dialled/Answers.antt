@@ -1,4 +1,4 @@
-use Rattle.std.proofs.Common.{◌≡◌, ◌==◌, ℕ, Bool, List, Option, Some, refl, sym, ap, subst, ◌∙◌}
+use Rattle.std.proofs.Common.{◌==◌, Bool, Option, Some, refl, subst}
 use Rattle.std.specs.Prelude.{filter, not}
 use Rattle.std.proofs.lemmas.Result.{on_ok_weaker}
 use Rattle.uuid.specs.declared.Uuid.{Uuid}
@@ -8,7 +8,6 @@ use Rattle.sp_rules.specs.ParkedFrames.{remove_requests}
 use Rattle.sp_rules.specs.State.{State, Connection, ParkedFrame, Request}
 use Rattle.sp_transport.specs.Answers.{AreEnded}
 use Rattle.sp_transport.specs.Transports.{IsTransport}
-use Rattle.sp_living.specs.Livings.{IsLiving}
 use Rattle.sp_living.proofs.LivingLemmas.{moved}
 use Rattle.sp_living.proofs.TableLemmas.{transport-beside}
 use Rattle.sp_living.proofs.living.Living.end_dialled.Goals as goal

@@ -1,4 +1,4 @@
-use Rattle.std.proofs.Common.{◌≡◌, Bool, true, false, cond, [], ◌∷◌, refl, sym, ap, subst, ◌∙◌}
+use Rattle.std.proofs.Common.{◌≡◌, cond, ◌∷◌, refl, sym, ap, subst, ◌∙◌}
 use Rattle.std.specs.Prelude.{◌&&◌, filter, is_none}
 use Rattle.std.proofs.lemmas.Result.{on_ok_weaker}
 use Rattle.dgc_client.specs.History.Event.{DirtyFailed}

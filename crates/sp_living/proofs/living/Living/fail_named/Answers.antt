@@ -1,8 +1,7 @@
-use Rattle.std.proofs.Common.{◌≡◌, ◌≤◌, Bool, List, map, take, length, sym, ap, subst, ◌∙◌, arith}
+use Rattle.std.proofs.Common.{◌≡◌, Bool, List, map, take, sym, ap, subst, ◌∙◌, arith}
 use Rattle.std.specs.Prelude.{filter, not}
 use Rattle.std.proofs.lemmas.List.{take_all}
 use Rattle.sp_parked.specs.Parkings.{parked_of}
-use Rattle.sp_parked.specs.declared.frame.ParkedFrame.{ParkedFrame as Taken}
 use Rattle.sp_rules.specs.Lists.{each}
 use Rattle.sp_rules.specs.ParkedFrames.{fail_parked, names}
 use Rattle.sp_rules.specs.State.{State, ParkedFrame}

@@ -1,8 +1,7 @@
-use Rattle.std.proofs.Common.{◌≡◌, sym, ap, subst, ◌∙◌}
+use Rattle.std.proofs.Common.{sym, ◌∙◌}
 use Rattle.std.proofs.lemmas.Result.{on_ok_weaker}
 use Rattle.sp_rules.specs.Endings.{fail_write, unsent_calls, why_unsent}
 use Rattle.sp_living.specs.Ends.{AreThrown}
-use Rattle.sp_living.specs.declared.ends.Thrown.{Thrown}
 use Rattle.sp_living.proofs.EndLemmas.{thrown-unsent}
 use Rattle.sp_living.proofs.living.Living.fail_write.Goals as goal
 

@@ -1,7 +1,6 @@
-use Rattle.std.proofs.Common.{◌≡◌, Bool, List, map, sym, ap, subst, ◌∙◌}
+use Rattle.std.proofs.Common.{Bool, List, sym, ap, subst, ◌∙◌}
 use Rattle.std.specs.Prelude.{filter, not}
 use Rattle.std.proofs.lemmas.Result.{on_ok_weaker}
-use Rattle.sp_parked.specs.Parkings.{parked_of}
 use Rattle.sp_rules.specs.Lists.{each}
 use Rattle.sp_rules.specs.ParkedFrames.{go, go_all}
 use Rattle.sp_rules.specs.State.{State, ParkedFrame}

@@ -1,4 +1,4 @@
-use Rattle.std.proofs.Common.{◌≡◌, ℕ, true, Option, None, Some, refl, sym, ap, subst, ◌∙◌}
+use Rattle.std.proofs.Common.{true, refl, sym, subst, ◌∙◌}
 use Rattle.std.specs.Prelude.{find}
 use Rattle.std.proofs.lemmas.Result.{on_ok_weaker}
 use Rattle.dgc_client.specs.History.Event.{DirtyAnswered}
@@ -17,7 +17,7 @@ pub returns-in-Some : goal.returns-in-Some
 returns-in-Some w c = on_ok_weaker c.go_all.result (λ gone. λ g s line a quiet tells after there.
     let conn = c.args.conn in
     let sequence = c.args.sequence in
-    let mine = c.is_ours.ensures c.if-not-is_ours.false s a.transport in
+    let mine = c.is_dialled.ensures.ours c.if-not-is_dialled.false s a.transport in
     let out = c.in-Some.told in
     let left = remove_requests (tells_on true conn sequence) s in
     let taken = c.take_group.ensures.taken s mine.row mine.peer a.transport mine.stands mine.dialled in
@@ -31,7 +31,7 @@ pub returns-in-None : goal.returns-in-None
 returns-in-None w c = on_ok_weaker c.close.result (λ closed. λ g s line a quiet tells after there.
     let conn = c.args.conn in
     let sequence = c.args.sequence in
-    let mine = c.is_ours.ensures c.if-not-is_ours.false s a.transport in
+    let mine = c.is_dialled.ensures.ours c.if-not-is_dialled.false s a.transport in
     let none = none-tells true conn sequence s.requests (sym c.in-None.is ∙ c.take_group.ensures.group s mine.row mine.peer a.transport mine.stands mine.dialled) in
     let taken = subst (λ (u : State). IsTransport u c.take_group.new.self) (untold s true conn sequence none) (c.take_group.ensures.taken s mine.row mine.peer a.transport mine.stands mine.dialled) in
     let living = moved g s s c.args.self.now c.take_group.new.self refl (λ t. taken) a in

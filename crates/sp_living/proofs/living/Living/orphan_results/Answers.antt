@@ -1,4 +1,4 @@
-use Rattle.std.proofs.Common.{◌≡◌, ℕ, refl, sym, ap, subst, ◌∙◌, map}
+use Rattle.std.proofs.Common.{ℕ, sym, subst, ◌∙◌, map}
 use Rattle.sp_call_results.specs.Held.{AreCallResults}
 use Rattle.sp_call_results.proofs.RootLemmas.{roots-orphaned}
 use Rattle.sp_rules.specs.Endings.{orphan}

@@ -1,6 +1,6 @@
 use Rattle.std.proofs.Common.{List, refl, subst}
 use Rattle.space_ids.specs.declared.ids.ForeignId.{ForeignId}
-use Rattle.sp_parked.specs.Parkings.{frame_of, parked_of}
+use Rattle.sp_parked.specs.Parkings.{parked_of}
 use Rattle.sp_rules.specs.Holders.{drop_ids}
 use Rattle.sp_rules.specs.ParkedFrames.{go_frame}
 use Rattle.sp_living.specs.Livings.{IsLiving}

@@ -1,4 +1,4 @@
-use Rattle.std.proofs.Common.{◌≡◌, [], Some, refl, sym, ap, subst, ◌∙◌}
+use Rattle.std.proofs.Common.{[], Some, refl, sym, ap, subst, ◌∙◌}
 use Rattle.std.specs.Prelude.{filter}
 use Rattle.std.proofs.lemmas.Result.{on_ok_weaker}
 use Rattle.space_ids.specs.declared.ids.ClassId.{ClassId}
@@ -8,7 +8,6 @@ use Rattle.sp_rules.specs.ParkedFrames.{remove_requests}
 use Rattle.sp_rules.specs.Requests.{waits_for}
 use Rattle.sp_rules.specs.State.{State, Asked}
 use Rattle.sp_living.specs.Ends.{AreThrown}
-use Rattle.sp_living.specs.declared.ends.Thrown.{Thrown}
 use Rattle.sp_living.specs.Livings.{IsLiving}
 use Rattle.sp_living.proofs.EndLemmas.{refused-is, thrown-all}
 use Rattle.sp_living.proofs.LivingLemmas.{moved}
