@@ -1,6 +1,7 @@
 //! Lookups that come, acknowledgements, and dirty and clean calls (Java RMI specification, 6.1 and 9.1).
 
 ghost use Rattle.std.specs.Prelude.{◌≡◌, [], OnOk};
+ghost use Rattle.space_ids.specs.declared.value.Value.TheVariants as values;
 ghost use Rattle.sp_rules.specs.Classes.{Setting};
 ghost use Rattle.sp_rules.specs.Frames.{got_ack, got_clean, got_dirty, got_lookup};
 ghost use Rattle.sp_rules.specs.State.{Connection as Line, State};
@@ -47,19 +48,16 @@ impl SpaceState {
     ) -> Result<(), AllocError>
         ensures { OnOk result ((g : Setting) (s : State) → IsSpace g s self.old → IsSpace g (give_found g conn number id class s) self.new) }
     {
-        let found = Ref {
-            space: self.id,
-            id,
-            class,
-        };
-        self.living.keep(conn, number, Some(Value::Ref(found)))?;
+        let kept = reference(self.id, id, class);
+        self.living.keep(conn, number, Some(kept))?;
+        let given = reference(self.id, id, class);
         self.living.reply(
             Turn::Replies,
             conn,
             Message::Returned {
                 number,
                 fuel: 0,
-                value: Some(Value::Ref(found)),
+                value: Some(given),
             },
         )
     }
@@ -118,4 +116,11 @@ impl SpaceState {
         self.living
             .reply(Turn::Replies, conn, Message::Cleaned { sequence })
     }
+}
+
+// A reference to an object of a space.
+fn reference(space: Uuid, id: ObjId, class: ClassId) -> Value
+    ensures { result ≡ values.Ref (record { space = space; id = id; class = class }) }
+{
+    Value::Ref(Ref { space, id, class })
 }

@@ -1,8 +1,0 @@
-use Rattle.std.proofs.Common.{refl, sym, ap, subst, ◌∙◌}
-use Rattle.sp_state.proofs.calls.SpaceState.park_received.Goals as goal
-
-pub park-requires : goal.park-requires
-park-requires w c = ?
-
-pub returns : goal.returns
-returns w c = ?
