@@ -1,11 +1,15 @@
 -- Answers that come on connections that this space dialled: which rule takes each.
-use Rattle.std.proofs.Common.{◌≡◌, ℕ, nat_le, Bool, true, false, cond, List, [], ◌∷◌, Option, None, Some, refl, sym, ap, subst, ◌∙◌, filter, map, true≢false}
-use Rattle.std.specs.Prelude.{◌&&◌, ◌||◌, not, find, option_and_then}
+use Rattle.std.proofs.Common.{◌≡◌, ℕ, nat_le, Bool, true, false, cond, List, [], ◌∷◌, ◌++◌, Option, None, Some, refl, sym, ap, subst, ◌∙◌, filter, map, true≢false}
+use Rattle.std.specs.Prelude.{◌&&◌, ◌||◌, not, find, fold, option_and_then}
+use Rattle.std.specs.Str.{bytes_eq}
+use Rattle.dgc_client.specs.Table as client
+use Rattle.uuid.specs.declared.Uuid.{Uuid}
 use Rattle.std.specs.List.{list_any}
 use Rattle.net_message.specs.declared.message.Message.{Message}
 use Rattle.net_message.specs.declared.message.Message.TheVariants as message
 use Rattle.space_ids.specs.declared.ids.ClassId.{ClassId}
 use Rattle.space_ids.specs.declared.value.Value.{Value}
+use Rattle.space_ids.specs.declared.value.Value.TheVariants as values
 use Rattle.sp_requests.specs.Asking.{asks_by, first_of}
 use Rattle.sp_requests.specs.declared.asked.Asker.{Asker}
 use Rattle.sp_requests.specs.declared.asked.Asker.TheVariants as asker
@@ -100,3 +104,12 @@ spent-lookup g task (Tells call group) e = cc
 pub none-left : {A : Type 0} (o : Option A) → ((x : A) → o ≡ Some x → ⊥) → o ≡ None
 none-left None no = refl
 none-left (Some x) no = absurd (no x refl)
+
+-- ---- the reference of a result
+
+pub result-foreign : (own : Uuid) (value : Option Value) → fold client.with_reference [] (foreign_ids own (references_in value)) ≡ foreign_ids own (references_in value)
+result-foreign own None = refl
+result-foreign own (Some values.Null) = refl
+result-foreign own (Some (values.Int n)) = refl
+result-foreign own (Some (values.Ints ns)) = refl
+result-foreign own (Some (values.Ref r)) = elim (bytes_eq r.space own) as (λ b. fold client.with_reference [] (cond b [] (record { space = r.space; id = r.id } ∷ []) ++ []) ≡ cond b [] (record { space = r.space; id = r.id } ∷ []) ++ []) [ true ↦ refl | false ↦ refl ]

@@ -141,3 +141,8 @@ release-none g is s none =
 -- a connection is closed by the number of its row
 pub closed-at : (g : Setting) (class : ClassId) (conn : ℕ) (s : State) (c : Connection) (x : SpaceState) → ComesOn conn s c → IsSpace g (close g class conn s) x → IsSpace g (close g class c.number s) x
 closed-at g class conn s c x on is = subst (λ n. IsSpace g (close g class n s) x) (sym on.number) is
+
+-- a connection on which nobody has said Hello
+pub first-peer : (o : Option Uuid) → is_none o ≡ true → o ≡ None
+first-peer None e = refl
+first-peer (Some peer) e = absurd (true≢false (sym e))

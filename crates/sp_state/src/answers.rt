@@ -1,16 +1,19 @@
 //! Answers that come on connections that this space dialled.
 
-ghost use Rattle.std.specs.Prelude.{◌≡◌, [], Some, OnOk, true, false, if◌then◌else◌};
+ghost use Rattle.std.specs.Prelude.{◌≡◌, ◌||◌, [], Some, OnOk, not, true, false, if◌then◌else◌};
+ghost use Rattle.std.specs.List.{list_any};
 ghost use Rattle.dgc_client.specs.History.Event.{CleanAnswered, DirtyAnswered};
 ghost use Rattle.sp_rules.specs.Classes.{Classes, Setting};
-ghost use Rattle.sp_rules.specs.Frames.{answered_by, ends_as, returned_for, spent_reply, thrown_reply, told_by};
+ghost use Rattle.sp_rules.specs.Frames.{answered_by, ends_as, fits_asked, returned_for, spent_reply, thrown_reply, told_by};
+ghost use Rattle.sp_rules.specs.Holders.{is_refused};
+ghost use Rattle.sp_rules.specs.References.{references_in};
 ghost use Rattle.sp_rules.specs.State.{Asked as Question, Connection as Line, State};
 ghost use Rattle.sp_tasks.specs.Behaviours.{reply_of};
 ghost use Rattle.sp_state.specs.Receiving.{IsAskedBy};
 ghost use Rattle.uuid.specs.declared.Uuid.{Uuid as Peer};
 
 use crate::SpaceState;
-use crate::refusing::{add_foreign, fits};
+use crate::refusing::{fits, foreign_in};
 use sp_call_classes::{CallClasses, RemoteException};
 use sp_parked::{Frame, ParkedFrame};
 use sp_requests::Asker;
@@ -37,10 +40,23 @@ impl SpaceState {
         let Some(asker) = self.living.asked(conn, number) else {
             return self.close(classes, RemoteException::Unmarshal, conn);
         };
-        if !fits(&asker, &value, fuel) || self.refuses_result(classes, &value) {
+        if self.is_unfit_result(classes, &asker, &value, fuel) {
             return self.refuse_returned(classes, conn, number, asker);
         }
         self.park_returned(classes, conn, number, fuel, value)
+    }
+
+    // Whether a result does not fit what was asked, or is a reference that is refused.
+    fn is_unfit_result<C: CallClasses>(
+        &self,
+        classes: &C,
+        asker: &Asker,
+        value: &Option<Value>,
+        fuel: u64,
+    ) -> bool
+        ensures { (g : Setting) (s : State) (question : Question) → IsSpace g s self.now → C.tells classes.now g.classes → IsAskedBy asker.now question → result ≡ (not (fits_asked question value.now fuel) || list_any (is_refused g s) (references_in value.now)) }
+    {
+        !fits(asker, value, fuel) || self.refuses_result(classes, value)
     }
 
     // Gives who asked UnmarshalException for a result that does not fit, and acknowledges the result.
@@ -69,10 +85,7 @@ impl SpaceState {
     ) -> Result<(), AllocError>
         ensures { OnOk result ((g : Setting) (s : State) (c : Line) (peer : Peer) → IsSpace g s self.old → C.tells classes.now g.classes → ComesOn conn s c → c.dialled ≡ Some peer → IsSpace g (park_returned g conn number fuel value s) self.new) }
     {
-        let mut references = Vec::new(self.alloc);
-        if let Some(value) = &value {
-            add_foreign(&self.id, value, &mut references)?;
-        }
+        let references = foreign_in(self.alloc, &self.id, &value)?;
         self.living.answer(conn, number);
         let frame = ParkedFrame {
             conn,

@@ -44,11 +44,13 @@ impl SpaceState {
     ) -> Result<(), AllocError>
         ensures { OnOk result ((g : Setting) (s : State) (c : Line) → IsSpace g s self.old → s.notes ≡ [] → C.tells classes.now g.classes → ComesOn conn s c → connection ≡ seen c → IsSpace g (receive g c message s) self.new) }
     {
-        if connection.peer.is_none() {
+        let is_first = connection.peer.is_none();
+        if is_first {
             return self.first_frame(classes, conn, connection.dialled, message);
         }
         let asks = is_asking(&message);
-        if is_wrong_way(asks, connection.dialled.is_some()) {
+        let dialled = connection.dialled.is_some();
+        if is_wrong_way(asks, dialled) {
             return self.close(classes, RemoteException::Unmarshal, conn);
         }
         if asks {

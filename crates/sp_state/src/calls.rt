@@ -1,10 +1,13 @@
 //! Calls that come.
 
-ghost use Rattle.std.specs.Prelude.{◌≡◌, ℕ, [], IfOk, OnOk, None};
+ghost use Rattle.std.specs.Prelude.{◌≡◌, ◌||◌, ℕ, [], IfOk, OnOk, None, not};
+ghost use Rattle.std.specs.List.{list_any};
 ghost use Rattle.sp_call_classes.specs.Thrown.{thrown_class};
-ghost use Rattle.sp_rules.specs.Classes.{Setting};
+ghost use Rattle.sp_rules.specs.Classes.{Setting, fit_kinds};
 ghost use Rattle.sp_rules.specs.Frames.{call_on, got_call};
+ghost use Rattle.sp_rules.specs.Holders.{is_refused};
 ghost use Rattle.sp_rules.specs.ParkedFrames.{answer_threw};
+ghost use Rattle.sp_rules.specs.References.{references_of};
 ghost use Rattle.sp_rules.specs.State.{Connection as Line, State, object_at};
 
 use crate::SpaceState;
@@ -13,7 +16,7 @@ use net_message::Message;
 use sp_call_classes::{CallClasses, RemoteException};
 use sp_outputs::Turn;
 use sp_parked::{Frame, ParkedCall, ParkedFrame};
-use space_ids::Row;
+use space_ids::{ClassId, Row};
 use std::alloc::AllocError;
 
 impl SpaceState {
@@ -53,17 +56,24 @@ impl SpaceState {
         let Some(class) = self.owner.class_of(call.target) else {
             return Ok(Some(RemoteException::NoSuchObject));
         };
-        let arguments = call.arguments.as_slice();
-        if !classes.may_call(class, call.method)
-            || !classes.takes(call.method, arguments)
-            || self.refuses_any(classes, arguments)
-        {
+        if self.is_unfit(classes, class, call) {
             return Ok(Some(RemoteException::Unmarshal));
         }
-        if self.living.is_busy()? {
+        let busy = self.living.is_busy()?;
+        if busy {
             return Ok(Some(RemoteException::ServerError));
         }
         Ok(None)
+    }
+
+    // Whether a call on an object of a class does not fit: the class has no such method, the arguments are not
+    // of its kinds, or a reference among them is refused.
+    fn is_unfit<C: CallClasses>(&self, classes: &C, class: ClassId, call: &ParkedCall) -> bool
+        ensures { (g : Setting) (s : State) → IsSpace g s self.now → C.tells classes.now g.classes → result ≡ (not (g.classes.may_call class call.now.method) || (not (fit_kinds (g.classes.parameters call.now.method) call.now.arguments) || list_any (is_refused g s) (references_of call.now.arguments))) }
+    {
+        let arguments = call.arguments.as_slice();
+        !classes.may_call(class, call.method)
+            || (!classes.takes(call.method, arguments) || self.refuses_any(classes, arguments))
     }
 
     // Answers a call or lookup that came by an exception.

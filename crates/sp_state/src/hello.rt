@@ -1,6 +1,7 @@
 //! The first frame of a connection. (This project's own protocol.)
 
-ghost use Rattle.std.specs.Prelude.{◌≡◌, [], None, Some, OnOk};
+ghost use Rattle.std.specs.Prelude.{◌≡◌, ◌&&◌, [], None, Some, OnOk};
+ghost use Rattle.std.specs.Str.{bytes_eq};
 ghost use Rattle.sp_rules.specs.Classes.{Setting};
 ghost use Rattle.sp_rules.specs.Frames.{first_frame};
 ghost use Rattle.sp_rules.specs.State.{Connection as Line, State};
@@ -53,11 +54,11 @@ impl SpaceState {
     ) -> Result<(), AllocError>
         ensures { OnOk result ((g : Setting) (s : State) (c : Line) → IsSpace g s self.old → s.notes ≡ [] → C.tells classes.now g.classes → ComesOn conn s c → c.dialled ≡ None → IsSpace g (take_hello g c hello s) self.new) }
     {
-        if hello.digest != self.digest {
-            return self.close(classes, RemoteException::Unmarshal, conn);
+        if self.has_digest(&hello) {
+            self.living.greet(conn, hello.space);
+            return Ok(());
         }
-        self.living.greet(conn, hello.space);
-        Ok(())
+        self.close(classes, RemoteException::Unmarshal, conn)
     }
 
     // Takes the Hello of a peer that this space dialled. What waits for it goes out.
@@ -70,10 +71,24 @@ impl SpaceState {
     ) -> Result<(), AllocError>
         ensures { OnOk result ((g : Setting) (s : State) (c : Line) → IsSpace g s self.old → s.notes ≡ [] → C.tells classes.now g.classes → ComesOn conn s c → c.dialled ≡ Some peer.now → c.peer ≡ None → IsSpace g (take_hello g c hello s) self.new) }
     {
-        if hello.digest != self.digest || hello.space != *peer {
-            return self.close(classes, RemoteException::Connect, conn);
+        if self.is_of(&hello, peer) {
+            return self.living.flush_waiting(peer, conn);
         }
-        self.living.flush_waiting(peer, conn)
+        self.close(classes, RemoteException::Connect, conn)
+    }
+
+    // Whether a Hello is over the same class files.
+    fn has_digest(&self, hello: &Hello) -> bool
+        ensures { (g : Setting) (s : State) → IsSpace g s self.now → result ≡ bytes_eq hello.now.digest g.digest }
+    {
+        hello.digest == self.digest
+    }
+
+    // Whether a Hello is of this peer, over the same class files.
+    fn is_of(&self, hello: &Hello, peer: &Uuid) -> bool
+        ensures { (g : Setting) (s : State) → IsSpace g s self.now → result ≡ (bytes_eq hello.now.digest g.digest && bytes_eq hello.now.space peer.now) }
+    {
+        self.has_digest(hello) && hello.space == *peer
     }
 }
 

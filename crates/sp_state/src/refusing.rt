@@ -113,8 +113,27 @@ pub(crate) fn foreign_among(
     Ok(ids)
 }
 
+// The foreign reference that a result is, if it is one.
+pub(crate) fn foreign_in(
+    alloc: Global,
+    own: &Uuid,
+    value: &Option<Value>,
+) -> Result<Vec<ForeignId>, AllocError>
+    ensures foreign { IfOk result (λ ids. ids.items ≡ fold with_reference [] (foreign_ids own.now (references_in value.now))) }
+    ensures distinct { IfOk result (λ ids. IsDistinct is_same ids.items) }
+{
+    let mut ids = Vec::new(alloc);
+    match value {
+        Some(value) => {
+            add_foreign(own, value, &mut ids)?;
+            Ok(ids)
+        }
+        None => Ok(ids),
+    }
+}
+
 // Adds the reference that a value is, if it is foreign and not there.
-pub(crate) fn add_foreign(
+fn add_foreign(
     own: &Uuid,
     value: &Value,
     ids: &mut Vec<ForeignId>,
