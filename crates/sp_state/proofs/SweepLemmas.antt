@@ -1,5 +1,5 @@
 -- What a Sweep withdraws, by ids.
-use Rattle.std.proofs.Common.{◌≡◌, ℕ, ◌+◌, ◌<◌, ◌≤◌, arith, Bool, true, false, cond, List, [], ◌∷◌, ◌++◌, Option, None, Some, refl, sym, ap, subst, ◌∙◌, filter, map, unwrap_or, true≢false, append_assoc}
+use Rattle.std.proofs.Common.{◌≡◌, ℕ, ◌+◌, ◌<◌, ◌≤◌, arith, Bool, true, false, cond, List, [], ◌∷◌, ◌++◌, Option, None, Some, refl, sym, ap, subst, ◌∙◌, filter, length, map, unwrap_or, true≢false, append_assoc}
 use Rattle.std.specs.Prelude.{◌||◌, ◌==◌, not, option_map, find}
 use Rattle.std.specs.List.{flat_map}
 use Rattle.std.proofs.lemmas.Bool.{eq-eqb, eqb-true}
@@ -20,6 +20,7 @@ use Rattle.sp_rules.proofs.AllLemmas.{all-filter}
 use Rattle.sp_owner.specs.Owners.{idle, owner_parts, without}
 use Rattle.sp_living.specs.Needs.{is_needed}
 use Rattle.sp_state.specs.Spaces.{AreNumbered}
+use Rattle.sp_state.proofs.SpaceLemmas.{with_owner}
 use Rattle.sp_state.specs.Sweeping.{fields_at, idle_of, withdrawn}
 
 -- ---- what has no reason to stay
@@ -146,3 +147,17 @@ without-numbered [] s is = forgotten-numbered [] s is
 without-numbered (id ∷ ids) s is =
     forgotten-numbered (id ∷ ids) (record s { store = Gone (id ∷ ids) ∷ s.store })
     (numbers-left 0 s.objects_made (λ (o : Object). not (is_id_in (id ∷ ids) o.id)) (standing s.store) is)
+
+forgotten-still : (ids : List ObjId) (u : State) → with_owner (owner_parts (each (λ t id. tell_owner (owner.Forget id) t) ids u)) u ≡ each (λ t id. tell_owner (owner.Forget id) t) ids u
+unfolding each
+forgotten-still [] u = refl
+forgotten-still (id ∷ ids) u = forgotten-still ids (tell_owner (owner.Forget id) u)
+
+-- Withdrawal changes the owner's parts alone.
+pub without-still : (ids : List ObjId) (s : State) → with_owner (owner_parts (without ids s)) s ≡ without ids s
+without-still [] s = forgotten-still [] s
+without-still (id ∷ ids) s = forgotten-still (id ∷ ids) (record s { store = Gone (id ∷ ids) ∷ s.store })
+
+pub not-empty : {A : Type 0} (xs : List A) → length xs ≡ 0 → xs ≡ []
+not-empty [] e = refl
+not-empty (x ∷ xs) e = absurd (omega (arith, e))

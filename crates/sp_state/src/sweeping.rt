@@ -24,7 +24,8 @@ impl SpaceState {
         ensures { OnOk result ((g : Setting) (s : State) → IsSpace g s self.old → IsSpace g (on_sweep g s) self.new) }
     {
         let ids = self.idle()?;
-        if ids.is_empty() {
+        let is_none = ids.is_empty();
+        if is_none {
             return Ok(());
         }
         self.withdraw(ids)
@@ -36,16 +37,19 @@ impl SpaceState {
     {
         let mut needed = IdSet::new(self.alloc);
         self.living.insert_own(&mut needed)?;
-        self.owner.idle(needed)
+        let ids = self.owner.idle(needed)?;
+        Ok(ids)
     }
 
     // Withdraws these objects.
     fn withdraw(&mut self, ids: Vec<ObjId>) -> Result<(), AllocError>
         ensures { OnOk result ((g : Setting) (s : State) → IsSpace g s self.old → IsSpace g (withdrawn g ids.items s) self.new) }
     {
-        let references = self.references_of(&ids)?;
-        self.owner.withdraw(&ids)?;
-        self.living.drop_holders(&references);
+        let gone = ids.as_slice();
+        let references = self.references_of(gone)?;
+        self.owner.withdraw(gone)?;
+        let dropped = references.as_slice();
+        self.living.drop_holders(dropped);
         self.living.say(Output::Withdrawn(Row::new(ids)))
     }
 

@@ -1,15 +1,15 @@
-use Rattle.std.proofs.Common.{List, [], sym, subst, ◌∙◌}
+use Rattle.std.proofs.Common.{List, [], sym, ap, subst, ◌∙◌, length, true≢false}
 use Rattle.std.proofs.lemmas.Result.{on_ok_weaker}
 use Rattle.space_ids.specs.declared.ids.ObjId.{ObjId}
 use Rattle.sp_rules.specs.OwnEvents.{on_sweep}
 use Rattle.sp_state.specs.Spaces.{IsSpace}
 use Rattle.sp_state.specs.Sweeping.{idle_of, withdrawn}
 use Rattle.sp_state.proofs.FrameLemmas.{space-is}
-use Rattle.sp_state.proofs.SweepLemmas.{nothing-goes, some-go}
+use Rattle.sp_state.proofs.SweepLemmas.{not-empty, nothing-goes, some-go}
 use Rattle.sp_state.proofs.space_state.SpaceState.sweep.Goals as goal
 
-pub returns-then-is_empty-ids : goal.returns-then-is_empty-ids
-returns-then-is_empty-ids c = λ g s is.
+pub returns-then-is_none : goal.returns-then-is_none
+returns-then-is_none c = λ g s is.
     space-is g s (on_sweep g s) c.args.self.now (nothing-goes g s (sym (c.in_ok-ids.ensures g s is) ∙ ?)) is
 
 pub returns : goal.returns
