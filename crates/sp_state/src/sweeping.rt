@@ -24,8 +24,8 @@ impl SpaceState {
         ensures { OnOk result ((g : Setting) (s : State) → IsSpace g s self.old → IsSpace g (on_sweep g s) self.new) }
     {
         let ids = self.idle()?;
-        let is_none = ids.is_empty();
-        if is_none {
+        let count = ids.len();
+        if count == 0 {
             return Ok(());
         }
         self.withdraw(ids)
