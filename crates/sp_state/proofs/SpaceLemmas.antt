@@ -1,5 +1,5 @@
 -- The state of a space, as what it keeps for others and what lives in it change one by one.
-use Rattle.std.proofs.Common.{◌≡◌, ℕ, ◌+◌, ◌≤◌, ◌<◌, nat_lt, arith, cond, true, false, List, [], ◌∷◌, Option, None, Some, refl, sym, ap, subst, ◌∙◌}
+use Rattle.std.proofs.Common.{◌≡◌, ℕ, ◌+◌, ◌≤◌, ◌<◌, nat_lt, lit≤, arith, cond, true, false, List, [], ◌∷◌, Option, None, Some, refl, sym, ap, subst, ◌∙◌}
 use Rattle.std.proofs.lemmas.Bool.Decides.{nat_tests}
 use Rattle.dgc_client.specs.Table as client
 use Rattle.dgc_list.specs.History as owner
@@ -7,14 +7,18 @@ use Rattle.uuid.specs.declared.Uuid.{Uuid}
 use Rattle.std.specs.Prelude.{Result, Ok, Err}
 use Rattle.sp_registry.specs.declared.fault.RegistryFault.{RegistryFault}
 use Rattle.sp_registry.specs.declared.registry.Binding.{Binding}
+use Rattle.sp_rules.specs.Behaviours.{Op, Create, Get, Put, Call}
 use Rattle.sp_rules.specs.Classes.{Setting}
 use Rattle.sp_registry.specs.Names.{is_name}
 use Rattle.sp_registry.specs.declared.fault.RegistryFault.TheVariants.{BadName}
 use Rattle.sp_rules.specs.Events.{Denied, Started}
 use Rattle.sp_rules.specs.Frames.{release}
+use Rattle.sp_rules.specs.Lists.{with_some}
+use Rattle.sp_rules.specs.LivingTasks.{park_at, park_call, park_op}
+use Rattle.sp_rules.specs.Tasks.{Stand, Runs, AsksFor, HasEnded, stand, steps}
 use Rattle.sp_rules.specs.OwnEvents.{is_over_at, on_lookup, on_moment, set_names}
 use Rattle.sp_rules.specs.Space.{finish_event}
-use Rattle.sp_rules.specs.State.{State, LooksUp, Waits, say, tell_owner}
+use Rattle.sp_rules.specs.State.{State, Living as Task, LooksUp, Waits, opening, ready_at, say, tell_owner}
 use Rattle.sp_rules.proofs.Stable.{Core, finish_event_keeps}
 use Rattle.sp_owner.specs.Owners.{IsOwner, KeepsParts, OwnerParts, denied, owner_parts}
 use Rattle.sp_owner.specs.declared.owner.Owner.{Owner}
@@ -60,6 +64,11 @@ living-still g p s l is = record {
   results = is.results;
   parked = is.parked;
 }
+
+-- a space begins with no object
+pub opening-numbered : AreNumbered (owner_parts opening)
+unfolding opening
+opening-numbered = lit≤ tt
 
 -- ---- names
 
@@ -116,3 +125,24 @@ late g moment s h =
     let after : State = record s { moment = moment; owner = record s.owner { entries = owner.Moment moment ∷ s.owner.entries }; leases = client.At moment ∷ s.leases } in
     let early : nat_lt moment s.moment ≡ true = grind (arith, nat_tests) in
     ap (λ b. cond b s (release g (is_over_at moment) after)) early
+
+-- ---- lent tasks
+
+pub park-parts : (g : Setting) (id k : ℕ) (s : State) → owner_parts (park_call g id k s) ≡ owner_parts s
+unfolding park_call
+park-parts g id k s = of (ready_at s id)
+  where
+    parks : (t : Task) (op : Op) → owner_parts (park_op g id k t op s) ≡ owner_parts s
+    parks t (Create class) = refl
+    parks t (Get o slot) = refl
+    parks t (Put o slot value) = refl
+    parks t (Call target method arguments) = refl
+
+    at : (t : Task) (stands : Stand) → owner_parts (park_at g id k t stands s) ≡ owner_parts s
+    at t Runs = refl
+    at t (AsksFor op) = parks t op
+    at t (HasEnded outcome) = refl
+
+    of : (o : Option Task) → owner_parts (with_some o s (λ (t : Task). park_at g id k t (stand (steps k t.task)) s)) ≡ owner_parts s
+    of None = refl
+    of (Some t) = at t (stand (steps k t.task))

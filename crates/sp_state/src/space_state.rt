@@ -38,12 +38,14 @@ impl SpaceState {
     pub fn new(alloc: Global, id: Uuid, digest: Digest) -> Result<SpaceState, AllocError>
         ensures { IfOk result (λ space. (g : Setting) → g.id ≡ id → g.digest ≡ digest → IsSpace g opening space) }
     {
+        let owner = Owner::new(alloc, id)?;
+        let living = Living::new(alloc, id)?;
         Ok(SpaceState {
             alloc,
             id,
             digest,
-            owner: Owner::new(alloc, id)?,
-            living: Living::new(alloc, id)?,
+            owner,
+            living,
         })
     }
 
