@@ -102,8 +102,8 @@ spent-lookup g task (Tells call group) e = cc
 
 -- what is none of these is none
 pub none-left : {A : Type 0} (o : Option A) → ((x : A) → o ≡ Some x → ⊥) → o ≡ None
-none-left None no = refl
-none-left (Some x) no = absurd (no x refl)
+none-left None never = refl
+none-left (Some x) never = absurd (never x refl)
 
 -- ---- the reference of a result
 

@@ -1,5 +1,5 @@
 -- After each event that answers, the event may end: all that it noted stands before what is noted then.
-use Rattle.std.proofs.Common.{◌≡◌, ℕ, ◌+◌, Bool, true, false, cond, List, [], ◌∷◌, ◌++◌, Option, None, Some, refl, sym, ap, subst, ◌∙◌, true≢false}
+use Rattle.std.proofs.Common.{◌≡◌, ℕ, ◌+◌, Bool, true, false, cond, List, [], ◌∷◌, ◌++◌, Option, None, Some, refl, sym, ap, subst, ◌∙◌, map, true≢false}
 use Rattle.std.specs.Prelude.{◌||◌, ◌&&◌, Result, Ok, Err, is_none, is_some, nat_lt}
 use Rattle.dgc_client.specs.Table as client
 use Rattle.dgc_list.specs.History as owner
@@ -25,7 +25,7 @@ use Rattle.sp_rules.specs.LivingTasks
 use Rattle.sp_rules.specs.OwnEvents
 use Rattle.sp_rules.specs.References.{references_of, foreign_ids}
 use Rattle.sp_rules.specs.Space.{answers_outputs, happen}
-use Rattle.sp_rules.specs.State.{State, Connection, Living, LooksUp, Object, OfRoot, Waits, connection_at, ready_at, say, tell_owner}
+use Rattle.sp_rules.specs.State.{State, Connection, Gone, Living, LooksUp, Object, OfRoot, Waits, connection_at, ready_at, say, tell_owner}
 use Rattle.sp_rules.specs.Tasks.{Stand, Runs, AsksFor, HasEnded, stand, steps}
 use Rattle.sp_rules.proofs.AllLemmas.{all-more}
 use Rattle.sp_transport.specs.Said.{IsNotAfter, IsNotAfterButAcks}
@@ -64,9 +64,14 @@ unfolding OwnEvents.on_sweep
 sweep-may g s may = sweeps (OwnEvents.without_reason g s)
   where
     withdraws : (gone : List Object) → QuietLemmas.MayEnd (OwnEvents.withdraw g s gone)
-    withdraws gone = said g _ (Withdrawn _)
-        (QuietLemmas.each_keeps (QuietLemmas.may-end-quiet g) (λ t (o : Object). drop g (references_of (fields_of g s o)) t) gone (λ t o h. QuietLemmas.drop_keeps (QuietLemmas.may-end-quiet g) {s = t} (foreign_ids g.id (references_of (fields_of g s o))) h)
-        (QuietLemmas.each_keeps (QuietLemmas.may-end-quiet g) (λ t id. tell_owner (owner.Forget id) t) _ (λ t id h. h) may))
+    withdraws gone =
+        let ids = map (λ (o : Object). o.id) gone in
+        let begun : State = record s { store = Gone ids ∷ s.store } in
+        let left : State = each (λ t id. tell_owner (owner.Forget id) t) ids begun in
+        let dropped : State = each (λ t (o : Object). drop g (references_of (fields_of g s o)) t) gone left in
+        said g dropped (Withdrawn ids)
+        (QuietLemmas.each_keeps (QuietLemmas.may-end-quiet g) {s = left} (λ t (o : Object). drop g (references_of (fields_of g s o)) t) gone (λ t o h. QuietLemmas.drop_keeps (QuietLemmas.may-end-quiet g) {s = t} (foreign_ids g.id (references_of (fields_of g s o))) h)
+        (QuietLemmas.each_keeps (QuietLemmas.may-end-quiet g) {s = begun} (λ t id. tell_owner (owner.Forget id) t) ids (λ t id h. h) may))
 
     sweeps : (gone : List Object) → QuietLemmas.MayEnd (OwnEvents.sweep_of g s gone)
     sweeps [] = may

@@ -1,6 +1,6 @@
 -- Frames as they come on a connection: which rule takes each.
 use Rattle.std.proofs.Common.{◌≡◌, ℕ, nat_le, Bool, true, false, cond, List, [], ◌∷◌, Option, None, Some, refl, sym, ap, subst, ◌∙◌, filter, unwrap_or, true≢false}
-use Rattle.std.specs.Prelude.{◌&&◌, is_none, is_some, not, option_map, find}
+use Rattle.std.specs.Prelude.{◌&&◌, ◌||◌, is_none, is_some, not, option_map, find}
 use Rattle.std.specs.List.{list_any}
 use Rattle.std.specs.Str.{bytes_eq}
 use Rattle.net_message.specs.declared.message.Message.{Message}
@@ -124,19 +124,25 @@ hello-other g c hello s peer is other =
 
 -- ---- results
 
-no-others : {A : Type 0} (is : A → Bool) (xs : List A) → list_any is xs ≡ false → (filter is xs ≡ []) × (filter (λ x. not (is x)) xs ≡ xs)
-no-others is [] none = (refl, refl)
-no-others is (x ∷ xs) none = elim (is x) as (λ b. cond b true (list_any is xs) ≡ false → (cond b (x ∷ filter is xs) (filter is xs) ≡ []) × (cond (not b) (x ∷ filter (λ y. not (is y)) xs) (filter (λ y. not (is y)) xs) ≡ x ∷ xs)) [
+none-of : {A : Type 0} (is : A → Bool) (xs : List A) → list_any is xs ≡ false → filter is xs ≡ []
+none-of is [] none = refl
+none-of is (x ∷ xs) none = elim (is x) as (λ b. (b || list_any is xs) ≡ false → cond b (x ∷ filter is xs) (filter is xs) ≡ []) [
   | true ↦ λ e. absurd (true≢false e)
-  | false ↦ λ e. let more = no-others is xs e in (more.0, ap (λ ys. x ∷ ys) more.1)
+  | false ↦ λ e. none-of is xs e
+] none
+
+all-others : {A : Type 0} (is : A → Bool) (xs : List A) → list_any is xs ≡ false → filter (λ x. not (is x)) xs ≡ xs
+all-others is [] none = refl
+all-others is (x ∷ xs) none = elim (is x) as (λ b. (b || list_any is xs) ≡ false → cond (not b) (x ∷ filter (λ y. not (is y)) xs) (filter (λ y. not (is y)) xs) ≡ x ∷ xs) [
+  | true ↦ λ e. absurd (true≢false e)
+  | false ↦ λ e. ap (λ ys. x ∷ ys) (all-others is xs e)
 ] none
 
 -- If no such result is held, none is let go.
 pub release-none : (g : Setting) (is : KeptResult → Bool) (s : State) → list_any is s.results ≡ false → release g is s ≡ s
 unfolding release each
 release-none g is s none =
-    let none-is = no-others is s.results none in
-    λ j. each (let_go g) (none-is.0 j) (record s { results = none-is.1 j })
+    λ j. each (let_go g) (none-of is s.results none j) (record s { results = all-others is s.results none j })
 
 -- a connection is closed by the number of its row
 pub closed-at : (g : Setting) (class : ClassId) (conn : ℕ) (s : State) (c : Connection) (x : SpaceState) → ComesOn conn s c → IsSpace g (close g class conn s) x → IsSpace g (close g class c.number s) x

@@ -19,14 +19,14 @@ use Rattle.sp_rules.specs.Tasks.{Stand, Runs, AsksFor, HasEnded, stand, steps}
 use Rattle.sp_rules.specs.OwnEvents.{is_over_at, on_lookup, on_moment, set_names}
 use Rattle.sp_rules.specs.Space.{finish_event}
 use Rattle.sp_rules.specs.State.{State, Living as Task, LooksUp, Waits, opening, ready_at, say, tell_owner}
-use Rattle.sp_rules.proofs.Stable.{Core, finish_event_keeps}
+use Rattle.sp_rules.proofs.Stable.{Core, IsFramed, finish_event_keeps}
 use Rattle.sp_owner.specs.Owners.{IsOwner, KeepsParts, OwnerParts, denied, owner_parts}
 use Rattle.sp_owner.specs.declared.owner.Owner.{Owner}
 use Rattle.sp_living.specs.Livings.{IsLiving}
 use Rattle.sp_living.specs.declared.living.Living.{Living}
 use Rattle.sp_state.specs.Denying.{told_denied}
 use Rattle.sp_state.specs.Spaces.{AreNumbered, IsSpace}
-use Rattle.sp_state.proofs.QuietLemmas.{parts-quiet, release_keeps}
+use Rattle.sp_state.proofs.QuietLemmas.{HasParts, parts-quiet, release_keeps}
 use Rattle.sp_state.specs.declared.space_state.SpaceState.{SpaceState}
 
 -- ---- the two halves
@@ -103,11 +103,15 @@ unfolding on_lookup
 denied-name g peer name s bad = ap (λ b. cond b (with_lookup peer name s) (say (Denied BadName) s)) bad
 
 -- the end of an event
+parts_in : Core → OwnerParts
+parts_in c = record { store = c.store; objects_made = c.objects_made; names = c.owner.names; entries = c.owner.entries }
+
+parts-framed : (p : OwnerParts) → IsFramed (HasParts p)
+unfolding parts_in
+parts-framed p = record { frame = λ s t same h. ap parts_in same ∙ h }
+
 pub finished-parts : (s : State) → owner_parts (finish_event true s).0 ≡ owner_parts s
-finished-parts s = finish_event_keeps (record { frame = λ t u same h. ap parts_in same ∙ h }) {s = s} true refl
-  where
-    parts_in : Core → OwnerParts
-    parts_in c = record { store = c.store; objects_made = c.objects_made; names = c.owner.names; entries = c.owner.entries }
+finished-parts s = finish_event_keeps (parts-framed (owner_parts s)) {s = s} true refl
 
 -- ---- moments
 

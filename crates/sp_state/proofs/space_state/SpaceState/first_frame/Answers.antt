@@ -21,8 +21,8 @@ returns-in-Some-dialled w c = on_ok_weaker c.hello_of_dialled.result (λ now. λ
     space-is g (take_hello g row hello s) (first_frame g row m s) c.hello_of_dialled.new.self (first-hello g row m s hello (sym c.in-Some.is ∙ c.hello_in.ensures))
     (now g s row is silent tells on (dialled ∙ c.in-Some-dialled.is) fresh)) c.hello_of_dialled.ensures
 
-pub returns-in-None : goal.returns-in-None
-returns-in-None w c = on_ok_weaker c.hello.result (λ now. λ g s row is silent tells on dialled fresh.
+pub returns : goal.returns
+returns w c = on_ok_weaker c.hello.result (λ now. λ g s row is silent tells on dialled fresh.
     let m = c.args.message in
     let hello = c.in-Some.hello in
     space-is g (take_hello g row hello s) (first_frame g row m s) c.hello.new.self (first-hello g row m s hello (sym c.in-Some.is ∙ c.hello_in.ensures))

@@ -12,8 +12,8 @@ use Rattle.sp_state.proofs.FrameLemmas.{closed-at, space-is}
 use Rattle.sp_state.proofs.SpaceLemmas.{quiet}
 use Rattle.sp_state.proofs.space_state.SpaceState.got_lookup.Goals as goal
 
-pub returns-then-last-number : goal.returns-then-last-number
-returns-then-last-number w c = on_ok_weaker c.close.result (λ now. λ g s row is silent tells on last.
+pub returns-then-number-le-last : goal.returns-then-number-le-last
+returns-then-number-le-last w c = on_ok_weaker c.close.result (λ now. λ g s row is silent tells on last.
     let late : nat_le c.args.number row.last ≡ true = ap (nat_le c.args.number) last ∙ grind (arith, nat_tests) in
     space-is g (close g g.classes.unmarshal row.number s) (got_lookup g row c.args.number c.args.name.now s) c.close.new.self
     (looked-late g row c.args.number c.args.name.now s late)

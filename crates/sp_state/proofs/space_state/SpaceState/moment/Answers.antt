@@ -7,16 +7,16 @@ use Rattle.sp_state.proofs.FrameLemmas.{space-is}
 use Rattle.sp_state.proofs.SpaceLemmas.{late, moment-parts}
 use Rattle.sp_state.proofs.space_state.SpaceState.moment.Goals as goal
 
-pub returns-then-last-moment : goal.returns-then-last-moment
-returns-then-last-moment c = λ g s is.
+pub returns-then-moment-last : goal.returns-then-moment-last
+returns-then-moment-last c = λ g s is.
     let last = c.moment-last.ensures g s is.living in
-    let before : c.args.moment < s.moment = omega (arith, last, c.if-last-moment.true) in
+    let before : c.args.moment < s.moment = omega (arith, last, c.if-moment-last.true) in
     space-is g s (on_moment g c.args.moment s) c.args.self.now (late g c.args.moment s before) is
 
 pub returns : goal.returns
 returns c = on_ok_weaker c.pass_moment.result (λ passed. λ g s is.
     let last = c.moment-last.ensures g s is.living in
-    let after : s.moment ≤ c.args.moment = omega (arith, last, c.if-last-moment.false) in
+    let after : s.moment ≤ c.args.moment = omega (arith, last, c.if-moment-last.false) in
     record {
       id = is.id;
       digest = is.digest;

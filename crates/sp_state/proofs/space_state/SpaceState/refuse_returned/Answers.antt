@@ -1,6 +1,7 @@
 use Rattle.std.proofs.Common.{Some, refl, sym, ap, subst, ◌∙◌}
 use Rattle.std.specs.Prelude.{find}
 use Rattle.std.proofs.lemmas.Result.{on_ok_weaker}
+use Rattle.space_ids.specs.declared.ids.ClassId.{ClassId}
 use Rattle.sp_rules.specs.Behaviours.{Reply, Throws}
 use Rattle.sp_rules.specs.Endings.{close}
 use Rattle.sp_rules.specs.Frames.{answered_by, ends_as, returned_for, spent_reply, thrown_reply}
@@ -31,4 +32,4 @@ returns w c = on_ok_weaker c.reply_to.result (λ replied. λ g s row peer questi
     let now = quiet g s (reply_to g question (Throws c.thrown-class.result) left) c.args.self.now c.reply_to.new.self
     (reply_to_keeps (parts-quiet g (owner_parts s)) {s = left} question (Throws c.thrown-class.result) parts)
     (replied g left question (c.in_ok-acknowledge.ensures g s row peer is.living on.there dialled) asks) is in
-    subst (λ k. IsSpace g (reply_to g question (Throws k) left) _) class now) c.reply_to.ensures
+    subst (λ (k : ClassId). IsSpace g (reply_to g question (Throws k) left) (record c.args.self.now { living = c.reply_to.new.self })) class now) c.reply_to.ensures
