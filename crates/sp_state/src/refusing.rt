@@ -133,11 +133,7 @@ pub(crate) fn foreign_in(
 }
 
 // Adds the reference that a value is, if it is foreign and not there.
-fn add_foreign(
-    own: &Uuid,
-    value: &Value,
-    ids: &mut Vec<ForeignId>,
-) -> Result<(), AllocError>
+fn add_foreign(own: &Uuid, value: &Value, ids: &mut Vec<ForeignId>) -> Result<(), AllocError>
     requires { IsDistinct is_same ids.old.items }
     ensures added { OnOk result (ids.new.items ≡ fold with_reference ids.old.items (foreign_ids own.now (reference_of value.now))) }
     ensures distinct { OnOk result (IsDistinct is_same ids.new.items) }

@@ -8,5 +8,5 @@ use Rattle.sp_state.proofs.refusing.foreign_among.Given as goal
 abbrev pub invariant-loop-value : goal.invariant-loop-value
 invariant-loop-value l = record {
   foreign : l.ids.items ≡ fold with_reference [] (foreign_ids l.own (references_of (take l.value-index l.values)));
-  distinct : IsDistinct is_same l.ids.items
+  distinct : IsDistinct is_same l.ids.items;
 }

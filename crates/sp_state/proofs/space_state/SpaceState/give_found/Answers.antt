@@ -24,7 +24,7 @@ returns c = on_ok_weaker c.reply.result (λ replied. λ g s is.
     let same = send_keeps (parts-quiet g (owner_parts s)) {s = kept} Replies conn frame replies-early (keep_keeps (parts-quiet g (owner_parts s)) {s = s} (Acked conn number) (Some c.reference-kept.result) refl) in
     let now = quiet g s (send Replies conn frame kept) c.args.self.now c.reply.new.self same (replied g kept (c.in_ok-keep.ensures g s is.living)) is in
     let own : (v : Value) → v ≡ values.Ref (record { space = c.args.self.now.id; id = c.args.id; class = c.args.class }) → v ≡ values.Ref (record { space = g.id; id = c.args.id; class = c.args.class }) =
-        λ v e. e ∙ ap (λ (own : Uuid). values.Ref (record { space = own; id = c.args.id; class = c.args.class })) is.id in
+    λ v e. e ∙ ap (λ (own : Uuid). values.Ref (record { space = own; id = c.args.id; class = c.args.class })) is.id in
     let k = own c.reference-kept.result c.reference-kept.ensures in
     let r = own c.reference-given.result c.reference-given.ensures in
     subst (λ (t : State). IsSpace g t (record c.args.self.now { living = c.reply.new.self }))

@@ -12,8 +12,8 @@ use Rattle.sp_state.proofs.FrameLemmas.{closed-at, space-is}
 use Rattle.sp_state.proofs.SpaceLemmas.{quiet}
 use Rattle.sp_state.proofs.space_state.SpaceState.got_lookup.Goals as goal
 
-pub returns-then-number-le-last : goal.returns-then-number-le-last
-returns-then-number-le-last w c = on_ok_weaker c.close.result (λ now. λ g s row is silent tells on last.
+pub returns-then-number-last : goal.returns-then-number-last
+returns-then-number-last w c = on_ok_weaker c.close.result (λ now. λ g s row is silent tells on last.
     let late : nat_le c.args.number row.last ≡ true = ap (nat_le c.args.number) last ∙ grind (arith, nat_tests) in
     space-is g (close g g.classes.unmarshal row.number s) (got_lookup g row c.args.number c.args.name.now s) c.close.new.self
     (looked-late g row c.args.number c.args.name.now s late)
@@ -29,8 +29,8 @@ returns-in-Some w c = on_ok_weaker c.give_found.result (λ now. λ g s row is si
     let is1 = quiet g s t c.args.self.now c.count.new.self refl (c.count.ensures g s is.living silent) is in
     space-is g (give_found g conn number c.in-Some.id c.in-Some.class t) (got_lookup g row number name s) c.give_found.new.self
     (looked-new g row number name s new
-        ∙ ap (λ (n : ℕ). found g n number (object_of s (lookup s.owner.names name)) (counted n number s)) on.number
-        ∙ found-one g conn number (object_of s (lookup s.owner.names name)) c.in-Some.id c.in-Some.class t (sym c.in-Some.is ∙ c.find.ensures g t is1.owner))
+    ∙ ap (λ (n : ℕ). found g n number (object_of s (lookup s.owner.names name)) (counted n number s)) on.number
+    ∙ found-one g conn number (object_of s (lookup s.owner.names name)) c.in-Some.id c.in-Some.class t (sym c.in-Some.is ∙ c.find.ensures g t is1.owner))
     (now g t is1)) c.give_found.ensures
 
 pub returns-in-None : goal.returns-in-None
@@ -43,6 +43,6 @@ returns-in-None w c = on_ok_weaker c.answer_threw.result (λ now. λ g s row is 
     let is1 = quiet g s t c.args.self.now c.count.new.self refl (c.count.ensures g s is.living silent) is in
     space-is g (answer_threw conn number g.classes.not_bound t) (got_lookup g row number name s) c.answer_threw.new.self
     (looked-new g row number name s new
-        ∙ ap (λ (n : ℕ). found g n number (object_of s (lookup s.owner.names name)) (counted n number s)) on.number
-        ∙ found-none g conn number (object_of s (lookup s.owner.names name)) t (sym c.in-None.is ∙ c.find.ensures g t is1.owner))
+    ∙ ap (λ (n : ℕ). found g n number (object_of s (lookup s.owner.names name)) (counted n number s)) on.number
+    ∙ found-none g conn number (object_of s (lookup s.owner.names name)) t (sym c.in-None.is ∙ c.find.ensures g t is1.owner))
     (now g t is1 tells)) c.answer_threw.ensures

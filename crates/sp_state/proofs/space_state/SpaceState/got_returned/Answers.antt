@@ -37,7 +37,7 @@ returns-then-is_unfit_result w c = on_ok_weaker c.refuse_returned.result (λ now
     let asked = found.row.asked in
     space-is g (refuse_returned g conn number asked s) (answered_by g row number next s) c.refuse_returned.new.self
     (answers-one g row conn number next s c.in-Some.asker on found
-        ∙ returned-bad g row conn number c.args.fuel c.args.value asked s on (sym (c.is_unfit_result.ensures g s asked is tells found.asks) ∙ c.if-is_unfit_result.true))
+    ∙ returned-bad g row conn number c.args.fuel c.args.value asked s on (sym (c.is_unfit_result.ensures g s asked is tells found.asks) ∙ c.if-is_unfit_result.true))
     (now g s row peer asked is tells on dialled found.asks)) c.refuse_returned.ensures
 
 pub returns : goal.returns
@@ -49,5 +49,5 @@ returns w c = on_ok_weaker c.park_returned.result (λ now. λ g s row peer is si
     let asked = found.row.asked in
     space-is g (park_returned g conn number c.args.fuel c.args.value s) (answered_by g row number next s) c.park_returned.new.self
     (answers-one g row conn number next s c.in-Some.asker on found
-        ∙ returned-good g row conn number c.args.fuel c.args.value asked s on (sym (c.is_unfit_result.ensures g s asked is tells found.asks) ∙ c.if-is_unfit_result.false))
+    ∙ returned-good g row conn number c.args.fuel c.args.value asked s on (sym (c.is_unfit_result.ensures g s asked is tells found.asks) ∙ c.if-is_unfit_result.false))
     (now g s row peer is tells on dialled)) c.park_returned.ensures

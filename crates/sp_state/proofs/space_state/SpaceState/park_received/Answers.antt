@@ -22,7 +22,7 @@ returns w c = on_ok_weaker c.park.result (λ parked. λ g s is tells.
     let conn = c.args.conn in
     let number = c.args.number in
     let same : c.new.result ≡ foreign_among g.id k.arguments =
-        c.new.ensures ∙ c.in_ok-references.ensures.foreign ∙ (λ j. fold with_reference [] (foreign_ids (is.id j) (references_of (c.as_slice.ensures j)))) in
+    c.new.ensures ∙ c.in_ok-references.ensures.foreign ∙ (λ j. fold with_reference [] (foreign_ids (is.id j) (references_of (c.as_slice.ensures j)))) in
     let now = quiet g s (park_frame g conn number (CallFrame k.target k.method k.fuel k.arguments) c.new.result s) c.args.self.now c.park.new.self
     (park_frame_keeps (parts-quiet g (owner_parts s)) {s = s} conn number (CallFrame k.target k.method k.fuel k.arguments) c.new.result refl)
     (parked g s is.living tells (c.store.ensures g s is.owner)) is in

@@ -20,8 +20,8 @@ returns-then-is_wrong_way w c = on_ok_weaker c.close.result (λ now. λ g s row 
     let m = c.args.message in
     let peer : is_none row.peer ≡ false = ap (λ (k : Connection). is_none k.peer) (sym seen) ∙ sym c.is_none-is_first.ensures ∙ c.if-is_first.false in
     let way : is_wrong_way (is_asking m) (is_some row.dialled) ≡ true =
-        ap (λ (k : Connection). is_wrong_way (is_asking m) (is_some k.dialled)) (sym seen)
-        ∙ (λ j. is_wrong_way (sym c.is_asking-asks.ensures j) (sym c.is_some-dialled.ensures j)) ∙ sym c.is_wrong_way.ensures ∙ c.if-is_wrong_way.true in
+    ap (λ (k : Connection). is_wrong_way (is_asking m) (is_some k.dialled)) (sym seen)
+    ∙ (λ j. is_wrong_way (sym c.is_asking-asks.ensures j) (sym c.is_some-dialled.ensures j)) ∙ sym c.is_wrong_way.ensures ∙ c.if-is_wrong_way.true in
     space-is g (close g g.classes.unmarshal row.number s) (receive g row m s) c.close.new.self (received-wrong g row m s peer way)
     (closed-at g g.classes.unmarshal c.args.conn s row c.close.new.self on (now g s is silent tells))) c.close.ensures
 
@@ -30,8 +30,8 @@ returns-then-asks w c = on_ok_weaker c.got_asking.result (λ now. λ g s row is 
     let m = c.args.message in
     let peer : is_none row.peer ≡ false = ap (λ (k : Connection). is_none k.peer) (sym seen) ∙ sym c.is_none-is_first.ensures ∙ c.if-is_first.false in
     let way : is_wrong_way (is_asking m) (is_some row.dialled) ≡ false =
-        ap (λ (k : Connection). is_wrong_way (is_asking m) (is_some k.dialled)) (sym seen)
-        ∙ (λ j. is_wrong_way (sym c.is_asking-asks.ensures j) (sym c.is_some-dialled.ensures j)) ∙ sym c.is_wrong_way.ensures ∙ c.if-is_wrong_way.false in
+    ap (λ (k : Connection). is_wrong_way (is_asking m) (is_some k.dialled)) (sym seen)
+    ∙ (λ j. is_wrong_way (sym c.is_asking-asks.ensures j) (sym c.is_some-dialled.ensures j)) ∙ sym c.is_wrong_way.ensures ∙ c.if-is_wrong_way.false in
     space-is g (got g row m s) (receive g row m s) c.got_asking.new.self (received-right g row m s peer way)
     (now g s row is silent tells on seen (asks-there (is_asking m) row.dialled (sym c.is_asking-asks.ensures ∙ c.if-asks.true) way))) c.got_asking.ensures
 
@@ -40,8 +40,8 @@ returns-else-asks w c = on_ok_weaker c.got_answer.result (λ now. λ g s row is 
     let m = c.args.message in
     let peer : is_none row.peer ≡ false = ap (λ (k : Connection). is_none k.peer) (sym seen) ∙ sym c.is_none-is_first.ensures ∙ c.if-is_first.false in
     let way : is_wrong_way (is_asking m) (is_some row.dialled) ≡ false =
-        ap (λ (k : Connection). is_wrong_way (is_asking m) (is_some k.dialled)) (sym seen)
-        ∙ (λ j. is_wrong_way (sym c.is_asking-asks.ensures j) (sym c.is_some-dialled.ensures j)) ∙ sym c.is_wrong_way.ensures ∙ c.if-is_wrong_way.false in
+    ap (λ (k : Connection). is_wrong_way (is_asking m) (is_some k.dialled)) (sym seen)
+    ∙ (λ j. is_wrong_way (sym c.is_asking-asks.ensures j) (sym c.is_some-dialled.ensures j)) ∙ sym c.is_wrong_way.ensures ∙ c.if-is_wrong_way.false in
     let mine = answers-here (is_asking m) row.dialled (sym c.is_asking-asks.ensures ∙ c.if-asks.false) way in
     space-is g (got g row m s) (receive g row m s) c.got_answer.new.self (received-right g row m s peer way)
     (now g s row mine.peer is silent tells on mine.is)) c.got_answer.ensures

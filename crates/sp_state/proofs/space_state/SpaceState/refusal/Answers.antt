@@ -20,7 +20,7 @@ returns-then-is_unfit w c = λ g s conn number is tells.
     let st = stands-so s k.target c.in-Some.class (sym c.in-Some.is ∙ c.class_of.ensures g s is.owner) in
     call-bad g s st.object conn number k.target k.method k.fuel k.arguments st.there
     (subst (λ (d : ClassId). (not (g.classes.may_call d k.method) || (not (fit_kinds (g.classes.parameters k.method) k.arguments) || list_any (is_refused g s) (references_of k.arguments))) ≡ true) (sym st.class-is)
-        (sym (c.is_unfit.ensures g s is tells) ∙ c.if-is_unfit.true))
+    (sym (c.is_unfit.ensures g s is tells) ∙ c.if-is_unfit.true))
 
 pub returns-then-busy : goal.returns-then-busy
 returns-then-busy w c = λ g s conn number is tells.
@@ -28,7 +28,7 @@ returns-then-busy w c = λ g s conn number is tells.
     let st = stands-so s k.target c.in-Some.class (sym c.in-Some.is ∙ c.class_of.ensures g s is.owner) in
     call-busy g s st.object conn number k.target k.method k.fuel k.arguments st.there
     (subst (λ (d : ClassId). (not (g.classes.may_call d k.method) || (not (fit_kinds (g.classes.parameters k.method) k.arguments) || list_any (is_refused g s) (references_of k.arguments))) ≡ false) (sym st.class-is)
-        (sym (c.is_unfit.ensures g s is tells) ∙ c.if-is_unfit.false))
+    (sym (c.is_unfit.ensures g s is tells) ∙ c.if-is_unfit.false))
     (sym (c.in_ok-busy.ensures g s is.living) ∙ c.if-busy.true)
 
 pub returns : goal.returns
@@ -37,5 +37,5 @@ returns w c = λ g s conn number is tells.
     let st = stands-so s k.target c.in-Some.class (sym c.in-Some.is ∙ c.class_of.ensures g s is.owner) in
     call-parks g s st.object conn number k.target k.method k.fuel k.arguments st.there
     (subst (λ (d : ClassId). (not (g.classes.may_call d k.method) || (not (fit_kinds (g.classes.parameters k.method) k.arguments) || list_any (is_refused g s) (references_of k.arguments))) ≡ false) (sym st.class-is)
-        (sym (c.is_unfit.ensures g s is tells) ∙ c.if-is_unfit.false))
+    (sym (c.is_unfit.ensures g s is tells) ∙ c.if-is_unfit.false))
     (sym (c.in_ok-busy.ensures g s is.living) ∙ c.if-busy.false)
