@@ -120,6 +120,34 @@ impl Heap {
         Some(Word::local(address))
     }
 
+    /// Returns a new array with a copy of these elements, at the next address. `None` if it does not
+    /// fit, and then nothing changes. It takes no memory.
+    pub fn copy_ints(&mut self, elements: &[i32]) -> Option<Word>
+        requires { length elements.now < 2 ^ 31 }
+        ensures made { IfSome
+            result
+            (λ word.
+            (cost (Ints elements.now) ≤ self.old.free)
+            × (word ≡ Local (all_cost self.old.cells))
+            × (self.new ≡ with_new (Ints elements.now) self.old)) }
+        ensures full { result ≡ None → self.old.free < cost (Ints elements.now) }
+        ensures unchanged { result ≡ None → self.new ≡ self.old }
+    {
+        let count = elements.len();
+        if self.words.room() - self.words.len() < count + 2 {
+            return None;
+        }
+        let address = self.words.len();
+        self.words.push_reserved(Word::of_ints());
+        self.words.push_reserved(Word::length(count as u32));
+        add_ints(&mut self.words, elements);
+        self.cells = Ghost::of::<Copied<'_>, WithCopy>(&Copied {
+            cells: self.cells.copy(),
+            elements,
+        });
+        Some(Word::local(address))
+    }
+
     /// Returns the class of an object: `None` for an array. The caller owes that one of them stands
     /// there; nothing tests it.
     #[inline(always)]
@@ -226,6 +254,18 @@ fn add_zeros(words: &mut Words, count: usize)
     }
 }
 
+fn add_ints(words: &mut Words, elements: &[i32])
+    requires { length words.old.values + length elements.now ≤ words.old.room }
+    ensures { words.new
+        ≡ record words.old {
+          values = words.old.values ++ map Int elements.now;
+        } }
+{
+    for n in elements {
+        words.push_reserved(Word::int(*n));
+    }
+}
+
 struct NoCells;
 
 impl Says<(), Cells> for NoCells {
@@ -291,4 +331,20 @@ impl Says<NewInts, Cells> for WithInts {
     ghost use Rattle.vm_heap.specs.Heap.{Ints};
 
     ghost says = { λ n. n.cells.value ++ Ints (replicate n.count (pos 0)) ∷ [] };
+}
+
+// An array that is copied.
+#[derive(Drop)]
+struct Copied<'a> {
+    cells: Ghost<Cells>,
+    elements: &'a [i32],
+}
+
+struct WithCopy;
+
+impl<'a> Says<Copied<'a>, Cells> for WithCopy {
+    ghost use Rattle.std.specs.Prelude.{◌++◌, ◌∷◌, []};
+    ghost use Rattle.vm_heap.specs.Heap.{Ints};
+
+    ghost says = { λ n. n.cells.value ++ Ints n.elements.now ∷ [] };
 }
