@@ -206,6 +206,21 @@ impl Heap {
         self.words.get(address + 2 + index)
     }
 
+    /// Returns a copy of the elements of an array. The caller owes that it is an array; nothing tests
+    /// it.
+    #[tactic(auto, using(crate::proofs::Elements::none_yet, crate::proofs::Elements::all_of, crate::proofs::Elements::element_there))]
+    pub fn elements(&self, alloc: Global, address: usize) -> Result<Vec<i32>, AllocError>
+        requires { IsSome (length_at address self.now.cells) }
+        ensures { IfOk result (λ elements. cell_at self.now.cells address ≡ Some (Ints elements.items)) }
+    {
+        let count = self.length(address) as usize;
+        let mut elements = Vec::with_capacity(alloc, count)?;
+        for index in 0..count {
+            elements.push(self.element(address, index).as_int())?;
+        }
+        Ok(elements)
+    }
+
     /// Writes an element of an array. The caller owes that there is such an element; nothing tests
     /// it.
     #[inline(always)]

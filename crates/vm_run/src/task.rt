@@ -196,7 +196,7 @@ impl Task {
         if heap.length(address) > MOST_ELEMENTS {
             return Ok(self.not_crossing());
         }
-        let elements = elements_at(alloc, heap, address)?;
+        let elements = heap.elements(alloc, address)?;
         Ok(Outcome::Returned(Some(Value::Ints(Row::new(elements)))))
     }
 
@@ -209,16 +209,3 @@ impl Task {
 
 // How many elements an array may have that crosses.
 const MOST_ELEMENTS: u32 = 8_000;
-
-// The elements of an array of the heap.
-fn elements_at(alloc: Global, heap: &Heap, address: usize) -> Result<Vec<i32>, AllocError>
-    requires { IsSome (length_at address heap.now.cells) }
-    ensures { IfOk result (λ elements. cell_at heap.now.cells address ≡ Some (Ints elements.items)) }
-{
-    let count = heap.length(address) as usize;
-    let mut elements = Vec::with_capacity(alloc, count)?;
-    for index in 0..count {
-        elements.push(heap.element(address, index).as_int())?;
-    }
-    Ok(elements)
-}
