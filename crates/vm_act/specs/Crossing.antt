@@ -1,5 +1,5 @@
--- What crosses to another space as an argument of a remote call: "remote objects are passed by reference", and of all else int arrays alone
--- are copied (Java RMI specification, 2.6; that no other object is, and the limits, are rules of this project).
+-- What crosses to another space as an argument of a remote call: remote objects pass as references to them, and of all else int arrays alone,
+-- by copy (Java RMI specification, 2.6; that no other object crosses, and the limits, are rules of this project).
 use Rattle.std.specs.Prelude.{ℕ, ℤ, ◌+◌, ◌*◌, Bool, false, nat_le, if◌then◌else◌, Option, Some, None, List, [], ◌∷◌, ◌++◌, length, option_map, option_and_then, slice_get}
 use Rattle.space_ids.specs.declared.value.Value.{Value}
 use Rattle.space_ids.specs.declared.value.Value.TheVariants as value
@@ -61,6 +61,12 @@ abbrev pub Crosses : Option (Option Value) → Type 0
 Crosses None = ⊥
 Crosses (Some None) = ⊥
 Crosses (Some (Some value)) = Unit {0}
+
+-- all of them cross
+abbrev pub AllCross : Option (Option (List Value)) → Type 0
+AllCross None = ⊥
+AllCross (Some None) = ⊥
+AllCross (Some (Some values)) = Unit {0}
 
 -- arguments with one more after them, if all of them cross
 abbrev pub with_last : Option Value → Option (List Value) → Option (List Value)
