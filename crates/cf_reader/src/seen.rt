@@ -54,8 +54,9 @@ impl<'a> Seen<'a> {
         let Some(name) = pool.utf8(member.name.value) else {
             return Ok(true);
         };
-        Ok(self
-            .keys
-            .insert(key(name.as_bytes(), descriptor.as_bytes()))?)
+        Ok(
+            self.keys
+                .insert(key(name.as_bytes(), descriptor.as_bytes()))?,
+        )
     }
 }

@@ -61,12 +61,7 @@ fn takes_array(operation: ClassOperation, is_of_ints: bool) -> bool
 
 // What an index means to an instruction of the user that names a class or an array type: looked for if it
 // is not known.
-fn known_class(
-    set: &ClassSet,
-    user: ClassId,
-    index: u16,
-    known: &mut KnownEntries,
-) -> ClassMeaning
+fn known_class(set: &ClassSet, user: ClassId, index: u16, known: &mut KnownEntries) -> ClassMeaning
     requires user { user.0 < length set.now }
     requires known { AreKnown set.now known.old }
     ensures meaning { IsClassMeaning set.now user index result }

@@ -13,3 +13,6 @@ pub mod DialledLemmas
 pub mod AnsweringLemmas
 pub mod EndingLemmas
 pub mod ConcludingLemmas
+pub mod GoesLemmas
+pub mod SettleLemmas
+pub mod FlushLemmas

@@ -1,6 +1,6 @@
 -- The calls that an event makes: what becomes of a transport, and which numbers may go on.
 use Rattle.std.proofs.Common.{◌≡◌, ℕ, ◌+◌, ◌≤◌, List, [], ◌∷◌, ◌++◌, Option, None, Some, refl, sym, ap, subst, ◌∙◌, arith}
-use Rattle.dgc_client.specs.declared.groups.DueCall.{DueCall}
+use Rattle.dgc_client.specs.declared.groups.Group.{Group}
 use Rattle.dgc_client.specs.declared.table.Clients.{Clients}
 use Rattle.dgc_client.specs.Table as client
 use Rattle.uuid.specs.declared.Uuid.{Uuid}
@@ -13,7 +13,8 @@ use Rattle.sp_transport.specs.Transports.{IsFresh, IsTransport, asked_up_to, cal
 use Rattle.sp_transport.specs.declared.transport.Fresh.{Fresh}
 use Rattle.sp_transport.specs.declared.transport.Transport.{Transport}
 use Rattle.sp_transport.proofs.LinesLemmas.{lines-make, lines-taken, rises-last}
-use Rattle.sp_transport.proofs.StepLemmas.{made-numbers, with-leases}
+use Rattle.sp_transport.proofs.OrderLemmas.{append-none}
+use Rattle.sp_transport.proofs.StepLemmas.{told-numbers, with-leases}
 
 -- a call or lookup is made
 pub now-made : (s : State) (t : Transport) (peer : Uuid) (asked : Asked) (made : ℕ) → made ≡ s.calls_made + 1 → call_number (asked_of asked) ≡ (s.calls_made + 1) ∷ [] → IsNamed (asked_of asked) → IsTransport s t
@@ -87,10 +88,10 @@ pub all-wait : (s : State) (t : Transport) → IsTransport s t → AllOf (λ (r 
 all-wait s t a = subst (AllOf (λ (r : Request). AreNextWaiting (take_fresh s) (call_number r.asked))) a.fresh (fresh-all (λ (r : Request). AreNextWaiting (take_fresh s) (call_number r.asked)) t.fresh (λ f e. fresh-waits s t f e a))
 
 -- dirty or clean calls are made
-pub now-calls : (s : State) (t : Transport) (calls : List DueCall) (call : ℕ) (leases : Clients) → call ≡ s.groups_made + 1 → client.IsAfter (client.made_each calls call s.leases) leases → IsTransport s t
-    → IsTransport (make_calls calls s) (record t { groups_made = call; leases = leases })
-now-calls s t calls call leases is after a =
-    let b = with-leases s t (client.made_each calls (s.groups_made + 1) s.leases) leases (made-numbers calls (s.groups_made + 1) s.leases) (subst (λ (n : ℕ). client.IsAfter (client.made_each calls n s.leases) leases) is after) a in record {
+pub now-calls : (s : State) (t : Transport) (group : Group) (call : ℕ) (leases : Clients) → call ≡ s.groups_made + 1 → client.IsAfter (client.made group call s.leases) leases → IsTransport s t
+    → IsTransport (make_calls group s) (record t { groups_made = call; leases = leases })
+now-calls s t group call leases is after a =
+    let b = with-leases s t (client.made group (s.groups_made + 1) s.leases) leases (told-numbers group (client.making group.kind (s.groups_made + 1)) s.leases) (subst (λ (n : ℕ). client.IsAfter (client.made group n s.leases) leases) is after) a in record {
       leases = b.leases;
       connections = a.connections;
       asked = a.asked;
@@ -100,3 +101,10 @@ now-calls s t calls call leases is after a =
       notes = a.notes;
       lines = b.lines;
     }
+
+-- a group asks under no number of a call
+pub no-next-out : (s : State) (t : Transport) (peer : Uuid) → IsTransport s t → AreNextOut s peer []
+no-next-out s t peer a = λ c there. (a.lines.sent peer c there).called
+
+pub no-next-waiting : (s : State) (t : Transport) → IsTransport s t → AreNextWaiting s []
+no-next-waiting s t a = subst (RisesWithin 0 (asked_up_to s.calls_made s.fresh)) (sym (append-none (waiting_numbers s.requests))) a.lines.rising

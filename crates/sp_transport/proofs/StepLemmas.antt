@@ -6,7 +6,6 @@ use Rattle.std.specs.Str.{bytes_eq}
 use Rattle.std.proofs.lemmas.Bool.{eqb-true}
 use Rattle.space_ids.specs.declared.ids.ForeignId.{ForeignId}
 use Rattle.space_ids.specs.declared.ids.ObjId.{ObjId}
-use Rattle.dgc_client.specs.declared.groups.DueCall.{DueCall}
 use Rattle.dgc_client.specs.declared.groups.Group.{Group}
 use Rattle.dgc_client.specs.declared.lease.Due.{Due}
 use Rattle.dgc_client.specs.declared.lease.Due.TheVariants as due
@@ -64,10 +63,6 @@ each-numbers (r ∷ rs) e h = each-numbers rs e (client.On r e ∷ h)
 
 pub told-numbers : (group : Group) (e : lease_events.Event) (h : List client.Told) → client.numbers_of (client.told group e h) ≡ client.numbers_of h
 told-numbers group e h = each-numbers (client.references_at group.peer group.ids) e h
-
-pub made-numbers : (calls : List DueCall) (call : ℕ) (h : List client.Told) → client.numbers_of (client.made_each calls call h) ≡ client.numbers_of h
-made-numbers [] call h = refl
-made-numbers (d ∷ ds) call h = made-numbers ds call (client.On d.reference (client.making d.kind call) ∷ h)
 
 pub sent-numbers : (kind : Due) (group : Group) (call : ℕ) (h : List client.Told) → client.numbers_of (client.sent_as kind group call h) ≡ client.numbers_of h
 sent-numbers due.Dirty group call h = told-numbers group (lease_events.DirtySent call) h

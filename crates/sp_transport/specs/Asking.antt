@@ -1,7 +1,7 @@
 -- What may be asked of a peer, and how it goes out or waits. (This project's own protocol; calls and dirty and clean calls are the Java RMI specification's, 3.2 and 9.1.)
 use Rattle.std.specs.Prelude.{◌≡◌, ◌+◌, ℕ, List, [], ◌∷◌, ◌++◌, Some}
 use Rattle.dgc_client.specs.Table as client
-use Rattle.dgc_client.specs.declared.groups.DueCall.{DueCall}
+use Rattle.dgc_client.specs.declared.groups.Group.{Group}
 use Rattle.uuid.specs.declared.Uuid.{Uuid}
 use Rattle.sp_rules.specs.Frames.{greeted}
 use Rattle.sp_rules.specs.Laws.{RisesWithin}
@@ -30,9 +30,9 @@ make_call peer asked s = record s { calls_made = s.calls_made + 1; fresh = recor
 abbrev pub take_fresh : State → State
 take_fresh s = record s { fresh = [] }
 
--- the next call of references is made: dirty or clean calls of one group
-abbrev pub make_calls : List DueCall → State → State
-make_calls calls s = record s { groups_made = s.groups_made + 1; leases = client.made_each calls (s.groups_made + 1) s.leases }
+-- the next dirty or clean calls are made: those of a group
+abbrev pub make_calls : Group → State → State
+make_calls group s = record s { groups_made = s.groups_made + 1; leases = client.made group (s.groups_made + 1) s.leases }
 
 -- The Hello of a peer that was dialled has come, and what waits for it is taken.
 abbrev pub welcome : Uuid → ℕ → State → State

@@ -4,3 +4,4 @@ pub mod Rooms
 pub mod Asking
 pub mod Opening
 pub mod Answers
+pub mod Settling

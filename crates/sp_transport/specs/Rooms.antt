@@ -42,7 +42,3 @@ KeepsRows old new = (peer : Uuid) (w c g : ℕ) → HasRow peer w c g old → Ha
 -- So do those of all other peers.
 abbrev pub KeepsOtherRows : Uuid → Transport → Transport → Type 0
 KeepsOtherRows peer old new = (other : Uuid) (w c g : ℕ) → bytes_eq peer other ≡ false → HasRow other w c g old → HasRow other w c g new
-
--- how many foreign references were ever held
-abbrev pub references_in : Transport → ℕ
-references_in t = client.references_in t.leases

@@ -5,6 +5,7 @@ use Rattle.net_message.specs.declared.message.Message.{Message}
 use Rattle.sp_rules.specs.Endings.{call_number_in}
 use Rattle.sp_rules.specs.Events.{Output, Send, Note, Says, Sends, Turn, Hellos, Replies, Waited, Cleans, Dirties, Calls, Acks, turn_rank, in_order}
 use Rattle.sp_rules.specs.Laws.{AllOf}
+use Rattle.sp_rules.specs.State as rules
 use Rattle.sp_rules.specs.State.{State, Connection}
 use Rattle.sp_requests.specs.Asking.{sequence_in}
 use Rattle.sp_peers.specs.AllAsked.{sent_on}
@@ -91,3 +92,9 @@ CallsMayGo turn s = AllOf (IsNotAfter turn) s.notes
 -- All that is noted stands before dirty and clean calls of this turn, but for Acks.
 abbrev pub GroupsMayGo : Turn → State → Type 0
 GroupsMayGo turn s = AllOf (IsNotAfterButAcks turn) s.notes
+
+-- All that is noted stands before a request of this turn.
+abbrev pub MayGo : Turn → rules.Asked → State → Type 0
+MayGo turn (rules.Calls number task lent kind m) s = CallsMayGo turn s
+MayGo turn (rules.LooksUp number task name) s = CallsMayGo turn s
+MayGo turn (rules.Tells call group) s = GroupsMayGo turn s

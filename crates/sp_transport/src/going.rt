@@ -1,12 +1,13 @@
 //! How requests wait for the peer's Hello, and go out.
 
-ghost use Rattle.std.specs.Prelude.{◌≡◌, ◌<◌, ◌+◌, ◌^◌, ℕ, List, [], ◌∷◌, None, Some, true, false};
-ghost use Rattle.std.specs.Str.{bytes_eq};
-ghost use Rattle.dgc_client.specs.Table as client;
-ghost use Rattle.sp_rules.specs.Endings.{is_group};
+ghost use Rattle.std.specs.Prelude.{◌≡◌, ℕ, List, [], ◌∷◌, OnOk, false};
+ghost use Rattle.dgc_client.specs.Groups.{parts_of};
+ghost use Rattle.net_message.specs.declared.message.Message.{Message as Frame};
+ghost use Rattle.sp_rules.specs.Endings.{call_number_in};
+ghost use Rattle.sp_rules.specs.Lists.{each};
 ghost use Rattle.sp_rules.specs.Requests.{add_request, dial, go_out, group_frame, hello_came, part_goes_out};
-ghost use Rattle.sp_rules.specs.State.{State, Waits, connection_to};
-ghost use Rattle.sp_requests.specs.Asking.{IsNamed, asked_of};
+ghost use Rattle.sp_rules.specs.State.{Asked as Question, Out, State, Waits, connection_to, send};
+ghost use Rattle.sp_requests.specs.Asking.{IsNamed, asked_of, asks_by};
 ghost use Rattle.sp_outputs.specs.Notes.{turn_of};
 
 use crate::Transport;
@@ -15,46 +16,43 @@ use net_message::Message;
 use sp_outputs::{Output, Turn};
 use sp_requests::{Asked, Asker};
 use space_ids::{ObjId, Row, Uuid};
+use std::alloc::AllocError;
+
+// How many ids a frame of dirty or clean calls names at most.
+const MOST_IDS: usize = 1_024;
 
 impl Transport {
     ghost use Rattle.sp_transport.specs.Asking.{AreNextOut, AreNextWaiting};
-    ghost use Rattle.sp_transport.specs.Rooms.{HasRow, KeepsOtherRows, KeepsRows, Spends, note_room, peer_room};
-    ghost use Rattle.sp_transport.specs.Said.{CallsMayGo, GroupsMayGo, is_acks};
+    ghost use Rattle.sp_transport.specs.Said.{CallsMayGo, GroupsMayGo, MayGo, is_acks};
     ghost use Rattle.sp_transport.specs.Transports.{IsTransport, call_number};
 
-    /// Makes a request of a peer that waits for its Hello, after all others; the peer is dialled if no
-    /// connection to it is open and none is being opened. It takes no memory: the caller owes
-    /// [room](Transport::reserve_requests) for a request that waits, for a
-    /// [peer](Transport::reserve_connections) and for an [output](Transport::reserve_notes).
-    pub fn wait_reserved(&mut self, peer: &Uuid, asked: Asked)
-        requires row { HasRow peer.now 1 0 0 self.old }
-        requires peer { 0 < peer_room self.old }
-        requires notes { 0 < note_room self.old }
-        ensures waits { (s : State) → IsTransport s self.old → hello_came (connection_to s peer.now) ≡ None → IsNamed (asked_of asked) → AreNextWaiting s (call_number (asked_of asked)) → IsTransport (dial peer.now (add_request (record { peer = peer.now; asked = asked_of asked; stage = Waits }) s)) self.new }
-        ensures rooms { Spends 0 0 1 1 self.old self.new }
-        ensures row { (w c g : ℕ) → HasRow peer.now (w + 1) c g self.old → HasRow peer.now w c g self.new }
-        ensures rows { KeepsOtherRows peer.now self.old self.new }
+    // Makes a request of a peer that waits for its Hello, after all others; the peer is dialled if no
+    // connection to it is open and none is being opened.
+    pub(crate) fn wait(&mut self, peer: &Uuid, asked: Asked) -> Result<(), AllocError>
+        ensures { OnOk result ((s : State) → IsTransport s self.old → hello_came (connection_to s peer.now) ≡ None → IsNamed (asked_of asked) → AreNextWaiting s (call_number (asked_of asked)) → IsTransport (dial peer.now (add_request (record { peer = peer.now; asked = asked_of asked; stage = Waits }) s)) self.new) }
     {
+        self.reserve_requests(peer, 1, 0, 0)?;
+        self.reserve_connections(0, 1)?;
+        self.reserve_notes(1)?;
         self.peers.wait_reserved(peer, asked);
         if !self.connections.dial_reserved(peer) {
-            return;
+            return Ok(());
         }
         self.outputs.say_reserved(Output::Dial(*peer));
+        Ok(())
     }
 
-    /// Sends a call or lookup to a peer, on the connection that was dialled to it and on which its Hello came.
-    /// Its number is above those of all that went out there before. It takes no memory: the caller owes
-    /// [room](Transport::reserve_requests) for a call that is out, and for an
-    /// [output](Transport::reserve_notes).
-    pub fn call_out_reserved(&mut self, turn: Turn, conn: u64, peer: &Uuid, asked: Asked)
-        requires call { is_group (asked_of asked) ≡ false }
-        requires turn { is_acks (turn_of turn) ≡ false }
-        requires row { HasRow peer.now 0 1 0 self.old }
-        requires notes { 0 < note_room self.old }
-        ensures sent { (s : State) → IsTransport s self.old → hello_came (connection_to s peer.now) ≡ Some conn → IsNamed (asked_of asked) → AreNextOut s peer.now (call_number (asked_of asked)) → CallsMayGo (turn_of turn) s → IsTransport (go_out (turn_of turn) conn (record { peer = peer.now; asked = asked_of asked; stage = Waits }) s) self.new }
-        ensures rooms { Spends 0 0 0 1 self.old self.new }
-        ensures row { (w c g : ℕ) → HasRow peer.now w (c + 1) g self.old → HasRow peer.now w c g self.new }
-        ensures rows { KeepsOtherRows peer.now self.old self.new }
+    // Sends a request to a peer, on the connection that was dialled to it and on which its Hello came. The
+    // number of a call or lookup is above those of all that went out there before.
+    pub(crate) fn go_out(
+        &mut self,
+        turn: Turn,
+        conn: u64,
+        peer: &Uuid,
+        asked: Asked,
+    ) -> Result<(), AllocError>
+        requires { is_acks (turn_of turn) ≡ false }
+        ensures { OnOk result ((s : State) → IsTransport s self.old → hello_came (connection_to s peer.now) ≡ Some conn → IsNamed (asked_of asked) → AreNextOut s peer.now (call_number (asked_of asked)) → MayGo (turn_of turn) (asked_of asked) s → IsTransport (go_out (turn_of turn) conn (record { peer = peer.now; asked = asked_of asked; stage = Waits }) s) self.new) }
     {
         match asked {
             Asked::Call {
@@ -64,48 +62,78 @@ impl Transport {
                 kind,
                 message,
             } => {
-                self.peers
-                    .call_reserved(peer, number, Asker::Call { task, lent, kind });
-                self.outputs.send_reserved(turn, conn, message);
+                let asker = Asker::Call { task, lent, kind };
+                self.call_out(turn, conn, peer, number, asker, message)
             }
             Asked::Lookup { number, task, name } => {
-                self.peers
-                    .call_reserved(peer, number, Asker::Lookup { task });
-                self.outputs
-                    .send_reserved(turn, conn, Message::Lookup { number, name });
+                let asker = Asker::Lookup { task };
+                let message = Message::Lookup { number, name };
+                self.call_out(turn, conn, peer, number, asker, message)
             }
-            Asked::Tell { call: _, group: _ } => unreachable!(),
+            Asked::Tell { call, group } => self.tell(turn, conn, peer, call, &group),
         }
     }
 
-    /// Sends a part of a group of dirty or clean calls to its peer, on the connection that was dialled to it
-    /// and on which its Hello came, under the next sequence number. `ids` are the ids of the part once more,
-    /// for the frame. It takes no memory: the caller owes [room](Transport::reserve_requests) for a group that
-    /// is out, and for an [output](Transport::reserve_notes).
-    pub fn tell_out_reserved(
+    // Sends the frame of a call or lookup of this number.
+    fn call_out(
         &mut self,
         turn: Turn,
         conn: u64,
-        call: u64,
-        part: Group,
-        ids: Row<ObjId>,
-    )
-        requires turn { is_acks (turn_of turn) ≡ false }
-        requires ids { ids ≡ part.ids }
-        requires row { HasRow part.peer 0 0 1 self.old }
-        requires notes { 0 < note_room self.old }
-        ensures sent { (s : State) → IsTransport s self.old → hello_came (connection_to s part.peer) ≡ Some conn → client.numbers_of s.leases + 1 < 2 ^ 63 → GroupsMayGo (turn_of turn) s → IsTransport (part_goes_out (turn_of turn) conn call s part) self.new }
-        ensures rooms { Spends 0 0 0 1 self.old self.new }
-        ensures row { (w c g : ℕ) → HasRow part.peer w c (g + 1) self.old → HasRow part.peer w c g self.new }
-        ensures rows { KeepsOtherRows part.peer self.old self.new }
+        peer: &Uuid,
+        number: u64,
+        asker: Asker,
+        message: Message,
+    ) -> Result<(), AllocError>
+        requires { is_acks (turn_of turn) ≡ false }
+        ensures { OnOk result ((s : State) (asked : Question) → IsTransport s self.old → hello_came (connection_to s peer.now) ≡ Some conn → asks_by asked ≡ (number, asker) ∷ [] → call_number asked ≡ number ∷ [] → call_number_in message ≡ number ∷ [] → IsNamed asked → AreNextOut s peer.now (number ∷ []) → CallsMayGo (turn_of turn) s → IsTransport (send (turn_of turn) conn message (add_request (record { peer = peer.now; asked = asked; stage = Out conn 0 }) s)) self.new) }
     {
+        self.reserve_requests(peer, 0, 1, 0)?;
+        self.reserve_notes(1)?;
+        self.peers.call_reserved(peer, number, asker);
+        self.outputs.send_reserved(turn, conn, message);
+        Ok(())
+    }
+
+    // Sends the dirty or clean calls of a group, in parts of at most 1,024 ids.
+    fn tell(
+        &mut self,
+        turn: Turn,
+        conn: u64,
+        peer: &Uuid,
+        call: u64,
+        group: &Group,
+    ) -> Result<(), AllocError>
+        requires { is_acks (turn_of turn) ≡ false }
+        ensures { OnOk result ((s : State) → IsTransport s self.old → hello_came (connection_to s peer.now) ≡ Some conn → GroupsMayGo (turn_of turn) s → IsTransport (each (part_goes_out (turn_of turn) conn call) (parts_of 1024 group.now) s) self.new) }
+    {
+        // In every run dirty and clean calls are asked of the owner of their objects.
+        if group.peer != *peer {
+            return Err(AllocError);
+        }
+        let parts = group.parts(self.alloc, MOST_IDS)?;
+        for part in parts {
+            self.tell_part(turn, conn, call, part)?;
+        }
+        Ok(())
+    }
+
+    // Sends one part of a group, under the next sequence number.
+    fn tell_part(&mut self, turn: Turn, conn: u64, call: u64, part: Group) -> Result<(), AllocError>
+        requires { is_acks (turn_of turn) ≡ false }
+        ensures { OnOk result ((s : State) → IsTransport s self.old → hello_came (connection_to s part.peer) ≡ Some conn → GroupsMayGo (turn_of turn) s → IsTransport (part_goes_out (turn_of turn) conn call s part) self.new) }
+    {
+        let peer = part.peer;
+        let ids = Row::new(part.ids.as_slice().to_vec(self.alloc)?);
+        self.reserve_requests(&peer, 0, 0, 1)?;
+        self.reserve_notes(1)?;
+        // A space whose numbers come to 2^63 is worn out, and refuses all events.
         let Some(sequence) = self.leases.sent(&part, call) else {
-            return;
+            return Err(AllocError);
         };
         let message = frame_of(part.kind, sequence, ids);
-        let peer = part.peer;
         self.peers.tell_reserved(&peer, sequence, call, part);
         self.outputs.send_reserved(turn, conn, message);
+        Ok(())
     }
 }
 

@@ -16,4 +16,5 @@ mod making;
 mod opening;
 mod reserving;
 mod saying;
+mod settling;
 mod transport;

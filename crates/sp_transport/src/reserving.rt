@@ -1,7 +1,6 @@
 //! Room, made before an event changes anything.
 
-ghost use Rattle.std.specs.Prelude.{◌≡◌, ◌≤◌, ℕ, [], None, OnOk, length};
-ghost use Rattle.dgc_client.specs.Table as client;
+ghost use Rattle.std.specs.Prelude.{◌≡◌, ◌≤◌, ℕ, [], None, OnOk};
 ghost use Rattle.sp_rules.specs.State.{State, connection_to};
 ghost use Rattle.sp_requests.specs.Peers.{of_peer};
 
@@ -10,7 +9,7 @@ use space_ids::Uuid;
 use std::alloc::AllocError;
 
 impl Transport {
-    ghost use Rattle.sp_transport.specs.Rooms.{HasRow, KeepsOtherRows, KeepsRows, Spends, connection_room, lease_room, note_room, peer_room, references_in};
+    ghost use Rattle.sp_transport.specs.Rooms.{HasRow, KeepsOtherRows, KeepsRows, Spends, connection_room, lease_room, note_room, peer_room};
     ghost use Rattle.sp_transport.specs.Transports.{IsTransport};
 
     /// Makes room for this many references that were never held. Nothing else changes, at out of memory
@@ -76,13 +75,5 @@ impl Transport {
         ensures rows { KeepsRows self.old self.new }
     {
         self.outputs.reserve(notes)
-    }
-
-    /// How many foreign references were ever held. At most that many dirty and clean calls can be due.
-    pub fn references(&self) -> usize
-        ensures count { result ≡ references_in self.now }
-        ensures held { (s : State) → IsTransport s self.now → result ≡ length (client.held s.leases) }
-    {
-        self.leases.references()
     }
 }

@@ -26,8 +26,10 @@ pub struct Fresh {
 /// A space's side of the transport: its connections, what it asks of its peers, the leases of their
 /// objects, and what the event under way answers.
 ///
-/// A contract names the states of the rules that the value may stand for. Each call that changes it
-/// takes no memory: the caller owes room for it, which the calls named `reserve` make.
+/// A contract names the states of the rules that the value may stand for. Most calls that change it take no
+/// memory: where they need room the caller owes it, and the calls named `reserve` make it. Two make their own:
+/// [`Transport::flush_waiting`] and [`Transport::settle`]. If these fail, a part of their work is done, and the
+/// value stands for no state: the caller drops it.
 #[derive(Debug, Drop)]
 pub struct Transport {
     pub(crate) alloc: Global,

@@ -2,7 +2,7 @@ use Rattle.cf_text.proofs.DescriptorLaws.{field_descriptor_again, field_descript
 use Rattle.cf_text.specs.Descriptors.{IsFieldType}
 use Rattle.std.proofs.Common.{rules}
 use Rattle.cf_descriptors.proofs.DescriptorsKept.{kept_more}
-use Rattle.cf_reader.proofs.descriptors.FieldTypes.read.Goals as goal
+use Rattle.cf_descriptors.proofs.descriptors.FieldTypes.read.Goals as goal
 
 pub returns-in-Some-clause-value : goal.returns-in-Some-clause-value
 returns-in-Some-clause-value c =
