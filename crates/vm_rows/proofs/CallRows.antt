@@ -1,8 +1,9 @@
 -- The rows of calls.
-use Rattle.std.proofs.Common.{◌≡◌, ◌⊎◌, inl, inr, ℕ, suc, ◌==◌, ◌+◌, ◌++◌, Bool, true, false, List, [], ◌∷◌, length, map, reverse, refl, sym, subst, ap, ◌∙◌, Option, Some, None, Ok}
+use Rattle.std.proofs.Common.{◌≡◌, ◌⊎◌, inl, inr, ℕ, suc, ◌==◌, ◌+◌, ◌<◌, ◌≤◌, ◌++◌, Bool, true, false, List, [], ◌∷◌, length, map, reverse, refl, sym, subst, ap, ◌∙◌, Option, Some, None, Ok, arith}
 use Rattle.std.specs.Prelude.{nat_eq, ◌||◌, if◌then◌else◌, option_and_then, option_map, slice_get, IsSomeAnd}
 use Rattle.std.specs.Option.{option_map_or}
 use Rattle.std.proofs.lemmas.List.{length-map}
+use Rattle.std.proofs.lemmas.Option.{slice_get_within}
 use Rattle.cf_insns.specs.declared.insn.InvokeKind.{InvokeKind}
 use Rattle.cf_insns.specs.declared.insn.InvokeKind.TheVariants as kind
 use Rattle.cf_reader.specs.declared.class_file.Method.{Method}

@@ -258,9 +258,9 @@ module _ (links : Links) (w : World) (owed : Owed w) (set : IsClassSet w.classes
   first true b e = refl
   first false b e = absurd (true_false (sym e))
 
-  either : (a b : Bool) → (a || b) ≡ true → (a ≡ true) ⊎ (b ≡ true)
-  either true b e = inl refl
-  either false b e = inr e
+  one_holds : (a b : Bool) → (a || b) ≡ true → (a ≡ true) ⊎ (b ≡ true)
+  one_holds true b e = inl refl
+  one_holds false b e = inr e
 
   cast_fits : (type : CastType) → CastsTo w type → (t : VType) (r : Referent) → IsOne w t r → passes w.classes type r ≡ true → CastFits w (cast_vtype type) r
   cast_fits (cast.Class asked) casts t referent.Null one e = tt
@@ -271,7 +271,7 @@ module _ (links : Links) (w : World) (owed : Owed w) (set : IsClassSet w.classes
   cast_fits cast.IntArray casts t (referent.Object b) one e = absurd (true_false (sym e))
   cast_fits cast.IntArray casts t referent.Ints one e = tt
   cast_fits (cast.Class asked) casts t (referent.Stub reference) one e =
-      elim (either (is_object w.classes asked) (implements_remotely w.classes reference.class asked) e) [
+      elim (one_holds (is_object w.classes asked) (implements_remotely w.classes reference.class asked) e) [
         | inl is ↦ (owed.object, subst (λ (c : ClassId). IsObjectAssignable w.classes w.object c) (owed.object_named asked (object_named w.classes asked is)) (inr (itself w.object)))
         | inr is ↦ (owed.object, inl (interface_is w.classes asked (first (is_interface w.classes asked) (is_below_remote w.classes asked)
             (first (is_remote_interface w.classes asked) (is_subtype w.classes reference.class asked) is))))

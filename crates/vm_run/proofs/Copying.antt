@@ -6,7 +6,6 @@ use Rattle.std.specs.Bool.{OnTrue}
 use Rattle.cls_set.specs.declared.class.Class.{Class}
 use Rattle.space_ids.specs.declared.value.Value.{Value}
 use Rattle.space_ids.specs.declared.value.Value.TheVariants as value
-use Rattle.uuid.specs.declared.Uuid.{Uuid}
 use Rattle.vm_heap.specs.Heap.{Cell, Object, Ints, Store, all_cost, cell_at, changed_at, cost, element_at, element_of, cell_with_element, with_element, with_new}
 use Rattle.vm_typing.proofs.Kept.{cell_at-new}
 use Rattle.vm_run.specs.Start.{copy_of, fill, has_room_for, is_of_type}
@@ -116,29 +115,29 @@ and_false : (b c : Bool) → false ≡ c → false ≡ (b && c)
 and_false true c is = is
 and_false false c is = refl
 
-pub fill_other : (classes : List Class) (own : Uuid) (kinds : List FieldType) (values : List Value) → (length kinds ≡ length values → ⊥) → false ≡ fill classes own kinds values
+pub fill_other : (classes : List Class) (kinds : List FieldType) (values : List Value) → (length kinds ≡ length values → ⊥) → false ≡ fill classes kinds values
 unfolding fill
-fill_other classes own [] [] other = absurd (other refl)
-fill_other classes own [] (v ∷ values) other = refl
-fill_other classes own (kind ∷ kinds) [] other = refl
-fill_other classes own (kind ∷ kinds) (v ∷ values) other = and_false (is_of_type classes own kind v) (fill classes own kinds values) (fill_other classes own kinds values (λ same. other (ap (λ (n : ℕ). suc n) same)))
+fill_other classes [] [] other = absurd (other refl)
+fill_other classes [] (v ∷ values) other = refl
+fill_other classes (kind ∷ kinds) [] other = refl
+fill_other classes (kind ∷ kinds) (v ∷ values) other = and_false (is_of_type classes kind v) (fill classes kinds values) (fill_other classes kinds values (λ same. other (ap (λ (n : ℕ). suc n) same)))
 
 -- those from an index on
-pub fill_at : (classes : List Class) (own : Uuid) (kinds : List FieldType) (values : List Value) (index : ℕ) (k d : FieldType) (v e : Value) → index < length kinds → index < length values
-    → k ≡ get_or kinds index d → v ≡ get_or values index e → fill classes own (drop index kinds) (drop index values) ≡ (is_of_type classes own k v && fill classes own (drop (index + 1) kinds) (drop (index + 1) values))
+pub fill_at : (classes : List Class) (kinds : List FieldType) (values : List Value) (index : ℕ) (k d : FieldType) (v e : Value) → index < length kinds → index < length values
+    → k ≡ get_or kinds index d → v ≡ get_or values index e → fill classes (drop index kinds) (drop index values) ≡ (is_of_type classes k v && fill classes (drop (index + 1) kinds) (drop (index + 1) values))
 unfolding fill
-fill_at classes own kinds values index k d v e within room is was = rw (add-one index) (at kinds values index within room is was)
+fill_at classes kinds values index k d v e within room is was = rw (add-one index) (at kinds values index within room is was)
   where
     at : (kinds : List FieldType) (values : List Value) (index : ℕ) → index < length kinds → index < length values → k ≡ get_or kinds index d → v ≡ get_or values index e
-        → fill classes own (drop index kinds) (drop index values) ≡ (is_of_type classes own k v && fill classes own (drop (suc index) kinds) (drop (suc index) values))
+        → fill classes (drop index kinds) (drop index values) ≡ (is_of_type classes k v && fill classes (drop (suc index) kinds) (drop (suc index) values))
     at [] values index within room is was = absurd (omega (arith, within))
     at (kind ∷ kinds) [] index within room is was = absurd (omega (arith, room))
     at (kind ∷ kinds) (x ∷ values) zero within room is was = rw (is, was) refl
     at (kind ∷ kinds) (x ∷ values) (suc index) within room is was = at kinds values index (omega (arith, within)) (omega (arith, room)) is was
 
-pub fill_none : (classes : List Class) (own : Uuid) → fill classes own [] [] ≡ true
+pub fill_none : (classes : List Class) → fill classes [] [] ≡ true
 unfolding fill
-fill_none classes own = refl
+fill_none classes = refl
 
 first_no : (b c : Bool) → false ≡ b → false ≡ (b && c)
 first_no true c fails = absurd (cc)
@@ -148,16 +147,16 @@ first_yes : (b c : Bool) → true ≡ b → c ≡ (b && c)
 first_yes true c holds = refl
 first_yes false c holds = absurd (cc)
 
-pub fill_no : (classes : List Class) (own : Uuid) (kinds : List FieldType) (values : List Value) (index : ℕ) (k d : FieldType) (v e : Value) → index < length kinds → index < length values
-    → k ≡ get_or kinds index d → v ≡ get_or values index e → false ≡ is_of_type classes own k v → fill classes own (drop index kinds) (drop index values) ≡ fill classes own kinds values → false ≡ fill classes own kinds values
-fill_no classes own kinds values index k d v e within room is was fails so =
-    first_no (is_of_type classes own k v) (fill classes own (drop (index + 1) kinds) (drop (index + 1) values)) fails ∙ (sym (fill_at classes own kinds values index k d v e within room is was) ∙ so)
+pub fill_no : (classes : List Class) (kinds : List FieldType) (values : List Value) (index : ℕ) (k d : FieldType) (v e : Value) → index < length kinds → index < length values
+    → k ≡ get_or kinds index d → v ≡ get_or values index e → false ≡ is_of_type classes k v → fill classes (drop index kinds) (drop index values) ≡ fill classes kinds values → false ≡ fill classes kinds values
+fill_no classes kinds values index k d v e within room is was fails so =
+    first_no (is_of_type classes k v) (fill classes (drop (index + 1) kinds) (drop (index + 1) values)) fails ∙ (sym (fill_at classes kinds values index k d v e within room is was) ∙ so)
 
-pub fill_more : (classes : List Class) (own : Uuid) (kinds : List FieldType) (values : List Value) (index : ℕ) (k d : FieldType) (v e : Value) → index < length kinds → index < length values
-    → k ≡ get_or kinds index d → v ≡ get_or values index e → true ≡ is_of_type classes own k v → fill classes own (drop index kinds) (drop index values) ≡ fill classes own kinds values
-    → fill classes own (drop (index + 1) kinds) (drop (index + 1) values) ≡ fill classes own kinds values
-fill_more classes own kinds values index k d v e within room is was holds so =
-    first_yes (is_of_type classes own k v) (fill classes own (drop (index + 1) kinds) (drop (index + 1) values)) holds ∙ (sym (fill_at classes own kinds values index k d v e within room is was) ∙ so)
+pub fill_more : (classes : List Class) (kinds : List FieldType) (values : List Value) (index : ℕ) (k d : FieldType) (v e : Value) → index < length kinds → index < length values
+    → k ≡ get_or kinds index d → v ≡ get_or values index e → true ≡ is_of_type classes k v → fill classes (drop index kinds) (drop index values) ≡ fill classes kinds values
+    → fill classes (drop (index + 1) kinds) (drop (index + 1) values) ≡ fill classes kinds values
+fill_more classes kinds values index k d v e within room is was holds so =
+    first_yes (is_of_type classes k v) (fill classes (drop (index + 1) kinds) (drop (index + 1) values)) holds ∙ (sym (fill_at classes kinds values index k d v e within room is was) ∙ so)
 
 pub dropped : {A : Type 0} (xs : List A) (n : ℕ) → length xs ≤ n → drop n xs ≡ []
 dropped [] zero h = refl
@@ -165,8 +164,8 @@ dropped [] (suc n) h = refl
 dropped (x ∷ xs) zero h = absurd (omega (arith, h))
 dropped (x ∷ xs) (suc n) h = dropped xs n (omega (arith, h))
 
-pub fill_end : (classes : List Class) (own : Uuid) (kinds : List FieldType) (values : List Value) (index : ℕ) → length kinds ≤ index → length values ≤ index → true ≡ fill classes own (drop index kinds) (drop index values)
-fill_end classes own kinds values index k v = rw (dropped kinds index k, dropped values index v) (sym (fill_none classes own))
+pub fill_end : (classes : List Class) (kinds : List FieldType) (values : List Value) (index : ℕ) → length kinds ≤ index → length values ≤ index → true ≡ fill classes (drop index kinds) (drop index values)
+fill_end classes kinds values index k v = rw (dropped kinds index k, dropped values index v) (sym (fill_none classes))
 
 -- ---- the copies
 

@@ -11,7 +11,8 @@ use Rattle.space_ids.specs.declared.ids.ClassId.{ClassId}
 use Rattle.space_ids.specs.declared.value.Value.TheVariants as value
 use Rattle.vm_run.specs.Run.{State, over, run, IsNotLost, IsNeverStuck}
 use Rattle.vm_run.proofs.Runs.{at_once}
-use Rattle.vm_run.specs.Task.{most_elements, outcome_of, thrown_name, threw_named, unmarshalled, IsOfSet, IsOutcome, Tells, TellsThrown}
+use Rattle.vm_run.specs.Task.{outcome_of, thrown_name, threw_named, unmarshalled, IsOfSet, IsOutcome, Tells, TellsThrown}
+use Rattle.vm_act.specs.Crossing.{most_elements}
 use Rattle.vm_run.specs.declared.outcome.Outcome.{Outcome}
 use Rattle.vm_run.specs.declared.outcome.Outcome.TheVariants as outcome
 use Rattle.vm_heap.specs.Heap.{Cell, Object, Ints, cell_at, element_at, element_of, length_at, length_of}
