@@ -39,7 +39,7 @@ use Rattle.vm_act.specs.Objects as acts
 use Rattle.vm_act.specs.Steps.{on_some}
 use Rattle.vm_act.specs.declared.objects.Referent.{Referent}
 use Rattle.vm_act.specs.declared.objects.Referent.TheVariants as referent
-use Rattle.vm_code.proofs.Remotes.{remote_sound}
+use Rattle.vm_code.proofs.Remotes.{interface_sound, remote_sound}
 use Rattle.cls_search.specs.MethodSearches.{is_interface}
 use Rattle.vm_code.specs.Classes.{implements_remotely, is_below_remote, is_instance, is_object, is_remote, is_remote_interface, is_subtype, passes}
 use Rattle.vm_code.specs.Fields.{field_kind, kind_of, kinds_of, slot_of}
@@ -57,7 +57,7 @@ use Rattle.vm_world.proofs.LookUps.{has_kind}
 use Rattle.vm_rows.specs.Rows.{CastsTo, MakesObjects, NamesField, IsRow, ObjectRows}
 use Rattle.vm_rows.proofs.Stands.{fits_asked, next_is, room_for}
 use Rattle.vm_rows.proofs.Takes.{demanded, found_is, gives, passes_then, same_ok, take_last, take_then}
-use Rattle.vm_rows.proofs.Wants.{initialized_wanted, interface_is}
+use Rattle.vm_rows.proofs.Wants.{initialized_wanted}
 
 -- ---- what a `new` made before
 
@@ -273,7 +273,7 @@ module _ (links : Links) (w : World) (owed : Owed w) (set : IsClassSet w.classes
   cast_fits (cast.Class asked) casts t (referent.Stub reference) one e =
       elim (one_holds (is_object w.classes asked) (implements_remotely w.classes reference.class asked) e) [
         | inl is ↦ (owed.object, subst (λ (c : ClassId). IsObjectAssignable w.classes w.object c) (owed.object_named asked (object_named w.classes asked is)) (inr (itself w.object)))
-        | inr is ↦ (owed.object, inl (interface_is w.classes asked (first (is_interface w.classes asked) (is_below_remote w.classes asked)
+        | inr is ↦ (owed.object, inl (interface_sound w.classes asked (first (is_interface w.classes asked) (is_below_remote w.classes asked)
             (first (is_remote_interface w.classes asked) (is_subtype w.classes reference.class asked) is))))
       ]
   cast_fits cast.IntArray casts t (referent.Stub reference) one e = absurd (true_false (sym e))

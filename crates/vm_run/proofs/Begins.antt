@@ -41,7 +41,7 @@ use Rattle.cls_search.specs.MethodSearches.{is_interface}
 use Rattle.cls_set.proofs.Hierarchy.{some_of}
 use Rattle.cls_set.specs.Subtypes.{IsRemote}
 use Rattle.space_ids.specs.declared.ids.Ref.{Ref}
-use Rattle.vm_code.proofs.Remotes.{remote_sound}
+use Rattle.vm_code.proofs.Remotes.{interface_sound, remote_sound}
 use Rattle.vm_code.specs.Classes.{is_remote_interface, is_below_remote, is_remote}
 use Rattle.vm_typing.proofs.Arrivals.{known_there}
 use Rattle.vm_typing.proofs.Runs.{starts_typed}
@@ -92,17 +92,6 @@ array_vtype classes kind e =
     let one : kind.dimensions ≡ 1 = eqb-true kind.dimensions 1 parts.0 in
     rw (one, array_int kind.element parts.1) refl
 
--- a class of the set that is an interface
-interface_is : (classes : List Class) (class : ClassId) → is_interface classes class ≡ true → IsSomeAnd (slice_get classes class.0) IsInterface
-interface_is classes class e = at (slice_get classes class.0) e
-  where
-    other : (n : ℕ) → not (nat_eq n 0) ≡ true → n ≡ 0 → ⊥
-    other n e none = let same : nat_eq n 0 ≡ true = eq-eqb n 0 none in absurd (cc)
-
-    at : (o : Option Class) → option_map_or (λ (c : Class). not (nat_eq (bit_and c.file.flags.bits INTERFACE) 0)) o false ≡ true → IsSomeAnd o IsInterface
-    at None e = absurd (cc)
-    at (Some c) e = other (bit_and c.file.flags.bits INTERFACE) e
-
 -- the task has come by each of the values that is a reference, one value after the other
 abbrev EachHeld : Table → List Value → Type 0
 EachHeld table [] = Unit {0}
@@ -150,7 +139,7 @@ module _ (w : World) (held : Held) where
       by : (o : Option ClassId) → option_map_or (is_remote_interface w.classes) o false ≡ true → Fits w held no_marks (option_map_or vtype.Object o vtype.Top) (Remote row)
       by None e = absurd (cc)
       by (Some class) e =
-          let interface = interface_is w.classes class (both (is_interface w.classes class) (is_below_remote w.classes class) e).0 in
+          let interface = interface_sound w.classes class (both (is_interface w.classes class) (is_below_remote w.classes class) e).0 in
           rw there (placed (is_own held.references reference) class interface)
   object_fits object reference row there remote e is = absurd (cc)
 
