@@ -1,5 +1,5 @@
 -- A task that follows a machine goes on following it: through each instruction, and through each reply that is due.
-use Rattle.std.proofs.Common.{◌≡◌, ℕ, zero, suc, ◌+◌, ◌-◌, Bool, true, false, List, [], ◌∷◌, length, ◌≤◌, refl, ap, sym, subst, ◌∙◌, arith, Option, Some, None}
+use Rattle.std.proofs.Common.{◌≡◌, ℕ, zero, suc, ◌+◌, Bool, true, false, List, [], ◌∷◌, length, ◌≤◌, refl, ap, sym, subst, ◌∙◌, arith, Option, Some, None}
 use Rattle.std.specs.Prelude.{ℤ, drop, nat_le, option_map, if◌then◌else◌}
 use Rattle.cls_link.specs.Links.{Links}
 use Rattle.space_ids.specs.declared.ids.ClassId.{ClassId}
@@ -16,7 +16,7 @@ use Rattle.vm_heap.specs.References as heap
 use Rattle.vm_heap.specs.References.{Table, row_for}
 use Rattle.vm_heap.specs.Tagged.{Tagged, Fresh, Int, Null, ReferenceRow, Remote}
 use Rattle.vm_act.specs.Next.{Next, On, Ends, Asks, Stuck}
-use Rattle.vm_act.specs.Remote.{answered, complete_call, leave_call, on_held, on_row, pop_receiver, push_result, without_arguments}
+use Rattle.vm_act.specs.Remote.{answered, leave_call, on_held, on_row, pop_receiver, push_result, without_arguments}
 use Rattle.vm_act.specs.Steps.{go_on, on_top, push, where_true, with_operands}
 use Rattle.vm_act.specs.declared.asked.Asked.{Asked}
 use Rattle.vm_act.specs.declared.asked.Asked.TheVariants as asked
@@ -35,7 +35,7 @@ use Rattle.vm_run.specs.declared.outcome.Outcome.{Outcome}
 use Rattle.vm_run.specs.declared.outcome.Outcome.TheVariants as outcome
 use Rattle.vm_run.proofs.Runs.{IsNeverStuck-answer, IsNeverStuck-step, IsQuiet, answered_quiet, at_once}
 use Rattle.sp_behaviours.specs.Behaviours.{after_reply, asking, behaviour_of, by_next, by_reply, completed_by, op_at, reply_to, told, told_end, told_ending, told_some}
-use Rattle.sp_behaviours.specs.Follows.{Does, Follows, HoldsAs, HoldsAsked, PlaysOn, stand_before, stand_of, waiting}
+use Rattle.sp_behaviours.specs.Follows.{Follows, HoldsAs, HoldsAsked, PlaysOn, stand_before, stand_of, waiting}
 use Rattle.sp_behaviours.proofs.Coming.{Comes, comes, stays-within}
 use Rattle.sp_behaviours.proofs.OwnSteps.{IsGiven, answer-gives, answer-gives-back, answer-runs-out, answer-throws, answer-throws-lent, stand-is, step-asks, step-ended, step-ends, step-plain}
 use Rattle.sp_behaviours.proofs.Stays.{Stays, copy-keeps, goes, pushes, step-stays}
@@ -319,10 +319,10 @@ module _ (links : Links) (g : Setting) (t w : Task) (m : Machine) (left depth : 
     where
       top : (operands : List Tagged) → Goes v (on_top (λ receiver below. push_result v (with_operands below (without_arguments count m))) operands)
       top [] is leads quiet safe = absurd (at_once links Lost safe)
-      top (receiver ∷ below) = result-reply v (with_operands below (without_arguments count m)) refl
+      top (receiver ∷ below) is leads quiet safe = result-reply v (with_operands below (without_arguments count m)) refl is leads quiet safe
 
       by : (b : Bool) → Goes v (where_true b (pop_receiver v (without_arguments count m)))
-      by true = top (drop count m.stack.frame.operands)
+      by true is leads quiet safe = top (drop count m.stack.frame.operands) is leads quiet safe
       by false is leads quiet safe = absurd (at_once links Lost safe)
 
 -- ---- the reply to each that may be asked

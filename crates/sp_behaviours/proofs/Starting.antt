@@ -155,7 +155,7 @@ starts-follow links g method arguments fuel task plays e safe =
     record {
       depth = depth_of task.state;
       behaviour = does_at links (start g method arguments fuel) task.state
-      (ap (within_limit g came) does ∙ subst (λ (s : State). within_limit g came (behaviour_at links s) ≡ behaviour_at links s) (sym opened.1) is.0);
+          (ap (within_limit g came) does ∙ subst (λ (s : State). within_limit g came (behaviour_at links s) ≡ behaviour_at links s) (sym opened.1) is.0);
       fuel = is.1 ∙ ap fuel_left (sym opened.1);
       held = subst (HoldsIn g came) (sym opened.1) is.2;
       never_stuck = safe;

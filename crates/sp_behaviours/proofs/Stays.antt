@@ -29,7 +29,6 @@ use Rattle.cls_search.specs.MethodSearches.{method_in}
 use Rattle.cls_set.specs.declared.class.Class.{Class}
 use Rattle.space_ids.specs.declared.ids.ClassId.{ClassId}
 use Rattle.space_ids.specs.declared.ids.Ref.{Ref}
-use Rattle.space_ids.specs.declared.value.Value.{Value}
 use Rattle.vm_heap.specs.Heap.{Cell, Object, Ints, cell_at, all_cost, cost, element_at, field_at, length_at, new_cell, with_element, with_field, with_new}
 use Rattle.vm_heap.specs.References.{Table, is_own}
 use Rattle.vm_heap.specs.Tagged.{Tagged, Int, Null, Local, Remote, Fresh, This, Unset, Head, Site, HeapAddress, ReferenceRow, pointer_at}

@@ -1,5 +1,5 @@
 -- The laws of tasks that follow machines, each the contract of a function of this crate. (This project's own.)
-use Rattle.std.specs.Prelude.{◌≡◌, ◌+◌, ℕ, List, Option, Some, Ok}
+use Rattle.std.specs.Prelude.{◌≡◌, ◌+◌, ℕ, List, Some, Ok}
 use Rattle.cls_link.specs.Links.{Links}
 use Rattle.space_ids.specs.declared.value.Value.{Value}
 use Rattle.sp_rules.specs.Behaviours as rules
