@@ -273,8 +273,11 @@ module _ (links : Links) (w : World) (owed : Owed w) (set : IsClassSet w.classes
   cast_fits (cast.Class asked) casts t (referent.Stub reference) one e =
       elim (one_holds (is_object w.classes asked) (implements_remotely w.classes reference.class asked) e) [
         | inl is ↦ (owed.object, subst (λ (c : ClassId). IsObjectAssignable w.classes w.object c) (owed.object_named asked (object_named w.classes asked is)) (inr (itself w.object)))
-        | inr is ↦ (owed.object, inl (interface_sound w.classes asked (first (is_interface w.classes asked) (is_below_remote w.classes asked)
-            (first (is_remote_interface w.classes asked) (is_subtype w.classes reference.class asked) is))))
+        | inr is ↦ (
+          owed.object,
+          inl (interface_sound w.classes asked (first (is_interface w.classes asked) (is_below_remote w.classes asked)
+              (first (is_remote_interface w.classes asked) (is_subtype w.classes reference.class asked) is))),
+        )
       ]
   cast_fits cast.IntArray casts t (referent.Stub reference) one e = absurd (true_false (sym e))
 

@@ -103,13 +103,7 @@ impl Phase {
 
 // The phase of a machine that waited for this reply to what it asked. Among the instructions of its
 // method there is one after the one that asked.
-fn complete(
-    machine: Machine,
-    asked: Asked,
-    code: &[LinkedInsn],
-    reply: Reply,
-    fuel: u64,
-) -> Phase
+fn complete(machine: Machine, asked: Asked, code: &[LinkedInsn], reply: Reply, fuel: u64) -> Phase
     requires next { machine.stack.frame.index + 1 < length code.now }
     requires fits { NotStuck (answered asked reply machine) }
     ensures { phase_state result ≡ after machine.heap.cells (answered asked reply machine) (fuel_after asked reply fuel) }

@@ -17,11 +17,7 @@ use vm_heap::Value;
 
 /// Why no task starts at the method of this number with these arguments: the lowest fault that fits.
 #[tactic(auto, using(crate::proofs::Refused::fault_found, crate::proofs::Refused::fault_absent))]
-pub fn refuses_start(
-    linked: &Linked,
-    id: MethodId,
-    arguments: &[Value],
-) -> Option<StartFault>
+pub fn refuses_start(linked: &Linked, id: MethodId, arguments: &[Value]) -> Option<StartFault>
     ensures { result ≡ start_fault linked.now id arguments.now }
 {
     match find(linked, id) {
@@ -31,19 +27,13 @@ pub fn refuses_start(
 }
 
 /// Why the method is not started with these arguments: the lowest fault that fits.
-pub fn refuses(
-    set: &ClassSet,
-    method: &Method,
-    arguments: &[Value],
-) -> Option<StartFault>
+pub fn refuses(set: &ClassSet, method: &Method, arguments: &[Value]) -> Option<StartFault>
     ensures { result ≡ refusal set.now method.now arguments.now }
 {
     if !may_take(set, &method.types) {
         return Some(StartFault::BadSignature);
     }
-    if is_class_method(method)
-        && are_filled(set, method.types.parameters.as_slice(), arguments)
-    {
+    if is_class_method(method) && are_filled(set, method.types.parameters.as_slice(), arguments) {
         None
     } else {
         Some(StartFault::BadArgument)
