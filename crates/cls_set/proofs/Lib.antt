@@ -5,6 +5,9 @@ pub use Rattle.cls_order.proofs.Walks
 pub mod Arranged
 pub mod Broken
 pub mod Built
+pub mod Descends
+pub mod Inherits
+pub mod KeyOrder
 pub mod Numbering
 pub mod Orders
 pub mod Overrides

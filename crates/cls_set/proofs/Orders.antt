@@ -44,7 +44,7 @@ not_less_first Less b e = e
 not_less_first Equal b e = refl
 not_less_first Greater b e = refl
 
-lower_index : (a b : Ordering) → ordering_index a ≤ ordering_index b → is_lt b ≡ true → is_lt a ≡ true
+pub lower_index : (a b : Ordering) → ordering_index a ≤ ordering_index b → is_lt b ≡ true → is_lt a ≡ true
 lower_index Less b h e = refl
 lower_index Equal Less h e = absurd (omega (arith, h))
 lower_index Greater Less h e = absurd (omega (arith, h))
@@ -215,102 +215,10 @@ module _ (keys : List Key) (order : List ℕ) (o : IsOrder keys order) (key : Ke
         in
         rw (at, false_from_ne_true (nat_lt n n) (λ t. let h = ltb-true n n t in omega (arith, h))) refl
 
--- a search for what clashes with a method: nothing before an index does, and what follows is not below the method
-pub record IsSearching (lower upper : ClassFile) (order : List ℕ) (low : Method) (next : ℕ) : Type 0 where
-  pub none : (p d : ℕ) (m : Method) → p < next → slice_get upper.methods (get_or order p d) ≡ Some m
-      → Clashes lower upper low m → ⊥
-  pub past : (p d : ℕ) → next ≤ p → p < length order
-      → is_below (keys_of Methods upper) (method_key low) (get_or order p d) ≡ false
-
 -- the key of a method of a class
 pub key_read : (upper : ClassFile) (i : ℕ) (m : Method) → slice_get upper.methods i ≡ Some m
     → key_at (keys_of Methods upper) i ≡ method_key m
 key_read upper i m e = ap key_in (slice_get-map method_key upper.methods i ∙ ap (option_map method_key) e)
-
-module _ (lower upper : ClassFile) (order : List ℕ) (o : IsOrder (keys_of Methods upper) order) (low : Method) where
-  abbrev keys : List Key
-  keys = keys_of Methods upper
-
-  key_here : (i : ℕ) (m : Method) → slice_get upper.methods i ≡ Some m → Clashes lower upper low m
-      → key_at keys i ≡ method_key low
-  key_here i m e clash =
-      key_read upper i m e
-      ∙ (ap (λ (n : List ℕ). (n, m.descriptor)) (sym clash.name)
-      ∙ ap (λ (n : List ℕ). (low.name, n)) (sym clash.descriptor))
-
-  pub search_starts : (first : ℕ) → IsLowerBound keys order (method_key low) first → first ≤ length order
-      → IsSearching lower upper order low first
-  search_starts first parts inside =
-      record {
-        none = λ p d m h e clash.
-            let k = get_or order p d in
-            not_below keys order o (method_key low) k (key_here k m e clash) (parts.0 p d (omega arith) h);
-        past = λ p d low_p high. parts.1 p d low_p high;
-      }
-
-  pub search_on : (next d : ℕ) (m : Method) → IsSearching lower upper order low next
-      → slice_get upper.methods (get_or order next d) ≡ Some m → next < length order → (Clashes lower upper low m → ⊥)
-      → IsSearching lower upper order low (next + 1)
-  search_on next d m s e inside none =
-      record {
-        none = λ p f n h at clash.
-            elim (before p next) [
-              | inl less ↦ s.none p f n less at clash
-              | inr more ↦
-                  let same : p ≡ next = omega (arith, h, more) in
-                  let read = ap (λ i. get_or order i f) same ∙ same_read order next f d inside in
-                  let one = same_some (sym at ∙ (ap (slice_get upper.methods) read ∙ e)) in
-                  none (subst (Clashes lower upper low) one clash)
-            ];
-        past = λ p f h l. s.past p f (omega (arith, h)) l;
-      }
-
-  -- the index in the order of a method that clashes
-  stands_at : (next : ℕ) → IsSearching lower upper order low next → Any (Clashes lower upper low) upper.methods
-      → (p : ℕ) × (i : ℕ) × (m : Method) × (next ≤ p) × (p < length order) × (get_or order p i ≡ i)
-      × (slice_get upper.methods i ≡ Some m) × Clashes lower upper low m
-  stands_at next s (i, m, h, is, clash) =
-      let long = length-map upper.methods method_key in
-      let at = o.each i (omega (arith, h, long)) in
-      let e : slice_get upper.methods i ≡ Some m = slice_get-get_or upper.methods i m h ∙ ap (λ x. Some x) is in
-      elim (before at.0 next) [
-        | inl less ↦ absurd (s.none at.0 i m less (ap (slice_get upper.methods) at.2 ∙ e) clash)
-        | inr more ↦ (at.0, i, m, more, at.1, at.2, e, clash)
-      ]
-
-  pub search_ends : (next : ℕ) → IsSearching lower upper order low next → length order ≤ next
-      → Any (Clashes lower upper low) upper.methods → ⊥
-  search_ends next s end any =
-      let at = stands_at next s any in
-      let more = at.3 in
-      let inside = at.4 in
-      absurd (omega (arith, more, inside, end))
-
-  pub search_stops : (next d : ℕ) (high : Method) → IsSearching lower upper order low next → next < length order
-      → slice_get upper.methods (get_or order next d) ≡ Some high
-      → ((low.name ≡ high.name) × (low.descriptor ≡ high.descriptor) → ⊥)
-      → Any (Clashes lower upper low) upper.methods → ⊥
-  search_stops next d high s inside e other any =
-      let at = stands_at next s any in
-      let i = at.1 in
-      let m = at.2 in
-      let there = ap (key_at keys) at.5 ∙ key_here i m at.6 at.7 in
-      let past = s.past next i (omega arith) inside in
-      let here = at_key keys order o (method_key low) next at.0 i at.3 at.4 past there in
-      let read = ap (slice_get upper.methods) (same_read order next i d inside) ∙ e in
-      let same : method_key low ≡ method_key high = sym here ∙ key_read upper (get_or order next i) high read in
-      other (ap (λ (k : Key). k.0) same, ap (λ (k : Key). k.1) same)
-
--- a method, as it is read at an index of the order
-pub method_read : (upper : ClassFile) (order : List ℕ) → IsOrder (keys_of Methods upper) order
-    → (next : ℕ) (methods : List Method) (high : Method) → methods ≡ upper.methods → next < length order
-    → high ≡ get_or methods (get_or order next 0) high → slice_get upper.methods (get_or order next 0) ≡ Some high
-method_read upper order o next methods high same inside is =
-    let i = get_or order next 0 in
-    let long = length-map upper.methods method_key in
-    let few = o.only next 0 inside in
-    let inside = slice_get-get_or upper.methods i high (omega (arith, few, long)) in
-    inside ∙ ap (λ m. Some m) (ap (λ ms. get_or ms i high) (sym same) ∙ sym is)
 
 -- the orders of the classes so far
 pub record HaveFirstOrders (kind : MemberKind) (classes : List Class) (n : ℕ) (orders : List (List ℕ)) : Type 0 where

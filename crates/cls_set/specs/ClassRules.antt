@@ -1,6 +1,5 @@
 -- How the rules on each class are looked for; `Rules` states them. (This project's own.)
 use Rattle.std.specs.Prelude.{◌≡◌, ◌≢◌, ◌<◌, ◌⊎◌, ◌↔◌, ℕ, Bool, Some, None, List, Contains, IsPermutation, codes, slice_get}
-use Rattle.std.specs.List.{Any}
 use Rattle.cf_reader.specs.declared.class_file.ClassFile.{ClassFile}
 use Rattle.cf_text.specs.declared.types.FieldType.{FieldType}
 use Rattle.cf_reader.specs.declared.class_file.Field.{Field}
@@ -12,8 +11,9 @@ use Rattle.cls_order.specs.declared.fault.SetRule.{SetRule}
 use Rattle.cls_order.specs.declared.fault.SetRule.TheVariants as rules
 use Rattle.cls_set.specs.declared.rules.ClassRule.{ClassRule}
 use Rattle.cls_set.specs.declared.rules.ClassRule.TheVariants.{BadSuper, FinalSuper, RemoteField, RemoteMethod, Override}
+use Rattle.cls_set.specs.Descending.{AreOverriding}
 use Rattle.cls_set.specs.Faults.{IsFirstToBreak, IsKept, Keeps}
-use Rattle.cls_set.specs.Rules.{CanBeKept, CanCross, Clashes, Has, HasFieldNotKept, HasMethodNotCrossing, HasSuperclass, HasSuperinterface, IsBelowRemote, IsItOrAbove, IsSuperclass}
+use Rattle.cls_set.specs.Rules.{CanBeKept, CanCross, Has, HasFieldNotKept, HasMethodNotCrossing, HasSuperclass, HasSuperinterface, IsBelowRemote, IsItOrAbove}
 use Rattle.cls_order.specs.declared.class.Class.{Class}
 use Rattle.cls_order.specs.declared.entries.Entry.{Entry}
 use Rattle.cls_set.specs.declared.remote.MemberKind.{MemberKind}
@@ -47,13 +47,6 @@ abbrev pub IsBadlyRooted : ClassFile → Type 0
 IsBadlyRooted file =
     ((file.superclass ≡ None) × (file.name ≢ codes "java/lang/Object"))
     ⊎ (Has file.flags.bits INTERFACE × (file.superclass ≢ Some (codes "java/lang/Object")))
-
--- one of the methods clashes with a method of a class; with one of a superclass
-abbrev pub ClashesIn : ClassFile → ClassFile → Type 0
-ClashesIn lower upper = Any (λ (low : Method). Any (Clashes lower upper low) upper.methods) lower.methods
-
-abbrev pub ClashesAbove : List Origin → ClassFile → ClassFile → Type 0
-ClashesAbove classes lower below = (upper : ClassFile) × IsSuperclass classes below upper × ClashesIn lower upper
 
 -- by number, which classes are java/rmi/Remote or below it
 pub record AreRemote (entries : List Entry) (told : List Bool) : Type 0 where
@@ -95,6 +88,7 @@ pub record AreFacts (entries : List Entry) (facts : Facts) : Type 0 where
   pub fields : AreUnfit Fields entries facts.fields.items
   pub methods : AreUnfit Methods entries facts.methods.items
   pub orders : HaveOrders Methods (classes_of entries) facts.orders.items
+  pub overriding : AreOverriding entries facts.overriding.items
 
 -- the first class that breaks the rule, unless memory ran out
 abbrev pub IsRuleFault : List Origin → SetRule → SetFault → Type 0

@@ -4,6 +4,9 @@ pub use Rattle.cls_order.specs.FaultNames
 pub use Rattle.cls_order.specs.Sets
 pub use Rattle.cls_order.specs.Subtypes
 pub mod ClassRules
+pub mod Descending
 pub mod Faults
+pub mod Inheriting
+pub mod KeyNumbers
 pub mod Orders
 pub mod Rules

@@ -13,9 +13,11 @@ pub use space_ids::ClassId;
 
 mod arranging;
 mod class_set;
+mod descending;
+mod inheriting;
+mod key_numbers;
 mod members;
 mod ordering;
-mod overriding;
 mod remote;
 mod rules;
 

@@ -13,7 +13,7 @@ use std::alloc::{AllocError, Global};
 use std::cmp::Ordering;
 
 // How many members there are.
-fn count(file: &ClassFile, kind: MemberKind) -> u16
+pub(crate) fn count(file: &ClassFile, kind: MemberKind) -> u16
     ensures { result ≡ length (keys_of kind file.now) }
 {
     match kind {
@@ -23,7 +23,7 @@ fn count(file: &ClassFile, kind: MemberKind) -> u16
 }
 
 // The name and the descriptor of a member: empty ones if there is none.
-fn key(file: &ClassFile, kind: MemberKind, index: u16) -> (&[u8], &[u8])
+pub(crate) fn key(file: &ClassFile, kind: MemberKind, index: u16) -> (&[u8], &[u8])
     ensures name { result.0.now ≡ (key_at (keys_of kind file.now) index).0 }
     ensures descriptor { result.1.now ≡ (key_at (keys_of kind file.now) index).1 }
 {
@@ -53,7 +53,12 @@ fn by_length<'a>(name: &'a [u8], descriptor: &'a [u8]) -> (&'a [u8], &'a [u8], b
     }
 }
 
-fn compare_keys(a_name: &[u8], a_descriptor: &[u8], b_name: &[u8], b_descriptor: &[u8]) -> Ordering
+pub(crate) fn compare_keys(
+    a_name: &[u8],
+    a_descriptor: &[u8],
+    b_name: &[u8],
+    b_descriptor: &[u8],
+) -> Ordering
     ensures { result ≡ key_cmp (a_name.now, a_descriptor.now) (b_name.now, b_descriptor.now) }
 {
     let (a_shorter, a_longer, a_is_short) = by_length(a_name, a_descriptor);
@@ -81,7 +86,7 @@ fn is_before(file: &ClassFile, kind: MemberKind, index: u16, name: &[u8], descri
 }
 
 // Where in their order those members begin that do not come before this name and descriptor.
-pub(crate) fn lower_bound(
+fn lower_bound(
     file: &ClassFile,
     kind: MemberKind,
     order: &[u16],

@@ -11,8 +11,8 @@ ghost use Rattle.cls_order.specs.Marks.{IsMarked};
 ghost use Rattle.cls_set.specs.Rules.{Breaks};
 ghost use Rattle.cls_order.specs.declared.fault.SetRule.TheVariants.{BadSuper, TooMany};
 
+use super::descending::find_overriding;
 use super::ordering::orders;
-use super::overriding::overrides_badly;
 use super::remote::{MemberKind, find_remote, find_unfit};
 use super::{SetFault, SetRule};
 use cf_reader::{Flags, Row};
@@ -108,6 +108,8 @@ pub(crate) struct Facts {
     pub(crate) methods: Vec<bool>,
     // Its methods in their order.
     pub(crate) orders: Vec<Row<u16>>,
+    // Whether it has a method that may not stand below one of a superclass.
+    pub(crate) overriding: Vec<bool>,
 }
 
 pub(crate) fn find_facts(alloc: Global, entries: &[Entry]) -> Result<Facts, AllocError>
@@ -120,11 +122,13 @@ pub(crate) fn find_facts(alloc: Global, entries: &[Entry]) -> Result<Facts, Allo
     let fields = find_unfit(alloc, entries, order.as_slice(), told, MemberKind::Fields)?;
     let methods = find_unfit(alloc, entries, order.as_slice(), told, MemberKind::Methods)?;
     let orders = orders(alloc, entries, MemberKind::Methods)?;
+    let overriding = find_overriding(alloc, entries, order.as_slice())?;
     Ok(Facts {
         remote,
         fields,
         methods,
         orders,
+        overriding,
     })
 }
 
@@ -146,6 +150,12 @@ impl Facts {
     {
         self.is_remote(index) && is_in(self.methods.as_slice(), index)
     }
+
+    fn overrides_badly(&self, index: usize) -> bool
+        ensures { IsTrue result ↔ IsMarked self.now.overriding.items index }
+    {
+        is_in(self.overriding.as_slice(), index)
+    }
 }
 
 fn breaks(entries: &[Entry], facts: &Facts, index: usize, rule: ClassRule) -> bool
@@ -160,7 +170,7 @@ fn breaks(entries: &[Entry], facts: &Facts, index: usize, rule: ClassRule) -> bo
         ClassRule::FinalSuper => extends_one_with(entries, class, Flags::FINAL),
         ClassRule::RemoteField => !class.is_interface() && facts.has_unfit_field(index),
         ClassRule::RemoteMethod => class.is_interface() && facts.has_unfit_method(index),
-        ClassRule::Override => overrides_badly(entries, facts.orders.as_slice(), index),
+        ClassRule::Override => facts.overrides_badly(index),
     }
 }
 

@@ -1,6 +1,6 @@
 -- No call that is due is missed.
 use Rattle.std.proofs.Common.{◌≡◌, ℕ, zero, suc, ◌+◌, ◌-◌, ◌<◌, ◌≤◌, Bool, true, false, cond, not, eqb, ◌&&◌, ◌||◌, List, [], ◌∷◌, map, Option, Some, None, is_some, refl, sym, ap, subst, ◌∙◌, arith, inl, inr}
-use Rattle.std.specs.Prelude.{◌⊎◌, nat_lt, is_none, slice_get, option_map, unwrap_or}
+use Rattle.std.specs.Prelude.{◌⊎◌, nat_lt, is_none, slice_get, option_map, unwrap_or, Contains}
 use Rattle.std.specs.List.{position_or_len}
 use Rattle.std.specs.Map.{lookup, keys_of}
 use Rattle.std.proofs.lemmas.Bool.{false≢true, eqb-true, eq-eqb}
@@ -16,6 +16,8 @@ use Rattle.dgc_client.specs.declared.lease.Owed.TheVariants.{Nothing, Clean, Str
 use Rattle.dgc_index.specs.declared.plans.Term.{Term}
 use Rattle.dgc_client.specs.declared.leases.Leases.{Leases}
 use Rattle.dgc_index.specs.declared.deadlines.Deadline.{Deadline}
+use Rattle.dgc_index.specs.declared.deadlines.Deadlines.{Deadlines}
+use Rattle.dgc_index.specs.declared.touched.Touched.{Touched}
 use Rattle.dgc_client.specs.declared.picked.Question.{Question}
 use Rattle.dgc_client.specs.declared.picked.Question.TheVariants.{Renewed, Lapses}
 use Rattle.dgc_index.specs.declared.plans.Plans.{Plans}
@@ -156,6 +158,29 @@ sound-same old leases is moment s = record {
   ];
   planned = λ at r l term there. s.planned at r l term (ap (λ (es : List (ForeignId × ClientLease)). slice_get es at) (sym is) ∙ there);
   waiting = λ at r l there. s.waiting at r l (ap (λ (es : List (ForeignId × ClientLease)). slice_get es at) (sym is) ∙ there);
+}
+
+-- the same indexes and the same deadlines
+pub touched-same : (old new : Touched) → new.indexes.items ≡ old.indexes.items → new.all ≡ old.all → (at : ℕ) → IsTouched old at → IsTouched new at
+touched-same old new items all at h = λ none. subst (λ (indexes : List ℕ). Contains indexes at) (sym items) (h (sym all ∙ none))
+
+pub planned-same : (old new : Deadlines) → new.row.keys ≡ old.row.keys → new.all ≡ old.all → (d : Deadline) → IsPlanned old d → IsPlanned new d
+planned-same old new keys all d h = λ none. subst (λ (deadlines : List Deadline). Contains deadlines d) (sym keys) (h (sym all ∙ none))
+
+-- if leases are the same, and no index and no deadline is lost
+pub sound-copied : (old new : Clients) → leases_of new.leases ≡ leases_of old.leases → new.leases.moment ≡ old.leases.moment → new.moved ≡ old.moved
+    → ((at : ℕ) → IsTouched old.touched at → IsTouched new.touched at) → ((at : ℕ) → IsTouched old.later at → IsTouched new.later at)
+    → ((d : Deadline) → IsPlanned old.plans.halves d → IsPlanned new.plans.halves d) → ((d : Deadline) → IsPlanned old.plans.ends d → IsPlanned new.plans.ends d)
+    → IsSound old → IsSound new
+sound-copied old new is moment moved touched later halves ends s = record {
+  covered = λ at h. elim (s.covered at (subst (λ (es : List (ForeignId × ClientLease)). IsDueAt es at) is h)) [
+    | inl there ↦ inl (touched at there)
+    | inr half ↦ inr (moved ∙ half.0, (half.1.0, subst (λ (m : ℕ). half.1.0 ≤ m) (sym moment) half.1.1, halves (record { moment = half.1.0; index = at }) half.1.2))
+  ];
+  planned = λ at r l term there has.
+      let was = s.planned at r l term (ap (λ (es : List (ForeignId × ClientLease)). slice_get es at) (sym is) ∙ there) has in
+      record { half = halves (record { moment = half_at term; index = at }) was.half; end = ends (record { moment = end_at term; index = at }) was.end };
+  waiting = λ at r l there waits. later at (s.waiting at r l (ap (λ (es : List (ForeignId × ClientLease)). slice_get es at) (sym is) ∙ there) waits);
 }
 
 -- a moment, from what it makes of each lease

@@ -1,5 +1,5 @@
 -- A client makes a dirty call for a remote reference that it begins to hold, renews the lease before it ends, and makes a clean call when nothing holds the reference any more: a strong one after a dirty call that failed (Java RMI specification, 9.1).
-use Rattle.std.specs.Prelude.{ℕ, ◌+◌, ◌-◌, Bool, true, false, Option, None, Some, is_none, is_some, ◌&&◌, ◌||◌, ◌==◌, nat_lt, nat_le, not, if◌then◌else◌}
+use Rattle.std.specs.Prelude.{ℕ, ◌+◌, ◌-◌, Bool, true, false, Option, None, Some, is_none, is_some, ◌&&◌, ◌||◌, ◌==◌, nat_lt, not, if◌then◌else◌}
 use Rattle.dgc_client.specs.declared.lease.ClientLease.{ClientLease}
 use Rattle.dgc_client.specs.declared.lease.Due.{Due}
 use Rattle.dgc_client.specs.declared.lease.Due.TheVariants.{Dirty, Clean as Clean_due}
@@ -7,6 +7,7 @@ use Rattle.dgc_client.specs.declared.lease.Made.{Made}
 use Rattle.dgc_client.specs.declared.lease.Owed.{Owed}
 use Rattle.dgc_client.specs.declared.lease.Owed.TheVariants.{Nothing, Clean, Strong, Again}
 use Rattle.dgc_index.specs.declared.plans.Term.{Term}
+use Rattle.dgc_index.specs.Plans.{is_half_over_at, stands_at}
 
 -- a reference to which nothing happened yet
 abbrev pub fresh : ℕ → ClientLease
@@ -35,15 +36,15 @@ after_hold l = record l { holders = one_more l.holders }
 abbrev pub after_drop : ClientLease → ClientLease
 after_drop l = record l { holders = one_less l.holders }
 
--- The lease if it stands: its period, counted from the moment at which its dirty call was sent, is not over.
+-- the lease, if it stands at the moment
 abbrev pub standing : Option Term → ℕ → Option Term
 standing None moment = None
-standing (Some term) moment = if nat_lt (moment - term.sent) term.period then Some term else None
+standing (Some term) moment = if stands_at term moment then Some term else None
 
--- Whether not more than half of the period is left: what is left is not more than what is over.
+-- whether there is a lease, and not more than half of its period is left
 abbrev pub is_half_over : Option Term → ℕ → Bool
 is_half_over None moment = false
-is_half_over (Some term) moment = nat_le (term.period - (moment - term.sent)) (moment - term.sent)
+is_half_over (Some term) moment = is_half_over_at term moment
 
 abbrev pub at_moment : ℕ → ClientLease → ClientLease
 at_moment moment l = record l { moment = moment; waits = false; lease = standing l.lease moment; renew = is_half_over (standing l.lease moment) moment }

@@ -16,13 +16,11 @@ use dgc_index::Touched;
 fn due_call(reference: &ForeignId, lease: &ClientLease) -> Option<DueCall>
     ensures { result ≡ due_call reference.now (due lease.now) }
 {
-    match lease.due() {
-        Some(kind) => Some(DueCall {
-            reference: *reference,
-            kind,
-        }),
-        None => None,
-    }
+    let kind = lease.due()?;
+    Some(DueCall {
+        reference: *reference,
+        kind,
+    })
 }
 
 // The call that is due at an index.

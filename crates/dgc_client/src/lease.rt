@@ -1,7 +1,7 @@
 //! One foreign reference: its holders, its lease, and the due call.
 
 ghost use Rattle.std.specs.Prelude.{◌≡◌};
-ghost use Rattle.dgc_client.specs.Lease.{fresh, is_made, after_hold, after_drop, standing, is_half_over, after_moment, after_dirty, after_clean, after_sent, after_answer, after_failed_dirty, after_answered_clean, after_failed_clean, due_held, due_unheld, is_waiting, due, is_renewed_at, lapses_at};
+ghost use Rattle.dgc_client.specs.Lease.{fresh, is_made, after_hold, after_drop, after_moment, after_dirty, after_clean, after_sent, after_answer, after_failed_dirty, after_answered_clean, after_failed_clean, due_held, due_unheld, is_waiting, due, is_renewed_at, lapses_at};
 ghost use Rattle.dgc_client.specs.History.{after, event_of};
 
 use dgc_index::Term;
@@ -130,8 +130,8 @@ impl ClientLease {
         }
         self.moment = moment;
         self.waits = false;
-        self.lease = standing(self.lease, moment);
-        self.renew = is_half_over(self.lease, moment);
+        self.lease = self.lease.filter(|term| term.stands_at(moment));
+        self.renew = self.lease.is_some_and(|term| term.is_half_over_at(moment));
     }
 
     /// Notes that a dirty call was made for the reference.
@@ -309,28 +309,5 @@ impl ClientLease {
                 _ => None,
             },
         }
-    }
-}
-
-// The lease, if it stands at the moment.
-fn standing(lease: Option<Term>, moment: u64) -> Option<Term>
-    ensures { result ≡ standing lease moment }
-{
-    match lease {
-        Some(term) if moment.saturating_sub(term.sent) < term.period => lease,
-        _ => None,
-    }
-}
-
-// Whether not more than half of the lease's period is left.
-fn is_half_over(lease: Option<Term>, moment: u64) -> bool
-    ensures { result ≡ is_half_over lease moment }
-{
-    match lease {
-        Some(term) => {
-            let over = moment.saturating_sub(term.sent);
-            term.period.saturating_sub(over) <= over
-        }
-        None => false,
     }
 }

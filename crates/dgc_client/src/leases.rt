@@ -59,6 +59,19 @@ impl Leases {
         }
     }
 
+    // The same leases, with no room for more.
+    pub(crate) fn copy(&self) -> Result<Leases, AllocError>
+        ensures entries { IfOk result (λ copy. copy.references.entries ≡ self.now.references.entries) }
+        ensures moment { IfOk result (λ copy. copy.moment ≡ self.now.moment) }
+        ensures moments { IfOk result (λ copy. copy.moments ≡ self.now.moments) }
+    {
+        Ok(Leases {
+            references: self.references.clone()?,
+            moment: self.moment,
+            moments: self.moments,
+        })
+    }
+
     // How many references were ever held.
     pub(crate) fn len(&self) -> usize
         ensures len { result ≡ length (leases_of self.now) }

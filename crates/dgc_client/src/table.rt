@@ -1,6 +1,6 @@
 //! All foreign references of a space.
 
-ghost use Rattle.std.specs.Prelude.{◌≡◌, ◌≤◌, ◌<◌, ◌+◌, ◌^◌, ℕ, List, [], ◌∷◌, OnOk, OnErr, IfOk, IfSome, IfNone, IsTrue, Contains, Some, length, vec_len, true, false, map, filter};
+ghost use Rattle.std.specs.Prelude.{◌≡◌, ◌≤◌, ◌<◌, ◌+◌, ◌-◌, ◌^◌, ℕ, List, [], ◌∷◌, OnOk, OnErr, IfOk, IfSome, IfNone, IsTrue, Contains, Some, length, vec_len, true, false, map, filter};
 ghost use Rattle.std.specs.List.{filter_map, IsDistinct};
 ghost use Rattle.std.specs.Map.{keys_of};
 ghost use Rattle.dgc_client.specs.Kept.{is_same};
@@ -62,6 +62,20 @@ impl Clients {
             moved: false,
             numbers: 0,
         }
+    }
+
+    /// Returns a table of the same history, with no room for more references. It takes a step a reference.
+    pub fn copy(&self) -> Result<Clients, AllocError>
+        ensures copied { IfOk result (λ copy. (h : List Told) → IsAfter h self.now → IsAfter h copy) }
+    {
+        Ok(Clients {
+            leases: self.leases.copy()?,
+            touched: self.touched.clone()?,
+            later: self.later.clone()?,
+            plans: self.plans.clone()?,
+            moved: self.moved,
+            numbers: self.numbers,
+        })
     }
 
     /// Returns what is kept of a reference.
@@ -214,16 +228,16 @@ impl Clients {
     }
 
     /// Notes that the group, or a [part](Group::parts) of it, goes out now in one frame. Returns
-    /// its number, one above the last; `None` if that would be 2^63, and then nothing changes.
+    /// its number, one above the last; `None` if that would be 2^64 - 1, and then nothing changes.
     pub fn sent(&mut self, group: &Group, call: u64) -> Option<u64>
         ensures number { IfSome result (λ number. (h : List Told) → IsAfter h self.old → number ≡ numbers_of h + 1) }
-        ensures below { IfSome result (λ number. number < 2 ^ 63) }
+        ensures below { IfSome result (λ number. number < 2 ^ 64 - 1) }
         ensures some { IfSome result (λ number. (h : List Told) → IsAfter h self.old → IsAfter (sent group.now call h) self.new) }
-        ensures worn { IfNone result ((h : List Told) → IsAfter h self.old → 2 ^ 63 ≤ numbers_of h + 1) }
+        ensures worn { IfNone result ((h : List Told) → IsAfter h self.old → 2 ^ 64 - 1 ≤ numbers_of h + 1) }
         ensures none { IfNone result (self.new ≡ self.old) }
         ensures room { room self.new ≡ room self.old }
     {
-        if self.numbers >= (1 << 63) - 1 {
+        if self.numbers >= u64::MAX - 1 {
             return None;
         }
         if matches!(group.kind, Due::Dirty) {

@@ -17,7 +17,7 @@ pub struct Deadline {
 
 /// Deadlines in the order of their moments. A deadline for which there was no memory is not lost: from
 /// then on there may be one at any moment, until all are [cleared](Deadlines::clear).
-#[derive(Debug, Drop)]
+#[derive(Clone, Debug, Drop)]
 pub struct Deadlines {
     /// The deadlines that are known.
     pub row: BTreeSet<Deadline>,

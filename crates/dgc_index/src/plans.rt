@@ -4,7 +4,7 @@ ghost use Rattle.std.specs.Prelude.{◌≡◌, ◌||◌, ℕ, Some, true, false}
 ghost use Rattle.dgc_index.specs.declared.deadlines.Deadline.{Deadline};
 ghost use Rattle.dgc_index.specs.declared.plans.Term.{Term};
 ghost use Rattle.dgc_index.specs.Deadlines.{IsPlanned};
-ghost use Rattle.dgc_index.specs.Plans.{half_at, end_at, IsPlannedTerm};
+ghost use Rattle.dgc_index.specs.Plans.{half_at, end_at, is_half_over_at, stands_at, IsPlannedTerm};
 
 use crate::{Deadline, Deadlines, over_at};
 use std::alloc::Global;
@@ -17,10 +17,27 @@ pub struct Term {
 }
 
 /// When each lease is half over, and when it ends.
-#[derive(Debug, Drop)]
+#[derive(Clone, Debug, Drop)]
 pub struct Plans {
     pub halves: Deadlines,
     pub ends: Deadlines,
+}
+
+impl Term {
+    /// Returns whether the lease stands at a moment.
+    pub fn stands_at(&self, moment: u64) -> bool
+        ensures { result ≡ stands_at self.now moment }
+    {
+        moment.saturating_sub(self.sent) < self.period
+    }
+
+    /// Returns whether not more than half of the period is left at a moment.
+    pub fn is_half_over_at(&self, moment: u64) -> bool
+        ensures { result ≡ is_half_over_at self.now moment }
+    {
+        let over = moment.saturating_sub(self.sent);
+        self.period.saturating_sub(over) <= over
+    }
 }
 
 impl Plans {

@@ -8,6 +8,7 @@ use crate::Remembered;
 use lru::LruCache;
 use std::alloc::{AllocError, Global};
 use std::marker::Model;
+use table_copies::{CopyIn, copy_cache};
 use uuid::Uuid;
 
 /// The clients that are remembered of one object. Those with an entry are in the order in which the
@@ -42,6 +43,15 @@ impl Clients {
     {
         Ok(Clients {
             remembered: LruCache::unbounded(alloc)?,
+        })
+    }
+
+    // The same clients.
+    pub(crate) fn copy(&self) -> Result<Clients, AllocError>
+        ensures { IfOk result (λ copy. copy ≡ self.now) }
+    {
+        Ok(Clients {
+            remembered: copy_cache(&self.remembered)?,
         })
     }
 
@@ -154,5 +164,15 @@ impl Clients {
             unreachable!();
         };
         let _ = self.remembered.demote(client);
+    }
+}
+
+impl CopyIn for Clients {
+    ghost use Rattle.std.specs.Prelude.{◌≡◌};
+
+    ghost is_copy = { λ clients copy. copy ≡ clients };
+
+    fn copy_in(&self, _alloc: Global) -> Result<Clients, AllocError> {
+        self.copy()
     }
 }

@@ -20,7 +20,7 @@ pub(crate) struct Expiry {
 /// Expiries in the order of their moments, one for each entry that stands. One more may be there if
 /// an entry went with its object, or its call was out of memory. It does no harm, since the entry
 /// itself is looked at when the moment comes.
-#[derive(Debug, Drop)]
+#[derive(Clone, Debug, Drop)]
 pub(crate) struct Expiries {
     row: BTreeSet<Expiry>,
 }

@@ -40,6 +40,18 @@ impl RefList {
         }
     }
 
+    /// Returns reference lists of the same history. Room that was made may be lost. It costs a step
+    /// a client of an object.
+    pub fn copy(&self) -> Result<RefList, AllocError>
+        ensures copied { IfOk result (λ copy. (h : List Call) → IsAfter h self.now → IsAfter h copy) }
+    {
+        Ok(RefList {
+            objects: self.objects.copy()?,
+            expiries: self.expiries.clone()?,
+            moment: self.moment,
+        })
+    }
+
     /// Makes room for what is remembered of a client at these objects, so that a strong
     /// [`clean_reserved`](RefList::clean_reserved) takes no memory. Nothing else changes, even if
     /// it is out of memory.

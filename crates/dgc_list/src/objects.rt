@@ -1,6 +1,6 @@
 //! The objects of which clients are remembered.
 
-ghost use Rattle.std.specs.Prelude.{◌≡◌, false, [], IsTrue, OnOk, MatchOption, is_some, if◌then◌else◌, ◌||◌};
+ghost use Rattle.std.specs.Prelude.{◌≡◌, false, [], IsTrue, IfOk, OnOk, MatchOption, is_some, if◌then◌else◌, ◌||◌};
 ghost use Rattle.std.specs.Map.{lookup};
 ghost use Rattle.space_ids.specs.declared.ids.ObjId.{ObjId};
 ghost use Rattle.dgc_list.specs.Remembered.{is_blank};
@@ -13,6 +13,7 @@ use indexmap::IndexMap;
 use space_ids::ObjId;
 use std::alloc::{AllocError, Global};
 use std::marker::Model;
+use table_copies::copy_map;
 use uuid::Uuid;
 
 /// The objects of which clients are remembered, with those clients.
@@ -38,6 +39,15 @@ impl Objects {
         Objects {
             lists: IndexMap::new(alloc),
         }
+    }
+
+    // The same objects.
+    pub(crate) fn copy(&self) -> Result<Objects, AllocError>
+        ensures { IfOk result (λ copy. copy ≡ self.now) }
+    {
+        Ok(Objects {
+            lists: copy_map(&self.lists)?,
+        })
     }
 
     // The clients of an object. None are remembered of an object that is not there.

@@ -3,6 +3,9 @@
 ghost use Rattle.std.specs.Prelude.{◌≡◌, ◌+◌, ◌^◌, ◌<◌, ◌↔◌, IsTrue};
 ghost use Rattle.dgc_list.specs.Remembered.{blank, is_late, after_dirty, after_clean, after_moment, is_blank};
 
+use std::alloc::{AllocError, Global};
+use table_copies::CopyIn;
+
 /// What an owner remembers of a client and an object. Nothing is remembered if each part is `None`.
 #[derive(Clone, Copy, Debug, PartialEq, Eq)]
 pub struct Remembered {
@@ -12,6 +15,16 @@ pub struct Remembered {
     pub strong: bool,
     /// The moment from which the client's entry is gone, if one stands.
     pub expires: Option<u64>,
+}
+
+impl CopyIn for Remembered {
+    ghost use Rattle.std.specs.Prelude.{◌≡◌};
+
+    ghost is_copy = { λ remembered copy. copy ≡ remembered };
+
+    fn copy_in(&self, _alloc: Global) -> Result<Remembered, AllocError> {
+        Ok(*self)
+    }
 }
 
 impl Remembered {

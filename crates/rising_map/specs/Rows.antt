@@ -32,3 +32,7 @@ pub record AreRows {T : Type 0} (rows : List (ℕ × T)) (map : RisingMap T) : T
 -- for how many more rows a map has room
 abbrev pub room : {T : Type 0} → RisingMap T → ℕ
 room map = spare map.rows
+
+-- whatever rows the map may have, the other may have, if copies of rows are the rows
+abbrev pub HasRowsOf : {T : Type 0} → (T → T → Type 0) → RisingMap T → RisingMap T → Type 0
+HasRowsOf {T} copies map other = ((row copy : T) → copies row copy → copy ≡ row) → (rows : List (ℕ × T)) → AreRows rows map → AreRows rows other

@@ -8,6 +8,7 @@ ghost use Rattle.std.specs.Map.{keys_of, lookup, remove_entry, set_value, values
 use indexmap::IndexMap;
 use std::alloc::{AllocError, Global};
 use std::mem;
+use table_copies::{CopyIn, copy_map};
 
 /// Rows by numbers. A row that comes has a number above all that are there, so the rows have the order
 /// in which they came. A row is found, changed and taken away at a cost that does not depend on how many
@@ -125,5 +126,29 @@ impl<T: Drop> RisingMap<T> {
         ensures distinct { IsDistinct nat_eq (keys_of self.now.rows.entries) }
     {
         self.rows.keys().copied().collect(alloc)
+    }
+}
+
+impl<T: CopyIn> RisingMap<T> {
+    ghost use Rattle.rising_map.specs.Rows.{HasRowsOf};
+
+    /// Returns a map of copies of the rows, each under the number of its row. It may have no room for
+    /// more. It costs a step a row.
+    pub fn copy(&self) -> Result<RisingMap<T>, AllocError>
+        ensures copied { IfOk result (λ copy. HasRowsOf T.is_copy self.now copy) }
+    {
+        Ok(RisingMap {
+            rows: copy_map(&self.rows)?,
+        })
+    }
+}
+
+impl<T: CopyIn> CopyIn for RisingMap<T> {
+    ghost use Rattle.rising_map.specs.Rows.{HasRowsOf};
+
+    ghost is_copy = { HasRowsOf T.is_copy };
+
+    fn copy_in(&self, _alloc: Global) -> Result<RisingMap<T>, AllocError> {
+        self.copy()
     }
 }

@@ -54,6 +54,19 @@ impl CallResults {
         }
     }
 
+    /// The same results at the same moment. Room that was made may be lost. It costs a step a result.
+    pub fn copy(&self) -> Result<CallResults, AllocError>
+        ensures copied { IfOk result (λ copy. (moment : ℕ) (results : List Kept) → AreCallResults moment results self.now → AreCallResults moment results copy) }
+    {
+        Ok(CallResults {
+            alloc: self.alloc,
+            values: self.values.copy()?,
+            unacknowledged: self.unacknowledged.copy()?,
+            orphans: self.orphans.clone()?,
+            last: self.last,
+        })
+    }
+
     /// Whether a result waits for the Ack of this number on this connection.
     pub fn contains(&self, conn: u64, number: u64) -> bool
         ensures { (moment : ℕ) (results : List Kept) → AreCallResults moment results self.now → result ≡ list_any (is_acked_by conn number) results }

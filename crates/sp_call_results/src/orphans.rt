@@ -20,7 +20,7 @@ pub(crate) struct Orphan {
 /// fall, those whose moment comes first stand first, so a moment looks at those alone that go.
 ///
 /// A contract names the list of them.
-#[derive(Debug, Drop)]
+#[derive(Clone, Debug, Drop)]
 pub(crate) struct Orphans {
     queue: VecDeque<Orphan>,
 }

@@ -1,15 +1,26 @@
 //! The tickets of results that wait for an Ack.
 
-ghost use Rattle.std.specs.Prelude.{◌≡◌, ℕ, ◌+◌, ◌≤◌, ◌<◌, false, nat_eq, length, List, [], None, IfSome, OnOk, MatchOption};
+ghost use Rattle.std.specs.Prelude.{◌≡◌, ℕ, ◌+◌, ◌≤◌, ◌<◌, false, nat_eq, length, List, [], None, IfOk, IfSome, OnOk, MatchOption};
 ghost use Rattle.std.specs.Map.{lookup};
 
 use indexmap::IndexMap;
 use std::alloc::{AllocError, Global};
+use table_copies::{CopyIn, copy_map};
 
 /// The tickets of the results of one connection that wait for an Ack, by the numbers of the calls.
 #[derive(Debug, Drop)]
 pub(crate) struct Numbers {
     pub(crate) tickets: IndexMap<u64, u64>,
+}
+
+impl CopyIn for Numbers {
+    ghost is_copy = { λ numbers copy. copy.tickets.entries ≡ numbers.tickets.entries };
+
+    fn copy_in(&self, _alloc: Global) -> Result<Numbers, AllocError> {
+        Ok(Numbers {
+            tickets: self.tickets.clone()?,
+        })
+    }
 }
 
 /// The tickets of results that wait for an Ack, by connections and numbers. A ticket is found, comes and
@@ -33,6 +44,16 @@ impl Unacknowledged {
             alloc,
             numbers: IndexMap::new(alloc),
         }
+    }
+
+    // The same tickets.
+    pub(crate) fn copy(&self) -> Result<Unacknowledged, AllocError>
+        ensures { IfOk result (λ copy. (holds : ℕ → List (ℕ × ℕ)) → AreTickets holds self.now → AreTickets holds copy) }
+    {
+        Ok(Unacknowledged {
+            alloc: self.alloc,
+            numbers: copy_map(&self.numbers)?,
+        })
     }
 
     // The ticket of a number on a connection, if there is one.

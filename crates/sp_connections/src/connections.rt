@@ -1,6 +1,6 @@
 //! The open connections of a space, and the peers that it dialled.
 
-ghost use Rattle.std.specs.Prelude.{◌≡◌, ◌≤◌, ◌<◌, ◌+◌, ◌||◌, ◌==◌, not, true, None, List, [], ◌∷◌, ◌++◌, Some, OnOk, is_some, filter, option_map};
+ghost use Rattle.std.specs.Prelude.{◌≡◌, ◌≤◌, ◌<◌, ◌+◌, ◌||◌, ◌==◌, not, true, None, List, [], ◌∷◌, ◌++◌, Some, IfOk, OnOk, is_some, filter, option_map};
 ghost use Rattle.uuid.specs.declared.Uuid.{Uuid as Peer};
 ghost use Rattle.sp_rules.specs.Lists.{at_first};
 ghost use Rattle.sp_rules.specs.State.{Connection as Row};
@@ -31,6 +31,16 @@ impl Connections {
             rows: IndexMap::new(alloc),
             links: IndexMap::new(alloc),
         }
+    }
+
+    /// The same connections and peers, with no room for more. It costs a step for each.
+    pub fn copy(&self) -> Result<Connections, AllocError>
+        ensures copied { IfOk result (λ copy. (rows : List Row) (dialling : List Peer) → AreConnections rows dialling self.now → AreConnections rows dialling copy) }
+    {
+        Ok(Connections {
+            rows: self.rows.clone()?,
+            links: self.links.clone()?,
+        })
     }
 
     /// What is kept of the connection of this number, if it is open.

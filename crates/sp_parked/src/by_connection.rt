@@ -6,6 +6,7 @@ ghost use Rattle.rising_map.specs.Rows.{AreBelow};
 use indexmap::IndexMap;
 use rising_map::RisingMap;
 use std::alloc::{AllocError, Global};
+use table_copies::copy_map;
 
 /// The tickets of the frames that came on a connection, by the connections, in the order in which they
 /// came. A ticket comes and goes at a cost that does not depend on how many there are.
@@ -28,6 +29,16 @@ impl ByConnection {
             alloc,
             tickets: IndexMap::new(alloc),
         }
+    }
+
+    // The same tickets.
+    pub(crate) fn copy(&self) -> Result<ByConnection, AllocError>
+        ensures { IfOk result (λ copy. (holds : ℕ → List ℕ) → AreTickets holds self.now → AreTickets holds copy) }
+    {
+        Ok(ByConnection {
+            alloc: self.alloc,
+            tickets: copy_map(&self.tickets)?,
+        })
     }
 
     // Makes room for one more ticket of a connection. Nothing else changes, at out of memory too.

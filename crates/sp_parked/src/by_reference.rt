@@ -10,6 +10,7 @@ use indexmap::IndexMap;
 use rising_map::RisingMap;
 use space_ids::ForeignId;
 use std::alloc::{AllocError, Global};
+use table_copies::copy_map;
 
 /// The tickets of the frames that name a reference, by the references, in the order in which they came. A
 /// ticket comes and goes at a cost that does not depend on how many there are.
@@ -32,6 +33,16 @@ impl ByReference {
             alloc,
             tickets: IndexMap::new(alloc),
         }
+    }
+
+    // The same tickets.
+    pub(crate) fn copy(&self) -> Result<ByReference, AllocError>
+        ensures { IfOk result (λ copy. (holds : Reference → List ℕ) → AreTickets holds self.now → AreTickets holds copy) }
+    {
+        Ok(ByReference {
+            alloc: self.alloc,
+            tickets: copy_map(&self.tickets)?,
+        })
     }
 
     // Makes room for one more ticket of a reference. Nothing else changes, at out of memory too.

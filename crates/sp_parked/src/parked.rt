@@ -45,6 +45,20 @@ impl Parked {
         }
     }
 
+    /// The same frames under the same tickets. Room that was made may be lost. It costs a step for each
+    /// frame and each reference in it.
+    pub fn copy(&self) -> Result<Parked, AllocError>
+        ensures copied { IfOk result (λ copy. (frames : List (ℕ × Waiting)) → AreParked frames self.now → AreParked frames copy) }
+        ensures last { IfOk result (λ copy. last_ticket copy ≡ last_ticket self.now) }
+    {
+        Ok(Parked {
+            frames: self.frames.copy()?,
+            by_reference: self.by_reference.copy()?,
+            by_connection: self.by_connection.copy()?,
+            last: self.last,
+        })
+    }
+
     /// The frame of a ticket, if it waits.
     pub fn get(&self, ticket: u64) -> Option<&ParkedFrame>
         ensures { (frames : List (ℕ × Waiting)) → AreParked frames self.now → option_copied result ≡ lookup (nat_eq ticket) frames }

@@ -1,3 +1,4 @@
+pub mod CopyLemmas
 pub mod RowLemmas
 pub mod LineLemmas
 pub mod AskedLemmas

@@ -23,6 +23,7 @@ use indexmap::IndexMap;
 use sp_requests::{Asked, Asker, Ended, Ending, OutCall, OutGroup, Requests};
 use space_ids::Uuid;
 use std::alloc::{AllocError, Global};
+use table_copies::copy_map;
 
 /// What is asked of each peer and has not ended, by the peer. A peer has a row from the first request on
 /// that is made of it until its connection ends, or until it refuses. No call looks at the rows of other
@@ -47,6 +48,17 @@ impl Peers {
             alloc,
             rows: IndexMap::new(alloc),
         }
+    }
+
+    /// The same that is asked of all peers. Room that was made may be lost. It costs a step for each row
+    /// and each value in it.
+    pub fn copy(&self) -> Result<Peers, AllocError>
+        ensures copied { IfOk result (λ copy. (connections : List Connection) (requests : List Request) → AreAsked connections requests self.now → AreAsked connections requests copy) }
+    {
+        Ok(Peers {
+            alloc: self.alloc,
+            rows: copy_map(&self.rows)?,
+        })
     }
 
     /// The call or lookup of this number that is out to a peer, if it is.

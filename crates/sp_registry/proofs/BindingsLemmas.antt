@@ -125,3 +125,23 @@ unbound-absent [] name absent = refl
 unbound-absent (b ∷ bs) name absent =
     let parts = unbound-parts (bytes_eq b.name name) b.object (lookup bs name) absent in
     rw parts.0 (ap (λ rest. b ∷ rest) (unbound-absent bs name parts.1))
+
+-- a name of which no binding is there is not that of a later one
+apart-later : (others rest : List Binding) (binding : Binding) (name : List ℕ) → lookup (others ++ binding ∷ rest) name ≡ None → bytes_eq name binding.name ≡ false
+apart-later [] rest binding name none = by (bytes_eq binding.name name) refl none
+  where
+    by : (t : Bool) → bytes_eq binding.name name ≡ t → cond t (Some binding.object) (lookup rest name) ≡ None → bytes_eq name binding.name ≡ false
+    by true is none = cc
+    by false is none = bytes_eq-sym name binding.name ∙ is
+apart-later (o ∷ others) rest binding name none = by (bytes_eq o.name name) none (apart-later others rest binding name)
+  where
+    by : (t : Bool) → cond t (Some o.object) (lookup (others ++ binding ∷ rest) name) ≡ None → (lookup (others ++ binding ∷ rest) name ≡ None → bytes_eq name binding.name ≡ false)
+        → bytes_eq name binding.name ≡ false
+    by true none go = cc
+    by false none go = go none
+
+-- a name of which one binding comes later has none before
+pub unbound-before : (bindings rest : List Binding) (binding : Binding) → HasNamesOnce (bindings ++ binding ∷ rest) → lookup bindings binding.name ≡ None
+unbound-before [] rest binding once = refl
+unbound-before (b ∷ bs) rest binding once =
+    ap (λ t. cond t (Some b.object) (lookup bs binding.name)) (apart-later bs rest binding b.name once.0) ∙ unbound-before bs rest binding once.1

@@ -53,6 +53,16 @@ impl Registry {
         })
     }
 
+    /// Returns a registry of the same bindings. It costs a step a name.
+    pub fn copy(&self) -> Result<Registry, AllocError>
+        ensures copied { IfOk result (λ copy. copy ≡ self.now) }
+    {
+        Ok(Registry {
+            table: self.table.copy()?,
+            counts: self.counts.clone()?,
+        })
+    }
+
     /// Binds the name to the object, after all others. `None` stands for any reference but one to
     /// an own standing object. A name that is bound already is denied.
     pub fn bind(&mut self, name: &[u8], object: Option<ObjId>) -> Result<(), BindFault>

@@ -42,6 +42,17 @@ impl Table {
         })
     }
 
+    // The same bindings.
+    pub(crate) fn copy(&self) -> Result<Table, AllocError>
+        ensures { IfOk result (λ copy. copy ≡ self.now) }
+    {
+        let mut copy = Table::new(*self.rows.allocator())?;
+        for binding in self.iter() {
+            copy.add(binding.name.as_bytes(), binding.object)?;
+        }
+        Ok(copy)
+    }
+
     pub(crate) fn len(&self) -> usize
         ensures len { result ≡ length self.now }
         ensures fits { result < 2 ^ 63 }

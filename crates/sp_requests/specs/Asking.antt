@@ -170,6 +170,10 @@ pub record AreRequests (conn : ℕ) (rows : List rules.Request) (sent : List Mes
   pub sequence_fits : last_sequence sent < 2 ^ 64
   pub few : length sent + length (calls_in sent rows) ≤ 1 + (2 * last_call sent + last_sequence sent)
 
+-- whatever requests the table may stand for, the other may stand for
+abbrev pub HasRequestsOf : Requests → Requests → Type 0
+HasRequestsOf table other = (conn : ℕ) (rows : List rules.Request) (sent : List Message) → AreRequests conn rows sent table → AreRequests conn rows sent other
+
 -- ---- room
 
 abbrev pub waiting_room : Requests → ℕ

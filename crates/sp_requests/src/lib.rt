@@ -10,5 +10,6 @@ pub use ended::{Ended, EndedCall, Ending};
 pub use requests::Requests;
 
 mod asked;
+mod copies;
 mod ended;
 mod requests;

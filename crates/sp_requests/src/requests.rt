@@ -16,11 +16,13 @@ ghost use Rattle.sp_rules.specs.State.{Asked as Question, Out, Request, Tells, W
 ghost use Rattle.sp_requests.specs.Ends.{ended_group, waiting_among};
 ghost use Rattle.sp_requests.specs.Asking.{asked_of};
 
+use crate::copies::copy_waiting;
 use crate::{Asked, Asker, Ended, EndedCall, Ending, OutCall, OutGroup};
 use dgc_client::{Due, Group};
 use rising_map::RisingMap;
 use std::alloc::{AllocError, Global};
 use std::mem;
+use table_copies::CopyIn;
 
 /// What is asked of one peer and has not ended. Before the peer's Hello all of it waits, in the order in
 /// which it was made. Then calls and lookups are out by their numbers, dirty and clean calls by their
@@ -36,6 +38,16 @@ pub struct Requests {
     calls: RisingMap<OutCall>,
     groups: RisingMap<OutGroup>,
     frames: u128,
+}
+
+impl CopyIn for Requests {
+    ghost use Rattle.sp_requests.specs.Asking.{HasRequestsOf};
+
+    ghost is_copy = { HasRequestsOf };
+
+    fn copy_in(&self, _alloc: Global) -> Result<Requests, AllocError> {
+        self.copy()
+    }
 }
 
 impl Requests {
@@ -54,6 +66,19 @@ impl Requests {
             groups: RisingMap::new(alloc),
             frames: 0,
         }
+    }
+
+    /// The same that is asked of the peer. Room that was made may be lost. It costs a step for each row
+    /// and each value in it.
+    pub fn copy(&self) -> Result<Requests, AllocError>
+        ensures copied { IfOk result (λ copy. (conn : ℕ) (rows : List Request) (sent : List Frame) → AreRequests conn rows sent self.now → AreRequests conn rows sent copy) }
+    {
+        Ok(Requests {
+            waiting: copy_waiting(*self.waiting.allocator(), &self.waiting)?,
+            calls: self.calls.copy()?,
+            groups: self.groups.copy()?,
+            frames: self.frames,
+        })
     }
 
     /// The call or lookup of this number that is out, if it is.

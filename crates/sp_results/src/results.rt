@@ -11,6 +11,7 @@ use sp_store::IdSet;
 use space_ids::{Uuid, Value};
 use std::alloc::{AllocError, Global};
 use std::marker::Model;
+use table_copies::copy_cache;
 
 /// The results that wait to be acknowledged, by the tasks whose they are. A list through the entries of
 /// a hash map keeps their order, so a result comes and goes at a cost that does not depend on how many
@@ -42,6 +43,15 @@ impl Results {
     {
         Ok(Results {
             results: LruCache::unbounded(alloc)?,
+        })
+    }
+
+    /// The same results, in their order. It costs a step a result.
+    pub fn copy(&self) -> Result<Results, AllocError>
+        ensures copied { IfOk result (λ copy. copy ≡ self.now) }
+    {
+        Ok(Results {
+            results: copy_cache(&self.results)?,
         })
     }
 

@@ -5,8 +5,9 @@ ghost use Rattle.sp_rules.specs.References.{own_ids, references_of};
 ghost use Rattle.sp_store.specs.Instances.{after_hold, after_release};
 
 use space_ids::{ClassId, ObjId, Uuid, Value};
-use std::alloc::AllocError;
+use std::alloc::{AllocError, Global};
 use std::marker::Model;
+use table_copies::{CopyIn, copy_values};
 
 /// A remote object as its store keeps it. A contract sees its class, its fields as the list of what
 /// they hold, and by how many it is held.
@@ -23,6 +24,20 @@ impl Model for Instance {
     ghost Value = { Remote };
 
     ghost view = { λ instance. record { class = instance.class; fields = instance.fields.items; holds = instance.holds } };
+}
+
+impl CopyIn for Instance {
+    ghost use Rattle.std.specs.Prelude.{◌≡◌};
+
+    ghost is_copy = { λ instance copy. copy ≡ instance };
+
+    fn copy_in(&self, alloc: Global) -> Result<Instance, AllocError> {
+        Ok(Instance {
+            class: self.class,
+            fields: copy_values(alloc, &self.fields)?,
+            holds: self.holds,
+        })
+    }
 }
 
 impl Instance {

@@ -15,6 +15,7 @@ use crate::instance::Instance;
 use indexmap::IndexMap;
 use space_ids::{ClassId, ObjId, Uuid, Value};
 use std::alloc::{AllocError, Global};
+use table_copies::copy_map;
 
 /// How many remote objects may stand in a space.
 pub const MOST_OBJECTS: usize = 65_536;
@@ -42,6 +43,20 @@ impl Store {
             objects: IndexMap::new(alloc),
             last: ObjId(0),
         }
+    }
+
+    /// A store of the same objects, which may have no room for more. It costs a step for each object and
+    /// each field.
+    pub fn copy(&self) -> Result<Store, AllocError>
+        ensures after { IfOk result (λ copy. (g : Setting) (h : List Stored) → IsAfter g h self.now → IsAfter g h copy) }
+        ensures made { IfOk result (λ copy. made copy ≡ made self.now) }
+        ensures holds { IfOk result (λ copy. (id : ObjId) → holds_of copy id ≡ holds_of self.now id) }
+    {
+        Ok(Store {
+            own: self.own,
+            objects: copy_map(&self.objects)?,
+            last: self.last,
+        })
     }
 
     /// How many objects stand.

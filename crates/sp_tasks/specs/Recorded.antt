@@ -1,5 +1,5 @@
 -- What is recorded of a living task. (This project's own.)
-use Rattle.std.specs.Prelude.{ℕ, Bool, false, true, List, [], ◌∷◌, ◌++◌}
+use Rattle.std.specs.Prelude.{ℕ, Bool, false, true, List, [], ◌∷◌, ◌++◌, Option, None, Some, ◌≡◌, ◌<◌}
 use Rattle.sp_rules.specs.Behaviours.{Reply}
 use Rattle.sp_rules.specs.State as rules
 
@@ -24,3 +24,10 @@ with_given steps reply past = with_entry steps false reply past
 -- a reply to a call
 abbrev pub with_answer : ℕ → Reply → Recorded → Recorded
 with_answer steps reply past = with_entry steps true reply past
+
+-- the same record, if there is one, with room for one more reply
+abbrev pub IsSpareCopy : Option RecordedRoom → Option RecordedRoom → Type 0
+IsSpareCopy None None = Unit {0}
+IsSpareCopy None (Some copy) = ⊥
+IsSpareCopy (Some spare) None = ⊥
+IsSpareCopy (Some spare) (Some copy) = (copy.past ≡ spare.past) × (0 < copy.room)

@@ -1,6 +1,6 @@
 //! Numbers by index, with the least of them at hand.
 
-ghost use Rattle.std.specs.Prelude.{◌≡◌, ◌≢◌, ℕ, ◌+◌, ◌-◌, ◌*◌, ◌<◌, ◌≤◌, ◌++◌, [], ◌∷◌, OnOk, length, min, slice_set, swap_remove, take};
+ghost use Rattle.std.specs.Prelude.{◌≡◌, ◌≢◌, ℕ, ◌+◌, ◌-◌, ◌*◌, ◌<◌, ◌≤◌, ◌++◌, [], ◌∷◌, IfOk, OnOk, length, min, slice_set, swap_remove, take};
 ghost use Rattle.sp_tasks.specs.Least.{IsLow, least, least_below, number_at};
 
 use std::alloc::{AllocError, Global};
@@ -40,6 +40,16 @@ impl LeastTree {
             numbers: Vec::new(alloc),
             lows: Vec::new(alloc),
         }
+    }
+
+    // The same numbers, with no room for more.
+    pub(crate) fn copy(&self, alloc: Global) -> Result<LeastTree, AllocError>
+        ensures { IfOk result (λ copy. copy.numbers ≡ self.now.numbers) }
+    {
+        Ok(LeastTree {
+            numbers: self.numbers.as_slice().to_vec(alloc)?,
+            lows: self.lows.as_slice().to_vec(alloc)?,
+        })
     }
 
     // The least number, or that which stands for none.

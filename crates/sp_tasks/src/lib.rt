@@ -5,11 +5,12 @@
 #![tactic(auto)]
 
 pub use behaviour::{Op, Outcome, Reply, Stand};
-pub use copies::{copy_outcome, copy_reply, copy_value};
+pub use copies::{copy_outcome, copy_reply};
 pub use lent_task::LentTask;
 pub use new_task::NewTask;
 pub use origin::Origin;
 pub use record::Record;
+pub use table_copies::copy_value;
 pub use tasks::Tasks;
 
 mod behaviour;

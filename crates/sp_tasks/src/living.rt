@@ -6,12 +6,14 @@ ghost use Rattle.std.specs.Str.{bytes_eq};
 ghost use Rattle.sp_rules.specs.References.{is_id, is_reference_in, reference_of, references_in, references_of, with_references};
 ghost use Rattle.sp_rules.specs.Refusals.{result_of};
 ghost use Rattle.sp_tasks.specs.Behaviours.{op_of, origin_of, outcome_of, reply_of};
+ghost use Rattle.sp_tasks.specs.Recorded.{IsSpareCopy};
 ghost use Rattle.sp_tasks.specs.Rows.{answered_row, back_row, hand_of, is_in_hand, is_ready, lent_row, parked_row, replied_hand, replied_row, roomy_hand, roomy_row, row_holds, row_holds_op, started_row, value_given, with_gained};
 
 use crate::{LentTask, Op, Origin, Outcome, Record, Reply};
 use space_ids::{ObjId, Ref, Uuid, Value};
 use std::alloc::{AllocError, Global};
 use std::marker::Model;
+use table_copies::CopyIn;
 
 /// A living task: how it began, the references that it holds, each once, its record, and its own
 /// instructions since the last reply. While it is not lent, a second record waits to be lent with it. A
@@ -38,6 +40,26 @@ impl Model for LivingTask {
     ghost view = { λ task. record { origin = origin_of task.origin; waits = task.waits; held = task.held.items; past = task.past.past; steps = task.steps; lent = not (is_some task.spare); room = task.room } };
 
     ghost invariant = { λ task. IfSome task.spare (λ spare. spare.past ≡ task.past.past) × (task.room ≡ true → (0 < task.past.room) × (vec_len task.held < vec_capacity task.held)) × (task.waits ≡ true → (task.room ≡ true) × IsSomeAnd task.spare (λ spare. 0 < spare.room)) };
+}
+
+impl CopyIn for LivingTask {
+    ghost use Rattle.std.specs.Prelude.{◌≡◌};
+
+    ghost is_copy = { λ task copy. copy ≡ task };
+
+    fn copy_in(&self, alloc: Global) -> Result<LivingTask, AllocError> {
+        let mut held = self.held.as_slice().to_vec(alloc)?;
+        held.reserve(1)?;
+        Ok(LivingTask {
+            origin: self.origin,
+            waits: self.waits,
+            held,
+            past: self.past.copy(alloc)?,
+            steps: self.steps,
+            spare: copy_spare(alloc, &self.spare)?,
+            room: self.room,
+        })
+    }
 }
 
 impl LivingTask {
@@ -225,6 +247,16 @@ impl LivingTask {
         self.waits = false;
         self.steps = 0;
         self.room = false;
+    }
+}
+
+// The same record, if there is one, with room for one more reply.
+fn copy_spare(alloc: Global, spare: &Option<Record>) -> Result<Option<Record>, AllocError>
+    ensures { IfOk result (IsSpareCopy spare.now) }
+{
+    match spare {
+        Some(record) => Ok(Some(record.copy(alloc)?)),
+        None => Ok(None),
     }
 }
 

@@ -6,11 +6,12 @@ ghost use Rattle.sp_tasks.specs.Recorded.{with_entry};
 ghost use Rattle.sp_tasks.specs.Same.{is_recorded};
 
 use crate::Reply;
-use crate::copies::copy_values;
+use crate::copies::copy_reply;
 use crate::same::{same_givens, same_values};
 use space_ids::{Row, Value};
 use std::alloc::{AllocError, Global};
 use std::marker::Model;
+use table_copies::copy_values;
 
 /// The record of a living task: how it began, and each reply that it was given, with the number
 /// of its own instructions before it.
@@ -58,6 +59,21 @@ impl Record {
         })
     }
 
+    // The same record, with room for one more reply.
+    pub(crate) fn copy(&self, alloc: Global) -> Result<Record, AllocError>
+        ensures past { IfOk result (λ copy. copy.past ≡ self.now.past) }
+        ensures room { IfOk result (λ copy. 0 < copy.room) }
+    {
+        let mut given = copy_given(alloc, &self.given)?;
+        given.reserve(1)?;
+        Ok(Record {
+            method: self.method,
+            arguments: Row::new(copy_values(alloc, self.arguments.as_slice())?),
+            fuel: self.fuel,
+            given,
+        })
+    }
+
     /// Whether the two records are the same.
     pub fn is_same(&self, other: &Record) -> bool
         ensures { result ≡ is_recorded self.now.past other.now.past }
@@ -85,4 +101,19 @@ impl Record {
     {
         self.given.push_reserved(Given { steps, lent, reply });
     }
+}
+
+// The same replies.
+fn copy_given(alloc: Global, given: &[Given]) -> Result<Vec<Given>, AllocError>
+    ensures { IfOk result (λ copies. copies.items ≡ given.now) }
+{
+    let mut copies = Vec::new(alloc);
+    for one in given {
+        copies.push(Given {
+            steps: one.steps,
+            lent: one.lent,
+            reply: copy_reply(alloc, &one.reply)?,
+        })?;
+    }
+    Ok(copies)
 }

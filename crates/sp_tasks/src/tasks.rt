@@ -19,6 +19,7 @@ use sp_store::IdSet;
 use space_ids::{Ref, Uuid, Value};
 use std::alloc::{AllocError, Global};
 use std::marker::Model;
+use table_copies::copy_map;
 
 /// The living tasks of a space, by id. Ids begin at 1, rise, and never come again. A task starts, is lent,
 /// waits and ends at a cost that grows with the logarithm of how many live; the lowest that may go on is
@@ -59,6 +60,19 @@ impl Tasks {
             rows: IndexMap::new(alloc),
             ready: LeastTree::new(alloc),
         }
+    }
+
+    /// The same tasks. What is lent is lent in the copy too, and there is no room for more tasks. It costs
+    /// a step for each entry of each record.
+    pub fn copy(&self) -> Result<Tasks, AllocError>
+        ensures copied { IfOk result (λ copy. copy ≡ record self.now { room = 0 }) }
+    {
+        Ok(Tasks {
+            made: self.made,
+            room: 0,
+            rows: copy_map(&self.rows)?,
+            ready: self.ready.copy(*self.rows.allocator())?,
+        })
     }
 
     /// How many live.

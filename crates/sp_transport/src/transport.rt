@@ -1,6 +1,6 @@
 //! A space's side of the transport, and what is seen of it.
 
-ghost use Rattle.std.specs.Prelude.{◌≡◌, ℕ, None, Some, IfOk, filter, option_map, if◌then◌else◌};
+ghost use Rattle.std.specs.Prelude.{◌≡◌, ℕ, [], None, Some, IfOk, filter, option_map, if◌then◌else◌};
 ghost use Rattle.dgc_client.specs.Lease.{is_renewed_at, lapses_at};
 ghost use Rattle.dgc_client.specs.Table as client;
 ghost use Rattle.sp_rules.specs.Holders.{lease_now};
@@ -60,6 +60,23 @@ impl Transport {
             fresh: None,
             outputs: Outputs::new(alloc),
         }
+    }
+
+    /// The same, between events: nothing is noted, and no call is under way. Room that was made may be
+    /// lost. It costs a step for each row and each value in it.
+    pub fn copy(&self) -> Result<Transport, AllocError>
+        ensures copied { IfOk result (λ copy. (s : State) → IsTransport s self.now → s.fresh ≡ [] → s.notes ≡ [] → IsTransport s copy) }
+    {
+        Ok(Transport {
+            alloc: self.alloc,
+            leases: self.leases.copy()?,
+            connections: self.connections.copy()?,
+            peers: self.peers.copy()?,
+            calls_made: self.calls_made,
+            groups_made: self.groups_made,
+            fresh: None,
+            outputs: Outputs::new(self.alloc),
+        })
     }
 
     /// What is kept of the connection of this number, if it is open.

@@ -35,8 +35,10 @@ returns-in-FinalSuper c = λ k is.
 pub returns-in-Override : goal.returns-in-Override
 returns-in-Override c = λ k is.
     let os = origins_of c.args.entries.now in
+    let told = c.requires.facts.overriding.each c.args.index k is in
+    let marked = c.overrides_badly.ensures in
     subst (λ r. IsTrue c.overrides_badly.result ↔ Breaks os k.file (set_rule r)) (sym c.in-Override.is)
-    (override_way os k.file c.overrides_badly.result (c.overrides_badly.ensures k is))
+    (override_way os k.file c.overrides_badly.result (λ e. told.0 (marked.0 e), λ bad. marked.1 (told.1 bad)))
 
 pub returns-then-not-is_interface : goal.returns-then-not-is_interface
 returns-then-not-is_interface c = λ k is.
