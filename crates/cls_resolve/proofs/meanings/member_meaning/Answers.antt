@@ -1,4 +1,4 @@
-use Rattle.std.proofs.Common.{◌≡◌, Some, None, refl, sym, subst, ap, ◌∙◌}
+use Rattle.std.proofs.Common.{refl, sym, subst, ap, ◌∙◌}
 use Rattle.cf_pool.specs.Pools.{NamedMember, class_at, member_at}
 use Rattle.cf_pool.specs.PoolRefs.{named_member}
 use Rattle.cls_set.specs.Classes.{number_of}
@@ -9,14 +9,14 @@ use Rattle.cls_resolve.proofs.Used.{member_of_entry}
 use Rattle.cls_resolve.proofs.meanings.member_meaning.Goals as goal
 
 -- a member entry names a class
-pub returns-in-NoEntry : goal.returns-in-NoEntry
-returns-in-NoEntry c =
+pub returns-in-NoEntry-clause-meaning : goal.returns-in-NoEntry-clause-meaning
+returns-in-NoEntry-clause-meaning c =
     let named = c.in-Some.ensures.class in
     let none = c.in-NoEntry.ensures.meaning in
     absurd (none_some (sym none ∙ (ap (λ p. class_at p c.in-Some.entry.class_index) (sym c.pool_of.ensures) ∙ named)))
 
-pub returns-in-Array : goal.returns-in-Array
-returns-in-Array c =
+pub returns-in-Array-clause-meaning : goal.returns-in-Array-clause-meaning
+returns-in-Array-clause-meaning c =
     let at = c.in-Array.ensures.meaning in
     let named = c.in-Some.ensures.class in
     let same = same_some (sym at.entry ∙ (ap (λ p. class_at p c.in-Some.entry.class_index) (sym c.pool_of.ensures) ∙ named)) in
@@ -26,8 +26,8 @@ returns-in-Array c =
       array = subst IsArray same at.array;
     }
 
-pub returns-in-Absent : goal.returns-in-Absent
-returns-in-Absent c =
+pub returns-in-Absent-clause-meaning : goal.returns-in-Absent-clause-meaning
+returns-in-Absent-clause-meaning c =
     let at = c.in-Absent.ensures.meaning in
     let named = c.in-Some.ensures.class in
     let same = same_some (sym at.entry ∙ (ap (λ p. class_at p c.in-Some.entry.class_index) (sym c.pool_of.ensures) ∙ named)) in
@@ -38,8 +38,8 @@ returns-in-Absent c =
       absent = ap (number_of c.args.set.now) (sym same) ∙ at.absent;
     }
 
-pub returns-in-Class : goal.returns-in-Class
-returns-in-Class c =
+pub returns-in-Class-clause-meaning : goal.returns-in-Class-clause-meaning
+returns-in-Class-clause-meaning c =
     let named : NamedMember = named_member c.in-Some.entry in
     let at = c.in-Class.ensures.meaning in
     let named_class = c.in-Some.ensures.class in
