@@ -16,3 +16,5 @@ pub mod FoundLemmas
 pub mod PassLemmas
 pub mod ToldLemmas
 pub mod FailLemmas
+pub mod AskedLemmas
+pub mod NeedLemmas

@@ -7,12 +7,16 @@
 
 pub use living::Living;
 
+mod asking;
+mod concluding;
 mod ends;
 mod failing;
 mod frames;
 mod holding;
 mod lending;
 mod living;
+mod needing;
+mod opening;
 mod passing;
 mod replying;
 mod results;
