@@ -9,19 +9,33 @@ use Rattle.sp_rules.specs.Classes.{Setting}
 use Rattle.sp_rules.specs.Holders.{has_entry, is_bound, is_in_a_field}
 use Rattle.sp_rules.specs.Lists.{each}
 use Rattle.sp_rules.specs.References.{is_id_in}
-use Rattle.sp_rules.specs.State.{State, Object, standing, tell_owner}
+use Rattle.sp_rules.specs.State.{State, Object, Stored, standing, tell_owner}
 use Rattle.sp_store.specs.Stores as stores
 use Rattle.sp_store.specs.Stores.{holds_of, made, swept}
 use Rattle.sp_owner.specs.declared.owner.Owner.{Owner}
 
--- The objects, the names and the entries are those of the state. The store itself holds no object for anyone.
-pub record IsOwner (g : Setting) (s : State) (o : Owner) : Type 0 where
+-- the parts of a state that an owner keeps
+pub record OwnerParts : Type 0 where
+  pub store : List Stored
+  pub objects_made : ℕ
+  pub names : List Binding
+  pub entries : List owner.Call
+
+abbrev pub owner_parts : State → OwnerParts
+owner_parts s = record { store = s.store; objects_made = s.objects_made; names = s.owner.names; entries = s.owner.entries }
+
+-- The objects, the names and the entries are these. The store itself holds no object for anyone.
+pub record KeepsParts (g : Setting) (p : OwnerParts) (o : Owner) : Type 0 where
   pub id : o.id ≡ g.id
-  pub store : stores.IsAfter g s.store o.store
+  pub store : stores.IsAfter g p.store o.store
   pub holds : (id : ObjId) → holds_of o.store id ≡ 0
-  pub objects_made : made o.store ≡ s.objects_made
-  pub names : o.names.bindings ≡ s.owner.names
-  pub entries : owner.IsAfter s.owner.entries o.entries
+  pub objects_made : made o.store ≡ p.objects_made
+  pub names : o.names.bindings ≡ p.names
+  pub entries : owner.IsAfter p.entries o.entries
+
+-- An owner stands for a state if it keeps the state's parts. So what an event does to other parts leaves it.
+abbrev pub IsOwner : Setting → State → Owner → Type 0
+IsOwner g s o = KeepsParts g (owner_parts s) o
 
 -- why the registry denies a change of names, if it does
 abbrev pub denied : Result (List Binding) RegistryFault → Option RegistryFault

@@ -1,4 +1,3 @@
-//! COORDINATOR: this crate is proved elsewhere (branch owner): see COORDINATOR-NOTE.md at the top of your worktree and end with your report.
 //! What a space keeps for others: its remote objects, the names that are bound to them, and what clients
 //! told of them (Java RMI specification, chapters 3, 6 and 9).
 //!

@@ -1,0 +1,32 @@
+use Rattle.std.proofs.Common.{sym, ap, subst}
+use Rattle.std.proofs.lemmas.Result.{on_ok_weaker}
+use Rattle.net_message.specs.declared.message.Message.{Message}
+use Rattle.sp_connections.specs.declared.connection.Connection.{Connection}
+use Rattle.sp_rules.specs.Frames.{got}
+use Rattle.sp_state.specs.Spaces.{IsSpace}
+use Rattle.sp_state.proofs.space_state.SpaceState.got_asking.Goals as goal
+
+pub returns-in-Call : goal.returns-in-Call
+unfolding got
+returns-in-Call w c = on_ok_weaker c.got_call.result (λ now. λ g s row is silent tells on seen there.
+    subst (λ (m : Message). IsSpace g (got g row m s) c.got_call.new.self) (sym c.in-Call.is) (now g s row is silent tells on (sym (ap (λ (k : Connection). k.last) seen)))) c.got_call.ensures
+
+pub returns-in-Lookup : goal.returns-in-Lookup
+unfolding got
+returns-in-Lookup w c = on_ok_weaker c.got_lookup.result (λ now. λ g s row is silent tells on seen there.
+    subst (λ (m : Message). IsSpace g (got g row m s) c.got_lookup.new.self) (sym c.in-Lookup.is) (now g s row is silent tells on (sym (ap (λ (k : Connection). k.last) seen)))) c.got_lookup.ensures
+
+pub returns-in-Ack : goal.returns-in-Ack
+unfolding got
+returns-in-Ack w c = on_ok_weaker c.got_ack.result (λ now. λ g s row is silent tells on seen there.
+    subst (λ (m : Message). IsSpace g (got g row m s) c.got_ack.new.self) (sym c.in-Ack.is) (now g s row is silent tells on)) c.got_ack.ensures
+
+pub returns-in-Dirty : goal.returns-in-Dirty
+unfolding got
+returns-in-Dirty w c = on_ok_weaker c.got_dirty.result (λ now. λ g s row is silent tells on seen there.
+    subst (λ (m : Message). IsSpace g (got g row m s) c.got_dirty.new.self) (sym c.in-Dirty.is) (now g s row is on (sym (ap (λ (k : Connection). k.peer) seen)))) c.got_dirty.ensures
+
+pub returns-in-Clean : goal.returns-in-Clean
+unfolding got
+returns-in-Clean w c = on_ok_weaker c.got_clean.result (λ now. λ g s row is silent tells on seen there.
+    subst (λ (m : Message). IsSpace g (got g row m s) c.got_clean.new.self) (sym c.in-Clean.is) (now g s row is on (sym (ap (λ (k : Connection). k.peer) seen)))) c.got_clean.ensures
