@@ -17,4 +17,5 @@ pub mod PassLemmas
 pub mod ToldLemmas
 pub mod FailLemmas
 pub mod AskedLemmas
+pub mod LookupLemmas
 pub mod NeedLemmas

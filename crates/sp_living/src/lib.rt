@@ -15,6 +15,7 @@ mod frames;
 mod holding;
 mod lending;
 mod living;
+mod lookups;
 mod needing;
 mod opening;
 mod passing;
