@@ -245,15 +245,6 @@ parks g s l hand target method arguments fuel number id kind is h stands lends n
     ∙ ap (λ (x : Stand). park_at g hand.id k h.living x s) (ap stand here ∙ stands)
     ∙ (λ j. make_call target.space (rules.Calls (sym num j + 1) (sym mine j) (left j) (sym kinds j) (message.Call (sym num j + 1) target.id method (left j) arguments)) (set_task (waiting k) hand.id s))
 
--- ---- a task in hand ends
-
-pub finishes : (g : Setting) (s : State) (l : Living) (hand : Hand) (outcome : Outcome) → IsLiving g s l → (h : InHand g s l hand) → stand (task_of g hand) ≡ HasEnded outcome
-    → finish_task g hand.id hand.made s ≡ end_with g hand.id (after_steps hand.made h.living) outcome s
-unfolding finish_task
-finishes g s l hand outcome is h stands =
-    ap (λ (o : Option rules.Living). with_some o s (λ t. end_at g hand.id (after_steps hand.made t) (stand (steps hand.made t.task)) s)) h.ready
-    ∙ ap (λ (x : Stand). end_at g hand.id (after_steps hand.made h.living) x s) (ap stand (task-is g s l hand is h) ∙ stands)
-
 -- ---- a moment
 
 pub late : (g : Setting) (moment : ℕ) (s : State) → moment < s.moment → on_moment g moment s ≡ s

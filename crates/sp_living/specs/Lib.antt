@@ -7,5 +7,4 @@ pub mod Hands
 pub mod Opening
 pub mod Frames
 pub mod Tickets
-pub mod Ends
-pub mod Needs
+pub mod Telling

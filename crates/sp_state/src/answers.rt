@@ -93,7 +93,7 @@ impl SpaceState {
             frame: Frame::Returned { value, fuel },
             references: Row::new(references),
         };
-        self.living.park(self.owner.store(), classes, frame)
+        sp_endings::park(&mut self.living, self.owner.store(), classes, frame)
     }
 
     // Takes the class that a call or lookup threw. One that is no Throwable gives UnmarshalException.
@@ -142,8 +142,8 @@ impl SpaceState {
     ) -> Result<(), AllocError>
         ensures { OnOk result ((g : Setting) (s : State) (c : Line) → IsSpace g s self.old → s.notes ≡ [] → C.tells classes.now g.classes → ComesOn conn s c → IsSpace g (told_by g c true sequence (λ call. DirtyAnswered call period) s) self.new) }
     {
-        self.living
-            .lease(self.owner.store(), classes, conn, sequence, period)
+        let store = self.owner.store();
+        sp_endings::lease(&mut self.living, store, classes, conn, sequence, period)
     }
 
     // Takes the answer to clean calls.
@@ -155,8 +155,8 @@ impl SpaceState {
     ) -> Result<(), AllocError>
         ensures { OnOk result ((g : Setting) (s : State) (c : Line) → IsSpace g s self.old → s.notes ≡ [] → C.tells classes.now g.classes → ComesOn conn s c → IsSpace g (told_by g c false sequence CleanAnswered s) self.new) }
     {
-        self.living
-            .cleaned(self.owner.store(), classes, conn, sequence)
+        let store = self.owner.store();
+        sp_endings::cleaned(&mut self.living, store, classes, conn, sequence)
     }
 }
 

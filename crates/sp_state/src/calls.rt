@@ -59,7 +59,7 @@ impl SpaceState {
         if self.is_unfit(classes, class, call) {
             return Ok(Some(RemoteException::Unmarshal));
         }
-        let busy = self.living.is_busy()?;
+        let busy = sp_endings::is_busy(self.alloc, &self.living)?;
         if busy {
             return Ok(Some(RemoteException::ServerError));
         }
@@ -108,6 +108,6 @@ impl SpaceState {
             frame: Frame::Call(call),
             references: Row::new(references),
         };
-        self.living.park(self.owner.store(), classes, frame)
+        sp_endings::park(&mut self.living, self.owner.store(), classes, frame)
     }
 }

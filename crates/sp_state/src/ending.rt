@@ -27,7 +27,7 @@ impl SpaceState {
     pub fn refused<C: CallClasses>(&mut self, classes: &C, peer: &Uuid) -> Result<(), AllocError>
         ensures { OnOk result ((g : Setting) (s : State) → IsSpace g s self.old → s.notes ≡ [] → C.tells classes.now g.classes → IsSpace g (on_refused g peer.now s) self.new) }
     {
-        self.living.refuse(classes, peer)
+        sp_endings::refuse(&mut self.living, classes, peer)
     }
 
     /// Ends a connection that the peer closed, on which a read failed, or on which bytes came that are no
@@ -39,7 +39,7 @@ impl SpaceState {
     ) -> Result<(), AllocError>
         ensures { OnOk result ((g : Setting) (s : State) → IsSpace g s self.old → s.notes ≡ [] → C.tells classes.now g.classes → IsSpace g (end_connection g (by_unmarshal g) conn s) self.new) }
     {
-        self.living.end_connection(classes, conn)
+        sp_endings::end_connection(&mut self.living, classes, conn)
     }
 
     /// Ends a connection of which the last frames, this many, were not sent whole.
@@ -51,7 +51,7 @@ impl SpaceState {
     ) -> Result<(), AllocError>
         ensures { OnOk result ((g : Setting) (s : State) → IsSpace g s self.old → s.notes ≡ [] → C.tells classes.now g.classes → IsSpace g (fail_write g conn unsent s) self.new) }
     {
-        self.living.fail_write(classes, conn, unsent)
+        sp_endings::fail_write(&mut self.living, classes, conn, unsent)
     }
 
     // Closes a connection. Calls and lookups end with an exception of this class.
@@ -63,6 +63,6 @@ impl SpaceState {
     ) -> Result<(), AllocError>
         ensures { OnOk result ((g : Setting) (s : State) → IsSpace g s self.old → s.notes ≡ [] → C.tells classes.now g.classes → IsSpace g (close g (thrown_class g.classes exception) conn s) self.new) }
     {
-        self.living.close(classes, exception, conn)
+        sp_endings::close(&mut self.living, classes, exception, conn)
     }
 }

@@ -65,6 +65,6 @@ impl SpaceState {
         requires { has_lent self.old task.now ≡ true }
         ensures { OnOk result ((g : Setting) (s : State) → IsSpace g s self.old → C.tells classes.now g.classes → stand (task_of g task.now) ≡ HasEnded (outcome_of outcome) → fuel ≡ (task_of g task.now).fuel → IsSpace g (finish_task g task.now.id task.now.made s) self.new) }
     {
-        self.living.finish_task(classes, task, fuel, outcome)
+        sp_endings::finish_task(self.alloc, &mut self.living, classes, task, fuel, outcome)
     }
 }

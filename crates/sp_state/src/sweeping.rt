@@ -36,7 +36,7 @@ impl SpaceState {
         ensures { IfOk result (λ ids. (g : Setting) (s : State) → IsSpace g s self.now → ids.items ≡ idle_of g s) }
     {
         let mut needed = IdSet::new(self.alloc);
-        self.living.insert_own(&mut needed)?;
+        sp_endings::insert_own(self.alloc, &self.living, &mut needed)?;
         let ids = self.owner.idle(needed)?;
         Ok(ids)
     }
