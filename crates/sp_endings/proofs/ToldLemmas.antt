@@ -7,7 +7,7 @@ use Rattle.sp_rules.specs.Endings.{close}
 use Rattle.sp_rules.specs.Frames.{group_told, tells_on, told_by}
 use Rattle.sp_rules.specs.Lists.{with_some}
 use Rattle.sp_rules.specs.ParkedFrames.{go_all, remove_requests}
-use Rattle.sp_rules.specs.State.{State, Connection, Request}
+use Rattle.sp_rules.specs.State.{State, Asked, Calls, LooksUp, Tells, Connection, Request}
 use Rattle.sp_living.specs.Telling.{answered}
 
 told-at : (g : Setting) (s : State) (c : Connection) (conn : ℕ) (dirty : Bool) (sequence : ℕ) (event : ℕ → lease_events.Event) → c.number ≡ conn
@@ -48,6 +48,19 @@ untold s dirty conn sequence event none = by (find (tells_on dirty conn sequence
     by : (o : Option Request) → is_some o ≡ false → with_some o s (λ r. group_told event r.asked (remove_requests (tells_on dirty conn sequence) s)) ≡ s
     by None e = refl
     by (Some r) e = absurd (true≢false e)
+
+-- objects stay
+pub answered-store : (s : State) (dirty : Bool) (conn sequence : ℕ) (event : ℕ → lease_events.Event) → (answered dirty conn sequence event s).store ≡ s.store
+answered-store s dirty conn sequence event = by (find (tells_on dirty conn sequence) s.requests)
+  where
+    told : (a : Asked) → (group_told event a (remove_requests (tells_on dirty conn sequence) s)).store ≡ s.store
+    told (Calls number task lent kind m) = refl
+    told (LooksUp number task name) = refl
+    told (Tells call group) = refl
+
+    by : (o : Option Request) → (with_some o s (λ (r : Request). group_told event r.asked (remove_requests (tells_on dirty conn sequence) s))).store ≡ s.store
+    by None = refl
+    by (Some r) = told r.asked
 
 -- what is there
 pub is-there : {A : Type 0} (o : Option A) → is_some o ≡ true → (x : A) × (o ≡ Some x)

@@ -19,8 +19,8 @@ returns-then-lacks w c = on_ok_weaker c.fail_named.result (λ failed. λ g s a t
     (sym (dirty-fails g call s r c.in_ok-lacks.lacks (c.in_ok-lacks.ensures.lacks g s a) ∙ ap (λ b. cond b (each (fail_parked g) (filter (names r) s.parked) t) t) c.if-lacks.true))
     (failed g t (c.in_ok-lacks.ensures.failed g s a) tells)) c.fail_named.ensures
 
-pub returns : goal.returns
-returns w c = λ g s a tells.
+pub returns-else-lacks : goal.returns-else-lacks
+returns-else-lacks w c = λ g s a tells.
     let call = c.args.call in
     let r : ForeignId = c.args.reference.now in
     let t : State = dirty_failed call s r in
