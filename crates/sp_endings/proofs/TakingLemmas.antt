@@ -1,13 +1,10 @@
 -- Frames go, fail or are dropped one after the other: so all of them may be taken out first.
-use Rattle.std.proofs.Common.{◌≡◌, Bool, true, false, cond, List, [], ◌∷◌, ◌++◌, Some, refl, sym, ap, subst, ◌∙◌, true≢false, append_assoc}
-use Rattle.std.specs.Prelude.{filter, find, not, ◌==◌, ◌&&◌, ◌||◌}
-use Rattle.std.specs.List.{list_any}
+use Rattle.std.proofs.Common.{◌≡◌, Bool, true, false, cond, List, [], ◌∷◌, ◌++◌, Some, refl, sym, ap, subst, ◌∙◌, append_assoc}
+use Rattle.std.specs.Prelude.{filter, find, not, ◌&&◌}
 use Rattle.std.proofs.lemmas.Bool.{eq-eqb}
-use Rattle.std.proofs.lemmas.Cmp.{nat_eq_equiv}
 use Rattle.sp_rules.specs.Classes.{Setting}
 use Rattle.sp_rules.specs.Endings.{unpark}
 use Rattle.sp_rules.specs.Holders.{drop_ids}
-use Rattle.sp_rules.specs.Laws.{AllOf}
 use Rattle.sp_rules.specs.Lists.{each, with_some}
 use Rattle.sp_rules.specs.ParkedFrames.{fail_frame, fail_parked, go, go_frame, is_parked_at, let_go_parked, take_parked}
 use Rattle.sp_rules.specs.State.{State, ParkedFrame}

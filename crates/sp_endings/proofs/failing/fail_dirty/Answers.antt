@@ -1,4 +1,4 @@
-use Rattle.std.proofs.Common.{◌≡◌, cond, sym, ap, subst, ◌∙◌}
+use Rattle.std.proofs.Common.{cond, sym, ap, subst, ◌∙◌}
 use Rattle.std.specs.Prelude.{filter}
 use Rattle.std.proofs.lemmas.Result.{on_ok_weaker}
 use Rattle.space_ids.specs.declared.ids.ForeignId.{ForeignId}
