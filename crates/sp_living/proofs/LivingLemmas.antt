@@ -1,9 +1,13 @@
 -- What lives in a space, as its parts change one by one.
-use Rattle.std.proofs.Common.{◌≡◌, ℕ, true, false, cond, List, [], ◌∷◌, ◌++◌, refl, sym, ap, subst, ◌∙◌}
+use Rattle.std.proofs.Common.{◌≡◌, ℕ, true, false, cond, List, [], ◌∷◌, ◌++◌, Option, None, Some, refl, sym, ap, subst, ◌∙◌}
 use Rattle.space_ids.specs.declared.ids.ForeignId.{ForeignId}
 use Rattle.net_message.specs.declared.message.Message.{Message}
 use Rattle.sp_rules.specs.Classes.{Setting}
-use Rattle.sp_rules.specs.Events.{Sends, Turn}
+use Rattle.uuid.specs.declared.Uuid.{Uuid}
+use Rattle.sp_rules.specs.Events.{Hellos, Output, Started, Ended, Withdrawn, Denied, Send, Dial, Close, Ready, Sends, Turn}
+use Rattle.sp_rules.specs.OwnEvents.{add_connection, dialled_no_more}
+use Rattle.sp_rules.specs.Space.{conclude, record_sent}
+use Rattle.sp_living.specs.Opening.{opened_with}
 use Rattle.sp_rules.specs.Holders.{drop_ids, hold_ids, holder_comes, holder_goes}
 use Rattle.sp_rules.specs.Lists.{each}
 use Rattle.sp_rules.specs.State.{State, KeptResult, is_open, send}
@@ -98,3 +102,27 @@ dropped-one r s = refl
 pub sent-own : (turn : Turn) (conn : ℕ) (m : Message) (s : State) → own_of (send turn conn m s) ≡ own_of s
 unfolding send
 sent-own turn conn m s = elim (is_open s conn) as (λ b. own_of (cond b (record s { notes = s.notes ++ Sends turn conn m ∷ [] }) s) ≡ own_of s) [ true ↦ refl | false ↦ refl ]
+
+-- ---- connections, and what was sent on them
+
+pub opened-own : (dialled : Option Uuid) (conn : ℕ) (hello : Message) (s : State) → own_of (opened_with dialled conn hello s) ≡ own_of s
+opened-own None conn hello s = sent-own Hellos conn hello (add_connection conn None s)
+opened-own (Some peer) conn hello s = sent-own Hellos conn hello (dialled_no_more (Some peer) (add_connection conn (Some peer) s))
+
+recorded-own : (s : State) (o : Output) → own_of (record_sent s o) ≡ own_of s
+recorded-own s (Send conn m) = refl
+recorded-own s (Started task) = refl
+recorded-own s (Ended task outcome) = refl
+recorded-own s (Withdrawn ids) = refl
+recorded-own s (Denied fault) = refl
+recorded-own s (Dial peer) = refl
+recorded-own s (Close conn) = refl
+recorded-own s (Ready task) = refl
+
+each-recorded : (outputs : List Output) (s : State) → own_of (each record_sent outputs s) ≡ own_of s
+unfolding each
+each-recorded [] s = refl
+each-recorded (o ∷ os) s = each-recorded os (record_sent s o) ∙ recorded-own s o
+
+pub concluded-own : (s : State) (outputs : List Output) → own_of (conclude s outputs).0 ≡ own_of s
+concluded-own s outputs = each-recorded outputs (record s { notes = [] })

@@ -1,6 +1,6 @@
 -- What single changes of the tasks and results make of what lives in a space.
 use Rattle.std.proofs.Common.{◌≡◌, ℕ, ◌+◌, ◌≤◌, ◌<◌, nat_lt, true, false, cond, List, [], ◌∷◌, ◌++◌, Option, None, Some, refl, sym, ap, ◌∙◌, filter, length, drop, arith}
-use Rattle.std.specs.Prelude.{not, find, ◌==◌, is_some, option_map, unwrap_or}
+use Rattle.std.specs.Prelude.{not, find, ◌==◌, is_some, option_and_then, option_map, unwrap_or}
 use Rattle.std.proofs.lemmas.Bool.Decides.{nat_tests}
 use Rattle.std.proofs.lemmas.Bool.{eq-eqb, eqb-true, false≢true}
 use Rattle.space_ids.specs.declared.ids.ForeignId.{ForeignId}
@@ -24,7 +24,11 @@ use Rattle.sp_rules.specs.Tasks.{Task, Stand, AsksFor, HasEnded, answer, gained,
 use Rattle.net_message.specs.declared.message.Message.TheVariants as message
 use Rattle.sp_call_results.specs.Held.{AreCallResults, left_at, references_of_results}
 use Rattle.sp_call_results.specs.declared.call_results.CallResults.{CallResults}
-use Rattle.sp_connections.specs.Tables.{seen as shown}
+use Rattle.sp_connections.specs.Tables.{is_dialled, link_of, seen as shown, to_peer}
+use Rattle.sp_connections.specs.declared.connection.Link.TheVariants as link
+use Rattle.sp_requests.specs.declared.asked.Asker.{Asker}
+use Rattle.sp_transport.specs.Answers.{asker_in}
+use Rattle.uuid.specs.declared.Uuid.{Uuid}
 use Rattle.sp_connections.specs.declared.connection.Connection.{Connection as Shown}
 use Rattle.sp_requests.specs.Asking.{asks_by, first_of}
 use Rattle.sp_requests.specs.declared.asked.Asker.TheVariants as asker
@@ -201,6 +205,11 @@ pub found-open : (r : Option Shown) (o : Option rules.Connection) → r ≡ opti
 found-open r None same some = absurd (false≢true (sym (ap (λ x. is_some x) same) ∙ some))
 found-open r (Some c) same some = refl
 
+-- one that is not found is not
+pub none-open : (r : Option Shown) (o : Option rules.Connection) → r ≡ option_map shown o → is_some r ≡ false → o ≡ None
+none-open r None same none = refl
+none-open r (Some c) same none = absurd (false≢true (sym none ∙ ap (λ x. is_some x) same))
+
 -- ---- who asked
 
 pub asked-call : (g : Setting) (question : rules.Asked) (task lent : ℕ) (kind : ResultKind) (reply : Reply) (s : State) → first_of (asks_by question) ≡ Some (asker.Call task lent kind)
@@ -236,15 +245,6 @@ parks g s l hand target method arguments fuel number id kind is h stands lends n
     ∙ ap (λ (x : Stand). park_at g hand.id k h.living x s) (ap stand here ∙ stands)
     ∙ (λ j. make_call target.space (rules.Calls (sym num j + 1) (sym mine j) (left j) (sym kinds j) (message.Call (sym num j + 1) target.id method (left j) arguments)) (set_task (waiting k) hand.id s))
 
--- ---- a task in hand ends
-
-pub finishes : (g : Setting) (s : State) (l : Living) (hand : Hand) (outcome : Outcome) → IsLiving g s l → (h : InHand g s l hand) → stand (task_of g hand) ≡ HasEnded outcome
-    → finish_task g hand.id hand.made s ≡ end_with g hand.id (after_steps hand.made h.living) outcome s
-unfolding finish_task
-finishes g s l hand outcome is h stands =
-    ap (λ (o : Option rules.Living). with_some o s (λ t. end_at g hand.id (after_steps hand.made t) (stand (steps hand.made t.task)) s)) h.ready
-    ∙ ap (λ (x : Stand). end_at g hand.id (after_steps hand.made h.living) x s) (ap stand (task-is g s l hand is h) ∙ stands)
-
 -- ---- a moment
 
 pub late : (g : Setting) (moment : ℕ) (s : State) → moment < s.moment → on_moment g moment s ≡ s
@@ -277,3 +277,20 @@ now-passed g s l moment calls t h results now is = record {
   results = results-passed s.moment moment s.results l.results l.call_results calls results is.results;
   parked = is.parked;
 }
+
+-- what is done if something that asked is found
+pub asked-there : (o : Option rules.Request) (who : Asker) (s u : State) → Some who ≡ option_and_then asker_in o → with_some o s (λ r. u) ≡ u
+asked-there None who s u e = cc
+asked-there (Some r) who s u e = refl
+
+-- a peer is being dialled
+pub dialling : (peer : Uuid) (rows : List rules.Connection) (peers : List Uuid) → Some link.Dialling ≡ link_of peer rows peers → is_dialled peer peers ≡ true
+dialling peer rows peers e =
+    elim (is_dialled peer peers) as (λ b. Some link.Dialling ≡ cond b (Some link.Dialling) (option_map (λ (c : rules.Connection). link.Open c.number) (to_peer peer rows)) → b ≡ true) [
+      | true ↦ λ e. refl
+      | false ↦ λ e. by (to_peer peer rows) e
+    ] e
+  where
+    by : (o : Option rules.Connection) → Some link.Dialling ≡ option_map (λ (c : rules.Connection). link.Open c.number) o → false ≡ true
+    by None e = cc
+    by (Some c) e = cc

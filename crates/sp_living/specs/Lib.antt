@@ -4,6 +4,7 @@ pub mod Livings
 pub mod Holding
 pub mod Steps
 pub mod Hands
+pub mod Opening
 pub mod Frames
 pub mod Tickets
-pub mod Ends
+pub mod Telling

@@ -1,5 +1,5 @@
 -- What single calls make of a state, as steps of an event. (This project's own.)
-use Rattle.std.specs.Prelude.{ℕ, ◌+◌, false, List, [], ◌∷◌, ◌++◌}
+use Rattle.std.specs.Prelude.{ℕ, ◌+◌, ◌==◌, false, not, List, [], ◌∷◌, ◌++◌, filter}
 use Rattle.space_ids.specs.declared.value.Value.{Value}
 use Rattle.sp_rules.specs.Behaviours.{Reply}
 use Rattle.sp_rules.specs.Classes.{Setting}
@@ -27,6 +27,10 @@ with_task g origin method arguments fuel s = record s {
   tasks_made = s.tasks_made + 1;
   tasks = s.tasks ++ started g (s.tasks_made + 1) origin method arguments fuel ∷ [];
 }
+
+-- A task ends, and nothing is answered. So many instructions were made then by tasks that ended.
+abbrev pub without_task : ℕ → ℕ → State → State
+without_task id retired s = record s { tasks = filter (λ (t : Living). not (t.id == id)) s.tasks; retired = retired }
 
 -- A task that may go on is given a reply, after this number of instructions of its own, and holds the reference in it too.
 abbrev pub give_reply : Setting → ℕ → ℕ → Reply → State → State

@@ -1,22 +1,18 @@
-//! Frames that wait for leases: they are parked, and go once they wait for nothing.
+//! Frames that wait for leases: they are parked, and taken out.
 
-ghost use Rattle.std.specs.Prelude.{◌≡◌, ◌++◌, ℕ, List, [], ◌∷◌, false, IfOk, OnOk, map};
+ghost use Rattle.std.specs.Prelude.{◌≡◌, ◌++◌, ◌==◌, Bool, ℕ, List, [], ◌∷◌, false, IfOk, OnOk, not, filter, map};
 ghost use Rattle.std.specs.List.{IsDistinct, list_all, list_any};
 ghost use Rattle.dgc_client.specs.Table.{is_same};
 ghost use Rattle.sp_parked.specs.Parkings.{AreParked, parked_of};
 ghost use Rattle.sp_parked.specs.declared.frame.ParkedFrame.{ParkedFrame as Waiting};
 ghost use Rattle.sp_rules.specs.Classes.{Setting};
-ghost use Rattle.sp_rules.specs.Lists.{each};
-ghost use Rattle.sp_rules.specs.ParkedFrames.{go_all, has_lease, is_parked_at, park_frame};
-ghost use Rattle.sp_rules.specs.State.{State};
-ghost use Rattle.sp_store.specs.Stores.{IsAfter};
+ghost use Rattle.sp_rules.specs.ParkedFrames.{has_lease, is_parked_at, names};
+ghost use Rattle.sp_rules.specs.State.{ParkedFrame as Row, State};
 ghost use Rattle.sp_transport.specs.Transports.{IsTransport};
-ghost use Rattle.sp_living.specs.Frames.{is_free, pass_on, with_parked};
+ghost use Rattle.sp_living.specs.Frames.{is_free, with_parked};
 
 use crate::Living;
-use sp_call_classes::CallClasses;
 use sp_parked::ParkedFrame;
-use sp_store::Store;
 use space_ids::ForeignId;
 use std::alloc::AllocError;
 
@@ -24,25 +20,9 @@ impl Living {
     ghost use Rattle.sp_living.specs.Livings.{IsLiving};
     ghost use Rattle.sp_living.specs.Tickets.{AreTicketsOf, free_at, numbered_at};
 
-    /// Parks a frame that came until each foreign reference in it has a lease, and lets all frames go that
-    /// wait for nothing. It names each reference once.
-    pub fn park<C: CallClasses>(
-        &mut self,
-        store: &Store,
-        classes: &C,
-        frame: ParkedFrame,
-    ) -> Result<(), AllocError>
-        requires { IsDistinct is_same frame.references }
-        ensures { OnOk result ((g : Setting) (s : State) → IsLiving g s self.old → C.tells classes.now g.classes → IsAfter g s.store store.now → IsLiving g (park_frame g frame.conn frame.number (parked_of frame).frame frame.references s) self.new) }
-    {
-        self.hold_ids(frame.references.as_slice())?;
-        self.put(frame)?;
-        self.go_all(store, classes)
-    }
-
-    // Parks a frame after all others. Under one connection and number one is parked (laws
-    // `calls_that_come_are_once` and `answers_are_parked`).
-    fn put(&mut self, frame: ParkedFrame) -> Result<(), AllocError>
+    /// Parks a frame after all others. Its references are not held yet, and it names each once. Under one
+    /// connection and number one is parked (laws `calls_that_come_are_once` and `answers_are_parked`).
+    pub fn put_frame(&mut self, frame: ParkedFrame) -> Result<(), AllocError>
         requires { IsDistinct is_same frame.references }
         ensures { OnOk result ((g : Setting) (s : State) → IsLiving g s self.old → IsLiving g (with_parked (s.parked ++ parked_of frame ∷ []) s) self.new) }
     {
@@ -77,29 +57,37 @@ impl Living {
         }
     }
 
-    /// Lets all frames go of whose references each has a lease, in the order in which they came: a call
-    /// starts its task, and a result is acknowledged and passed on to who asked.
-    pub fn go_all<C: CallClasses>(&mut self, store: &Store, classes: &C) -> Result<(), AllocError>
-        ensures { OnOk result ((g : Setting) (s : State) → IsLiving g s self.old → C.tells classes.now g.classes → IsAfter g s.store store.now → IsLiving g (go_all g s) self.new) }
+    /// Takes the frames out that are parked on a connection, in the order in which they came. Their references
+    /// stay held.
+    pub fn take_frames_on(&mut self, conn: u64) -> Result<Vec<ParkedFrame>, AllocError>
+        ensures frames { IfOk result (λ taken. (g : Setting) (s : State) → IsLiving g s self.old → map parked_of taken.items ≡ filter (λ (p : Row). p.conn == conn) s.parked) }
+        ensures left { OnOk result ((g : Setting) (s : State) → IsLiving g s self.old → IsLiving g (with_parked (filter (λ (p : Row). not (p.conn == conn)) s.parked) s) self.new) }
     {
-        let tickets = self.free_tickets()?;
-        let frames = self.take_frames(&tickets)?;
-        self.pass_all_on(store, classes, frames)
+        let tickets = self.parked.on_connection(self.alloc, conn)?;
+        self.take_frames(&tickets)
     }
 
-    // Lets frames go that have been taken out, in this order.
-    fn pass_all_on<C: CallClasses>(
+    /// Takes the frames out that wait for a reference, in the order in which they came. Their references stay
+    /// held.
+    pub fn take_frames_naming(
         &mut self,
-        store: &Store,
-        classes: &C,
-        frames: Vec<ParkedFrame>,
-    ) -> Result<(), AllocError>
-        ensures { OnOk result ((g : Setting) (s : State) → IsLiving g s self.old → C.tells classes.now g.classes → IsAfter g s.store store.now → IsLiving g (each (pass_on g) (map parked_of frames.items) s) self.new) }
+        reference: &ForeignId,
+    ) -> Result<Vec<ParkedFrame>, AllocError>
+        ensures frames { IfOk result (λ taken. (g : Setting) (s : State) → IsLiving g s self.old → map parked_of taken.items ≡ filter (names reference.now) s.parked) }
+        ensures left { OnOk result ((g : Setting) (s : State) → IsLiving g s self.old → IsLiving g (with_parked (filter (λ (p : Row). not (names reference.now p)) s.parked) s) self.new) }
     {
-        for frame in frames {
-            self.pass_on(store, classes, frame)?;
-        }
-        Ok(())
+        let tickets = self.parked.naming(self.alloc, reference)?;
+        self.take_frames(&tickets)
+    }
+
+    /// Takes the frames out of whose references each has a lease, in the order in which they came. Their
+    /// references stay held.
+    pub fn take_free_frames(&mut self) -> Result<Vec<ParkedFrame>, AllocError>
+        ensures frames { IfOk result (λ taken. (g : Setting) (s : State) → IsLiving g s self.old → map parked_of taken.items ≡ filter (is_free s) s.parked) }
+        ensures left { OnOk result ((g : Setting) (s : State) → IsLiving g s self.old → IsLiving g (with_parked (filter (λ (p : Row). not (is_free s p)) s.parked) s) self.new) }
+    {
+        let tickets = self.free_tickets()?;
+        self.take_frames(&tickets)
     }
 
     // The tickets of the frames of whose references each has a lease, in the order in which these came.
@@ -136,5 +124,19 @@ impl Living {
             }
         }
         true
+    }
+
+    // Takes the frames of these tickets out, in this order.
+    fn take_frames(&mut self, tickets: &[u64]) -> Result<Vec<ParkedFrame>, AllocError>
+        ensures frames { IfOk result (λ taken. (g : Setting) (s : State) (is : Row → Bool) → IsLiving g s self.old → AreTicketsOf is tickets.now self.old.parked → map parked_of taken.items ≡ filter is s.parked) }
+        ensures left { OnOk result ((g : Setting) (s : State) (is : Row → Bool) → IsLiving g s self.old → AreTicketsOf is tickets.now self.old.parked → IsLiving g (with_parked (filter (λ p. not (is p)) s.parked) s) self.new) }
+    {
+        let mut taken = Vec::new(self.alloc);
+        for ticket in tickets {
+            if let Some(frame) = self.parked.take(*ticket) {
+                taken.push(frame)?;
+            }
+        }
+        Ok(taken)
     }
 }

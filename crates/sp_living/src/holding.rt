@@ -99,8 +99,8 @@ impl Living {
         }
     }
 
-    // A copy of what a task holds, if it lives.
-    pub(crate) fn held(&self, id: u64) -> Result<Vec<Ref>, AllocError>
+    /// A copy of what a task holds, nothing if none of this id lives.
+    pub fn held(&self, id: u64) -> Result<Vec<Ref>, AllocError>
         ensures { IfOk result (λ held. held.items ≡ held_at id self.now) }
     {
         match self.tasks.held(id) {

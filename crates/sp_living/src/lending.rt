@@ -2,11 +2,11 @@
 
 ghost use Rattle.std.specs.Prelude.{◌≡◌, ℕ, Some, IfErr, IfSome, OnErr, OnOk, true};
 ghost use Rattle.sp_rules.specs.Classes.{Classes, Setting};
-ghost use Rattle.sp_rules.specs.LivingTasks.{finish_task, give_back, park_call};
+ghost use Rattle.sp_rules.specs.LivingTasks.{give_back, park_call};
 ghost use Rattle.sp_rules.specs.State.{State};
 ghost use Rattle.sp_rules.specs.Behaviours.{Call as Calls};
-ghost use Rattle.sp_rules.specs.Tasks.{AsksFor, HasEnded, lent, stand};
-ghost use Rattle.sp_tasks.specs.Behaviours.{outcome_of, reply_of};
+ghost use Rattle.sp_rules.specs.Tasks.{AsksFor, lent, stand};
+ghost use Rattle.sp_tasks.specs.Behaviours.{reply_of};
 ghost use Rattle.sp_tasks.specs.Rows.{hand_of, replied_hand, row_of};
 ghost use Rattle.sp_living.specs.Steps.{give_reply};
 
@@ -14,7 +14,7 @@ use crate::Living;
 use net_message::Message;
 use sp_call_classes::CallClasses;
 use sp_requests::Asked;
-use sp_tasks::{LentTask, Outcome, Reply, copy_reply};
+use sp_tasks::{LentTask, Reply, copy_reply};
 use space_ids::{Ref, Row, Value};
 use std::alloc::AllocError;
 
@@ -99,19 +99,5 @@ impl Living {
         self.tasks.park(task);
         self.transport.make_call(&target.space, asked);
         Ok(())
-    }
-
-    /// Lets a lent task go that has ended so, with this fuel left, as [`Living::end_task`] does.
-    pub fn finish_task<C: CallClasses>(
-        &mut self,
-        classes: &C,
-        task: &LentTask,
-        fuel: u64,
-        outcome: Outcome,
-    ) -> Result<(), AllocError>
-        requires { has_lent self.old task.now ≡ true }
-        ensures { OnOk result ((g : Setting) (s : State) → IsLiving g s self.old → C.tells classes.now g.classes → stand (task_of g task.now) ≡ HasEnded (outcome_of outcome) → fuel ≡ (task_of g task.now).fuel → IsLiving g (finish_task g task.now.id task.now.made s) self.new) }
-    {
-        self.end_task(classes, task.id(), fuel, outcome)
     }
 }

@@ -7,13 +7,16 @@
 
 pub use living::Living;
 
+mod asking;
+mod concluding;
 mod ends;
 mod failing;
 mod frames;
 mod holding;
 mod lending;
 mod living;
-mod passing;
+mod lookups;
+mod opening;
 mod replying;
 mod results;
 mod saying;

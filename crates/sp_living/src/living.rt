@@ -53,6 +53,20 @@ impl Living {
         })
     }
 
+    /// The id of the space.
+    pub fn id(&self) -> Uuid
+        ensures { (g : Setting) (s : State) → IsLiving g s self.now → result ≡ g.id }
+    {
+        self.id
+    }
+
+    /// The moment that is now, in milliseconds.
+    pub fn moment(&self) -> u64
+        ensures { (g : Setting) (s : State) → IsLiving g s self.now → result ≡ s.moment }
+    {
+        self.moment
+    }
+
     /// The space's side of the transport.
     pub fn transport(&self) -> &Transport
         ensures { (g : Setting) (s : State) → IsLiving g s self.now → IsTransport s result.now }

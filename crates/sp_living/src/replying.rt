@@ -5,7 +5,8 @@ ghost use Rattle.sp_requests.specs.Asking.{asks_by, first_of};
 ghost use Rattle.sp_rules.specs.Classes.{Setting};
 ghost use Rattle.sp_rules.specs.LivingTasks.{keep_result, outcome_of as outcome_in, reply_task, reply_to};
 ghost use Rattle.sp_rules.specs.References.{references_in, with_references};
-ghost use Rattle.sp_rules.specs.State.{Asked as Question, RootAcked, State, say};
+ghost use Rattle.sp_rules.specs.ParkedFrames.{answer_parked};
+ghost use Rattle.sp_rules.specs.State.{Asked as Question, ParkedFrame as Row, RootAcked, State, say};
 ghost use Rattle.sp_rules.specs.Events.{Ended};
 ghost use Rattle.sp_tasks.specs.Behaviours.{outcome_of, reply_of};
 ghost use Rattle.sp_tasks.specs.Rows.{value_given};
@@ -61,6 +62,34 @@ impl Living {
         let told = copy_outcome(self.alloc, &outcome)?;
         self.say(Output::Ended(task, told))?;
         self.keep_root_outcome(task, outcome)
+    }
+
+    /// Holds the result with which a root or lookup of the space's own ends, if it returned, until it is
+    /// acknowledged.
+    pub fn keep_root_outcome(&mut self, task: u64, outcome: Outcome) -> Result<(), AllocError>
+        ensures { OnOk result ((g : Setting) (s : State) → IsLiving g s self.old → IsLiving g (keep_result g (RootAcked task) (outcome_of outcome) s) self.new) }
+    {
+        match outcome {
+            Outcome::Returned(value) => self.keep_root(task, value),
+            Outcome::Threw(_) => Ok(()),
+            Outcome::Spent => Ok(()),
+        }
+    }
+
+    /// Acknowledges a result that was parked under this connection and number, and gives who asked the reply.
+    /// Nothing happens if nobody asks by it. It came on a connection that this space dialled (law
+    /// `answers_are_parked`).
+    pub fn answer_parked(&mut self, conn: u64, number: u64, reply: Reply) -> Result<(), AllocError>
+        ensures { OnOk result ((g : Setting) (s : State) (p : Row) → IsLiving g s self.old → p.conn ≡ conn → p.number ≡ number → IsLiving g (answer_parked g p (reply_of reply) s) self.new) }
+    {
+        if !self.is_dialled(conn) {
+            return Err(AllocError);
+        }
+        self.transport.reserve_notes(1)?;
+        match self.transport.acknowledge_reserved(conn, number) {
+            Some(asker) => self.reply_to(asker, reply),
+            None => Ok(()),
+        }
     }
 
     // The reference in a reply, if there is one and the task does not hold it.

@@ -1,20 +1,17 @@
 //! Tasks that start and end.
 
-ghost use Rattle.std.specs.Prelude.{◌≡◌, ◌+◌, ℕ, List, Some, IfOk, OnOk};
-ghost use Rattle.sp_rules.specs.Classes.{Classes, Setting};
-ghost use Rattle.sp_rules.specs.LivingTasks.{add_task, after_steps, end_with, keep_result, reply_frame, report};
-ghost use Rattle.sp_rules.specs.State.{Acked, Living as Task, OfCall, RootAcked, State, task_at};
-ghost use Rattle.sp_rules.specs.Tasks.{steps};
-ghost use Rattle.sp_tasks.specs.Behaviours.{origin_of, outcome_of};
-ghost use Rattle.sp_living.specs.Steps.{with_task};
+ghost use Rattle.std.specs.Prelude.{◌≡◌, ◌+◌, ℕ, IfOk, OnOk, option_map};
+ghost use Rattle.sp_rules.specs.Classes.{Setting};
+ghost use Rattle.sp_rules.specs.LivingTasks.{add_task};
+ghost use Rattle.sp_rules.specs.State.{Living as Task, State, task_at};
+ghost use Rattle.sp_tasks.specs.Behaviours.{origin_of};
+ghost use Rattle.sp_living.specs.Steps.{with_task, without_task};
 
 use crate::Living;
-use net_message::Message;
-use sp_call_classes::CallClasses;
-use sp_outputs::{Output, Turn};
-use sp_tasks::{NewTask, Origin, Outcome, copy_outcome};
+use sp_outputs::Output;
+use sp_tasks::{NewTask, Origin};
 use space_ids::Value;
-use std::alloc::{AllocError, Global};
+use std::alloc::AllocError;
 
 // The last id that a task may have. A space whose next id would be that is worn out, and takes no event (98).
 const LAST_ID: u64 = 1 << 63;
@@ -62,116 +59,14 @@ impl Living {
         Ok(self.tasks.start_reserved(new))
     }
 
-    /// Lets a task go that lives and has ended so, with this fuel left. Its result is held until it is
-    /// acknowledged, the call by which it came is answered, if its connection is open, and what it held is
-    /// let go.
-    pub fn end_task<C: CallClasses>(
-        &mut self,
-        classes: &C,
-        id: u64,
-        fuel: u64,
-        outcome: Outcome,
-    ) -> Result<(), AllocError>
-        ensures { OnOk result ((g : Setting) (s : State) (t : Task) (k : ℕ) → IsLiving g s self.old → C.tells classes.now g.classes → task_at s id ≡ Some t → fuel ≡ (steps k t.task).fuel → IsLiving g (end_with g id (after_steps k t) (outcome_of outcome) s) self.new) }
+    /// Lets a living task go. Returns how it came, if it lives. What it holds has its holders still, and
+    /// nothing is answered. It takes no memory.
+    pub fn take_task(&mut self, id: u64) -> Option<Origin>
+        ensures origin { (g : Setting) (s : State) → IsLiving g s self.old → option_map origin_of result ≡ option_map (λ (t : Task). t.origin) (task_at s id) }
+        ensures left { (g : Setting) (s : State) (retired : ℕ) → IsLiving g s self.old → IsLiving g (without_task id retired s) self.new }
     {
-        let origin = match self.tasks.origin(id) {
-            Some(origin) => origin,
-            None => return Ok(()),
-        };
-        let held = self.held(id)?;
+        let origin = self.tasks.origin(id);
         self.tasks.end(id);
-        self.say(Output::Ended(id, copy_outcome(self.alloc, &outcome)?))?;
-        self.report(classes, origin, id, fuel, outcome)?;
-        self.drop_holders(&held);
-        Ok(())
-    }
-
-    /// Holds the result of a task that ended so, with this fuel left, until it is acknowledged, and answers
-    /// the call by which the task came. Nothing happens if the connection of the call is not open.
-    pub fn report<C: CallClasses>(
-        &mut self,
-        classes: &C,
-        origin: Origin,
-        id: u64,
-        fuel: u64,
-        outcome: Outcome,
-    ) -> Result<(), AllocError>
-        ensures { OnOk result ((g : Setting) (s : State) → IsLiving g s self.old → C.tells classes.now g.classes → IsLiving g (report g (origin_of origin) id fuel (outcome_of outcome) s) self.new) }
-    {
-        match origin {
-            Origin::Root => self.keep_root_outcome(id, outcome),
-            Origin::Call { conn, number } => {
-                self.answer_call(classes, conn, number, fuel, outcome)
-            }
-        }
-    }
-
-    // Holds the result with which a root or lookup ends, if it returned.
-    pub(crate) fn keep_root_outcome(
-        &mut self,
-        task: u64,
-        outcome: Outcome,
-    ) -> Result<(), AllocError>
-        ensures { OnOk result ((g : Setting) (s : State) → IsLiving g s self.old → IsLiving g (keep_result g (RootAcked task) (outcome_of outcome) s) self.new) }
-    {
-        match outcome {
-            Outcome::Returned(value) => self.keep_root(task, value),
-            Outcome::Threw(_) => Ok(()),
-            Outcome::Spent => Ok(()),
-        }
-    }
-
-    // Holds the result with which the task of a call ends, if it returned.
-    fn keep_outcome(&mut self, conn: u64, number: u64, outcome: Outcome) -> Result<(), AllocError>
-        ensures { OnOk result ((g : Setting) (s : State) → IsLiving g s self.old → IsLiving g (keep_result g (Acked conn number) (outcome_of outcome) s) self.new) }
-    {
-        match outcome {
-            Outcome::Returned(value) => self.keep(conn, number, value),
-            Outcome::Threw(_) => Ok(()),
-            Outcome::Spent => Ok(()),
-        }
-    }
-
-    // Holds the result of the task of a call, and answers the call, if its connection is open.
-    fn answer_call<C: CallClasses>(
-        &mut self,
-        classes: &C,
-        conn: u64,
-        number: u64,
-        fuel: u64,
-        outcome: Outcome,
-    ) -> Result<(), AllocError>
-        ensures { OnOk result ((g : Setting) (s : State) (id : ℕ) → IsLiving g s self.old → C.tells classes.now g.classes → IsLiving g (report g (OfCall conn number) id fuel (outcome_of outcome) s) self.new) }
-    {
-        if self.transport.connection(conn).is_none() {
-            return Ok(());
-        }
-        let frame = frame_of(self.alloc, classes, number, fuel, &outcome)?;
-        self.keep_outcome(conn, number, outcome)?;
-        self.reply(Turn::Replies, conn, frame)
-    }
-}
-
-// The frame that answers a call whose task ended so.
-fn frame_of<C: CallClasses>(
-    alloc: Global,
-    classes: &C,
-    number: u64,
-    fuel: u64,
-    outcome: &Outcome,
-) -> Result<Message, AllocError>
-    ensures { IfOk result (λ frame. (g : Setting) → C.tells classes.now g.classes → frame ≡ reply_frame g number fuel (outcome_of outcome.now)) }
-{
-    match copy_outcome(alloc, outcome)? {
-        Outcome::Returned(value) => Ok(Message::Returned {
-            number,
-            fuel,
-            value,
-        }),
-        Outcome::Threw(class) => Ok(Message::Threw {
-            number,
-            class: classes.told_class(class),
-        }),
-        Outcome::Spent => Ok(Message::Spent { number }),
+        origin
     }
 }

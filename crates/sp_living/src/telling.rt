@@ -1,32 +1,29 @@
-//! Answers to dirty and clean calls.
+//! Answers to dirty and clean calls, as the leases tell them.
 
-ghost use Rattle.std.specs.Prelude.{◌≡◌, [], OnOk, Some, true, false};
+ghost use Rattle.std.specs.Prelude.{◌≡◌, IfOk, OnOk, find, is_some, true, false};
 ghost use Rattle.dgc_client.specs.History.Event.{CleanAnswered, DirtyAnswered};
 ghost use Rattle.sp_rules.specs.Classes.{Setting};
-ghost use Rattle.sp_rules.specs.Frames.{told_by};
-ghost use Rattle.sp_rules.specs.State.{Connection as Line, State, connection_at};
-ghost use Rattle.sp_store.specs.Stores.{IsAfter};
+ghost use Rattle.sp_rules.specs.Frames.{tells_on};
+ghost use Rattle.sp_rules.specs.State.{State};
+ghost use Rattle.sp_living.specs.Telling.{answered};
 
 use crate::Living;
-use sp_call_classes::{CallClasses, RemoteException};
-use sp_store::Store;
 use std::alloc::AllocError;
 
 impl Living {
     ghost use Rattle.sp_living.specs.Livings.{IsLiving};
 
     /// Notes that the dirty calls that went out on a connection under this sequence number were answered, by
-    /// leases for this period, in milliseconds: frames that waited for them go. An answer to nothing closes
-    /// the connection. It comes on one that this space dialled.
-    pub fn lease<C: CallClasses>(
+    /// leases for this period, in milliseconds. Returns whether there were any. The answer comes on a
+    /// connection that this space dialled.
+    pub fn dirty_answered(
         &mut self,
-        store: &Store,
-        classes: &C,
         conn: u64,
         sequence: u64,
         period: u64,
-    ) -> Result<(), AllocError>
-        ensures { OnOk result ((g : Setting) (s : State) (c : Line) → IsLiving g s self.old → s.notes ≡ [] → C.tells classes.now g.classes → IsAfter g s.store store.now → connection_at s conn ≡ Some c → IsLiving g (told_by g c true sequence (λ call. DirtyAnswered call period) s) self.new) }
+    ) -> Result<bool, AllocError>
+        ensures some { IfOk result (λ some. (g : Setting) (s : State) → IsLiving g s self.old → some ≡ is_some (find (tells_on true conn sequence) s.requests)) }
+        ensures told { OnOk result ((g : Setting) (s : State) → IsLiving g s self.old → IsLiving g (answered true conn sequence (λ call. DirtyAnswered call period) s) self.new) }
     {
         if !self.is_dialled(conn) {
             return Err(AllocError);
@@ -35,22 +32,17 @@ impl Living {
             Some(told) => {
                 self.transport
                     .dirty_answered(&told.group, told.call, period);
-                self.go_all(store, classes)
+                Ok(true)
             }
-            None => self.close(classes, RemoteException::Unmarshal, conn),
+            None => Ok(false),
         }
     }
 
-    /// Notes that the clean calls that went out on a connection under this sequence number were answered. An
-    /// answer to nothing closes the connection. It comes on one that this space dialled.
-    pub fn cleaned<C: CallClasses>(
-        &mut self,
-        store: &Store,
-        classes: &C,
-        conn: u64,
-        sequence: u64,
-    ) -> Result<(), AllocError>
-        ensures { OnOk result ((g : Setting) (s : State) (c : Line) → IsLiving g s self.old → s.notes ≡ [] → C.tells classes.now g.classes → IsAfter g s.store store.now → connection_at s conn ≡ Some c → IsLiving g (told_by g c false sequence CleanAnswered s) self.new) }
+    /// Notes that the clean calls that went out on a connection under this sequence number were answered.
+    /// Returns whether there were any. The answer comes on a connection that this space dialled.
+    pub fn clean_answered(&mut self, conn: u64, sequence: u64) -> Result<bool, AllocError>
+        ensures some { IfOk result (λ some. (g : Setting) (s : State) → IsLiving g s self.old → some ≡ is_some (find (tells_on false conn sequence) s.requests)) }
+        ensures told { OnOk result ((g : Setting) (s : State) → IsLiving g s self.old → IsLiving g (answered false conn sequence CleanAnswered s) self.new) }
     {
         if !self.is_dialled(conn) {
             return Err(AllocError);
@@ -58,9 +50,9 @@ impl Living {
         match self.transport.take_group(conn, sequence, false) {
             Some(told) => {
                 self.transport.clean_answered(&told.group, told.call);
-                self.go_all(store, classes)
+                Ok(true)
             }
-            None => self.close(classes, RemoteException::Unmarshal, conn),
+            None => Ok(false),
         }
     }
 }

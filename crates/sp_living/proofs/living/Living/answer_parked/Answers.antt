@@ -11,7 +11,7 @@ use Rattle.sp_transport.specs.Transports.{IsTransport}
 use Rattle.sp_living.specs.Livings.{IsLiving}
 use Rattle.sp_living.proofs.FoundLemmas.{none-asks, one-asks}
 use Rattle.sp_living.proofs.LivingLemmas.{moved, sent-own}
-use Rattle.sp_living.proofs.PassLemmas.{acked, result-drops, result-goes}
+use Rattle.sp_living.proofs.AnswerLemmas.{acked, result-drops, result-goes}
 use Rattle.sp_living.proofs.living.Living.answer_parked.Goals as goal
 
 pub returns-in-Some : goal.returns-in-Some

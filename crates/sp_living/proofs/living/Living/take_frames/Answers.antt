@@ -11,7 +11,7 @@ use Rattle.sp_living.specs.Livings.{IsLiving}
 use Rattle.sp_living.specs.Parts.{AreParkedIn}
 use Rattle.sp_living.specs.declared.living.Living.{Living}
 use Rattle.sp_living.proofs.TableLemmas.{none-left, parked-changed}
-use Rattle.sp_living.proofs.TakingLemmas.{once-filter}
+use Rattle.sp_living.proofs.OnceLemmas.{once-filter}
 use Rattle.sp_living.proofs.TicketLemmas.{all-found, all-left, found-more, found_at, left-more, left_at, listed, rows-kept, values-parked}
 use Rattle.sp_living.proofs.living.Living.take_frames.Goals as goal
 use Rattle.sp_living.proofs.living.Living.take_frames.Goals.{in-Some+in_ok-push, in_default}

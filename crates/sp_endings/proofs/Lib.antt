@@ -1,0 +1,10 @@
+pub mod ApartLemmas
+pub mod EachLemmas
+pub mod StoreLemmas
+pub mod TakingLemmas
+pub mod PassLemmas
+pub mod FailLemmas
+pub mod EndLemmas
+pub mod ToldLemmas
+pub mod TaskLemmas
+pub mod NeedLemmas

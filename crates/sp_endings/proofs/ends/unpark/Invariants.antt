@@ -1,0 +1,13 @@
+use Rattle.std.proofs.Common.{map, take}
+use Rattle.sp_parked.specs.Parkings.{parked_of}
+use Rattle.sp_rules.specs.Classes.{Setting}
+use Rattle.sp_rules.specs.Lists.{each}
+use Rattle.sp_rules.specs.State.{State}
+use Rattle.sp_endings.specs.Passing.{let_references_go}
+use Rattle.sp_living.specs.Livings.{IsLiving}
+use Rattle.sp_endings.proofs.ends.unpark.Given as goal
+
+-- each of the frames so far let its references go
+abbrev pub invariant-loop-frame : goal.invariant-loop-frame
+invariant-loop-frame l =
+    (g : Setting) (s : State) → IsLiving g s l.initial.living → IsLiving g (each let_references_go (map parked_of (take l.frame-index l.frame-items)) s) l.living

@@ -1,0 +1,14 @@
+use Rattle.std.proofs.Common.{List, refl, subst}
+use Rattle.space_ids.specs.declared.ids.ForeignId.{ForeignId}
+use Rattle.sp_parked.specs.Parkings.{parked_of}
+use Rattle.sp_rules.specs.Holders.{drop_ids}
+use Rattle.sp_rules.specs.ParkedFrames.{go_frame}
+use Rattle.sp_living.specs.Livings.{IsLiving}
+use Rattle.sp_endings.proofs.passing.pass_on.Goals as goal
+
+pub returns : goal.returns
+returns w c = λ g s a tells after.
+    let p = parked_of c.args.frame in
+    let gone = go_frame g p p.frame s in
+    subst (λ (ids : List ForeignId). IsLiving g (drop_ids ids gone) c.drop_ids.new.self) c.as_slice.ensures
+    (c.drop_ids.ensures g gone (c.in_ok-go_frame.ensures g s p a tells after refl refl))
