@@ -37,7 +37,7 @@ use Rattle.vm_run.specs.declared.outcome.Outcome.{Outcome}
 use Rattle.sp_behaviours.specs.Behaviours.{op_of, told}
 use Rattle.sp_behaviours.specs.Follows.{Follows, stand_before, stand_of}
 use Rattle.sp_behaviours.proofs.Following.{stands, steps-follow}
-use Rattle.sp_behaviours.proofs.OwnSteps.{answer-gives, answer-throws, stand-is, step-ends, step-plain}
+use Rattle.sp_behaviours.proofs.OwnSteps.{answer-gives, answer-throws, step-ends, step-plain}
 use Rattle.sp_space.specs.Spaces.{answers_to, grown}
 use Rattle.sp_space.proofs.RowsAfter.{back-moves, back-silent, commit-replies, commit-silent, finish-removes}
 use Rattle.sp_runs.proofs.SpaceEnds.{ended-in, told-untold, untold}
@@ -204,11 +204,10 @@ asked-of links (Waits a m fuel) op e = let same : op_of a ≡ op = cc in (a, sym
 asked-of links (MachineOver end fuel) op e = absurd (cc)
 asked-of links Lost op e = absurd (cc)
 
-over-with : (b : Behaviour) → is_over b ≡ true → (end : End) × (b ≡ Over end)
-over-with (Plain next) e = absurd (false≢true e)
-over-with (Asks op next) e = absurd (false≢true e)
-over-with (Ends outcome) e = absurd (false≢true e)
-over-with (Over outcome) e = (outcome, refl)
+over-with : (x : Stand) → is_over x ≡ true → (end : End) × (x ≡ HasEnded end)
+over-with Runs e = absurd (false≢true e)
+over-with (AsksFor op) e = absurd (false≢true e)
+over-with (HasEnded end) e = (end, refl)
 
 pub one-waits : (g : Setting) (s : State) (t : Living) → s.tasks ≡ t ∷ [] → IsAlone g s → t.waits ≡ false
 one-waits g s t one alone = only-has (λ (u : Living). u.waits ≡ false) s t one alone.ready
@@ -265,15 +264,15 @@ module _ (links : Links) (g : Setting) (h : List Event) (t : Living) (m : Machin
       so : (es : List Event) → step_events 1 t.task ≡ es → (IsTaken g (grown h es) → Moves links g h t es) → Moves links g h t (step_events 1 t.task)
       so es same f = subst (Moves links g h t) (sym same) (f (subst (λ (es : List Event). IsTaken g (grown h es)) same taken))
 
-      own : stand t.task ≡ Runs → (b : Bool) → is_over (step t.task).behaviour ≡ b → Moves links g h t (step_events 1 t.task)
+      own : stand t.task ≡ Runs → (b : Bool) → is_over (stand (step t.task)) ≡ b → Moves links g h t (step_events 1 t.task)
       own runs false goes = so (GivenBack 1 1 ∷ []) (ap (events_at 1 t.task) runs ∙ ap (events_after 1) goes) (λ taken. back-moves-on runs)
       own runs true over =
-          let (end, is) = over-with (step t.task).behaviour over in
+          let (end, is) = over-with (stand (step t.task)) over in
           so (Finished 1 1 ∷ []) (ap (events_at 1 t.task) runs ∙ ap (events_after 1) over)
-          (finish-moves 1 end (ap stand (one-step t.task) ∙ stand-is (step t.task) (Over end) (step t.task).fuel is refl))
+          (finish-moves 1 end (ap stand (one-step t.task) ∙ is))
 
       by : (x : Stand) → stand t.task ≡ x → Moves links g h t (step_events 1 t.task)
-      by Runs e = own e (is_over (step t.task).behaviour) refl
+      by Runs e = own e (is_over (stand (step t.task))) refl
       by (AsksFor op) e =
           let (a, is) = asked-of links m op (sym (stands links g t.task m follows) ∙ e) in
           so (Committed 1 0 (op_of a) ∷ GivenBack 1 0 ∷ []) (ap (events_at 1 t.task) e ∙ ap (events_of_op 1) is ∙ ops-of a) (λ taken. ask-moves a (e ∙ ap (λ o. AsksFor o) is))

@@ -211,7 +211,7 @@ pub record Ran (links : Links) (g : Setting) (h : List Event) (after : Space) (h
   pub living : Living
   pub lives : task_at (state_of g h) hand.id ≡ Some living
   pub runs : stand living.task ≡ Runs
-  pub over : is_over (step living.task).behaviour ≡ is_over_at (machine_at hand.id after.machines)
+  pub over : is_over (stand (step living.task)) ≡ is_over_at (machine_at hand.id after.machines)
 
 -- however many instructions it makes, it is the task that is lent
 made-more : (o : Option TaskRow) (hand : Hand) (made : ℕ) → is_in_hand o (record hand { made = made }) ≡ is_in_hand o hand

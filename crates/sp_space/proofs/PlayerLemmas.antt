@@ -4,7 +4,7 @@ use Rattle.std.specs.Prelude.{◌==◌}
 use Rattle.std.proofs.lemmas.Bool.{eqb-true, ne_eqb, true≢false}
 use Rattle.cls_link.specs.Links.{Links}
 use Rattle.sp_rules.specs.Classes.{Setting}
-use Rattle.sp_rules.specs.Tasks.{Task, Runs, HasEnded}
+use Rattle.sp_rules.specs.Tasks.{Task, Runs, HasEnded, stand}
 use Rattle.sp_rules.specs.Worlds.{is_over}
 use Rattle.vm_act.specs.Next.{Next, On, Ends, Asks, Stuck}
 use Rattle.vm_act.specs.declared.asked.Asked.{Asked}
@@ -15,8 +15,9 @@ use Rattle.vm_run.specs.Run.{State, Running, Waits, Over, Lost, after, over, run
 use Rattle.vm_run.specs.Task.{fuel_left, outcome_at, pause_at}
 use Rattle.vm_run.specs.declared.outcome.Pause.TheVariants.{Turn, Ask, Ended}
 use Rattle.vm_run.proofs.Runs.{IsNeverStuck-step, at_once}
-use Rattle.sp_behaviours.specs.Behaviours.{behaviour_of, by_next, told_some}
+use Rattle.sp_behaviours.specs.Behaviours.{told_some}
 use Rattle.sp_behaviours.specs.Follows.{Follows, stand_before, stand_of}
+use Rattle.sp_behaviours.proofs.Following.{stands}
 use Rattle.sp_space.specs.Players.{left_in}
 
 -- ---- fuel
@@ -72,23 +73,27 @@ left-less links s on silent = by (run links 1 s) (left-stepped links s) silent
 
 -- ---- where a task stands
 
--- a machine is over exactly if its task is
-pub over-is : (links : Links) (g : Setting) (t : Task) (s : State) → Follows links g t s → is_over t.behaviour ≡ (left_in s == 0)
-unfolding behaviour_of step
-over-is links g t (Running m zero) f = ap is_over f.behaviour
-over-is links g t (Running m (suc fuel)) f = ap is_over f.behaviour ∙ by (insns.step links m) (at_once links (step links (Running m (suc fuel))) (IsNeverStuck-step links (Running m (suc fuel)) f.never_stuck)) ∙ sym (more fuel)
-  where
-    more : (n : ℕ) → (suc n == 0) ≡ false
-    more n = ne_eqb (suc n) 0 (λ e. absurd (omega (arith, e)))
+more : (n : ℕ) → (suc n == 0) ≡ false
+more n = ne_eqb (suc n) 0 (λ e. absurd (omega (arith, e)))
 
-    by : (n : Next) → Rattle.vm_run.specs.Run.IsNotLost links (after m.heap.cells n fuel) → is_over (by_next links.classes m.heap.cells (behaviour_of links fuel) n) ≡ false
+-- a machine that is never stuck is over exactly if it stands at its end
+over-at : (links : Links) (s : State) → IsNeverStuck links s → is_over (stand_of links s) ≡ (left_in s == 0)
+unfolding step
+over-at links (Running m zero) safe = refl
+over-at links (Running m (suc fuel)) safe = by (insns.step links m) (at_once links (step links (Running m (suc fuel))) (IsNeverStuck-step links (Running m (suc fuel)) safe)) ∙ sym (more fuel)
+  where
+    by : (n : Next) → Rattle.vm_run.specs.Run.IsNotLost links (after m.heap.cells n fuel) → is_over (stand_before n) ≡ false
     by (On m') there = refl
     by (Ends ending) there = refl
     by (Asks op m') there = refl
     by Stuck there = absurd there
-over-is links g t (Waits op m fuel) f = ap is_over f.behaviour ∙ sym (ne_eqb (suc fuel) 0 (λ e. absurd (omega (arith, e))))
-over-is links g t (Over end fuel) f = ap is_over f.behaviour
-over-is links g t Lost f = absurd (at_once links Lost f.never_stuck)
+over-at links (Waits op m fuel) safe = sym (more fuel)
+over-at links (Over end fuel) safe = refl
+over-at links Lost safe = refl
+
+-- so does its task
+pub over-is : (links : Links) (g : Setting) (t : Task) (s : State) → Follows links g t s → is_over (stand t) ≡ (left_in s == 0)
+over-is links g t s f = ap is_over (stands links g t s f) ∙ over-at links s f.never_stuck
 
 -- one that is over has ended
 pub over-stands : (links : Links) (s : State) → (left_in s == 0) ≡ true → stand_of links s ≡ HasEnded (told_some (outcome_at links.classes s))
