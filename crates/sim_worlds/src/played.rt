@@ -41,10 +41,7 @@ pub trait Played: Inhabitant {
 }
 
 /// Makes the spaces of a script.
-pub trait Origin {
-    /// What it makes.
-    type Space: Played + Drop;
-
+pub trait Origin<S> {
     /// Returns a space of this id, to which nothing has happened.
-    fn space(&self, id: Uuid) -> Result<Self::Space, AllocError>;
+    fn space(&self, id: Uuid) -> Result<S, AllocError>;
 }
