@@ -2,6 +2,7 @@ pub mod ActLemmas
 pub mod EnterLemmas
 pub mod FitLemmas
 pub mod MakeLemmas
+pub mod Pieces
 pub mod ResidentLemmas
 pub mod RunLemmas
 pub mod WiringLemmas

@@ -7,6 +7,7 @@
 
 pub use event::WorldEvent;
 pub use inhabitant::Inhabitant;
+pub use laws::pieces_make_a_run;
 pub use runs::{Unfinished, run};
 pub use sp_events::{CoreFault, Event, StartFault};
 pub use sp_outputs::Output;
@@ -17,6 +18,7 @@ mod copies;
 mod event;
 mod happening;
 mod inhabitant;
+mod laws;
 mod resident;
 mod runs;
 mod wiring;
