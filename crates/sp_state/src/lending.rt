@@ -16,11 +16,12 @@ use space_ids::{Ref, Row, Value};
 use std::alloc::AllocError;
 
 impl SpaceState {
-    ghost use Rattle.sp_state.specs.Hands.{has_lent};
+    ghost use Rattle.sp_state.specs.Hands.{hand_at, has_lent};
     ghost use Rattle.sp_state.specs.Spaces.{IsSpace};
 
     /// Lends a task that may go on, with its record, if it is not lent. It takes no memory.
     pub fn lend(&mut self, id: u64) -> Option<LentTask>
+        ensures task { result ≡ hand_at id self.old }
         ensures own { IfSome result (λ hand. has_lent self.new hand ≡ true) }
         ensures same { (g : Setting) (s : State) → IsSpace g s self.old → IsSpace g s self.new }
     {
