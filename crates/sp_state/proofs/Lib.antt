@@ -7,3 +7,4 @@ pub mod AnswerLemmas
 pub mod SweepLemmas
 pub mod HappenLemmas
 pub mod OpLemmas
+pub mod LoopLemmas

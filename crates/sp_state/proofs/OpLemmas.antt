@@ -1,6 +1,7 @@
 -- Operations on the store: what they make of a state, and of the record of the task that asks.
 use Rattle.std.proofs.Common.{◌≡◌, ℕ, zero, suc, ◌+◌, ◌≤◌, arith, Bool, true, false, cond, List, [], ◌∷◌, ◌++◌, Option, None, Some, refl, sym, ap, subst, ◌∙◌, map, length, unwrap_or}
-use Rattle.std.specs.Prelude.{◌⊎◌, drop, option_and_then, slice_get}
+use Rattle.std.specs.Prelude.{◌⊎◌, option_and_then, slice_get}
+use Rattle.std.specs.Prelude as prelude
 use Rattle.std.proofs.Common.{inl, inr}
 use Rattle.std.proofs.lemmas.List.{length-append, map-append}
 use Rattle.dgc_client.specs.History as lease_events
@@ -13,7 +14,7 @@ use Rattle.space_ids.specs.declared.value.Value.{Value}
 use Rattle.space_ids.specs.declared.value.Value.TheVariants as values
 use Rattle.sp_rules.specs.Behaviours.{Op, Create, Get, Put, Call, Reply, Gives, Throws}
 use Rattle.sp_rules.specs.Classes.{Setting, blank, field_kind}
-use Rattle.sp_rules.specs.Holders.{drop_ids, hold_ids, holder_comes, holder_goes}
+use Rattle.sp_rules.specs.Holders.{drop, drop_ids, hold, hold_ids, holder_comes, holder_goes}
 use Rattle.sp_rules.specs.Laws.{RisesWithin}
 use Rattle.sp_rules.specs.Lists.{each, numbers_below, with_some}
 use Rattle.sp_rules.specs.LivingTasks.{after_op, after_reply, after_steps, commit, is_full, next_object, op_reply, value_at}
@@ -21,11 +22,16 @@ use Rattle.sp_rules.specs.References.{foreign_ids, reference_of, references_in, 
 use Rattle.sp_rules.specs.State.{State, Living, Made, Object, Stored, Written, last_written, object_at, ready_at, set_task, standing}
 use Rattle.sp_rules.specs.Tasks.{Task, Stand, Runs, AsksFor, HasEnded, answer, gained, pay_with, stand, step, step_at, steps}
 use Rattle.sp_store.specs.Stores.{field_after, fields_after}
-use Rattle.sp_owner.specs.Owners.{owner_parts}
+use Rattle.sp_owner.specs.Owners.{IsOwner, owner_parts}
+use Rattle.sp_owner.specs.declared.owner.Owner.{Owner}
+use Rattle.sp_living.specs.Livings.{IsLiving}
 use Rattle.sp_living.specs.Steps.{give_reply}
-use Rattle.sp_state.specs.Spaces.{AreNumbered}
+use Rattle.sp_living.specs.declared.living.Living.{Living as Lives}
+use Rattle.sp_state.specs.Spaces.{AreNumbered, IsSpace}
+use Rattle.sp_state.specs.declared.space_state.SpaceState.{SpaceState}
 use Rattle.sp_state.proofs.CallLemmas.{object-id}
-use Rattle.sp_state.proofs.SpaceLemmas.{with_owner}
+use Rattle.sp_state.proofs.QuietLemmas.{drop_keeps, hold_keeps, parts-quiet}
+use Rattle.sp_state.proofs.SpaceLemmas.{living-still, quiet, with_owner}
 
 -- ---- what a field holds
 
@@ -190,13 +196,13 @@ unfolding steps
 steps-held zero t = refl
 steps-held (suc k) t = steps-held k (step t) ∙ step-held t
 
-drop-all : (xs : List Ref) → drop (length xs) xs ≡ []
+drop-all : (xs : List Ref) → prelude.drop (length xs) xs ≡ []
 drop-all [] = refl
 drop-all (x ∷ xs) = drop-all xs
 
 nothing-gained : (g : Setting) (k : ℕ) (t : Task) → gained t (answer g (Gives None) (steps k t)) ≡ []
 unfolding answer
-nothing-gained g k t = ap (drop (length t.held)) (paid-held (steps k t).fuel 0 (steps k t) ∙ steps-held k t) ∙ drop-all t.held
+nothing-gained g k t = ap (prelude.drop (length t.held)) (paid-held (steps k t).fuel 0 (steps k t) ∙ steps-held k t) ∙ drop-all t.held
 
 -- ---- an operation, and the reply to it
 
@@ -257,3 +263,47 @@ pub committed : (g : Setting) (s : State) (id k : ℕ) (op : Op) (t : Living) �
 unfolding commit
 committed g s id k op t ready =
     ap (λ (o : Option Living). with_some o s (λ u. after_op g op (replied g id k (op_reply g op s) u s))) ready ∙ done g id k op t s ready
+
+-- ---- a space, after each of these
+
+pub created-space : (g : Setting) (class : ClassId) (s : State) (x : SpaceState) (o : Owner) → IsSpace g s x → IsOwner g (after_op g (Create class) s) o → IsSpace g (after_op g (Create class) s) (record x { owner = o })
+created-space g class s x o is now = record {
+  id = is.id;
+  digest = is.digest;
+  numbers = create-numbered g class s is.numbers;
+  owner = now;
+  living = subst (λ (t : State). IsLiving g t x.living) (create-still g class s) (living-still g (owner_parts (after_op g (Create class) s)) s x.living is.living);
+}
+
+-- a value is written
+abbrev pub with_written : ObjId → ℕ → Value → State → State
+with_written id slot value s = record s { store = Written id slot value ∷ s.store }
+
+pub written-space : (g : Setting) (id : ObjId) (slot : ℕ) (value : Value) (s : State) (x : SpaceState) (o : Owner) → IsSpace g s x → IsOwner g (with_written id slot value s) o → IsSpace g (with_written id slot value s) (record x { owner = o })
+written-space g id slot value s x o is now = record {
+  id = is.id;
+  digest = is.digest;
+  numbers = is.numbers;
+  owner = now;
+  living = living-still g (owner_parts (with_written id slot value s)) s x.living is.living;
+}
+
+pub held-space : (g : Setting) (refs : List Ref) (s : State) (x : SpaceState) (l : Lives) → IsSpace g s x → IsLiving g (hold g refs s) l → IsSpace g (hold g refs s) (record x { living = l })
+held-space g refs s x l is now = quiet g s (hold g refs s) x l (hold_keeps (parts-quiet g (owner_parts s)) {s = s} (foreign_ids g.id refs) refl) now is
+
+pub dropped-space : (g : Setting) (refs : List Ref) (s : State) (x : SpaceState) (l : Lives) → IsSpace g s x → IsLiving g (drop g refs s) l → IsSpace g (drop g refs s) (record x { living = l })
+dropped-space g refs s x l is now = quiet g s (drop g refs s) x l (drop_keeps (parts-quiet g (owner_parts s)) {s = s} (foreign_ids g.id refs) refl) now is
+
+give-parts : (g : Setting) (id k : ℕ) (reply : Reply) (s : State) → owner_parts (give_reply g id k reply s) ≡ owner_parts s
+give-parts g id k reply s = of (ready_at s id)
+  where
+    of : (o : Option Living) → owner_parts (with_some o s (λ t. replied g id k reply t s)) ≡ owner_parts s
+    of None = refl
+    of (Some t) = hold_keeps (parts-quiet g (owner_parts s)) {s = set_task (replied_living g k reply) id s} (foreign_ids g.id (gained t.task (answer g reply (steps k t.task)))) refl
+
+-- What is given its reply after the operation is committed.
+pub committed-space : (g : Setting) (id k : ℕ) (op : Op) (reply : Reply) (t : Living) (s : State) (x : SpaceState) (l : Lives) → ready_at s id ≡ Some t → reply ≡ op_reply g op s
+    → IsSpace g (after_op g op s) x → IsLiving g (give_reply g id k reply (after_op g op s)) l → IsSpace g (commit g id k op s) (record x { living = l })
+committed-space g id k op reply t s x l ready same is now =
+    subst (λ (u : State). IsSpace g u (record x { living = l })) (ap (λ (r : Reply). give_reply g id k r (after_op g op s)) same ∙ sym (committed g s id k op t ready))
+    (quiet g (after_op g op s) (give_reply g id k reply (after_op g op s)) x l (give-parts g id k reply (after_op g op s)) now is)

@@ -60,11 +60,7 @@ impl SpaceState {
                 self.put(*object, *slot, value)?;
                 Ok(Reply::Gives(None))
             }
-            Op::Call {
-                target: _,
-                method: _,
-                arguments: _,
-            } => Err(AllocError),
+            Op::Call { .. } => Err(AllocError),
         }
     }
 

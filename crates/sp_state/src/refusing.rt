@@ -69,12 +69,8 @@ pub(crate) fn fits(asker: &Asker, value: &Option<Value>, fuel: u64) -> bool
     ensures { (question : Question) → IsAskedBy asker.now question → result ≡ fits_asked question value.now fuel }
 {
     match asker {
-        Asker::Call {
-            task: _,
-            lent,
-            kind,
-        } => is_of_kind(*kind, value) && fuel <= *lent,
-        Asker::Lookup { task: _ } => is_reference(value) && fuel == 0,
+        Asker::Call { lent, kind, .. } => is_of_kind(*kind, value) && fuel <= *lent,
+        Asker::Lookup { .. } => is_reference(value) && fuel == 0,
     }
 }
 

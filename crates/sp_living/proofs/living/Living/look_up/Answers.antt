@@ -1,4 +1,4 @@
-use Rattle.std.proofs.Common.{◌≡◌, ◌<◌, ◌+◌, ◌^◌, arith, refl, sym, ap, subst, ◌∙◌, []}
+use Rattle.std.proofs.Common.{◌≡◌, ◌<◌, ◌+◌, ◌^◌, arith, refl, sym, ap, subst, ◌∙◌, [], ◌∷◌}
 use Rattle.std.proofs.lemmas.Result.{on_ok_weaker}
 use Rattle.sp_rules.specs.Events.{Started}
 use Rattle.sp_rules.specs.State.{State, say}
@@ -11,9 +11,9 @@ returns c = on_ok_weaker c.say.result (λ said. λ g s a allowed.
     let l = c.args.self.now in
     let peer = c.args.peer.now in
     let name = c.args.name in
-    let last : c.calls_made.result ≡ s.calls_made = c.calls_made.ensures s a.transport in
+    let last : c.calls_made-last.result ≡ s.calls_made = c.calls_made-last.ensures s a.transport in
     let fits : s.calls_made + 1 < 2 ^ 64 = omega arith in
     let made = c.make_call.ensures.made s a.transport fits (ap (λ n. (n + 1) ∷ []) last) tt in
-    let now = lookup-made g s l peer name c.calls_made.result c.take_id.result c.make_call.new.self c.take_id.new.self last c.take_id.ensures.id c.take_id.ensures.taken made a in
-    let id = c.take_id.ensures.id ∙ ap (λ n. n + 1) a.tasks.last in
+    let now = lookup-made g s l peer name c.calls_made-last.result c.take_id-task.result c.make_call.new.self c.take_id-task.new.self last c.take_id-task.ensures.id c.take_id-task.ensures.taken made a in
+    let id = c.take_id-task.ensures.id ∙ ap (λ n. n + 1) a.tasks.last in
     subst (λ (u : State). IsLiving g u c.say.new.self) (ap (λ n. say (Started n) (with_lookup peer name s)) id ∙ sym (looked-up g peer name s allowed)) (said g (with_lookup peer name s) now)) c.say.ensures
