@@ -307,3 +307,13 @@ pub committed-space : (g : Setting) (id k : ℕ) (op : Op) (reply : Reply) (t : 
 committed-space g id k op reply t s x l ready same is now =
     subst (λ (u : State). IsSpace g u (record x { living = l })) (ap (λ (r : Reply). give_reply g id k r (after_op g op s)) same ∙ sym (committed g s id k op t ready))
     (quiet g (after_op g op s) (give_reply g id k reply (after_op g op s)) x l (give-parts g id k reply (after_op g op s)) now is)
+
+pub got-space : (g : Setting) (id : ObjId) (slot : ℕ) (s : State) (x : SpaceState) → IsSpace g s x → IsSpace g (after_op g (Get id slot) s) x
+got-space g id slot s x is = subst (λ (u : State). IsSpace g u x) (sym (get-is g id slot s)) is
+
+-- a value that is no reference has no holder
+pub none-held : (g : Setting) (v : Value) (s : State) (x : SpaceState) → reference_of v ≡ [] → IsSpace g s x → IsSpace g (hold g (reference_of v) s) x
+none-held g v s x none is = subst (λ (u : State). IsSpace g u x) (sym (ap (λ (rs : List Ref). hold g rs s) none ∙ hold-none s)) is
+
+pub none-dropped : (g : Setting) (v : Value) (s : State) (x : SpaceState) → reference_of v ≡ [] → IsSpace g s x → IsSpace g (drop g (reference_of v) s) x
+none-dropped g v s x none is = subst (λ (u : State). IsSpace g u x) (sym (ap (λ (rs : List Ref). drop g rs s) none ∙ drop-none s)) is

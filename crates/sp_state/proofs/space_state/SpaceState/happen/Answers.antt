@@ -1,7 +1,10 @@
-use Rattle.std.proofs.Common.{sym, subst}
+use Rattle.std.proofs.Common.{ℕ, List, sym, subst}
 use Rattle.std.proofs.lemmas.Result.{on_ok_weaker}
 use Rattle.sp_events.specs.Events.{event_of}
 use Rattle.sp_events.specs.declared.event.Event.{Event}
+use Rattle.sp_registry.specs.Bindings as registry
+use Rattle.sp_rules.specs.Holders.{own_object}
+use Rattle.sp_rules.specs.OwnEvents.{set_names}
 use Rattle.sp_rules.specs.Space.{happen}
 use Rattle.sp_state.specs.Spaces.{IsSpace}
 use Rattle.sp_state.proofs.space_state.SpaceState.happen.Goals as goal
@@ -20,15 +23,18 @@ returns-in-Sweep w c = on_ok_weaker c.sweep.result (λ now. λ g s is rest tells
 
 pub returns-in-Bind : goal.returns-in-Bind
 unfolding happen
-returns-in-Bind w c = on_ok_weaker c.bind.result (λ now. λ g s is rest tells. subst (λ (e : Event). IsSpace g (happen g (event_of e) s) c.bind.new.self) (sym c.in-Bind.is) (now g s is)) c.bind.ensures
+returns-in-Bind w c = on_ok_weaker c.bind.result (λ now. λ g s is rest tells. subst (λ (e : Event). IsSpace g (happen g (event_of e) s) c.bind.new.self) (sym c.in-Bind.is)
+    (subst (λ (name : List ℕ). IsSpace g (set_names (registry.bind s.owner.names name (own_object g s c.in-Bind.value)) s) c.bind.new.self) c.as_slice.ensures (now g s is))) c.bind.ensures
 
 pub returns-in-Rebind : goal.returns-in-Rebind
 unfolding happen
-returns-in-Rebind w c = on_ok_weaker c.rebind.result (λ now. λ g s is rest tells. subst (λ (e : Event). IsSpace g (happen g (event_of e) s) c.rebind.new.self) (sym c.in-Rebind.is) (now g s is)) c.rebind.ensures
+returns-in-Rebind w c = on_ok_weaker c.rebind.result (λ now. λ g s is rest tells. subst (λ (e : Event). IsSpace g (happen g (event_of e) s) c.rebind.new.self) (sym c.in-Rebind.is)
+    (subst (λ (name : List ℕ). IsSpace g (set_names (registry.rebind s.owner.names name (own_object g s c.in-Rebind.value)) s) c.rebind.new.self) c.as_slice.ensures (now g s is))) c.rebind.ensures
 
 pub returns-in-Unbind : goal.returns-in-Unbind
 unfolding happen
-returns-in-Unbind w c = on_ok_weaker c.unbind.result (λ now. λ g s is rest tells. subst (λ (e : Event). IsSpace g (happen g (event_of e) s) c.unbind.new.self) (sym c.in-Unbind.is) (now g s is)) c.unbind.ensures
+returns-in-Unbind w c = on_ok_weaker c.unbind.result (λ now. λ g s is rest tells. subst (λ (e : Event). IsSpace g (happen g (event_of e) s) c.unbind.new.self) (sym c.in-Unbind.is)
+    (subst (λ (name : List ℕ). IsSpace g (set_names (registry.unbind s.owner.names name) s) c.unbind.new.self) c.as_slice.ensures (now g s is))) c.unbind.ensures
 
 pub returns-in-Lookup : goal.returns-in-Lookup
 unfolding happen
