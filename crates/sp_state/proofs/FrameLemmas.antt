@@ -152,3 +152,9 @@ closed-at g class conn s c x on is = subst (λ n. IsSpace g (close g class n s) 
 pub first-peer : (o : Option Uuid) → is_none o ≡ true → o ≡ None
 first-peer None e = refl
 first-peer (Some peer) e = absurd (true≢false (sym e))
+
+pub none-so : (o : Option Uuid) (b : Bool) → is_some o ≡ not b → is_none o ≡ b
+none-so None true e = refl
+none-so None false e = absurd (true≢false (sym e))
+none-so (Some peer) true e = absurd (true≢false e)
+none-so (Some peer) false e = refl

@@ -97,11 +97,11 @@ full-reply g s class e =
 abbrev with_leases : List client.Told → State → State
 with_leases leases s = record s { leases = leases }
 
-held-after : List ForeignId → List client.Told → List client.Told
+abbrev held-after : List ForeignId → List client.Told → List client.Told
 held-after [] told = told
 held-after (r ∷ rs) told = held-after rs (client.On r lease_events.Held ∷ told)
 
-dropped-after : List ForeignId → List client.Told → List client.Told
+abbrev dropped-after : List ForeignId → List client.Told → List client.Told
 dropped-after [] told = told
 dropped-after (r ∷ rs) told = dropped-after rs (client.On r lease_events.Dropped ∷ told)
 
@@ -311,7 +311,13 @@ committed-space g id k op reply t s x l ready same is now =
 pub got-space : (g : Setting) (id : ObjId) (slot : ℕ) (s : State) (x : SpaceState) → IsSpace g s x → IsSpace g (after_op g (Get id slot) s) x
 got-space g id slot s x is = subst (λ (u : State). IsSpace g u x) (sym (get-is g id slot s)) is
 
--- a value that is no reference has no holder
+-- a value that is no reference has none in it, and no holder
+pub no-reference : (v : Value) → ((r : Ref) → v ≡ values.Ref r → ⊥) → reference_of v ≡ []
+no-reference values.Null none = refl
+no-reference (values.Int n) none = refl
+no-reference (values.Ints ns) none = refl
+no-reference (values.Ref r) none = absurd (none r refl)
+
 pub none-held : (g : Setting) (v : Value) (s : State) (x : SpaceState) → reference_of v ≡ [] → IsSpace g s x → IsSpace g (hold g (reference_of v) s) x
 none-held g v s x none is = subst (λ (u : State). IsSpace g u x) (sym (ap (λ (rs : List Ref). hold g rs s) none ∙ hold-none s)) is
 

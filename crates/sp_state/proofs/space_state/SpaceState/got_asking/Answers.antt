@@ -27,10 +27,10 @@ pub returns-in-Dirty : goal.returns-in-Dirty
 unfolding got
 returns-in-Dirty w c = on_ok_weaker c.got_dirty.result (λ now. λ g s row is silent tells on seen there.
     subst (λ (m : Message). IsSpace g (got g row m s) c.got_dirty.new.self) (sym c.in-Dirty.is)
-    (subst (λ (ids : List ObjId). IsSpace g (got_dirty g row c.in-Dirty.sequence c.in-Dirty.period ids s) c.got_dirty.new.self) c.as_slice.ensures (now g s row is on (sym (ap (λ (k : Connection). k.peer) seen))))) c.got_dirty.ensures
+    (subst (λ (ids : List ObjId). IsSpace g (got_dirty g row c.in-Dirty.sequence c.in-Dirty.period ids s) c.got_dirty.new.self) c.as_slice-in-Dirty.ensures (now g s row is on (sym (ap (λ (k : Connection). k.peer) seen))))) c.got_dirty.ensures
 
 pub returns-in-Clean : goal.returns-in-Clean
 unfolding got
 returns-in-Clean w c = on_ok_weaker c.got_clean.result (λ now. λ g s row is silent tells on seen there.
     subst (λ (m : Message). IsSpace g (got g row m s) c.got_clean.new.self) (sym c.in-Clean.is)
-    (subst (λ (ids : List ObjId). IsSpace g (got_clean g row c.in-Clean.sequence c.in-Clean.strong ids s) c.got_clean.new.self) c.as_slice.ensures (now g s row is on (sym (ap (λ (k : Connection). k.peer) seen))))) c.got_clean.ensures
+    (subst (λ (ids : List ObjId). IsSpace g (got_clean g row c.in-Clean.sequence c.in-Clean.strong ids s) c.got_clean.new.self) c.as_slice-in-Clean.ensures (now g s row is on (sym (ap (λ (k : Connection). k.peer) seen))))) c.got_clean.ensures

@@ -29,7 +29,7 @@ returns-in-Some w c = on_ok_weaker c.answer_threw.result (λ now. λ g s row is 
     space-is g (take_call g conn number (Some c.in-Some.why) k.target k.method k.fuel k.arguments t) (got_call g row number k.target k.method k.fuel k.arguments s) c.answer_threw.new.self
     (called-new g row number k.target k.method k.fuel k.arguments s new
     ∙ ap (λ (n : ℕ). call_on g n number (object_at s k.target) k.method k.fuel k.arguments (counted n number s)) on.number
-    ∙ c.in_ok-refusal.ensures g t conn number is1 tells
+    ∙ c.in_ok-why.ensures g t conn number is1 tells
     ∙ ap (λ o. take_call g conn number o k.target k.method k.fuel k.arguments t) c.in-Some.is)
     (now g t is1 tells)) c.answer_threw.ensures
 
@@ -44,6 +44,6 @@ returns-in-None w c = on_ok_weaker c.park_received.result (λ now. λ g s row is
     space-is g (take_call g conn number None k.target k.method k.fuel k.arguments t) (got_call g row number k.target k.method k.fuel k.arguments s) c.park_received.new.self
     (called-new g row number k.target k.method k.fuel k.arguments s new
     ∙ ap (λ (n : ℕ). call_on g n number (object_at s k.target) k.method k.fuel k.arguments (counted n number s)) on.number
-    ∙ c.in_ok-refusal.ensures g t conn number is1 tells
+    ∙ c.in_ok-why.ensures g t conn number is1 tells
     ∙ ap (λ o. take_call g conn number o k.target k.method k.fuel k.arguments t) c.in-None.is)
     (now g t is1 tells)) c.park_received.ensures

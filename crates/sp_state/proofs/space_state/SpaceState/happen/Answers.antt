@@ -29,12 +29,12 @@ returns-in-Bind w c = on_ok_weaker c.bind.result (λ now. λ g s is rest tells. 
 pub returns-in-Rebind : goal.returns-in-Rebind
 unfolding happen
 returns-in-Rebind w c = on_ok_weaker c.rebind.result (λ now. λ g s is rest tells. subst (λ (e : Event). IsSpace g (happen g (event_of e) s) c.rebind.new.self) (sym c.in-Rebind.is)
-    (subst (λ (name : List ℕ). IsSpace g (set_names (registry.rebind s.owner.names name (own_object g s c.in-Rebind.value)) s) c.rebind.new.self) c.as_slice.ensures (now g s is))) c.rebind.ensures
+    (subst (λ (name : List ℕ). IsSpace g (set_names (registry.rebind s.owner.names name (own_object g s c.in-Rebind.value)) s) c.rebind.new.self) c.as_slice-in-Rebind.ensures (now g s is))) c.rebind.ensures
 
 pub returns-in-Unbind : goal.returns-in-Unbind
 unfolding happen
 returns-in-Unbind w c = on_ok_weaker c.unbind.result (λ now. λ g s is rest tells. subst (λ (e : Event). IsSpace g (happen g (event_of e) s) c.unbind.new.self) (sym c.in-Unbind.is)
-    (subst (λ (name : List ℕ). IsSpace g (set_names (registry.unbind s.owner.names name) s) c.unbind.new.self) c.as_slice.ensures (now g s is))) c.unbind.ensures
+    (subst (λ (name : List ℕ). IsSpace g (set_names (registry.unbind s.owner.names name) s) c.unbind.new.self) c.as_slice-in-Unbind.ensures (now g s is))) c.unbind.ensures
 
 pub returns-in-Lookup : goal.returns-in-Lookup
 unfolding happen
@@ -58,11 +58,11 @@ returns-in-Closed w c = on_ok_weaker c.end_connection.result (λ now. λ g s is 
 
 pub returns-in-ReadFailed : goal.returns-in-ReadFailed
 unfolding happen
-returns-in-ReadFailed w c = on_ok_weaker c.end_connection.result (λ now. λ g s is rest tells. subst (λ (e : Event). IsSpace g (happen g (event_of e) s) c.end_connection.new.self) (sym c.in-ReadFailed.is) (now g s is rest.notes tells)) c.end_connection.ensures
+returns-in-ReadFailed w c = on_ok_weaker c.end_connection-in-ReadFailed.result (λ now. λ g s is rest tells. subst (λ (e : Event). IsSpace g (happen g (event_of e) s) c.end_connection-in-ReadFailed.new.self) (sym c.in-ReadFailed.is) (now g s is rest.notes tells)) c.end_connection-in-ReadFailed.ensures
 
 pub returns-in-Bad : goal.returns-in-Bad
 unfolding happen
-returns-in-Bad w c = on_ok_weaker c.end_connection.result (λ now. λ g s is rest tells. subst (λ (e : Event). IsSpace g (happen g (event_of e) s) c.end_connection.new.self) (sym c.in-Bad.is) (now g s is rest.notes tells)) c.end_connection.ensures
+returns-in-Bad w c = on_ok_weaker c.end_connection-in-Bad.result (λ now. λ g s is rest tells. subst (λ (e : Event). IsSpace g (happen g (event_of e) s) c.end_connection-in-Bad.new.self) (sym c.in-Bad.is) (now g s is rest.notes tells)) c.end_connection-in-Bad.ensures
 
 pub returns-in-WriteFailed : goal.returns-in-WriteFailed
 unfolding happen

@@ -5,20 +5,20 @@ use Rattle.uuid.specs.declared.Uuid.{Uuid}
 use Rattle.sp_connections.specs.declared.connection.Connection.{Connection}
 use Rattle.sp_rules.specs.Endings.{close}
 use Rattle.sp_rules.specs.Frames.{first_frame, got, is_asking, is_wrong_way, receive}
-use Rattle.sp_state.proofs.FrameLemmas.{answers-here, asks-there, closed-at, first-peer, received-first, received-right, received-wrong, space-is}
+use Rattle.sp_state.proofs.FrameLemmas.{answers-here, asks-there, closed-at, first-peer, received-first, received-right, none-so, received-wrong, space-is}
 use Rattle.sp_state.proofs.space_state.SpaceState.receive.Goals as goal
 
 pub returns-then-is_first : goal.returns-then-is_first
 returns-then-is_first w c = on_ok_weaker c.first_frame.result (λ now. λ g s row is silent tells on seen.
     let m = c.args.message in
-    let peer : is_none row.peer ≡ true = ap (λ (k : Connection). is_none k.peer) (sym seen) ∙ sym c.is_none-is_first.ensures ∙ c.if-is_first.true in
+    let peer : is_none row.peer ≡ true = ap (λ (k : Connection). is_none k.peer) (sym seen) ∙ none-so c.args.connection.peer c.is_none-is_first.result c.is_none-is_first.ensures ∙ c.if-is_first.true in
     space-is g (first_frame g row m s) (receive g row m s) c.first_frame.new.self (received-first g row m s peer)
     (now g s row is silent tells on (ap (λ (k : Connection). k.dialled) (sym seen)) (first-peer row.peer peer))) c.first_frame.ensures
 
 pub returns-then-is_wrong_way : goal.returns-then-is_wrong_way
 returns-then-is_wrong_way w c = on_ok_weaker c.close.result (λ now. λ g s row is silent tells on seen.
     let m = c.args.message in
-    let peer : is_none row.peer ≡ false = ap (λ (k : Connection). is_none k.peer) (sym seen) ∙ sym c.is_none-is_first.ensures ∙ c.if-is_first.false in
+    let peer : is_none row.peer ≡ false = ap (λ (k : Connection). is_none k.peer) (sym seen) ∙ none-so c.args.connection.peer c.is_none-is_first.result c.is_none-is_first.ensures ∙ c.if-is_first.false in
     let way : is_wrong_way (is_asking m) (is_some row.dialled) ≡ true =
     ap (λ (k : Connection). is_wrong_way (is_asking m) (is_some k.dialled)) (sym seen)
     ∙ (λ j. is_wrong_way (sym c.is_asking-asks.ensures j) (sym c.is_some-dialled.ensures j)) ∙ sym c.is_wrong_way.ensures ∙ c.if-is_wrong_way.true in
@@ -28,7 +28,7 @@ returns-then-is_wrong_way w c = on_ok_weaker c.close.result (λ now. λ g s row 
 pub returns-then-asks : goal.returns-then-asks
 returns-then-asks w c = on_ok_weaker c.got_asking.result (λ now. λ g s row is silent tells on seen.
     let m = c.args.message in
-    let peer : is_none row.peer ≡ false = ap (λ (k : Connection). is_none k.peer) (sym seen) ∙ sym c.is_none-is_first.ensures ∙ c.if-is_first.false in
+    let peer : is_none row.peer ≡ false = ap (λ (k : Connection). is_none k.peer) (sym seen) ∙ none-so c.args.connection.peer c.is_none-is_first.result c.is_none-is_first.ensures ∙ c.if-is_first.false in
     let way : is_wrong_way (is_asking m) (is_some row.dialled) ≡ false =
     ap (λ (k : Connection). is_wrong_way (is_asking m) (is_some k.dialled)) (sym seen)
     ∙ (λ j. is_wrong_way (sym c.is_asking-asks.ensures j) (sym c.is_some-dialled.ensures j)) ∙ sym c.is_wrong_way.ensures ∙ c.if-is_wrong_way.false in
@@ -38,7 +38,7 @@ returns-then-asks w c = on_ok_weaker c.got_asking.result (λ now. λ g s row is 
 pub returns-else-asks : goal.returns-else-asks
 returns-else-asks w c = on_ok_weaker c.got_answer.result (λ now. λ g s row is silent tells on seen.
     let m = c.args.message in
-    let peer : is_none row.peer ≡ false = ap (λ (k : Connection). is_none k.peer) (sym seen) ∙ sym c.is_none-is_first.ensures ∙ c.if-is_first.false in
+    let peer : is_none row.peer ≡ false = ap (λ (k : Connection). is_none k.peer) (sym seen) ∙ none-so c.args.connection.peer c.is_none-is_first.result c.is_none-is_first.ensures ∙ c.if-is_first.false in
     let way : is_wrong_way (is_asking m) (is_some row.dialled) ≡ false =
     ap (λ (k : Connection). is_wrong_way (is_asking m) (is_some k.dialled)) (sym seen)
     ∙ (λ j. is_wrong_way (sym c.is_asking-asks.ensures j) (sym c.is_some-dialled.ensures j)) ∙ sym c.is_wrong_way.ensures ∙ c.if-is_wrong_way.false in

@@ -8,8 +8,8 @@ use Rattle.sp_state.proofs.FrameLemmas.{space-is}
 use Rattle.sp_state.proofs.SweepLemmas.{not-empty, nothing-goes, some-go}
 use Rattle.sp_state.proofs.space_state.SpaceState.sweep.Goals as goal
 
-pub returns-then-count-0 : goal.returns-then-count-0
-returns-then-count-0 c = λ g s is.
+pub returns-then-count-eq0 : goal.returns-then-count-eq0
+returns-then-count-eq0 c = λ g s is.
     let none : length c.in_ok-ids.ids.items ≡ 0 = omega arith in
     space-is g s (on_sweep g s) c.args.self.now (nothing-goes g s (sym (c.in_ok-ids.ensures g s is) ∙ not-empty c.in_ok-ids.ids.items none)) is
 

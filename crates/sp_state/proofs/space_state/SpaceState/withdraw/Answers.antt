@@ -23,9 +23,9 @@ returns c = on_ok_weaker c.say.result (λ said. λ g s is.
     let gone : State = without ids s in
     let x : SpaceState = record c.args.self.now { owner = c.withdraw.new.self } in
     let living = subst (λ (t : State). IsLiving g t c.args.self.now.living) (without-still ids s) (living-still g (owner_parts gone) s c.args.self.now.living is.living) in
-    let owner = subst (λ (xs : List ObjId). IsOwner g (without xs s) c.withdraw.new.self) c.as_slice-gone.ensures (c.in_ok-withdraw.ensures g s is.owner) in
+    let owner = subst (λ (xs : List ObjId). IsOwner g (without xs s) c.withdraw.new.self) c.as_slice-gone.ensures.value (c.in_ok-withdraw.ensures g s is.owner) in
     let now : IsSpace g gone x = record { id = is.id; digest = is.digest; numbers = without-numbered ids s is.numbers; owner = owner; living = living } in
-    let refs : c.as_slice-dropped.result.now ≡ flat_map (fields_at g s) ids = c.as_slice-dropped.ensures ∙ c.in_ok-references.ensures g s is ∙ ap (flat_map (fields_at g s)) c.as_slice-gone.ensures in
+    let refs : c.as_slice-dropped.result.now ≡ flat_map (fields_at g s) ids = c.as_slice-dropped.ensures.value ∙ c.in_ok-references.ensures g s is ∙ ap (flat_map (fields_at g s)) c.as_slice-gone.ensures.value in
     let left : State = drop g c.as_slice-dropped.result.now gone in
     let told : State = say (Withdrawn c.new.result) left in
     let done = quiet g gone told x c.say.new.self (drop_keeps (parts-quiet g (owner_parts gone)) {s = gone} (foreign_ids g.id c.as_slice-dropped.result.now) refl) (said g left (c.drop_holders.ensures.dropped g gone living)) now in
