@@ -47,6 +47,19 @@ impl Owner {
         })
     }
 
+    /// The same. It costs a step for each object, each name and each entry.
+    pub fn copy(&self) -> Result<Owner, AllocError>
+        ensures { IfOk result (λ copy. (g : Setting) (s : State) → IsOwner g s self.now → IsOwner g s copy) }
+    {
+        Ok(Owner {
+            alloc: self.alloc,
+            id: self.id,
+            store: self.store.copy()?,
+            names: self.names.copy()?,
+            entries: self.entries.copy()?,
+        })
+    }
+
     /// The remote objects.
     pub fn store(&self) -> &Store
         ensures { (g : Setting) (s : State) → IsOwner g s self.now → IsAfter g s.store result.now }
