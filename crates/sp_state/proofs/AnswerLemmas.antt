@@ -1,13 +1,10 @@
 -- Answers that come on connections that this space dialled: which rule takes each.
-use Rattle.std.proofs.Common.{◌≡◌, ℕ, nat_le, Bool, true, false, cond, List, [], ◌∷◌, ◌++◌, Option, None, Some, refl, sym, ap, subst, ◌∙◌, filter, map, true≢false}
+use Rattle.std.proofs.Common.{◌≡◌, ℕ, Bool, true, false, cond, List, [], ◌∷◌, ◌++◌, Option, None, Some, refl, sym, ap, ◌∙◌, map, true≢false}
 use Rattle.std.specs.Prelude.{◌&&◌, ◌||◌, not, find, fold, option_and_then}
 use Rattle.std.specs.Str.{bytes_eq}
 use Rattle.dgc_client.specs.Table as client
 use Rattle.uuid.specs.declared.Uuid.{Uuid}
 use Rattle.std.specs.List.{list_any}
-use Rattle.net_message.specs.declared.message.Message.{Message}
-use Rattle.net_message.specs.declared.message.Message.TheVariants as message
-use Rattle.space_ids.specs.declared.ids.ClassId.{ClassId}
 use Rattle.space_ids.specs.declared.value.Value.{Value}
 use Rattle.space_ids.specs.declared.value.Value.TheVariants as values
 use Rattle.sp_requests.specs.Asking.{asks_by, first_of}
@@ -17,17 +14,16 @@ use Rattle.sp_requests.specs.declared.asked.ResultKind.{ResultKind}
 use Rattle.sp_rules.specs.Behaviours.{Reply, RunsOut, Throws}
 use Rattle.sp_rules.specs.Classes.{Setting}
 use Rattle.sp_rules.specs.Endings.{close}
-use Rattle.sp_rules.specs.Events.{Acks}
 use Rattle.sp_rules.specs.Frames.{answered_by, answered_on, ends_as, fits_asked, returned_for, spent_reply}
 use Rattle.sp_rules.specs.Holders.{is_refused}
 use Rattle.sp_rules.specs.Lists.{with_some}
 use Rattle.sp_rules.specs.LivingTasks.{reply_to}
 use Rattle.sp_rules.specs.ParkedFrames.{has_number, is_asked_on, is_call_on, is_unanswered_on, park_frame, remove_requests}
 use Rattle.sp_rules.specs.References.{foreign_ids, references_in}
-use Rattle.sp_rules.specs.State.{State, Asked, Calls, LooksUp, Tells, Connection, Request, ReturnedFrame, send}
+use Rattle.sp_rules.specs.State.{State, Asked, Calls, LooksUp, Tells, Connection, Request, ReturnedFrame}
 use Rattle.sp_rules.proofs.AllLemmas.{found-is}
 use Rattle.sp_transport.specs.Answers.{asker_in}
-use Rattle.sp_living.proofs.FoundLemmas.{IsAskedBy, one-asks}
+use Rattle.sp_living.proofs.FoundLemmas.{IsAskedBy}
 use Rattle.sp_state.specs.Receiving.{ComesOn, park_returned, refuse_returned}
 
 second : (a b : Bool) → (a && b) ≡ true → b ≡ true

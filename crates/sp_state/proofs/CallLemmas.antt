@@ -1,6 +1,6 @@
 -- Calls and lookups that come: which rule takes each.
-use Rattle.std.proofs.Common.{◌≡◌, ℕ, nat_le, Bool, true, false, cond, List, [], ◌∷◌, Option, None, Some, refl, sym, ap, subst, ◌∙◌, filter, unwrap_or, true≢false, eqb-true}
-use Rattle.std.specs.Prelude.{◌&&◌, ◌||◌, ◌==◌, not, option_map, find}
+use Rattle.std.proofs.Common.{◌≡◌, ℕ, nat_le, Bool, true, false, cond, List, Option, None, Some, refl, sym, ap, ◌∙◌, unwrap_or, eqb-true}
+use Rattle.std.specs.Prelude.{◌||◌, not, option_map}
 use Rattle.std.specs.List.{list_any}
 use Rattle.space_ids.specs.declared.ids.ClassId.{ClassId}
 use Rattle.space_ids.specs.declared.ids.ObjId.{ObjId}
@@ -13,7 +13,7 @@ use Rattle.sp_rules.specs.Endings.{close}
 use Rattle.sp_rules.specs.Frames.{call_of, call_on, client_of, counted, found, got_ack, got_call, got_lookup, is_acked_by, is_busy, object_of, release}
 use Rattle.sp_rules.specs.Holders.{is_refused}
 use Rattle.sp_rules.specs.ParkedFrames.{answer_threw, park_frame}
-use Rattle.sp_rules.specs.References.{foreign_ids, references_of, is_id}
+use Rattle.sp_rules.specs.References.{references_of, is_id}
 use Rattle.sp_rules.specs.State.{State, CallFrame, Connection, Object, object_at}
 use Rattle.sp_rules.proofs.AllLemmas.{found-is}
 use Rattle.sp_owner.specs.Owners.{told}

@@ -1,6 +1,6 @@
 -- After each event that answers, the event may end: all that it noted stands before what is noted then.
-use Rattle.std.proofs.Common.{◌≡◌, ℕ, ◌+◌, Bool, true, false, cond, List, [], ◌∷◌, ◌++◌, Option, None, Some, refl, sym, ap, subst, ◌∙◌, map, true≢false}
-use Rattle.std.specs.Prelude.{◌||◌, ◌&&◌, Result, Ok, Err, is_none, is_some, nat_lt}
+use Rattle.std.proofs.Common.{◌≡◌, ℕ, ◌+◌, Bool, true, false, cond, List, [], ◌∷◌, Option, None, Some, sym, subst, map, true≢false}
+use Rattle.std.specs.Prelude.{Result, Ok, Err, is_none, is_some, nat_lt}
 use Rattle.dgc_client.specs.Table as client
 use Rattle.dgc_list.specs.History as owner
 use Rattle.net_message.specs.declared.message.Message.{Message}

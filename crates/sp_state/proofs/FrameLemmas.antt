@@ -1,6 +1,6 @@
 -- Frames as they come on a connection: which rule takes each.
-use Rattle.std.proofs.Common.{◌≡◌, ℕ, nat_le, Bool, true, false, cond, List, [], ◌∷◌, Option, None, Some, refl, sym, ap, subst, ◌∙◌, filter, unwrap_or, true≢false}
-use Rattle.std.specs.Prelude.{◌&&◌, ◌||◌, is_none, is_some, not, option_map, find}
+use Rattle.std.proofs.Common.{◌≡◌, ℕ, Bool, true, false, cond, List, [], ◌∷◌, Option, None, Some, refl, sym, ap, subst, ◌∙◌, filter, unwrap_or, true≢false}
+use Rattle.std.specs.Prelude.{◌&&◌, ◌||◌, is_none, is_some, not, option_map}
 use Rattle.std.specs.List.{list_any}
 use Rattle.std.specs.Str.{bytes_eq}
 use Rattle.net_message.specs.declared.message.Message.{Message}

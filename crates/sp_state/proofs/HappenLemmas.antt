@@ -1,5 +1,5 @@
 -- Events that come from outside, each as a whole.
-use Rattle.std.proofs.Common.{◌≡◌, true, List, refl, ap, ◌∙◌}
+use Rattle.std.proofs.Common.{◌≡◌, true, refl, ap}
 use Rattle.sp_events.specs.Events.{event_of}
 use Rattle.sp_events.specs.declared.event.Event as outside
 use Rattle.sp_events.specs.declared.event.Event.TheVariants as event

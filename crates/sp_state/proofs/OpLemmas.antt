@@ -18,8 +18,8 @@ use Rattle.sp_rules.specs.Holders.{drop, drop_ids, hold, hold_ids, holder_comes,
 use Rattle.sp_rules.specs.Laws.{RisesWithin}
 use Rattle.sp_rules.specs.Lists.{each, numbers_below, with_some}
 use Rattle.sp_rules.specs.LivingTasks.{after_op, after_reply, after_steps, commit, is_full, next_object, op_reply, value_at}
-use Rattle.sp_rules.specs.References.{foreign_ids, reference_of, references_in, with_references}
-use Rattle.sp_rules.specs.State.{State, Living, Made, Object, Stored, Written, last_written, object_at, ready_at, set_task, standing}
+use Rattle.sp_rules.specs.References.{foreign_ids, reference_of, references_in}
+use Rattle.sp_rules.specs.State.{State, Living, Made, Object, Written, last_written, object_at, ready_at, set_task, standing}
 use Rattle.sp_rules.specs.Tasks.{Task, Stand, Runs, AsksFor, HasEnded, answer, gained, pay_with, stand, step, step_at, steps}
 use Rattle.sp_store.specs.Stores.{field_after, fields_after}
 use Rattle.sp_owner.specs.Owners.{IsOwner, owner_parts}

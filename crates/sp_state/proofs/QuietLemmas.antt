@@ -2,7 +2,7 @@
 -- of the event alone, and early notes keep it, each of these rules keeps it.
 use mathlib.Core.Path.{ap, ◌∙◌, sym, subst}
 use Rattle.std.proofs.Common.{inl, inr, lit≤}
-use Rattle.std.specs.Prelude.{◌≡◌, ◌≤◌, ◌⊎◌, refl, ℕ, ◌+◌, ◌==◌, not, ◌||◌, ◌&&◌, nat_le, nat_lt, is_none, is_some, Bool, true, false, List, [], ◌∷◌, ◌++◌, Option, None, Some, Result, Ok, Err, filter, find, if◌then◌else◌}
+use Rattle.std.specs.Prelude.{◌≡◌, ◌≤◌, ◌⊎◌, refl, ℕ, not, ◌||◌, ◌&&◌, nat_le, is_none, Bool, true, false, List, [], ◌∷◌, ◌++◌, Option, None, Some, filter, find, if◌then◌else◌}
 use Rattle.std.specs.List.{list_any}
 use Rattle.space_ids.specs.declared.ids.ClassId.{ClassId}
 use Rattle.dgc_client.specs.History as lease_events
@@ -10,18 +10,15 @@ use Rattle.dgc_client.specs.declared.groups.Group.{Group}
 use Rattle.dgc_client.specs.declared.lease.Due.{Due}
 use Rattle.dgc_client.specs.declared.lease.Due.TheVariants as due
 use Rattle.space_ids.specs.declared.ids.ForeignId.{ForeignId}
-use Rattle.dgc_list.specs.History as owner
 use Rattle.net_message.specs.declared.message.Message.{Message}
 use Rattle.net_message.specs.declared.message.Message.TheVariants as message
 use Rattle.sp_registry.specs.Bindings as registry
-use Rattle.sp_registry.specs.declared.fault.RegistryFault.{RegistryFault}
-use Rattle.sp_registry.specs.declared.registry.Binding.{Binding}
 use Rattle.uuid.specs.declared.Uuid.{Uuid}
 use Rattle.space_ids.specs.declared.ids.ObjId.{ObjId}
 use Rattle.space_ids.specs.declared.ids.Ref.{Ref}
 use Rattle.space_ids.specs.declared.value.Value.{Value}
 use Rattle.space_ids.specs.declared.value.Value.TheVariants as values
-use Rattle.sp_rules.specs.Behaviours.{Outcome, Returned, Threw, Spent, Op, Create, Get, Put, Call, Reply}
+use Rattle.sp_rules.specs.Behaviours.{Outcome, Returned, Threw, Spent, Reply}
 use Rattle.sp_rules.specs.Classes
 use Rattle.sp_rules.specs.Classes.{Setting}
 use Rattle.sp_rules.specs.Endings
@@ -36,14 +33,12 @@ use Rattle.sp_rules.specs.OwnEvents
 use Rattle.sp_rules.specs.ParkedFrames
 use Rattle.sp_rules.specs.References.{references_of, foreign_ids}
 use Rattle.sp_rules.specs.Requests
-use Rattle.sp_rules.specs.Space
 use Rattle.sp_rules.specs.State
 use Rattle.sp_rules.specs.State.{State, Living, Beginning, Origin, OfRoot, OfCall, Until, Request, Asked, Calls, LooksUp, Tells, Connection, Frame, CallFrame, ReturnedFrame, ParkedFrame, Owner, Stored, Made, Written, Gone, task_at, ready_at, set_task, set_connection, tell_owner, send, is_open, object_at, connection_at, connection_to}
 use Rattle.sp_rules.specs.Tasks.{Stand, Runs, AsksFor, HasEnded, start, stand, steps}
 use Rattle.sp_rules.proofs.AllLemmas.{all-more}
 use Rattle.sp_owner.specs.Owners.{OwnerParts, owner_parts}
 use Rattle.sp_transport.specs.Said.{IsNotAfterButAcks, is_acks}
-use Rattle.sp_transport.specs.Settling.{MaySettle}
 
 -- ---- the parts that a property may look at
 

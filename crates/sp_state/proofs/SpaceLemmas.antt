@@ -20,8 +20,7 @@ use Rattle.sp_rules.specs.OwnEvents.{is_over_at, on_lookup, on_moment, set_names
 use Rattle.sp_rules.specs.Space.{finish_event}
 use Rattle.sp_rules.specs.State.{State, Living as Task, LooksUp, Waits, opening, ready_at, say, tell_owner}
 use Rattle.sp_rules.proofs.Stable.{Core, IsFramed, finish_event_keeps}
-use Rattle.sp_owner.specs.Owners.{IsOwner, KeepsParts, OwnerParts, denied, owner_parts}
-use Rattle.sp_owner.specs.declared.owner.Owner.{Owner}
+use Rattle.sp_owner.specs.Owners.{KeepsParts, OwnerParts, denied, owner_parts}
 use Rattle.sp_living.specs.Livings.{IsLiving}
 use Rattle.sp_living.specs.declared.living.Living.{Living}
 use Rattle.sp_state.specs.Denying.{told_denied}

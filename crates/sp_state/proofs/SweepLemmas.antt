@@ -1,19 +1,18 @@
 -- What a Sweep withdraws, by ids.
-use Rattle.std.proofs.Common.{◌≡◌, ℕ, ◌+◌, ◌<◌, ◌≤◌, arith, Bool, true, false, cond, List, [], ◌∷◌, ◌++◌, Option, None, Some, refl, sym, ap, subst, ◌∙◌, filter, length, map, unwrap_or, true≢false, append_assoc}
-use Rattle.std.specs.Prelude.{◌||◌, ◌==◌, not, option_map, find}
+use Rattle.std.proofs.Common.{◌≡◌, ℕ, ◌<◌, ◌≤◌, arith, Bool, true, false, cond, List, [], ◌∷◌, ◌++◌, Option, Some, refl, sym, ap, ◌∙◌, filter, length, map, unwrap_or, append_assoc}
+use Rattle.std.specs.Prelude.{◌||◌, not, option_map, find}
 use Rattle.std.specs.List.{flat_map}
 use Rattle.std.proofs.lemmas.Bool.{eq-eqb, eqb-true}
 use Rattle.space_ids.specs.declared.ids.ForeignId.{ForeignId}
 use Rattle.space_ids.specs.declared.ids.ObjId.{ObjId}
 use Rattle.space_ids.specs.declared.ids.Ref.{Ref}
 use Rattle.dgc_list.specs.History as owner
-use Rattle.uuid.specs.declared.Uuid.{Uuid}
 use Rattle.sp_rules.specs.Classes.{Setting}
 use Rattle.sp_rules.specs.Events.{Withdrawn}
 use Rattle.sp_rules.specs.Holders.{drop, drop_ids, fields_of, has_entry, has_reason, is_bound, is_held_by_tasks, is_in_a_field, is_in_a_result, is_parked, holder_goes}
 use Rattle.sp_rules.specs.Laws.{AllOf, RisesWithin}
 use Rattle.sp_rules.specs.Lists.{each}
-use Rattle.sp_rules.specs.OwnEvents.{on_sweep, sweep_of, withdraw, without_reason}
+use Rattle.sp_rules.specs.OwnEvents.{on_sweep, sweep_of, without_reason}
 use Rattle.sp_rules.specs.References.{foreign_id, foreign_ids, is_id, is_id_in, references_of}
 use Rattle.sp_rules.specs.State.{State, Gone, Object, object_at, say, standing, tell_owner}
 use Rattle.sp_rules.proofs.AllLemmas.{all-filter}

@@ -1,5 +1,5 @@
 -- When the state of a space is that which the rules of spaces give: one line a part. (This project's own.)
-use Rattle.std.specs.Prelude.{◌≡◌, ℕ, List, [], map}
+use Rattle.std.specs.Prelude.{◌≡◌, [], map}
 use Rattle.sp_rules.specs.Classes.{Setting}
 use Rattle.sp_rules.specs.Laws.{RisesWithin}
 use Rattle.sp_rules.specs.State.{State, Object, standing}

@@ -1,5 +1,5 @@
 -- Objects that have no reason to stay, by their ids. (This project's own; the Java RMI specification, 3.3.)
-use Rattle.std.specs.Prelude.{List, [], Option, option_map, unwrap_or, map}
+use Rattle.std.specs.Prelude.{List, [], option_map, unwrap_or, map}
 use Rattle.std.specs.List.{flat_map}
 use Rattle.space_ids.specs.declared.ids.ObjId.{ObjId}
 use Rattle.space_ids.specs.declared.ids.Ref.{Ref}

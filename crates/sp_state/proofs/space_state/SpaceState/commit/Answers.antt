@@ -1,4 +1,4 @@
-use Rattle.std.proofs.Common.{◌≡◌, true, ap, ◌∙◌}
+use Rattle.std.proofs.Common.{ap, ◌∙◌}
 use Rattle.sp_rules.specs.LivingTasks.{after_op}
 use Rattle.sp_tasks.specs.Behaviours.{op_of, reply_of}
 use Rattle.sp_tasks.specs.Rows.{TaskTable, is_in_hand, row_of}

@@ -1,4 +1,4 @@
-use Rattle.std.proofs.Common.{Some, sym, ap, ◌∙◌}
+use Rattle.std.proofs.Common.{Some, ap, ◌∙◌}
 use Rattle.std.proofs.lemmas.Result.{IfOk-weaker}
 use Rattle.sp_state.proofs.OpLemmas.{field-value}
 use Rattle.sp_state.proofs.space_state.SpaceState.get.Goals as goal

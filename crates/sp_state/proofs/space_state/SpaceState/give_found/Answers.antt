@@ -1,4 +1,4 @@
-use Rattle.std.proofs.Common.{◌≡◌, ◌∙◌, Some, refl, sym, ap, subst}
+use Rattle.std.proofs.Common.{◌≡◌, ◌∙◌, Some, refl, ap, subst}
 use Rattle.std.proofs.lemmas.Result.{on_ok_weaker}
 use Rattle.net_message.specs.declared.message.Message.TheVariants as message
 use Rattle.uuid.specs.declared.Uuid.{Uuid}
@@ -8,8 +8,6 @@ use Rattle.sp_rules.specs.Events.{Replies}
 use Rattle.sp_rules.specs.LivingTasks.{keep}
 use Rattle.sp_rules.specs.State.{State, Acked, send}
 use Rattle.sp_owner.specs.Owners.{owner_parts}
-use Rattle.sp_living.specs.Livings.{IsLiving}
-use Rattle.sp_state.specs.Receiving.{give_found}
 use Rattle.sp_state.specs.Spaces.{IsSpace}
 use Rattle.sp_state.proofs.QuietLemmas.{keep_keeps, parts-quiet, replies-early, send_keeps}
 use Rattle.sp_state.proofs.SpaceLemmas.{quiet}

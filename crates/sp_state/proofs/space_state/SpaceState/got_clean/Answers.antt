@@ -1,5 +1,4 @@
 use Rattle.std.proofs.Common.{◌≡◌, Option, refl, sym, ap, subst, ◌∙◌, unwrap_or}
-use Rattle.std.specs.Prelude.{min}
 use Rattle.std.proofs.lemmas.Result.{on_ok_weaker}
 use Rattle.dgc_list.specs.History.Call.{Clean}
 use Rattle.net_message.specs.declared.message.Message.{Message}

@@ -1,4 +1,4 @@
-use Rattle.std.proofs.Common.{◌≡◌, List, refl, sym, ap, subst, ◌∙◌, fold, []}
+use Rattle.std.proofs.Common.{◌≡◌, List, refl, sym, subst, ◌∙◌, fold, []}
 use Rattle.std.specs.List.{IsDistinct}
 use Rattle.std.proofs.lemmas.Result.{on_ok_weaker}
 use Rattle.dgc_client.specs.Table.{is_same, with_reference}

@@ -1,10 +1,8 @@
-use Rattle.std.proofs.Common.{◌≡◌, Some, refl, sym, ap, subst, ◌∙◌}
+use Rattle.std.proofs.Common.{sym, ap, subst, ◌∙◌}
 use Rattle.std.proofs.lemmas.Result.{IfOk-weaker, on_ok_weaker}
-use Rattle.sp_rules.specs.Behaviours.{Create, Get, Put}
 use Rattle.sp_rules.specs.LivingTasks.{after_op, op_reply}
-use Rattle.sp_tasks.specs.Behaviours.{op_of, reply_of}
+use Rattle.sp_tasks.specs.Behaviours.{op_of}
 use Rattle.sp_tasks.specs.declared.behaviour.Op.{Op}
-use Rattle.sp_tasks.specs.declared.behaviour.Reply.{Reply}
 use Rattle.sp_state.specs.Spaces.{IsSpace}
 use Rattle.sp_state.proofs.OpLemmas.{get-reply, got-space, put-reply}
 use Rattle.sp_state.proofs.space_state.SpaceState.perform.Goals as goal

@@ -1,9 +1,8 @@
-use Rattle.std.proofs.Common.{◌≡◌, Some, sym, ap, subst, ◌∙◌}
+use Rattle.std.proofs.Common.{◌≡◌, Some, sym, subst, ◌∙◌}
 use Rattle.space_ids.specs.declared.value.Value.{Value}
 use Rattle.sp_rules.specs.Holders.{hold}
 use Rattle.sp_rules.specs.References.{reference_of}
 use Rattle.sp_owner.specs.Owners.{IsOwner}
-use Rattle.sp_state.specs.Spaces.{IsSpace}
 use Rattle.sp_state.proofs.FrameLemmas.{space-is}
 use Rattle.sp_state.proofs.OpLemmas.{field-value, put-with, with_written, written-space}
 use Rattle.sp_state.proofs.space_state.SpaceState.put.Goals as goal

@@ -1,7 +1,6 @@
-use Rattle.std.proofs.Common.{◌≡◌, Bool, Option, true, false, sym, ap, subst, ◌∙◌}
+use Rattle.std.proofs.Common.{◌≡◌, true, false, sym, ap, ◌∙◌}
 use Rattle.std.specs.Prelude.{is_none, is_some}
 use Rattle.std.proofs.lemmas.Result.{on_ok_weaker}
-use Rattle.uuid.specs.declared.Uuid.{Uuid}
 use Rattle.sp_connections.specs.declared.connection.Connection.{Connection}
 use Rattle.sp_rules.specs.Endings.{close}
 use Rattle.sp_rules.specs.Frames.{first_frame, got, is_asking, is_wrong_way, receive}

@@ -1,20 +1,12 @@
-use Rattle.std.proofs.Common.{Some, refl, sym, ap, subst, ◌∙◌}
-use Rattle.std.specs.Prelude.{find}
+use Rattle.std.proofs.Common.{refl, subst}
 use Rattle.std.proofs.lemmas.Result.{on_ok_weaker}
 use Rattle.space_ids.specs.declared.ids.ClassId.{ClassId}
-use Rattle.sp_rules.specs.Behaviours.{Reply, Throws}
-use Rattle.sp_rules.specs.Endings.{close}
-use Rattle.sp_rules.specs.Frames.{answered_by, ends_as, returned_for, spent_reply, thrown_reply}
+use Rattle.sp_rules.specs.Behaviours.{Throws}
 use Rattle.sp_rules.specs.LivingTasks.{reply_to}
-use Rattle.sp_rules.specs.ParkedFrames.{is_asked_on, is_call_on, remove_requests}
+use Rattle.sp_rules.specs.ParkedFrames.{is_call_on, remove_requests}
 use Rattle.sp_rules.specs.State.{State}
 use Rattle.sp_owner.specs.Owners.{owner_parts}
-use Rattle.sp_tasks.specs.Behaviours.{reply_of}
-use Rattle.sp_living.proofs.FoundLemmas.{one-asks}
-use Rattle.sp_state.specs.Receiving.{park_returned, refuse_returned}
 use Rattle.sp_state.specs.Spaces.{IsSpace}
-use Rattle.sp_state.proofs.AnswerLemmas.{answers-nothing, answers-one, ends-at, none-left}
-use Rattle.sp_state.proofs.FrameLemmas.{space-is}
 use Rattle.sp_state.proofs.QuietLemmas.{acks-early, parts-quiet, reply_to_keeps, send_keeps}
 use Rattle.sp_state.proofs.SpaceLemmas.{quiet}
 use Rattle.net_message.specs.declared.message.Message.TheVariants as message

@@ -1,4 +1,4 @@
-use Rattle.std.proofs.Common.{◌≡◌, arith, List, [], sym, ap, subst, ◌∙◌, length, true≢false}
+use Rattle.std.proofs.Common.{◌≡◌, arith, List, sym, ap, subst, ◌∙◌, length}
 use Rattle.std.proofs.lemmas.Result.{on_ok_weaker}
 use Rattle.space_ids.specs.declared.ids.ObjId.{ObjId}
 use Rattle.sp_rules.specs.OwnEvents.{on_sweep}

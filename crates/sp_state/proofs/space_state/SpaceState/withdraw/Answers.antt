@@ -1,8 +1,7 @@
-use Rattle.std.proofs.Common.{◌≡◌, List, refl, sym, ap, subst, ◌∙◌}
+use Rattle.std.proofs.Common.{◌≡◌, List, refl, ap, subst, ◌∙◌}
 use Rattle.std.specs.List.{flat_map}
 use Rattle.std.proofs.lemmas.Result.{on_ok_weaker}
 use Rattle.space_ids.specs.declared.ids.ObjId.{ObjId}
-use Rattle.space_ids.specs.declared.ids.Ref.{Ref}
 use Rattle.sp_rules.specs.Events.{Withdrawn}
 use Rattle.sp_rules.specs.Holders.{drop}
 use Rattle.sp_rules.specs.References.{foreign_ids}
@@ -10,7 +9,7 @@ use Rattle.sp_rules.specs.State.{State, say}
 use Rattle.sp_owner.specs.Owners.{IsOwner, owner_parts, without}
 use Rattle.sp_living.specs.Livings.{IsLiving}
 use Rattle.sp_state.specs.Spaces.{IsSpace}
-use Rattle.sp_state.specs.Sweeping.{fields_at, withdrawn}
+use Rattle.sp_state.specs.Sweeping.{fields_at}
 use Rattle.sp_state.specs.declared.space_state.SpaceState.{SpaceState}
 use Rattle.sp_state.proofs.QuietLemmas.{drop_keeps, parts-quiet}
 use Rattle.sp_state.proofs.SpaceLemmas.{living-still, quiet}
