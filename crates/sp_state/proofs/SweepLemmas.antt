@@ -17,7 +17,7 @@ use Rattle.sp_rules.specs.References.{foreign_id, foreign_ids, is_id, is_id_in, 
 use Rattle.sp_rules.specs.State.{State, Gone, Object, object_at, say, standing, tell_owner}
 use Rattle.sp_rules.proofs.AllLemmas.{all-filter}
 use Rattle.sp_owner.specs.Owners.{idle, owner_parts, without}
-use Rattle.sp_living.specs.Needs.{is_needed}
+use Rattle.sp_endings.specs.Needs.{is_needed}
 use Rattle.sp_state.specs.Spaces.{AreNumbered}
 use Rattle.sp_state.proofs.SpaceLemmas.{with_owner}
 use Rattle.sp_state.specs.Sweeping.{fields_at, idle_of, withdrawn}

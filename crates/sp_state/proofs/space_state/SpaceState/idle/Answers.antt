@@ -2,7 +2,7 @@ use Rattle.std.proofs.Common.{List, ap, ◌∙◌}
 use Rattle.std.specs.Prelude.{◌||◌}
 use Rattle.space_ids.specs.declared.ids.ObjId.{ObjId}
 use Rattle.sp_rules.specs.References.{is_id_in}
-use Rattle.sp_living.specs.Needs.{is_needed}
+use Rattle.sp_endings.specs.Needs.{is_needed}
 use Rattle.sp_state.proofs.SweepLemmas.{idle-is}
 use Rattle.sp_state.proofs.space_state.SpaceState.idle.Goals as goal
 

@@ -23,7 +23,7 @@ returns w c = on_ok_weaker c.park.result (λ parked. λ g s is tells.
     let number = c.args.number in
     let same : c.new.result ≡ foreign_among g.id k.arguments =
     c.new.ensures ∙ c.in_ok-references.ensures.foreign ∙ (λ j. fold with_reference [] (foreign_ids (is.id j) (references_of (c.as_slice.ensures j)))) in
-    let now = quiet g s (park_frame g conn number (CallFrame k.target k.method k.fuel k.arguments) c.new.result s) c.args.self.now c.park.new.self
+    let now = quiet g s (park_frame g conn number (CallFrame k.target k.method k.fuel k.arguments) c.new.result s) c.args.self.now c.park.new.living
     (park_frame_keeps (parts-quiet g (owner_parts s)) {s = s} conn number (CallFrame k.target k.method k.fuel k.arguments) c.new.result refl)
     (parked g s is.living tells (c.store.ensures g s is.owner)) is in
-    subst (λ (ids : List ForeignId). IsSpace g (park_frame g conn number (CallFrame k.target k.method k.fuel k.arguments) ids s) (record c.args.self.now { living = c.park.new.self })) same now) c.park.ensures
+    subst (λ (ids : List ForeignId). IsSpace g (park_frame g conn number (CallFrame k.target k.method k.fuel k.arguments) ids s) (record c.args.self.now { living = c.park.new.living })) same now) c.park.ensures

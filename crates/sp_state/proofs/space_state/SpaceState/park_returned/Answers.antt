@@ -28,7 +28,7 @@ returns w c = on_ok_weaker c.park.result (λ parked. λ g s row peer is tells on
     let living = c.answer.ensures g s row peer is.living on.there dialled in
     let same : c.new.result ≡ foreign_ids g.id (references_in value) =
     c.new.ensures ∙ c.in_ok-references.ensures.foreign ∙ ap (λ (own : Uuid). fold with_reference [] (foreign_ids own (references_in value))) is.id ∙ result-foreign g.id value in
-    let now = quiet g s (park_frame g conn number (ReturnedFrame value fuel) c.new.result t) c.args.self.now c.park.new.self
+    let now = quiet g s (park_frame g conn number (ReturnedFrame value fuel) c.new.result t) c.args.self.now c.park.new.living
     (park_frame_keeps (parts-quiet g (owner_parts s)) {s = t} conn number (ReturnedFrame value fuel) c.new.result refl)
     (parked g t living tells (c.store.ensures g s is.owner)) is in
-    subst (λ (ids : List ForeignId). IsSpace g (park_frame g conn number (ReturnedFrame value fuel) ids t) (record c.args.self.now { living = c.park.new.self })) same now) c.park.ensures
+    subst (λ (ids : List ForeignId). IsSpace g (park_frame g conn number (ReturnedFrame value fuel) ids t) (record c.args.self.now { living = c.park.new.living })) same now) c.park.ensures
