@@ -114,8 +114,7 @@ impl SpaceState {
         self.living.reply_to(asker, Reply::Throws(thrown))
     }
 
-    // Takes that a call's fuel was spent, which makes its caller Spent; for a lookup it gives
-    // UnmarshalException.
+    // Takes that a call's fuel was spent: its caller is Spent, and a lookup gets UnmarshalException.
     pub(crate) fn got_spent<C: CallClasses>(
         &mut self,
         classes: &C,

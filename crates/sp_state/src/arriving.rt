@@ -105,7 +105,6 @@ impl SpaceState {
     }
 
     // Takes a frame that does not ask, on a connection that this space dialled. A second Hello closes it.
-    // Others do not come here.
     fn got_answer<C: CallClasses>(
         &mut self,
         classes: &C,

@@ -20,11 +20,10 @@ impl SpaceState {
     ghost use Rattle.sp_state.specs.Hands.{has_lent};
     ghost use Rattle.sp_state.specs.Spaces.{IsSpace};
 
-    /// Does the operation on the store for which a lent task asks, and returns the reply, which completes the
-    /// instruction: a new remote instance, or OutOfMemoryError if no more may stand; what was last put into
-    /// a field, else 0 or null; nothing for a value that is put. The task's record gains the reply, and the
-    /// task holds the reference in it. At out of memory the task is unchanged. A call, and a field that is
-    /// not there, is refused before (93), and answered like memory that lacks.
+    /// Does the operation on the store for which a lent task asks, and returns the reply: a new remote instance,
+    /// or OutOfMemoryError if no more may stand; what was last put into a field, else 0 or null; nothing for a
+    /// value that is put. The task's record gains the reply, and the task holds the reference in it. At out of
+    /// memory the task is unchanged. A call, or an absent field, is refused before (93), and out of memory here.
     pub fn commit<C: CallClasses>(
         &mut self,
         classes: &C,

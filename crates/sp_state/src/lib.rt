@@ -1,8 +1,5 @@
-//! The state of a space, and what each event makes of it: what the space keeps for others, and what lives
-//! in it.
-//!
-//! A contract names the states of the rules of spaces that the value may stand for. What an event makes of
-//! the state is the function of the rules that has its name.
+//! The state of a space, and what each event makes of it. A contract names the states of the rules of spaces
+//! that the value may stand for; what an event makes of one is the function of the rules that has its name.
 #![tactic(auto)]
 
 pub use space_state::SpaceState;

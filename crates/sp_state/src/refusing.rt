@@ -1,5 +1,4 @@
-//! What is refused of the values in frames that come: references that cannot be used here, and what does not
-//! fit.
+//! What is refused of the values in frames that come.
 
 ghost use Rattle.std.specs.Prelude.{◌≡◌, [], IfOk, OnOk, fold};
 ghost use Rattle.std.specs.List.{IsDistinct, list_any};

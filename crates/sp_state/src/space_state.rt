@@ -14,9 +14,7 @@ use space_ids::Uuid;
 use std::alloc::{AllocError, Global};
 
 /// The state of a space: what it keeps for others, and what lives in it; its id, and the digest of its class
-/// files.
-///
-/// A contract names the states of the rules that the value may stand for. A call that fails may leave it
+/// files. A contract names the states of the rules that the value may stand for. A call that fails may leave it
 /// anywhere between two of them: what has failed is to be let go, and an equal value kept. What the laws of
 /// histories exclude is looked at, and answered like memory that lacks.
 #[derive(Debug, Drop)]
