@@ -11,4 +11,4 @@ pub returns : goal.returns
 returns w c = on_ok_weaker c.cleaned.result (λ now. λ g s row is silent tells on.
     quiet g s (told_by g row false c.args.sequence CleanAnswered s) c.args.self.now c.cleaned.new.living
     (told_by_keeps (parts-quiet g (owner_parts s)) {s = s} row false c.args.sequence CleanAnswered refl)
-    (now g s row is.living silent tells (c.store.ensures g s is.owner) on.there) is) c.cleaned.ensures
+    (now g s row is.living silent tells (c.store-store.ensures g s is.owner) on.there) is) c.cleaned.ensures

@@ -11,4 +11,4 @@ pub returns : goal.returns
 returns w c = on_ok_weaker c.lease.result (λ now. λ g s row is silent tells on.
     quiet g s (told_by g row true c.args.sequence (λ call. DirtyAnswered call c.args.period) s) c.args.self.now c.lease.new.living
     (told_by_keeps (parts-quiet g (owner_parts s)) {s = s} row true c.args.sequence (λ call. DirtyAnswered call c.args.period) refl)
-    (now g s row is.living silent tells (c.store.ensures g s is.owner) on.there) is) c.lease.ensures
+    (now g s row is.living silent tells (c.store-store.ensures g s is.owner) on.there) is) c.lease.ensures
