@@ -9,6 +9,7 @@ ghost use Rattle.sp_rules.specs.Classes.{Setting};
 ghost use Rattle.sp_rules.specs.Frames.{object_of};
 ghost use Rattle.sp_rules.specs.Holders.{fields_of, is_own_standing, own_object};
 ghost use Rattle.sp_rules.specs.State.{State, object_at, opening, standing};
+ghost use Rattle.sp_store.specs.Stores.{IsAfter};
 ghost use Rattle.sp_owner.specs.Owners.{told};
 
 use dgc_list::RefList;
@@ -44,6 +45,26 @@ impl Owner {
             names: Registry::new(alloc)?,
             entries: RefList::new(alloc),
         })
+    }
+
+    /// The same. It costs a step for each object, each name and each entry.
+    pub fn copy(&self) -> Result<Owner, AllocError>
+        ensures { IfOk result (λ copy. (g : Setting) (s : State) → IsOwner g s self.now → IsOwner g s copy) }
+    {
+        Ok(Owner {
+            alloc: self.alloc,
+            id: self.id,
+            store: self.store.copy()?,
+            names: self.names.copy()?,
+            entries: self.entries.copy()?,
+        })
+    }
+
+    /// The remote objects.
+    pub fn store(&self) -> &Store
+        ensures { (g : Setting) (s : State) → IsOwner g s self.now → IsAfter g s.store result.now }
+    {
+        &self.store
     }
 
     /// The standing object at an index, in the order of ids: its id and its class.

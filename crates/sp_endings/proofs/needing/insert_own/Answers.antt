@@ -15,7 +15,7 @@ pub returns : goal.returns
 returns c = on_ok_weaker c.insert_parked.result (λ parked. λ g s a id.
     let own = c.id-own.result in
     let mine : own ≡ g.id = c.id-own.ensures g s a in
-    let living = c.tasks.ensures g s a in
+    let living = c.tasks.ensures.are g s a in
     let before = is_id_in c.args.ids.now id in
     let first = is_id_in c.insert_own.new.ids id in
     let second = is_id_in c.insert_own-2.new.ids id in

@@ -15,5 +15,5 @@ returns c = λ g s a.
     let calls = λ (p : rules.ParkedFrame). is_call_frame p.frame in
     let parked = c.parked.ensures g s a in
     let counted = c.in_ok-calls.ensures parked.frames parked.ticketed ∙ parked-length calls parked.frames s.parked parked.are in
-    let lives = c.len.ensures ∙ tasks-length c.tasks.result.now.rows s.tasks (c.tasks.ensures g s a).rows in
+    let lives = c.len.ensures ∙ tasks-length c.tasks.result.now.rows s.tasks (c.tasks.ensures.are g s a).rows in
     capped c.saturating_add.result (length s.tasks + length (filter calls s.parked)) (c.saturating_add.ensures ∙ (λ j. min (lives j + counted j) (2 ^ 64 - 1)))

@@ -27,7 +27,7 @@ returns w c = λ g s t k a tells there fuel.
     let a1 = c.take_task.ensures.left g s (s.retired + (steps k t.task).made) a in
     let a2 = c.in_ok-say.ensures g begun a1 in
     let a3 = c.in_ok-report.ensures g _ a2 tells in
-    let a4 = c.drop_holders.ensures g _ a3 in
+    let a4 = c.drop_holders.ensures.dropped g _ a3 in
     let held : c.deref.result.now ≡ (steps k t.task).held = c.deref.ensures.value ∙ c.in_ok-held.ensures ∙ held-of g s l id t a there ∙ sym (steps-held k t.task) in
     let found : Some (origin_of c.in-Some.origin) ≡ Some t.origin =
     ap (λ (o : Option Told). option_map origin_of o) (sym c.in-Some.is) ∙ c.take_task.ensures.origin g s a ∙ ap (λ (o : Option Living). option_map (λ (u : Living). u.origin) o) there in

@@ -1,0 +1,10 @@
+pub mod QuietLemmas
+pub mod SpaceLemmas
+pub mod FrameLemmas
+pub mod CallLemmas
+pub mod EndLemmas
+pub mod AnswerLemmas
+pub mod SweepLemmas
+pub mod HappenLemmas
+pub mod OpLemmas
+pub mod LoopLemmas

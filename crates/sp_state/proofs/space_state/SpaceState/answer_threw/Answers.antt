@@ -1,0 +1,17 @@
+use Rattle.std.proofs.Common.{refl, subst}
+use Rattle.std.proofs.lemmas.Result.{on_ok_weaker}
+use Rattle.space_ids.specs.declared.ids.ClassId.{ClassId}
+use Rattle.sp_rules.specs.ParkedFrames.{answer_threw}
+use Rattle.sp_owner.specs.Owners.{owner_parts}
+use Rattle.sp_state.specs.Spaces.{IsSpace}
+use Rattle.sp_state.proofs.QuietLemmas.{answer_threw_keeps, parts-quiet}
+use Rattle.sp_state.proofs.SpaceLemmas.{quiet}
+use Rattle.sp_state.proofs.space_state.SpaceState.answer_threw.Goals as goal
+
+pub returns : goal.returns
+returns w c = on_ok_weaker c.reply.result (λ replied. λ g s is tells.
+    let conn = c.args.conn in
+    let number = c.args.number in
+    let now = quiet g s (answer_threw conn number c.thrown-class.result s) c.args.self.now c.reply.new.self
+    (answer_threw_keeps (parts-quiet g (owner_parts s)) {s = s} conn number c.thrown-class.result refl) (replied g s is.living) is in
+    subst (λ (k : ClassId). IsSpace g (answer_threw conn number k s) (record c.args.self.now { living = c.reply.new.self })) (c.thrown-class.ensures g.classes tells) now) c.reply.ensures

@@ -1,0 +1,36 @@
+use Rattle.std.proofs.Common.{ℕ, List, sym, ap, subst}
+use Rattle.std.proofs.lemmas.Result.{on_ok_weaker}
+use Rattle.net_message.specs.declared.message.Message.{Message}
+use Rattle.sp_connections.specs.declared.connection.Connection.{Connection}
+use Rattle.space_ids.specs.declared.ids.ObjId.{ObjId}
+use Rattle.sp_rules.specs.Frames.{got, got_clean, got_dirty, got_lookup}
+use Rattle.sp_state.specs.Spaces.{IsSpace}
+use Rattle.sp_state.proofs.space_state.SpaceState.got_asking.Goals as goal
+
+pub returns-in-Call : goal.returns-in-Call
+unfolding got
+returns-in-Call w c = on_ok_weaker c.got_call.result (λ now. λ g s row is silent tells on seen there.
+    subst (λ (m : Message). IsSpace g (got g row m s) c.got_call.new.self) (sym c.in-Call.is) (now g s row is silent tells on (sym (ap (λ (k : Connection). k.last) seen)))) c.got_call.ensures
+
+pub returns-in-Lookup : goal.returns-in-Lookup
+unfolding got
+returns-in-Lookup w c = on_ok_weaker c.got_lookup.result (λ now. λ g s row is silent tells on seen there.
+    subst (λ (m : Message). IsSpace g (got g row m s) c.got_lookup.new.self) (sym c.in-Lookup.is)
+    (subst (λ (name : List ℕ). IsSpace g (got_lookup g row c.in-Lookup.number name s) c.got_lookup.new.self) c.as_slice.ensures (now g s row is silent tells on (sym (ap (λ (k : Connection). k.last) seen))))) c.got_lookup.ensures
+
+pub returns-in-Ack : goal.returns-in-Ack
+unfolding got
+returns-in-Ack w c = on_ok_weaker c.got_ack.result (λ now. λ g s row is silent tells on seen there.
+    subst (λ (m : Message). IsSpace g (got g row m s) c.got_ack.new.self) (sym c.in-Ack.is) (now g s row is silent tells on)) c.got_ack.ensures
+
+pub returns-in-Dirty : goal.returns-in-Dirty
+unfolding got
+returns-in-Dirty w c = on_ok_weaker c.got_dirty.result (λ now. λ g s row is silent tells on seen there.
+    subst (λ (m : Message). IsSpace g (got g row m s) c.got_dirty.new.self) (sym c.in-Dirty.is)
+    (subst (λ (ids : List ObjId). IsSpace g (got_dirty g row c.in-Dirty.sequence c.in-Dirty.period ids s) c.got_dirty.new.self) c.as_slice-in-Dirty.ensures (now g s row is on (sym (ap (λ (k : Connection). k.peer) seen))))) c.got_dirty.ensures
+
+pub returns-in-Clean : goal.returns-in-Clean
+unfolding got
+returns-in-Clean w c = on_ok_weaker c.got_clean.result (λ now. λ g s row is silent tells on seen there.
+    subst (λ (m : Message). IsSpace g (got g row m s) c.got_clean.new.self) (sym c.in-Clean.is)
+    (subst (λ (ids : List ObjId). IsSpace g (got_clean g row c.in-Clean.sequence c.in-Clean.strong ids s) c.got_clean.new.self) c.as_slice-in-Clean.ensures (now g s row is on (sym (ap (λ (k : Connection). k.peer) seen))))) c.got_clean.ensures

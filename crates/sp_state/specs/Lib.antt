@@ -1,0 +1,6 @@
+pub mod Spaces
+pub mod Receiving
+pub mod Sweeping
+pub mod Denying
+pub mod Hellos
+pub mod Hands

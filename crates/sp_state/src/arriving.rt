@@ -1,0 +1,154 @@
+//! Frames as they come: the space that dialled asks, and the other end answers. (This project's own protocol.)
+
+ghost use Rattle.std.specs.Prelude.{◌≡◌, [], None, Some, OnOk};
+ghost use Rattle.sp_connections.specs.Tables.{seen};
+ghost use Rattle.sp_rules.specs.Classes.{Setting};
+ghost use Rattle.sp_rules.specs.Frames.{got, is_asking, is_wrong_way, receive};
+ghost use Rattle.sp_rules.specs.OwnEvents.{received_on};
+ghost use Rattle.uuid.specs.declared.Uuid.{Uuid as Peer};
+ghost use Rattle.sp_rules.specs.State.{Connection as Line, State, connection_at};
+
+use crate::SpaceState;
+use net_message::Message;
+use sp_call_classes::{CallClasses, RemoteException};
+use sp_connections::Connection;
+use sp_parked::ParkedCall;
+use std::alloc::AllocError;
+
+impl SpaceState {
+    ghost use Rattle.sp_state.specs.Receiving.{ComesOn};
+    ghost use Rattle.sp_state.specs.Spaces.{IsSpace};
+
+    /// Takes a frame that came on a connection. Nothing happens if it is not open.
+    pub fn received<C: CallClasses>(
+        &mut self,
+        classes: &C,
+        conn: u64,
+        message: Message,
+    ) -> Result<(), AllocError>
+        ensures { OnOk result ((g : Setting) (s : State) → IsSpace g s self.old → s.notes ≡ [] → C.tells classes.now g.classes → IsSpace g (received_on g (connection_at s conn) message s) self.new) }
+    {
+        match self.living.transport().connection(conn) {
+            Some(connection) => self.receive(classes, conn, connection, message),
+            None => Ok(()),
+        }
+    }
+
+    // Takes a frame that came on an open connection. One of the wrong direction closes it.
+    fn receive<C: CallClasses>(
+        &mut self,
+        classes: &C,
+        conn: u64,
+        connection: Connection,
+        message: Message,
+    ) -> Result<(), AllocError>
+        ensures { OnOk result ((g : Setting) (s : State) (c : Line) → IsSpace g s self.old → s.notes ≡ [] → C.tells classes.now g.classes → ComesOn conn s c → connection ≡ seen c → IsSpace g (receive g c message s) self.new) }
+    {
+        let is_first = connection.peer.is_none();
+        if is_first {
+            return self.first_frame(classes, conn, connection.dialled, message);
+        }
+        let asks = is_asking(&message);
+        let dialled = connection.dialled.is_some();
+        if is_wrong_way(asks, dialled) {
+            return self.close(classes, RemoteException::Unmarshal, conn);
+        }
+        if asks {
+            self.got_asking(classes, conn, connection, message)
+        } else {
+            self.got_answer(classes, conn, message)
+        }
+    }
+
+    // Takes a frame that asks. Others do not come here.
+    fn got_asking<C: CallClasses>(
+        &mut self,
+        classes: &C,
+        conn: u64,
+        connection: Connection,
+        message: Message,
+    ) -> Result<(), AllocError>
+        ensures { OnOk result ((g : Setting) (s : State) (c : Line) → IsSpace g s self.old → s.notes ≡ [] → C.tells classes.now g.classes → ComesOn conn s c → connection ≡ seen c → c.dialled ≡ None → IsSpace g (got g c message s) self.new) }
+    {
+        match message {
+            Message::Call {
+                number,
+                object,
+                method,
+                fuel,
+                arguments,
+            } => {
+                let call = ParkedCall {
+                    target: object,
+                    method,
+                    fuel,
+                    arguments,
+                };
+                self.got_call(classes, conn, connection.last, number, call)
+            }
+            Message::Lookup { number, name } => {
+                self.got_lookup(classes, conn, connection.last, number, name.as_slice())
+            }
+            Message::Ack { number } => self.got_ack(classes, conn, number),
+            Message::Dirty {
+                sequence,
+                period,
+                objects,
+            } => self.got_dirty(conn, connection.peer, sequence, period, objects.as_slice()),
+            Message::Clean {
+                sequence,
+                strong,
+                objects,
+            } => self.got_clean(conn, connection.peer, sequence, strong, objects.as_slice()),
+            _ => Err(AllocError),
+        }
+    }
+
+    // Takes a frame that does not ask, on a connection that this space dialled. A second Hello closes it.
+    fn got_answer<C: CallClasses>(
+        &mut self,
+        classes: &C,
+        conn: u64,
+        message: Message,
+    ) -> Result<(), AllocError>
+        ensures { OnOk result ((g : Setting) (s : State) (c : Line) (peer : Peer) → IsSpace g s self.old → s.notes ≡ [] → C.tells classes.now g.classes → ComesOn conn s c → c.dialled ≡ Some peer → IsSpace g (got g c message s) self.new) }
+    {
+        match message {
+            Message::Hello { .. } => self.close(classes, RemoteException::Unmarshal, conn),
+            Message::Returned {
+                number,
+                fuel,
+                value,
+            } => self.got_returned(classes, conn, number, fuel, value),
+            Message::Threw { number, class } => self.got_threw(classes, conn, number, class),
+            Message::Spent { number } => self.got_spent(classes, conn, number),
+            Message::Lease { sequence, period } => {
+                self.got_lease(classes, conn, sequence, period)
+            }
+            Message::Cleaned { sequence } => self.got_cleaned(classes, conn, sequence),
+            _ => Err(AllocError),
+        }
+    }
+}
+
+// Whether a frame asks: the space that dialled sends it.
+fn is_asking(message: &Message) -> bool
+    ensures { result ≡ is_asking message.now }
+{
+    match message {
+        Message::Call { .. }
+        | Message::Ack { .. }
+        | Message::Dirty { .. }
+        | Message::Clean { .. }
+        | Message::Lookup { .. } => true,
+        _ => false,
+    }
+}
+
+// Whether a frame goes the wrong way: one that asks goes to the end that was dialled, one that answers to the
+// other.
+fn is_wrong_way(asks: bool, dialled: bool) -> bool
+    ensures { result ≡ is_wrong_way asks dialled }
+{
+    if asks { dialled } else { !dialled }
+}

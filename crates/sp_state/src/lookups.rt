@@ -1,0 +1,126 @@
+//! Lookups that come, acknowledgements, and dirty and clean calls (Java RMI specification, 6.1 and 9.1).
+
+ghost use Rattle.std.specs.Prelude.{◌≡◌, [], OnOk};
+ghost use Rattle.space_ids.specs.declared.value.Value.TheVariants as values;
+ghost use Rattle.sp_rules.specs.Classes.{Setting};
+ghost use Rattle.sp_rules.specs.Frames.{got_ack, got_clean, got_dirty, got_lookup};
+ghost use Rattle.sp_rules.specs.State.{Connection as Line, State};
+
+use crate::SpaceState;
+use net_message::Message;
+use sp_call_classes::{CallClasses, RemoteException};
+use sp_outputs::Turn;
+use space_ids::{ClassId, ObjId, Ref, Uuid, Value};
+use std::alloc::AllocError;
+
+impl SpaceState {
+    ghost use Rattle.sp_state.specs.Receiving.{ComesOn, give_found};
+    ghost use Rattle.sp_state.specs.Spaces.{IsSpace};
+
+    // Takes a lookup that came on a connection, under a number above the last there; another closes it.
+    pub(crate) fn got_lookup<C: CallClasses>(
+        &mut self,
+        classes: &C,
+        conn: u64,
+        last: u64,
+        number: u64,
+        name: &[u8],
+    ) -> Result<(), AllocError>
+        ensures { OnOk result ((g : Setting) (s : State) (c : Line) → IsSpace g s self.old → s.notes ≡ [] → C.tells classes.now g.classes → ComesOn conn s c → c.last ≡ last → IsSpace g (got_lookup g c number name.now s) self.new) }
+    {
+        if number <= last {
+            return self.close(classes, RemoteException::Unmarshal, conn);
+        }
+        self.living.count(conn, number);
+        match self.owner.find(name) {
+            Some((id, class)) => self.give_found(conn, number, id, class),
+            None => self.answer_threw(classes, conn, number, RemoteException::NotBound),
+        }
+    }
+
+    // Answers a lookup by a reference to an object of the space, and holds the result until its Ack.
+    fn give_found(
+        &mut self,
+        conn: u64,
+        number: u64,
+        id: ObjId,
+        class: ClassId,
+    ) -> Result<(), AllocError>
+        ensures { OnOk result ((g : Setting) (s : State) → IsSpace g s self.old → IsSpace g (give_found g conn number id class s) self.new) }
+    {
+        let kept = reference(self.id, id, class);
+        self.living.keep(conn, number, Some(kept))?;
+        let given = reference(self.id, id, class);
+        self.living.reply(
+            Turn::Replies,
+            conn,
+            Message::Returned {
+                number,
+                fuel: 0,
+                value: Some(given),
+            },
+        )
+    }
+
+    // Takes an Ack: the result that is held until it goes. One of no such result closes the connection.
+    pub(crate) fn got_ack<C: CallClasses>(
+        &mut self,
+        classes: &C,
+        conn: u64,
+        number: u64,
+    ) -> Result<(), AllocError>
+        ensures { OnOk result ((g : Setting) (s : State) (c : Line) → IsSpace g s self.old → s.notes ≡ [] → C.tells classes.now g.classes → ComesOn conn s c → IsSpace g (got_ack g c number s) self.new) }
+    {
+        if self.living.release_acked(conn, number) {
+            return Ok(());
+        }
+        self.close(classes, RemoteException::Unmarshal, conn)
+    }
+
+    // Takes a dirty call of the client that the Hello named, and answers it by a lease.
+    pub(crate) fn got_dirty(
+        &mut self,
+        conn: u64,
+        peer: Option<Uuid>,
+        sequence: u64,
+        period: u64,
+        ids: &[ObjId],
+    ) -> Result<(), AllocError>
+        ensures { OnOk result ((g : Setting) (s : State) (c : Line) → IsSpace g s self.old → ComesOn conn s c → c.peer ≡ peer → IsSpace g (got_dirty g c sequence period ids.now s) self.new) }
+    {
+        let client = peer.unwrap_or(self.id);
+        let granted = self.owner.dirty(&client, ids, sequence, period)?;
+        self.living.reply(
+            Turn::Replies,
+            conn,
+            Message::Lease {
+                sequence,
+                period: granted,
+            },
+        )
+    }
+
+    // Takes a clean call of the client that the Hello named, and answers it.
+    pub(crate) fn got_clean(
+        &mut self,
+        conn: u64,
+        peer: Option<Uuid>,
+        sequence: u64,
+        strong: bool,
+        ids: &[ObjId],
+    ) -> Result<(), AllocError>
+        ensures { OnOk result ((g : Setting) (s : State) (c : Line) → IsSpace g s self.old → ComesOn conn s c → c.peer ≡ peer → IsSpace g (got_clean g c sequence strong ids.now s) self.new) }
+    {
+        let client = peer.unwrap_or(self.id);
+        self.owner.clean(&client, ids, sequence, strong)?;
+        self.living
+            .reply(Turn::Replies, conn, Message::Cleaned { sequence })
+    }
+}
+
+// A reference to an object of a space.
+fn reference(space: Uuid, id: ObjId, class: ClassId) -> Value
+    ensures { result ≡ values.Ref (record { space = space; id = id; class = class }) }
+{
+    Value::Ref(Ref { space, id, class })
+}
