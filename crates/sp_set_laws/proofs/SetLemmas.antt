@@ -131,7 +131,7 @@ module _ (links : Links) (g : Setting) (are : AreLinks links) (same : g.classes 
       → g.classes.start_refusal g.id method arguments ≡ None
   told_starts method arguments limits task e =
       ap (λ (c : Classes). c.start_refusal g.id method arguments) same
-      ∙ by (start_fault links g.id (record { 0 = method }) arguments) (refused links g.id (record { 0 = method }) arguments (start_fault links g.id (record { 0 = method }) arguments) refl)
+      ∙ by (start_fault links (record { 0 = method }) arguments) (refused links (record { 0 = method }) arguments g.id (start_fault links (record { 0 = method }) arguments) refl)
     where
       by : (why : Option StartFault) → IfSome why (λ w. (limits : Limits) → started links g.id (record { 0 = method }) arguments limits ≡ Err w) → option_and_then refusal_of why ≡ None
       by None none = refl
@@ -141,8 +141,8 @@ module _ (links : Links) (g : Setting) (are : AreLinks links) (same : g.classes 
       → g.classes.start_refusal g.id method arguments ≡ refused_by why
   told_refused method arguments limits why e =
       ap (λ (c : Classes). c.start_refusal g.id method arguments) same
-      ∙ by (start_fault links g.id (record { 0 = method }) arguments) (refused links g.id (record { 0 = method }) arguments (start_fault links g.id (record { 0 = method }) arguments) refl)
-      (starts links g.id (record { 0 = method }) arguments (start_fault links g.id (record { 0 = method }) arguments) refl)
+      ∙ by (start_fault links (record { 0 = method }) arguments) (refused links (record { 0 = method }) arguments g.id (start_fault links (record { 0 = method }) arguments) refl)
+      (starts links (record { 0 = method }) arguments g.id (start_fault links (record { 0 = method }) arguments) refl)
     where
       by : (w : Option StartFault) → IfSome w (λ w. (limits : Limits) → started links g.id (record { 0 = method }) arguments limits ≡ Err w)
           → IfNone w ((limits : Limits) → IsOk (started links g.id (record { 0 = method }) arguments limits)) → option_and_then refusal_of w ≡ refused_by why
