@@ -144,6 +144,16 @@ impl Tasks {
         Ok(self.start_reserved(new))
     }
 
+    /// Takes the next id for a lookup, which is no task.
+    pub fn take_id(&mut self) -> u64
+        requires { self.old.made < 2 ^ 63 }
+        ensures id { result ≡ self.old.made + 1 }
+        ensures taken { self.new ≡ record self.old { made = self.old.made + 1 } }
+    {
+        self.made += 1;
+        self.made
+    }
+
     /// How a task that lives began.
     pub fn origin(&self, id: u64) -> Option<Origin>
         ensures { option_map origin_of result ≡ option_map (λ row. row.origin) (row_of id self.now.rows) }
