@@ -406,7 +406,7 @@ lent-quiet id task = at (stand task)
     of-op (Call target method arguments) = (parked, tt)
 
     at : (stands : Stand) → AllOf Quiet (Worlds.events_at id task stands)
-    at Runs = after-one (Worlds.is_over (step task).behaviour)
+    at Runs = after-one (Worlds.is_over (stand (step task)))
     at (AsksFor op) = of-op op
     at (HasEnded outcome) = (finished 0, tt)
 

@@ -177,7 +177,7 @@ step-reached w i id = some-reached w (Step i id) (Cleared w) (slice_get w.spaces
     ends false = one (GivenBack id 1) none-own
 
     does : (task : Task) (stands : Stand) → Reached w (Step i id) (acts (Cleared w) i (Worlds.events_at id task stands) (Cleared w))
-    does task Runs = ends (Worlds.is_over (step task).behaviour)
+    does task Runs = ends (Worlds.is_over (stand (step task)))
     does task (AsksFor (Create class)) = stored (Create class)
     does task (AsksFor (Get object slot)) = stored (Get object slot)
     does task (AsksFor (Put object slot value)) = stored (Put object slot value)

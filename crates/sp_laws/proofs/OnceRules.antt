@@ -302,7 +302,7 @@ lent-silent id task = at (stand task)
     of-op (Call target method arguments) = ((λ n. refl), tt)
 
     at : (stands : Stand) → AllOf Silent (Worlds.events_at id task stands)
-    at Runs = after-one (Worlds.is_over (step task).behaviour)
+    at Runs = after-one (Worlds.is_over (stand (step task)))
     at (AsksFor op) = of-op op
     at (HasEnded outcome) = ((λ n. refl), tt)
 

@@ -4,8 +4,7 @@ use Rattle.std.specs.List.{list_any}
 use Rattle.std.specs.Str.{bytes_eq}
 use Rattle.net_message.specs.declared.message.Message.{Message}
 use Rattle.uuid.specs.declared.Uuid.{Uuid}
-use Rattle.sp_rules.specs.Behaviours.{Op, Create, Get, Put, Call, Behaviour, Plain, Asks, Ends}
-use Rattle.sp_rules.specs.Behaviours as behaviours
+use Rattle.sp_rules.specs.Behaviours.{Op, Create, Get, Put, Call}
 use Rattle.sp_rules.specs.Classes.{Setting}
 use Rattle.sp_rules.specs.Events.{Event, Moment, Sweep, Root, RootAck, Bind, Rebind, Unbind, Lookup, Opened, Refused, Received, Closed, ReadFailed, WriteFailed, Committed, Parked, GivenBack, Finished, Output, Started, Ended, Withdrawn, Denied, Send, Dial, Close, Ready}
 use Rattle.sp_rules.specs.Lists.{each, with_some, at_index}
@@ -176,13 +175,12 @@ new_pipe a b = record {
   accepter = record { space = b; phase = Unopened; queue = [] };
 }
 
-abbrev pub is_over : Behaviour → Bool
-is_over (Plain next) = false
-is_over (Asks op next) = false
-is_over (Ends outcome) = false
-is_over (behaviours.Over outcome) = true
+abbrev pub is_over : Stand → Bool
+is_over Runs = false
+is_over (AsksFor op) = false
+is_over (HasEnded outcome) = true
 
--- A step that ends its task finishes it; else the task is given back.
+-- A step that ends its task finishes it, also one that takes its last unit of fuel; else the task is given back.
 abbrev pub events_after : ℕ → Bool → List Event
 events_after id true = Finished id 1 ∷ []
 events_after id false = GivenBack id 1 ∷ []
@@ -195,7 +193,7 @@ events_of_op id (Call target method arguments) = Parked id 0 ∷ []
 
 -- A task whose end came by a reply, or by its own start, ends at its next step.
 abbrev pub events_at : ℕ → Task → Stand → List Event
-events_at id task Runs = events_after id (is_over (step task).behaviour)
+events_at id task Runs = events_after id (is_over (stand (step task)))
 events_at id task (AsksFor op) = events_of_op id op
 events_at id task (HasEnded outcome) = Finished id 0 ∷ []
 

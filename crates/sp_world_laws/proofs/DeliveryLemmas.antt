@@ -381,7 +381,7 @@ lent-plain id task = at (stand task)
     of-op (Call target method arguments) = ((λ n. (refl, refl)), tt)
 
     at : (stands : Stand) → AllOf Plain (Worlds.events_at id task stands)
-    at Runs = after-one (Worlds.is_over (step task).behaviour)
+    at Runs = after-one (Worlds.is_over (stand (step task)))
     at (AsksFor op) = of-op op
     at (HasEnded outcome) = ((λ n. (refl, refl)), tt)
 
