@@ -1,6 +1,6 @@
 //! The constant pool (JVMS 4.4): its entries by index.
 
-ghost use Rattle.std.specs.Prelude.{◌≡◌, ℕ, List, is_some, slice_get};
+ghost use Rattle.std.specs.Prelude.{◌≡◌, ℕ, IfSome, List, Some, is_some, slice_get};
 ghost use Rattle.cf_pool.specs.declared.pool.Entry.{Entry};
 ghost use Rattle.cf_text.specs.Looks.{Exactly};
 ghost use Rattle.cf_pool.specs.LookUps.{NamesClass, NamesInteger, NamesMember, NamesNameAndType, NamesText};
@@ -67,6 +67,8 @@ pub struct NameAndTypeRef<'a> {
 #[derive(Clone, Copy, Debug)]
 pub struct MemberRef<'a> {
     pub kind: MemberKind,
+    /// The index of the Class entry.
+    pub class_index: u16,
     /// The class's name, or an array's descriptor.
     pub class: &'a Text,
     pub name: &'a Text,
@@ -158,7 +160,8 @@ impl Pool {
     /// index names no such entry, or one whose own indices name no class or no name and type.
     #[tactic(auto, unfolding(crate::specs::Pools::member_at))]
     pub fn member(&self, index: u16) -> Option<MemberRef<'_>>
-        ensures { option_map named_member result ≡ member_at self.now index }
+        ensures named { option_map named_member result ≡ member_at self.now index }
+        ensures class { IfSome result (λ member. class_at self.now member.class_index ≡ Some member.class.now) }
     {
         let Some(
             Entry::Member {
@@ -170,10 +173,12 @@ impl Pool {
         else {
             return None;
         };
-        let class = self.class(*class)?;
+        let class_index = *class;
+        let class = self.class(class_index)?;
         let NameAndTypeRef { name, descriptor } = self.name_and_type(*name_and_type)?;
         Some(MemberRef {
             kind: *kind,
+            class_index,
             class,
             name,
             descriptor,
