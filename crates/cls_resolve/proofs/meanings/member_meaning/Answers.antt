@@ -12,7 +12,7 @@ pub returns-then-begins_with : goal.returns-then-begins_with
 returns-then-begins_with c =
     record {
       named = named_member c.in-Some.entry;
-      entry = sym (c.in-Some.ensures ∙ ap (λ p. member_at p c.args.index) c.pool_of.ensures);
+      entry = sym (c.in-Some.ensures.named ∙ ap (λ p. member_at p c.args.index) c.pool_of.ensures);
       array = subst IsArray c.as_bytes-text.ensures (sym c.begins_with.ensures.value ∙ c.if-begins_with.true);
     }
 
@@ -20,7 +20,7 @@ pub returns-in_default-number : goal.returns-in_default-number
 returns-in_default-number c =
     record {
       named = named_member c.in-Some.entry;
-      entry = sym (c.in-Some.ensures ∙ ap (λ p. member_at p c.args.index) c.pool_of.ensures);
+      entry = sym (c.in-Some.ensures.named ∙ ap (λ p. member_at p c.args.index) c.pool_of.ensures);
       plain = subst (λ t. ¬ IsArray t) c.as_bytes-text.ensures (not_true _ (sym c.begins_with.ensures.value ∙ c.if-begins_with.false));
       absent = ap (number_of c.args.set.now) (sym c.as_bytes-text.ensures) ∙ sym c.in_default-number.ensures.number;
     }
@@ -30,7 +30,7 @@ returns c =
     let named : NamedMember = named_member c.in-Some.entry in
     record {
       named = named;
-      entry = sym (c.in-Some.ensures ∙ ap (λ p. member_at p c.args.index) c.pool_of.ensures);
+      entry = sym (c.in-Some.ensures.named ∙ ap (λ p. member_at p c.args.index) c.pool_of.ensures);
       plain = subst (λ t. ¬ IsArray t) c.as_bytes-text.ensures (not_true _ (sym c.begins_with.ensures.value ∙ c.if-begins_with.false));
       of_kind = refl;
       of_name = c.is_initializer.ensures ∙ ap is_initializer c.as_bytes-name.ensures;
