@@ -69,6 +69,13 @@ op_of arguments (asked.Get object slot) = rules.Get object.id slot
 op_of arguments (asked.Put object slot value) = rules.Put object.id slot (value_of value)
 op_of arguments (asked.Call target method count) = rules.Call target method arguments
 
+-- it is asked of the space's own store: a call is asked of another space
+abbrev pub IsOfStore : Asked → Type 0
+IsOfStore (asked.Create class) = Unit {0}
+IsOfStore (asked.Get object slot) = Unit {0}
+IsOfStore (asked.Put object slot value) = Unit {0}
+IsOfStore (asked.Call target method count) = ⊥
+
 -- what a machine asks for: the arguments of a call are what crosses of its operands
 abbrev pub op_at : List Class → Asked → Machine → rules.Op
 op_at classes op m = op_of (unwrap_or (call_arguments classes (Waits op m 0)) []) op

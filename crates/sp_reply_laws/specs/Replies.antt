@@ -3,7 +3,7 @@ use Rattle.std.specs.Prelude.{◌≡◌, ℕ, true, List, [], Some}
 use Rattle.cls_set.specs.declared.class.Class.{Class}
 use Rattle.space_ids.specs.declared.ids.Ref.{Ref}
 use Rattle.space_ids.specs.declared.value.Value.{Value}
-use Rattle.sp_behaviours.specs.Behaviours.{op_of, reply_of}
+use Rattle.sp_behaviours.specs.Behaviours.{op_of, reply_of, IsOfStore}
 use Rattle.sp_reply_laws.specs.Told.{AreTold, AreRemoteFields}
 use Rattle.sp_rules.specs.Behaviours as rules
 use Rattle.sp_rules.specs.Classes.{Setting}
@@ -28,13 +28,6 @@ AsksOfStanding s (asked.Create class) = Unit {0}
 AsksOfStanding s (asked.Get object slot) = class_is object.class (object_at s object.id) ≡ true
 AsksOfStanding s (asked.Put object slot value) = Unit {0}
 AsksOfStanding s (asked.Call target method count) = Unit {0}
-
--- What is asked of the space's store: a call is asked of another space.
-abbrev pub IsOfStore : Asked → Type 0
-IsOfStore (asked.Create class) = Unit {0}
-IsOfStore (asked.Get object slot) = Unit {0}
-IsOfStore (asked.Put object slot value) = Unit {0}
-IsOfStore (asked.Call target method count) = ⊥
 
 -- It does where the task holds that very reference, as one of the space.
 abbrev pub HoldsObject : List Ref → Asked → Type 0
