@@ -3,6 +3,7 @@ pub mod Areturns
 pub mod Safe
 pub mod Throws
 pub mod Outcomes
+pub mod Calls
 pub mod Copying
 pub mod Passing
 pub mod Begins
