@@ -110,17 +110,18 @@ fn complete(machine: Machine, asked: Asked, code: &[LinkedInsn], reply: Reply, f
 {
     let mut machine = machine;
     let _count = code.len();
-    let left = fuel_after(asked, &reply, fuel);
-    match machine.answer_with(asked, reply) {
+    let left = fuel_after(&asked, &reply, fuel);
+    let did = machine.answer_with(asked, reply);
+    match did {
         Flow::Ends(ending) => Phase::Over(keep(machine, ending), left),
-        Flow::Asks(asked) => Phase::Waiting(machine, asked, left),
+        Flow::Asks(other) => Phase::Waiting(machine, other, left),
         _ => Phase::Running(machine, left),
     }
 }
 
 // The fuel that is left after a reply: a call has what its callee left.
-fn fuel_after(asked: Asked, reply: &Reply, fuel: u64) -> u64
-    ensures { result ≡ fuel_after asked reply.now fuel }
+fn fuel_after(asked: &Asked, reply: &Reply, fuel: u64) -> u64
+    ensures { result ≡ fuel_after asked.now reply.now fuel }
 {
     match asked {
         Asked::Call { .. } => given_back(reply),
