@@ -12,4 +12,5 @@ pub mod Limited
 pub mod Made
 pub mod Holding
 pub mod Refused
+pub mod Replies
 pub mod Views
