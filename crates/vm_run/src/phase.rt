@@ -111,10 +111,9 @@ fn complete(machine: Machine, asked: Asked, code: &[LinkedInsn], reply: Reply, f
     let mut machine = machine;
     let _count = code.len();
     let left = fuel_after(&asked, &reply, fuel);
-    let did = machine.answer_with(asked, reply);
-    match did {
+    match machine.answer_with(asked, reply) {
         Flow::Ends(ending) => Phase::Over(keep(machine, ending), left),
-        Flow::Asks(other) => Phase::Waiting(machine, other, left),
+        Flow::Asks(asked) => Phase::Waiting(machine, asked, left),
         _ => Phase::Running(machine, left),
     }
 }
