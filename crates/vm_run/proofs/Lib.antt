@@ -1,4 +1,5 @@
 pub mod Runs
+pub mod Groups
 pub mod Areturns
 pub mod Safe
 pub mod Throws

@@ -18,6 +18,7 @@ use std::alloc::{AllocError, Global};
 use std::marker::Model;
 use ver_check::Accepted;
 use vm_code::{Tables, WordKind};
+use vm_flat::FlatRows;
 use vm_heap::{Uuid, Value};
 
 /// A class set that the type checker accepted, and what running it looks up. A contract sees it as the
@@ -26,6 +27,7 @@ use vm_heap::{Uuid, Value};
 pub struct Program {
     accepted: Accepted,
     tables: Tables,
+    flat: FlatRows,
     thrown: ThrownClasses,
 }
 
@@ -37,7 +39,7 @@ impl Model for Program {
 
     ghost view = { λ program. program.accepted };
 
-    ghost invariant = { λ program. IsProgram program.accepted program.tables program.thrown };
+    ghost invariant = { λ program. IsProgram program.accepted program.tables program.flat program.thrown };
 }
 
 impl Program {
@@ -49,10 +51,12 @@ impl Program {
         let linked = accepted.linked();
         let _methods = linked.len();
         let tables = Tables::build(alloc, linked)?;
+        let flat = FlatRows::build(alloc, linked)?;
         let thrown = ThrownClasses::of(linked);
         Ok(Program {
             accepted,
             tables,
+            flat,
             thrown,
         })
     }
@@ -114,6 +118,13 @@ impl Program {
         ensures { result.now ≡ self.now }
     {
         &self.tables
+    }
+
+    // The flat instructions of its methods.
+    pub(crate) fn flat(&self) -> &FlatRows
+        ensures { result.now ≡ self.now }
+    {
+        &self.flat
     }
 
     // The classes of which the machine throws objects.
