@@ -3,8 +3,10 @@
 //! `specs/` names the event of the rules of spaces that a value is, and the refusal that a fault is.
 #![tactic(auto)]
 
+pub use copies::copy_message;
 pub use event::{Event, Root};
 pub use fault::{CoreFault, StartFault};
 
+mod copies;
 mod event;
 mod fault;
