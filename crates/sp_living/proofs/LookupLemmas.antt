@@ -48,7 +48,7 @@ lookup-made g s l peer name number task t table last id now made a = record {
   id = a.id;
   moment = a.moment;
   transport = subst (λ (u : State). IsTransport u t) (λ j. with_lookup_as (last j + 1) ((id ∙ ap (λ n. n + 1) a.tasks.last) j))
-    (beside (make_call peer (LooksUp (number + 1) task name) s) (s.tasks_made + 1) s.tasks s.results s.parked s.retired t made);
+      (beside (make_call peer (LooksUp (number + 1) task name) s) (s.tasks_made + 1) s.tasks s.results s.parked s.retired t made);
   tasks = tasks-counted g s.tasks_made s.tasks l.tasks table now a.tasks;
   results = a.results;
   parked = a.parked;

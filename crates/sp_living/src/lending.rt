@@ -7,7 +7,7 @@ ghost use Rattle.sp_rules.specs.State.{State};
 ghost use Rattle.sp_rules.specs.Behaviours.{Call as Calls};
 ghost use Rattle.sp_rules.specs.Tasks.{AsksFor, HasEnded, lent, stand};
 ghost use Rattle.sp_tasks.specs.Behaviours.{outcome_of, reply_of};
-ghost use Rattle.sp_tasks.specs.Rows.{hand_of, replied_hand, row_of};
+ghost use Rattle.sp_tasks.specs.Rows.{at_row, back_row, hand_of, lent_row, replied_hand, row_of};
 ghost use Rattle.sp_living.specs.Steps.{give_reply};
 
 use crate::Living;
@@ -29,6 +29,7 @@ impl Living {
     /// Lends a task that may go on, with its record, if it is not lent. It takes no memory.
     pub fn lend(&mut self, id: u64) -> Option<LentTask>
         ensures task { result ≡ hand_of id (row_of id self.old.tasks.rows) }
+        ensures rows { self.new.tasks.rows ≡ at_row id lent_row self.old.tasks.rows }
         ensures own { IfSome result (λ hand. has_lent self.new hand ≡ true) }
         ensures same { (g : Setting) (s : State) → IsLiving g s self.old → IsLiving g s self.new }
     {
@@ -38,7 +39,8 @@ impl Living {
     /// Takes a lent task back: it may go on, and can be lent again. It takes no memory.
     pub fn give_back(&mut self, task: LentTask)
         requires { has_lent self.old task ≡ true }
-        ensures { (g : Setting) (s : State) → IsLiving g s self.old → IsLiving g (give_back task.id task.made s) self.new }
+        ensures rows { self.new.tasks.rows ≡ at_row task.id (back_row task.made) self.old.tasks.rows }
+        ensures back { (g : Setting) (s : State) → IsLiving g s self.old → IsLiving g (give_back task.id task.made s) self.new }
     {
         self.tasks.give_back(task);
     }

@@ -1,6 +1,6 @@
 //! What lives in a space, and what is seen of it.
 
-ghost use Rattle.std.specs.Prelude.{◌≡◌, IfOk, map};
+ghost use Rattle.std.specs.Prelude.{◌≡◌, [], IfOk, map};
 ghost use Rattle.sp_call_results.specs.Held.{AreCallResults, of_roots};
 ghost use Rattle.sp_rules.specs.Classes.{Setting};
 ghost use Rattle.sp_rules.specs.State.{State, opening};
@@ -53,6 +53,23 @@ impl Living {
         })
     }
 
+    /// The same, between events: nothing is noted, and no call is under way. What is lent is lent in the copy
+    /// too. It costs a step for each row and each value in it.
+    pub fn copy(&self) -> Result<Living, AllocError>
+        ensures copied { IfOk result (λ copy. (g : Setting) (s : State) → IsLiving g s self.now → s.fresh ≡ [] → s.notes ≡ [] → IsLiving g s copy) }
+    {
+        Ok(Living {
+            alloc: self.alloc,
+            id: self.id,
+            moment: self.moment,
+            tasks: self.tasks.copy()?,
+            results: self.results.copy()?,
+            call_results: self.call_results.copy()?,
+            parked: self.parked.copy()?,
+            transport: self.transport.copy()?,
+        })
+    }
+
     /// The space's side of the transport.
     pub fn transport(&self) -> &Transport
         ensures { (g : Setting) (s : State) → IsLiving g s self.now → IsTransport s result.now }
@@ -62,7 +79,8 @@ impl Living {
 
     /// The living tasks.
     pub fn tasks(&self) -> &Tasks
-        ensures { (g : Setting) (s : State) → IsLiving g s self.now → AreTasks g s.tasks_made s.tasks result.now }
+        ensures is { result.now ≡ self.now.tasks }
+        ensures are { (g : Setting) (s : State) → IsLiving g s self.now → AreTasks g s.tasks_made s.tasks result.now }
     {
         &self.tasks
     }

@@ -46,6 +46,19 @@ impl Owner {
         })
     }
 
+    /// The same. It costs a step for each object, each name and each entry.
+    pub fn copy(&self) -> Result<Owner, AllocError>
+        ensures { IfOk result (λ copy. (g : Setting) (s : State) → IsOwner g s self.now → IsOwner g s copy) }
+    {
+        Ok(Owner {
+            alloc: self.alloc,
+            id: self.id,
+            store: self.store.copy()?,
+            names: self.names.copy()?,
+            entries: self.entries.copy()?,
+        })
+    }
+
     /// The standing object at an index, in the order of ids: its id and its class.
     pub fn object(&self, index: usize) -> Option<(ObjId, ClassId)>
         ensures { (g : Setting) (s : State) → IsOwner g s self.now → result ≡ option_map told (slice_get (standing s.store) index) }

@@ -7,6 +7,7 @@ ghost use Rattle.sp_rules.specs.LivingTasks.{finish_task, give_back, park_call};
 ghost use Rattle.sp_rules.specs.State.{State};
 ghost use Rattle.sp_rules.specs.Tasks.{AsksFor, HasEnded, lent, stand};
 ghost use Rattle.sp_tasks.specs.Behaviours.{outcome_of};
+ghost use Rattle.sp_tasks.specs.Rows.{at_row, back_row, hand_of, lent_row, row_of};
 ghost use Rattle.sp_living.specs.Hands.{task_of};
 
 use crate::SpaceState;
@@ -21,6 +22,8 @@ impl SpaceState {
 
     /// Lends a task that may go on, with its record, if it is not lent. It takes no memory.
     pub fn lend(&mut self, id: u64) -> Option<LentTask>
+        ensures task { result ≡ hand_of id (row_of id self.old.living.tasks.rows) }
+        ensures rows { self.new.living.tasks.rows ≡ at_row id lent_row self.old.living.tasks.rows }
         ensures own { IfSome result (λ hand. has_lent self.new hand ≡ true) }
         ensures same { (g : Setting) (s : State) → IsSpace g s self.old → IsSpace g s self.new }
     {
@@ -30,7 +33,8 @@ impl SpaceState {
     /// Takes a lent task back: it may go on, and can be lent again. It takes no memory.
     pub fn give_back(&mut self, task: LentTask)
         requires { has_lent self.old task ≡ true }
-        ensures { (g : Setting) (s : State) → IsSpace g s self.old → IsSpace g (give_back task.id task.made s) self.new }
+        ensures rows { self.new.living.tasks.rows ≡ at_row task.id (back_row task.made) self.old.living.tasks.rows }
+        ensures back { (g : Setting) (s : State) → IsSpace g s self.old → IsSpace g (give_back task.id task.made s) self.new }
     {
         self.living.give_back(task);
     }

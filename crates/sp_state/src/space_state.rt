@@ -31,7 +31,7 @@ pub struct SpaceState {
 impl SpaceState {
     ghost use Rattle.sp_owner.specs.Owners.{IsOwner};
     ghost use Rattle.sp_living.specs.Livings.{IsLiving};
-    ghost use Rattle.sp_state.specs.Spaces.{IsSpace};
+    ghost use Rattle.sp_state.specs.Spaces.{IsAtRest, IsSpace};
     ghost use Rattle.sp_transport.specs.Settling.{MaySettle};
 
     /// The space of this id, over class files of this digest, as it begins.
@@ -49,6 +49,20 @@ impl SpaceState {
         })
     }
 
+    /// The same, between events. What is lent is lent in the copy too. It costs a step for each row and each
+    /// value in it.
+    pub fn copy(&self) -> Result<SpaceState, AllocError>
+        ensures { IfOk result (λ copy. (g : Setting) (s : State) → IsSpace g s self.now → IsAtRest s → IsSpace g s copy) }
+    {
+        Ok(SpaceState {
+            alloc: self.alloc,
+            id: self.id,
+            digest: self.digest,
+            owner: self.owner.copy()?,
+            living: self.living.copy()?,
+        })
+    }
+
     /// What the space keeps for others.
     pub fn owner(&self) -> &Owner
         ensures { (g : Setting) (s : State) → IsSpace g s self.now → IsOwner g s result.now }
@@ -58,7 +72,8 @@ impl SpaceState {
 
     /// What lives in the space.
     pub fn living(&self) -> &Living
-        ensures { (g : Setting) (s : State) → IsSpace g s self.now → IsLiving g s result.now }
+        ensures is { result.now ≡ self.now.living }
+        ensures stands { (g : Setting) (s : State) → IsSpace g s self.now → IsLiving g s result.now }
     {
         &self.living
     }

@@ -1,0 +1,108 @@
+//! Ends of lent tasks.
+
+ghost use Rattle.std.specs.Prelude.{◌≡◌, ◌∷◌, ℕ, List, true, None, IfErr, IfOk, OnErr, OnOk, map};
+ghost use Rattle.sp_events.specs.FaultNames.{Refuses};
+ghost use Rattle.sp_living.specs.Hands.{StandsAt, task_of};
+ghost use Rattle.sp_outputs.specs.Notes.{output_of};
+ghost use Rattle.sp_rules.specs.Classes.{Setting};
+ghost use Rattle.sp_rules.specs.Events.{Event as Happening};
+ghost use Rattle.sp_rules.specs.Origins.{IsTaken, OwnStand};
+ghost use Rattle.sp_rules.specs.Refusals.{refusal};
+ghost use Rattle.sp_rules.specs.Space.{on as after_event, state_of};
+ghost use Rattle.sp_rules.specs.State.{State};
+ghost use Rattle.sp_rules.specs.Tasks.{HasEnded, stand};
+ghost use Rattle.sp_state.specs.Hands as state;
+ghost use Rattle.sp_state.specs.Spaces.{IsAtRest, IsSpace};
+ghost use Rattle.sp_tasks.specs.Behaviours.{outcome_of, stand_of};
+ghost use Rattle.sp_twin_core.specs.Hands.{HasFuel, finished};
+
+use crate::{LentTask, SpaceCore};
+use sp_call_classes::CallClasses;
+use sp_events::CoreFault;
+use sp_outputs::Output;
+use sp_state::SpaceState;
+use sp_tasks::{LentTask as TaskInHand, Outcome, Stand, copy_outcome};
+use std::alloc::AllocError;
+use std::mem;
+
+impl SpaceCore {
+    ghost use Rattle.sp_twin_core.specs.Cores.{IsCore, Lends, has_lent, lends, lent_as};
+
+    /// Lets a lent task go that has ended, with this fuel left, and answers so. A root's result is held until
+    /// it is acknowledged; a caller is answered, and its result held until then. A refused task is handed
+    /// back, and so is one that finds no memory: then nothing has changed. Of several refusals the lowest
+    /// counts, but 98 first.
+    pub fn finish<C: CallClasses>(
+        &mut self,
+        classes: &C,
+        task: LentTask,
+        stand: &Stand,
+        fuel: u64,
+    ) -> Result<Vec<Output>, (LentTask, CoreFault)>
+        ensures accepted { OnOk result ((g : Setting) (s : State) (lent : List ℕ) → IsCore g s self.old → Lends self.old lent → StandsAt g task.task stand.now → refusal g (lent_as s task.task lent) s (finished task.task) ≡ None) }
+        ensures outputs { IfOk result (λ outputs. (g : Setting) (s : State) → IsCore g s self.old → C.tells classes.now g.classes → StandsAt g task.task stand.now → HasFuel g task.task fuel → map output_of outputs.items ≡ (after_event g (finished task.task) s).1) }
+        ensures state { OnOk result ((g : Setting) (s : State) → IsCore g s self.old → C.tells classes.now g.classes → StandsAt g task.task stand.now → HasFuel g task.task fuel → IsCore g (after_event g (finished task.task) s).0 self.new) }
+        ensures refused { IfErr result (λ back. (g : Setting) (s : State) (lent : List ℕ) → IsCore g s self.old → Lends self.old lent → StandsAt g task.task stand.now → Refuses (refusal g (lent_as s task.task lent) s (finished task.task)) back.1) }
+        ensures task { IfErr result (λ back. back.0.task ≡ task.task) }
+        ensures unchanged { OnErr result ((g : Setting) (s : State) → IsCore g s self.old → IsCore g s self.new) }
+
+        // Own references name standing objects of their class after each history that the space took.
+        ensures standing { OnOk result ((g : Setting) (h : List Happening) (lent : List ℕ) → IsCore g (state_of g h) self.old → Lends self.old lent → StandsAt g task.task stand.now → IsTaken g h → OwnStand g (state_of g (finished task.task ∷ h))) }
+    {
+        let mut task = task;
+        match self.refuse_finish(&task, stand) {
+            Err(fault) => Err((task, fault)),
+            Ok(outcome) => {
+                self.keep_twin(&mut task);
+                match self.end(classes, &mut task, fuel, outcome) {
+                    Ok(outputs) => Ok(outputs),
+                    Err(_) => Err((task, CoreFault::Memory)),
+                }
+            }
+        }
+    }
+
+    // Lets a task go that ended so.
+    fn end<C: CallClasses>(
+        &mut self,
+        classes: &C,
+        task: &mut LentTask,
+        fuel: u64,
+        outcome: &Outcome,
+    ) -> Result<Vec<Output>, AllocError>
+        requires { has_lent self.old task.old ≡ true }
+        ensures outputs { IfOk result (λ outputs. (g : Setting) (s : State) → IsCore g s self.old → C.tells classes.now g.classes → stand (task_of g task.old.task) ≡ HasEnded (outcome_of outcome.now) → HasFuel g task.old.task fuel → map output_of outputs.items ≡ (after_event g (finished task.old.task) s).1) }
+        ensures state { OnOk result ((g : Setting) (s : State) → IsCore g s self.old → C.tells classes.now g.classes → stand (task_of g task.old.task) ≡ HasEnded (outcome_of outcome.now) → HasFuel g task.old.task fuel → IsCore g (after_event g (finished task.old.task) s).0 self.new) }
+        ensures unchanged { OnErr result ((g : Setting) (s : State) → IsCore g s self.old → IsCore g s self.new) }
+        ensures task { task.new.task ≡ task.old.task }
+    {
+        let first = copy_outcome(self.alloc, outcome)?;
+        let second = copy_outcome(self.alloc, outcome)?;
+        let (mut next, twin) = self.take_pair(task)?;
+        let Ok(outputs) = finish_in(&mut next, classes, &twin, fuel, first) else {
+            task.twin = Some(twin);
+            return Err(AllocError);
+        };
+        let mut last = mem::replace(&mut self.state, next);
+        if finish_in(&mut last, classes, &task.task, fuel, second).is_ok() {
+            self.spare = Some(last);
+        }
+        Ok(outputs)
+    }
+}
+
+// Lets a task go that one state lends and that ended so, and ends the event.
+fn finish_in<C: CallClasses>(
+    state: &mut SpaceState,
+    classes: &C,
+    task: &TaskInHand,
+    fuel: u64,
+    outcome: Outcome,
+) -> Result<Vec<Output>, AllocError>
+    requires { state.has_lent state.old task.now ≡ true }
+    ensures outputs { IfOk result (λ outputs. (g : Setting) (s : State) → IsSpace g s state.old → IsAtRest s → C.tells classes.now g.classes → stand (task_of g task.now) ≡ HasEnded (outcome_of outcome) → HasFuel g task.now fuel → map output_of outputs.items ≡ (after_event g (finished task.now) s).1) }
+    ensures state { OnOk result ((g : Setting) (s : State) → IsSpace g s state.old → IsAtRest s → C.tells classes.now g.classes → stand (task_of g task.now) ≡ HasEnded (outcome_of outcome) → HasFuel g task.now fuel → IsSpace g (after_event g (finished task.now) s).0 state.new) }
+{
+    state.finish_task(classes, task, fuel, outcome)?;
+    state.conclude()
+}
