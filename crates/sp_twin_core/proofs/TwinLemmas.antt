@@ -14,9 +14,9 @@ use Rattle.sp_living.specs.Hands.{task_of}
 use Rattle.sp_living.specs.Views.{Seen, recorded_in, seen, turned}
 use Rattle.sp_living.proofs.HandLemmas.{InHand, taken}
 use Rattle.sp_state.specs.Hands as state
-use Rattle.sp_state.specs.Spaces.{IsSpace}
+use Rattle.sp_state.specs.Spaces.{IsAtRest, IsSpace}
 use Rattle.sp_state.specs.declared.space_state.SpaceState.{SpaceState}
-use Rattle.sp_twin_core.specs.Cores.{has_lent, lends}
+use Rattle.sp_twin_core.specs.Cores.{IsCore, has_lent, lends}
 use Rattle.sp_twin_core.specs.Hands.{fits}
 use Rattle.sp_twin_core.specs.declared.lent_task.LentTask.{LentTask}
 use Rattle.sp_twin_core.specs.declared.space_core.SpaceCore.{SpaceCore}
@@ -89,3 +89,23 @@ task-same g twin hand is = λ j. steps (is.made j) (steps (is.steps j) (replayed
 pub if-ok : {A E : Type 0} (r : Result A E) (P Q : A → Type 0) → ((x : A) → P x → Q x) → IfOk r P → IfOk r Q
 if-ok (Ok x) P Q each h = each x h
 if-ok (Err e) P Q each h = h
+
+-- ---- cores
+
+pub core-is : (g : Setting) (s : State) (a b : SpaceCore) → b ≡ a → IsCore g s a → IsCore g s b
+core-is g s a b same is = subst (λ (core : SpaceCore). IsCore g s core) (sym same) is
+
+-- without the second state
+pub without-spare : (g : Setting) (s : State) (core : SpaceCore) → IsCore g s core → IsCore g s (record core { spare = None })
+without-spare g s core is = record { id = is.id; fuel = is.fuel; state = is.state; spare = tt; rest = is.rest }
+
+-- with other states
+pub with-states : (g : Setting) (s t : State) (core : SpaceCore) (now : SpaceState) (spare : Option SpaceState) → IsCore g s core → IsSpace g t now → IfSome spare (IsSpace g t) → IsAtRest t
+    → IsCore g t (record core { state = now; spare = spare })
+with-states g s t core now spare is state other rest = record { id = is.id; fuel = is.fuel; state = state; spare = other; rest = rest }
+
+-- ---- options
+
+pub if-some : {A : Type 0} (o : Option A) (P Q : A → Type 0) → ((x : A) → P x → Q x) → IfSome o P → IfSome o Q
+if-some (Some x) P Q each h = each x h
+if-some None P Q each h = h

@@ -1,6 +1,6 @@
 //! Operations on the store, for which lent tasks ask.
 
-ghost use Rattle.std.specs.Prelude.{◌≡◌, ◌∷◌, ℕ, List, [], true, None, IfOk, IfErr, OnOk, OnErr};
+ghost use Rattle.std.specs.Prelude.{◌≡◌, ◌∷◌, ℕ, List, [], true, None, IfOk, IfErr, IfSome, OnOk, OnErr};
 ghost use Rattle.sp_events.specs.FaultNames.{Refuses};
 ghost use Rattle.sp_rules.specs.Classes.{Setting};
 ghost use Rattle.sp_rules.specs.Events.{Event as Happening};
@@ -108,11 +108,11 @@ impl SpaceCore {
             task.twin = Some(twin);
             return Err(AllocError);
         };
-        let mut last = mem::replace(&mut self.state, next);
-        let mut hand = mem::replace(&mut task.task, twin);
-        if last.commit(classes, &mut hand, op).is_ok() {
-            self.spare = Some(last);
-            task.twin = Some(hand);
+        let last = mem::replace(&mut self.state, next);
+        let hand = mem::replace(&mut task.task, twin);
+        if let Some((spare, twin)) = commit_too(last, classes, hand, op) {
+            self.spare = Some(spare);
+            task.twin = Some(twin);
         }
         Ok(reply)
     }
@@ -140,5 +140,26 @@ impl SpaceCore {
             return Err(AllocError);
         }
         Ok((spare, twin))
+    }
+}
+
+// The state after the operation was done in it too, and the task with the same reply. There is none at out of
+// memory.
+fn commit_too<C: ClassSet>(
+    last: SpaceState,
+    classes: &C,
+    hand: TaskInHand,
+    op: &Op,
+) -> Option<(SpaceState, TaskInHand)>
+    requires { state.has_lent last hand ≡ true }
+    ensures own { IfSome result (λ pair. state.has_lent pair.0 pair.1 ≡ true) }
+    ensures twin { IfSome result (λ pair. (pair.1.id ≡ hand.id) × (pair.1.made ≡ 0)) }
+    ensures done { IfSome result (λ pair. (g : Setting) (s : State) → IsSpace g s last → C.tells classes.now g.classes → fits_store g s (op_of op.now) ≡ true → IsSpace g (after_event g (committed hand op.now) s).0 pair.0) }
+{
+    let mut last = last;
+    let mut hand = hand;
+    match last.commit(classes, &mut hand, op) {
+        Ok(_) => Some((last, hand)),
+        Err(_) => None,
     }
 }

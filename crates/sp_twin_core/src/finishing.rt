@@ -1,6 +1,6 @@
 //! Ends of lent tasks.
 
-ghost use Rattle.std.specs.Prelude.{◌≡◌, ◌∷◌, ℕ, List, true, None, IfErr, IfOk, OnErr, OnOk, map};
+ghost use Rattle.std.specs.Prelude.{◌≡◌, ◌∷◌, ℕ, List, true, None, IfErr, IfOk, IfSome, OnErr, OnOk, map};
 ghost use Rattle.sp_events.specs.FaultNames.{Refuses};
 ghost use Rattle.sp_living.specs.Hands.{StandsAt, task_of};
 ghost use Rattle.sp_outputs.specs.Notes.{output_of};
@@ -83,11 +83,27 @@ impl SpaceCore {
             task.twin = Some(twin);
             return Err(AllocError);
         };
-        let mut last = mem::replace(&mut self.state, next);
-        if finish_in(&mut last, classes, &task.task, fuel, second).is_ok() {
-            self.spare = Some(last);
-        }
+        let last = mem::replace(&mut self.state, next);
+        self.spare = finish_too(last, classes, &task.task, fuel, second);
         Ok(outputs)
+    }
+}
+
+// The state after the task ended in it too. There is none at out of memory.
+fn finish_too<C: CallClasses>(
+    last: SpaceState,
+    classes: &C,
+    task: &TaskInHand,
+    fuel: u64,
+    outcome: Outcome,
+) -> Option<SpaceState>
+    requires { state.has_lent last task.now ≡ true }
+    ensures { IfSome result (λ space. (g : Setting) (s : State) → IsSpace g s last → IsAtRest s → C.tells classes.now g.classes → stand (task_of g task.now) ≡ HasEnded (outcome_of outcome) → HasFuel g task.now fuel → IsSpace g (after_event g (finished task.now) s).0 space) }
+{
+    let mut last = last;
+    match finish_in(&mut last, classes, task, fuel, outcome) {
+        Ok(_) => Some(last),
+        Err(_) => None,
     }
 }
 

@@ -1,6 +1,6 @@
 //! Events that come from outside.
 
-ghost use Rattle.std.specs.Prelude.{◌≡◌, ℕ, List, [], ◌∷◌, None, IfErr, IfOk, OnErr, OnOk, map};
+ghost use Rattle.std.specs.Prelude.{◌≡◌, ℕ, List, [], ◌∷◌, None, IfErr, IfOk, IfSome, OnErr, OnOk, map};
 ghost use Rattle.sp_events.specs.Events.{event_of};
 ghost use Rattle.sp_events.specs.FaultNames.{Refuses};
 ghost use Rattle.sp_outputs.specs.Notes.{output_of};
@@ -10,11 +10,13 @@ ghost use Rattle.sp_rules.specs.Origins.{IsTaken, OwnStand};
 ghost use Rattle.sp_rules.specs.Refusals.{refusal};
 ghost use Rattle.sp_rules.specs.Space.{on as after_event, state_of};
 ghost use Rattle.sp_rules.specs.State.{State};
+ghost use Rattle.sp_state.specs.Spaces.{IsAtRest, IsSpace};
 
 use crate::SpaceCore;
 use sp_call_classes::CallClasses;
 use sp_events::{CoreFault, Event};
 use sp_outputs::Output;
+use sp_state::SpaceState;
 use std::alloc::AllocError;
 use std::mem;
 
@@ -58,11 +60,19 @@ impl SpaceCore {
         let second = event.copy(self.alloc)?;
         let mut next = self.take_spare()?;
         let outputs = next.on(classes, first)?;
-        let mut last = mem::replace(&mut self.state, next);
-        self.spare = match last.on(classes, second) {
-            Ok(_) => Some(last),
-            Err(_) => None,
-        };
+        let last = mem::replace(&mut self.state, next);
+        self.spare = follow(last, classes, second);
         Ok(outputs)
+    }
+}
+
+// The state after the event happened to it too. There is none at out of memory.
+fn follow<C: CallClasses>(last: SpaceState, classes: &C, event: Event) -> Option<SpaceState>
+    ensures { IfSome result (λ space. (g : Setting) (s : State) → IsSpace g s last → IsAtRest s → C.tells classes.now g.classes → IsSpace g (after_event g (event_of event) s).0 space) }
+{
+    let mut last = last;
+    match last.on(classes, event) {
+        Ok(_) => Some(last),
+        Err(_) => None,
     }
 }

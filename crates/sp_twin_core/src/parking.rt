@@ -1,6 +1,6 @@
 //! Calls of lent tasks.
 
-ghost use Rattle.std.specs.Prelude.{◌≡◌, ◌∷◌, ℕ, List, true, None, IfErr, IfOk, OnErr, OnOk, map};
+ghost use Rattle.std.specs.Prelude.{◌≡◌, ◌∷◌, ℕ, List, true, None, IfErr, IfOk, IfSome, OnErr, OnOk, map};
 ghost use Rattle.sp_events.specs.FaultNames.{Refuses};
 ghost use Rattle.sp_living.specs.Hands.{StandsAt, task_of};
 ghost use Rattle.sp_outputs.specs.Notes.{output_of};
@@ -97,12 +97,28 @@ impl SpaceCore {
         let Ok(outputs) = park_in(&mut next, classes, twin, first, fuel) else {
             return Err(task);
         };
-        let mut last = mem::replace(&mut self.state, next);
+        let last = mem::replace(&mut self.state, next);
         let LentTask { task, twin: _ } = task;
-        if park_in(&mut last, classes, task, second, fuel).is_ok() {
-            self.spare = Some(last);
-        }
+        self.spare = park_too(last, classes, task, second, fuel);
         Ok(outputs)
+    }
+}
+
+// The state in which the task waits too. There is none at out of memory.
+fn park_too<C: CallClasses>(
+    last: SpaceState,
+    classes: &C,
+    task: TaskInHand,
+    call: Call,
+    fuel: u64,
+) -> Option<SpaceState>
+    requires { state.has_lent last task ≡ true }
+    ensures { IfSome result (λ space. (g : Setting) (s : State) → IsSpace g s last → IsAtRest s → C.tells classes.now g.classes → stand (task_of g task) ≡ AsksFor (Calls call.target call.method call.arguments) → HasFuel g task fuel → IsSpace g (after_event g (parked task) s).0 space) }
+{
+    let mut last = last;
+    match park_in(&mut last, classes, task, call, fuel) {
+        Ok(_) => Some(last),
+        Err(_) => None,
     }
 }
 

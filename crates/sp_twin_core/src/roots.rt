@@ -1,6 +1,6 @@
 //! Roots: tasks that the space starts by itself.
 
-ghost use Rattle.std.specs.Prelude.{◌≡◌, ℕ, List, [], ◌∷◌, None, true, IfErr, IfOk, OnErr, OnOk, is_some, map, option_and_then, option_map};
+ghost use Rattle.std.specs.Prelude.{◌≡◌, ℕ, List, [], ◌∷◌, None, true, IfErr, IfOk, IfSome, OnErr, OnOk, is_some, map, option_and_then, option_map};
 ghost use Rattle.std.specs.List.{list_all};
 ghost use Rattle.sp_events.specs.Events.{event_of_root};
 ghost use Rattle.sp_events.specs.FaultNames.{RefusesOrLacks, core_fault_number};
@@ -13,11 +13,13 @@ ghost use Rattle.sp_rules.specs.References.{reference_of, references_of};
 ghost use Rattle.sp_rules.specs.Refusals.{checks, first_refusal, is_root_argument, refusal, refusal_number};
 ghost use Rattle.sp_rules.specs.Space.{on as after_event, state_of};
 ghost use Rattle.sp_rules.specs.State.{State};
+ghost use Rattle.sp_state.specs.Spaces.{IsAtRest, IsSpace};
 ghost use Rattle.sp_twin_core.specs.Roots.{IsTold, root_number};
 
 use crate::SpaceCore;
 use sp_events::{CoreFault, Root, StartFault};
 use sp_outputs::Output;
+use sp_state::SpaceState;
 use space_ids::{ForeignId, Ref, Value};
 use std::alloc::AllocError;
 use std::mem;
@@ -119,12 +121,20 @@ impl SpaceCore {
     {
         let mut next = self.take_spare()?;
         let outputs = next.on_root(root)?;
-        let mut last = mem::replace(&mut self.state, next);
-        self.spare = match last.on_root(root) {
-            Ok(_) => Some(last),
-            Err(_) => None,
-        };
+        let last = mem::replace(&mut self.state, next);
+        self.spare = follow_root(last, root);
         Ok(outputs)
+    }
+}
+
+// The state after the root started in it too. There is none at out of memory.
+fn follow_root(last: SpaceState, root: &Root) -> Option<SpaceState>
+    ensures { IfSome result (λ space. (g : Setting) (s : State) → IsSpace g s last → IsAtRest s → IsSpace g (after_event g (event_of_root root.now) s).0 space) }
+{
+    let mut last = last;
+    match last.on_root(root) {
+        Ok(_) => Some(last),
+        Err(_) => None,
     }
 }
 
