@@ -109,3 +109,7 @@ with-states g s t core now spare is state other rest = record { id = is.id; fuel
 pub if-some : {A : Type 0} (o : Option A) (P Q : A → Type 0) → ((x : A) → P x → Q x) → IfSome o P → IfSome o Q
 if-some (Some x) P Q each h = each x h
 if-some None P Q each h = h
+
+-- after the second state was taken out
+pub taken-out : (g : Setting) (s : State) (core new : SpaceCore) → new ≡ record core { spare = None } → IsCore g s core → IsCore g s new
+taken-out g s core new same is = core-is g s (record core { spare = None }) new same (without-spare g s core is)

@@ -88,7 +88,10 @@ impl SpaceCore {
         ensures task { IfErr result (λ back. back.task ≡ task.task) }
     {
         let mut task = task;
-        let (Ok(first), Ok(second)) = (call_of(self.alloc, op), call_of(self.alloc, op)) else {
+        let Ok(first) = call_of(self.alloc, op) else {
+            return Err(task);
+        };
+        let Ok(second) = call_of(self.alloc, op) else {
             return Err(task);
         };
         let Ok((mut next, twin)) = self.take_pair(&mut task) else {
@@ -98,7 +101,7 @@ impl SpaceCore {
             return Err(task);
         };
         let last = mem::replace(&mut self.state, next);
-        let LentTask { task, twin: _ } = task;
+        let LentTask { task, twin: _twin } = task;
         self.spare = park_too(last, classes, task, second, fuel);
         Ok(outputs)
     }
