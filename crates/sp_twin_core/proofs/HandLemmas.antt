@@ -216,3 +216,14 @@ not-called g s core hand at is h stood never = ap first_refusal (park-checked g 
     by told.Runs never = refl
     by (told.AsksFor op) never = absurd (never op refl)
     by (told.HasEnded outcome) never = refl
+
+-- ---- which number counts
+
+pub first-worn : (worn here : Bool) (n : Option ℕ) → worn ≡ true → cond worn (Some 98) (cond here n (Some 91)) ≡ Some 98
+first-worn worn here n w = λ j. cond (w j) (Some 98) (cond here n (Some 91))
+
+pub first-lent : (worn here : Bool) (n : Option ℕ) → worn ≡ false → here ≡ false → cond worn (Some 98) (cond here n (Some 91)) ≡ Some 91
+first-lent worn here n w h = λ j. cond (w j) (Some 98) (cond (h j) n (Some 91))
+
+pub first-other : (worn here : Bool) (n : Option ℕ) → worn ≡ false → here ≡ true → cond worn (Some 98) (cond here n (Some 91)) ≡ n
+first-other worn here n w h = λ j. cond (w j) (Some 98) (cond (h j) n (Some 91))

@@ -1,4 +1,5 @@
 pub mod CheckLemmas
+pub mod EventLemmas
 pub mod HandLemmas
 pub mod LendLemmas
 pub mod OpLemmas

@@ -1,5 +1,5 @@
 -- Tasks in hand, where they stand, and the events in which they come back. (This project's own.)
-use Rattle.std.specs.Prelude.{◌≡◌, ◌==◌, ◌&&◌, ◌+◌, ℕ, ⊥, Bool, true, false, Option, None, Some}
+use Rattle.std.specs.Prelude.{◌≡◌, ◌==◌, ◌&&◌, ◌+◌, ℕ, Bool, true, false, Option, None, Some}
 use Rattle.sp_rules.specs.Behaviours.{Op as Asked, Create, Get, Put, Call}
 use Rattle.sp_rules.specs.Classes.{Setting}
 use Rattle.sp_rules.specs.Events as rules

@@ -109,16 +109,16 @@ fn finish_too<C: CallClasses>(
 
 // Lets a task go that one state lends and that ended so, and ends the event.
 fn finish_in<C: CallClasses>(
-    state: &mut SpaceState,
+    space: &mut SpaceState,
     classes: &C,
     task: &TaskInHand,
     fuel: u64,
     outcome: Outcome,
 ) -> Result<Vec<Output>, AllocError>
-    requires { state.has_lent state.old task.now ≡ true }
-    ensures outputs { IfOk result (λ outputs. (g : Setting) (s : State) → IsSpace g s state.old → IsAtRest s → C.tells classes.now g.classes → stand (task_of g task.now) ≡ HasEnded (outcome_of outcome) → HasFuel g task.now fuel → map output_of outputs.items ≡ (after_event g (finished task.now) s).1) }
-    ensures state { OnOk result ((g : Setting) (s : State) → IsSpace g s state.old → IsAtRest s → C.tells classes.now g.classes → stand (task_of g task.now) ≡ HasEnded (outcome_of outcome) → HasFuel g task.now fuel → IsSpace g (after_event g (finished task.now) s).0 state.new) }
+    requires { state.has_lent space.old task.now ≡ true }
+    ensures outputs { IfOk result (λ outputs. (g : Setting) (s : State) → IsSpace g s space.old → IsAtRest s → C.tells classes.now g.classes → stand (task_of g task.now) ≡ HasEnded (outcome_of outcome) → HasFuel g task.now fuel → map output_of outputs.items ≡ (after_event g (finished task.now) s).1) }
+    ensures state { OnOk result ((g : Setting) (s : State) → IsSpace g s space.old → IsAtRest s → C.tells classes.now g.classes → stand (task_of g task.now) ≡ HasEnded (outcome_of outcome) → HasFuel g task.now fuel → IsSpace g (after_event g (finished task.now) s).0 space.new) }
 {
-    state.finish_task(classes, task, fuel, outcome)?;
-    state.conclude()
+    space.finish_task(classes, task, fuel, outcome)?;
+    space.conclude()
 }

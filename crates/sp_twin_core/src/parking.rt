@@ -127,15 +127,15 @@ fn park_too<C: CallClasses>(
 
 // Lets a task that one state lends, with this fuel left, wait for the reply to its call, and ends the event.
 fn park_in<C: CallClasses>(
-    state: &mut SpaceState,
+    space: &mut SpaceState,
     classes: &C,
     task: TaskInHand,
     call: Call,
     fuel: u64,
 ) -> Result<Vec<Output>, AllocError>
-    requires { state.has_lent state.old task ≡ true }
-    ensures outputs { IfOk result (λ outputs. (g : Setting) (s : State) → IsSpace g s state.old → IsAtRest s → C.tells classes.now g.classes → stand (task_of g task) ≡ AsksFor (Calls call.target call.method call.arguments) → HasFuel g task fuel → map output_of outputs.items ≡ (after_event g (parked task) s).1) }
-    ensures state { OnOk result ((g : Setting) (s : State) → IsSpace g s state.old → IsAtRest s → C.tells classes.now g.classes → stand (task_of g task) ≡ AsksFor (Calls call.target call.method call.arguments) → HasFuel g task fuel → IsSpace g (after_event g (parked task) s).0 state.new) }
+    requires { state.has_lent space.old task ≡ true }
+    ensures outputs { IfOk result (λ outputs. (g : Setting) (s : State) → IsSpace g s space.old → IsAtRest s → C.tells classes.now g.classes → stand (task_of g task) ≡ AsksFor (Calls call.target call.method call.arguments) → HasFuel g task fuel → map output_of outputs.items ≡ (after_event g (parked task) s).1) }
+    ensures state { OnOk result ((g : Setting) (s : State) → IsSpace g s space.old → IsAtRest s → C.tells classes.now g.classes → stand (task_of g task) ≡ AsksFor (Calls call.target call.method call.arguments) → HasFuel g task fuel → IsSpace g (after_event g (parked task) s).0 space.new) }
 {
     let Call {
         target,
@@ -143,13 +143,10 @@ fn park_in<C: CallClasses>(
         arguments,
     } = call;
     let lent = fuel.saturating_sub(1);
-    if state
-        .park_call(classes, task, target, method, arguments, lent)
-        .is_err()
-    {
-        return Err(AllocError);
+    match space.park_call(classes, task, target, method, arguments, lent) {
+        Ok(()) => space.conclude(),
+        Err(_) => Err(AllocError),
     }
-    state.conclude()
 }
 
 // A copy of a call. There is no other operation here.

@@ -1,6 +1,6 @@
 //! Why events that come from outside are refused.
 
-ghost use Rattle.std.specs.Prelude.{◌≡◌, ◌+◌, ◌^◌, nat_le, ℕ, List, None, Some, if◌then◌else◌, is_some, option_and_then, option_map};
+ghost use Rattle.std.specs.Prelude.{◌≡◌, ◌+◌, ◌^◌, nat_le, ℕ, List, false, None, Some, if◌then◌else◌, is_some, option_and_then, option_map};
 ghost use Rattle.std.specs.List.{list_any};
 ghost use Rattle.sp_events.specs.Events.{event_of};
 ghost use Rattle.sp_events.specs.FaultNames.{core_fault_number};
