@@ -1,17 +1,25 @@
 -- Why events that come from outside are refused.
 use Rattle.std.proofs.Common.{◌≡◌, ℕ, ◌+◌, Bool, true, false, cond, List, [], ◌∷◌, ◌++◌, Option, None, Some, refl, sym, ap, ◌∙◌, map}
-use Rattle.std.specs.Prelude.{not, nat_le, ◌^◌, ◌&&◌, ◌||◌, option_and_then, option_map, is_some, filter, Result, Ok, Err, OnErr}
+use Rattle.std.specs.Prelude.{not, nat_le, ◌^◌, ◌&&◌, ◌||◌, option_and_then, option_map, is_some, ◌==◌}
 use Rattle.std.specs.List.{list_any}
+use Rattle.sp_connections.specs.declared.connection.Link.{Link}
+use Rattle.sp_connections.specs.declared.connection.Link.TheVariants as link
+use Rattle.dgc_client.specs.Table as client
 use Rattle.sp_events.specs.Events.{event_of}
 use Rattle.sp_events.specs.FaultNames.{Refuses, RefusesOrLacks, core_fault_number}
 use Rattle.sp_events.specs.declared.event.Event as outside
 use Rattle.sp_events.specs.declared.event.Event.TheVariants as event
 use Rattle.sp_events.specs.declared.fault.CoreFault.{CoreFault}
 use Rattle.sp_events.specs.declared.fault.CoreFault.TheVariants as fault
+use Rattle.space_ids.specs.declared.value.Value.{Value}
+use Rattle.sp_call_results.specs.Held.{is_of_call, of_roots}
+use Rattle.sp_living.specs.Views.{kept}
+use Rattle.sp_results.specs.Waiting.{is_waiting}
+use Rattle.sp_rules.specs.OwnEvents.{is_of_root}
 use Rattle.sp_rules.specs.Classes.{Setting}
 use Rattle.sp_rules.specs.Events.{Event}
 use Rattle.sp_rules.specs.Refusals.{Refusal, WornOut, checks, first_refusal, is_give_back, is_worn, refusal, refusal_number, refuse_if}
-use Rattle.sp_rules.specs.State.{State}
+use Rattle.sp_rules.specs.State.{State, KeptResult, Until, RootAcked, Acked, Passed}
 
 -- ---- worn out first
 
@@ -84,3 +92,48 @@ refused-some (Some refusal) f is = sym is
 pub refused-memory : (r : Option Refusal) (f : CoreFault) → option_map refusal_number r ≡ None → f ≡ fault.Memory → Refuses r f
 refused-memory None f is memory = memory
 refused-memory (Some refusal) f is memory = cc
+
+-- ---- connections
+
+pub is-mapped : {A B : Type 0} (f : A → B) (o : Option A) → is_some (option_map f o) ≡ is_some o
+is-mapped f None = refl
+is-mapped f (Some x) = refl
+
+pub other-open : (conn : ℕ) → Some (link.Open conn) ≡ Some link.Dialling → ⊥
+other-open conn e = cc
+
+pub no-link : (o : Option Link) → o ≡ None → o ≡ Some link.Dialling → ⊥
+no-link o none some = cc
+
+-- ---- results of the space's own roots and lookups
+
+pub held-as : (task : ℕ) (results : List KeptResult) (roots : List (ℕ × Option Value)) → map kept roots ≡ of_roots results → is_waiting roots task ≡ list_any (is_of_root task) results
+held-as task results roots are = rows roots ∙ ap (list_any (is_of_root task)) are ∙ all results
+  where
+    rows : (rs : List (ℕ × Option Value)) → is_waiting rs task ≡ list_any (is_of_root task) (map kept rs)
+    rows [] = refl
+    rows (r ∷ rs) = ap (λ b. (r.0 == task) || b) (rows rs)
+
+    of : (u : Until) (value : Option Value) (rest more : Bool) → more ≡ rest
+        → (is_of_root task (record { until = u; value = value }) || rest) ≡ cond (not (is_of_call (record { until = u; value = value }))) (is_of_root task (record { until = u; value = value }) || more) more
+    of (RootAcked t) value rest more same = ap (λ b. (t == task) || b) (sym same)
+    of (Acked c n) value rest more same = sym same
+    of (Passed m) value rest more same = sym same
+
+    pull : (b : Bool) (r : KeptResult) (xs : List KeptResult) → list_any (is_of_root task) (cond b (r ∷ xs) xs) ≡ cond b (is_of_root task r || list_any (is_of_root task) xs) (list_any (is_of_root task) xs)
+    pull true r xs = refl
+    pull false r xs = refl
+
+    all : (rs : List KeptResult) → list_any (is_of_root task) (of_roots rs) ≡ list_any (is_of_root task) rs
+    all [] = refl
+    all (r ∷ rs) = pull (not (is_of_call r)) r (of_roots rs) ∙ sym (of r.until r.value (list_any (is_of_root task) rs) (list_any (is_of_root task) (of_roots rs)) (all rs))
+
+-- ---- numbers
+
+or-false : (b : Bool) → (b || false) ≡ b
+or-false true = refl
+or-false false = refl
+
+pub worn-is : (s : State) (o t c q : Bool) → o ≡ nat_le (2 ^ 63) (s.objects_made + 1) → t ≡ nat_le (2 ^ 63) (s.tasks_made + 1) → c ≡ nat_le (2 ^ 63) (s.calls_made + 1) → q ≡ nat_le (2 ^ 63) (client.numbers_of s.leases + 1)
+    → (o || (t || (c || q))) ≡ is_worn s
+worn-is s o t c q a b d e = λ j. a j || (b j || (d j || (e ∙ sym (or-false (nat_le (2 ^ 63) (client.numbers_of s.leases + 1)))) j))

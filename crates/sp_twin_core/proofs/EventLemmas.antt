@@ -4,7 +4,9 @@ use Rattle.std.specs.Prelude.{IfSome, OnOk, Ok, Err, Result}
 use Rattle.sp_rules.specs.Behaviours.{Op}
 use Rattle.sp_rules.specs.Classes.{Setting}
 use Rattle.sp_rules.specs.Events.{Event, Committed, Finished, GivenBack, Parked}
-use Rattle.sp_rules.specs.LivingTasks.{finish_task, give_back, park_call}
+use Rattle.sp_rules.specs.LivingTasks.{commit, finish_task, give_back, park_call}
+use Rattle.sp_tasks.specs.Rows.{Hand}
+use Rattle.sp_twin_core.proofs.OpLemmas.{on-commit}
 use Rattle.sp_rules.specs.Space.{answers_outputs, finish_event, happen, on}
 use Rattle.sp_rules.specs.State.{State}
 use Rattle.sp_events.specs.Events.{event_of}
@@ -26,14 +28,27 @@ space-is g s t x same is = subst (λ (u : State). IsSpace g u x) (sym same) is
 -- ---- an event that answers
 
 -- It happened to the second state, which is the first now, and to the first, if memory lasted.
+pub advanced-to : (g : Setting) (s t : State) (core mid : SpaceCore) (last now next : SpaceState) (spare : Option SpaceState) → IsCore g s core → mid ≡ record core { spare = None }
+    → last ≡ mid.state → now ≡ next → IsSpace g t next → IfSome spare (λ space. IsSpace g s last → IsAtRest s → IsSpace g t space) → IsAtRest t
+    → IsCore g t (record mid { state = now; spare = spare })
+advanced-to g s t core mid last now next spare is out old there here told rest =
+    let m = taken-out g s core mid out is in
+    with-states g s t mid now spare m (subst (λ (x : SpaceState). IsSpace g t x) (sym there) here)
+    (if-some spare (λ space. IsSpace g s last → IsAtRest s → IsSpace g t space) (IsSpace g t) (λ space next. next (subst (λ (x : SpaceState). IsSpace g s x) (sym old) m.state) m.rest) told) rest
+
 pub advanced : (g : Setting) (s : State) (e : Event) (core mid : SpaceCore) (last now next : SpaceState) (spare : Option SpaceState) → answers_outputs e ≡ true → IsCore g s core → mid ≡ record core { spare = None }
     → last ≡ mid.state → now ≡ next → IsSpace g (on g e s).0 next → IfSome spare (λ space. IsSpace g s last → IsAtRest s → IsSpace g (on g e s).0 space)
     → IsCore g (on g e s).0 (record mid { state = now; spare = spare })
 advanced g s e core mid last now next spare answers is out old there here told =
-    let m = taken-out g s core mid out is in
-    with-states g s (on g e s).0 mid now spare m (subst (λ (x : SpaceState). IsSpace g (on g e s).0 x) (sym there) here)
-    (if-some spare (λ space. IsSpace g s last → IsAtRest s → IsSpace g (on g e s).0 space) (IsSpace g (on g e s).0) (λ space next. next (subst (λ (x : SpaceState). IsSpace g s x) (sym old) m.state) m.rest) told)
-    (answer-rest g e s answers)
+    advanced-to g s (on g e s).0 core mid last now next spare is out old there here told (answer-rest g e s answers)
+
+-- ---- commits
+
+-- what is done to the second state, whose task in hand is the twin
+pub committed-at : (g : Setting) (s : State) (op : Op) (hand twin : Hand) (x : SpaceState) → twin.id ≡ hand.id → twin.made ≡ hand.made → IsSpace g (commit g twin.id twin.made op s) x → IsSpace g (on g (Committed hand.id hand.made op) s).0 x
+committed-at g s op hand twin x id made is =
+    space-is g (commit g hand.id hand.made op s) (on g (Committed hand.id hand.made op) s).0 x (on-commit g s hand.id hand.made op)
+    (subst (λ (k : ℕ). IsSpace g (commit g hand.id k op s) x) made (subst (λ (n : ℕ). IsSpace g (commit g n twin.made op s) x) id is))
 
 -- ---- ends and calls of lent tasks
 

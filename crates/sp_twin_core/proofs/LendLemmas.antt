@@ -11,6 +11,7 @@ use Rattle.sp_tasks.specs.Same.{is_recorded}
 use Rattle.sp_tasks.proofs.SameLemmas.{record-itself}
 use Rattle.std.proofs.lemmas.Bool.{eq-eqb}
 use Rattle.sp_living.specs.Views.{Seen, seen, seen_row}
+use Rattle.sp_state.specs.declared.space_state.SpaceState.{SpaceState}
 use Rattle.sp_twin_core.specs.Cores.{IsCore, Lends, is_historys, is_lent}
 use Rattle.sp_twin_core.specs.declared.space_core.SpaceCore.{SpaceCore}
 use Rattle.sp_twin_core.proofs.HandLemmas.{at-row}
@@ -165,3 +166,12 @@ pub back-others : (core new : SpaceCore) (hand : Hand) → rows.is_in_hand (row_
 back-others core new hand here same other =
     let (row, found) = row-taken _ hand here in
     lent-at core new hand.id (rows.back_row hand.made) row found same other ∙ back-and (other == hand.id) _ (is_lent core other) refl
+
+-- the same of what may be lent
+pub twin-new : (id : ℕ) (o : Option TaskRow) (r : Option Hand) → r ≡ rows.hand_of id o → IfSome r (λ hand. (hand.id ≡ id) × (hand.made ≡ 0))
+twin-new id o None at = tt
+twin-new id o (Some hand) at = lend-new id o hand at
+
+-- what the first state tells is all that is told of lent tasks
+pub lent-same : (core new : SpaceCore) → new.state ≡ core.state → (other : ℕ) → is_lent new other ≡ is_lent core other
+lent-same core new same other = ap (λ (x : SpaceState). unwrap_or (option_map (λ (row : TaskRow). row.lent) (row_of other x.living.tasks.rows)) false) same

@@ -1,7 +1,10 @@
 -- Why roots are refused.
 use Rattle.std.proofs.Common.{◌≡◌, ℕ, zero, suc, ◌+◌, ◌<◌, Bool, true, false, cond, List, [], ◌∷◌, ◌++◌, Option, None, Some, refl, sym, ap, ◌∙◌, length, get_or, take, arith}
-use Rattle.std.specs.Prelude.{nat_lt, not, ◌&&◌, option_map, Result, Ok, Err, IfOk}
+use Rattle.std.specs.Prelude.{nat_lt, not, ◌&&◌, is_some, option_map}
 use Rattle.std.specs.List.{list_all}
+use Rattle.std.specs.Str.{bytes_eq}
+use Rattle.uuid.specs.declared.Uuid.{Uuid}
+use Rattle.sp_rules.specs.Holders.{has_holder, is_own_standing, lease_now}
 use Rattle.std.proofs.lemmas.List.{append-nil, take_more}
 use Rattle.std.proofs.lemmas.Grind.{flat_map-append}
 use Rattle.space_ids.specs.declared.ids.Ref.{Ref}
@@ -56,3 +59,15 @@ all-fails p [] i d within now = absurd (omega arith)
 all-fails p (x ∷ xs) zero d within now = all-of-both p (reference_of x) (references_of xs) ∙ ap (λ t. t && list_all p (references_of xs)) now
 all-fails p (x ∷ xs) (suc i) d within now =
     all-of-both p (reference_of x) (references_of xs) ∙ ap (λ t. list_all p (reference_of x) && t) (all-fails p xs i d (omega arith) now) ∙ and-false (list_all p (reference_of x))
+
+-- ---- one reference
+
+pub own-argument : (g : Setting) (s : State) (r : Ref) (own : Uuid) (is : Bool) → own ≡ g.id → bytes_eq r.space own ≡ true → is ≡ is_own_standing g s r → is ≡ is_root_argument g s r
+own-argument g s r own is id here standing =
+    standing ∙ sym (ap (λ t. cond t (is_own_standing g s r) (has_holder g s r && is_some (lease_now s (record { space = r.space; id = r.id })).lease)) (ap (bytes_eq r.space) (sym id) ∙ here))
+
+pub foreign-argument : (g : Setting) (s : State) (r : Ref) (own : Uuid) (held leased : Bool) → own ≡ g.id → bytes_eq r.space own ≡ false → held ≡ has_holder g s r
+    → leased ≡ is_some (lease_now s (record { space = r.space; id = r.id })).lease → (held && leased) ≡ is_root_argument g s r
+foreign-argument g s r own held leased id away holds leases =
+    (λ j. holds j && leases j)
+    ∙ sym (ap (λ t. cond t (is_own_standing g s r) (has_holder g s r && is_some (lease_now s (record { space = r.space; id = r.id })).lease)) (ap (bytes_eq r.space) (sym id) ∙ away))

@@ -1,6 +1,7 @@
 -- Two tasks in hand that two equal states lend under one id are the same.
 use Rattle.std.proofs.Common.{◌≡◌, ℕ, ◌+◌, Bool, true, false, cond, List, Option, None, Some, refl, sym, ap, subst, ◌∙◌}
 use Rattle.std.specs.Prelude.{◌==◌, ◌&&◌, unwrap_or, Result, Ok, Err, IfOk, OnOk, IfSome, option_map}
+use Rattle.std.specs.Result.{result_ok}
 use Rattle.std.proofs.lemmas.Bool.{eq-eqb, eqb-true}
 use Rattle.sp_rules.specs.Behaviours.{Reply}
 use Rattle.sp_rules.specs.Classes.{Setting}
@@ -113,3 +114,23 @@ if-some None P Q each h = h
 -- after the second state was taken out
 pub taken-out : (g : Setting) (s : State) (core new : SpaceCore) → new ≡ record core { spare = None } → IsCore g s core → IsCore g s new
 taken-out g s core new same is = core-is g s (record core { spare = None }) new same (without-spare g s core is)
+
+-- a task in hand of both states, after it was taken out
+pub own-alone : (core new : SpaceCore) (old task : LentTask) → new ≡ record core { spare = None } → task.task ≡ old.task → has_lent core old ≡ true → has_lent new task ≡ true
+own-alone core new old task out same own =
+    (λ j. lends (out j) (same j) && fits ((out j).spare) (same j) task.twin)
+    ∙ both (lends core old.task) true (own-main core old own) refl
+
+-- ---- a second state that is made if there is memory
+
+pub ok-some : {A E : Type 0} (r : Result A E) (P : A → Type 0) → IfOk r P → IfSome (result_ok r) P
+ok-some (Ok x) P h = h
+ok-some (Err e) P h = tt
+
+-- ---- as a task is lent
+
+pub fits-lent : (spare : Option SpaceState) (hand : Hand) (twin : Option Hand) (id : ℕ) → hand.id ≡ id → hand.made ≡ 0 → IfSome twin (λ t. IfSome spare (λ x. state.has_lent x t ≡ true))
+    → IfSome twin (λ t. (t.id ≡ id) × (t.made ≡ 0)) → fits spare hand twin ≡ true
+fits-lent None hand twin id i m own same = refl
+fits-lent (Some x) hand None id i m own same = refl
+fits-lent (Some x) hand (Some t) id i m own same = fits-both x hand t (same.0 ∙ sym i) (same.1 ∙ sym m) own

@@ -1,6 +1,6 @@
 //! Operations on the store, for which lent tasks ask.
 
-ghost use Rattle.std.specs.Prelude.{◌≡◌, ◌∷◌, ℕ, List, [], true, None, IfOk, IfErr, IfSome, OnOk, OnErr};
+ghost use Rattle.std.specs.Prelude.{◌≡◌, ◌∷◌, ℕ, List, [], true, None, Some, IfOk, IfErr, IfSome, OnOk, OnErr};
 ghost use Rattle.sp_events.specs.FaultNames.{Refuses};
 ghost use Rattle.sp_rules.specs.Classes.{Setting};
 ghost use Rattle.sp_rules.specs.Events.{Event as Happening};
@@ -13,7 +13,7 @@ ghost use Rattle.sp_state.specs.Hands as state;
 ghost use Rattle.sp_state.specs.Spaces.{IsSpace};
 ghost use Rattle.sp_tasks.specs.Behaviours.{op_of, reply_of};
 ghost use Rattle.sp_tasks.specs.Rows.{Hand, replied_hand};
-ghost use Rattle.sp_twin_core.specs.Hands.{committed};
+ghost use Rattle.sp_twin_core.specs.Hands.{committed, fits};
 
 use crate::lending::is_twin;
 use crate::{LentTask, SpaceCore};
@@ -110,56 +110,68 @@ impl SpaceCore {
         };
         let last = mem::replace(&mut self.state, next);
         let hand = mem::replace(&mut task.task, twin);
-        if let Some((spare, twin)) = commit_too(last, classes, hand, op) {
-            self.spare = Some(spare);
-            task.twin = Some(twin);
-        }
+        let (spare, twin) = commit_too(last, classes, hand, op);
+        self.spare = spare;
+        task.twin = twin;
         Ok(reply)
     }
 
     // Takes the second state out, and the twin that it lends. A second state is made by a copy, if there is
-    // none. If the task has no twin, or memory runs out, there is no second state left.
+    // none. No second state is left.
     pub(crate) fn take_pair(
         &mut self,
         task: &mut LentTask,
     ) -> Result<(SpaceState, TaskInHand), AllocError>
         requires { has_lent self.old task.old ≡ true }
-        ensures own { IfOk result (λ pair. state.has_lent pair.0 pair.1 ≡ true) }
-        ensures twin { IfOk result (λ pair. (pair.1.id ≡ task.old.task.id) × (pair.1.made ≡ task.old.task.made)) }
+        ensures own { IfOk result (λ pair. fits (Some pair.0) task.old.task (Some pair.1) ≡ true) }
         ensures state { IfOk result (λ pair. (g : Setting) (s : State) → IsCore g s self.old → IsSpace g s pair.0) }
         ensures core { self.new ≡ record self.old { spare = None } }
         ensures task { task.new.task ≡ task.old.task }
         ensures taken { OnOk result (task.new.twin ≡ None) }
     {
-        let is_new = self.spare.is_none();
-        let spare = self.take_spare()?;
+        let spare = self.spare.take();
         let Some(twin) = task.twin.take() else {
             return Err(AllocError);
         };
-        if is_new && !is_twin(&spare, &task.task, &twin) {
+        match spare {
+            Some(spare) => Ok((spare, twin)),
+            None => self.copy_pair(&task.task, twin),
+        }
+    }
+
+    // A copy of the first state, and the twin, if it is lent there.
+    fn copy_pair(
+        &self,
+        task: &TaskInHand,
+        twin: TaskInHand,
+    ) -> Result<(SpaceState, TaskInHand), AllocError>
+        ensures own { IfOk result (λ pair. fits (Some pair.0) task.now (Some pair.1) ≡ true) }
+        ensures state { IfOk result (λ pair. (g : Setting) (s : State) → IsCore g s self.now → IsSpace g s pair.0) }
+    {
+        let spare = self.state.copy()?;
+        if !is_twin(&spare, task, &twin) {
             return Err(AllocError);
         }
         Ok((spare, twin))
     }
 }
 
-// The state after the operation was done in it too, and the task with the same reply. There is none at out of
+// The state after the operation was done in it too, and the task with the same reply. There are none at out of
 // memory.
 fn commit_too<C: ClassSet>(
     last: SpaceState,
     classes: &C,
     hand: TaskInHand,
     op: &Op,
-) -> Option<(SpaceState, TaskInHand)>
+) -> (Option<SpaceState>, Option<TaskInHand>)
     requires { state.has_lent last hand ≡ true }
-    ensures own { IfSome result (λ pair. state.has_lent pair.0 pair.1 ≡ true) }
-    ensures twin { IfSome result (λ pair. (pair.1.id ≡ hand.id) × (pair.1.made ≡ 0)) }
-    ensures done { IfSome result (λ pair. (g : Setting) (s : State) → IsSpace g s last → C.tells classes.now g.classes → fits_store g s (op_of op.now) ≡ true → IsSpace g (after_event g (committed hand op.now) s).0 pair.0) }
+    ensures own { (front : Hand) → front.id ≡ hand.id → front.made ≡ 0 → fits result.0 front result.1 ≡ true }
+    ensures done { IfSome result.0 (λ space. (g : Setting) (s : State) → IsSpace g s last → C.tells classes.now g.classes → fits_store g s (op_of op.now) ≡ true → IsSpace g (after_event g (committed hand op.now) s).0 space) }
 {
     let mut last = last;
     let mut hand = hand;
     match last.commit(classes, &mut hand, op) {
-        Ok(_) => Some((last, hand)),
-        Err(_) => None,
+        Ok(_) => (Some(last), Some(hand)),
+        Err(_) => (None, None),
     }
 }

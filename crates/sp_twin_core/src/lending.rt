@@ -35,7 +35,9 @@ impl SpaceCore {
         ensures unchanged { IfNone result ((other : ℕ) → is_lent self.new other ≡ is_lent self.old other) }
     {
         self.renew();
-        let hand = self.state.lend(task)?;
+        let Some(hand) = self.state.lend(task) else {
+            return None;
+        };
         let twin = self.lend_twin(task);
         Some(LentTask { task: hand, twin })
     }

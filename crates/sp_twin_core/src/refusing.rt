@@ -1,6 +1,6 @@
 //! Why events that come from outside are refused.
 
-ghost use Rattle.std.specs.Prelude.{◌≡◌, ◌+◌, ◌^◌, nat_le, ℕ, List, false, None, Some, if◌then◌else◌, is_some, option_and_then, option_map};
+ghost use Rattle.std.specs.Prelude.{◌≡◌, ◌+◌, ◌^◌, ◌||◌, nat_le, ℕ, List, false, None, Some, if◌then◌else◌, is_some, option_and_then, option_map};
 ghost use Rattle.std.specs.List.{list_any};
 ghost use Rattle.sp_events.specs.Events.{event_of};
 ghost use Rattle.sp_events.specs.FaultNames.{core_fault_number};
@@ -64,11 +64,11 @@ impl SpaceCore {
     pub(crate) fn is_worn(&self) -> bool
         ensures { (g : Setting) (s : State) → IsCore g s self.now → result ≡ is_worn s }
     {
-        let living = self.state.living();
-        let transport = living.transport();
-        is_last(self.state.owner().objects_made())
-            || (is_last(living.tasks().made())
-                || (is_last(transport.calls_made()) || is_last(transport.last_sequence())))
+        let objects = is_last(self.state.owner().objects_made());
+        let tasks = is_last(self.state.living().tasks().made());
+        let calls = is_last(self.state.living().transport().calls_made());
+        let sequences = is_last(self.state.living().transport().last_sequence());
+        is_any(objects, tasks, calls, sequences)
     }
 
     // Whether the result of a root or lookup is held.
@@ -127,4 +127,11 @@ fn is_last(number: u64) -> bool
     ensures { result ≡ nat_le (2 ^ 63) (number + 1) }
 {
     number >= END - 1
+}
+
+// Whether one of these holds.
+fn is_any(objects: bool, tasks: bool, calls: bool, sequences: bool) -> bool
+    ensures { result ≡ (objects || (tasks || (calls || sequences))) }
+{
+    objects || (tasks || (calls || sequences))
 }
