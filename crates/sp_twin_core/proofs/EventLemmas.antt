@@ -67,3 +67,11 @@ call-may g s id k rest = happen-settles g (Parked id k) s refl rest
 pub call-is : (g : Setting) (s : State) (id k : ℕ) → on g (Parked id k) s ≡ finish_event true (park_call g id k s)
 unfolding happen
 call-is g s id k = on-so g (Parked id k) s refl
+
+-- ---- the twin's event is the task's
+
+pub finished-same : (g : Setting) (s : State) (twin hand : Hand) → twin.id ≡ hand.id → twin.made ≡ hand.made → on g (Finished twin.id twin.made) s ≡ on g (Finished hand.id hand.made) s
+finished-same g s twin hand id made = λ j. on g (Finished (id j) (made j)) s
+
+pub parked-same : (g : Setting) (s : State) (twin hand : Hand) → twin.id ≡ hand.id → twin.made ≡ hand.made → on g (Parked twin.id twin.made) s ≡ on g (Parked hand.id hand.made) s
+parked-same g s twin hand id made = λ j. on g (Parked (id j) (made j)) s

@@ -32,7 +32,6 @@ impl SpaceCore {
     ) -> Option<CoreFault>
         requires { lends self.now task.now.task ≡ is_own }
         ensures lent { result ≡ None → is_own ≡ true }
-        ensures fits { result ≡ None → (g : Setting) (s : State) → IsCore g s self.now → C.tells classes.now g.classes → fits_store g s (op_of op.now) ≡ true }
         ensures refused { (g : Setting) (s : State) (lent : List ℕ) → IsCore g s self.now → Lends self.now lent → C.tells classes.now g.classes → option_map refusal_number (refusal g (lent_as s task.now.task lent) s (committed task.now.task op.now)) ≡ option_and_then core_fault_number result }
     {
         if self.is_worn() {

@@ -6,7 +6,7 @@ ghost use Rattle.sp_rules.specs.Classes.{Setting};
 ghost use Rattle.sp_rules.specs.Events.{Event as Happening};
 ghost use Rattle.sp_rules.specs.LivingTasks.{op_reply};
 ghost use Rattle.sp_rules.specs.Origins.{IsTaken, OwnStand};
-ghost use Rattle.sp_rules.specs.Refusals.{fits_store, refusal};
+ghost use Rattle.sp_rules.specs.Refusals.{refusal};
 ghost use Rattle.sp_rules.specs.Space.{on as after_event, state_of};
 ghost use Rattle.sp_rules.specs.State.{State};
 ghost use Rattle.sp_state.specs.Hands as state;
@@ -17,7 +17,7 @@ ghost use Rattle.sp_twin_core.specs.Hands.{committed, fits};
 
 use crate::lending::is_twin;
 use crate::{LentTask, SpaceCore};
-use sp_call_classes::ClassSet;
+use sp_call_classes::CallClasses;
 use sp_events::CoreFault;
 use sp_state::SpaceState;
 use sp_tasks::{LentTask as TaskInHand, Op, Reply};
@@ -33,7 +33,7 @@ impl SpaceCore {
     /// gains the reply, and the task holds the reference in it. A refused operation changes nothing, nor
     /// does one that finds no memory; the refusal with the lowest number counts, but 98 before all others.
     /// Calls are refused.
-    pub fn commit<C: ClassSet>(
+    pub fn commit<C: CallClasses>(
         &mut self,
         classes: &C,
         task: &mut LentTask,
@@ -52,16 +52,18 @@ impl SpaceCore {
         ensures standing { OnOk result ((g : Setting) (h : List Happening) (lent : List ℕ) → IsCore g (state_of g h) self.old → Lends self.old lent → C.tells classes.now g.classes → IsTaken g h → OwnStand g (state_of g (committed task.old.task op.now ∷ h))) }
     {
         let is_own = self.lends(task);
-        if let Some(fault) = self.refuse_commit(classes, task, op, is_own) {
-            return Err(fault);
+        match self.refuse_commit(classes, task, op, is_own) {
+            Some(fault) => Err(fault),
+            None => {
+                self.keep_twin(task);
+                Ok(self.perform(classes, task, op)?)
+            }
         }
-        self.keep_twin(task);
-        Ok(self.perform(classes, task, op)?)
     }
 
     /// Does the operation of a task of which the caller knows that this core lends it, as `commit` does, at
     /// a cost that does not depend on the task's record.
-    pub fn commit_lent<C: ClassSet>(
+    pub fn commit_lent<C: CallClasses>(
         &mut self,
         classes: &C,
         task: &mut LentTask,
@@ -81,21 +83,20 @@ impl SpaceCore {
         // Own references name standing objects of their class after each history that the space took.
         ensures standing { OnOk result ((g : Setting) (h : List Happening) (lent : List ℕ) → IsCore g (state_of g h) self.old → Lends self.old lent → C.tells classes.now g.classes → IsTaken g h → OwnStand g (state_of g (committed task.old.task op.now ∷ h))) }
     {
-        if let Some(fault) = self.refuse_commit(classes, task, op, true) {
-            return Err(fault);
+        match self.refuse_commit(classes, task, op, true) {
+            Some(fault) => Err(fault),
+            None => Ok(self.perform(classes, task, op)?),
         }
-        Ok(self.perform(classes, task, op)?)
     }
 
     // Does the operation, which is not refused.
-    fn perform<C: ClassSet>(
+    fn perform<C: CallClasses>(
         &mut self,
         classes: &C,
         task: &mut LentTask,
         op: &Op,
     ) -> Result<Reply, AllocError>
-        requires own { has_lent self.old task.old ≡ true }
-        requires fits { (g : Setting) (s : State) → IsCore g s self.old → C.tells classes.now g.classes → fits_store g s (op_of op.now) ≡ true }
+        requires { has_lent self.old task.old ≡ true }
         ensures reply { IfOk result (λ reply. (g : Setting) (s : State) → IsCore g s self.old → C.tells classes.now g.classes → reply_of reply ≡ op_reply g (op_of op.now) s) }
         ensures state { OnOk result ((g : Setting) (s : State) → IsCore g s self.old → C.tells classes.now g.classes → IsCore g (after_event g (committed task.old.task op.now) s).0 self.new) }
         ensures task { IfOk result (λ reply. (g : Setting) (s : State) → IsCore g s self.old → task.new.task ≡ replied_hand (reply_of reply) task.old.task) }
@@ -103,7 +104,8 @@ impl SpaceCore {
         ensures unchanged { OnErr result ((g : Setting) (s : State) → IsCore g s self.old → IsCore g s self.new) }
         ensures kept { OnErr result (task.new.task ≡ task.old.task) }
     {
-        let (mut next, mut twin) = self.take_pair(task)?;
+        let pair = self.take_pair(task)?;
+        let (mut next, mut twin) = pair;
         let Ok(reply) = next.commit(classes, &mut twin, op) else {
             task.twin = Some(twin);
             return Err(AllocError);
@@ -158,7 +160,7 @@ impl SpaceCore {
 
 // The state after the operation was done in it too, and the task with the same reply. There are none at out of
 // memory.
-fn commit_too<C: ClassSet>(
+fn commit_too<C: CallClasses>(
     last: SpaceState,
     classes: &C,
     hand: TaskInHand,
@@ -166,7 +168,7 @@ fn commit_too<C: ClassSet>(
 ) -> (Option<SpaceState>, Option<TaskInHand>)
     requires { state.has_lent last hand ≡ true }
     ensures own { (front : Hand) → front.id ≡ hand.id → front.made ≡ 0 → fits result.0 front result.1 ≡ true }
-    ensures done { IfSome result.0 (λ space. (g : Setting) (s : State) → IsSpace g s last → C.tells classes.now g.classes → fits_store g s (op_of op.now) ≡ true → IsSpace g (after_event g (committed hand op.now) s).0 space) }
+    ensures done { IfSome result.0 (λ space. (g : Setting) (s : State) → IsSpace g s last → C.tells classes.now g.classes → IsSpace g (after_event g (committed hand op.now) s).0 space) }
 {
     let mut last = last;
     let mut hand = hand;

@@ -78,7 +78,8 @@ impl SpaceCore {
     {
         let first = copy_outcome(self.alloc, outcome)?;
         let second = copy_outcome(self.alloc, outcome)?;
-        let (mut next, twin) = self.take_pair(task)?;
+        let pair = self.take_pair(task)?;
+        let (mut next, twin) = pair;
         let Ok(outputs) = finish_in(&mut next, classes, &twin, fuel, first) else {
             task.twin = Some(twin);
             return Err(AllocError);

@@ -1,0 +1,59 @@
+use Rattle.std.proofs.Common.{Some, true, refl, sym, ap, subst, ◌≡◌, ◌∙◌}
+use Rattle.sp_living.specs.Hands.{task_of}
+use Rattle.sp_rules.specs.Space.{on}
+use Rattle.sp_rules.specs.Tasks.{HasEnded, stand}
+use Rattle.sp_state.specs.Hands as state
+use Rattle.sp_state.specs.Spaces.{IsSpace}
+use Rattle.sp_state.specs.declared.space_state.SpaceState.{SpaceState}
+use Rattle.sp_tasks.specs.Behaviours.{outcome_of}
+use Rattle.sp_tasks.specs.Rows.{Hand}
+use Rattle.sp_twin_core.specs.Hands.{finished}
+use Rattle.sp_twin_core.specs.declared.space_core.SpaceCore.{SpaceCore}
+use Rattle.sp_twin_core.proofs.EventLemmas.{advanced, finished-same, space-is}
+use Rattle.sp_twin_core.proofs.TwinLemmas.{if-some, own-main, same-task, taken-out, task-same, twin-id, twin-made, twin-own}
+use Rattle.sp_twin_core.proofs.space_core.SpaceCore.end.Goals as goal
+
+pub finish_in-requires : goal.finish_in-requires
+finish_in-requires w c = twin-own c.in_ok-pair.pair.0 c.args.task.now.task c.in_ok-pair.pair.1 c.in_ok-pair.ensures.own
+
+pub finish_too-requires : goal.finish_too-requires
+finish_too-requires w c =
+    let last : c.replace-last.result ≡ c.args.self.now.state = c.replace-last.ensures.value ∙ ap (λ (core : SpaceCore). core.state) c.take_pair-pair.ensures.core in
+    (λ j. state.has_lent (last j) (c.take_pair-pair.ensures.task j)) ∙ own-main c.args.self.now c.args.task.now c.requires
+
+pub returns-in_err-pair-clause-unchanged : goal.returns-in_err-pair-clause-unchanged
+returns-in_err-pair-clause-unchanged w c = λ g s is. taken-out g s c.args.self.now c.take_pair-pair.new.self c.take_pair-pair.ensures.core is
+
+pub returns-in_default-clause-unchanged : goal.returns-in_default-clause-unchanged
+returns-in_default-clause-unchanged w c = λ g s is. taken-out g s c.args.self.now c.take_pair-pair.new.self c.take_pair-pair.ensures.core is
+
+pub returns-clause-outputs : goal.returns-clause-outputs
+returns-clause-outputs w c = λ g s is tells stands fuel.
+    let core = c.args.self.now in
+    let hand = c.args.task.now.task in
+    let twin = c.in_ok-pair.pair.1 in
+    let space = c.in_ok-pair.pair.0 in
+    let fit = c.in_ok-pair.ensures.own in
+    let here = c.in_ok-pair.ensures.state g s is in
+    let same = same-task g s core.state space hand twin is.state here (own-main core c.args.task.now c.requires) (twin-own space hand twin fit) (twin-id space hand twin fit) (twin-made space hand twin fit) in
+    let task = task-same g twin hand same in
+    c.in-Ok.ensures.outputs g s here is.rest tells (ap stand task ∙ stands ∙ sym (ap (λ o. HasEnded (outcome_of o)) c.in_ok-first.ensures)) (fuel ∙ sym (ap (λ t. t.fuel) task))
+    ∙ ap (λ r. r.1) (finished-same g s twin hand same.id same.made)
+
+pub returns-clause-state : goal.returns-clause-state
+returns-clause-state w c = λ g s is tells stands fuel.
+    let core = c.args.self.now in
+    let hand = c.args.task.now.task in
+    let twin = c.in_ok-pair.pair.1 in
+    let space = c.in_ok-pair.pair.0 in
+    let fit = c.in_ok-pair.ensures.own in
+    let here = c.in_ok-pair.ensures.state g s is in
+    let same = same-task g s core.state space hand twin is.state here (own-main core c.args.task.now c.requires) (twin-own space hand twin fit) (twin-id space hand twin fit) (twin-made space hand twin fit) in
+    let task = task-same g twin hand same in
+    let kept = c.take_pair-pair.ensures.task in
+    advanced g s (finished hand) core c.take_pair-pair.new.self c.replace-last.result c.replace-last.new.dest c.finish_in.new.next c.finish_too.result refl is c.take_pair-pair.ensures.core
+    c.replace-last.ensures.value c.replace-last.ensures.after
+    (space-is g (on g (finished twin) s).0 (on g (finished hand) s).0 c.finish_in.new.next (sym (ap (λ r. r.0) (finished-same g s twin hand same.id same.made)))
+    (c.in-Ok.ensures.state g s here is.rest tells (ap stand task ∙ stands ∙ sym (ap (λ o. HasEnded (outcome_of o)) c.in_ok-first.ensures)) (fuel ∙ sym (ap (λ t. t.fuel) task))))
+    (if-some c.finish_too.result _ _ (λ x told. λ there rest. subst (λ (h : Hand). IsSpace g (on g (finished h) s).0 x) kept
+    (told g s there rest tells (ap (λ (h : Hand). stand (task_of g h)) kept ∙ stands ∙ sym (ap (λ o. HasEnded (outcome_of o)) c.in_ok-second.ensures)) (fuel ∙ sym (ap (λ (h : Hand). (task_of g h).fuel) kept)))) c.finish_too.ensures)
