@@ -61,11 +61,11 @@ pub record IsSame (twin hand : Hand) : Type 0 where
   pub steps : twin.steps ≡ hand.steps
   pub made : twin.made ≡ hand.made
 
-past-of : {g : Setting} {s : State} {space : SpaceState} (hand : Hand) (h : InHand g s space.living hand) → hand.past ≡ recorded_in h.living
-past-of hand h = sym h.past ∙ ap (λ (x : Seen). x.past) h.same
+past-of : (g : Setting) (s : State) (space : SpaceState) (hand : Hand) (h : InHand g s space.living hand) → hand.past ≡ recorded_in h.living
+past-of g s space hand h = sym h.past ∙ ap (λ (x : Seen). x.past) h.same
 
-steps-of : {g : Setting} {s : State} {space : SpaceState} (hand : Hand) (h : InHand g s space.living hand) → hand.steps ≡ h.living.steps
-steps-of hand h = sym h.steps ∙ ap (λ (x : Seen). x.steps) h.same
+steps-of : (g : Setting) (s : State) (space : SpaceState) (hand : Hand) (h : InHand g s space.living hand) → hand.steps ≡ h.living.steps
+steps-of g s space hand h = sym h.steps ∙ ap (λ (x : Seen). x.steps) h.same
 
 pub same-task : (g : Setting) (s : State) (a b : SpaceState) (hand twin : Hand) → IsSpace g s a → IsSpace g s b → state.has_lent a hand ≡ true → state.has_lent b twin ≡ true
     → twin.id ≡ hand.id → twin.made ≡ hand.made → IsSame twin hand
@@ -74,8 +74,8 @@ same-task g s a b hand twin is-a is-b own-a own-b id made =
     let k = taken g s b.living twin is-b.living own-b in
     let same : k.living ≡ h.living = only k.living h.living (sym k.there ∙ ap (λ (n : ℕ). task_at s n) id ∙ h.there) in record {
       id = id;
-      past = past-of {g = g} {s = s} {space = b} twin k ∙ ap recorded_in same ∙ sym (past-of {g = g} {s = s} {space = a} hand h);
-      steps = steps-of {g = g} {s = s} {space = b} twin k ∙ ap (λ (t : Living). t.steps) same ∙ sym (steps-of {g = g} {s = s} {space = a} hand h);
+      past = past-of g s b twin k ∙ ap recorded_in same ∙ sym (past-of g s a hand h);
+      steps = steps-of g s b twin k ∙ ap (λ (t : Living). t.steps) same ∙ sym (steps-of g s a hand h);
       made = made;
     }
 

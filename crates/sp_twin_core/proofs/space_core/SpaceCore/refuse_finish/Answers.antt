@@ -3,6 +3,7 @@ use Rattle.std.specs.Prelude.{option_map}
 use Rattle.sp_rules.specs.Refusals.{NotHeld, NotLent, WornOut, check_finished, refusal_number, stand_after}
 use Rattle.sp_rules.specs.State.{task_at}
 use Rattle.sp_tasks.specs.Behaviours.{outcome_of, stand_of}
+use Rattle.sp_twin_core.specs.Cores.{lends}
 use Rattle.sp_twin_core.specs.Hands.{finished}
 use Rattle.sp_twin_core.proofs.HandLemmas.{first-lent, first-other, first-worn, hand-number, hand-refusal, has-ended, in-its-hand, not-ended}
 use Rattle.sp_twin_core.proofs.space_core.SpaceCore.refuse_finish.Goals as goal
@@ -10,8 +11,8 @@ use Rattle.sp_twin_core.proofs.space_core.SpaceCore.refuse_finish.Goals as goal
 pub returns-then-is_worn-clause-refused : goal.returns-then-is_worn-clause-refused
 returns-then-is_worn-clause-refused c = λ g s lent is lending at.
     let task = c.args.task.now.task in
-    hand-number g s c.args.self.now task lent (finished task) (check_finished (task_at s task.id) (stand_after task.made (task_at s task.id))) c.is_worn.result _ is lending refl refl (c.is_worn.ensures g s is) refl
-    ∙ first-worn c.is_worn.result _ _ c.if-is_worn.true
+    hand-number g s c.args.self.now task lent (finished task) (check_finished (task_at s task.id) (stand_after task.made (task_at s task.id))) c.is_worn.result (lends c.args.self.now task) is lending refl refl (c.is_worn.ensures g s is) refl
+    ∙ first-worn c.is_worn.result (lends c.args.self.now task) _ c.if-is_worn.true
 
 pub returns-then-not-lends-clause-refused : goal.returns-then-not-lends-clause-refused
 returns-then-not-lends-clause-refused c = λ g s lent is lending at.
