@@ -5,7 +5,7 @@ ghost use Rattle.cls_set.specs.declared.class.Class.{Class};
 ghost use Rattle.cls_resolve.specs.Entries.{AreKnown, IsClassMeaning, IsEntryMeaning, IsMemberEntry};
 
 use super::meanings::{ClassMeaning, MemberEntry};
-use cls_set::ClassId;
+use cls_set::{ClassId, Pool};
 use std::alloc::{AllocError, Global};
 use std::marker::Model;
 
@@ -60,6 +60,17 @@ impl KnownEntries {
             self.entries.push(None)?;
         }
         Ok(())
+    }
+
+    /// Makes room for what the member entry of a pool with an index means, and for what that of its class
+    /// does.
+    pub fn make_member_room(&mut self, pool: &Pool, index: u16) -> Result<(), AllocError>
+        ensures { (classes : List Class) → AreKnown classes self.old → AreKnown classes self.new }
+    {
+        if let Some(entry) = pool.member(index) {
+            self.make_room(entry.class_index)?;
+        }
+        self.make_room(index)
     }
 
     // What an entry of the user's pool means, where it is known.

@@ -3,12 +3,13 @@
 ghost use Rattle.std.specs.Prelude.{◌≡◌, ◌↔◌, ◌<◌, IsSome, IfSome, IfNone, IsTrue, List, ℕ, Some, codes, length};
 ghost use Rattle.cls_set.specs.Sets.{IsClassSet};
 ghost use Rattle.cls_resolve.specs.Access.{IsMemberAccessible};
-ghost use Rattle.cls_resolve.specs.Entries.{IsClassMeaning, IsMember, IsMemberMeaning, MeansNothing};
+ghost use Rattle.cls_resolve.specs.Entries.{AreKnown, IsClassMeaning, IsMember, IsMemberMeaning, MeansNothing};
 ghost use Rattle.cls_search.specs.FieldSearches.{field_at};
 ghost use Rattle.cls_search.specs.MethodSearches as selections;
 
 use super::MemberIndex;
 use super::access::{is_accessible, is_member_accessible};
+use super::known::{EntryMeaning, KnownEntries};
 use super::uses::pool_of;
 use cf_pool::MemberKind;
 use cf_text::begins_with;
@@ -75,7 +76,7 @@ fn is_int_array(text: &[u8]) -> bool
 }
 
 // What an index means to an instruction of the user that names a class or an array type.
-pub(crate) fn class_meaning(set: &ClassSet, user: ClassId, index: u16) -> ClassMeaning
+fn class_meaning(set: &ClassSet, user: ClassId, index: u16) -> ClassMeaning
     requires { user.0 < length set.now }
     ensures { IsClassMeaning set.now user index result }
 {
@@ -95,6 +96,27 @@ pub(crate) fn class_meaning(set: &ClassSet, user: ClassId, index: u16) -> ClassM
         },
         None => ClassMeaning::Absent,
     }
+}
+
+// What an index means to an instruction of the user that names a class or an array type: looked for if it
+// is not known.
+pub(crate) fn known_class(
+    set: &ClassSet,
+    user: ClassId,
+    index: u16,
+    known: &mut KnownEntries,
+) -> ClassMeaning
+    requires user { user.0 < length set.now }
+    requires known { AreKnown set.now known.old }
+    ensures meaning { IsClassMeaning set.now user index result }
+    ensures known { AreKnown set.now known.new }
+{
+    if let Some(meaning) = known.class(user, index) {
+        return meaning;
+    }
+    let meaning = class_meaning(set, user, index);
+    known.note(user, index, EntryMeaning::Class(meaning));
+    meaning
 }
 
 pub(crate) fn field(set: &ClassSet, field: FieldIndex) -> &Field
@@ -169,34 +191,41 @@ fn find_member(
     Some(member_for(set, user, index, flags))
 }
 
-// What an index means to an instruction of the user that names a member.
+// What an index means to an instruction of the user that names a member. Its class is
+// looked for if it is not known.
 pub(crate) fn member_meaning(
     set: &ClassSet,
     user: ClassId,
     index: u16,
+    known: &mut KnownEntries,
     marks: &mut [bool],
 ) -> MemberMeaning
     requires set { IsClassSet set.now }
     requires user { user.0 < length set.now }
-    ensures { IsMemberMeaning set.now user index result }
+    requires known { AreKnown set.now known.old }
+    ensures meaning { IsMemberMeaning set.now user index result }
+    ensures known { AreKnown set.now known.new }
 {
     let Some(entry) = pool_of(set, user).member(index) else {
         return MemberMeaning::NoEntry;
     };
-    let text = entry.class.as_bytes();
-    if begins_with(text, b'[') {
-        return MemberMeaning::OfArray;
+    match known_class(set, user, entry.class_index, known) {
+        ClassMeaning::NoEntry => MemberMeaning::NoEntry,
+        ClassMeaning::Array { .. } => MemberMeaning::OfArray,
+        ClassMeaning::Absent => MemberMeaning::OfAbsent,
+        ClassMeaning::Class {
+            class,
+            is_accessible,
+        } => {
+            let name = entry.name.as_bytes();
+            let descriptor = entry.descriptor.as_bytes();
+            MemberMeaning::Entry(MemberEntry {
+                kind: entry.kind,
+                is_initializer: is_initializer(name),
+                class,
+                is_accessible,
+                member: find_member(set, user, class, entry.kind, name, descriptor, marks),
+            })
+        }
     }
-    let Some(class) = set.number(text) else {
-        return MemberMeaning::OfAbsent;
-    };
-    let name = entry.name.as_bytes();
-    let descriptor = entry.descriptor.as_bytes();
-    MemberMeaning::Entry(MemberEntry {
-        kind: entry.kind,
-        is_initializer: is_initializer(name),
-        class,
-        is_accessible: is_accessible(set, user, class),
-        member: find_member(set, user, class, entry.kind, name, descriptor, marks),
-    })
 }

@@ -195,7 +195,7 @@ fn known_meaning(
     if let Some(entry) = known.member(user, index) {
         return MemberMeaning::Entry(entry);
     }
-    let meaning = member_meaning(set, user, index, marks);
+    let meaning = member_meaning(set, user, index, known, marks);
     if let MemberMeaning::Entry(entry) = meaning {
         known.note(user, index, EntryMeaning::Member(entry));
     }

@@ -8,14 +8,14 @@ ghost use Rattle.cls_set.specs.Rules.{Has};
 ghost use Rattle.cls_search.specs.FieldSearches.{field_at};
 ghost use Rattle.cls_resolve.specs.Access as access;
 ghost use Rattle.cls_resolve.specs.Checks.{broken_of};
-ghost use Rattle.cls_resolve.specs.Entries.{AreKnown, IsClassMeaning};
+ghost use Rattle.cls_resolve.specs.Entries.{AreKnown};
 ghost use Rattle.cls_resolve.specs.LinkRules as spec;
 ghost use Rattle.cls_resolve.specs.LinkRules.{order, IsFirstBroken};
 ghost use Rattle.cls_resolve.specs.Meanings.{field_of, static_value, IsTypeAt};
 
 use super::access::flags_of;
-use super::known::{EntryMeaning, KnownEntries};
-use super::meanings::{ClassMeaning, class_meaning, field};
+use super::known::KnownEntries;
+use super::meanings::{ClassMeaning, field, known_class};
 use super::references::Asked;
 use super::{CastType, LinkRule, MemberIndex};
 use cf_insns::ClassOperation;
@@ -57,22 +57,6 @@ fn takes_array(operation: ClassOperation, is_of_ints: bool) -> bool
     ensures { IsTrue result ↔ ((operation ≢ ClassOperation.New) × IsTrue is_of_ints) }
 {
     operation != ClassOperation::New && is_of_ints
-}
-
-// What an index means to an instruction of the user that names a class or an array type: looked for if it
-// is not known.
-fn known_class(set: &ClassSet, user: ClassId, index: u16, known: &mut KnownEntries) -> ClassMeaning
-    requires user { user.0 < length set.now }
-    requires known { AreKnown set.now known.old }
-    ensures meaning { IsClassMeaning set.now user index result }
-    ensures known { AreKnown set.now known.new }
-{
-    if let Some(meaning) = known.class(user, index) {
-        return meaning;
-    }
-    let meaning = class_meaning(set, user, index);
-    known.note(user, index, EntryMeaning::Class(meaning));
-    meaning
 }
 
 /// Returns the type that an instruction on a class or an array type names in code of the class

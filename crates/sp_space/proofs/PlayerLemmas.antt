@@ -1,23 +1,29 @@
 -- What instructions and replies leave of the fuel of a machine, and where its task stands then.
-use Rattle.std.proofs.Common.{◌≡◌, ℕ, zero, suc, ◌+◌, ◌≤◌, true, false, Option, None, Some, refl, sym, ap, ◌∙◌, arith}
+use Rattle.std.proofs.Common.{◌≡◌, ℕ, zero, suc, ◌+◌, ◌-◌, ◌<◌, ◌≤◌, List, true, false, Option, None, Some, refl, sym, ap, ◌∙◌, arith}
 use Rattle.std.specs.Prelude.{◌==◌}
 use Rattle.std.proofs.lemmas.Bool.{eqb-true, ne_eqb, true≢false}
 use Rattle.cls_link.specs.Links.{Links}
 use Rattle.sp_rules.specs.Classes.{Setting}
-use Rattle.sp_rules.specs.Tasks.{Task, Runs, HasEnded}
+use Rattle.sp_rules.specs.Tasks.{Task, Runs, HasEnded, stand}
 use Rattle.sp_rules.specs.Worlds.{is_over}
 use Rattle.vm_act.specs.Next.{Next, On, Ends, Asks, Stuck}
+use Rattle.vm_act.specs.Remote.{answered}
 use Rattle.vm_act.specs.declared.asked.Asked.{Asked}
+use Rattle.vm_act.specs.declared.asked.Asked.TheVariants as asked
+use Rattle.vm_act.specs.declared.asked.Reply.{Reply}
+use Rattle.vm_act.specs.declared.asked.Reply.TheVariants as reply
+use Rattle.vm_heap.specs.Heap.{Cell}
 use Rattle.vm_act.specs.declared.machine.Machine.{Machine}
 use Rattle.vm_rows.specs.Steps as insns
 use Rattle.vm_run.specs.Ends.{End, end_of}
-use Rattle.vm_run.specs.Run.{State, Running, Waits, Over, Lost, after, over, run, step, IsDue, IsNeverStuck}
+use Rattle.vm_run.specs.Run.{State, Running, Waits, Over, Lost, after, answer, over, run, step, IsDue, IsNeverStuck}
 use Rattle.vm_run.specs.Task.{fuel_left, outcome_at, pause_at}
 use Rattle.vm_run.specs.declared.outcome.Pause.TheVariants.{Turn, Ask, Ended}
-use Rattle.vm_run.proofs.Runs.{IsNeverStuck-step, at_once}
-use Rattle.sp_behaviours.specs.Behaviours.{behaviour_of, by_next, told_some}
+use Rattle.vm_run.proofs.Runs.{IsNeverStuck-step, IsQuiet, answered_quiet, at_once}
+use Rattle.sp_behaviours.specs.Behaviours.{told_some}
 use Rattle.sp_behaviours.specs.Follows.{Follows, stand_before, stand_of}
-use Rattle.sp_space.specs.Players.{left_in}
+use Rattle.sp_behaviours.proofs.Following.{stands}
+use Rattle.sp_space.specs.Players.{left_at, left_given, left_in}
 
 -- ---- fuel
 
@@ -70,25 +76,77 @@ left-less links s on silent = by (run links 1 s) (left-stepped links s) silent
     by (Over end fuel) left silent = some (left_in s) on
     by Lost left silent = some (left_in s) on
 
+-- ---- a reply
+
+-- it comes to a machine that has fuel
+pub due-some : (links : Links) (given : Reply) (s : State) → IsDue links.classes given s → 0 < left_in s
+due-some links given (Running m fuel) due = absurd due
+due-some links given (Waits op m fuel) due = omega arith
+due-some links given (Over end fuel) due = absurd due
+due-some links given Lost due = absurd due
+
+left-on : (cells : List Cell) (n : Next) (fuel left : ℕ) → IsQuiet n → left ≡ fuel → left_at (pause_at (after cells n fuel)) left ≡ left_in (after cells n fuel)
+left-on cells (On m) fuel left quiet same = same
+left-on cells (Ends ending) fuel left quiet same = ended (end_of cells ending)
+  where
+    ended : (o : Option End) → left_at (pause_at (over o fuel)) left ≡ left_in (over o fuel)
+    ended None = refl
+    ended (Some end) = refl
+left-on cells (Asks op m) fuel left quiet same = absurd quiet
+left-on cells Stuck fuel left quiet same = refl
+
+-- and leaves so much
+pub left-answered : (links : Links) (given : Reply) (s : State) → IsDue links.classes given s → left_at (pause_at (answer given s)) (left_given given (left_in s)) ≡ left_in (answer given s)
+unfolding answer
+left-answered links given (Running m fuel) due = absurd due
+left-answered links given (Over end fuel) due = absurd due
+left-answered links given Lost due = absurd due
+left-answered links (reply.Made reference) (Waits (asked.Create class) m fuel) due =
+    left-on m.heap.cells (answered (asked.Create class) (reply.Made reference) m) fuel (suc fuel - 1) (answered_quiet (asked.Create class) (reply.Made reference) m) (omega arith)
+left-answered links (reply.Made reference) (Waits (asked.Get object slot) m fuel) due = absurd due.0
+left-answered links (reply.Made reference) (Waits (asked.Put object slot value) m fuel) due = absurd due.0
+left-answered links (reply.Made reference) (Waits (asked.Call target method count) m fuel) due = absurd due.0
+left-answered links (reply.Holds held) (Waits (asked.Create class) m fuel) due = absurd due.0
+left-answered links (reply.Holds held) (Waits (asked.Get object slot) m fuel) due =
+    left-on m.heap.cells (answered (asked.Get object slot) (reply.Holds held) m) fuel (suc fuel - 1) (answered_quiet (asked.Get object slot) (reply.Holds held) m) (omega arith)
+left-answered links (reply.Holds held) (Waits (asked.Put object slot value) m fuel) due = absurd due.0
+left-answered links (reply.Holds held) (Waits (asked.Call target method count) m fuel) due = absurd due.0
+left-answered links reply.Written (Waits (asked.Create class) m fuel) due = absurd due.0
+left-answered links reply.Written (Waits (asked.Get object slot) m fuel) due = absurd due.0
+left-answered links reply.Written (Waits (asked.Put object slot value) m fuel) due =
+    left-on m.heap.cells (answered (asked.Put object slot value) reply.Written m) fuel (suc fuel - 1) (answered_quiet (asked.Put object slot value) reply.Written m) (omega arith)
+left-answered links reply.Written (Waits (asked.Call target method count) m fuel) due = absurd due.0
+left-answered links (reply.Returned result back) (Waits (asked.Create class) m fuel) due = absurd due.0
+left-answered links (reply.Returned result back) (Waits (asked.Get object slot) m fuel) due = absurd due.0
+left-answered links (reply.Returned result back) (Waits (asked.Put object slot value) m fuel) due = absurd due.0
+left-answered links (reply.Returned result back) (Waits (asked.Call target method count) m fuel) due =
+    left-on m.heap.cells (answered (asked.Call target method count) (reply.Returned result back) m) back back (answered_quiet (asked.Call target method count) (reply.Returned result back) m) refl
+left-answered links reply.RunsOut (Waits op m fuel) due = refl
+left-answered links (reply.Throws class) (Waits op m fuel) due = refl
+
 -- ---- where a task stands
 
--- a machine is over exactly if its task is
-pub over-is : (links : Links) (g : Setting) (t : Task) (s : State) → Follows links g t s → is_over t.behaviour ≡ (left_in s == 0)
-unfolding behaviour_of step
-over-is links g t (Running m zero) f = ap is_over f.behaviour
-over-is links g t (Running m (suc fuel)) f = ap is_over f.behaviour ∙ by (insns.step links m) (at_once links (step links (Running m (suc fuel))) (IsNeverStuck-step links (Running m (suc fuel)) f.never_stuck)) ∙ sym (more fuel)
-  where
-    more : (n : ℕ) → (suc n == 0) ≡ false
-    more n = ne_eqb (suc n) 0 (λ e. absurd (omega (arith, e)))
+more : (n : ℕ) → (suc n == 0) ≡ false
+more n = ne_eqb (suc n) 0 (λ e. absurd (omega (arith, e)))
 
-    by : (n : Next) → Rattle.vm_run.specs.Run.IsNotLost links (after m.heap.cells n fuel) → is_over (by_next links.classes m.heap.cells (behaviour_of links fuel) n) ≡ false
+-- a machine that is never stuck is over exactly if it stands at its end
+over-at : (links : Links) (s : State) → IsNeverStuck links s → is_over (stand_of links s) ≡ (left_in s == 0)
+unfolding step
+over-at links (Running m zero) safe = refl
+over-at links (Running m (suc fuel)) safe = by (insns.step links m) (at_once links (step links (Running m (suc fuel))) (IsNeverStuck-step links (Running m (suc fuel)) safe)) ∙ sym (more fuel)
+  where
+    by : (n : Next) → Rattle.vm_run.specs.Run.IsNotLost links (after m.heap.cells n fuel) → is_over (stand_before links n) ≡ false
     by (On m') there = refl
     by (Ends ending) there = refl
     by (Asks op m') there = refl
     by Stuck there = absurd there
-over-is links g t (Waits op m fuel) f = ap is_over f.behaviour ∙ sym (ne_eqb (suc fuel) 0 (λ e. absurd (omega (arith, e))))
-over-is links g t (Over end fuel) f = ap is_over f.behaviour
-over-is links g t Lost f = absurd (at_once links Lost f.never_stuck)
+over-at links (Waits op m fuel) safe = sym (more fuel)
+over-at links (Over end fuel) safe = refl
+over-at links Lost safe = refl
+
+-- so does its task
+pub over-is : (links : Links) (g : Setting) (t : Task) (s : State) → Follows links g t s → is_over (stand t) ≡ (left_in s == 0)
+over-is links g t s f = ap is_over (stands links g t s f) ∙ over-at links s f.never_stuck
 
 -- one that is over has ended
 pub over-stands : (links : Links) (s : State) → (left_in s == 0) ≡ true → stand_of links s ≡ HasEnded (told_some (outcome_at links.classes s))
@@ -104,7 +162,7 @@ unfolding run step
 runs-on links (Running m zero) safe on silent = absurd (true≢false on)
 runs-on links (Running m (suc fuel)) safe on silent = by (insns.step links m) (at_once links (step links (Running m (suc fuel))) (IsNeverStuck-step links (Running m (suc fuel)) safe)) silent
   where
-    by : (n : Next) → Rattle.vm_run.specs.Run.IsNotLost links (after m.heap.cells n fuel) → ((op : Asked) → pause_at (after m.heap.cells n fuel) ≡ Ask op → ⊥) → stand_before n ≡ Runs
+    by : (n : Next) → Rattle.vm_run.specs.Run.IsNotLost links (after m.heap.cells n fuel) → ((op : Asked) → pause_at (after m.heap.cells n fuel) ≡ Ask op → ⊥) → stand_before links n ≡ Runs
     by (On m') there silent = refl
     by (Ends ending) there silent = refl
     by (Asks op m') there silent = absurd (silent op refl)

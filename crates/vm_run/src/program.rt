@@ -97,16 +97,16 @@ impl Program {
         self.thrown().out_of_memory_error
     }
 
-    /// Why no task of the space `own` starts at a method with these arguments: `AbsentMethod`,
-    /// `BadSignature` or `BadArgument`, the first that fits. `None` if a task starts.
+    /// Why no task starts at a method with these arguments: `AbsentMethod`, `BadSignature` or
+    /// `BadArgument`, the first that fits. `None` if a task starts.
     #[tactic(auto, using(crate::proofs::Refused::refused, crate::proofs::Refused::starts))]
-    pub fn refusal(&self, own: &Uuid, method: MethodId, arguments: &[Value]) -> Option<StartFault>
-        ensures fault { result ≡ start_fault self.now own.now method arguments.now }
-        // So does starting a task.
-        ensures refused { IfSome result (λ fault. (limits : Limits) → started self.now own.now method arguments.now limits ≡ Err fault) }
-        ensures starts { IfNone result ((limits : Limits) → IsOk (started self.now own.now method arguments.now limits)) }
+    pub fn refusal(&self, method: MethodId, arguments: &[Value]) -> Option<StartFault>
+        ensures fault { result ≡ start_fault self.now method arguments.now }
+        // So does starting a task, in each space.
+        ensures refused { IfSome result (λ fault. (own : Uuid) (limits : Limits) → started self.now own method arguments.now limits ≡ Err fault) }
+        ensures starts { IfNone result ((own : Uuid) (limits : Limits) → IsOk (started self.now own method arguments.now limits)) }
     {
-        refuses_start(self.linked(), own, method, arguments)
+        refuses_start(self.linked(), method, arguments)
     }
 
     // What running asks of its fields and of the methods that its classes select.
