@@ -59,6 +59,29 @@ impl Record {
         })
     }
 
+    pub fn method(&self) -> u32 {
+        self.method
+    }
+
+    pub fn arguments(&self) -> &[Value] {
+        self.arguments.as_slice()
+    }
+
+    pub fn fuel(&self) -> u64 {
+        self.fuel
+    }
+
+    pub fn replies(&self) -> usize {
+        self.given.len()
+    }
+
+    pub fn reply(&self, index: usize) -> Option<&Reply> {
+        match self.given.get(index) {
+            Some(given) => Some(&given.reply),
+            None => None,
+        }
+    }
+
     // The same record, with room for one more reply.
     pub(crate) fn copy(&self, alloc: Global) -> Result<Record, AllocError>
         ensures past { IfOk result (λ copy. copy.past ≡ self.now.past) }

@@ -97,6 +97,35 @@ impl Task {
         })
     }
 
+    pub fn begin(
+        alloc: Global,
+        program: &Program,
+        own: Uuid,
+        method: MethodId,
+        arguments: Vec<Value>,
+        limits: Limits,
+    ) -> Result<Task, AllocError> {
+        let linked = program.linked();
+        let Some(found) = find(linked, method) else {
+            return Err(AllocError);
+        };
+        let phase = opening(alloc, own, method, found.code, &arguments, limits)?;
+        Ok(Task {
+            program: Snapshot::of(program),
+            own,
+            thrown: program.thrown(),
+            phase,
+        })
+    }
+
+    pub fn fuel(&self) -> u64 {
+        match &self.phase {
+            Phase::Running(_, fuel) => *fuel,
+            Phase::Waiting(_, _, fuel) => *fuel + 1,
+            Phase::Over(_, fuel) => *fuel,
+        }
+    }
+
     /// Makes at most `k` instructions, fewer if the task ends, or asks its space for something. A task
     /// that waits for a reply makes none. It takes no memory.
     pub fn run(&mut self, program: &Program, k: u64) -> Pause

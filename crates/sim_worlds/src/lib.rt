@@ -1,0 +1,24 @@
+//! Plays scripts over worlds of any number of spaces, and gives the lines that they show.
+//!
+//! A script begins with a line for each space, which names it; the id of the first is 1, that of the next
+//! 2, and so on. A root or a look-up names a variable, which stands for its task and, once that has
+//! returned, for its result. Each `show` gives a line an object, and at the end each variable gives one. A
+//! line that cannot be played is bad, and ends the script; any other event that does not fit changes
+//! nothing.
+#![tactic(auto)]
+
+use fault::PlayFault;
+pub use fault::ScriptFault;
+pub use played::{Origin, Played, Shown, Start};
+pub use script::play_script;
+
+mod commands;
+mod connections;
+mod fault;
+mod names;
+mod played;
+mod player;
+mod script;
+mod settling;
+mod texts;
+mod variables;

@@ -1,0 +1,63 @@
+//! The names of the spaces of a script.
+
+use crate::PlayFault;
+use indexmap::IndexMap;
+use space_ids::Uuid;
+use std::alloc::Global;
+
+// The names, in the order of the lines that say them: the number of a space is the index of its name.
+#[derive(Debug, Drop)]
+pub(crate) struct Names {
+    alloc: Global,
+    rows: IndexMap<String, Uuid>,
+}
+
+impl Names {
+    pub fn new(alloc: Global) -> Names {
+        Names {
+            alloc,
+            rows: IndexMap::new(alloc),
+        }
+    }
+
+    // Adds a space, and returns its id. `PlayFault::Bad` if there is a space of that name.
+    pub fn add(&mut self, name: &str) -> Result<Uuid, PlayFault> {
+        if self.rows.get(name).is_some() {
+            return Err(PlayFault::Bad);
+        }
+        let id = Uuid::from_u64_pair(0, self.rows.len() as u64 + 1);
+        self.rows.insert(String::from_str(self.alloc, name)?, id)?;
+        Ok(id)
+    }
+
+    // The number of the space of this name. `PlayFault::Bad` if no line before says it.
+    pub fn number(&self, name: &str) -> Result<usize, PlayFault> {
+        match self.rows.get_index_of(name) {
+            Some(number) => Ok(number),
+            None => Err(PlayFault::Bad),
+        }
+    }
+
+    // The id of a space.
+    pub fn id(&self, number: usize) -> Result<Uuid, PlayFault> {
+        match self.rows.get_index(number) {
+            Some((_, id)) => Ok(*id),
+            None => Err(PlayFault::Bad),
+        }
+    }
+
+    // The name of the space of an id: empty if it is none of the script's.
+    pub fn of(&self, id: &Uuid) -> &str {
+        for (name, own) in self.rows.iter() {
+            if own == id {
+                return name.as_str();
+            }
+        }
+        ""
+    }
+
+    // How many spaces there are.
+    pub fn len(&self) -> usize {
+        self.rows.len()
+    }
+}

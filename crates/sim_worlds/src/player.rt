@@ -1,0 +1,203 @@
+//! A script as it is played: what has happened, and what was shown.
+
+use crate::connections::Connections;
+use crate::names::Names;
+use crate::texts::{put_object, put_outcome};
+use crate::variables::{TaskKey, Variable, Variables, started};
+use crate::{PlayFault, Played};
+use sp_arguments::argument_of;
+use sp_world::{CoreFault, Dial, Output, World, WorldEvent};
+use space_ids::{Row, Value};
+use std::alloc::Global;
+use table_copies::copy_value;
+
+/// A script as it is played over a world: the names of its spaces, the connections that were opened, the
+/// variables, and the lines that were shown.
+#[derive(Drop)]
+pub(crate) struct Player<S> {
+    pub(crate) alloc: Global,
+    pub(crate) world: World<S>,
+    pub(crate) names: Names,
+    pub(crate) connections: Connections,
+    pub(crate) variables: Variables,
+    // How many rows of outputs of each space were looked at.
+    told: Vec<usize>,
+    text: Vec<u8>,
+}
+
+impl<S: Played + Drop> Player<S> {
+    /// Returns a script of which only the spaces are made, whose names these are.
+    pub fn new(alloc: Global, names: Names, spaces: Vec<S>) -> Result<Player<S>, PlayFault> {
+        let mut told = Vec::new(alloc);
+        for _ in 0..spaces.len() {
+            told.push(0)?;
+        }
+        Ok(Player {
+            alloc,
+            world: World::new(alloc, spaces)?,
+            names,
+            connections: Connections::new(alloc),
+            variables: Variables::new(alloc),
+            told,
+            text: Vec::new(alloc),
+        })
+    }
+
+    /// Returns the lines that were shown, and after them one for each variable, with how its task ended or
+    /// that it waits.
+    pub fn finish(self) -> Result<Vec<u8>, PlayFault> {
+        let Player {
+            alloc: _,
+            world,
+            names,
+            connections: _,
+            variables,
+            told: _,
+            text,
+        } = self;
+        let mut text = text;
+        for variable in variables.rows() {
+            if let Some(space) = world.space(variable.key.space) {
+                put_outcome(&mut text, space, &names, &variable.name, &variable.outcome)?;
+            }
+        }
+        Ok(text)
+    }
+
+    // Lets an event happen, and notes which tasks it ended. Returns why it was refused, if it was.
+    pub(crate) fn happen(&mut self, event: &WorldEvent) -> Result<Option<CoreFault>, PlayFault> {
+        self.world.event(event)?;
+        self.world.settle()?;
+        for space in 0..self.told.len() {
+            self.note(space)?;
+        }
+        Ok(self.world.refused())
+    }
+
+    // Lets a root or a look-up of a space begin, and gives its task a variable. Returns why it was refused,
+    // if it was. `PlayFault::Bad` for a variable that a line before has named, and if no task began.
+    pub(crate) fn begin(
+        &mut self,
+        variable: &str,
+        space: usize,
+        event: &WorldEvent,
+    ) -> Result<Option<CoreFault>, PlayFault> {
+        if self.variables.find(variable).is_some() {
+            return Err(PlayFault::Bad);
+        }
+        self.world.event(event)?;
+        self.world.settle()?;
+        if let Some(fault) = self.world.refused() {
+            return Ok(Some(fault));
+        }
+        let Some(task) = started(self.last_outputs(space)) else {
+            return Err(PlayFault::Bad);
+        };
+        self.variables.add(variable, TaskKey { space, task })?;
+        self.note(space)?;
+        Ok(None)
+    }
+
+    // What the last event that came to a space answered.
+    fn last_outputs(&self, space: usize) -> &[Output] {
+        match self.world.outputs(space) {
+            Some([.., last]) => last.as_slice(),
+            _ => &[],
+        }
+    }
+
+    // Notes what a space has answered since it was last looked at.
+    fn note(&mut self, space: usize) -> Result<(), PlayFault> {
+        let Some(rows) = self.world.outputs(space) else {
+            return Ok(());
+        };
+        let Some(told) = self.told.get_mut(space) else {
+            return Ok(());
+        };
+        for row in rows.iter().skip(*told) {
+            self.variables.note(space, row)?;
+        }
+        *told = rows.len();
+        Ok(())
+    }
+
+    // Shows each standing object of a space, in the order of ids.
+    pub(crate) fn show(&mut self, number: usize, name: &str) -> Result<(), PlayFault> {
+        let Some(space) = self.world.space(number) else {
+            return Err(PlayFault::Bad);
+        };
+        for index in 0..usize::MAX {
+            let Some(shown) = space.object(index) else {
+                return Ok(());
+            };
+            put_object(&mut self.text, space, name, &shown)?;
+        }
+        Ok(())
+    }
+
+    // The lowest task of a space that may go on.
+    pub(crate) fn ready(&self, number: usize) -> Option<u64> {
+        self.world.space(number)?.ready()
+    }
+
+    // Opens a connection for a dial that waits, and lets the peer accept it.
+    pub(crate) fn open(&mut self, dial: Dial) -> Result<(), PlayFault> {
+        if !self.is_asked(dial)? {
+            return Ok(());
+        }
+        let conn = self.connections.len() as u64;
+        let Dial { dialler, dialled } = dial;
+        let _ = self.happen(&WorldEvent::Open { dialler, dialled })?;
+        self.connections.add(dial)?;
+        let _ = self.happen(&WorldEvent::Accept(conn))?;
+        Ok(())
+    }
+
+    // Whether a dial waits.
+    fn is_asked(&mut self, dial: Dial) -> Result<bool, PlayFault> {
+        self.world.settle()?;
+        Ok(
+            self.world.asked().iter().any(|asked| asked.dialler == dial.dialler
+                && asked.dialled == dial.dialled),
+        )
+    }
+
+    // The variable of this name, which a line before has named.
+    pub(crate) fn variable(&self, name: &str) -> Result<&Variable, PlayFault> {
+        match self.variables.find(name) {
+            Some(variable) => Ok(variable),
+            None => Err(PlayFault::Bad),
+        }
+    }
+
+    // A copy of the reference that the task of this variable returned.
+    pub(crate) fn reference(&self, name: &str) -> Result<Value, PlayFault> {
+        match self.variable(name)?.value() {
+            Some(Value::Ref(reference)) => Ok(Value::Ref(*reference)),
+            _ => Err(PlayFault::Bad),
+        }
+    }
+
+    // The values of the words of a root: each spells one, or is a variable whose task returned one.
+    pub(crate) fn values(&self, words: &[&str]) -> Result<Vec<Value>, PlayFault> {
+        let mut values = Vec::new(self.alloc);
+        for word in words {
+            values.push(self.value(word)?)?;
+        }
+        Ok(values)
+    }
+
+    fn value(&self, word: &str) -> Result<Value, PlayFault> {
+        if let Some(value) = argument_of(self.alloc, word)? {
+            return Ok(value);
+        }
+        match self.variable(word)?.value() {
+            Some(value) => Ok(copy_value(self.alloc, value)?),
+            None => Err(PlayFault::Bad),
+        }
+    }
+
+    pub(crate) fn row(&self, name: &str) -> Result<Row<u8>, PlayFault> {
+        Ok(Row::new(name.as_bytes().to_vec(self.alloc)?))
+    }
+}

@@ -1,0 +1,73 @@
+//! What a line `settle` lets happen: all that can.
+
+use crate::player::Player;
+use crate::{PlayFault, Played};
+use sp_world::{Dial, End, WorldEvent};
+
+// How many events a line `settle` makes at most.
+const MOST_EVENTS: usize = 100_000;
+
+impl<S: Played + Drop> Player<S> {
+    // Lets happen what can, at most 100,000 events. Each is the first possible of these: a dial that waits
+    // is opened and accepted, as they were asked; a frame comes to an end of a connection, by connections,
+    // and to the space that was dialled first; the lowest space that can lets its lowest task make an
+    // instruction.
+    pub(crate) fn settle(&mut self) -> Result<(), PlayFault> {
+        for _ in 0..MOST_EVENTS {
+            if !self.settle_one()? {
+                return Ok(());
+            }
+        }
+        Ok(())
+    }
+
+    // Lets the first possible event happen. Returns whether there was one.
+    fn settle_one(&mut self) -> Result<bool, PlayFault> {
+        if let Some(dial) = self.first_dial()? {
+            self.open(dial)?;
+            return Ok(true);
+        }
+        if let Some(event) = self.first_delivery() {
+            let _ = self.happen(&event)?;
+            return Ok(true);
+        }
+        if let Some(space) = self.first_ready() {
+            self.step(space)?;
+            return Ok(true);
+        }
+        Ok(false)
+    }
+
+    fn first_dial(&mut self) -> Result<Option<Dial>, PlayFault> {
+        self.world.settle()?;
+        Ok(self.world.asked().first().copied())
+    }
+
+    // The first frame that can be delivered.
+    fn first_delivery(&mut self) -> Option<WorldEvent> {
+        if !self.world.is_settled() {
+            return None;
+        }
+        for number in 0..self.connections.len() {
+            let conn = number as u64;
+            if self.world.queued(conn, End::Accepter) {
+                return Some(WorldEvent::Deliver {
+                    conn,
+                    to: End::Accepter,
+                });
+            }
+            if self.world.queued(conn, End::Dialler) {
+                return Some(WorldEvent::Deliver {
+                    conn,
+                    to: End::Dialler,
+                });
+            }
+        }
+        None
+    }
+
+    // The lowest space with a task that may go on.
+    fn first_ready(&self) -> Option<usize> {
+        (0..self.names.len()).find(|space| self.ready(*space).is_some())
+    }
+}

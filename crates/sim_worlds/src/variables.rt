@@ -1,0 +1,121 @@
+//! The variables of a script: its roots and look-ups, and how they ended.
+
+use crate::PlayFault;
+use indexmap::IndexMap;
+use sp_tasks::Outcome;
+use sp_world::Output;
+use space_ids::Value;
+use std::alloc::Global;
+use table_copies::copy_result;
+
+// A task, by the number of its space and its id.
+#[derive(Clone, Copy, Debug, PartialEq, Eq, Hash)]
+pub(crate) struct TaskKey {
+    pub space: usize,
+    pub task: u64,
+}
+
+// A root or look-up: its variable, its task, and how that ended, if it has.
+#[derive(Debug, Drop)]
+pub(crate) struct Variable {
+    pub name: String,
+    pub key: TaskKey,
+    pub outcome: Option<Outcome>,
+}
+
+impl Variable {
+    // What the task returned.
+    pub fn value(&self) -> Option<&Value> {
+        match &self.outcome {
+            Some(Outcome::Returned(Some(value))) => Some(value),
+            _ => None,
+        }
+    }
+}
+
+// The variables of a script, in the order in which its lines name them.
+#[derive(Debug, Drop)]
+pub(crate) struct Variables {
+    alloc: Global,
+    rows: Vec<Variable>,
+    // The indices of the rows, by name and by task.
+    names: IndexMap<String, usize>,
+    tasks: IndexMap<TaskKey, usize>,
+}
+
+impl Variables {
+    pub fn new(alloc: Global) -> Variables {
+        Variables {
+            alloc,
+            rows: Vec::new(alloc),
+            names: IndexMap::new(alloc),
+            tasks: IndexMap::new(alloc),
+        }
+    }
+
+    pub fn rows(&self) -> &[Variable] {
+        &self.rows
+    }
+
+    // The variable of this name, which a line before has named.
+    pub fn find(&self, name: &str) -> Option<&Variable> {
+        match self.names.get(name) {
+            Some(index) => self.rows.get(*index),
+            None => None,
+        }
+    }
+
+    // A root or look-up of this task has this variable.
+    pub fn add(&mut self, name: &str, key: TaskKey) -> Result<(), PlayFault> {
+        let index = self.rows.len();
+        self.names
+            .insert(String::from_str(self.alloc, name)?, index)?;
+        self.tasks.insert(key, index)?;
+        self.rows.push(Variable {
+            name: String::from_str(self.alloc, name)?,
+            key,
+            outcome: None,
+        })?;
+        Ok(())
+    }
+
+    // Notes how tasks of a space ended.
+    pub fn note(&mut self, space: usize, outputs: &[Output]) -> Result<(), PlayFault> {
+        for output in outputs {
+            if let Output::Ended(task, outcome) = output {
+                let key = TaskKey { space, task: *task };
+                self.end(&key, outcome)?;
+            }
+        }
+        Ok(())
+    }
+
+    fn end(&mut self, key: &TaskKey, outcome: &Outcome) -> Result<(), PlayFault> {
+        let Some(index) = self.tasks.get(key).copied() else {
+            return Ok(());
+        };
+        let copy = copy_outcome(self.alloc, outcome)?;
+        if let Some(variable) = self.rows.get_mut(index) {
+            variable.outcome = Some(copy);
+        }
+        Ok(())
+    }
+}
+
+fn copy_outcome(alloc: Global, outcome: &Outcome) -> Result<Outcome, PlayFault> {
+    match outcome {
+        Outcome::Returned(value) => Ok(Outcome::Returned(copy_result(alloc, value)?)),
+        Outcome::Threw(class) => Ok(Outcome::Threw(*class)),
+        Outcome::Spent => Ok(Outcome::Spent),
+    }
+}
+
+// The task that started.
+pub(crate) fn started(outputs: &[Output]) -> Option<u64> {
+    for output in outputs {
+        if let Output::Started(task) = output {
+            return Some(*task);
+        }
+    }
+    None
+}
