@@ -17,7 +17,8 @@ impl Living {
 
     /// Adds a holder of each foreign reference among these.
     pub fn hold(&mut self, references: &[Ref]) -> Result<(), AllocError>
-        ensures { OnOk result ((g : Setting) (s : State) → IsLiving g s self.old → IsLiving g (hold g references.now s) self.new) }
+        ensures tasks { self.new.tasks ≡ self.old.tasks }
+        ensures held { OnOk result ((g : Setting) (s : State) → IsLiving g s self.old → IsLiving g (hold g references.now s) self.new) }
     {
         for reference in references {
             self.hold_one(reference)?;
@@ -27,7 +28,8 @@ impl Living {
 
     /// Takes a holder of each foreign reference among these away, if it has one. It takes no memory.
     pub fn drop_holders(&mut self, references: &[Ref])
-        ensures { (g : Setting) (s : State) → IsLiving g s self.old → IsLiving g (drop g references.now s) self.new }
+        ensures tasks { self.new.tasks ≡ self.old.tasks }
+        ensures dropped { (g : Setting) (s : State) → IsLiving g s self.old → IsLiving g (drop g references.now s) self.new }
     {
         for reference in references {
             self.drop_one(reference);
@@ -89,7 +91,8 @@ impl Living {
 
     // Takes a holder of a reference away, if it is foreign.
     fn drop_one(&mut self, reference: &Ref)
-        ensures { (g : Setting) (s : State) → IsLiving g s self.old → IsLiving g (drop_ids (foreign_id g.id reference.now) s) self.new }
+        ensures tasks { self.new.tasks ≡ self.old.tasks }
+        ensures dropped { (g : Setting) (s : State) → IsLiving g s self.old → IsLiving g (drop_ids (foreign_id g.id reference.now) s) self.new }
     {
         if reference.space != self.id {
             self.transport.drop_holder(&ForeignId {

@@ -9,6 +9,7 @@ ghost use Rattle.sp_rules.specs.Classes.{Setting};
 ghost use Rattle.sp_rules.specs.Frames.{object_of};
 ghost use Rattle.sp_rules.specs.Holders.{fields_of, is_own_standing, own_object};
 ghost use Rattle.sp_rules.specs.State.{State, object_at, opening, standing};
+ghost use Rattle.sp_store.specs.Stores.{IsAfter};
 ghost use Rattle.sp_owner.specs.Owners.{told};
 
 use dgc_list::RefList;
@@ -57,6 +58,13 @@ impl Owner {
             names: self.names.copy()?,
             entries: self.entries.copy()?,
         })
+    }
+
+    /// The remote objects.
+    pub fn store(&self) -> &Store
+        ensures { (g : Setting) (s : State) → IsOwner g s self.now → IsAfter g s.store result.now }
+    {
+        &self.store
     }
 
     /// The standing object at an index, in the order of ids: its id and its class.

@@ -6,3 +6,4 @@ pub mod EndLemmas
 pub mod AnswerLemmas
 pub mod SweepLemmas
 pub mod HappenLemmas
+pub mod OpLemmas

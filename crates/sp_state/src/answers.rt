@@ -176,11 +176,7 @@ fn spent_for<C: CallClasses>(classes: &C, asker: &Asker) -> Reply
     ensures { (g : Setting) (question : Question) → C.tells classes.now g.classes → IsAskedBy asker.now question → reply_of result ≡ spent_reply g question }
 {
     match asker {
-        Asker::Call {
-            task: _,
-            lent: _,
-            kind: _,
-        } => Reply::RunsOut,
-        Asker::Lookup { task: _ } => Reply::Throws(classes.thrown(RemoteException::Unmarshal)),
+        Asker::Call { .. } => Reply::RunsOut,
+        Asker::Lookup { .. } => Reply::Throws(classes.thrown(RemoteException::Unmarshal)),
     }
 }

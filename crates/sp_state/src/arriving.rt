@@ -115,11 +115,7 @@ impl SpaceState {
         ensures { OnOk result ((g : Setting) (s : State) (c : Line) (peer : Peer) → IsSpace g s self.old → s.notes ≡ [] → C.tells classes.now g.classes → ComesOn conn s c → c.dialled ≡ Some peer → IsSpace g (got g c message s) self.new) }
     {
         match message {
-            Message::Hello {
-                version: _,
-                space: _,
-                digest: _,
-            } => self.close(classes, RemoteException::Unmarshal, conn),
+            Message::Hello { .. } => self.close(classes, RemoteException::Unmarshal, conn),
             Message::Returned {
                 number,
                 fuel,
@@ -141,25 +137,11 @@ fn is_asking(message: &Message) -> bool
     ensures { result ≡ is_asking message.now }
 {
     match message {
-        Message::Call {
-            number: _,
-            object: _,
-            method: _,
-            fuel: _,
-            arguments: _,
-        }
-        | Message::Ack { number: _ }
-        | Message::Dirty {
-            sequence: _,
-            period: _,
-            objects: _,
-        }
-        | Message::Clean {
-            sequence: _,
-            strong: _,
-            objects: _,
-        }
-        | Message::Lookup { number: _, name: _ } => true,
+        Message::Call { .. }
+        | Message::Ack { .. }
+        | Message::Dirty { .. }
+        | Message::Clean { .. }
+        | Message::Lookup { .. } => true,
         _ => false,
     }
 }

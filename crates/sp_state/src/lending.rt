@@ -17,7 +17,7 @@ use space_ids::{Ref, Row, Value};
 use std::alloc::AllocError;
 
 impl SpaceState {
-    ghost use Rattle.sp_state.specs.Hands.{has_lent};
+    ghost use Rattle.sp_state.specs.Hands.{hand_at, has_lent};
     ghost use Rattle.sp_state.specs.Spaces.{IsSpace};
 
     /// Lends a task that may go on, with its record, if it is not lent. It takes no memory.

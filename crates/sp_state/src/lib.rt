@@ -11,6 +11,7 @@ mod acting;
 mod answers;
 mod arriving;
 mod calls;
+mod committing;
 mod ending;
 mod happening;
 mod hello;

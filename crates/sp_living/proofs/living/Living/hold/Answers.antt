@@ -1,4 +1,4 @@
-use Rattle.std.proofs.Common.{List, sym, subst}
+use Rattle.std.proofs.Common.{List, refl, sym, subst, ◌∙◌}
 use Rattle.std.proofs.lemmas.List.{take_all}
 use Rattle.space_ids.specs.declared.ids.Ref.{Ref}
 use Rattle.sp_rules.specs.Holders.{hold}
@@ -9,13 +9,16 @@ use Rattle.sp_living.proofs.LivingLemmas.{held-none}
 use Rattle.sp_living.proofs.living.Living.hold.Goals as goal
 
 pub loop-reference-init : goal.loop-reference-init
-loop-reference-init c = λ g s a. subst (λ (u : State). IsLiving g u c.args.self.now) (sym (held-none s)) a
+loop-reference-init c = (λ g s a. subst (λ (u : State). IsLiving g u c.args.self.now) (sym (held-none s)) a, refl)
 
 pub loop-reference-preserved : goal.loop-reference-preserved
-loop-reference-preserved c = λ g s a.
-    subst (λ (u : State). IsLiving g u c.hold_one.new.self) (sym (hold-next g c.args.references.now c.loop-reference.reference-index c.reference-item.result s c.loop-reference-test.true c.reference-item.is))
-    (c.in_ok-hold_one.ensures.held g _ (c.loop-reference.invariant g s a))
+loop-reference-preserved c = (
+  λ g s a.
+      subst (λ (u : State). IsLiving g u c.hold_one.new.self) (sym (hold-next g c.args.references.now c.loop-reference.reference-index c.reference-item.result s c.loop-reference-test.true c.reference-item.is))
+      (c.in_ok-hold_one.ensures.held g _ (c.loop-reference.invariant.0 g s a)),
+  c.hold_one.ensures.tasks ∙ c.loop-reference.invariant.1,
+)
 
-pub returns : goal.returns
-returns c = λ g s a.
-    subst (λ (rs : List Ref). IsLiving g (hold g rs s) c.loop-reference.self) (take_all c.loop-reference.reference-index c.args.references.now c.loop-reference-test.false) (c.loop-reference.invariant g s a)
+pub returns-clause-held : goal.returns-clause-held
+returns-clause-held c = λ g s a.
+    subst (λ (rs : List Ref). IsLiving g (hold g rs s) c.loop-reference.self) (take_all c.loop-reference.reference-index c.args.references.now c.loop-reference-test.false) (c.loop-reference.invariant.0 g s a)

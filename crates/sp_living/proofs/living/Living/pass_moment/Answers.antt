@@ -17,4 +17,4 @@ returns c = λ g s a.
     let before : s.moment ≤ moment = omega (arith, is, c.if-moment-self.false) in
     let goes = sym (c.deref.ensures.value ∙ c.in_ok-references.ensures s.moment s.results a.results.of_calls) in
     let now = now-passed g s c.args.self.now moment c.pass.new.self c.moment.new.self before (c.pass.ensures s.moment s.results a.results.of_calls before) (c.moment.ensures.moment s a.transport) a in
-    subst (λ (u : State). IsLiving g u c.drop_holders.new.self) (sym (in-time g moment s c.deref.result.now before goes)) (c.drop_holders.ensures g (left_by_moment moment s) now)
+    subst (λ (u : State). IsLiving g u c.drop_holders.new.self) (sym (in-time g moment s c.deref.result.now before goes)) (c.drop_holders.ensures.dropped g (left_by_moment moment s) now)

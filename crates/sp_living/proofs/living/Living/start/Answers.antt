@@ -19,7 +19,7 @@ returns-clause-started c = λ g s a.
     let a1 = c.in_ok-id.ensures.entered g s a in
     let id : c.in_ok-id.id ≡ s.tasks_made + 1 = c.in_ok-id.ensures.id g s a in
     let a2 = c.in_ok-say.ensures g begun a1 in
-    let a3 = c.in_ok-hold.ensures g _ a2 in
+    let a3 = c.in_ok-hold.ensures.held g _ a2 in
     let a4 = c.in_ok-say-2.ensures g _ a3 in
     let refs : c.deref.result.now ≡ (start g c.args.method c.args.arguments.now c.args.fuel).held =
     c.deref.ensures.value ∙ c.in_ok-held.ensures ∙ ap (λ (n : ℕ). held_at n c.enter.new.self) id ∙ held-started g s c.args.self.now c.enter.new.self origin c.args.method c.args.arguments.now c.args.fuel a a1 in

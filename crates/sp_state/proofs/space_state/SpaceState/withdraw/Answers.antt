@@ -28,5 +28,5 @@ returns c = on_ok_weaker c.say.result (λ said. λ g s is.
     let refs : c.as_slice-dropped.result.now ≡ flat_map (fields_at g s) ids = c.as_slice-dropped.ensures ∙ c.in_ok-references.ensures g s is ∙ ap (flat_map (fields_at g s)) c.as_slice-gone.ensures in
     let left : State = drop g c.as_slice-dropped.result.now gone in
     let told : State = say (Withdrawn c.new.result) left in
-    let done = quiet g gone told x c.say.new.self (drop_keeps (parts-quiet g (owner_parts gone)) {s = gone} (foreign_ids g.id c.as_slice-dropped.result.now) refl) (said g left (c.drop_holders.ensures g gone living)) now in
+    let done = quiet g gone told x c.say.new.self (drop_keeps (parts-quiet g (owner_parts gone)) {s = gone} (foreign_ids g.id c.as_slice-dropped.result.now) refl) (said g left (c.drop_holders.ensures.dropped g gone living)) now in
     subst (λ (t : State). IsSpace g t (record x { living = c.say.new.self })) (λ j. say (Withdrawn (c.new.ensures j)) (drop g (refs j) gone)) done) c.say.ensures
