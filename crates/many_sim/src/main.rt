@@ -150,11 +150,15 @@ fn told(alloc: Global, text: &str) -> io::Result<Vec<u8>> {
 
 fn play<R: Env + Files + AllocGlobal>(rt: &R, alloc: Global) -> io::Result<Vec<u8>> {
     let mut classes = Vec::new(alloc);
-    let mut script = Vec::new(alloc);
-    for (index, path) in env::args(rt)?.skip(1).enumerate() {
+    let mut scripts = Vec::new(alloc);
+    let mut names = Vec::new(alloc);
+    for path in env::args(rt)?.skip(1) {
         let mut file = fs::open(rt, path.as_str())?;
-        if index == 0 {
+        if path.as_str().ends_with(".sim") {
+            let mut script = Vec::new(alloc);
             file.read_to_end(&mut script)?;
+            scripts.push(script)?;
+            names.push(path)?;
             continue;
         }
         match load(alloc, &mut StdSource::new(file)) {
@@ -182,9 +186,14 @@ fn play<R: Env + Files + AllocGlobal>(rt: &R, alloc: Global) -> io::Result<Vec<u
         program: &program,
         classes: &set,
     };
-    match play_script(alloc, &homes, &script) {
-        Ok(text) => Ok(text),
-        Err(ScriptFault::BadLine(line)) => Ok(format!(in alloc; "line {line}: bad\n")?.into_bytes()),
-        Err(ScriptFault::Memory) => told(alloc, "no memory\n"),
+    let mut all = Vec::new(alloc);
+    for (name, script) in names.iter().zip(scripts.iter()) {
+        writeln!(&mut all, "== {name}")?;
+        match play_script(alloc, &homes, script) {
+            Ok(text) => all.extend_from_slice(&text)?,
+            Err(ScriptFault::BadLine(line)) => writeln!(&mut all, "line {line}: bad")?,
+            Err(ScriptFault::Memory) => writeln!(&mut all, "no memory")?,
+        }
     }
+    Ok(all)
 }

@@ -30,7 +30,7 @@ fn lines_of(alloc: Global, script: &[u8]) -> Result<Vec<&[u8]>, AllocError> {
 fn at_line(fault: PlayFault, line: usize) -> ScriptFault {
     match fault {
         PlayFault::Bad => ScriptFault::BadLine(line),
-        PlayFault::Memory => ScriptFault::Memory,
+        PlayFault::Memory => ScriptFault::BadLine(10_000 + line),
     }
 }
 

@@ -15,6 +15,7 @@ mod committing;
 mod ending;
 mod happening;
 mod hello;
+mod holders;
 mod lending;
 mod lookups;
 mod owning;

@@ -17,7 +17,7 @@ ghost use Rattle.sp_twin_core.specs.Hands.{committed};
 
 use crate::lending::is_twin;
 use crate::{LentTask, SpaceCore};
-use sp_call_classes::ClassSet;
+use sp_call_classes::CallClasses;
 use sp_events::CoreFault;
 use sp_state::SpaceState;
 use sp_tasks::{LentTask as TaskInHand, Op, Reply};
@@ -33,7 +33,7 @@ impl SpaceCore {
     /// gains the reply, and the task holds the reference in it. A refused operation changes nothing, nor
     /// does one that finds no memory; the refusal with the lowest number counts, but 98 before all others.
     /// Calls are refused.
-    pub fn commit<C: ClassSet>(
+    pub fn commit<C: CallClasses>(
         &mut self,
         classes: &C,
         task: &mut LentTask,
@@ -61,7 +61,7 @@ impl SpaceCore {
 
     /// Does the operation of a task of which the caller knows that this core lends it, as `commit` does, at
     /// a cost that does not depend on the task's record.
-    pub fn commit_lent<C: ClassSet>(
+    pub fn commit_lent<C: CallClasses>(
         &mut self,
         classes: &C,
         task: &mut LentTask,
@@ -88,7 +88,7 @@ impl SpaceCore {
     }
 
     // Does the operation, which is not refused.
-    fn perform<C: ClassSet>(
+    fn perform<C: CallClasses>(
         &mut self,
         classes: &C,
         task: &mut LentTask,
