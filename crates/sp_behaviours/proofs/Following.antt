@@ -1,6 +1,6 @@
 -- A task that follows a machine goes on following it: through each instruction, and through each reply that is due.
-use Rattle.std.proofs.Common.{◌≡◌, ℕ, zero, suc, ◌+◌, Bool, List, [], ◌∷◌, length, ◌≤◌, refl, ap, sym, subst, ◌∙◌, arith, Option, Some, None}
-use Rattle.std.specs.Prelude.{option_map, if◌then◌else◌}
+use Rattle.std.proofs.Common.{◌≡◌, ℕ, zero, suc, ◌+◌, Bool, true, false, List, [], ◌∷◌, length, ◌≤◌, refl, ap, sym, subst, ◌∙◌, arith, Option, Some, None}
+use Rattle.std.specs.Prelude.{ℤ, drop, nat_le, option_map, if◌then◌else◌}
 use Rattle.cls_link.specs.Links.{Links}
 use Rattle.space_ids.specs.declared.ids.ClassId.{ClassId}
 use Rattle.space_ids.specs.declared.ids.Ref.{Ref}
@@ -14,29 +14,31 @@ use Rattle.sp_rules.specs.Tasks.{Task}
 use Rattle.vm_heap.specs.Heap.{Cell}
 use Rattle.vm_heap.specs.References as heap
 use Rattle.vm_heap.specs.References.{Table, row_for}
-use Rattle.vm_heap.specs.Tagged.{Fresh, Int, Null, ReferenceRow, Remote}
+use Rattle.vm_heap.specs.Tagged.{Tagged, Fresh, Int, Null, ReferenceRow, Remote}
 use Rattle.vm_act.specs.Next.{Next, On, Ends, Asks, Stuck}
-use Rattle.vm_act.specs.Remote.{answered, on_held, on_row}
-use Rattle.vm_act.specs.Steps.{go_on, push}
+use Rattle.vm_act.specs.Remote.{answered, leave_call, on_held, on_row, pop_receiver, push_result, without_arguments}
+use Rattle.vm_act.specs.Steps.{go_on, on_top, push, where_true, with_operands}
 use Rattle.vm_act.specs.declared.asked.Asked.{Asked}
 use Rattle.vm_act.specs.declared.asked.Asked.TheVariants as asked
+use Rattle.vm_act.specs.declared.asked.FieldValue.{FieldValue}
 use Rattle.vm_act.specs.declared.asked.FieldValue.TheVariants as field
 use Rattle.vm_act.specs.declared.asked.Reply.{Reply}
 use Rattle.vm_act.specs.declared.asked.Reply.TheVariants as reply
 use Rattle.vm_act.specs.declared.ending.Thrown.TheVariants as thrown
 use Rattle.vm_act.specs.declared.machine.Machine.{Machine}
 use Rattle.vm_rows.specs.Steps as insns
+use Rattle.vm_run.specs.Ends as ends
 use Rattle.vm_run.specs.Ends.{End, Threw, ThrewObject, end_of}
-use Rattle.vm_run.specs.Run.{State, Running, Waits, Over, Lost, after, answer, made, made_in, over, run, step, IsDue, IsNeverStuck}
+use Rattle.vm_run.specs.Run.{State, Running, Waits, Over, Lost, after, answer, made, made_in, fuel_after, over, run, step, FitsFuel, IsDue, IsNeverStuck}
 use Rattle.vm_run.specs.Task.{outcome_at}
 use Rattle.vm_run.specs.declared.outcome.Outcome.{Outcome}
 use Rattle.vm_run.specs.declared.outcome.Outcome.TheVariants as outcome
 use Rattle.vm_run.proofs.Runs.{IsNeverStuck-answer, IsNeverStuck-step, IsQuiet, answered_quiet, at_once}
-use Rattle.sp_behaviours.specs.Behaviours.{after_reply, asking, behaviour_of, by_next, by_reply, op_of, reply_of, told, told_end, told_ending, told_some}
-use Rattle.sp_behaviours.specs.Follows.{Follows, HoldsAs, HoldsAsked, PlaysOn, stand_before, stand_of}
+use Rattle.sp_behaviours.specs.Behaviours.{after_reply, asking, behaviour_of, by_next, by_reply, completed_by, op_at, reply_to, told, told_end, told_ending, told_some}
+use Rattle.sp_behaviours.specs.Follows.{Follows, HoldsAs, HoldsAsked, PlaysOn, stand_before, stand_of, waiting}
 use Rattle.sp_behaviours.proofs.Coming.{Comes, comes, stays-within}
-use Rattle.sp_behaviours.proofs.OwnSteps.{answer-gives, answer-throws, stand-is, step-asks, step-ends, step-over, step-plain}
-use Rattle.sp_behaviours.proofs.Stays.{Stays, goes, pushes, step-stays}
+use Rattle.sp_behaviours.proofs.OwnSteps.{IsGiven, answer-gives, answer-gives-back, answer-runs-out, answer-throws, answer-throws-lent, stand-is, step-asks, step-ended, step-ends, step-plain}
+use Rattle.sp_behaviours.proofs.Stays.{Stays, copy-keeps, goes, pushes, step-stays}
 
 -- ---- one instruction
 
@@ -51,15 +53,39 @@ hold-on g held later table now same stays holds = record {
 over-follows : (links : Links) (g : Setting) (t : Task) (o : Option End) (fuel : ℕ) → t.behaviour ≡ rules.Over (told_ending links.classes o) → t.fuel ≡ fuel
     → IsNeverStuck links (over o fuel) → Follows links g t (over o fuel)
 over-follows links g t None fuel b f safe = absurd (at_once links Lost safe)
-over-follows links g t (Some end) fuel b f safe = record { behaviour = b; fuel = f; held = tt; never_stuck = safe }
+over-follows links g t (Some end) fuel b f safe =
+    record { depth = 0; behaviour = stand-is t (rules.Over (told_end links.classes end)) fuel b f; fuel = f; held = tt; never_stuck = safe }
 
-module _ (links : Links) (g : Setting) (t : Task) (m : Machine) (fuel : ℕ) (f : t.fuel ≡ suc fuel) (holds : HoldsAs g t.held m.references) where
-  next-follows : (n : Next) → t.behaviour ≡ by_next links.classes m.heap.cells (behaviour_of links fuel) n → Stays m.references n
+-- a task with fuel is at an instruction: its tree is deeper than nothing
+at-instruction : (links : Links) (t : Task) (m : Machine) (fuel depth : ℕ) → suc fuel ≤ depth → t.behaviour ≡ behaviour_of links depth m
+    → (d : ℕ) × (fuel ≤ d) × (t.behaviour ≡ by_next links.classes m.heap.cells (behaviour_of links d) (insns.step links m))
+unfolding behaviour_of
+at-instruction links t m fuel zero le b = absurd (omega (arith, le))
+at-instruction links t m fuel (suc d) le b = (d, omega (arith, le), b)
+
+-- without fuel it has ended, however deep its tree is
+spent-at : (links : Links) (m : Machine) (depth : ℕ) → tasks.stand_at (behaviour_of links depth m) 0 ≡ tasks.HasEnded rules.Spent
+unfolding behaviour_of
+spent-at links m zero = refl
+spent-at links m (suc d) = by (insns.step links m)
+  where
+    by : (n : Next) → tasks.stand_at (by_next links.classes m.heap.cells (behaviour_of links d) n) 0 ≡ tasks.HasEnded rules.Spent
+    by (On m') = refl
+    by (Ends ending) = refl
+    by (Asks op m') = refl
+    by Stuck = refl
+
+spent-stands : (links : Links) (t : Task) (m : Machine) (depth : ℕ) → t.behaviour ≡ behaviour_of links depth m → t.fuel ≡ 0 → tasks.stand t ≡ tasks.HasEnded rules.Spent
+spent-stands links t m depth b f = stand-is t (behaviour_of links depth m) 0 b f ∙ spent-at links m depth
+
+module _ (links : Links) (g : Setting) (t : Task) (m : Machine) (fuel depth : ℕ) (le : fuel ≤ depth) (f : t.fuel ≡ suc fuel) (holds : HoldsAs g t.held m.references) where
+  next-follows : (n : Next) → t.behaviour ≡ by_next links.classes m.heap.cells (behaviour_of links depth) n → Stays m.references n
       → IsNeverStuck links (after m.heap.cells n fuel) → Follows links g (tasks.step t) (after m.heap.cells n fuel)
   next-follows (On m') b stays safe =
-      let e = step-plain t (behaviour_of links fuel m') fuel b f in
+      let e = step-plain t (behaviour_of links depth m') fuel b f in
       record {
-        behaviour = ap (λ (u : Task). u.behaviour) e;
+        depth = depth;
+        behaviour = (le, ap (λ (u : Task). u.behaviour) e);
         fuel = ap (λ (u : Task). u.fuel) e;
         held = hold-on g t.held (tasks.step t).held m.references m'.references (ap (λ (u : Task). u.held) e) stays holds;
         never_stuck = safe;
@@ -68,41 +94,54 @@ module _ (links : Links) (g : Setting) (t : Task) (m : Machine) (fuel : ℕ) (f 
       let e = step-ends t (told_ending links.classes (end_of m.heap.cells ending)) fuel b f in
       over-follows links g (tasks.step t) (end_of m.heap.cells ending) fuel (ap (λ (u : Task). u.behaviour) e) (ap (λ (u : Task). u.fuel) e) safe
   next-follows (Asks op m') b stays safe =
-      let e = step-asks t (op_of op) (λ given. by_reply links.classes (behaviour_of links fuel) m' (reply_of op given)) fuel b f in
+      let e = step-asks t (op_at links.classes op m') (λ given. by_reply links.classes (behaviour_of links depth) op m' (completed_by op given)) fuel b f in
       let held : HoldsAs g (tasks.step t).held m'.references = hold-on g t.held (tasks.step t).held m.references m'.references (ap (λ (u : Task). u.held) e) stays.0 holds in
       record {
-        behaviour = ap (λ (u : Task). u.behaviour) e ∙ b;
+        depth = depth;
+        behaviour = (le, ap (λ (u : Task). u.behaviour) e ∙ b);
         fuel = ap (λ (u : Task). u.fuel) e ∙ f;
         held = (held, subst (λ (rows : List Ref). HoldsAsked rows op) held.rows stays.1);
         never_stuck = safe;
       }
   next-follows Stuck b stays safe = absurd (at_once links Lost safe)
 
-  next-made : (n : Next) → t.behaviour ≡ by_next links.classes m.heap.cells (behaviour_of links fuel) n → IsNeverStuck links (after m.heap.cells n fuel)
+  next-made : (n : Next) → t.behaviour ≡ by_next links.classes m.heap.cells (behaviour_of links depth) n → IsNeverStuck links (after m.heap.cells n fuel)
       → (tasks.step t).made ≡ t.made + Rattle.vm_run.specs.Run.made_by n
-  next-made (On m') b safe = ap (λ (u : Task). u.made) (step-plain t (behaviour_of links fuel m') fuel b f)
+  next-made (On m') b safe = ap (λ (u : Task). u.made) (step-plain t (behaviour_of links depth m') fuel b f)
   next-made (Ends ending) b safe = ap (λ (u : Task). u.made) (step-ends t (told_ending links.classes (end_of m.heap.cells ending)) fuel b f)
   next-made (Asks op m') b safe =
       let none : t.made ≡ t.made + 0 = omega arith in
-      ap (λ (u : Task). u.made) (step-asks t (op_of op) (λ given. by_reply links.classes (behaviour_of links fuel) m' (reply_of op given)) fuel b f) ∙ none
+      ap (λ (u : Task). u.made) (step-asks t (op_at links.classes op m') (λ given. by_reply links.classes (behaviour_of links depth) op m' (completed_by op given)) fuel b f) ∙ none
   next-made Stuck b safe = absurd (at_once links Lost safe)
 
+-- the state after an instruction is never stuck either
+safe-step : (links : Links) (m : Machine) (fuel : ℕ) → IsNeverStuck links (Running m (suc fuel)) → IsNeverStuck links (after m.heap.cells (insns.step links m) fuel)
+unfolding step
+safe-step links m fuel safe = IsNeverStuck-step links (Running m (suc fuel)) safe
+
+-- an instruction that asks, and what is over, leave the task as it is
+waits-still : (links : Links) (t : Task) (op : Asked) (m : Machine) (fuel depth : ℕ) → t.behaviour ≡ asking links.classes (behaviour_of links depth) op m → t.fuel ≡ suc fuel → tasks.step t ≡ t
+waits-still links t op m fuel depth b f = step-asks t (op_at links.classes op m) (λ given. by_reply links.classes (behaviour_of links depth) op m (completed_by op given)) fuel b f
+
 pub step-follows : (links : Links) (g : Setting) (t : Task) (s : State) → Follows links g t s → Follows links g (tasks.step t) (step links s)
-unfolding step behaviour_of
+unfolding step
 step-follows links g t (Running m zero) f =
-    let e = step-over t rules.Spent f.behaviour in
+    let ended = spent-stands links t m f.depth f.behaviour.1 f.fuel in
+    let e = step-ended t rules.Spent ended in
     record {
-      behaviour = ap (λ (u : Task). u.behaviour) e ∙ f.behaviour;
+      depth = 0;
+      behaviour = ap tasks.stand e ∙ ended;
       fuel = ap (λ (u : Task). u.fuel) e ∙ f.fuel;
       held = tt;
       never_stuck = IsNeverStuck-step links (Running m zero) f.never_stuck;
     }
 step-follows links g t (Running m (suc fuel)) f =
-    next-follows links g t m fuel f.fuel f.held (insns.step links m) f.behaviour (step-stays links m) (IsNeverStuck-step links (Running m (suc fuel)) f.never_stuck)
+    let at = at-instruction links t m fuel f.depth f.behaviour.0 f.behaviour.1 in
+    next-follows links g t m fuel at.0 at.1 f.fuel f.held (insns.step links m) at.2 (step-stays links m) (IsNeverStuck-step links (Running m (suc fuel)) f.never_stuck)
 step-follows links g t (Waits op m fuel) f =
-    subst (λ (u : Task). Follows links g u (Waits op m fuel)) (sym (step-asks t (op_of op) (λ given. by_reply links.classes (behaviour_of links fuel) m (reply_of op given)) fuel f.behaviour f.fuel)) f
+    subst (λ (u : Task). Follows links g u (Waits op m fuel)) (sym (waits-still links t op m fuel f.depth f.behaviour.1 f.fuel)) f
 step-follows links g t (Over end fuel) f =
-    subst (λ (u : Task). Follows links g u (Over end fuel)) (sym (step-over t (told_end links.classes end) f.behaviour)) f
+    subst (λ (u : Task). Follows links g u (Over end fuel)) (sym (step-ended t (told_end links.classes end) f.behaviour)) f
 step-follows links g t Lost f = absurd (at_once links Lost f.never_stuck)
 
 pub steps-follow : (links : Links) (g : Setting) (t : Task) (s : State) (k : ℕ) → Follows links g t s → Follows links g (tasks.steps k t) (run links k s)
@@ -111,16 +150,16 @@ steps-follow links g t s zero f = f
 steps-follow links g t s (suc k) f = steps-follow links g (tasks.step t) (step links s) k (step-follows links g t s f)
 
 made-one : (links : Links) (g : Setting) (t : Task) (s : State) → Follows links g t s → (tasks.step t).made ≡ t.made + made_in links s
-unfolding step behaviour_of
 made-one links g t (Running m zero) f =
-    let none : t.made ≡ t.made + 0 = omega arith in ap (λ (u : Task). u.made) (step-over t rules.Spent f.behaviour) ∙ none
-made-one links g t (Running m (suc fuel)) f =
-    next-made links g t m fuel f.fuel f.held (insns.step links m) f.behaviour (IsNeverStuck-step links (Running m (suc fuel)) f.never_stuck)
-made-one links g t (Waits op m fuel) f =
     let none : t.made ≡ t.made + 0 = omega arith in
-    ap (λ (u : Task). u.made) (step-asks t (op_of op) (λ given. by_reply links.classes (behaviour_of links fuel) m (reply_of op given)) fuel f.behaviour f.fuel) ∙ none
+    ap (λ (u : Task). u.made) (step-ended t rules.Spent (spent-stands links t m f.depth f.behaviour.1 f.fuel)) ∙ none
+made-one links g t (Running m (suc fuel)) f =
+    let at = at-instruction links t m fuel f.depth f.behaviour.0 f.behaviour.1 in
+    next-made links g t m fuel at.0 at.1 f.fuel f.held (insns.step links m) at.2 (safe-step links m fuel f.never_stuck)
+made-one links g t (Waits op m fuel) f =
+    let none : t.made ≡ t.made + 0 = omega arith in ap (λ (u : Task). u.made) (waits-still links t op m fuel f.depth f.behaviour.1 f.fuel) ∙ none
 made-one links g t (Over end fuel) f =
-    let none : t.made ≡ t.made + 0 = omega arith in ap (λ (u : Task). u.made) (step-over t (told_end links.classes end) f.behaviour) ∙ none
+    let none : t.made ≡ t.made + 0 = omega arith in ap (λ (u : Task). u.made) (step-ended t (told_end links.classes end) f.behaviour) ∙ none
 made-one links g t Lost f = absurd (at_once links Lost f.never_stuck)
 
 pub steps-made : (links : Links) (g : Setting) (t : Task) (s : State) (k : ℕ) → Follows links g t s → (tasks.steps k t).made ≡ t.made + made links k s
@@ -133,20 +172,22 @@ steps-made links g t s (suc k) f =
 
 -- what waits for a reply stands where it stood
 pub asks-unchanged : (links : Links) (g : Setting) (t : Task) (s : State) (op : Asked) (m : Machine) (fuel : ℕ) → Follows links g t s → step links s ≡ Waits op m fuel → tasks.step t ≡ t
-unfolding step behaviour_of
+unfolding step
 asks-unchanged links g t (Running m' zero) op m fuel f e = absurd (cc)
-asks-unchanged links g t (Running m' (suc fuel')) op m fuel f e = by (insns.step links m') f.behaviour e
+asks-unchanged links g t (Running m' (suc fuel')) op m fuel f e =
+    let at = at-instruction links t m' fuel' f.depth f.behaviour.0 f.behaviour.1 in
+    by at.0 (insns.step links m') at.2 e
   where
     by-end : (o : Option End) → over o fuel' ≡ Waits op m fuel → ⊥
     by-end None is = absurd (cc)
     by-end (Some end) is = absurd (cc)
 
-    by : (n : Next) → t.behaviour ≡ by_next links.classes m'.heap.cells (behaviour_of links fuel') n → after m'.heap.cells n fuel' ≡ Waits op m fuel → tasks.step t ≡ t
-    by (On x) b is = absurd (cc)
-    by (Ends ending) b is = absurd (by-end (end_of m'.heap.cells ending) is)
-    by (Asks asked x) b is = step-asks t (op_of asked) (λ given. by_reply links.classes (behaviour_of links fuel') x (reply_of asked given)) fuel' b f.fuel
-    by Stuck b is = absurd (cc)
-asks-unchanged links g t (Waits asked m' fuel') op m fuel f e = step-asks t (op_of asked) (λ given. by_reply links.classes (behaviour_of links fuel') m' (reply_of asked given)) fuel' f.behaviour f.fuel
+    by : (d : ℕ) (n : Next) → t.behaviour ≡ by_next links.classes m'.heap.cells (behaviour_of links d) n → after m'.heap.cells n fuel' ≡ Waits op m fuel → tasks.step t ≡ t
+    by d (On x) b is = absurd (cc)
+    by d (Ends ending) b is = absurd (by-end (end_of m'.heap.cells ending) is)
+    by d (Asks asked x) b is = waits-still links t asked x fuel' d b f.fuel
+    by d Stuck b is = absurd (cc)
+asks-unchanged links g t (Waits asked m' fuel') op m fuel f e = waits-still links t asked m' fuel' f.depth f.behaviour.1 f.fuel
 asks-unchanged links g t (Over end fuel') op m fuel f e = absurd (cc)
 asks-unchanged links g t Lost op m fuel f e = absurd (cc)
 
@@ -157,17 +198,18 @@ asks-stay links g t s op m fuel f e = asks-unchanged links g t s op m fuel f e
 -- ---- where it stands
 
 pub stands : (links : Links) (g : Setting) (t : Task) (s : State) → Follows links g t s → tasks.stand t ≡ stand_of links s
-unfolding behaviour_of
-stands links g t (Running m zero) f = stand-is t (rules.Over rules.Spent) 0 f.behaviour f.fuel
-stands links g t (Running m (suc fuel)) f = by (insns.step links m) f.behaviour
+stands links g t (Running m zero) f = spent-stands links t m f.depth f.behaviour.1 f.fuel
+stands links g t (Running m (suc fuel)) f =
+    let at = at-instruction links t m fuel f.depth f.behaviour.0 f.behaviour.1 in
+    by at.0 (insns.step links m) at.2
   where
-    by : (n : Next) → t.behaviour ≡ by_next links.classes m.heap.cells (behaviour_of links fuel) n → tasks.stand t ≡ stand_before n
-    by (On m') b = stand-is t (rules.Plain (behaviour_of links fuel m')) (suc fuel) b f.fuel
-    by (Ends ending) b = stand-is t (rules.Ends (told_ending links.classes (end_of m.heap.cells ending))) (suc fuel) b f.fuel
-    by (Asks op m') b = stand-is t (asking links.classes (behaviour_of links fuel) op m') (suc fuel) b f.fuel
-    by Stuck b = stand-is t (rules.Over rules.Spent) (suc fuel) b f.fuel
-stands links g t (Waits op m fuel) f = stand-is t (asking links.classes (behaviour_of links fuel) op m) (suc fuel) f.behaviour f.fuel
-stands links g t (Over end fuel) f = stand-is t (rules.Over (told_end links.classes end)) fuel f.behaviour f.fuel
+    by : (d : ℕ) (n : Next) → t.behaviour ≡ by_next links.classes m.heap.cells (behaviour_of links d) n → tasks.stand t ≡ stand_before links n
+    by d (On m') b = stand-is t (rules.Plain (behaviour_of links d m')) (suc fuel) b f.fuel
+    by d (Ends ending) b = stand-is t (rules.Ends (told_ending links.classes (end_of m.heap.cells ending))) (suc fuel) b f.fuel
+    by d (Asks op m') b = stand-is t (asking links.classes (behaviour_of links d) op m') (suc fuel) b f.fuel
+    by d Stuck b = stand-is t (rules.Over rules.Spent) (suc fuel) b f.fuel
+stands links g t (Waits op m fuel) f = stand-is t (asking links.classes (behaviour_of links f.depth) op m) (suc fuel) f.behaviour.1 f.fuel
+stands links g t (Over end fuel) f = f.behaviour
 stands links g t Lost f = absurd (at_once links Lost f.never_stuck)
 
 pub ends-told : (links : Links) (g : Setting) (t : Task) (s : State) (outcome : Outcome) → Follows links g t s → outcome_at links.classes s ≡ Some outcome
@@ -176,6 +218,10 @@ ends-told links g t (Running m fuel) outcome f e = absurd (cc)
 ends-told links g t (Waits op m fuel) outcome f e = absurd (cc)
 ends-told links g t (Over end fuel) outcome f e = stands links g t (Over end fuel) f ∙ ap (λ o. tasks.HasEnded (told_some o)) e
 ends-told links g t Lost outcome f e = absurd (cc)
+
+-- all that it has left but one unit, which stays with it, is what it lends
+pub lent-left : (links : Links) (g : Setting) (t : Task) (op : Asked) (m : Machine) (fuel : ℕ) → Follows links g t (Waits op m fuel) → tasks.lent t ≡ fuel
+lent-left links g t op m fuel f = let have : t.fuel ≡ suc fuel = f.fuel in omega (arith, have)
 
 -- ---- replies
 
@@ -186,12 +232,12 @@ GoesOn g held (Ends ending) = Unit {0}
 GoesOn g held (Asks op m) = ⊥
 GoesOn g held Stuck = Unit {0}
 
-reply-follows : (links : Links) (g : Setting) (u : Task) (cells : List Cell) (fuel : ℕ) (n : Next) → u.behaviour ≡ after_reply links.classes cells (behaviour_of links fuel) n
-    → u.fuel ≡ fuel → GoesOn g u.held n → IsNeverStuck links (after cells n fuel) → Follows links g u (after cells n fuel)
-reply-follows links g u cells fuel (On m) b f holds safe = record { behaviour = b; fuel = f; held = holds; never_stuck = safe }
-reply-follows links g u cells fuel (Ends ending) b f holds safe = over-follows links g u (end_of cells ending) fuel b f safe
-reply-follows links g u cells fuel (Asks op m) b f holds safe = absurd holds
-reply-follows links g u cells fuel Stuck b f holds safe = absurd (at_once links Lost safe)
+reply-follows : (links : Links) (g : Setting) (u : Task) (cells : List Cell) (fuel depth : ℕ) (n : Next) → fuel ≤ depth
+    → u.behaviour ≡ after_reply links.classes cells (behaviour_of links depth) n → u.fuel ≡ fuel → GoesOn g u.held n → IsNeverStuck links (after cells n fuel) → Follows links g u (after cells n fuel)
+reply-follows links g u cells fuel depth (On m) le b f holds safe = record { depth = depth; behaviour = (le, b); fuel = f; held = holds; never_stuck = safe }
+reply-follows links g u cells fuel depth (Ends ending) le b f holds safe = over-follows links g u (end_of cells ending) fuel b f safe
+reply-follows links g u cells fuel depth (Asks op m) le b f holds safe = absurd holds
+reply-follows links g u cells fuel depth Stuck le b f holds safe = absurd (at_once links Lost safe)
 
 from-stays : (g : Setting) (held : List Ref) (table : Table) (n : Next) → HoldsAs g held table → IsQuiet n → Stays table n → GoesOn g held n
 from-stays g held table (On m) holds quiet stays = hold-on g held held table m.references refl stays holds
@@ -199,130 +245,196 @@ from-stays g held table (Ends ending) holds quiet stays = tt
 from-stays g held table (Asks op m) holds quiet stays = quiet
 from-stays g held table Stuck holds quiet stays = tt
 
-module _ (links : Links) (g : Setting) (t : Task) (op : Asked) (m : Machine) (fuel : ℕ) (plays : PlaysOn links g) (follows : Follows links g t (Waits op m fuel)) where
+-- a task t whose machine m waits for a value, and the task w that is given it, with the fuel that is left
+module _ (links : Links) (g : Setting) (t w : Task) (m : Machine) (left depth : ℕ) (plays : PlaysOn links g) (le : left ≤ depth) (holds : HoldsAs g t.held m.references) where
   abbrev cells : List Cell
   cells = m.heap.cells
 
   abbrev go : Machine → rules.Behaviour
-  go = behaviour_of links fuel
+  go = behaviour_of links depth
 
-  -- the task after a value, where the machine takes it as a reply
-  abbrev replied : Option Value → Task
-  replied v = tasks.answer g (rules.Gives v) t
+  -- what the value leads to, where it is given
+  abbrev Leads : Option Value → Next → Type 0
+  Leads v n = tasks.after_reply t.behaviour v ≡ after_reply links.classes cells go n
 
-  taken : (v : Option Value) (given : Reply) → reply_of op v ≡ Some given → tasks.after_reply t.behaviour v ≡ after_reply links.classes cells go (answered given m)
-  taken v given e = (λ j. tasks.after_reply (follows.behaviour j) v) ∙ ap (by_reply links.classes go m) e
+  abbrev Goes : Option Value → Next → Type 0
+  Goes v n = IsGiven g v t left w → Leads v n → IsQuiet n → IsNeverStuck links (after cells n left) → Follows links g w (after cells n left)
 
   -- a reply that brings no reference
-  plain-reply : (v : Option Value) (given : Reply) → references_in v ≡ [] → reply_of op v ≡ Some given → Stays m.references (answered given m)
-      → IsNeverStuck links (after cells (answered given m) fuel) → Follows links g (replied v) (after cells (answered given m) fuel)
-  plain-reply v given none e stays safe =
-      let is = answer-gives g v t fuel follows.fuel in
+  plain-reply : (v : Option Value) (n : Next) → references_in v ≡ [] → Stays m.references n → Goes v n
+  plain-reply v n none stays is leads quiet safe =
       let same : with_references t.held (references_in v) ≡ t.held = ap (with_references t.held) none in
-      let fits = stays-within g t.held m.references follows.held.0 in
-      let b : (replied v).behaviour ≡ after_reply links.classes cells go (answered given m) =
-      is.behaviour ∙ (λ j. tasks.within_limit g (same j) (taken v given e j)) ∙ ap (λ b. if b then after_reply links.classes cells go (answered given m) else rules.Over (rules.Threw g.classes.out_of_memory)) fits in
-      reply-follows links g (replied v) cells fuel (answered given m) b is.fuel
-      (subst (λ held. GoesOn g held (answered given m)) (sym (is.held ∙ same)) (from-stays g t.held m.references (answered given m) follows.held.0 (answered_quiet given m) stays)) safe
+      let fits = stays-within g t.held m.references holds in
+      let b : w.behaviour ≡ after_reply links.classes cells go n =
+      is.behaviour ∙ (λ j. tasks.within_limit g (same j) (leads j)) ∙ ap (λ b. if b then after_reply links.classes cells go n else rules.Over (rules.Threw g.classes.out_of_memory)) fits in
+      reply-follows links g w cells left depth n le b is.fuel
+      (subst (λ held. GoesOn g held n) (sym (is.held ∙ same)) (from-stays g t.held m.references n holds quiet stays)) safe
 
-  -- one that brings a reference
-  module _ (v : Option Value) (given : Reply) (r : Ref) (next : ℕ → Machine → Next) (one : references_in v ≡ r ∷ []) (e : reply_of op v ≡ Some given)
-      (held : answered given m ≡ on_held r next m) (keeps : (table : Table) (row : ℕ) (x : Machine) → x.references ≡ table → Stays table (next row x)) where
+  -- one that brings a reference, to a machine with the same ones
+  module _ (v : Option Value) (r : Ref) (next : ℕ → Machine → Next) (x : Machine) (one : references_in v ≡ r ∷ []) (same : x.references ≡ m.references)
+      (keeps : (table : Table) (row : ℕ) (y : Machine) → y.references ≡ table → Stays table (next row y)) where
     abbrev came : List Ref
     came = with_reference t.held r
 
     abbrev arrived : Machine
-    arrived = record m { references = heap.with_reference r m.references }
+    arrived = record x { references = heap.with_reference r x.references }
 
     abbrev reached : Option ℕ → Next
     reached o = on_row (λ row. next row arrived) o
 
-    same-held : (replied v).held ≡ came
-    same-held = (answer-gives g v t fuel follows.fuel).held ∙ ap (with_references t.held) one
-
-    behaves : (replied v).behaviour ≡ tasks.within_limit g came (after_reply links.classes cells go (on_held r next m))
-    behaves =
-        (answer-gives g v t fuel follows.fuel).behaviour ∙ (λ j. tasks.within_limit g (with_references t.held (one j)) (taken v given e j))
-        ∙ ap (λ n. tasks.within_limit g came (after_reply links.classes cells go n)) held
-
     abbrev decided : Bool → Next → rules.Behaviour
     decided b n = if b then after_reply links.classes cells go n else rules.Over (rules.Threw g.classes.out_of_memory)
 
-    by-row : (o : Option ℕ) → Comes g came arrived.references o → (replied v).behaviour ≡ tasks.within_limit g came (after_reply links.classes cells go (reached o)) → IsQuiet (reached o)
-        → IsNeverStuck links (after cells (reached o) fuel) → Follows links g (replied v) (after cells (reached o) fuel)
-    by-row None over b quiet safe =
-        over-follows links g (replied v) (Some (Threw thrown.OutOfMemoryError)) fuel
+    by-row : (o : Option ℕ) → IsGiven g v t left w → Comes g came arrived.references o → w.behaviour ≡ tasks.within_limit g came (after_reply links.classes cells go (reached o)) → IsQuiet (reached o)
+        → IsNeverStuck links (after cells (reached o) left) → Follows links g w (after cells (reached o) left)
+    by-row None is over b quiet safe =
+        over-follows links g w (Some (Threw thrown.OutOfMemoryError)) left
         (b ∙ ap (λ b. decided b (reached None)) over.over ∙ ap (λ o. rules.Over (told_some (option_map (λ class. outcome.Threw class) o))) (sym plays.out_of_memory))
-        (answer-gives g v t fuel follows.fuel).fuel safe
-    by-row (Some row) arrives b quiet safe =
-        reply-follows links g (replied v) cells fuel (next row arrived) (b ∙ ap (λ b. decided b (next row arrived)) arrives.fits) (answer-gives g v t fuel follows.fuel).fuel
+        is.fuel safe
+    by-row (Some row) is arrives b quiet safe =
+        let same-held : w.held ≡ came = is.held ∙ ap (with_references t.held) one in
+        reply-follows links g w cells left depth (next row arrived) le (b ∙ ap (λ b. decided b (next row arrived)) arrives.fits) is.fuel
         (subst (λ held. GoesOn g held (next row arrived)) (sym same-held)
         (from-stays g came arrived.references (next row arrived) arrives.holds quiet (keeps arrived.references row arrived refl))) safe
 
-    held-reply : IsNeverStuck links (after cells (answered given m) fuel) → Follows links g (replied v) (after cells (answered given m) fuel)
-    held-reply safe =
-        subst (λ n. Follows links g (replied v) (after cells n fuel)) (sym held)
-        (by-row (row_for r m.references) (comes g t.held m.references r follows.held.0) behaves (subst IsQuiet held (answered_quiet given m))
-        (subst (λ n. IsNeverStuck links (after cells n fuel)) held safe))
+    held-reply : Goes v (on_held r next x)
+    held-reply is leads quiet safe =
+        by-row (row_for r x.references) is (comes g t.held x.references r (hold-on g t.held t.held m.references x.references refl same holds))
+        (is.behaviour ∙ (λ j. tasks.within_limit g (with_references t.held (one j)) (leads j))) quiet safe
 
-  made-reply : (v : Option Value) (r : Ref) → references_in v ≡ r ∷ [] → reply_of op v ≡ Some (reply.Made r) → IsNeverStuck links (after cells (answered (reply.Made r) m) fuel)
-      → Follows links g (replied v) (after cells (answered (reply.Made r) m) fuel)
-  made-reply v r one e safe =
-      held-reply v (reply.Made r) r (λ row x. push (Fresh m.stack.frame.index (ReferenceRow row)) go_on x) one e refl
-      (λ table row x is. pushes table (Fresh m.stack.frame.index (ReferenceRow row)) go_on (goes table) x is) safe
+  remote-reply : (v : Option Value) (r : Ref) (x : Machine) → references_in v ≡ r ∷ [] → x.references ≡ m.references → Goes v (on_held r (λ row. push (Remote row) go_on) x)
+  remote-reply v r x one same =
+      held-reply v r (λ row y. push (Remote row) go_on y) x one same (λ table row y is. pushes table (Remote row) go_on (goes table) y is)
 
-  holds-reply : (v : Option Value) (r : Ref) → references_in v ≡ r ∷ [] → reply_of op v ≡ Some (reply.Holds (field.Reference r))
-      → IsNeverStuck links (after cells (answered (reply.Holds (field.Reference r)) m) fuel) → Follows links g (replied v) (after cells (answered (reply.Holds (field.Reference r)) m) fuel)
-  holds-reply v r one e safe =
-      held-reply v (reply.Holds (field.Reference r)) r (λ row x. push (Remote row) go_on x) one e refl (λ table row x is. pushes table (Remote row) go_on (goes table) x is) safe
+  -- what a call gives
+  result-reply : (v : Option Value) (x : Machine) → x.references ≡ m.references → Goes v (push_result v x)
+  result-reply None x same = plain-reply None (go_on x) refl (goes m.references x same)
+  result-reply (Some value.Null) x same = plain-reply (Some value.Null) (push Null go_on x) refl (pushes m.references Null go_on (goes m.references) x same)
+  result-reply (Some (value.Int n)) x same = plain-reply (Some (value.Int n)) (push (Int n) go_on x) refl (pushes m.references (Int n) go_on (goes m.references) x same)
+  result-reply (Some (value.Ints ns)) x same = plain-reply (Some (value.Ints ns)) (push_result (Some (value.Ints ns)) x) refl (copy-keeps m.references ns x same)
+  result-reply (Some (value.Ref r)) x same = remote-reply (Some (value.Ref r)) r x refl same
 
-replies-follow : (links : Links) (g : Setting) (t : Task) (m : Machine) (fuel : ℕ) (given : Reply) → PlaysOn links g → (op : Asked) (v : Option Value) → reply_of op v ≡ Some given
-    → Follows links g t (Waits op m fuel) → IsNeverStuck links (after m.heap.cells (answered given m) fuel) → Follows links g (tasks.answer g (rules.Gives v) t) (after m.heap.cells (answered given m) fuel)
-replies-follow links g t m fuel given plays op v e f safe = by op v f e
-  where
-    -- the reply as it is given
-    as-given : (w : Option Value) (x : Reply) → x ≡ given
-        → (IsNeverStuck links (after m.heap.cells (answered x m) fuel) → Follows links g (tasks.answer g (rules.Gives w) t) (after m.heap.cells (answered x m) fuel))
-        → Follows links g (tasks.answer g (rules.Gives w) t) (after m.heap.cells (answered given m) fuel)
-    as-given w x same goes-on =
-        subst (λ (y : Reply). IsNeverStuck links (after m.heap.cells (answered y m) fuel) → Follows links g (tasks.answer g (rules.Gives w) t) (after m.heap.cells (answered y m) fuel)) same goes-on safe
+  call-reply : (count : ℕ) (v : Option Value) → Goes v (leave_call count v m)
+  call-reply count v = by (nat_le count (length m.stack.frame.operands))
+    where
+      top : (operands : List Tagged) → Goes v (on_top (λ receiver below. push_result v (with_operands below (without_arguments count m))) operands)
+      top [] is leads quiet safe = absurd (at_once links Lost safe)
+      top (receiver ∷ below) is leads quiet safe = result-reply v (with_operands below (without_arguments count m)) refl is leads quiet safe
 
-    by : (o : Asked) (w : Option Value) → Follows links g t (Waits o m fuel) → reply_of o w ≡ Some given
-        → Follows links g (tasks.answer g (rules.Gives w) t) (after m.heap.cells (answered given m) fuel)
-    by (asked.Create class) None h is = absurd (cc)
-    by (asked.Create class) (Some value.Null) h is = absurd (cc)
-    by (asked.Create class) (Some (value.Int n)) h is = absurd (cc)
-    by (asked.Create class) (Some (value.Ints ns)) h is = absurd (cc)
-    by (asked.Create class) (Some (value.Ref r)) h is =
-        let same : reply.Made r ≡ given = cc in
-        as-given (Some (value.Ref r)) (reply.Made r) same (λ quiet. made-reply links g t (asked.Create class) m fuel plays h (Some (value.Ref r)) r refl refl quiet)
-    by (asked.Get object slot) None h is = absurd (cc)
-    by (asked.Get object slot) (Some value.Null) h is =
-        let same : reply.Holds field.Null ≡ given = cc in
-        as-given (Some value.Null) (reply.Holds field.Null) same
-        (λ quiet. plain-reply links g t (asked.Get object slot) m fuel plays h (Some value.Null) (reply.Holds field.Null) refl refl (pushes m.references Null go_on (goes m.references) m refl) quiet)
-    by (asked.Get object slot) (Some (value.Int n)) h is =
-        let same : reply.Holds (field.Int n) ≡ given = cc in
-        as-given (Some (value.Int n)) (reply.Holds (field.Int n)) same
-        (λ quiet. plain-reply links g t (asked.Get object slot) m fuel plays h (Some (value.Int n)) (reply.Holds (field.Int n)) refl refl (pushes m.references (Int n) go_on (goes m.references) m refl) quiet)
-    by (asked.Get object slot) (Some (value.Ints ns)) h is = absurd (cc)
-    by (asked.Get object slot) (Some (value.Ref r)) h is =
-        let same : reply.Holds (field.Reference r) ≡ given = cc in
-        as-given (Some (value.Ref r)) (reply.Holds (field.Reference r)) same (λ quiet. holds-reply links g t (asked.Get object slot) m fuel plays h (Some (value.Ref r)) r refl refl quiet)
-    by (asked.Put object slot written) None h is =
-        let same : reply.Written ≡ given = cc in
-        as-given None reply.Written same (λ quiet. plain-reply links g t (asked.Put object slot written) m fuel plays h None reply.Written refl refl (goes m.references m refl) quiet)
-    by (asked.Put object slot written) (Some w) h is = absurd (cc)
+      by : (b : Bool) → Goes v (where_true b (pop_receiver v (without_arguments count m)))
+      by true is leads quiet safe = top (drop count m.stack.frame.operands) is leads quiet safe
+      by false is leads quiet safe = absurd (at_once links Lost safe)
 
-pub values-follow : (links : Links) (g : Setting) (t : Task) (op : Asked) (m : Machine) (fuel : ℕ) (v : Option Value) (given : Reply) → PlaysOn links g → Follows links g t (Waits op m fuel)
-    → reply_of op v ≡ Some given → IsDue links.classes given (Waits op m fuel) → Follows links g (tasks.answer g (rules.Gives v) t) (answer given (Waits op m fuel))
+-- ---- the reply to each that may be asked
+
+module _ (links : Links) (g : Setting) (t : Task) (m : Machine) (fuel : ℕ) (plays : PlaysOn links g) where
+  -- the task follows the reply, if it is this one
+  abbrev Replied : Asked → rules.Reply → Reply → Type 0
+  Replied op r given =
+      Follows links g t (Waits op m fuel) → FitsFuel op given fuel → IsNeverStuck links (after m.heap.cells (answered op given m) (fuel_after op given fuel))
+      → Follows links g (tasks.answer g r (waiting op t)) (after m.heap.cells (answered op given m) (fuel_after op given fuel))
+
+  -- what the behaviour of the task leads to
+  leads : (op : Asked) (f : Follows links g t (Waits op m fuel)) (v : Option Value)
+      → tasks.after_reply t.behaviour v ≡ by_reply links.classes (behaviour_of links f.depth) op m (completed_by op v)
+  leads op f v = ap (λ b. tasks.after_reply b v) f.behaviour.1
+
+  made-reply : (class : ClassId) (r : Ref) → Replied (asked.Create class) (rules.Gives (Some (value.Ref r))) (reply.Made r)
+  made-reply class r f fits safe =
+      let v : Option Value = Some (value.Ref r) in
+      held-reply links g t (tasks.answer g (rules.Gives v) t) m fuel f.depth plays f.behaviour.0 f.held.0 v r
+      (λ row x. push (Fresh m.stack.frame.index (ReferenceRow row)) go_on x) m refl refl
+      (λ table row x is. pushes table (Fresh m.stack.frame.index (ReferenceRow row)) go_on (goes table) x is)
+      (answer-gives g v t fuel f.fuel) (leads (asked.Create class) f v) (answered_quiet (asked.Create class) (reply.Made r) m) safe
+
+  null-reply : (object : Ref) (slot : ℕ) → Replied (asked.Get object slot) (rules.Gives (Some value.Null)) (reply.Holds field.Null)
+  null-reply object slot f fits safe =
+      let v : Option Value = Some value.Null in
+      plain-reply links g t (tasks.answer g (rules.Gives v) t) m fuel f.depth plays f.behaviour.0 f.held.0 v (push Null go_on m) refl
+      (pushes m.references Null go_on (goes m.references) m refl)
+      (answer-gives g v t fuel f.fuel) (leads (asked.Get object slot) f v) (answered_quiet (asked.Get object slot) (reply.Holds field.Null) m) safe
+
+  int-reply : (object : Ref) (slot : ℕ) (n : ℤ) → Replied (asked.Get object slot) (rules.Gives (Some (value.Int n))) (reply.Holds (field.Int n))
+  int-reply object slot n f fits safe =
+      let v : Option Value = Some (value.Int n) in
+      plain-reply links g t (tasks.answer g (rules.Gives v) t) m fuel f.depth plays f.behaviour.0 f.held.0 v (push (Int n) go_on m) refl
+      (pushes m.references (Int n) go_on (goes m.references) m refl)
+      (answer-gives g v t fuel f.fuel) (leads (asked.Get object slot) f v) (answered_quiet (asked.Get object slot) (reply.Holds (field.Int n)) m) safe
+
+  holds-reply : (object : Ref) (slot : ℕ) (r : Ref) → Replied (asked.Get object slot) (rules.Gives (Some (value.Ref r))) (reply.Holds (field.Reference r))
+  holds-reply object slot r f fits safe =
+      let v : Option Value = Some (value.Ref r) in
+      remote-reply links g t (tasks.answer g (rules.Gives v) t) m fuel f.depth plays f.behaviour.0 f.held.0 v r m refl refl
+      (answer-gives g v t fuel f.fuel) (leads (asked.Get object slot) f v) (answered_quiet (asked.Get object slot) (reply.Holds (field.Reference r)) m) safe
+
+  written-reply : (object : Ref) (slot : ℕ) (written : FieldValue) → Replied (asked.Put object slot written) (rules.Gives None) reply.Written
+  written-reply object slot written f fits safe =
+      plain-reply links g t (tasks.answer g (rules.Gives None) t) m fuel f.depth plays f.behaviour.0 f.held.0 None (go_on m) refl
+      (goes m.references m refl)
+      (answer-gives g None t fuel f.fuel) (leads (asked.Put object slot written) f None) (answered_quiet (asked.Put object slot written) reply.Written m) safe
+
+  returned-reply : (target : Ref) (method count : ℕ) (v : Option Value) (back : ℕ) → Replied (asked.Call target method count) (rules.GivesBack v back) (reply.Returned v back)
+  returned-reply target method count v back f fits safe =
+      let op : Asked = asked.Call target method count in
+      let deep : fuel ≤ f.depth = f.behaviour.0 in
+      let within : back ≤ fuel = fits in
+      let le : back ≤ f.depth = omega (arith, deep, within) in
+      call-reply links g t (tasks.answer g (rules.GivesBack v back) (tasks.lend_fuel t)) m back f.depth plays le f.held.0 count v
+      (answer-gives-back g v back t fuel f.fuel) (leads op f v) (answered_quiet op (reply.Returned v back) m) safe
+
+  spent-reply : (target : Ref) (method count : ℕ) → Replied (asked.Call target method count) rules.RunsOut reply.RunsOut
+  spent-reply target method count f fits safe =
+      let is = answer-runs-out g t fuel f.fuel in
+      over-follows links g (tasks.answer g rules.RunsOut (tasks.lend_fuel t)) (Some ends.Spent) 0 is.behaviour is.fuel safe
+
+  throws-reply : (op : Asked) (class : ClassId) → Replied op (rules.Throws class) (reply.Throws class)
+  throws-reply (asked.Create made) class f fits safe =
+      let is = answer-throws g class t fuel f.fuel in over-follows links g (tasks.answer g (rules.Throws class) t) (Some (ThrewObject class)) fuel is.behaviour is.fuel safe
+  throws-reply (asked.Get object slot) class f fits safe =
+      let is = answer-throws g class t fuel f.fuel in over-follows links g (tasks.answer g (rules.Throws class) t) (Some (ThrewObject class)) fuel is.behaviour is.fuel safe
+  throws-reply (asked.Put object slot written) class f fits safe =
+      let is = answer-throws g class t fuel f.fuel in over-follows links g (tasks.answer g (rules.Throws class) t) (Some (ThrewObject class)) fuel is.behaviour is.fuel safe
+  throws-reply (asked.Call target method count) class f fits safe =
+      let is = answer-throws-lent g class t fuel f.fuel in
+      over-follows links g (tasks.answer g (rules.Throws class) (tasks.lend_fuel t)) (Some (ThrewObject class)) 0 is.behaviour is.fuel safe
+
+  -- the reply as it is given
+  as-given : (op : Asked) (r : rules.Reply) (x given : Reply) → x ≡ given → Replied op r x → Replied op r given
+  as-given op r x given same is = subst (Replied op r) same is
+
+  all-follow : (op : Asked) (r : rules.Reply) (given : Reply) → reply_to op r ≡ Some given → Replied op r given
+  all-follow op (rules.Throws class) given e = let same : reply.Throws class ≡ given = cc in as-given op (rules.Throws class) (reply.Throws class) given same (throws-reply op class)
+  all-follow (asked.Create class) (rules.Gives None) given e = absurd (cc)
+  all-follow (asked.Create class) (rules.Gives (Some value.Null)) given e = absurd (cc)
+  all-follow (asked.Create class) (rules.Gives (Some (value.Int n))) given e = absurd (cc)
+  all-follow (asked.Create class) (rules.Gives (Some (value.Ints ns))) given e = absurd (cc)
+  all-follow (asked.Create class) (rules.Gives (Some (value.Ref r))) given e =
+      let same : reply.Made r ≡ given = cc in as-given (asked.Create class) (rules.Gives (Some (value.Ref r))) (reply.Made r) given same (made-reply class r)
+  all-follow (asked.Create class) (rules.GivesBack v back) given e = absurd (cc)
+  all-follow (asked.Create class) rules.RunsOut given e = absurd (cc)
+  all-follow (asked.Get object slot) (rules.Gives None) given e = absurd (cc)
+  all-follow (asked.Get object slot) (rules.Gives (Some value.Null)) given e =
+      let same : reply.Holds field.Null ≡ given = cc in as-given (asked.Get object slot) (rules.Gives (Some value.Null)) (reply.Holds field.Null) given same (null-reply object slot)
+  all-follow (asked.Get object slot) (rules.Gives (Some (value.Int n))) given e =
+      let same : reply.Holds (field.Int n) ≡ given = cc in as-given (asked.Get object slot) (rules.Gives (Some (value.Int n))) (reply.Holds (field.Int n)) given same (int-reply object slot n)
+  all-follow (asked.Get object slot) (rules.Gives (Some (value.Ints ns))) given e = absurd (cc)
+  all-follow (asked.Get object slot) (rules.Gives (Some (value.Ref r))) given e =
+      let same : reply.Holds (field.Reference r) ≡ given = cc in as-given (asked.Get object slot) (rules.Gives (Some (value.Ref r))) (reply.Holds (field.Reference r)) given same (holds-reply object slot r)
+  all-follow (asked.Get object slot) (rules.GivesBack v back) given e = absurd (cc)
+  all-follow (asked.Get object slot) rules.RunsOut given e = absurd (cc)
+  all-follow (asked.Put object slot written) (rules.Gives None) given e =
+      let same : reply.Written ≡ given = cc in as-given (asked.Put object slot written) (rules.Gives None) reply.Written given same (written-reply object slot written)
+  all-follow (asked.Put object slot written) (rules.Gives (Some v)) given e = absurd (cc)
+  all-follow (asked.Put object slot written) (rules.GivesBack v back) given e = absurd (cc)
+  all-follow (asked.Put object slot written) rules.RunsOut given e = absurd (cc)
+  all-follow (asked.Call target method count) (rules.Gives v) given e = absurd (cc)
+  all-follow (asked.Call target method count) (rules.GivesBack v back) given e =
+      let same : reply.Returned v back ≡ given = cc in as-given (asked.Call target method count) (rules.GivesBack v back) (reply.Returned v back) given same (returned-reply target method count v back)
+  all-follow (asked.Call target method count) rules.RunsOut given e =
+      let same : reply.RunsOut ≡ given = cc in as-given (asked.Call target method count) rules.RunsOut reply.RunsOut given same (spent-reply target method count)
+
+pub replies-follow : (links : Links) (g : Setting) (t : Task) (op : Asked) (m : Machine) (fuel : ℕ) (r : rules.Reply) (given : Reply) → PlaysOn links g → Follows links g t (Waits op m fuel)
+    → reply_to op r ≡ Some given → IsDue links.classes given (Waits op m fuel) → Follows links g (tasks.answer g r (waiting op t)) (answer given (Waits op m fuel))
 unfolding answer
-values-follow links g t op m fuel v given plays f e due =
-    replies-follow links g t m fuel given plays op v e f (IsNeverStuck-answer links given (Waits op m fuel) f.never_stuck due)
-
-pub throws-follow : (links : Links) (g : Setting) (t : Task) (op : Asked) (m : Machine) (fuel : ℕ) (class : ClassId) → Follows links g t (Waits op m fuel)
-    → IsDue links.classes (reply.Throws class) (Waits op m fuel) → Follows links g (tasks.answer g (rules.Throws class) t) (answer (reply.Throws class) (Waits op m fuel))
-unfolding answer
-throws-follow links g t op m fuel class f due =
-    let is = answer-throws g class t fuel f.fuel in
-    over-follows links g (tasks.answer g (rules.Throws class) t) (Some (ThrewObject class)) fuel is.behaviour is.fuel (IsNeverStuck-answer links (reply.Throws class) (Waits op m fuel) f.never_stuck due)
+replies-follow links g t op m fuel r given plays f e due =
+    all-follow links g t m fuel plays op r given e f due.1 (IsNeverStuck-answer links given (Waits op m fuel) f.never_stuck due)

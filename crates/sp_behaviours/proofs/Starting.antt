@@ -11,12 +11,12 @@ use Rattle.uuid.specs.declared.Uuid.{Uuid}
 use Rattle.sp_rules.specs.Behaviours as rules
 use Rattle.sp_rules.specs.Classes.{Setting}
 use Rattle.sp_rules.specs.References.{is_reference_in, references_of, with_reference, with_references}
-use Rattle.sp_rules.specs.Tasks.{start, within_limit}
+use Rattle.sp_rules.specs.Tasks.{Task, start, within_limit}
 use Rattle.vm_heap.specs.References as heap
 use Rattle.vm_heap.specs.References.{Table, row_for}
 use Rattle.vm_act.specs.declared.ending.Thrown.TheVariants.{OutOfMemoryError, StackOverflowError}
 use Rattle.vm_run.specs.Ends.{Threw}
-use Rattle.vm_run.specs.Run.{State, Running, Over, IsNeverStuck}
+use Rattle.vm_run.specs.Run.{State, Running, Waits, Over, Lost, IsNeverStuck}
 use Rattle.vm_run.specs.Start.{have_room, have_rows, is_row, no_references, opening_machine, opening_state, refusal, startable, started, with_arguments}
 use Rattle.vm_run.specs.Subjects.{Declared}
 use Rattle.vm_run.specs.Task.{Tasked, fuel_left}
@@ -25,8 +25,9 @@ use Rattle.vm_run.specs.declared.fault.StartFault.TheVariants as fault
 use Rattle.vm_run.specs.declared.limits.Limits.{Limits}
 use Rattle.vm_run.specs.declared.outcome.Outcome.TheVariants as outcome
 use Rattle.vm_stack.specs.Frames.{frame_cost}
-use Rattle.sp_behaviours.specs.Behaviours.{behaviour, behaviour_at, limits_of, of_started, told_some}
-use Rattle.sp_behaviours.specs.Follows.{Follows, HoldsAs, HoldsIn, PlaysOn}
+use Rattle.sp_behaviours.specs.Behaviours.{behaviour, behaviour_at, limits_of, of_started, told_end, told_some}
+use Rattle.sp_behaviours.proofs.OwnSteps.{stand-is}
+use Rattle.sp_behaviours.specs.Follows.{Does, Follows, HoldsAs, HoldsIn, PlaysOn}
 use Rattle.sp_behaviours.proofs.Coming.{Arrives, Comes, Overflows, comes, over-more, stays-within}
 
 -- ---- the references of arguments
@@ -119,7 +120,7 @@ opened-state links own id arguments limits task e = by (startable links id) e
 
     start_at : Option Declared → Result Tasked StartFault
     start_at None = Err fault.AbsentMethod
-    start_at (Some m) = begin m (refusal links.classes own m.method arguments)
+    start_at (Some m) = begin m (refusal links.classes m.method arguments)
 
     begun : (m : Declared) (why : Option StartFault) → begin m why ≡ Ok task → (code : Code) × (task.state ≡ opening_state own id code arguments limits)
     begun m (Some why) e = absurd (cc)
@@ -127,7 +128,20 @@ opened-state links own id arguments limits task e = by (startable links id) e
 
     by : (o : Option Declared) → start_at o ≡ Ok task → (code : Code) × (task.state ≡ opening_state own id code arguments limits)
     by None e = absurd (cc)
-    by (Some m) e = begun m (refusal links.classes own m.method arguments) e
+    by (Some m) e = begun m (refusal links.classes m.method arguments) e
+
+-- what does as a state tells does so as deep as its fuel
+abbrev depth_of : State → ℕ
+depth_of (Running m fuel) = fuel
+depth_of (Waits op m fuel) = fuel
+depth_of (Over end fuel) = 0
+depth_of Lost = 0
+
+does_at : (links : Links) (t : Task) (s : State) → t.behaviour ≡ behaviour_at links s → Does links (depth_of s) t s
+does_at links t (Running m fuel) b = (omega arith, b)
+does_at links t (Waits op m fuel) b = (omega arith, b)
+does_at links t (Over end fuel) b = stand-is t (rules.Over (told_end links.classes end)) t.fuel b refl
+does_at links t Lost b = tt
 
 pub starts-follow : (links : Links) (g : Setting) (method : ℕ) (arguments : List Value) (fuel : ℕ) (task : Tasked) → PlaysOn links g
     → started links g.id (record { 0 = method }) arguments (limits_of g.limits fuel) ≡ Ok task → IsNeverStuck links task.state → Follows links g (start g method arguments fuel) task.state
@@ -139,7 +153,9 @@ starts-follow links g method arguments fuel task plays e safe =
     let does : g.classes.behaviour g.id g.limits method arguments fuel ≡ behaviour_at links task.state = plays.behaviour g.id g.limits method arguments fuel ∙ ap (of_started links) e in
     let came : List Ref = with_references [] (references_of arguments) in
     record {
-      behaviour = ap (within_limit g came) does ∙ subst (λ (s : State). within_limit g came (behaviour_at links s) ≡ behaviour_at links s) (sym opened.1) is.0;
+      depth = depth_of task.state;
+      behaviour = does_at links (start g method arguments fuel) task.state
+          (ap (within_limit g came) does ∙ subst (λ (s : State). within_limit g came (behaviour_at links s) ≡ behaviour_at links s) (sym opened.1) is.0);
       fuel = is.1 ∙ ap fuel_left (sym opened.1);
       held = subst (HoldsIn g came) (sym opened.1) is.2;
       never_stuck = safe;

@@ -1,6 +1,6 @@
 -- An instruction of a task's own leaves the references by which the task has come, and so does one that asks.
 use Rattle.std.proofs.Common.{◌≡◌, ℕ, zero, suc, Bool, true, false, List, [], ◌∷◌, length, refl, ap, ◌∙◌, arith, Option, Some, None}
-use Rattle.std.specs.Prelude.{ℤ, pos, negsuc, nat_lt, nat_le, replicate, slice_get, ◌+◌, ◌-◌, ◌||◌, if◌then◌else◌}
+use Rattle.std.specs.Prelude.{ℤ, pos, negsuc, nat_lt, nat_le, replicate, slice_get, ◌+◌, ◌-◌, ◌^◌, ◌||◌, reverse, option_map, option_and_then, if◌then◌else◌}
 use Rattle.std.specs.Int.{int_wrapping_add}
 use Rattle.std.specs.Str.{bytes_eq}
 use Rattle.std.proofs.lemmas.Cmp.{nat_list_eq_equiv}
@@ -29,7 +29,7 @@ use Rattle.cls_search.specs.MethodSearches.{method_in}
 use Rattle.cls_set.specs.declared.class.Class.{Class}
 use Rattle.space_ids.specs.declared.ids.ClassId.{ClassId}
 use Rattle.space_ids.specs.declared.ids.Ref.{Ref}
-use Rattle.vm_heap.specs.Heap.{Cell, Ints, all_cost, cost, element_at, field_at, length_at, new_cell, with_element, with_field, with_new}
+use Rattle.vm_heap.specs.Heap.{Cell, Object, Ints, cell_at, all_cost, cost, element_at, field_at, length_at, new_cell, with_element, with_field, with_new}
 use Rattle.vm_heap.specs.References.{Table, is_own}
 use Rattle.vm_heap.specs.Tagged.{Tagged, Int, Null, Local, Remote, Fresh, This, Unset, Head, Site, HeapAddress, ReferenceRow, pointer_at}
 use Rattle.vm_heap.specs.declared.heap.WordKind.{WordKind}
@@ -40,13 +40,15 @@ use Rattle.vm_act.specs.Arrays.{index_in, on_array, sized}
 use Rattle.vm_act.specs.Calls.{are_passed, begin_receiver, construct, enter, invoke, leave, left, on_receiver, on_returned, return_int, return_nothing, return_reference, unchanged}
 use Rattle.vm_act.specs.Calls as acts
 use Rattle.vm_act.specs.Next.{Next, On, Ends, Asks, Stuck}
-use Rattle.vm_act.specs.Objects.{answer, cast, get_field, make, new_object, on_referent, put_at, put_field, referent_at, throw}
-use Rattle.vm_act.specs.Remote.{ask_get, ask_put, create, is_remote_at, on_own, on_own_or_this, on_own_row, on_remote_site, put_to, read_field, stored_as, write_field, write_stored}
+use Rattle.vm_act.specs.Crossing.{crosses, values_of}
+use Rattle.vm_act.specs.Objects.{answer, cast, get_field, make, new_object, on_referent, put_at, put_field, referent_at, referent_in, referent_of, remote_referent, throw}
+use Rattle.vm_act.specs.Remote.{ask, ask_call, ask_get, ask_put, create, is_remote_at, on_own, on_own_or_this, on_own_row, on_remote_site, push_copy, put_to, read_field, stored_as, write_field, write_stored}
 use Rattle.vm_act.specs.Steps.{branch, go_on, is_initialised, is_int, is_kind, jump, load_as, on_int, on_object, on_own_address, on_own_object, on_reference, on_some, on_top, on_uninitialised, pop, pop_as, pop_int, pop_object, pop_reference, push, store, where_true, with_operands}
 use Rattle.vm_act.specs.Switches.{lookup_target, table_target}
 use Rattle.vm_act.specs.Words.{are_same, if_null, if_same, increment, is_wanted, load, store_top}
 use Rattle.vm_act.specs.declared.asked.Asked.TheVariants as asked
 use Rattle.vm_act.specs.declared.asked.FieldValue.{FieldValue}
+use Rattle.vm_act.specs.declared.crossing.Parameter.{Parameter}
 use Rattle.vm_act.specs.declared.calls.Callee.{Callee}
 use Rattle.vm_act.specs.declared.calls.Selected.{Selected}
 use Rattle.vm_act.specs.declared.calls.Selected.TheVariants as selected
@@ -57,12 +59,13 @@ use Rattle.vm_act.specs.declared.machine.Machine.{Machine}
 use Rattle.vm_act.specs.declared.objects.Referent.{Referent}
 use Rattle.vm_act.specs.declared.objects.Referent.TheVariants as referent
 use Rattle.vm_code.specs.Act.{act, act_on_array, get_field_of, is_equal, new_of, put_field_of, rearrange, return_value, switch_at, switch_by, word_kind}
-use Rattle.vm_code.specs.Calls.{call_interface, call_receiver, call_special, call_special_of, call_static, call_super, call_virtual, construct_chosen, current_class, id_of, invoke_on, invoke_unless_null}
+use Rattle.vm_code.specs.Calls.{call_interface, call_receiver, call_stub, invoke_interface, call_special, call_special_of, call_static, call_super, call_virtual, construct_chosen, current_class, id_of, invoke_on, invoke_unless_null}
 use Rattle.vm_code.specs.Calls as calls
-use Rattle.vm_code.specs.Classes.{is_instance, is_remote, passes}
+use Rattle.vm_code.specs.Classes.{implements_remotely, is_instance, is_remote, passes}
 use Rattle.vm_code.specs.Fields.{field_kind, kinds_of, slot_of}
 use Rattle.vm_code.specs.Ints.{binary, if_compare, if_zero, push_result, unary}
 use Rattle.vm_code.specs.Methods.{callee_of, chosen, init_begins_uninit, interface_selected, is_init, object_of, selected_of, special_start}
+use Rattle.vm_code.specs.Parameters.{parameters_of}
 use Rattle.vm_code.specs.Operators.{binary_result, condition_holds, unary_result}
 use Rattle.vm_rows.specs.Steps as insns
 use Rattle.sp_rules.specs.References.{is_reference_in, is_same_reference}
@@ -77,6 +80,37 @@ among [] row r found = absurd (cc)
 among (x ∷ xs) zero r found =
     let same : x ≡ r = cc in (λ j. is_same_reference r (same j) || is_reference_in xs r) ∙ ap (λ b. b || is_reference_in xs r) (same_as_itself r)
 among (x ∷ xs) (suc n) r found = let rest = among xs n r found in elim (is_same_reference r x) as (λ b. (b || is_reference_in xs r) ≡ true) [ true ↦ refl | false ↦ rest ]
+
+-- a stub is one of the references of its machine
+stub_of : (table : Table) (o : Option Ref) (r : Ref) → option_map (remote_referent table) o ≡ Some (referent.Stub r) → o ≡ Some r
+stub_of table None r e = absurd (cc)
+stub_of table (Some x) r e = by (is_own table x) e
+  where
+    by : (b : Bool) → Some (if b then referent.Object x.class else referent.Stub x) ≡ Some (referent.Stub r) → Some x ≡ Some r
+    by true is = absurd (cc)
+    by false is = let same : x ≡ r = cc in ap (λ y. Some y) same
+
+no_stub : (o : Option Cell) (r : Ref) → option_map referent_in o ≡ Some (referent.Stub r) → ⊥
+no_stub None r e = absurd (cc)
+no_stub (Some (Object class fields)) r e = absurd (cc)
+no_stub (Some (Ints elements)) r e = absurd (cc)
+
+stub_word : (table : Table) (cells : List Cell) (v : Tagged) (r : Ref) → referent_of table cells v ≡ Some (referent.Stub r) → is_reference_in table.rows r ≡ true
+stub_word table cells (Int n) r e = absurd (cc)
+stub_word table cells Null r e = absurd (cc)
+stub_word table cells (Local address) r e = absurd (no_stub (cell_at cells address) r e)
+stub_word table cells (Remote row) r e = among table.rows row r (stub_of table (slice_get table.rows row) r e)
+stub_word table cells (Fresh index site) r e = absurd (cc)
+stub_word table cells (This site) r e = absurd (cc)
+stub_word table cells Unset r e = absurd (cc)
+stub_word table cells (Head header) r e = absurd (cc)
+
+stub_held : (m : Machine) (depth : ℕ) (r : Ref) → referent_at depth m ≡ Some (referent.Stub r) → is_reference_in m.references.rows r ≡ true
+stub_held m depth r e = by (slice_get m.stack.frame.operands depth) e
+  where
+    by : (o : Option Tagged) → option_and_then (referent_of m.references m.heap.cells) o ≡ Some (referent.Stub r) → is_reference_in m.references.rows r ≡ true
+    by None is = absurd (cc)
+    by (Some v) is = stub_word m.references m.heap.cells v r is
 
 -- the machine that goes on, or that asks, has these references, and it asks of one of them
 abbrev pub Stays : Table → Next → Type 0
@@ -267,6 +301,12 @@ module _ (table : Table) where
   arrays : (address : ℕ) (next : ℕ → Next) (m : Machine) → ((count : ℕ) → Stays table (next count)) → Stays table (on_array address next m)
   arrays address next m stays = some next (length_at address m.heap.cells) stays
 
+  -- the copy of an array that a call gives
+  pub copy-keeps : (elements : List ℤ) → Keeps table (push_copy elements)
+  copy-keeps elements m is =
+      choice (nat_lt (length elements) (2 ^ 31)) (make (Ints elements) (push (Local (all_cost m.heap.cells)) go_on) m) (Ends (ending.Threw thrown.OutOfMemoryError))
+      (makes (Ints elements) (push (Local (all_cost m.heap.cells)) go_on) (pushes (Local (all_cost m.heap.cells)) go_on goes) m is) tt
+
   abbrev made_array : ℤ → Machine → Next
   made_array n m = sized n (λ count. make (Ints (replicate count (pos 0))) (push (Local (all_cost m.heap.cells)) go_on) m)
 
@@ -343,6 +383,7 @@ module _ (table : Table) where
   throw-keeps referent.Null m is = tt
   throw-keeps (referent.Object class) m is = tt
   throw-keeps referent.Ints m is = tt
+  throw-keeps (referent.Stub reference) m is = tt
 
   new-keeps : (classes : List Class) (class : ClassId) → Keeps table (new_of classes class)
   new-keeps classes class m is =
@@ -433,6 +474,7 @@ module _ (table : Table) where
   invoke_on-keeps classes select referent.Null m is = tt
   invoke_on-keeps classes select (referent.Object class) m is = invoke-keeps (select class) m is
   invoke_on-keeps classes select referent.Ints m is = some (λ object. invoke (select object) m) (object_of classes) (λ object. invoke-keeps (select object) m is)
+  invoke_on-keeps classes select (referent.Stub reference) m is = some (λ object. invoke (select object) m) (object_of classes) (λ object. invoke-keeps (select object) m is)
 
   receiver-keeps : (classes : List Class) (method : Method) (select : ClassId → Selected) → Keeps table (call_receiver classes method select)
   receiver-keeps classes method select = referents (length method.types.parameters) (invoke_on classes select) (invoke_on-keeps classes select)
@@ -447,10 +489,35 @@ module _ (table : Table) where
       some (λ (method : Method). call_receiver classes method (λ class. selected_of classes class (id_of classes member)) m) (method_in classes (method_of member))
       (λ method. receiver-keeps classes method (λ class. selected_of classes class (id_of classes member)) m is)
 
+  ask-stays : (target : Ref) (method count : ℕ) (crosses : Bool) (m : Machine) → m.references ≡ table → is_reference_in m.references.rows target ≡ true → Stays table (ask target method count crosses m)
+  ask-stays target method count crosses m is held =
+      choice crosses (Asks (asked.Call target method count) m) (Ends (ending.Threw thrown.MarshalException)) (is, held) tt
+
+  ask_call-stays : (target : Ref) (method : ℕ) (parameters : List Parameter) (m : Machine) → m.references ≡ table → is_reference_in m.references.rows target ≡ true
+      → Stays table (ask_call target method parameters m)
+  ask_call-stays target method parameters m is held =
+      some (λ values. ask target method (length parameters) (crosses values) m) (values_of (reverse parameters) m.references m.heap.cells m.stack.frame.operands)
+      (λ values. ask-stays target method (length parameters) (crosses values) m is held)
+
+  stub-stays : (classes : List Class) (interface : ClassId) (id : MethodId) (method : Method) (r : Ref) (m : Machine) → m.references ≡ table → is_reference_in m.references.rows r ≡ true
+      → Stays table (call_stub classes interface id method r m)
+  stub-stays classes interface id method r m is held =
+      choice (implements_remotely classes r.class interface) (ask_call r id.0 (parameters_of method) m) (invoke selected.NotImplemented m)
+      (ask_call-stays r id.0 (parameters_of method) m is held) tt
+
+  interface_on-stays : (classes : List Class) (interface : ClassId) (id : MethodId) (method : Method) (depth : ℕ) (m : Machine) → m.references ≡ table → (r : Referent) → referent_at depth m ≡ Some r
+      → Stays table (invoke_interface classes interface id method r m)
+  interface_on-stays classes interface id method depth m is referent.Null found = tt
+  interface_on-stays classes interface id method depth m is (referent.Object class) found = invoke-keeps (interface_selected classes class interface id) m is
+  interface_on-stays classes interface id method depth m is referent.Ints found =
+      some (λ object. invoke (interface_selected classes object interface id) m) (object_of classes) (λ object. invoke-keeps (interface_selected classes object interface id) m is)
+  interface_on-stays classes interface id method depth m is (referent.Stub r) found = stub-stays classes interface id method r m is (stub_held m depth r found)
+
   interface-keeps : (classes : List Class) (interface : ClassId) (member : MemberIndex) → Keeps table (call_interface classes interface member)
   interface-keeps classes interface member m is =
-      some (λ (method : Method). call_receiver classes method (λ class. interface_selected classes class interface (id_of classes member)) m) (method_in classes (method_of member))
-      (λ method. receiver-keeps classes method (λ class. interface_selected classes class interface (id_of classes member)) m is)
+      some (λ (method : Method). on_referent (length method.types.parameters) (invoke_interface classes interface (id_of classes member) method) m) (method_in classes (method_of member)) (λ method.
+      some_is (λ r. invoke_interface classes interface (id_of classes member) method r m) (referent_at (length method.types.parameters) m)
+      (interface_on-stays classes interface (id_of classes member) method (length method.types.parameters) m is))
 
   chosen-keeps : (s : Selected) → Keeps table (construct_chosen s)
   chosen-keeps (selected.Method callee) m is = construct-keeps callee m is
@@ -462,6 +529,7 @@ module _ (table : Table) where
   unless_null-keeps s referent.Null m is = tt
   unless_null-keeps s (referent.Object class) m is = invoke-keeps s m is
   unless_null-keeps s referent.Ints m is = invoke-keeps s m is
+  unless_null-keeps s (referent.Stub reference) m is = invoke-keeps s m is
 
   super-keeps : (links : Links) (named : ClassId) (method : Method) (id : MethodId) → Keeps table (call_super links named method id)
   super-keeps links named method id m is =

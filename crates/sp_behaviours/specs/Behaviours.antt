@@ -1,6 +1,7 @@
 -- The behaviour of a machine: the tree of its steps and of all replies to what it asks, as deep as its fuel allows. (This project's own rule:
 -- the Java RMI specification leaves open what runs a method.)
-use Rattle.std.specs.Prelude.{ℕ, zero, suc, List, Option, Some, None, Result, Ok, Err, option_map, option_and_then}
+use Rattle.std.specs.Option.{unwrap_or}
+use Rattle.std.specs.Prelude.{ℕ, zero, suc, List, [], Option, Some, None, Result, Ok, Err, option_map, option_and_then}
 use Rattle.cls_link.specs.Links.{Links}
 use Rattle.cls_set.specs.declared.class.Class.{Class}
 use Rattle.space_ids.specs.declared.value.Value.{Value}
@@ -22,7 +23,7 @@ use Rattle.vm_rows.specs.Steps.{step}
 use Rattle.vm_run.specs.Ends.{End, end_of}
 use Rattle.vm_run.specs.Run.{State, Running, Waits, Over, Lost}
 use Rattle.vm_run.specs.Start.{started}
-use Rattle.vm_run.specs.Task.{Tasked, outcome_of}
+use Rattle.vm_run.specs.Task.{Tasked, arguments_of, outcome_of}
 use Rattle.vm_run.specs.declared.fault.StartFault.{StartFault}
 use Rattle.vm_run.specs.declared.limits.Limits.{Limits}
 use Rattle.vm_run.specs.declared.outcome.Outcome.{Outcome}
@@ -61,10 +62,23 @@ field_value (value.Int n) = Some (field.Int n)
 field_value (value.Ints elements) = None
 field_value (value.Ref reference) = Some (field.Reference reference)
 
-abbrev pub op_of : Asked → rules.Op
-op_of (asked.Create class) = rules.Create class
-op_of (asked.Get object slot) = rules.Get object.id slot
-op_of (asked.Put object slot value) = rules.Put object.id slot (value_of value)
+-- a call is asked for with these arguments
+abbrev pub op_of : List Value → Asked → rules.Op
+op_of arguments (asked.Create class) = rules.Create class
+op_of arguments (asked.Get object slot) = rules.Get object.id slot
+op_of arguments (asked.Put object slot value) = rules.Put object.id slot (value_of value)
+op_of arguments (asked.Call target method count) = rules.Call target method arguments
+
+-- it is asked of the space's own store: a call is asked of another space
+abbrev pub IsOfStore : Asked → Type 0
+IsOfStore (asked.Create class) = Unit {0}
+IsOfStore (asked.Get object slot) = Unit {0}
+IsOfStore (asked.Put object slot value) = Unit {0}
+IsOfStore (asked.Call target method count) = ⊥
+
+-- what a machine asks for: the arguments of a call are what crosses of its operands
+abbrev pub op_at : List Class → Asked → Machine → rules.Op
+op_at classes op m = op_of (unwrap_or (arguments_of classes op m) []) op
 
 abbrev pub made_of : Option Value → Option Reply
 made_of None = None
@@ -80,11 +94,39 @@ abbrev pub written_of : Option Value → Option Reply
 written_of None = Some reply.Written
 written_of (Some value) = None
 
--- the reply that a value which the space gives is to what was asked: nothing, if it is not of the kind
+-- the reply that a value of the space's store is to what was asked: nothing, if it is not of the kind
 abbrev pub reply_of : Asked → Option Value → Option Reply
 reply_of (asked.Create class) given = made_of given
 reply_of (asked.Get object slot) given = held_of given
 reply_of (asked.Put object slot value) given = written_of given
+reply_of (asked.Call target method count) given = None
+
+-- the reply that a value with which a call returned is, with the fuel that came back
+abbrev pub returned_of : Asked → Option Value → ℕ → Option Reply
+returned_of (asked.Create class) given back = None
+returned_of (asked.Get object slot) given back = None
+returned_of (asked.Put object slot value) given back = None
+returned_of (asked.Call target method count) given back = Some (reply.Returned given back)
+
+abbrev pub spent_of : Asked → Option Reply
+spent_of (asked.Create class) = None
+spent_of (asked.Get object slot) = None
+spent_of (asked.Put object slot value) = None
+spent_of (asked.Call target method count) = Some reply.RunsOut
+
+-- the reply of the space, as the machine takes it
+abbrev pub reply_to : Asked → rules.Reply → Option Reply
+reply_to op (rules.Gives value) = reply_of op value
+reply_to op (rules.GivesBack value fuel) = returned_of op value fuel
+reply_to op (rules.Throws class) = Some (reply.Throws class)
+reply_to op rules.RunsOut = spent_of op
+
+-- The value that completes the instruction. The fuel that comes with that of a call is the task's, and no matter of what it does.
+abbrev pub completed_by : Asked → Option Value → Option Reply
+completed_by (asked.Create class) given = made_of given
+completed_by (asked.Get object slot) given = held_of given
+completed_by (asked.Put object slot value) given = written_of given
+completed_by (asked.Call target method count) given = Some (reply.Returned given 0)
 
 -- ---- machines
 
@@ -97,13 +139,13 @@ after_reply classes cells go_on (Asks op m) = rules.Over rules.Spent
 after_reply classes cells go_on Stuck = rules.Over rules.Spent
 
 -- a value that is not of the kind never comes
-abbrev pub by_reply : List Class → (Machine → rules.Behaviour) → Machine → Option Reply → rules.Behaviour
-by_reply classes go_on m None = rules.Over rules.Spent
-by_reply classes go_on m (Some given) = after_reply classes m.heap.cells go_on (answered given m)
+abbrev pub by_reply : List Class → (Machine → rules.Behaviour) → Asked → Machine → Option Reply → rules.Behaviour
+by_reply classes go_on op m None = rules.Over rules.Spent
+by_reply classes go_on op m (Some given) = after_reply classes m.heap.cells go_on (answered op given m)
 
 -- a machine that asks, and what it does after each value that may be given
 abbrev pub asking : List Class → (Machine → rules.Behaviour) → Asked → Machine → rules.Behaviour
-asking classes go_on op m = rules.Asks (op_of op) (λ given. by_reply classes go_on m (reply_of op given))
+asking classes go_on op m = rules.Asks (op_at classes op m) (λ given. by_reply classes go_on op m (completed_by op given))
 
 -- an instruction, by what it leads to
 abbrev pub by_next : List Class → List Cell → (Machine → rules.Behaviour) → Next → rules.Behaviour

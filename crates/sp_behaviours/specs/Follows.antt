@@ -9,7 +9,7 @@ use Rattle.uuid.specs.declared.Uuid.{Uuid}
 use Rattle.sp_rules.specs.Behaviours as rules
 use Rattle.sp_rules.specs.Classes.{Limits, Setting}
 use Rattle.sp_rules.specs.References.{is_reference_in}
-use Rattle.sp_rules.specs.Tasks.{Task, Stand, Runs, AsksFor, HasEnded}
+use Rattle.sp_rules.specs.Tasks.{Task, Stand, Runs, AsksFor, HasEnded, lend_fuel, stand}
 use Rattle.vm_act.specs.Next.{Next, On, Ends, Asks, Stuck}
 use Rattle.vm_act.specs.declared.asked.Asked.{Asked}
 use Rattle.vm_act.specs.declared.asked.Asked.TheVariants as asked
@@ -17,7 +17,7 @@ use Rattle.vm_heap.specs.References.{Table}
 use Rattle.vm_rows.specs.Steps as insns
 use Rattle.vm_run.specs.Run.{State, Running, Waits, Over, Lost, IsNeverStuck}
 use Rattle.vm_run.specs.Task.{fuel_left}
-use Rattle.sp_behaviours.specs.Behaviours.{behaviour, behaviour_at, op_of, told_end}
+use Rattle.sp_behaviours.specs.Behaviours.{asking, behaviour, behaviour_of, op_at, told_end}
 
 -- The classes of a setting play on a linked set: what tasks do is what its machines do, and the class that a task throws over its limits is
 -- java/lang/OutOfMemoryError there.
@@ -32,11 +32,12 @@ pub record HoldsAs (g : Setting) (held : List Ref) (table : Table) : Type 0 wher
   pub limit : table.limit ≡ g.limits.references
   pub within : length held ≤ g.limits.references
 
--- The object of which a field is asked for is one to which a reference is held.
+-- The object of which a field is asked for is one to which a reference is held, and so is that of which a method is called.
 abbrev pub HoldsAsked : List Ref → Asked → Type 0
 HoldsAsked held (asked.Create class) = Unit {0}
 HoldsAsked held (asked.Get object slot) = is_reference_in held object ≡ true
 HoldsAsked held (asked.Put object slot value) = is_reference_in held object ≡ true
+HoldsAsked held (asked.Call target method count) = is_reference_in held target ≡ true
 
 -- A task that is over holds nothing on its machine.
 abbrev pub HoldsIn : Setting → List Ref → State → Type 0
@@ -45,25 +46,40 @@ HoldsIn g held (Waits op m fuel) = HoldsAs g held m.references × HoldsAsked hel
 HoldsIn g held (Over end fuel) = Unit {0}
 HoldsIn g held Lost = Unit {0}
 
+-- The task does what the machine does. Its tree is as deep as its fuel, or deeper: a call may give back less than the task had.
+abbrev pub Does : Links → ℕ → Task → State → Type 0
+Does links depth t (Running m fuel) = (fuel ≤ depth) × (t.behaviour ≡ behaviour_of links depth m)
+Does links depth t (Waits op m fuel) = (fuel ≤ depth) × (t.behaviour ≡ asking links.classes (behaviour_of links depth) op m)
+Does links depth t (Over end fuel) = stand t ≡ HasEnded (told_end links.classes end)
+Does links depth t Lost = Unit {0}
+
 -- The task follows a machine that is never stuck.
 pub record Follows (links : Links) (g : Setting) (t : Task) (s : State) : Type 0 where
-  pub behaviour : t.behaviour ≡ behaviour_at links s
+  pub depth : ℕ
+  pub behaviour : Does links depth t s
   pub fuel : t.fuel ≡ fuel_left s
   pub held : HoldsIn g t.held s
   pub never_stuck : IsNeverStuck links s
 
+-- A task that waits for the reply to a call has lent its fuel.
+abbrev pub waiting : Asked → Task → Task
+waiting (asked.Create class) t = t
+waiting (asked.Get object slot) t = t
+waiting (asked.Put object slot value) t = t
+waiting (asked.Call target method count) t = lend_fuel t
+
 -- ---- where a machine stands
 
-abbrev pub stand_before : Next → Stand
-stand_before (On m) = Runs
-stand_before (Ends ending) = Runs
-stand_before (Asks op m) = AsksFor (op_of op)
-stand_before Stuck = HasEnded rules.Spent
+abbrev pub stand_before : Links → Next → Stand
+stand_before links (On m) = Runs
+stand_before links (Ends ending) = Runs
+stand_before links (Asks op m) = AsksFor (op_at links.classes op m)
+stand_before links Stuck = HasEnded rules.Spent
 
 -- before an instruction of its own, at one that asks, or at its end
 abbrev pub stand_of : Links → State → Stand
 stand_of links (Running m zero) = HasEnded rules.Spent
-stand_of links (Running m (suc fuel)) = stand_before (insns.step links m)
-stand_of links (Waits op m fuel) = AsksFor (op_of op)
+stand_of links (Running m (suc fuel)) = stand_before links (insns.step links m)
+stand_of links (Waits op m fuel) = AsksFor (op_at links.classes op m)
 stand_of links (Over end fuel) = HasEnded (told_end links.classes end)
 stand_of links Lost = HasEnded rules.Spent

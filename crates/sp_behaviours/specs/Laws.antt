@@ -1,21 +1,19 @@
 -- The laws of tasks that follow machines, each the contract of a function of this crate. (This project's own.)
-use Rattle.std.specs.Prelude.{◌≡◌, ◌+◌, ℕ, List, Option, Some, Ok}
+use Rattle.std.specs.Prelude.{◌≡◌, ◌+◌, ℕ, List, Some, Ok}
 use Rattle.cls_link.specs.Links.{Links}
-use Rattle.space_ids.specs.declared.ids.ClassId.{ClassId}
 use Rattle.space_ids.specs.declared.value.Value.{Value}
-use Rattle.sp_rules.specs.Behaviours.{Gives, Throws}
+use Rattle.sp_rules.specs.Behaviours as rules
 use Rattle.sp_rules.specs.Classes.{Setting}
 use Rattle.sp_rules.specs.Tasks as tasks
 use Rattle.vm_act.specs.declared.asked.Asked.{Asked}
 use Rattle.vm_act.specs.declared.asked.Reply.{Reply}
-use Rattle.vm_act.specs.declared.asked.Reply.TheVariants as reply
 use Rattle.vm_act.specs.declared.machine.Machine.{Machine}
 use Rattle.vm_run.specs.Run.{State, Waits, answer, made, run, IsDue, IsNeverStuck}
 use Rattle.vm_run.specs.Start.{started}
 use Rattle.vm_run.specs.Task.{Tasked, outcome_at}
 use Rattle.vm_run.specs.declared.outcome.Outcome.{Outcome}
-use Rattle.sp_behaviours.specs.Behaviours.{limits_of, reply_of, told}
-use Rattle.sp_behaviours.specs.Follows.{Follows, HoldsAsked, PlaysOn, stand_of}
+use Rattle.sp_behaviours.specs.Behaviours.{limits_of, reply_to, told}
+use Rattle.sp_behaviours.specs.Follows.{Follows, HoldsAsked, PlaysOn, stand_of, waiting}
 
 -- A task stands where the machine that it follows stands.
 abbrev pub StandsAreThose : Type 0
@@ -42,17 +40,15 @@ AskedIsHeld = (links : Links) (g : Setting) (t : tasks.Task) (op : Asked) (m : M
 abbrev pub StepsAreCounted : Type 0
 StepsAreCounted = (links : Links) (g : Setting) (t : tasks.Task) (s : State) (k : ℕ) → Follows links g t s → (tasks.steps k t).made ≡ t.made + made links k s
 
--- It follows its machine through a reply that is due: the value that the space gives, as the machine takes it.
-abbrev pub ValuesFollow : Type 0
-ValuesFollow = (links : Links) (g : Setting) (t : tasks.Task) (op : Asked) (m : Machine) (fuel : ℕ) (value : Option Value) (given : Reply)
-    → PlaysOn links g → Follows links g t (Waits op m fuel) → reply_of op value ≡ Some given → IsDue links.classes given (Waits op m fuel)
-    → Follows links g (tasks.answer g (Gives value) t) (answer given (Waits op m fuel))
+-- It follows its machine through a reply that is due, as the machine takes it. Of a call it has the fuel that comes back.
+abbrev pub RepliesFollow : Type 0
+RepliesFollow = (links : Links) (g : Setting) (t : tasks.Task) (op : Asked) (m : Machine) (fuel : ℕ) (r : rules.Reply) (given : Reply)
+    → PlaysOn links g → Follows links g t (Waits op m fuel) → reply_to op r ≡ Some given → IsDue links.classes given (Waits op m fuel)
+    → Follows links g (tasks.answer g r (waiting op t)) (answer given (Waits op m fuel))
 
--- So it does through an exception that the space throws.
-abbrev pub ThrowsFollow : Type 0
-ThrowsFollow = (links : Links) (g : Setting) (t : tasks.Task) (op : Asked) (m : Machine) (fuel : ℕ) (class : ClassId)
-    → Follows links g t (Waits op m fuel) → IsDue links.classes (reply.Throws class) (Waits op m fuel)
-    → Follows links g (tasks.answer g (Throws class) t) (answer (reply.Throws class) (Waits op m fuel))
+-- What it lends for a call is all the fuel that its machine has left.
+abbrev pub LentIsLeft : Type 0
+LentIsLeft = (links : Links) (g : Setting) (t : tasks.Task) (op : Asked) (m : Machine) (fuel : ℕ) → Follows links g t (Waits op m fuel) → tasks.lent t ≡ fuel
 
 -- A task that starts follows its machine as that begins.
 abbrev pub StartsFollow : Type 0

@@ -1,6 +1,6 @@
 //! The laws of tasks that follow machines.
 
-ghost use Rattle.sp_behaviours.specs.Laws.{AskedIsHeld, AsksStay, EndsAreTold, StandsAreThose, StartsFollow, StepsAreCounted, StepsFollow, ThrowsFollow, ValuesFollow};
+ghost use Rattle.sp_behaviours.specs.Laws.{AskedIsHeld, AsksStay, EndsAreTold, LentIsLeft, RepliesFollow, StandsAreThose, StartsFollow, StepsAreCounted, StepsFollow};
 
 /// A task of a space that follows a machine stands where the machine stands: before an instruction of
 /// its own, at one that asks the space, or at its end, which is what the machine tells.
@@ -18,10 +18,11 @@ pub fn instructions_are_followed()
     ensures counted { StepsAreCounted }
 {}
 
-/// It follows the machine through each reply of the space that is due: a value, or an exception.
+/// It follows the machine through each reply of the space that is due: a value, an exception, or what a
+/// call gives with the fuel that comes back. For a call it lends all the fuel that the machine has left.
 pub fn replies_are_followed()
-    ensures values { ValuesFollow }
-    ensures throws { ThrowsFollow }
+    ensures follows { RepliesFollow }
+    ensures lent { LentIsLeft }
 {}
 
 /// A task that starts follows its machine as that begins, also where its arguments, their references or

@@ -11,7 +11,7 @@ use Rattle.space_ids.specs.declared.ids.ClassId.{ClassId}
 use Rattle.sp_classes.specs.Remote.{gives_method, may_call}
 use Rattle.sp_rules.specs.Lists.{numbers_below}
 use Rattle.vm_code.specs.Classes.{is_subtype}
-use Rattle.vm_run.specs.Start.{is_remote_interface}
+use Rattle.vm_code.specs.Classes.{is_remote_interface}
 use Rattle.sp_call_set.proofs.Declared.{IsDeclaredBy}
 use Rattle.sp_call_set.proofs.Lists.{any_none, any_same}
 use Rattle.sp_call_set.specs.Calls.{is_given, is_inherited, leads_to}

@@ -12,7 +12,7 @@ use Rattle.space_ids.specs.declared.ids.ClassId.{ClassId}
 use Rattle.sp_rules.specs.Lists.{numbers_below}
 use Rattle.vm_code.proofs.Subtypes.{subtype_sound, subtype_test}
 use Rattle.vm_code.specs.Classes.{is_below_remote, is_subtype}
-use Rattle.vm_run.specs.Start.{is_remote_interface}
+use Rattle.vm_code.specs.Classes.{is_remote_interface}
 use Rattle.sp_call_set.proofs.Lists.{any_below, any_filter, any_map, any_none}
 use Rattle.sp_call_set.specs.Calls.{first_classes, is_given, leads_to, remote_interfaces}
 

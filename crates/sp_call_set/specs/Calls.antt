@@ -8,7 +8,7 @@ use Rattle.space_ids.specs.declared.ids.ClassId.{ClassId}
 use Rattle.sp_rules.specs.Lists.{numbers_below}
 use Rattle.vm_code.specs.Classes.{is_subtype}
 use Rattle.vm_code.specs.Methods.{is_public}
-use Rattle.vm_run.specs.Start.{is_remote_interface}
+use Rattle.vm_code.specs.Classes.{is_remote_interface}
 
 -- whether interfaces inherit a method of a superinterface: neither static ones nor private ones (JVMS 5.4.3.4)
 abbrev pub is_inherited : Method → Bool

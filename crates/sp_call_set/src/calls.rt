@@ -5,7 +5,7 @@ ghost use Rattle.std.specs.List.{list_any};
 ghost use Rattle.cls_search.specs.MethodSearches.{is_interface};
 ghost use Rattle.cls_set.specs.Classes.{number_of};
 ghost use Rattle.sp_classes.specs.Remote.{may_call};
-ghost use Rattle.vm_run.specs.Start.{is_remote_interface};
+ghost use Rattle.vm_code.specs.Classes.{is_remote_interface};
 ghost use Rattle.sp_call_set.specs.Calls.{is_given, is_inherited, leads_to, remote_interfaces};
 
 use cls_link::{ClassSet, Flags, Method, MethodId};

@@ -2,7 +2,8 @@
 
 ghost use Rattle.std.specs.Prelude.{◌≡◌, map, option_map};
 ghost use Rattle.cls_link.specs.Links.{method_at};
-ghost use Rattle.vm_run.specs.Start.{is_array_type, is_int_type};
+ghost use Rattle.vm_code.specs.Parameters.{is_array_type};
+ghost use Rattle.vm_run.specs.Start.{is_int_type};
 ghost use Rattle.sp_classes.specs.Kinds.{kind_of_type, parameters_of, result_of};
 ghost use Rattle.sp_classes.specs.Kinds as kinds;
 ghost use Rattle.sp_requests.specs.Asking.{kind_of};

@@ -13,7 +13,7 @@ use Rattle.vm_act.specs.declared.calls.Selected.{Selected}
 use Rattle.vm_act.specs.declared.calls.Selected.TheVariants as selected
 use Rattle.vm_code.specs.Classes.{is_remote, is_subtype}
 use Rattle.vm_code.specs.Methods.{interface_selected, is_public}
-use Rattle.vm_run.specs.Start.{is_remote_interface}
+use Rattle.vm_code.specs.Classes.{is_remote_interface}
 
 -- whether a class is declared abstract (JVMS 4.1)
 abbrev pub is_abstract : List Class → ClassId → Bool

@@ -15,6 +15,6 @@ refusal_of fault.BadSignature = Some BadSignature
 refusal_of fault.BadArgument = Some BadArgument
 refusal_of fault.Memory = None
 
--- why no task of the space starts at the method of this number with these arguments
+-- why no task starts at the method of this number with these arguments: in every space the same
 abbrev pub start_refusal_in : Links → Uuid → ℕ → List Value → Option StartRefusal
-start_refusal_in links own method arguments = option_and_then refusal_of (start_fault links own (record { 0 = method }) arguments)
+start_refusal_in links _ method arguments = option_and_then refusal_of (start_fault links (record { 0 = method }) arguments)

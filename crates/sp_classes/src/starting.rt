@@ -18,7 +18,7 @@ pub fn start_refusal(
 ) -> Option<StartFault>
     ensures { (classes_of program.now).start_refusal own.now method arguments.now ≡ option_map start_refusal result }
 {
-    match program.refusal(own, MethodId(method), arguments) {
+    match program.refusal(MethodId(method), arguments) {
         Some(Fault::AbsentMethod) => Some(StartFault::AbsentMethod),
         Some(Fault::BadSignature) => Some(StartFault::BadSignature),
         Some(Fault::BadArgument) => Some(StartFault::BadArgument),

@@ -14,7 +14,7 @@ use Rattle.space_ids.specs.declared.ids.ClassId.{ClassId}
 use Rattle.space_ids.specs.declared.ids.Ref.{Ref}
 use Rattle.space_ids.specs.declared.value.Value.{Value}
 use Rattle.space_ids.specs.declared.value.Value.TheVariants as values
-use Rattle.sp_behaviours.specs.Behaviours.{held_of, op_of}
+use Rattle.sp_behaviours.specs.Behaviours.{held_of, value_of}
 use Rattle.sp_rules.specs.Behaviours as rules
 use Rattle.sp_rules.specs.Classes.{Setting, IntKind, ReferenceKind, fits_kind, field_kind}
 use Rattle.sp_rules.specs.Events.{Event}
@@ -30,10 +30,10 @@ use Rattle.ver_frames.specs.declared.vtype.VType.TheVariants as vtype
 use Rattle.vm_act.specs.declared.asked.Asked.TheVariants as asked
 use Rattle.vm_act.specs.declared.asked.FieldValue.{FieldValue}
 use Rattle.vm_act.specs.declared.asked.FieldValue.TheVariants as field
-use Rattle.vm_heap.specs.References.{Table}
+use Rattle.vm_heap.specs.References.{Table, is_own}
 use Rattle.vm_run.specs.Run.{IsReply, fields_world}
 use Rattle.vm_typing.specs.Asking.{ValueFits}
-use Rattle.vm_typing.specs.Fits.{There}
+use Rattle.vm_typing.specs.Fits.{IsA, OfSpace, OfStub, There}
 use Rattle.vm_world.specs.Files.{types_of}
 use Rattle.sp_reply_laws.specs.Replies.{AskedObjectsStand, FitsAsked, IsAskedOf, RepliesFit}
 use Rattle.sp_reply_laws.specs.Stores.{StoreFits}
@@ -68,8 +68,10 @@ module _ (g : Setting) (classes : List Class) (table : Table) (own : table.own �
   reference-held class interface values.Null fits kept e = subst (There (λ (t : VType). ValueFits (fields_world classes) table t field.Null)) (sym e) tt
   reference-held class interface (values.Ref r) fits kept e =
       let remote : IsRemote classes r.class = told.remote r.class kept.0.1 in
+      let mine : is_own table r ≡ true = subst (λ own. bytes_eq r.space own ≡ true) (sym own) kept.0.0 in
+      let is : IsA (fields_world classes) class (OfSpace r.class) = (remote-known classes r.class remote, inl interface, remote) in
       subst (There (λ (t : VType). ValueFits (fields_world classes) table t (field.Reference r))) (sym e)
-      (subst (λ own. bytes_eq r.space own ≡ true) (sym own) kept.0.0, (remote-known classes r.class remote, inl interface, remote))
+      (subst (λ b. IsA (fields_world classes) class (if b then OfSpace r.class else OfStub r.class)) (sym mine) is)
   reference-held class interface (values.Int n) fits kept e = absurd (true≢false (sym fits))
   reference-held class interface (values.Ints ns) fits kept e = absurd (true≢false (sym fits))
 
@@ -111,17 +113,19 @@ module _ (g : Setting) (h : List Event) (classes : List Class) (table : Table) (
       subst (λ (o : Option Object). FitsAsked classes table (asked.Get object slot) (rules.Gives (LivingTasks.value_at g (state_of g h) object.id slot o))) (sym x.1)
       (typed object slot a x.0 x.1 x.2 (slice_get (types_of classes object.class) slot) refl)
 
-  put : (object : Ref) (slot : ℕ) (value : FieldValue) → FitsAsked classes table (asked.Put object slot value) (LivingTasks.op_reply g (op_of (asked.Put object slot value)) (state_of g h))
+  put : (object : Ref) (slot : ℕ) (value : FieldValue) → FitsAsked classes table (asked.Put object slot value) (LivingTasks.op_reply g (rules.Put object.id slot (value_of value)) (state_of g h))
   unfolding LivingTasks.op_reply
   put object slot value = tt
 
 pub replies_fit : RepliesFit
-replies_fit g h classes table (asked.Create class) told kept a = make g h classes table told kept class a
-replies_fit g h classes table (asked.Get object slot) told kept a = get g h classes table told kept object slot a
-replies_fit g h classes table (asked.Put object slot value) told kept a = put g h classes table told kept object slot value
+replies_fit g h classes table (asked.Create class) arguments told kept a = make g h classes table told kept class a
+replies_fit g h classes table (asked.Get object slot) arguments told kept a = get g h classes table told kept object slot a
+replies_fit g h classes table (asked.Put object slot value) arguments told kept a = put g h classes table told kept object slot value
+replies_fit g h classes table (asked.Call target method count) arguments told kept a = absurd a.store
 
 pub asked_objects_stand : AskedObjectsStand
 asked_objects_stand g h id t classes table (asked.Create class) taken is own asks held = tt
 asked_objects_stand g h id t classes table (asked.Get object slot) taken is own asks held =
     held_objects_stand g h id t object taken is held (subst (λ mine. bytes_eq object.space mine ≡ true) own asks.0.0)
 asked_objects_stand g h id t classes table (asked.Put object slot value) taken is own asks held = tt
+asked_objects_stand g h id t classes table (asked.Call target method count) taken is own asks held = tt

@@ -2,7 +2,8 @@
 use Rattle.std.specs.Prelude.{◌≡◌, ℕ, true, List, [], Some}
 use Rattle.cls_set.specs.declared.class.Class.{Class}
 use Rattle.space_ids.specs.declared.ids.Ref.{Ref}
-use Rattle.sp_behaviours.specs.Behaviours.{op_of, reply_of}
+use Rattle.space_ids.specs.declared.value.Value.{Value}
+use Rattle.sp_behaviours.specs.Behaviours.{op_of, reply_of, IsOfStore}
 use Rattle.sp_reply_laws.specs.Told.{AreTold, AreRemoteFields}
 use Rattle.sp_rules.specs.Behaviours as rules
 use Rattle.sp_rules.specs.Classes.{Setting}
@@ -26,21 +27,24 @@ abbrev pub AsksOfStanding : State → Asked → Type 0
 AsksOfStanding s (asked.Create class) = Unit {0}
 AsksOfStanding s (asked.Get object slot) = class_is object.class (object_at s object.id) ≡ true
 AsksOfStanding s (asked.Put object slot value) = Unit {0}
+AsksOfStanding s (asked.Call target method count) = Unit {0}
 
 -- It does where the task holds that very reference, as one of the space.
 abbrev pub HoldsObject : List Ref → Asked → Type 0
 HoldsObject held (asked.Create class) = Unit {0}
 HoldsObject held (asked.Get object slot) = is_reference_in held object ≡ true
 HoldsObject held (asked.Put object slot value) = Unit {0}
+HoldsObject held (asked.Call target method count) = Unit {0}
 
 abbrev pub AskedObjectsStand : Type 0
 AskedObjectsStand =
     (g : Setting) (h : List Event) (id : ℕ) (t : Living) (classes : List Class) (table : Table) (op : Asked) → IsTaken g h → task_at (state_of g h) id ≡ Some t
     → table.own ≡ g.id → IsAsked classes table op → HoldsObject t.task.held op → AsksOfStanding (state_of g h) op
 
--- What a machine with this table of references asks a space, after a history that the space took, is of typed words. Its task is one of the
+-- What a machine with this table of references asks the store of a space, after a history that the space took, is of typed words. Its task is one of the
 -- space; the object of which it asks stands; and the fields of standing objects hold no references to objects of other spaces.
 pub record IsAskedOf (g : Setting) (h : List Event) (classes : List Class) (table : Table) (op : Asked) : Type 0 where
+  pub store : IsOfStore op
   pub taken : IsTaken g h
   pub own : table.own ≡ g.id
   pub fits : IsAsked classes table op
@@ -56,5 +60,5 @@ FitsAsked classes table op rules.RunsOut = ⊥
 
 abbrev pub RepliesFit : Type 0
 RepliesFit =
-    (g : Setting) (h : List Event) (classes : List Class) (table : Table) (op : Asked) → AreTold classes g.classes → AreRemoteFields classes
-    → IsAskedOf g h classes table op → FitsAsked classes table op (op_reply g (op_of op) (state_of g h))
+    (g : Setting) (h : List Event) (classes : List Class) (table : Table) (op : Asked) (arguments : List Value) → AreTold classes g.classes → AreRemoteFields classes
+    → IsAskedOf g h classes table op → FitsAsked classes table op (op_reply g (op_of arguments op) (state_of g h))

@@ -9,8 +9,8 @@ pub fn remote_fields_are_held()
     ensures { RemoteFieldsAreHeld }
 {}
 
-/// Whatever a machine of a space asks for after a history that the space took, the reply of the rules
-/// is one that the machine takes: a new object of the class; a value of the field's type; that it is
+/// Whatever a machine asks its space's store for after a history that the space took, the reply of the
+/// rules is one that the machine takes: a new object of the class; a value of the field's type; that it is
 /// written; or an exception of a class of the set. This holds while no field has a reference to an
 /// object of another space, if the object of which a field is asked for stands with its class.
 pub fn replies_fit()

@@ -32,11 +32,12 @@ use Rattle.uuid.specs.Parts.{zero_bytes}
 use Rattle.ver_check.specs.Refusals.{SettlesSet}
 use Rattle.ver_rules.specs.declared.fault.CheckFault.{CheckFault}
 use Rattle.ver_rules.specs.declared.fault.CheckFault.TheVariants as check
+use Rattle.vm_act.specs.Crossing.{most_elements}
 use Rattle.vm_run.proofs.Runs.{run_ended}
 use Rattle.vm_run.specs.Ends.{End, ReturnedNothing, ReturnedInt, ReturnedNull, ReturnedInts, ReturnedObject, ReturnedRemote, Threw, ThrewObject, Spent}
 use Rattle.vm_run.specs.Run.{HasNoRemote, State, Over, run}
 use Rattle.vm_run.specs.Start.{started}
-use Rattle.vm_run.specs.Task.{Tasked, most_elements, unmarshalled}
+use Rattle.vm_run.specs.Task.{Tasked, unmarshalled}
 use Rattle.vm_run.specs.declared.fault.StartFault.{StartFault}
 use Rattle.vm_run.specs.declared.fault.StartFault.TheVariants as start
 use Rattle.vm_run.specs.declared.limits.Limits.{Limits}

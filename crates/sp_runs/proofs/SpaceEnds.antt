@@ -48,7 +48,7 @@ pub ended-in : (links : Links) (s : State) (o : rules.Outcome) → IsNeverStuck 
 ended-in links (Running m zero) o safe e = spent-in links.classes o (one-end rules.Spent o e)
 ended-in links (Running m (suc fuel)) o safe e = by (insns.step links m) e
   where
-    by : (n : Next) → stand_before n ≡ HasEnded o → IsOfSet links.classes (untold o)
+    by : (n : Next) → stand_before links n ≡ HasEnded o → IsOfSet links.classes (untold o)
     by (On m') e = absurd (cc)
     by (Ends ending) e = absurd (cc)
     by (Asks op m') e = absurd (cc)

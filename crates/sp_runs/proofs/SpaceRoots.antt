@@ -143,17 +143,17 @@ tells-why false None true false true f e = of-others 99 None true f (omega arith
 tells-why false None true false false f e = subst (TellsWhy None true) (sym e) tt
 
 -- a start is refused for nothing but its method and its arguments
-never-memory : (program : Links) (own : Uuid) (method : MethodId) (arguments : List Value) → start_fault program own method arguments ≡ Some fault.Memory → ⊥
-never-memory program own method arguments e = by (startable program method) e
+never-memory : (program : Links) (method : MethodId) (arguments : List Value) → start_fault program method arguments ≡ Some fault.Memory → ⊥
+never-memory program method arguments e = by (startable program method) e
   where
     by-tests : (crossing fits : Bool) → cond (not crossing) (Some fault.BadSignature) (cond fits None (Some fault.BadArgument)) ≡ Some fault.Memory → ⊥
     by-tests false fits e = cc
     by-tests true true e = cc
     by-tests true false e = cc
 
-    by : (o : Option Declared) → option_map_or (λ (m : Declared). start_refused program.classes own m.method arguments) o (Some fault.AbsentMethod) ≡ Some fault.Memory → ⊥
+    by : (o : Option Declared) → option_map_or (λ (m : Declared). start_refused program.classes m.method arguments) o (Some fault.AbsentMethod) ≡ Some fault.Memory → ⊥
     by None e = cc
-    by (Some m) e = by-tests (takes_crossing program.classes m.method.types) (is_static m.method && fill program.classes own m.method.types.parameters arguments) e
+    by (Some m) e = by-tests (takes_crossing program.classes m.method.types) (is_static m.method && fill program.classes m.method.types.parameters arguments) e
 
 -- the fault that a refusal of a start is
 abbrev fault_of : StartRefusal → StartFault
@@ -175,7 +175,7 @@ one-fault fault.Memory x e = absurd (cc)
 
 module _ (program : Links) (method : MethodId) (arguments : List Value) (limits : Limits) where
   not-started : (x : StartRefusal) → start_refusal_in program zero_bytes method.0 arguments ≡ Some x → started program zero_bytes method arguments limits ≡ Err (fault_of x)
-  not-started x e = by (start_fault program zero_bytes method arguments) e (refused program zero_bytes method arguments (start_fault program zero_bytes method arguments) refl)
+  not-started x e = by (start_fault program method arguments) e (refused program method arguments zero_bytes (start_fault program method arguments) refl)
     where
       by : (o : Option StartFault) → option_and_then refusal_of o ≡ Some x → IfSome o (λ w. (limits : Limits) → started program zero_bytes method arguments limits ≡ Err w)
           → started program zero_bytes method arguments limits ≡ Err (fault_of x)
@@ -188,15 +188,15 @@ module _ (program : Links) (method : MethodId) (arguments : List Value) (limits 
 
   starts-else : start_refusal_in program zero_bytes method.0 arguments ≡ None → (task : Tasked) × (started program zero_bytes method arguments limits ≡ Ok task)
   starts-else e =
-      by (start_fault program zero_bytes method arguments) refl e (starts program zero_bytes method arguments (start_fault program zero_bytes method arguments) refl)
+      by (start_fault program method arguments) refl e (starts program method arguments zero_bytes (start_fault program method arguments) refl)
     where
-      by : (o : Option StartFault) → start_fault program zero_bytes method arguments ≡ o → option_and_then refusal_of o ≡ None
+      by : (o : Option StartFault) → start_fault program method arguments ≡ o → option_and_then refusal_of o ≡ None
           → IfNone o ((limits : Limits) → IsOk (started program zero_bytes method arguments limits)) → (task : Tasked) × (started program zero_bytes method arguments limits ≡ Ok task)
       by None is e ok = of-ok (started program zero_bytes method arguments limits) (ok limits)
       by (Some fault.AbsentMethod) is e ok = absurd (cc)
       by (Some fault.BadSignature) is e ok = absurd (cc)
       by (Some fault.BadArgument) is e ok = absurd (cc)
-      by (Some fault.Memory) is e ok = absurd (never-memory program zero_bytes method arguments is)
+      by (Some fault.Memory) is e ok = absurd (never-memory program method arguments is)
 
   some-reference : (p : Ref → Bool) (references : List Ref) → list_all p references ≡ false → references ≢ []
   some-reference p references not-all none = false≢true (sym not-all ∙ ap (list_all p) none)

@@ -31,14 +31,15 @@ use Rattle.vm_act.specs.declared.asked.Asked.{Asked}
 use Rattle.vm_act.specs.declared.asked.Asked.TheVariants as asked
 use Rattle.vm_act.specs.Next.{Next, On, Ends as NextEnds, Asks as NextAsks, Stuck}
 use Rattle.vm_rows.specs.Steps as insns
-use Rattle.vm_run.specs.Run.{State as Machine_state, Running, Waits, Over as MachineOver, Lost, run}
+use Rattle.vm_run.specs.Run.{State as Machine_state, Running, Waits, Over as MachineOver, Lost, after, run, step as machine_step}
 use Rattle.vm_run.specs.Task.{IsOfSet}
 use Rattle.vm_run.specs.declared.outcome.Outcome.{Outcome}
-use Rattle.sp_behaviours.specs.Behaviours.{op_of, told}
+use Rattle.sp_behaviours.specs.Behaviours.{op_at, op_of, told, IsOfStore}
 use Rattle.sp_behaviours.specs.Follows.{Follows, stand_before, stand_of}
-use Rattle.sp_behaviours.proofs.Following.{stands, steps-follow}
+use Rattle.sp_behaviours.proofs.Following.{asks-stay, stands, steps-follow}
 use Rattle.sp_behaviours.proofs.OwnSteps.{answer-gives, answer-throws, step-ends, step-plain}
 use Rattle.sp_space.specs.Spaces.{answers_to, grown}
+use Rattle.sp_space.proofs.HandLemmas.{store-asked, store-is}
 use Rattle.sp_space.proofs.RowsAfter.{back-moves, back-silent, commit-replies, commit-silent, finish-removes}
 use Rattle.sp_runs.proofs.SpaceEnds.{ended-in, told-untold, untold}
 
@@ -113,15 +114,16 @@ ask-fuel t op asks = by t.behaviour t.fuel refl asks
     by (Ends outcome) zero f e = absurd (cc)
     by (Ends outcome) (suc fuel) f e = absurd (cc)
 
-reply-fuel : (g : Setting) (op : Asked) (s : State) (t : Task) (left : ℕ) → t.fuel ≡ suc left → (answer g (op_reply g (op_of op) s) t).fuel ≡ left
+reply-fuel : (g : Setting) (op : Asked) (s : State) (t : Task) (left : ℕ) → IsOfStore op → t.fuel ≡ suc left → (answer g (op_reply g (op_of [] op) s) t).fuel ≡ left
 unfolding op_reply
-reply-fuel g (asked.Create class) s t left f =
+reply-fuel g (asked.Create class) s t left store f =
     elim (is_full s) as (λ b. (answer g (cond b (Throws g.classes.out_of_memory) (Gives (Some (Ref (record { space = g.id; id = next_object s; class = class }))))) t).fuel ≡ left) [
       | true ↦ (answer-throws g g.classes.out_of_memory t left f).fuel
       | false ↦ (answer-gives g _ t left f).fuel
     ]
-reply-fuel g (asked.Get object slot) s t left f = (answer-gives g _ t left f).fuel
-reply-fuel g (asked.Put object slot value) s t left f = (answer-gives g _ t left f).fuel
+reply-fuel g (asked.Get object slot) s t left store f = (answer-gives g _ t left f).fuel
+reply-fuel g (asked.Put object slot value) s t left store f = (answer-gives g _ t left f).fuel
+reply-fuel g (asked.Call target method count) s t left store f = absurd store
 
 -- ---- an end
 
@@ -185,24 +187,40 @@ pub data Moves (links : Links) (g : Setting) (h : List Event) (t : Living) (es :
 only-has : (P : Living → Type 0) (s : State) (t : Living) → s.tasks ≡ t ∷ [] → AllOf P s.tasks → P t
 only-has P s t one all = (subst (AllOf P) one all).0
 
-ops-of : (op : Asked) → events_of_op 1 (op_of op) ≡ Committed 1 0 (op_of op) ∷ GivenBack 1 0 ∷ []
-ops-of (asked.Create class) = refl
-ops-of (asked.Get object slot) = refl
-ops-of (asked.Put object slot value) = refl
+ops-of : (op : Asked) → IsOfStore op → events_of_op 1 (op_of [] op) ≡ Committed 1 0 (op_of [] op) ∷ GivenBack 1 0 ∷ []
+ops-of (asked.Create class) store = refl
+ops-of (asked.Get object slot) store = refl
+ops-of (asked.Put object slot value) store = refl
+ops-of (asked.Call target method count) store = absurd store
 
 -- what a machine asks is an operation on the store
-asked-of : (links : Links) (m : Machine_state) (op : Op) → stand_of links m ≡ AsksFor op → (a : Asked) × (op ≡ op_of a)
-asked-of links (Running m zero) op e = absurd (cc)
-asked-of links (Running m (suc fuel)) op e = by (insns.step links m) e
+record OnStore (op : Op) : Type 0 where
+  asked : Asked
+  is : op ≡ op_of [] asked
+  store : IsOfStore asked
+
+asked-of : (links : Links) (g : Setting) (s : State) (t : Living) (m : Machine_state) (op : Op) → IsAlone g s → task_at s 1 ≡ Some t → Follows links g t.task m → stand_of links m ≡ AsksFor op → OnStore op
+unfolding run machine_step
+asked-of links g s t (Running m zero) op alone lives follows e = absurd (cc)
+asked-of links g s t (Running m (suc fuel)) op alone lives follows e = by (insns.step links m) refl e
   where
-    by : (n : Next) → stand_before n ≡ AsksFor op → (a : Asked) × (op ≡ op_of a)
-    by (On m') e = absurd (cc)
-    by (NextEnds ending) e = absurd (cc)
-    by (NextAsks a m') e = let same : op_of a ≡ op = cc in (a, sym same)
-    by Stuck e = absurd (cc)
-asked-of links (Waits a m fuel) op e = let same : op_of a ≡ op = cc in (a, sym same)
-asked-of links (MachineOver end fuel) op e = absurd (cc)
-asked-of links Lost op e = absurd (cc)
+    by : (n : Next) → insns.step links m ≡ n → stand_before links n ≡ AsksFor op → OnStore op
+    by (On m') is e = absurd (cc)
+    by (NextEnds ending) is e = absurd (cc)
+    by (NextAsks a m') is e =
+        let waits : run links 1 (Running m (suc fuel)) ≡ Waits a m' fuel = ap (λ n. after m.heap.cells n fuel) is in
+        let stays : steps 1 t.task ≡ t.task = one-step t.task ∙ asks-stay links g t.task (Running m (suc fuel)) a m' fuel follows waits in
+        let then = subst (λ (u : Task). Follows links g u (run links 1 (Running m (suc fuel)))) stays (steps-follow links g t.task (Running m (suc fuel)) 1 follows) in
+        let store = store-asked links g s 1 t a m' fuel alone lives (subst (Follows links g t.task) waits then) in
+        let same : op_at links.classes a m' ≡ op = cc in
+        record { asked = a; is = sym same ∙ store-is links.classes a m' store; store = store }
+    by Stuck is e = absurd (cc)
+asked-of links g s t (Waits a m fuel) op alone lives follows e =
+    let store = store-asked links g s 1 t a m fuel alone lives follows in
+    let same : op_at links.classes a m ≡ op = cc in
+    record { asked = a; is = sym same ∙ store-is links.classes a m store; store = store }
+asked-of links g s t (MachineOver end fuel) op alone lives follows e = absurd (cc)
+asked-of links g s t Lost op alone lives follows e = absurd (cc)
 
 over-with : (x : Stand) → is_over x ≡ true → (end : End) × (x ≡ HasEnded end)
 over-with Runs e = absurd (false≢true e)
@@ -244,18 +262,18 @@ module _ (links : Links) (g : Setting) (h : List Event) (t : Living) (m : Machin
       goes_on (after_steps 1 t) (ap (λ (os : List Output). os ++ []) (back-silent g (state_of g h) 1 1)) (one-back g (state_of g h) 1 t one first waits-not) first
       (ap (λ (u : Task). u.fuel + 1) (one-step t.task) ∙ own-fuel t.task runs)
 
-  ask-moves : (op : Asked) → stand t.task ≡ AsksFor (op_of op) → Moves links g h t (Committed 1 0 (op_of op) ∷ GivenBack 1 0 ∷ [])
+  ask-moves : (op : Asked) → IsOfStore op → stand t.task ≡ AsksFor (op_of [] op) → Moves links g h t (Committed 1 0 (op_of [] op) ∷ GivenBack 1 0 ∷ [])
   unfolding outputs_of state_of
-  ask-moves op asks =
+  ask-moves op store asks =
       let s = state_of g h in
-      let u : Living = after_reply g (op_reply g (op_of op) s) (after_steps 0 t) in
-      let later : State = (on g (Committed 1 0 (op_of op)) s).0 in
-      let (left, has) = ask-fuel t.task (op_of op) asks in
+      let u : Living = after_reply g (op_reply g (op_of [] op) s) (after_steps 0 t) in
+      let later : State = (on g (Committed 1 0 (op_of [] op)) s).0 in
+      let (left, has) = ask-fuel t.task (op_of [] op) asks in
       let here : (steps 0 t.task).fuel ≡ suc left = ap (λ (x : Task). x.fuel) (no-steps t.task) ∙ has in
-      let less : u.task.fuel ≡ left = reply-fuel g op s (steps 0 t.task) left here in
+      let less : u.task.fuel ≡ left = reply-fuel g op s (steps 0 t.task) left store here in
       let same : (steps 0 u.task).fuel ≡ u.task.fuel = ap (λ (x : Task). x.fuel) (no-steps u.task) in
-      goes_on (after_steps 0 u) (λ j. commit-silent g s 1 0 (op_of op) j ++ (back-silent g later 1 0 j ++ []))
-      (one-back g later 0 u (one-replied g s (op_of op) t one first waits-not) first refl) first (omega (arith, same, less, has))
+      goes_on (after_steps 0 u) (λ j. commit-silent g s 1 0 (op_of [] op) j ++ (back-silent g later 1 0 j ++ []))
+      (one-back g later 0 u (one-replied g s (op_of [] op) t one first waits-not) first refl) first (omega (arith, same, less, has))
 
   -- so does its step
   pub moves : IsTaken g (grown h (step_events 1 t.task)) → Moves links g h t (step_events 1 t.task)
@@ -274,7 +292,8 @@ module _ (links : Links) (g : Setting) (h : List Event) (t : Living) (m : Machin
       by : (x : Stand) → stand t.task ≡ x → Moves links g h t (step_events 1 t.task)
       by Runs e = own e (is_over (stand (step t.task))) refl
       by (AsksFor op) e =
-          let (a, is) = asked-of links m op (sym (stands links g t.task m follows) ∙ e) in
-          so (Committed 1 0 (op_of a) ∷ GivenBack 1 0 ∷ []) (ap (events_at 1 t.task) e ∙ ap (events_of_op 1) is ∙ ops-of a) (λ taken. ask-moves a (e ∙ ap (λ o. AsksFor o) is))
+          let on = asked-of links g (state_of g h) t m op alone (one-there (state_of g h) t one first) follows (sym (stands links g t.task m follows) ∙ e) in
+          so (Committed 1 0 (op_of [] on.asked) ∷ GivenBack 1 0 ∷ []) (ap (events_at 1 t.task) e ∙ ap (events_of_op 1) on.is ∙ ops-of on.asked on.store)
+          (λ taken. ask-moves on.asked on.store (e ∙ ap (λ o. AsksFor o) on.is))
       by (HasEnded end) e =
           so (Finished 1 0 ∷ []) (ap (events_at 1 t.task) e) (finish-moves 0 end (ap stand (no-steps t.task) ∙ e))

@@ -11,12 +11,13 @@ use Rattle.sp_runs.specs.declared.running.RunOutcome.TheVariants as told
 use Rattle.uuid.specs.Parts.{zero_bytes}
 use Rattle.space_ids.specs.declared.value.Value.{Value}
 use Rattle.space_ids.specs.declared.value.Value.TheVariants as value
+use Rattle.vm_act.specs.Crossing.{most_elements}
 use Rattle.vm_run.specs.Ends.{End, ReturnedNothing, ReturnedInt, ReturnedNull, ReturnedInts, ReturnedObject, ReturnedRemote, Threw, ThrewObject, Spent}
 use Rattle.vm_run.specs.Limited.{KeepsWithin}
 use Rattle.vm_run.specs.Run.{run, IsNeverStuck}
 use Rattle.vm_run.specs.Start.{started}
 use Rattle.vm_run.specs.Task as tasks
-use Rattle.vm_run.specs.Task.{Tasked, IsOutcome, TellsThrown, fuel_left, most_elements, thrown_name, unmarshalled}
+use Rattle.vm_run.specs.Task.{Tasked, IsOutcome, TellsThrown, fuel_left, thrown_name, unmarshalled}
 use Rattle.vm_run.specs.declared.limits.Limits.{Limits}
 use Rattle.vm_run.specs.declared.outcome.Outcome.{Outcome}
 use Rattle.vm_run.specs.declared.outcome.Outcome.TheVariants as outcome

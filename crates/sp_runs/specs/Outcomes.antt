@@ -6,8 +6,9 @@ use Rattle.sp_runs.specs.declared.running.RunOutcome.{RunOutcome}
 use Rattle.sp_runs.specs.declared.running.RunOutcome.TheVariants as told
 use Rattle.space_ids.specs.declared.ids.ClassId.{ClassId}
 use Rattle.space_ids.specs.declared.value.Value.TheVariants as value
+use Rattle.vm_act.specs.Crossing.{most_elements}
 use Rattle.vm_run.specs.Ends.{End, ReturnedNothing, ReturnedInt, ReturnedNull, ReturnedInts, ReturnedObject, ReturnedRemote, Threw, ThrewObject, Spent}
-use Rattle.vm_run.specs.Task.{most_elements, thrown_name, unmarshalled}
+use Rattle.vm_run.specs.Task.{thrown_name, unmarshalled}
 use Rattle.vm_run.specs.declared.outcome.Outcome.{Outcome}
 use Rattle.vm_run.specs.declared.outcome.Outcome.TheVariants as outcome
 

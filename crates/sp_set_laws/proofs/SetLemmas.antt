@@ -44,7 +44,7 @@ use Rattle.vm_run.specs.declared.fault.StartFault.TheVariants as fault
 use Rattle.vm_run.specs.declared.limits.Limits.{Limits}
 use Rattle.vm_typing.specs.Fits.{There}
 use Rattle.vm_world.specs.Files.{types_of}
-use Rattle.sp_behaviours.specs.Behaviours.{limits_of, op_of, reply_of}
+use Rattle.sp_behaviours.specs.Behaviours.{limits_of, op_of, reply_of, IsOfStore}
 use Rattle.sp_behaviours.specs.Follows.{Follows, HoldsAsked, PlaysOn}
 use Rattle.sp_classes.specs.Classes.{class_named, classes_of}
 use Rattle.sp_classes.specs.Fields.{kind_of_field}
@@ -131,7 +131,7 @@ module _ (links : Links) (g : Setting) (are : AreLinks links) (same : g.classes 
       → g.classes.start_refusal g.id method arguments ≡ None
   told_starts method arguments limits task e =
       ap (λ (c : Classes). c.start_refusal g.id method arguments) same
-      ∙ by (start_fault links g.id (record { 0 = method }) arguments) (refused links g.id (record { 0 = method }) arguments (start_fault links g.id (record { 0 = method }) arguments) refl)
+      ∙ by (start_fault links (record { 0 = method }) arguments) (refused links (record { 0 = method }) arguments g.id (start_fault links (record { 0 = method }) arguments) refl)
     where
       by : (why : Option StartFault) → IfSome why (λ w. (limits : Limits) → started links g.id (record { 0 = method }) arguments limits ≡ Err w) → option_and_then refusal_of why ≡ None
       by None none = refl
@@ -141,8 +141,8 @@ module _ (links : Links) (g : Setting) (are : AreLinks links) (same : g.classes 
       → g.classes.start_refusal g.id method arguments ≡ refused_by why
   told_refused method arguments limits why e =
       ap (λ (c : Classes). c.start_refusal g.id method arguments) same
-      ∙ by (start_fault links g.id (record { 0 = method }) arguments) (refused links g.id (record { 0 = method }) arguments (start_fault links g.id (record { 0 = method }) arguments) refl)
-      (starts links g.id (record { 0 = method }) arguments (start_fault links g.id (record { 0 = method }) arguments) refl)
+      ∙ by (start_fault links (record { 0 = method }) arguments) (refused links (record { 0 = method }) arguments g.id (start_fault links (record { 0 = method }) arguments) refl)
+      (starts links (record { 0 = method }) arguments g.id (start_fault links (record { 0 = method }) arguments) refl)
     where
       by : (w : Option StartFault) → IfSome w (λ w. (limits : Limits) → started links g.id (record { 0 = method }) arguments limits ≡ Err w)
           → IfNone w ((limits : Limits) → IsOk (started links g.id (record { 0 = method }) arguments limits)) → option_and_then refusal_of w ≡ refused_by why
@@ -155,6 +155,7 @@ module _ (links : Links) (g : Setting) (are : AreLinks links) (same : g.classes 
   holds_object held (asked.Create class) h = tt
   holds_object held (asked.Get object slot) h = h
   holds_object held (asked.Put object slot value) h = tt
+  holds_object held (asked.Call target method count) h = tt
 
   there : (P : Reply → Type 0) (o : Option Reply) → There P o → (given : Reply) × (o ≡ Some given) × P given
   there P None h = absurd h
@@ -169,18 +170,19 @@ module _ (links : Links) (g : Setting) (are : AreLinks links) (same : g.classes 
 
   fits : Replying → (files : List ClassFile) → HasClasses files links.classes → IsKept files RemoteField
       → (h : List Event) (id : ℕ) (t : Living) (op : Asked) (m : Machine) (fuel : ℕ) → IsTaken g h → IsAlone g (state_of g h) → task_at (state_of g h) id ≡ Some t
-      → Follows links g t.task (Waits op m fuel)
-      → (given : Reply) × (machine_reply op (op_reply g (op_of op) (state_of g h)) ≡ Some given) × IsReply links.classes m.references op given
+      → Follows links g t.task (Waits op m fuel) → IsOfStore op
+      → (given : Reply) × (machine_reply op (op_reply g (op_of [] op) (state_of g h)) ≡ Some given) × IsReply links.classes m.references op given
   unfolding played AreDue
-  fits laws files has kept h id t op m fuel taken alone lives follows =
+  fits laws files has kept h id t op m fuel taken alone lives follows store =
       let told : AreTold links.classes g.classes = subst (AreTold links.classes) (sym same) (sets_are_told links are) in
       let fields : AreRemoteFields links.classes = laws.held files links.classes has are.set kept in
       let here : IsNotLost links (Waits op m fuel) = follows.never_stuck.always [] tt in
       let own : m.references.own ≡ g.id = follows.held.0.own in
-      given_of m.references op (op_reply g (op_of op) (state_of g h))
-      (laws.fit g h links.classes m.references op told fields
+      given_of m.references op (op_reply g (op_of [] op) (state_of g h))
+      (laws.fit g h links.classes m.references op [] told fields
       (record {
         taken = taken;
+        store = store;
         own = own;
         fits = here.0;
         stands = laws.stand g h id t links.classes m.references op taken lives own here.0 (holds_object t.task.held op follows.held.1);

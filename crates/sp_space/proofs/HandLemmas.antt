@@ -1,8 +1,9 @@
 -- A task in hand: how it is lent, makes an instruction or gets a reply, and leaves the hand.
 use Rattle.std.proofs.Common.{◌≡◌, ℕ, ◌+◌, ◌<◌, Bool, true, false, cond, List, [], ◌∷◌, Option, None, Some, refl, sym, ap, subst, ◌∙◌, arith}
-use Rattle.std.specs.Prelude.{not, find, is_some, ◌==◌, ◌&&◌, ◌||◌, ◌^◌, option_map, unwrap_or}
+use Rattle.std.specs.Prelude.{bytes_eq, not, find, is_some, ◌==◌, ◌&&◌, ◌||◌, ◌^◌, option_map, unwrap_or}
 use Rattle.std.proofs.lemmas.Bool.{eq-eqb, eqb-true, false≢true}
 use Rattle.cls_link.specs.Links.{Links}
+use Rattle.cls_set.specs.declared.class.Class.{Class}
 use Rattle.sp_rules.specs.Behaviours as rules
 use Rattle.sp_rules.specs.Classes.{Setting}
 use Rattle.sp_rules.specs.Events.{Event, Output, Committed, GivenBack}
@@ -18,23 +19,24 @@ use Rattle.sp_tasks.specs.Behaviours.{outcome_of}
 use Rattle.sp_tasks.specs.Rows.{TaskRow, Hand, hand_of, is_in_hand, replied_hand, row_of}
 use Rattle.sp_tasks.specs.declared.behaviour.Outcome.{Outcome}
 use Rattle.sp_tasks.specs.declared.behaviour.Stand.TheVariants as told
-use Rattle.sp_core.specs.Cores.{IsCore, Lends, Seen, has_lent, is_lent, lent_as}
+use Rattle.sp_core.specs.Cores.{AreOwn, IsAlone, IsCore, Lends, Seen, has_lent, is_lent, lent_as}
 use Rattle.sp_core.specs.Hands.{StandsAt, finished, given_back, task_of}
 use Rattle.sp_core.specs.Shown.{lowest_ready}
 use Rattle.sp_core.specs.declared.space.SpaceCore.{SpaceCore}
 use Rattle.sp_core.proofs.HandLemmas as kept
+use Rattle.sp_core.proofs.RootLemmas.{in-own}
 use Rattle.vm_act.specs.declared.asked.Asked.{Asked}
+use Rattle.vm_act.specs.declared.asked.Asked.TheVariants as asked
 use Rattle.vm_act.specs.declared.asked.Reply.{Reply}
-use Rattle.vm_act.specs.declared.asked.Reply.TheVariants as machine
 use Rattle.vm_act.specs.declared.machine.Machine.{Machine}
-use Rattle.vm_run.specs.Run.{State as Machines_state, Running, Waits, Over, Lost, answer, run, IsDue}
+use Rattle.vm_run.specs.Run.{State as Machines_state, Running, Waits, Over, Lost, answer, run, FitsFuel, IsDue, IsNotLost, IsReply}
 use Rattle.vm_run.specs.Task.{Tasked, fuel_left, pause_at}
 use Rattle.vm_run.specs.declared.outcome.Pause.{Pause}
 use Rattle.vm_run.specs.declared.outcome.Pause.TheVariants.{Ask}
-use Rattle.vm_run.proofs.Runs.{answer-fuel}
-use Rattle.sp_behaviours.specs.Behaviours.{op_of}
-use Rattle.sp_behaviours.specs.Follows.{Follows, PlaysOn, stand_of}
-use Rattle.sp_behaviours.proofs.Following.{asks-stay, stands, steps-follow, throws-follow, values-follow}
+use Rattle.vm_run.proofs.Runs.{answer-spends, at_once}
+use Rattle.sp_behaviours.specs.Behaviours.{op_at, op_of, reply_to, IsOfStore}
+use Rattle.sp_behaviours.specs.Follows.{Follows, HoldsAsked, PlaysOn, stand_of, waiting}
+use Rattle.sp_behaviours.proofs.Following.{asks-stay, replies-follow, stands, steps-follow}
 use Rattle.sp_space.specs.Hands.{AsksIn, IsAsking, IsInHand, TakesAt, TakesReply}
 use Rattle.sp_space.specs.Machines.{ending_at, is_over_at, machine_at, machine_reply}
 use Rattle.sp_space.specs.Players.{after_answer, after_run, left_in}
@@ -163,13 +165,48 @@ steps-one : (t : tasks.Task) → steps 1 t ≡ step t
 unfolding steps
 steps-one t = refl
 
+-- ---- what is asked
+
+-- In a space that no other has to do with a machine has no reference to an object of another space: it asks of the store alone.
+pub store-asked : (links : Links) (g : Setting) (s : State) (id : ℕ) (t : Living) (op : Asked) (m : Machine) (fuel : ℕ) → IsAlone g s → task_at s id ≡ Some t → Follows links g t.task (Waits op m fuel) → IsOfStore op
+store-asked links g s id t (asked.Create class) m fuel alone lives follows = tt
+store-asked links g s id t (asked.Get object slot) m fuel alone lives follows = tt
+store-asked links g s id t (asked.Put object slot value) m fuel alone lives follows = tt
+store-asked links g s id t (asked.Call target method count) m fuel alone lives follows =
+    let own : AreOwn g t.task.held = all-found (λ (u : Living). AreOwn g u.task.held) (λ (u : Living). u.id == id) s.tasks t lives alone.tasks in
+    let here : IsNotLost links (Waits (asked.Call target method count) m fuel) = at_once links (Waits (asked.Call target method count) m fuel) follows.never_stuck in
+    let foreign : bytes_eq target.space g.id ≡ false = subst (λ id. bytes_eq target.space id ≡ false) follows.held.0.own here.0.0 in
+    let held : HoldsAsked t.task.held (asked.Call target method count) = follows.held.1 in
+    false≢true (sym (in-own g t.task.held target own foreign) ∙ held)
+
+-- that is what the rules say of it
+pub store-is : (classes : List Class) (op : Asked) (m : Machine) → IsOfStore op → op_at classes op m ≡ op_of [] op
+store-is classes (asked.Create class) m store = refl
+store-is classes (asked.Get object slot) m store = refl
+store-is classes (asked.Put object slot value) m store = refl
+store-is classes (asked.Call target method count) m store = absurd store
+
+-- nothing is lent for it, and its reply gives nothing back
+store-keeps : (op : Asked) (t : tasks.Task) → IsOfStore op → waiting op t ≡ t
+store-keeps (asked.Create class) t store = refl
+store-keeps (asked.Get object slot) t store = refl
+store-keeps (asked.Put object slot value) t store = refl
+store-keeps (asked.Call target method count) t store = absurd store
+
+store-fuel : (op : Asked) (given : Reply) (fuel : ℕ) → IsOfStore op → FitsFuel op given fuel
+store-fuel (asked.Create class) given fuel store = tt
+store-fuel (asked.Get object slot) given fuel store = tt
+store-fuel (asked.Put object slot value) given fuel store = tt
+store-fuel (asked.Call target method count) given fuel store = absurd store
+
 -- one that asks leaves the task where it stood
 pub record Asks (links : Links) (g : Setting) (h : List Event) (after : Space) (hand : Hand) (op : Asked) : Type 0 where
   pub in_hand : IsInHand links g h after hand
   pub asks : IsAsking op (machine_at hand.id after.machines)
   pub living : Living
   pub lives : task_at (state_of g h) hand.id ≡ Some living
-  pub stands : stand living.task ≡ AsksFor (op_of op)
+  pub store : IsOfStore op
+  pub stands : stand living.task ≡ AsksFor (op_of [] op)
 
 pub asked-hand : (links : Links) (g : Setting) (h : List Event) (space : Space) (machines : Machines) (hand : Hand) (op : Asked) → IsInHand links g h space hand → hand.made ≡ 0
     → ((other : ℕ) → machine_at other machines ≡ cond (hand.id == other) (option_map (after_run 1) (machine_at hand.id space.machines)) (machine_at other space.machines))
@@ -183,6 +220,7 @@ asked-hand links g h space machines hand op is none moves pauses =
     let (m, fuel, waits) = waits-for op (run links 1 p.task.state) asks in
     let stays : steps 1 p.living.task ≡ p.living.task = steps-one p.living.task ∙ asks-stay links g p.living.task p.task.state op m fuel played.follows waits in
     let follows = subst (λ t. Follows links g t (run links 1 p.task.state)) stays (steps-follow links g p.living.task p.task.state 1 played.follows) in
+    let store = store-asked links g (state_of g h) hand.id p.living op m fuel is.stands.core.alone p.lives (subst (Follows links g p.living.task) waits follows) in
     let left = (left-stepped links p.task.state).asks op asks in
     let short = played.short in
     let now : IsPlayedBy links g p.living (after_run 1 p.task) = record {
@@ -202,7 +240,8 @@ asked-hand links g h space machines hand op is none moves pauses =
       asks = subst (IsAsking op) (sym plays) (subst (AsksIn op) (sym (here ∙ waits)) refl);
       living = p.living;
       lives = p.lives;
-      stands = stands links g p.living.task (run links 1 p.task.state) follows ∙ ap (stand_of links) waits;
+      store = store;
+      stands = stands links g p.living.task (run links 1 p.task.state) follows ∙ ap (stand_of links) waits ∙ ap AsksFor (store-is links.classes op m store);
     }
 
 -- one that does not is made
@@ -331,15 +370,18 @@ finished-space links g h space core machines hand outcome outputs is at unrefuse
 
 -- ---- a reply
 
-reply-follows : (links : Links) (g : Setting) (t : tasks.Task) (op : Asked) (m : Machine) (fuel : ℕ) (reply : rules.Reply) (given : Reply) → PlaysOn links g → Follows links g t (Waits op m fuel)
+-- a reply of the store is one of the rules
+as-reply : (op : Asked) (reply : rules.Reply) (given : Reply) → machine_reply op reply ≡ Some given → reply_to op reply ≡ Some given
+as-reply op (rules.Gives value) given is = is
+as-reply op (rules.GivesBack value back) given is = absurd (cc)
+as-reply op (rules.Throws class) given is = is
+as-reply op rules.RunsOut given is = absurd (cc)
+
+reply-follows : (links : Links) (g : Setting) (t : tasks.Task) (op : Asked) (m : Machine) (fuel : ℕ) (reply : rules.Reply) (given : Reply) → PlaysOn links g → Follows links g t (Waits op m fuel) → IsOfStore op
     → machine_reply op reply ≡ Some given → IsDue links.classes given (Waits op m fuel) → Follows links g (tasks.answer g reply t) (answer given (Waits op m fuel))
-reply-follows links g t op m fuel (rules.Gives value) given plays f is due = values-follow links g t op m fuel value given plays f is due
-reply-follows links g t op m fuel (rules.GivesBack value back) given plays f is due = absurd (cc)
-reply-follows links g t op m fuel (rules.Throws class) given plays f is due =
-    let same : machine.Throws class ≡ given = ap (λ o. unwrap_or o given) is in
-    subst (λ (x : Reply). Follows links g (tasks.answer g (rules.Throws class) t) (answer x (Waits op m fuel))) same
-    (throws-follow links g t op m fuel class f (subst (λ (x : Reply). IsDue links.classes x (Waits op m fuel)) (sym same) due))
-reply-follows links g t op m fuel rules.RunsOut given plays f is due = absurd (cc)
+reply-follows links g t op m fuel reply given plays f store is due =
+    subst (λ (u : tasks.Task). Follows links g (tasks.answer g reply u) (answer given (Waits op m fuel))) (store-keeps op t store)
+    (replies-follow links g t op m fuel reply given plays f (as-reply op reply given is) due)
 
 asks-waits : (op : Asked) (s : Machines_state) → AsksIn op s → (m : Machine) × (fuel : ℕ) × (s ≡ Waits op m fuel)
 asks-waits op (Running m fuel) e = absurd e
@@ -348,58 +390,59 @@ asks-waits op (Over end fuel) e = absurd e
 asks-waits op Lost e = absurd e
 
 -- the reply of the rules is one that the machine takes
-pub takes-reply : (links : Links) (g : Setting) (h : List Event) (space : Space) (hand : Hand) (op : Asked) → IsInHand links g h space hand → hand.made ≡ 0 → IsAsking op (machine_at hand.id space.machines)
-    → TakesAt links op (op_reply g (op_of op) (state_of g h)) (machine_at hand.id space.machines)
-takes-reply links g h space hand op is none asks =
+pub takes-reply : (links : Links) (g : Setting) (h : List Event) (space : Space) (hand : Hand) (op : Asked) → IsInHand links g h space hand → hand.made ≡ 0 → IsAsking op (machine_at hand.id space.machines) → IsOfStore op
+    → TakesAt links op (op_reply g (op_of [] op) (state_of g h)) (machine_at hand.id space.machines)
+takes-reply links g h space hand op is none asks store =
     let p = in-play links g h space hand is in
     let played = fresh-played links g p.living hand.made p.task none p.played in
     let (m, fuel, waits) = asks-waits op p.task.state (subst (IsAsking op) p.plays asks) in
-    let (given, takes, fits) = is.stands.classes.fits h hand.id p.living op m fuel is.stands.taken is.stands.core.alone p.lives (subst (Follows links g p.living.task) waits played.follows) in
-    let reply : TakesReply links op (op_reply g (op_of op) (state_of g h)) p.task = record {
+    let (given, takes, fits) = is.stands.classes.fits h hand.id p.living op m fuel is.stands.taken is.stands.core.alone p.lives (subst (Follows links g p.living.task) waits played.follows) store in
+    let reply : TakesReply links op (op_reply g (op_of [] op) (state_of g h)) p.task = record {
       program = played.program;
       given = given;
       is = takes;
-      due = subst (IsDue links.classes given) (sym waits) fits;
+      due = subst (IsDue links.classes given) (sym waits) (fits, store-fuel op given fuel store);
     } in
-    subst (TakesAt links op (op_reply g (op_of op) (state_of g h))) (sym p.plays) reply
+    subst (TakesAt links op (op_reply g (op_of [] op) (state_of g h))) (sym p.plays) reply
 
 pub committed-hand : (links : Links) (g : Setting) (h : List Event) (space : Space) (core : SpaceCore) (machines : Machines) (hand now : Hand) (op : Asked) (given : Reply) → IsInHand links g h space hand → hand.made ≡ 0
-    → IsAsking op (machine_at hand.id space.machines) → IsCore g (on g (Committed hand.id hand.made (op_of op)) (state_of g h)).0 core
-    → ((other : ℕ) → is_lent core other ≡ is_lent space.core other) → refusal g (lent_as (state_of g h) hand (hand.id ∷ [])) (state_of g h) (Committed hand.id hand.made (op_of op)) ≡ None
-    → now ≡ replied_hand (op_reply g (op_of op) (state_of g h)) hand → has_lent core now ≡ true → machine_reply op (op_reply g (op_of op) (state_of g h)) ≡ Some given
+    → IsAsking op (machine_at hand.id space.machines) → IsOfStore op → IsCore g (on g (Committed hand.id hand.made (op_of [] op)) (state_of g h)).0 core
+    → ((other : ℕ) → is_lent core other ≡ is_lent space.core other) → refusal g (lent_as (state_of g h) hand (hand.id ∷ [])) (state_of g h) (Committed hand.id hand.made (op_of [] op)) ≡ None
+    → now ≡ replied_hand (op_reply g (op_of [] op) (state_of g h)) hand → has_lent core now ≡ true → machine_reply op (op_reply g (op_of [] op) (state_of g h)) ≡ Some given
     → ((other : ℕ) → machine_at other machines ≡ cond (hand.id == other) (option_map (after_answer given) (machine_at hand.id space.machines)) (machine_at other space.machines))
-    → IsInHand links g (Committed hand.id hand.made (op_of op) ∷ h) (record space { core = core; machines = machines }) now
+    → IsInHand links g (Committed hand.id hand.made (op_of [] op) ∷ h) (record space { core = core; machines = machines }) now
 unfolding state_of
-committed-hand links g h space core machines hand now op given is none asks core-is lent unrefused replied own takes moves =
+committed-hand links g h space core machines hand now op given is none asks store core-is lent unrefused replied own takes moves =
     let s = state_of g h in
-    let reply = op_reply g (op_of op) s in
+    let reply = op_reply g (op_of [] op) s in
     let p = in-play links g h space hand is in
     let played = fresh-played links g p.living hand.made p.task none p.played in
     let (m, fuel, waits) = asks-waits op p.task.state (subst (IsAsking op) p.plays asks) in
     let follows = subst (Follows links g p.living.task) waits played.follows in
-    let (other-given, other-takes, fits) = is.stands.classes.fits h hand.id p.living op m fuel is.stands.taken is.stands.core.alone p.lives follows in
+    let (other-given, other-takes, fits) = is.stands.classes.fits h hand.id p.living op m fuel is.stands.taken is.stands.core.alone p.lives follows store in
     let same : other-given ≡ given = ap (λ o. unwrap_or o given) (sym other-takes ∙ takes) in
-    let due : IsDue links.classes given (Waits op m fuel) = subst (λ (x : Reply). IsDue links.classes x (Waits op m fuel)) same fits in
-    let spent = answer-fuel links given (Waits op m fuel) follows.never_stuck due in
+    let fitting : IsReply links.classes m.references op given = subst (IsReply links.classes m.references op) same fits in
+    let due : IsDue links.classes given (Waits op m fuel) = (fitting, store-fuel op given fuel store) in
+    let spent = answer-spends links given (Waits op m fuel) follows.never_stuck due in
     let most = left-most (answer given (Waits op m fuel)) in
     let before = subst (λ (x : Machines_state). p.living.steps + left_in x < 2 ^ 64) waits played.short in
     let plays = moved hand.id (after_answer given) space.machines machines p.task p.plays moves in
     let f : Living → Living = λ u. after_reply g reply (after_steps hand.made u) in
-    let ts = commit-replies g s hand.id hand.made (op_of op) p.living p.ready in
+    let ts = commit-replies g s hand.id hand.made (op_of [] op) p.living p.ready in
     let mine : IsPlayedBy links g (after_reply g reply p.living) (after_answer given p.task) = record {
       program = played.program;
-      follows = subst (λ (x : Machines_state). Follows links g (tasks.answer g reply p.living.task) (answer given x)) (sym waits) (reply-follows links g p.living.task op m fuel reply given is.stands.classes.plays follows takes due);
+      follows = subst (λ (x : Machines_state). Follows links g (tasks.answer g reply p.living.task) (answer given x)) (sym waits) (reply-follows links g p.living.task op m fuel reply given is.stands.classes.plays follows store takes due);
       short = subst (λ (x : Machines_state). 0 + left_in (answer given x) < 2 ^ 64) (sym waits) (omega (arith, spent, most, before));
     } in
-    let here : row hand.id (on g (Committed hand.id hand.made (op_of op)) s).0.tasks ≡ Some (after_reply g reply p.living) =
+    let here : row hand.id (on g (Committed hand.id hand.made (op_of [] op)) s).0.tasks ≡ Some (after_reply g reply p.living) =
     ap (row hand.id) ts ∙ row-changed hand.id hand.id f s.tasks (λ t. refl) ∙ ap (λ b. cond b (option_map f (row hand.id s.tasks)) (row hand.id s.tasks)) (itself hand.id)
     ∙ ap (option_map f) p.lives ∙ ap (λ u. Some (after_reply g reply u)) (ap (λ k. after_steps k p.living) none ∙ after-none p.living) in
-    subst (IsInHand links g (Committed hand.id hand.made (op_of op) ∷ h) (record space { core = core; machines = machines })) (sym replied)
+    subst (IsInHand links g (Committed hand.id hand.made (op_of [] op) ∷ h) (record space { core = core; machines = machines })) (sym replied)
     (record {
       stands = record { classes = is.stands.classes; id = is.stands.id; limits = is.stands.limits; taken = ((lent_as s hand (hand.id ∷ []), unrefused), is.stands.taken); core = core-is };
-      mine = mine-from links g 0 (row hand.id (on g (Committed hand.id hand.made (op_of op)) s).0.tasks) (after_reply g reply p.living) (machine_at hand.id machines) (after_answer given p.task) here plays
+      mine = mine-from links g 0 (row hand.id (on g (Committed hand.id hand.made (op_of [] op)) s).0.tasks) (after_reply g reply p.living) (machine_at hand.id machines) (after_answer given p.task) here plays
           (subst (λ (u : Living). IsPlayedBy links g u (after_answer given p.task)) (sym (after-none (after_reply g reply p.living))) mine);
-      others = λ other apart. others-same links g hand.id other _ (row other (on g (Committed hand.id hand.made (op_of op)) s).0.tasks) space.machines machines apart (moves other)
+      others = λ other apart. others-same links g hand.id other _ (row other (on g (Committed hand.id hand.made (op_of [] op)) s).0.tasks) space.machines machines apart (moves other)
           (subst (λ (o : Option Living). IsPlayed links g o (machine_at other space.machines))
           (sym (ap (row other) ts ∙ row-changed hand.id other f s.tasks (λ t. refl) ∙ ap (λ b. cond b (option_map f (row other s.tasks)) (row other s.tasks)) apart)) (is.others other apart));
       lends = λ other. lent other ∙ is.lends other;
@@ -409,29 +452,29 @@ committed-hand links g h space core machines hand now op given is none asks core
 -- ---- an operation on the store, and the task goes back
 
 pub replied-space : (links : Links) (g : Setting) (h : List Event) (space after : Space) (core : SpaceCore) (machines : Machines) (hand now : Hand) (op : Asked) (o : rules.Op) (reply : rules.Reply)
-    → IsInHand links g h space hand → hand.made ≡ 0 → IsAsking op (machine_at hand.id space.machines) → o ≡ op_of op
+    → IsInHand links g h space hand → hand.made ≡ 0 → IsAsking op (machine_at hand.id space.machines) → IsOfStore op → o ≡ op_of [] op
     → IsCore g (on g (Committed hand.id hand.made o) (state_of g h)).0 core → ((other : ℕ) → is_lent core other ≡ is_lent space.core other)
     → refusal g (lent_as (state_of g h) hand (hand.id ∷ [])) (state_of g h) (Committed hand.id hand.made o) ≡ None
     → now ≡ replied_hand reply hand → has_lent core now ≡ true → reply ≡ op_reply g o (state_of g h)
     → ((given : Reply) → machine_reply op reply ≡ Some given
     → (other : ℕ) → machine_at other machines ≡ cond (now.id == other) (option_map (after_answer given) (machine_at now.id space.machines)) (machine_at other space.machines))
     → ((before : List Event) → IsInHand links g before (record space { core = core; machines = machines }) now → IsSpace links g (given_back now ∷ before) after)
-    → IsSpace links g (GivenBack hand.id 0 ∷ Committed hand.id 0 (op_of op) ∷ h) after
-replied-space links g h space after core machines hand now op o reply is none asks same core-is lent unrefused replied own reply-is moves back =
+    → IsSpace links g (GivenBack hand.id 0 ∷ Committed hand.id 0 (op_of [] op) ∷ h) after
+replied-space links g h space after core machines hand now op o reply is none asks store same core-is lent unrefused replied own reply-is moves back =
     let s = state_of g h in
-    let right : reply ≡ op_reply g (op_of op) s = reply-is ∙ ap (λ x. op_reply g x s) same in
-    let (given, takes) = given-of (machine_at hand.id space.machines) (takes-reply links g h space hand op is none asks) in
+    let right : reply ≡ op_reply g (op_of [] op) s = reply-is ∙ ap (λ x. op_reply g x s) same in
+    let (given, takes) = given-of (machine_at hand.id space.machines) (takes-reply links g h space hand op is none asks store) in
     let here : now.id ≡ hand.id = ap (λ (x : Hand). x.id) replied in
     let made : now.made ≡ 0 = ap (λ (x : Hand). x.made) replied in
     let moved-so : (other : ℕ) → machine_at other machines ≡ cond (hand.id == other) (option_map (after_answer given) (machine_at hand.id space.machines)) (machine_at other space.machines) =
     λ other. moves given (ap (machine_reply op) right ∙ takes) other ∙ ap (λ n. cond (n == other) (option_map (after_answer given) (machine_at n space.machines)) (machine_at other space.machines)) here in
-    let in-hand = committed-hand links g h space core machines hand now op given is none asks (subst (λ x. IsCore g (on g (Committed hand.id hand.made x) s).0 core) same core-is) lent
+    let in-hand = committed-hand links g h space core machines hand now op given is none asks store (subst (λ x. IsCore g (on g (Committed hand.id hand.made x) s).0 core) same core-is) lent
     (subst (λ x. refusal g (lent_as s hand (hand.id ∷ [])) s (Committed hand.id hand.made x) ≡ None) same unrefused) (replied ∙ ap (λ r. replied_hand r hand) right) own takes moved-so in
-    subst (λ k. IsSpace links g (GivenBack hand.id 0 ∷ Committed hand.id k (op_of op) ∷ h) after) none
-    (subst (λ k. IsSpace links g (GivenBack hand.id k ∷ Committed hand.id hand.made (op_of op) ∷ h) after) made
-    (subst (λ n. IsSpace links g (GivenBack n now.made ∷ Committed hand.id hand.made (op_of op) ∷ h) after) here (back (Committed hand.id hand.made (op_of op) ∷ h) in-hand)))
+    subst (λ k. IsSpace links g (GivenBack hand.id 0 ∷ Committed hand.id k (op_of [] op) ∷ h) after) none
+    (subst (λ k. IsSpace links g (GivenBack hand.id k ∷ Committed hand.id hand.made (op_of [] op) ∷ h) after) made
+    (subst (λ n. IsSpace links g (GivenBack n now.made ∷ Committed hand.id hand.made (op_of [] op) ∷ h) after) here (back (Committed hand.id hand.made (op_of [] op) ∷ h) in-hand)))
   where
-    given-of : (m : Option Tasked) → TakesAt links op (op_reply g (op_of op) (state_of g h)) m → (given : Reply) × (machine_reply op (op_reply g (op_of op) (state_of g h)) ≡ Some given)
+    given-of : (m : Option Tasked) → TakesAt links op (op_reply g (op_of [] op) (state_of g h)) m → (given : Reply) × (machine_reply op (op_reply g (op_of [] op) (state_of g h)) ≡ Some given)
     given-of None takes = absurd takes
     given-of (Some task) takes = (takes.given, takes.is)
 

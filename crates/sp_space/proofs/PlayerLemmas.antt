@@ -1,5 +1,5 @@
 -- What instructions and replies leave of the fuel of a machine, and where its task stands then.
-use Rattle.std.proofs.Common.{◌≡◌, ℕ, zero, suc, ◌+◌, ◌≤◌, true, false, Option, None, Some, refl, sym, ap, ◌∙◌, arith}
+use Rattle.std.proofs.Common.{◌≡◌, ℕ, zero, suc, ◌+◌, ◌-◌, ◌<◌, ◌≤◌, List, true, false, Option, None, Some, refl, sym, ap, ◌∙◌, arith}
 use Rattle.std.specs.Prelude.{◌==◌}
 use Rattle.std.proofs.lemmas.Bool.{eqb-true, ne_eqb, true≢false}
 use Rattle.cls_link.specs.Links.{Links}
@@ -7,18 +7,23 @@ use Rattle.sp_rules.specs.Classes.{Setting}
 use Rattle.sp_rules.specs.Tasks.{Task, Runs, HasEnded, stand}
 use Rattle.sp_rules.specs.Worlds.{is_over}
 use Rattle.vm_act.specs.Next.{Next, On, Ends, Asks, Stuck}
+use Rattle.vm_act.specs.Remote.{answered}
 use Rattle.vm_act.specs.declared.asked.Asked.{Asked}
+use Rattle.vm_act.specs.declared.asked.Asked.TheVariants as asked
+use Rattle.vm_act.specs.declared.asked.Reply.{Reply}
+use Rattle.vm_act.specs.declared.asked.Reply.TheVariants as reply
+use Rattle.vm_heap.specs.Heap.{Cell}
 use Rattle.vm_act.specs.declared.machine.Machine.{Machine}
 use Rattle.vm_rows.specs.Steps as insns
 use Rattle.vm_run.specs.Ends.{End, end_of}
-use Rattle.vm_run.specs.Run.{State, Running, Waits, Over, Lost, after, over, run, step, IsDue, IsNeverStuck}
+use Rattle.vm_run.specs.Run.{State, Running, Waits, Over, Lost, after, answer, over, run, step, IsDue, IsNeverStuck}
 use Rattle.vm_run.specs.Task.{fuel_left, outcome_at, pause_at}
 use Rattle.vm_run.specs.declared.outcome.Pause.TheVariants.{Turn, Ask, Ended}
-use Rattle.vm_run.proofs.Runs.{IsNeverStuck-step, at_once}
+use Rattle.vm_run.proofs.Runs.{IsNeverStuck-step, IsQuiet, answered_quiet, at_once}
 use Rattle.sp_behaviours.specs.Behaviours.{told_some}
 use Rattle.sp_behaviours.specs.Follows.{Follows, stand_before, stand_of}
 use Rattle.sp_behaviours.proofs.Following.{stands}
-use Rattle.sp_space.specs.Players.{left_in}
+use Rattle.sp_space.specs.Players.{left_at, left_given, left_in}
 
 -- ---- fuel
 
@@ -71,6 +76,54 @@ left-less links s on silent = by (run links 1 s) (left-stepped links s) silent
     by (Over end fuel) left silent = some (left_in s) on
     by Lost left silent = some (left_in s) on
 
+-- ---- a reply
+
+-- it comes to a machine that has fuel
+pub due-some : (links : Links) (given : Reply) (s : State) → IsDue links.classes given s → 0 < left_in s
+due-some links given (Running m fuel) due = absurd due
+due-some links given (Waits op m fuel) due = omega arith
+due-some links given (Over end fuel) due = absurd due
+due-some links given Lost due = absurd due
+
+left-on : (cells : List Cell) (n : Next) (fuel left : ℕ) → IsQuiet n → left ≡ fuel → left_at (pause_at (after cells n fuel)) left ≡ left_in (after cells n fuel)
+left-on cells (On m) fuel left quiet same = same
+left-on cells (Ends ending) fuel left quiet same = ended (end_of cells ending)
+  where
+    ended : (o : Option End) → left_at (pause_at (over o fuel)) left ≡ left_in (over o fuel)
+    ended None = refl
+    ended (Some end) = refl
+left-on cells (Asks op m) fuel left quiet same = absurd quiet
+left-on cells Stuck fuel left quiet same = refl
+
+-- and leaves so much
+pub left-answered : (links : Links) (given : Reply) (s : State) → IsDue links.classes given s → left_at (pause_at (answer given s)) (left_given given (left_in s)) ≡ left_in (answer given s)
+unfolding answer
+left-answered links given (Running m fuel) due = absurd due
+left-answered links given (Over end fuel) due = absurd due
+left-answered links given Lost due = absurd due
+left-answered links (reply.Made reference) (Waits (asked.Create class) m fuel) due =
+    left-on m.heap.cells (answered (asked.Create class) (reply.Made reference) m) fuel (suc fuel - 1) (answered_quiet (asked.Create class) (reply.Made reference) m) (omega arith)
+left-answered links (reply.Made reference) (Waits (asked.Get object slot) m fuel) due = absurd due.0
+left-answered links (reply.Made reference) (Waits (asked.Put object slot value) m fuel) due = absurd due.0
+left-answered links (reply.Made reference) (Waits (asked.Call target method count) m fuel) due = absurd due.0
+left-answered links (reply.Holds held) (Waits (asked.Create class) m fuel) due = absurd due.0
+left-answered links (reply.Holds held) (Waits (asked.Get object slot) m fuel) due =
+    left-on m.heap.cells (answered (asked.Get object slot) (reply.Holds held) m) fuel (suc fuel - 1) (answered_quiet (asked.Get object slot) (reply.Holds held) m) (omega arith)
+left-answered links (reply.Holds held) (Waits (asked.Put object slot value) m fuel) due = absurd due.0
+left-answered links (reply.Holds held) (Waits (asked.Call target method count) m fuel) due = absurd due.0
+left-answered links reply.Written (Waits (asked.Create class) m fuel) due = absurd due.0
+left-answered links reply.Written (Waits (asked.Get object slot) m fuel) due = absurd due.0
+left-answered links reply.Written (Waits (asked.Put object slot value) m fuel) due =
+    left-on m.heap.cells (answered (asked.Put object slot value) reply.Written m) fuel (suc fuel - 1) (answered_quiet (asked.Put object slot value) reply.Written m) (omega arith)
+left-answered links reply.Written (Waits (asked.Call target method count) m fuel) due = absurd due.0
+left-answered links (reply.Returned result back) (Waits (asked.Create class) m fuel) due = absurd due.0
+left-answered links (reply.Returned result back) (Waits (asked.Get object slot) m fuel) due = absurd due.0
+left-answered links (reply.Returned result back) (Waits (asked.Put object slot value) m fuel) due = absurd due.0
+left-answered links (reply.Returned result back) (Waits (asked.Call target method count) m fuel) due =
+    left-on m.heap.cells (answered (asked.Call target method count) (reply.Returned result back) m) back back (answered_quiet (asked.Call target method count) (reply.Returned result back) m) refl
+left-answered links reply.RunsOut (Waits op m fuel) due = refl
+left-answered links (reply.Throws class) (Waits op m fuel) due = refl
+
 -- ---- where a task stands
 
 more : (n : ℕ) → (suc n == 0) ≡ false
@@ -82,7 +135,7 @@ unfolding step
 over-at links (Running m zero) safe = refl
 over-at links (Running m (suc fuel)) safe = by (insns.step links m) (at_once links (step links (Running m (suc fuel))) (IsNeverStuck-step links (Running m (suc fuel)) safe)) ∙ sym (more fuel)
   where
-    by : (n : Next) → Rattle.vm_run.specs.Run.IsNotLost links (after m.heap.cells n fuel) → is_over (stand_before n) ≡ false
+    by : (n : Next) → Rattle.vm_run.specs.Run.IsNotLost links (after m.heap.cells n fuel) → is_over (stand_before links n) ≡ false
     by (On m') there = refl
     by (Ends ending) there = refl
     by (Asks op m') there = refl
@@ -109,7 +162,7 @@ unfolding run step
 runs-on links (Running m zero) safe on silent = absurd (true≢false on)
 runs-on links (Running m (suc fuel)) safe on silent = by (insns.step links m) (at_once links (step links (Running m (suc fuel))) (IsNeverStuck-step links (Running m (suc fuel)) safe)) silent
   where
-    by : (n : Next) → Rattle.vm_run.specs.Run.IsNotLost links (after m.heap.cells n fuel) → ((op : Asked) → pause_at (after m.heap.cells n fuel) ≡ Ask op → ⊥) → stand_before n ≡ Runs
+    by : (n : Next) → Rattle.vm_run.specs.Run.IsNotLost links (after m.heap.cells n fuel) → ((op : Asked) → pause_at (after m.heap.cells n fuel) ≡ Ask op → ⊥) → stand_before links n ≡ Runs
     by (On m') there silent = refl
     by (Ends ending) there silent = refl
     by (Asks op m') there silent = absurd (silent op refl)

@@ -16,7 +16,7 @@ use Rattle.sp_core.specs.Shown.{lowest_ready}
 use Rattle.sp_core.specs.declared.space.SpaceCore.{SpaceCore}
 use Rattle.vm_act.specs.declared.asked.Asked.{Asked}
 use Rattle.vm_act.specs.declared.asked.Asked.TheVariants as asked
-use Rattle.sp_behaviours.specs.Behaviours.{op_of}
+use Rattle.sp_behaviours.specs.Behaviours.{op_of, IsOfStore}
 use Rattle.sp_behaviours.proofs.Following.{stands}
 use Rattle.sp_space.specs.Hands.{IsInHand, last_event}
 use Rattle.sp_space.specs.Machines.{is_over_at, machine_at}
@@ -70,19 +70,20 @@ own-step links g h space after hand outputs ran none happened =
     by true events happened = one-event links g h hand.id ran.living (Finished hand.id 1) after outputs ran.lives events happened
     by false events happened = one-event links g h hand.id ran.living (GivenBack hand.id 1) after outputs ran.lives events happened
 
-ops-of : (id : ℕ) (op : Asked) → events_of_op id (op_of op) ≡ Committed id 0 (op_of op) ∷ GivenBack id 0 ∷ []
-ops-of id (asked.Create class) = refl
-ops-of id (asked.Get object slot) = refl
-ops-of id (asked.Put object slot value) = refl
+ops-of : (id : ℕ) (op : Asked) → IsOfStore op → events_of_op id (op_of [] op) ≡ Committed id 0 (op_of [] op) ∷ GivenBack id 0 ∷ []
+ops-of id (asked.Create class) store = refl
+ops-of id (asked.Get object slot) store = refl
+ops-of id (asked.Put object slot value) store = refl
+ops-of id (asked.Call target method count) store = absurd store
 
 -- an operation on the store
-pub ask-step : (links : Links) (g : Setting) (h : List Event) (after : Space) (id : ℕ) (t : Living) (op : Asked) (outputs : List Output) → task_at (state_of g h) id ≡ Some t → stand t.task ≡ AsksFor (op_of op)
-    → outputs ≡ [] → IsSpace links g (GivenBack id 0 ∷ Committed id 0 (op_of op) ∷ h) after → IsStep links g h id after outputs
+pub ask-step : (links : Links) (g : Setting) (h : List Event) (after : Space) (id : ℕ) (t : Living) (op : Asked) (outputs : List Output) → IsOfStore op → task_at (state_of g h) id ≡ Some t → stand t.task ≡ AsksFor (op_of [] op)
+    → outputs ≡ [] → IsSpace links g (GivenBack id 0 ∷ Committed id 0 (op_of [] op) ∷ h) after → IsStep links g h id after outputs
 unfolding outputs_of
-ask-step links g h after id t op outputs lives asks none space =
-    stepped links g h id t (Committed id 0 (op_of op) ∷ GivenBack id 0 ∷ []) after outputs lives (ap (events_at id t.task) asks ∙ ops-of id op)
+ask-step links g h after id t op outputs store lives asks none space =
+    stepped links g h id t (Committed id 0 (op_of [] op) ∷ GivenBack id 0 ∷ []) after outputs lives (ap (events_at id t.task) asks ∙ ops-of id op store)
     (none
-    ∙ (λ j. sym (commit-silent g (state_of g h) id 0 (op_of op)) j ++ (sym (back-silent g (state_of g (Committed id 0 (op_of op) ∷ h)) id 0) j ++ [])))
+    ∙ (λ j. sym (commit-silent g (state_of g h) id 0 (op_of [] op)) j ++ (sym (back-silent g (state_of g (Committed id 0 (op_of [] op) ∷ h)) id 0) j ++ [])))
     space
 
 -- ---- steps that failed

@@ -1,6 +1,7 @@
 -- Machines with the fuel that they have left. (This project's own.)
-use Rattle.std.specs.Prelude.{ℕ, suc}
+use Rattle.std.specs.Prelude.{ℕ, suc, ◌-◌}
 use Rattle.vm_act.specs.declared.asked.Reply.{Reply}
+use Rattle.vm_act.specs.declared.asked.Reply.TheVariants as reply
 use Rattle.vm_run.specs.Run.{State, Running, Waits, Over, Lost, answer, run}
 use Rattle.vm_run.specs.Task.{Tasked, outcome_at}
 use Rattle.vm_run.specs.declared.outcome.Pause.{Pause}
@@ -20,6 +21,15 @@ abbrev pub left_at : Pause → ℕ → ℕ
 left_at Turn fuel = fuel
 left_at (Ask op) fuel = fuel
 left_at Ended fuel = 0
+
+-- the same after a reply, of so much fuel before it: a call has what comes back
+abbrev pub left_given : Reply → ℕ → ℕ
+left_given (reply.Made reference) fuel = fuel - 1
+left_given (reply.Holds value) fuel = fuel - 1
+left_given reply.Written fuel = fuel - 1
+left_given (reply.Returned value back) fuel = back
+left_given reply.RunsOut fuel = 0
+left_given (reply.Throws class) fuel = fuel - 1
 
 -- how a machine with no fuel left has ended
 abbrev pub ending_of : Tasked → rules.Outcome

@@ -19,7 +19,7 @@ use Rattle.vm_run.specs.Task.{Tasked}
 use Rattle.vm_run.specs.declared.fault.StartFault.{StartFault}
 use Rattle.vm_run.specs.declared.fault.StartFault.TheVariants as fault
 use Rattle.vm_run.specs.declared.limits.Limits.{Limits}
-use Rattle.sp_behaviours.specs.Behaviours.{limits_of, op_of}
+use Rattle.sp_behaviours.specs.Behaviours.{limits_of, op_of, IsOfStore}
 use Rattle.sp_behaviours.specs.Follows.{Follows, PlaysOn}
 use Rattle.sp_space.specs.Machines.{machine_at, machine_reply}
 use Rattle.sp_space.specs.Players.{left_in}
@@ -35,7 +35,7 @@ refused_by fault.BadArgument = Some BadArgument
 refused_by fault.Memory = None
 
 -- The classes of a setting are those of a linked set, on which machines run: tasks start and do what the set says, and while no other space
--- is there, each reply of the space fits what the machine of its task asks.
+-- is there, each reply of the space fits what the machine of its task asks of the store.
 pub record RunsOn (links : Links) (g : Setting) : Type 0 where
   pub plays : PlaysOn links g
   pub starts : (method : ℕ) (arguments : List Value) (fuel : ℕ) (task : Tasked) → started links g.id (record { 0 = method }) arguments (limits_of g.limits fuel) ≡ Ok task
@@ -43,8 +43,8 @@ pub record RunsOn (links : Links) (g : Setting) : Type 0 where
   pub refuses : (method : ℕ) (arguments : List Value) (fuel : ℕ) (why : StartFault) → started links g.id (record { 0 = method }) arguments (limits_of g.limits fuel) ≡ Err why
       → g.classes.start_refusal g.id method arguments ≡ refused_by why
   pub fits : (h : List Event) (id : ℕ) (t : Living) (op : Asked) (m : Machine) (fuel : ℕ) → IsTaken g h → IsAlone g (state_of g h) → task_at (state_of g h) id ≡ Some t
-      → Follows links g t.task (Waits op m fuel)
-      → (given : Reply) × (machine_reply op (op_reply g (op_of op) (state_of g h)) ≡ Some given) × IsReply links.classes m.references op given
+      → Follows links g t.task (Waits op m fuel) → IsOfStore op
+      → (given : Reply) × (machine_reply op (op_reply g (op_of [] op) (state_of g h)) ≡ Some given) × IsReply links.classes m.references op given
 
 -- ---- machines
 

@@ -4,7 +4,7 @@ ghost use Rattle.std.specs.Prelude.{◌≡◌, ◌==◌, ◌<◌, ◌^◌, IfOk}
 ghost use Rattle.vm_run.specs.Run.{IsDue};
 ghost use Rattle.vm_run.specs.Task.{fuel_left, pause_at};
 ghost use Rattle.sp_tasks.specs.Behaviours.{outcome_of};
-ghost use Rattle.sp_space.specs.Players.{after_answer, after_run, ending_of, left_at, left_in};
+ghost use Rattle.sp_space.specs.Players.{after_answer, after_run, ending_of, left_at, left_given, left_in};
 
 use crate::telling;
 use sp_core::Outcome;
@@ -79,9 +79,10 @@ impl Player {
         requires due { IsDue program.now.classes reply self.old.state }
         ensures { self.new ≡ after_answer reply self.old }
     {
+        let left = left_given(&reply, self.left);
         self.task.answer(program, reply);
         let pause = self.task.run(program, 0);
-        self.left = left_after(pause, self.left - 1);
+        self.left = left_after(pause, left);
     }
 
     /// How it ended, if it is over.
@@ -92,6 +93,18 @@ impl Player {
             Some(ended) => Ok(telling::outcome(ended)),
             None => Ok(Outcome::Spent),
         }
+    }
+}
+
+// The fuel that a machine has after a reply, of so much before it.
+fn left_given(reply: &Reply, left: u64) -> u64
+    requires { 0 < left }
+    ensures { result ≡ left_given reply.now left }
+{
+    match reply {
+        Reply::Returned { value: _, fuel } => *fuel,
+        Reply::RunsOut => 0,
+        _ => left - 1,
     }
 }
 

@@ -11,7 +11,7 @@ ghost use Rattle.sp_core.specs.Cores.{has_lent};
 ghost use Rattle.sp_core.specs.Events.{output_of};
 ghost use Rattle.sp_core.specs.Hands.{StandsAt, finished, given_back};
 ghost use Rattle.sp_core.specs.Shown.{lowest_ready};
-ghost use Rattle.sp_behaviours.specs.Behaviours.{op_of};
+ghost use Rattle.sp_behaviours.specs.Behaviours.{op_of, IsOfStore};
 ghost use Rattle.sp_space.specs.Hands.{HasHand, IsAsking, IsInHand, TakesAt, last_event};
 ghost use Rattle.sp_space.specs.Machines.{is_over_at, machine_at, machine_reply};
 ghost use Rattle.sp_space.specs.Players.{after_answer};
@@ -136,9 +136,10 @@ impl Space {
         requires known { HasHand (C.tells classes.now) program.now self.old hand }
         requires fresh { hand.made ≡ 0 }
         requires asks { IsAsking asked.now (machine_at hand.id self.old.machines) }
+        requires store { IsOfStore asked.now }
         ensures outputs { IfOk result (λ outputs. outputs.items ≡ []) }
         ensures done { OnOk result ((g : Setting) (h : List Happening) → IsInHand program.now g h self.old hand → C.tells classes.now g.classes
-            → IsSpace program.now g (GivenBack hand.id 0 ∷ Committed hand.id 0 (op_of asked.now) ∷ h) self.new) }
+            → IsSpace program.now g (GivenBack hand.id 0 ∷ Committed hand.id 0 (op_of [] asked.now) ∷ h) self.new) }
         ensures back { OnErr result ((g : Setting) (h : List Happening) → IsInHand program.now g h self.old hand → IsSpace program.now g (given_back hand ∷ h) self.new) }
     {
         match self

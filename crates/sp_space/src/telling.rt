@@ -1,6 +1,6 @@
 //! What machines and the core tell one another.
 
-ghost use Rattle.std.specs.Prelude.{◌≡◌, IfOk, IfErr, Some};
+ghost use Rattle.std.specs.Prelude.{◌≡◌, [], IfOk, IfErr, Some};
 ghost use Rattle.sp_behaviours.specs.Behaviours as behaviours;
 ghost use Rattle.sp_core.specs.FaultNames.{start_refusal};
 ghost use Rattle.sp_tasks.specs.Behaviours.{op_of, outcome_of, reply_of};
@@ -24,9 +24,10 @@ pub(crate) fn outcome(ended: vm_run::Outcome) -> Outcome
     }
 }
 
-/// What a machine asks, as the core is told.
+/// What a machine asks of the store, as the core is told.
 pub(crate) fn op(asked: &Asked) -> Op
-    ensures { op_of result ≡ behaviours.op_of asked.now }
+    requires { behaviours.IsOfStore asked.now }
+    ensures { op_of result ≡ behaviours.op_of [] asked.now }
 {
     match *asked {
         Asked::Create(class) => Op::Create(class),
@@ -43,6 +44,7 @@ pub(crate) fn op(asked: &Asked) -> Op
             slot: slot as usize,
             value: field_value(value),
         },
+        Asked::Call { .. } => unreachable!(),
     }
 }
 
@@ -78,6 +80,7 @@ fn value_reply(asked: &Asked, value: &Option<Value>) -> Option<vm_code::Reply>
             slot: _,
             value: _,
         } => written(value),
+        Asked::Call { .. } => None,
     }
 }
 

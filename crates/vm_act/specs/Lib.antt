@@ -7,3 +7,4 @@ pub mod Arrays
 pub mod Calls
 pub mod Switches
 pub mod Remote
+pub mod Crossing

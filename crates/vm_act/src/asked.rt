@@ -2,11 +2,11 @@
 ghost use Rattle.std.specs.Prelude.{◌≡◌, ◌+◌, ◌<◌, ◌^◌, Some, IsSome, IsTrue};
 ghost use Rattle.vm_act.specs.Next.{NotStuck, Does};
 ghost use Rattle.vm_act.specs.Steps.{is_kind};
-ghost use Rattle.vm_act.specs.Remote.{create, is_remote_at, ask_get, ask_put, put_to, stored_as, answered, push_value, push_made};
+ghost use Rattle.vm_act.specs.Remote.{create, is_remote_at, ask_get, ask_put, put_to, stored_as, answered, push_value, push_made, push_result, push_copy, pop_receiver, leave_call, complete_call};
 
 use crate::ending::{Ending, Flow, Thrown};
 use crate::machine::Machine;
-use vm_heap::{ClassId, Pointer, Ref, Word, WordKind};
+use vm_heap::{ClassId, Pointer, Ref, Value, Word, WordKind};
 
 /// What a field of a remote object holds.
 #[derive(Clone, Copy, Debug, PartialEq, Eq)]
@@ -33,10 +33,17 @@ pub enum Asked {
         slot: u32,
         value: FieldValue,
     },
+    /// A call of the method of this number on an object of another space, with so many arguments on
+    /// top of the operands.
+    Call {
+        target: Ref,
+        method: u32,
+        arguments: usize,
+    },
 }
 
 /// What completes the instruction that asks.
-#[derive(Clone, Copy, Debug, PartialEq, Eq)]
+#[derive(Debug, Drop)]
 pub enum Reply {
     /// To Create: the new object.
     Made(Ref),
@@ -44,6 +51,10 @@ pub enum Reply {
     Holds(FieldValue),
     /// To Put.
     Written,
+    /// To Call: what it gives, if anything, and the fuel that its callee left.
+    Returned { value: Option<Value>, fuel: u64 },
+    /// To Call: the callee's fuel was spent.
+    RunsOut,
     /// To each of them: an exception of this class is thrown.
     Throws(ClassId),
 }
@@ -129,18 +140,93 @@ impl Machine {
         }
     }
 
-    /// Completes the instruction that waits for this reply.
-    pub fn answer_with(&mut self, reply: Reply) -> Flow
+    /// Completes the instruction that asked for this and waits for the reply. It takes no memory.
+    pub fn answer_with(&mut self, asked: Asked, reply: Reply) -> Flow
         requires index { self.old.stack.frame.index + 1 < 2 ^ 64 }
-        requires fits { NotStuck (answered reply self.old) }
-        ensures does { Does (answered reply self.old) result self.new }
+        requires fits { NotStuck (answered asked reply self.old) }
+        ensures does { Does (answered asked reply self.old) result self.new }
         ensures method { self.new.stack.frame.method ≡ self.old.stack.frame.method }
     {
         match reply {
             Reply::Made(reference) => self.push_made(reference),
             Reply::Holds(value) => self.push_value(value),
             Reply::Written => self.go_on(),
+            Reply::Returned { value, fuel: _ } => self.complete_call(asked, &value),
+            Reply::RunsOut => Flow::Ends(Ending::Spent),
             Reply::Throws(class) => Flow::Ends(Ending::ThrewObject(class)),
+        }
+    }
+
+    fn complete_call(&mut self, asked: Asked, value: &Option<Value>) -> Flow
+        requires index { self.old.stack.frame.index + 1 < 2 ^ 64 }
+        requires fits { NotStuck (complete_call asked value.now self.old) }
+        ensures does { Does (complete_call asked value.now self.old) result self.new }
+        ensures method { self.new.stack.frame.method ≡ self.old.stack.frame.method }
+    {
+        match asked {
+            Asked::Call {
+                target: _,
+                method: _,
+                arguments,
+            } => self.leave_call(arguments, value),
+            _ => unreachable!(),
+        }
+    }
+
+    fn leave_call(&mut self, arguments: usize, value: &Option<Value>) -> Flow
+        requires index { self.old.stack.frame.index + 1 < 2 ^ 64 }
+        requires fits { NotStuck (leave_call arguments value.now self.old) }
+        ensures does { Does (leave_call arguments value.now self.old) result self.new }
+        ensures method { self.new.stack.frame.method ≡ self.old.stack.frame.method }
+    {
+        self.stack.discard(arguments);
+        self.pop_receiver(value)
+    }
+
+    fn pop_receiver(&mut self, value: &Option<Value>) -> Flow
+        requires index { self.old.stack.frame.index + 1 < 2 ^ 64 }
+        requires fits { NotStuck (pop_receiver value.now self.old) }
+        ensures does { Does (pop_receiver value.now self.old) result self.new }
+        ensures method { self.new.stack.frame.method ≡ self.old.stack.frame.method }
+    {
+        let _ = self.stack.pop();
+        self.push_result(value)
+    }
+
+    fn push_result(&mut self, value: &Option<Value>) -> Flow
+        requires index { self.old.stack.frame.index + 1 < 2 ^ 64 }
+        requires fits { NotStuck (push_result value.now self.old) }
+        ensures does { Does (push_result value.now self.old) result self.new }
+        ensures method { self.new.stack.frame.method ≡ self.old.stack.frame.method }
+    {
+        match value {
+            None => {}
+            Some(Value::Null) => self.push(Word::null()),
+            Some(Value::Int(n)) => self.push(Word::int(*n)),
+            Some(Value::Ints(elements)) => return self.push_copy(elements.as_slice()),
+            Some(Value::Ref(reference)) => match self.references.hold(*reference) {
+                Some(word) => self.push(word),
+                None => return Flow::throws(Thrown::OutOfMemoryError),
+            },
+        }
+        self.go_on()
+    }
+
+    fn push_copy(&mut self, elements: &[i32]) -> Flow
+        requires index { self.old.stack.frame.index + 1 < 2 ^ 64 }
+        requires fits { NotStuck (push_copy elements.now self.old) }
+        ensures does { Does (push_copy elements.now self.old) result self.new }
+        ensures method { self.new.stack.frame.method ≡ self.old.stack.frame.method }
+    {
+        if elements.len() >= 0x8000_0000 {
+            return Flow::throws(Thrown::OutOfMemoryError);
+        }
+        match self.heap.copy_ints(elements) {
+            Some(word) => {
+                self.push(word);
+                self.go_on()
+            }
+            None => Flow::throws(Thrown::OutOfMemoryError),
         }
     }
 

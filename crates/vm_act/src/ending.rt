@@ -16,6 +16,8 @@ pub enum Thrown {
     AbstractMethodError,
     IllegalAccessError,
     IncompatibleClassChangeError,
+    /// An argument of a remote call cannot cross.
+    MarshalException,
 }
 
 /// How a task ends. There are no exception handlers, so what is thrown ends it.
@@ -28,8 +30,10 @@ pub enum Ending {
     /// A remote object.
     ReturnedRemote(Ref),
     Threw(Thrown),
-    /// An `athrow` threw an object of this class.
+    /// An `athrow`, or the space in reply to what was asked, threw an object of this class.
     ThrewObject(ClassId),
+    /// The fuel of the callee of a remote call was spent.
+    Spent,
 }
 
 /// What an instruction did: the machine goes on in the same method, or in another, or the task ends, or it

@@ -8,15 +8,17 @@
 
 pub use asked::{Asked, FieldValue, Reply};
 pub use calls::{Callee, Selected};
+pub use crossing::{CALL_BYTES, MOST_BYTES, Parameter};
 pub use ending::{Ending, Flow, Thrown};
 pub use machine::Machine;
 pub use objects::Referent;
-pub use vm_heap::{ClassId, Heap, Ref, References, Word, WordKind};
+pub use vm_heap::{ClassId, Heap, Ref, References, Value, Word, WordKind};
 pub use vm_stack::Stack;
 
 mod arrays;
 mod asked;
 mod calls;
+mod crossing;
 mod ending;
 mod machine;
 mod objects;

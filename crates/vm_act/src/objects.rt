@@ -1,12 +1,12 @@
 //! Objects (JVMS 6.5).
-ghost use Rattle.std.specs.Prelude.{◌≡◌, ◌+◌, ◌<◌, ◌^◌, Some, IsSome};
+ghost use Rattle.std.specs.Prelude.{◌≡◌, ◌+◌, ◌<◌, ◌^◌, length, Some, IsSome, option_map, slice_get};
 ghost use Rattle.vm_act.specs.Next.{NotStuck, Does};
 ghost use Rattle.vm_act.specs.Steps.{on_own_object};
-ghost use Rattle.vm_act.specs.Objects.{new_object, get_field, put_field, put_at, referent_at, referent_of, cast, answer, throw};
+ghost use Rattle.vm_act.specs.Objects.{new_object, get_field, put_field, put_at, referent_at, referent_of, remote_referent, cast, answer, throw};
 
 use crate::ending::{Ending, Flow, Thrown};
 use crate::machine::Machine;
-use vm_heap::{ClassId, Pointer, Word, WordKind};
+use vm_heap::{ClassId, Pointer, Ref, Word, WordKind};
 
 /// What a reference stands for.
 #[derive(Clone, Copy, Debug, PartialEq, Eq)]
@@ -16,6 +16,8 @@ pub enum Referent {
     Object(ClassId),
     /// An int array.
     Ints,
+    /// A remote object of another space.
+    Stub(Ref),
 }
 
 impl Machine {
@@ -112,8 +114,21 @@ impl Machine {
                 Some(class) => Referent::Object(class),
                 None => Referent::Ints,
             },
-            Pointer::Row(row) => Referent::Object(self.references.get(row).class),
+            Pointer::Row(row) => self.remote_referent(row),
             Pointer::Null => Referent::Null,
+        }
+    }
+
+    #[inline(always)]
+    fn remote_referent(&self, row: usize) -> Referent
+        requires { row < length self.now.references.rows }
+        ensures { option_map (remote_referent self.now.references) (slice_get self.now.references.rows row) ≡ Some result }
+    {
+        let reference = self.references.get(row);
+        if self.references.is_own(row) {
+            Referent::Object(reference.class)
+        } else {
+            Referent::Stub(reference)
         }
     }
 
@@ -155,7 +170,7 @@ impl Machine {
         match referent {
             Referent::Null => Flow::throws(Thrown::NullPointerException),
             Referent::Object(class) => Flow::Ends(Ending::ThrewObject(class)),
-            Referent::Ints => unreachable!(),
+            Referent::Ints | Referent::Stub(_) => unreachable!(),
         }
     }
 }

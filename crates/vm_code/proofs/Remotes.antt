@@ -58,6 +58,17 @@ module _ (classes : List Class) (class : ClassId) where
       at None is = absurd is
       at (Some c) is = zero_back (bit_and c.file.flags.bits INTERFACE) is
 
+  -- a class of the set that is an interface
+  pub interface_sound : is_interface classes class ≡ true → IsSomeAnd (slice_get classes class.0) IsInterface
+  interface_sound e = at (slice_get classes class.0) e
+    where
+      other : (n : ℕ) → not (nat_eq n 0) ≡ true → n ≡ 0 → ⊥
+      other n e none = let same : nat_eq n 0 ≡ true = eq-eqb n 0 none in absurd (cc)
+
+      at : (o : Option Class) → option_map_or (λ (c : Class). not (nat_eq (bit_and c.file.flags.bits INTERFACE) 0)) o false ≡ true → IsSomeAnd o IsInterface
+      at None e = absurd (cc)
+      at (Some c) e = other (bit_and c.file.flags.bits INTERFACE) e
+
   -- a class that passes the test is remote
   pub remote_sound : is_remote classes class ≡ true → IsRemote classes class
   remote_sound e = below (number_of classes (codes "java/rmi/Remote")) refl parts.1

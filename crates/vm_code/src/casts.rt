@@ -2,8 +2,9 @@
 ghost use Rattle.std.specs.Prelude.{◌≡◌, ◌+◌, ◌<◌, ◌^◌};
 ghost use Rattle.vm_act.specs.Next.{NotStuck, Does};
 ghost use Rattle.vm_code.specs.Act.{check_cast, instance_of, throw_top};
-ghost use Rattle.vm_code.specs.Classes.{is_subtype, is_object, is_instance, passes};
+ghost use Rattle.vm_code.specs.Classes.{is_subtype, is_below_remote, is_remote_interface, implements_remotely, is_object, is_instance, passes};
 
+use crate::methods::is_interface;
 use cls_link::{CastType, ClassId, ClassSet};
 use vm_act::{Flow, Machine, Referent};
 
@@ -17,6 +18,30 @@ pub fn is_subtype(set: &ClassSet, class: ClassId, asked: ClassId) -> bool
         return false;
     }
     set.implements(class, asked)
+}
+
+/// Returns whether a class is java/rmi/Remote, or that is among its supertypes.
+pub fn is_below_remote(set: &ClassSet, class: ClassId) -> bool
+    ensures { result ≡ is_below_remote set.now class }
+{
+    match set.number(b"java/rmi/Remote") {
+        Some(remote) => is_subtype(set, class, remote),
+        None => false,
+    }
+}
+
+/// Returns whether a class is a remote interface.
+pub fn is_remote_interface(set: &ClassSet, class: ClassId) -> bool
+    ensures { result ≡ is_remote_interface set.now class }
+{
+    is_interface(set, class) && is_below_remote(set, class)
+}
+
+/// Returns whether an interface is a remote one that a class implements.
+pub fn implements_remotely(set: &ClassSet, class: ClassId, interface: ClassId) -> bool
+    ensures { result ≡ implements_remotely set.now class interface }
+{
+    is_remote_interface(set, interface) && is_subtype(set, class, interface)
 }
 
 // Whether a class is java/lang/Object.
@@ -39,7 +64,10 @@ pub fn is_instance(set: &ClassSet, asked: CastType, referent: Referent) -> bool
         (_, Referent::Null) => false,
         (CastType::Class(asked), Referent::Object(class)) => is_subtype(set, class, asked),
         (CastType::Class(asked), Referent::Ints) => is_object(set, asked),
-        (CastType::IntArray, Referent::Object(_)) => false,
+        (CastType::Class(asked), Referent::Stub(reference)) => {
+            is_object(set, asked) || implements_remotely(set, reference.class, asked)
+        }
+        (CastType::IntArray, Referent::Object(_) | Referent::Stub(_)) => false,
         (CastType::IntArray, Referent::Ints) => true,
     }
 }

@@ -6,19 +6,23 @@
 //! tests it.
 #![tactic(auto)]
 
-pub use casts::is_subtype;
+pub use casts::{is_below_remote, is_remote_interface, is_subtype};
 pub use cls_link::{Linked, LinkedInsn, MemberIndex, MethodId};
 pub use cls_tables::Tables;
+pub use methods::{callee, is_interface, is_public, selection};
+pub use passing::{arguments, is_array};
 pub use step::act;
 pub use vm_act::{
-    Asked, Callee, Ending, FieldValue, Flow, Machine, Referent, Reply, Selected, Thrown, WordKind,
+    Asked, Callee, Ending, FieldValue, Flow, Machine, Parameter, Referent, Reply, Selected, Thrown,
+    WordKind,
 };
 
 mod calls;
 mod casts;
 mod fields;
 mod ints;
-mod methods;
+pub mod methods;
 mod operands;
 mod operators;
+mod passing;
 mod step;

@@ -245,9 +245,12 @@ pub cost-object : (class : ClassId) (kinds : List WordKind) → cost (Object cla
 unfolding cost
 cost-object class kinds = omega (arith, length-map default kinds)
 
-pub cost-ints : (count : ℕ) → cost (Ints (replicate count (pos 0))) ≡ count + 2
+pub cost-elements : (elements : List ℤ) → cost (Ints elements) ≡ length elements + 2
 unfolding cost
-cost-ints count = omega (arith, length-replicate count (pos 0))
+cost-elements elements = omega arith
+
+pub cost-ints : (count : ℕ) → cost (Ints (replicate count (pos 0))) ≡ count + 2
+cost-ints count = omega (arith, cost-elements (replicate count (pos 0)), length-replicate count (pos 0))
 
 -- what was added is the new object, or array
 pub object_added : (values : List Tagged) (cells : List Cell) (class : ClassId) (fields : List Tagged) → values ≡ spelled cells
@@ -255,16 +258,19 @@ pub object_added : (values : List Tagged) (cells : List Cell) (class : ClassId) 
 unfolding spelling
 object_added values cells class fields row = rw row (append_assoc (spelled cells) (Head (OfClass class) ∷ []) fields ∙ sym (spelled-add cells (Object class fields)))
 
+pub copy_added : (values : List Tagged) (cells : List Cell) (count : ℕ) (elements : List ℤ) → count ≡ length elements → values ≡ spelled cells
+    → ((values ++ Head OfInts ∷ []) ++ Head (Length count) ∷ []) ++ map Int elements ≡ spelled (cells ++ Ints elements ∷ [])
+unfolding spelling
+copy_added values cells count elements n row =
+    rw row
+    (append_assoc (spelled cells ++ Head OfInts ∷ []) (Head (Length count) ∷ []) (map Int elements)
+    ∙ (append_assoc (spelled cells) (Head OfInts ∷ []) (Head (Length count) ∷ map Int elements)
+    ∙ (ap (λ (k : ℕ). spelled cells ++ Head OfInts ∷ Head (Length k) ∷ map Int elements) n
+    ∙ sym (spelled-add cells (Ints elements)))))
+
 pub ints_added : (values : List Tagged) (cells : List Cell) (count : ℕ) → values ≡ spelled cells
     → ((values ++ Head OfInts ∷ []) ++ Head (Length count) ∷ []) ++ map Int (replicate count (pos 0)) ≡ spelled (cells ++ Ints (replicate count (pos 0)) ∷ [])
-unfolding spelling
-ints_added values cells count row =
-    let n : length (replicate count (pos 0)) ≡ count = length-replicate count (pos 0) in
-    rw row
-    (append_assoc (spelled cells ++ Head OfInts ∷ []) (Head (Length count) ∷ []) (map Int (replicate count (pos 0)))
-    ∙ (append_assoc (spelled cells) (Head OfInts ∷ []) (Head (Length count) ∷ map Int (replicate count (pos 0)))
-    ∙ (ap (λ (k : ℕ). spelled cells ++ Head OfInts ∷ Head (Length k) ∷ map Int (replicate count (pos 0))) (sym n)
-    ∙ sym (spelled-add cells (Ints (replicate count (pos 0)))))))
+ints_added values cells count row = copy_added values cells count (replicate count (pos 0)) (sym (length-replicate count (pos 0))) row
 
 pub length-added : (cells : List Cell) (cell : Cell) → length (spelled (cells ++ cell ∷ [])) ≡ length (spelled cells) + cost cell
 length-added cells cell = rw (spelled-add cells cell) (omega (arith, length-append (spelled cells) (spelling cell), length-spelling cell))

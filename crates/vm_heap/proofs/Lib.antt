@@ -2,3 +2,4 @@ mod Images
 mod Cells
 mod OwnWords
 mod Tables
+mod Elements

@@ -120,6 +120,34 @@ impl Heap {
         Some(Word::local(address))
     }
 
+    /// Returns a new array with a copy of these elements, at the next address. `None` if it does not
+    /// fit, and then nothing changes. It takes no memory.
+    pub fn copy_ints(&mut self, elements: &[i32]) -> Option<Word>
+        requires { length elements.now < 2 ^ 31 }
+        ensures made { IfSome
+            result
+            (λ word.
+            (cost (Ints elements.now) ≤ self.old.free)
+            × (word ≡ Local (all_cost self.old.cells))
+            × (self.new ≡ with_new (Ints elements.now) self.old)) }
+        ensures full { result ≡ None → self.old.free < cost (Ints elements.now) }
+        ensures unchanged { result ≡ None → self.new ≡ self.old }
+    {
+        let count = elements.len();
+        if self.words.room() - self.words.len() < count + 2 {
+            return None;
+        }
+        let address = self.words.len();
+        self.words.push_reserved(Word::of_ints());
+        self.words.push_reserved(Word::length(count as u32));
+        add_ints(&mut self.words, elements);
+        self.cells = Ghost::of::<Copied<'_>, WithCopy>(&Copied {
+            cells: self.cells.copy(),
+            elements,
+        });
+        Some(Word::local(address))
+    }
+
     /// Returns the class of an object: `None` for an array. The caller owes that one of them stands
     /// there; nothing tests it.
     #[inline(always)]
@@ -178,6 +206,21 @@ impl Heap {
         self.words.get(address + 2 + index)
     }
 
+    /// Returns a copy of the elements of an array. The caller owes that it is an array; nothing tests
+    /// it.
+    #[tactic(auto, using(crate::proofs::Elements::none_yet, crate::proofs::Elements::all_of, crate::proofs::Elements::element_there))]
+    pub fn elements(&self, alloc: Global, address: usize) -> Result<Vec<i32>, AllocError>
+        requires { IsSome (length_at address self.now.cells) }
+        ensures { IfOk result (λ elements. cell_at self.now.cells address ≡ Some (Ints elements.items)) }
+    {
+        let count = self.length(address) as usize;
+        let mut elements = Vec::with_capacity(alloc, count)?;
+        for index in 0..count {
+            elements.push(self.element(address, index).as_int())?;
+        }
+        Ok(elements)
+    }
+
     /// Writes an element of an array. The caller owes that there is such an element; nothing tests
     /// it.
     #[inline(always)]
@@ -223,6 +266,18 @@ fn add_zeros(words: &mut Words, count: usize)
 {
     for _ in 0..count {
         words.push_reserved(Word::int(0));
+    }
+}
+
+fn add_ints(words: &mut Words, elements: &[i32])
+    requires { length words.old.values + length elements.now ≤ words.old.room }
+    ensures { words.new
+        ≡ record words.old {
+          values = words.old.values ++ map Int elements.now;
+        } }
+{
+    for n in elements {
+        words.push_reserved(Word::int(*n));
     }
 }
 
@@ -291,4 +346,20 @@ impl Says<NewInts, Cells> for WithInts {
     ghost use Rattle.vm_heap.specs.Heap.{Ints};
 
     ghost says = { λ n. n.cells.value ++ Ints (replicate n.count (pos 0)) ∷ [] };
+}
+
+// An array that is copied.
+#[derive(Drop)]
+struct Copied<'a> {
+    cells: Ghost<Cells>,
+    elements: &'a [i32],
+}
+
+struct WithCopy;
+
+impl<'a> Says<Copied<'a>, Cells> for WithCopy {
+    ghost use Rattle.std.specs.Prelude.{◌++◌, ◌∷◌, []};
+    ghost use Rattle.vm_heap.specs.Heap.{Ints};
+
+    ghost says = { λ n. n.cells.value ++ Ints n.elements.now ∷ [] };
 }

@@ -66,7 +66,9 @@ impl References {
         requires { row < length self.now.rows }
         ensures { option_map (is_own self.now) (slice_get self.now.rows row) ≡ Some result }
     {
-        self.rows[row].space == self.own
+        // A copy: where an address in the machine is taken, the loop of a task keeps none of it in registers.
+        let own = self.own;
+        self.rows[row].space == own
     }
 
     /// Returns the word of a reference. One that the task has not come by yet gets a row of its own.

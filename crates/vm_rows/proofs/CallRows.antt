@@ -1,8 +1,9 @@
 -- The rows of calls.
-use Rattle.std.proofs.Common.{◌≡◌, ◌⊎◌, inl, inr, ℕ, suc, ◌==◌, ◌+◌, ◌++◌, Bool, true, false, List, [], ◌∷◌, length, map, reverse, refl, sym, subst, ap, ◌∙◌, Option, Some, None, Ok}
+use Rattle.std.proofs.Common.{◌≡◌, ◌⊎◌, inl, inr, ℕ, suc, ◌==◌, ◌+◌, ◌<◌, ◌≤◌, ◌++◌, Bool, true, false, List, [], ◌∷◌, length, map, reverse, refl, sym, subst, ap, ◌∙◌, Option, Some, None, Ok, arith}
 use Rattle.std.specs.Prelude.{nat_eq, ◌||◌, if◌then◌else◌, option_and_then, option_map, slice_get, IsSomeAnd}
 use Rattle.std.specs.Option.{option_map_or}
 use Rattle.std.proofs.lemmas.List.{length-map}
+use Rattle.std.proofs.lemmas.Option.{slice_get_within}
 use Rattle.cf_insns.specs.declared.insn.InvokeKind.{InvokeKind}
 use Rattle.cf_insns.specs.declared.insn.InvokeKind.TheVariants as kind
 use Rattle.cf_reader.specs.declared.class_file.Method.{Method}
@@ -41,21 +42,29 @@ use Rattle.vm_act.specs.Objects.{on_referent}
 use Rattle.vm_act.specs.Steps.{on_some}
 use Rattle.vm_act.specs.declared.calls.Callee.{Callee}
 use Rattle.vm_act.specs.declared.calls.Selected.{Selected}
+use Rattle.vm_act.specs.declared.calls.Selected.TheVariants as selected
+use Rattle.vm_act.specs.declared.crossing.Parameter.{Parameter}
+use Rattle.vm_act.specs.Remote.{ask_call}
+use Rattle.space_ids.specs.declared.ids.Ref.{Ref}
 use Rattle.vm_act.specs.declared.machine.Machine.{Machine}
 use Rattle.vm_act.specs.declared.objects.Referent.{Referent}
 use Rattle.vm_act.specs.declared.objects.Referent.TheVariants as referent
 use Rattle.vm_code.specs.Calls as code
 use Rattle.vm_code.specs.Calls.{id_of}
+use Rattle.vm_code.specs.Classes.{implements_remotely}
+use Rattle.vm_code.specs.Parameters.{parameters_of}
 use Rattle.vm_code.specs.Methods.{callee_of, chosen, init_begins_uninit, interface_selected, object_of, selected_of, special_start}
 use Rattle.vm_heap.specs.Tagged.{Site}
 use Rattle.vm_typing.proofs.Calls as calls
-use Rattle.vm_typing.proofs.Leads.{FitsFrame-assignable}
+use Rattle.vm_typing.proofs.Leads.{FitsFrame-assignable, length-AllZip}
 use Rattle.vm_typing.proofs.Referents as referents
+use Rattle.vm_typing.proofs.Stubs as stubs
 use Rattle.vm_typing.proofs.Uses.{IsFrameAssignable-itself}
-use Rattle.vm_typing.specs.Fits.{held_by}
+use Rattle.vm_typing.specs.Asking.{IsForeignObject}
+use Rattle.vm_typing.specs.Fits.{Fits, held_by}
 use Rattle.vm_typing.specs.Laws.{Leads}
-use Rattle.vm_typing.specs.Owed.{Owed, Passes}
-use Rattle.vm_typing.specs.Typed.{HasRoom, IsAt, with_result}
+use Rattle.vm_typing.specs.Owed.{Owed, Passes, Selects}
+use Rattle.vm_typing.specs.Typed.{HasDepth, HasRoom, IsAt, marks_of, with_result}
 use Rattle.vm_typing.specs.World as world
 use Rattle.vm_typing.specs.World.{World, Enters, IsKnown}
 use Rattle.vm_rows.specs.Rows.{CallRows, Constructs, IsRow, NamesInterface, NamesSpecial, NamesStatic, NamesVirtual, RunsAs, SelectsBelow, StandsAt, arguments_in, result_in}
@@ -270,21 +279,57 @@ module _ (links : Links) (w : World) (owed : Owed w) (set : IsClassSet w.classes
         → Goes (next referent.Null m)
         → ((b : ClassId) → next (referent.Object b) m ≡ acts.invoke (select b) m)
         → next referent.Ints m ≡ acts.invoke (select w.object) m
+        → ((reference : Ref) → IsForeignObject w m.references reference → (next (referent.Stub reference) m ≡ acts.invoke (select w.object) m) ⊎ Goes (next (referent.Stub reference) m))
         → (given : List VType) (top : VType) (below : List VType) → f.stack ≡ given ++ top ∷ below → AreAssignable w.classes given (reverse (arguments_in w method))
         → IsAssignable w.classes top (vtype.Object class)
         → HasRoom (w.method m.stack.frame.method).max_stack (result_in w method) (record f { stack = below })
         → Enters w m.stack.frame.method (m.stack.frame.index + 1) (with_result (result_in w method) (record f { stack = below }))
         → IsAt w asked fresh receiver f m → Goes (on_referent (length method.types.parameters) next m)
-    receiver_leads class method select selects next null objects arrays given top below stack to may room enters at =
+    receiver_leads class method select selects next null objects arrays stub given top below stack to may room enters at =
         subst (λ (count : ℕ). Goes (on_referent count next m)) (length-map method.types.parameters (field_vtype w.classes))
         (referents.receiver-leads w owed asked (held_by m) fresh receiver class (arguments_in w method) (result_in w method) next (record f { stack = given ++ vtype.Object class ∷ below }) below m
         (record { given = given; whole = refl; to = to }) null
         (λ b known under. (select b, (selects.runs b known under, objects b)))
         (λ under. (select w.object, (selects.runs w.object owed.object under, arrays)))
+        (λ reference foreign under. of_stub reference under (stub reference foreign))
         room enters (used_as class given top below stack may at))
+      where
+        of_stub : (reference : Ref) → IsObjectAssignable w.classes w.object class → (next (referent.Stub reference) m ≡ acts.invoke (select w.object) m) ⊎ Goes (next (referent.Stub reference) m)
+            → ((s : Selected) × (Selects w w.object (arguments_in w method) (result_in w method) s × (next (referent.Stub reference) m ≡ acts.invoke s m)))
+            ⊎ Goes (next (referent.Stub reference) m)
+        of_stub reference under (inl is) = inl (select w.object, (selects.runs w.object owed.object under, is))
+        of_stub reference under (inr leads) = inr leads
+
+    -- invokeinterface of a stub: it is asked for, or the class of its object does not implement the interface
+    stub_leads : (class : ClassId) (member : MemberIndex) (names : NamesInterface w class member) (given : List VType) (top : VType) (below : List VType)
+        → f.stack ≡ given ++ top ∷ below → AreAssignable w.classes given (reverse (arguments_in w names.method)) → IsAssignable w.classes top (vtype.Object class)
+        → HasDepth w m.stack.frame.method (length m.stack.frame.operands)
+        → HasRoom (w.method m.stack.frame.method).max_stack (result_in w names.method) (record f { stack = below })
+        → Enters w m.stack.frame.method (m.stack.frame.index + 1) (with_result (result_in w names.method) (record f { stack = below }))
+        → IsAt w asked fresh receiver f m → (reference : Ref) → IsForeignObject w m.references reference
+        → Goes (code.call_stub w.classes class (id_of w.classes member) names.method reference m)
+    stub_leads class member names given top below stack to may depth room enters at reference foreign = by (implements_remotely w.classes reference.class class)
+      where
+        by : (b : Bool) → Goes (if b then ask_call reference (id_of w.classes member).0 (parameters_of names.method) m else acts.invoke selected.NotImplemented m)
+        by true =
+            subst (λ (ps : List Parameter). Goes (ask_call reference (id_of w.classes member).0 ps m)) names.takes
+            (stubs.ask_call-leads w owed asked (held_by m) fresh receiver reference (id_of w.classes member).0 class (arguments_in w names.method) (result_in w names.method)
+            (record f { stack = given ++ vtype.Object class ∷ below }) below m foreign names.types names.gives
+            (record { given = given; whole = refl; to = to }) depth room enters (used_as class given top below stack may at))
+        by false = tt
 
     arrays_select : (select : ClassId → Selected) → object_of w.classes ≡ Some w.object → code.invoke_on w.classes select referent.Ints m ≡ acts.invoke (select w.object) m
     arrays_select select is = ap (λ (o : Option ClassId). on_some (λ object. acts.invoke (select object) m) o) is
+
+    -- there are no more operands than the frame at the instruction has
+    depth_at : (insn : LinkedInsn) (after : Frame) → StandsAt links w body insn f after m → IsAt w asked fresh receiver f m → HasDepth w m.stack.frame.method (length m.stack.frame.operands)
+    depth_at insn after s at =
+        let inside : m.stack.frame.index < length body.insns = slice_get_within body.insns m.stack.frame.index insn s.is in
+        let count : length body.insns ≡ (w.method m.stack.frame.method).count = s.body_of.count in
+        let size : length m.stack.frame.operands ≡ length f.stack =
+        length-AllZip (Fits w (held_by m) (marks_of w m.stack.frame.method fresh receiver)) f.stack m.stack.frame.operands at.frame.operands in
+        let here : length ((w.method m.stack.frame.method).frames m.stack.frame.index).stack ≡ length f.stack = ap (λ (g : Frame). length g.stack) s.typed in
+        record { index = m.stack.frame.index; inside = omega (arith, inside, count); few = omega (arith, size, here) }
 
   static_row : (class : ClassId) (member : MemberIndex) → IsRow links w body (insn.Invoke kind.Static class member)
   unfolding effect checked.call call_static
@@ -312,6 +357,7 @@ module _ (links : Links) (w : World) (owed : Owed w) (set : IsClassSet w.classes
       (receiver_leads asked fresh receiver f m class names.method (λ below. selected_of w.classes below (id_of w.classes member)) names.selects
       (code.invoke_on w.classes (λ below. selected_of w.classes below (id_of w.classes member))) tt (λ b. refl)
       (arrays_select asked fresh receiver f m (λ below. selected_of w.classes below (id_of w.classes member)) names.selects.object)
+      (λ reference foreign. inl (arrays_select asked fresh receiver f m (λ below. selected_of w.classes below (id_of w.classes member)) names.selects.object))
       p.given p.top p.below p.stack (subst (λ (ts : List VType). AreAssignable w.classes p.given ts) (arguments_are s.body_of.classes names.method) p.to) p.may r.0
       (next_is links w body (insn.Invoke kind.Virtual class member) f after m s (with_result (result_in w names.method) (record f { stack = p.below })) r.1 refl) at))
 
@@ -327,13 +373,16 @@ module _ (links : Links) (w : World) (owed : Owed w) (set : IsClassSet w.classes
       let met = demanded rule.Mismatch test (record f { stack = p.below }) last.0 last.1.0 in
       let r = result_given (insn.InvokeInterface count class member) f after m s names.method (record f { stack = p.below })
       (subst (λ (g : Frame). give_result body names.method g ≡ Ok after) (sym met.1) last.1.1) in
+      let enters = next_is links w body (insn.InvokeInterface count class member) f after m s (with_result (result_in w names.method) (record f { stack = p.below })) r.1 refl in
+      let to = subst (λ (ts : List VType). AreAssignable w.classes p.given ts) (arguments_are s.body_of.classes names.method) p.to in
       subst (λ (classes : List Class). Leads w asked (held_by m) (code.call_interface classes class member m)) (sym s.body_of.linked)
-      (subst (λ (o : Option Method). Leads w asked (held_by m) (on_some (λ (method : Method). code.call_receiver w.classes method (λ below. interface_selected w.classes below class (id_of w.classes member)) m) o)) (sym names.declared)
+      (subst (λ (o : Option Method). Leads w asked (held_by m) (on_some (λ (method : Method). on_referent (length method.types.parameters) (code.invoke_interface w.classes class (id_of w.classes member) method) m) o)) (sym names.declared)
       (receiver_leads asked fresh receiver f m class names.method (λ below. interface_selected w.classes below class (id_of w.classes member)) names.selects
-      (code.invoke_on w.classes (λ below. interface_selected w.classes below class (id_of w.classes member))) tt (λ b. refl)
+      (code.invoke_interface w.classes class (id_of w.classes member) names.method) tt (λ b. refl)
       (arrays_select asked fresh receiver f m (λ below. interface_selected w.classes below class (id_of w.classes member)) names.selects.object)
-      p.given p.top p.below p.stack (subst (λ (ts : List VType). AreAssignable w.classes p.given ts) (arguments_are s.body_of.classes names.method) p.to) p.may r.0
-      (next_is links w body (insn.InvokeInterface count class member) f after m s (with_result (result_in w names.method) (record f { stack = p.below })) r.1 refl) at))
+      (λ reference foreign. inr (stub_leads asked fresh receiver f m class member names p.given p.top p.below p.stack to p.may
+      (depth_at asked fresh receiver f m (insn.InvokeInterface count class member) after s at) r.0 enters at reference foreign))
+      p.given p.top p.below p.stack to p.may r.0 enters at))
 
   -- ---- invokespecial
 
@@ -359,7 +408,7 @@ module _ (links : Links) (w : World) (owed : Owed w) (set : IsClassSet w.classes
         (subst (λ (classes : List Class). is_assignable classes (vtype.Object body.class_id) (vtype.Object class) ≡ true) s.body_of.classes met.0)) in
         receiver_leads asked fresh receiver f m body.class_id names.method (λ below. selected_of w.classes (special_start w.classes body.class_id class) (id_of w.classes member))
         (names.selects other above)
-        (code.invoke_unless_null (selected_of w.classes (special_start w.classes body.class_id class) (id_of w.classes member))) tt (λ b. refl) refl
+        (code.invoke_unless_null (selected_of w.classes (special_start w.classes body.class_id class) (id_of w.classes member))) tt (λ b. refl) refl (λ reference foreign. inl refl)
         p.given p.top p.below p.stack (subst (λ (ts : List VType). AreAssignable w.classes p.given ts) (arguments_are s.body_of.classes names.method) p.to) p.may r.0
         (next_is links w body (insn.Invoke kind.Special class member) f after m s (with_result (result_in w names.method) (record f { stack = p.below })) r.1 refl) at
 

@@ -1,5 +1,5 @@
 -- What calls run agrees with the types of what is named.
-use Rattle.std.proofs.Common.{◌≡◌, inr, ℕ, zero, suc, Bool, true, false, not, List, ◌∷◌, length, map, refl, sym, subst, ap, ◌∙◌, Option, Some, None}
+use Rattle.std.proofs.Common.{◌≡◌, inr, ℕ, zero, suc, Bool, true, false, not, List, [], ◌∷◌, length, map, refl, sym, subst, ap, ◌∙◌, Option, Some, None}
 use Rattle.std.specs.Prelude.{◌&&◌, if◌then◌else◌, bytes_eq, codes, nat_lt, option_and_then, option_map, slice_get, IsSomeAnd}
 use Rattle.std.specs.Option.{option_map_or}
 use Rattle.cf_reader.specs.declared.class_file.Method.{Method}
@@ -30,9 +30,13 @@ use Rattle.vm_act.specs.declared.calls.Selected.{Selected}
 use Rattle.vm_act.specs.declared.calls.Selected.TheVariants as selected
 use Rattle.vm_code.specs.Methods.{callee_of, chosen, first_up, init_begins_uninit, interface_selected, is_init, is_public_at, or_else, public_one, selected_of, selection_of, superclass_at}
 use Rattle.vm_code.specs.Classes.{is_subtype}
+use Rattle.vm_code.specs.Parameters.{parameters_of}
+use Rattle.vm_act.specs.declared.crossing.Parameter.{Parameter}
 use Rattle.vm_typing.specs.Fits.{no_method}
-use Rattle.vm_typing.specs.Owed.{Selects, SelectsMethod}
+use Rattle.vm_typing.specs.Owed.{Selects, SelectsMethod, Takes}
 use Rattle.vm_typing.specs.World.{World, MethodType}
+use Rattle.std.specs.List.{AllZip}
+use Rattle.vm_world.proofs.LookUps.{all_take}
 use Rattle.vm_world.proofs.Callees.{callee_agrees, plain_callee_agrees}
 use Rattle.vm_world.proofs.Methods.{begins_not}
 use Rattle.vm_world.proofs.Subjects.{passes_both, stands}
@@ -148,6 +152,26 @@ module _ (links : Links) (frames : ℕ → ℕ → Frame) (are : AreLinks links)
         normal = ap (λ (t : MethodType). t.is_init) r.type ∙ named;
         passed = ap (λ (t : MethodType). t.arguments) r.type ∙ (static_types r.s (frames callee.method) named of ∙ parameters_same r.s n.d method r.classes r.method n.method);
         gives = ap (λ (t : MethodType). t.result) r.type ∙ result_same r.s n.d method r.classes r.method n.method;
+      }
+
+  -- what a named method takes and gives, if it is called on a stub
+  pub record AskedAs (member : MemberIndex) (method : Method) : Type 0 where
+    pub takes : world.takes (number_in links.classes (method_of member)).0 ≡ parameters_of method
+    pub gives : world.gives (number_in links.classes (method_of member)).0 ≡ result_in world method
+    pub types : AllZip Takes (world.takes (number_in links.classes (method_of member)).0) (arguments_in world method)
+
+  pub asked_as : (member : MemberIndex) (method : Method) → checked.method_at links.classes member ≡ Some method → AskedAs member method
+  asked_as member method e =
+      let n = named_number member method e in
+      let at : method_at links.classes (number_in links.classes (method_of member)) ≡ Some method =
+      method_of_number (number_in links.classes (method_of member)) n.d n.there ∙ ap (λ (m : Method). Some m) n.method in
+      let takes : world.takes (number_in links.classes (method_of member)).0 ≡ parameters_of method = ap (λ (o : Option Method). option_map_or parameters_of o []) at in
+      let c = passes_both (slice_get links.classes member.class.0) _ method e in
+      let plain = read.parameters method (record { class = member.class; c = c.0; index = member.index; at = c.1.0; is = c.1.1 }) in
+      record {
+        takes = takes;
+        gives = ap (λ (o : Option Method). option_and_then (λ (m : Method). option_map (field_vtype links.classes) m.types.result) o) at;
+        types = subst (λ (ps : List Parameter). AllZip Takes ps (arguments_in world method)) (sym takes) (all_take links.classes method.types.parameters plain);
       }
 
   -- ---- what selection finds

@@ -170,6 +170,7 @@ module _ (links : Links) (frames : ℕ → ℕ → Frame) (are : AreLinks links)
     stands_at s e by i is fine = record {
       body_of = body_is m.stack.frame.method s e by.declared;
       is = is;
+      typed = refl;
       names = named m.stack.frame.method s e m.stack.frame.index i is;
       effect = subst (λ (t : MethodType). effect (body_of s by.declared) (offset_at (body_of s by.declared) m.stack.frame.index) i (t.frames m.stack.frame.index) ≡ Ok fine.after)
           (sym (type_is m.stack.frame.method s e)) fine.acts;

@@ -39,8 +39,9 @@ use Rattle.vm_act.specs.Objects as acts
 use Rattle.vm_act.specs.Steps.{on_some}
 use Rattle.vm_act.specs.declared.objects.Referent.{Referent}
 use Rattle.vm_act.specs.declared.objects.Referent.TheVariants as referent
-use Rattle.vm_code.proofs.Remotes.{remote_sound}
-use Rattle.vm_code.specs.Classes.{is_instance, is_object, is_remote, passes}
+use Rattle.vm_code.proofs.Remotes.{interface_sound, remote_sound}
+use Rattle.cls_search.specs.MethodSearches.{is_interface}
+use Rattle.vm_code.specs.Classes.{implements_remotely, is_below_remote, is_instance, is_object, is_remote, is_remote_interface, is_subtype, passes}
 use Rattle.vm_code.specs.Fields.{field_kind, kind_of, kinds_of, slot_of}
 use Rattle.vm_heap.specs.declared.heap.WordKind.{WordKind}
 use Rattle.vm_act.specs.Next.{Next}
@@ -253,6 +254,14 @@ module _ (links : Links) (w : World) (owed : Owed w) (set : IsClassSet w.classes
   one_known (vtype.Uninitialized offset) b one = absurd one
   one_known vtype.UninitializedThis b one = absurd one
 
+  first : (a b : Bool) → (a && b) ≡ true → a ≡ true
+  first true b e = refl
+  first false b e = absurd (true_false (sym e))
+
+  one_holds : (a b : Bool) → (a || b) ≡ true → (a ≡ true) ⊎ (b ≡ true)
+  one_holds true b e = inl refl
+  one_holds false b e = inr e
+
   cast_fits : (type : CastType) → CastsTo w type → (t : VType) (r : Referent) → IsOne w t r → passes w.classes type r ≡ true → CastFits w (cast_vtype type) r
   cast_fits (cast.Class asked) casts t referent.Null one e = tt
   cast_fits (cast.Class asked) casts t (referent.Object b) one e = (one_known t b one, casts b (one_known t b one) e)
@@ -261,6 +270,16 @@ module _ (links : Links) (w : World) (owed : Owed w) (set : IsClassSet w.classes
   cast_fits cast.IntArray casts t referent.Null one e = tt
   cast_fits cast.IntArray casts t (referent.Object b) one e = absurd (true_false (sym e))
   cast_fits cast.IntArray casts t referent.Ints one e = tt
+  cast_fits (cast.Class asked) casts t (referent.Stub reference) one e =
+      elim (one_holds (is_object w.classes asked) (implements_remotely w.classes reference.class asked) e) [
+        | inl is ↦ (owed.object, subst (λ (c : ClassId). IsObjectAssignable w.classes w.object c) (owed.object_named asked (object_named w.classes asked is)) (inr (itself w.object)))
+        | inr is ↦ (
+          owed.object,
+          inl (interface_sound w.classes asked (first (is_interface w.classes asked) (is_below_remote w.classes asked)
+              (first (is_remote_interface w.classes asked) (is_subtype w.classes reference.class asked) is))),
+        )
+      ]
+  cast_fits cast.IntArray casts t (referent.Stub reference) one e = absurd (true_false (sym e))
 
   check_row : (type : CastType) → IsRow links w body (insn.CheckCast type)
   unfolding effect

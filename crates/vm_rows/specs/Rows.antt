@@ -18,7 +18,7 @@ use Rattle.vm_code.specs.Fields.{kinds_of, slot_of}
 use Rattle.vm_heap.specs.declared.heap.WordKind.{WordKind}
 use Rattle.vm_heap.specs.Tagged.{Site}
 use Rattle.vm_typing.specs.Fits.{held_by}
-use Rattle.vm_typing.specs.Owed.{HasKind, IsCallee, Selects}
+use Rattle.vm_typing.specs.Owed.{HasKind, IsCallee, Selects, Takes}
 use Rattle.cf_insns.specs.declared.insn.ArrayOperation.{ArrayOperation}
 use Rattle.cf_insns.specs.declared.insn.BinaryOperator.{BinaryOperator}
 use Rattle.cf_insns.specs.declared.insn.Condition.{Condition}
@@ -47,6 +47,7 @@ use Rattle.cls_link.specs.declared.linked_code.LinkedSwitch.{LinkedSwitch}
 use Rattle.vm_act.specs.declared.calls.Callee.{Callee}
 use Rattle.vm_act.specs.declared.calls.Selected.{Selected}
 use Rattle.vm_code.specs.Calls.{id_of}
+use Rattle.vm_code.specs.Parameters.{parameters_of}
 use Rattle.vm_code.specs.Methods.{callee_of, init_begins_uninit, interface_selected, is_init, object_of, selected_of, special_start}
 
 -- A field that an instruction names, and its slot in objects of the named class, and of the class that declares it.
@@ -114,6 +115,10 @@ pub record NamesInterface (w : World) (class : ClassId) (member : MemberIndex) :
   pub method : Method
   pub declared : method_at w.classes member ≡ Some method
   pub selects : SelectsBelow w class method (λ below. interface_selected w.classes below class (id_of w.classes member))
+  -- what it takes and gives, if it is called on a stub
+  pub takes : w.takes (id_of w.classes member).0 ≡ parameters_of method
+  pub gives : w.gives (id_of w.classes member).0 ≡ result_in w method
+  pub types : AllZip Takes (w.takes (id_of w.classes member).0) (arguments_in w method)
 
 -- an `<init>` of a class that runs
 pub record Constructs (w : World) (class : ClassId) (callee : Callee) (arguments : List VType) : Type 0 where
@@ -170,6 +175,7 @@ pub record IsBodyOf (links : Links) (w : World) (number : ℕ) (body : Body) : T
 pub record StandsAt (links : Links) (w : World) (body : Body) (insn : LinkedInsn) (f after : Frame) (m : Machine) : Type 0 where
   pub body_of : IsBodyOf links w m.stack.frame.method body
   pub is : slice_get body.insns m.stack.frame.index ≡ Some insn
+  pub typed : (w.method m.stack.frame.method).frames m.stack.frame.index ≡ f
   pub names : Names w body.class_id body.switches insn
   pub effect : effect body (offset_at body m.stack.frame.index) insn f ≡ Ok after
   pub lands : AllByRecursion (λ to. Enters w m.stack.frame.method to after) (targets body insn)

@@ -1,11 +1,10 @@
 -- A task begins in a state that is never stuck: its first frame fits the one in which its method begins.
 use Rattle.ver_frames.specs.declared.vtype.VType.{VType}
 use Rattle.std.proofs.Common.{◌≡◌, ℕ, zero, suc, ◌+◌, ◌-◌, ◌≤◌, Bool, true, false, List, [], ◌∷◌, ◌++◌, length, map, refl, ap, sym, subst, ◌∙◌, arith, append_assoc, Option, Some, None, ◌⊎◌, inl, inr, eqb-true, drop, le-leb}
-use Rattle.std.proofs.lemmas.Bool.{eq-eqb}
 use Rattle.std.proofs.lemmas.List.{length-map}
 use Rattle.std.proofs.lemmas.List.Elements.{All-head, All-rest}
 use Rattle.std.proofs.lemmas.Option.{slice_get_within}
-use Rattle.std.specs.Prelude.{IsSome, IsSomeAnd, bit_and, nat_eq, slice_get, not, ◌&&◌, ◌||◌, ◌==◌, nat_le, bytes_eq, codes, option_map, replicate, if◌then◌else◌}
+use Rattle.std.specs.Prelude.{IsSome, IsSomeAnd, slice_get, not, ◌&&◌, ◌||◌, ◌==◌, nat_le, bytes_eq, codes, option_map, replicate, if◌then◌else◌}
 use Rattle.std.specs.List.{list_all}
 use Rattle.std.specs.Option.{option_map_or}
 use Rattle.cf_text.specs.declared.types.ElementType.{ElementType}
@@ -31,18 +30,17 @@ use Rattle.vm_heap.specs.References.{Table, is_own, row_of}
 use Rattle.vm_heap.specs.Heap.{Cell, Ints, Store, all_cost, cell_at}
 use Rattle.vm_heap.specs.Tagged.{Tagged, Null, ReferenceRow, Remote, Unset}
 use Rattle.vm_stack.specs.Frames.{Frames, empty_frame, entered, frame_cost}
-use Rattle.vm_typing.specs.Fits.{Held, OfHeap, OfSpace, pointee_at, There, IsInts, Fits, AllFit, CellFits, AllCells, no_marks, no_method}
+use Rattle.vm_typing.specs.Fits.{Held, OfHeap, OfSpace, OfStub, pointee_at, remote_pointee, There, IsA, IsInts, Fits, AllFit, CellFits, AllCells, no_marks, no_method}
 use Rattle.vm_typing.specs.Owed.{Owed, IsCallee}
 use Rattle.vm_typing.specs.Runs.{Move, Steps}
 use Rattle.vm_typing.specs.Typed.{IsTyped}
 use Rattle.vm_typing.specs.World.{IsKnown, IsPlain, World, MethodType, parameters}
-use Rattle.cf_reader.specs.declared.flags.TheConstants.Flags.{INTERFACE}
 use Rattle.cls_search.specs.MethodSearches.{is_interface}
 use Rattle.cls_set.proofs.Hierarchy.{some_of}
 use Rattle.cls_set.specs.Subtypes.{IsRemote}
 use Rattle.space_ids.specs.declared.ids.Ref.{Ref}
-use Rattle.vm_code.proofs.Remotes.{remote_sound}
-use Rattle.vm_code.specs.Classes.{is_below_remote, is_remote}
+use Rattle.vm_code.proofs.Remotes.{interface_sound, remote_sound}
+use Rattle.vm_code.specs.Classes.{is_remote_interface, is_below_remote, is_remote}
 use Rattle.vm_typing.proofs.Arrivals.{known_there}
 use Rattle.vm_typing.proofs.Runs.{starts_typed}
 use Rattle.vm_world.proofs.Owing.{owed}
@@ -52,14 +50,15 @@ use Rattle.vm_run.specs.Ends.{Threw}
 use Rattle.vm_run.specs.Limited.{KeepsWithin}
 use Rattle.vm_run.specs.Run.{State, Running, Over, played, run, AreDue, IsNeverStuck}
 use Rattle.vm_run.specs.Sound.{IsSoundSet}
-use Rattle.vm_run.specs.Start.{crosses, copies, copy_of, fill, have_room, is_startable, is_array_element, is_array_type, is_int_element, is_int_type, is_of_type, is_remote_element, is_remote_interface, is_remote_type, is_own_object, have_rows, no_references, opening_frame, opening_machine, opening_state, passed_at, passed_from, remote_at, with_arguments, AreHeld, IsHeld, refusal, startable, takes_crossing}
+use Rattle.vm_code.specs.Parameters.{is_array_element, is_array_type}
+use Rattle.vm_run.specs.Start.{crosses, copies, copy_of, fill, have_room, is_startable, is_int_element, is_int_type, is_of_type, is_remote_element, is_remote_type, have_rows, no_references, opening_frame, opening_machine, opening_state, passed_at, passed_from, remote_at, with_arguments, AreHeld, IsHeld, refusal, startable, takes_crossing}
 use Rattle.vm_run.specs.Subjects.{Declared, declared_at, declared_of, shown}
 use Rattle.vm_run.specs.declared.fault.StartFault.{StartFault}
 use Rattle.vm_run.specs.declared.fault.StartFault.TheVariants as fault
 use Rattle.vm_run.specs.declared.found.Found.{Found}
 use Rattle.vm_run.specs.declared.limits.Limits.{Limits}
 use Rattle.vm_run.proofs.Copying.{all_cost-append, cell_between}
-use Rattle.vm_run.proofs.Holding.{are_held, own_stays}
+use Rattle.vm_run.proofs.Holding.{are_held}
 use Rattle.vm_run.proofs.Limited.{sound_within}
 use Rattle.vm_run.proofs.Safe.{IsSound, plays-sound, sound-IsNeverStuck}
 
@@ -90,17 +89,6 @@ array_vtype classes kind e =
     let parts = both (kind.dimensions == 1) (is_array_element kind.element) e in
     let one : kind.dimensions ≡ 1 = eqb-true kind.dimensions 1 parts.0 in
     rw (one, array_int kind.element parts.1) refl
-
--- a class of the set that is an interface
-interface_is : (classes : List Class) (class : ClassId) → is_interface classes class ≡ true → IsSomeAnd (slice_get classes class.0) IsInterface
-interface_is classes class e = at (slice_get classes class.0) e
-  where
-    other : (n : ℕ) → not (nat_eq n 0) ≡ true → n ≡ 0 → ⊥
-    other n e none = let same : nat_eq n 0 ≡ true = eq-eqb n 0 none in absurd (cc)
-
-    at : (o : Option Class) → option_map_or (λ (c : Class). not (nat_eq (bit_and c.file.flags.bits INTERFACE) 0)) o false ≡ true → IsSomeAnd o IsInterface
-    at None e = absurd (cc)
-    at (Some c) e = other (bit_and c.file.flags.bits INTERFACE) e
 
 -- the task has come by each of the values that is a reference, one value after the other
 abbrev EachHeld : Table → List Value → Type 0
@@ -133,32 +121,33 @@ module _ (w : World) (held : Held) where
   null_fits classes kind true is some = rw (array_vtype classes kind is) tt
   null_fits classes kind false is some = elim some [ inl remote ↦ remote_fits classes kind remote | inr never ↦ absurd (cc) ]
 
-  -- a reference to an own object fits each remote interface
-  object_fits : (reference : Ref) (row : ℕ) → pointee_at held (ReferenceRow row) ≡ Some (OfSpace reference.class) → IsRemote w.classes reference.class
+  -- a reference to an object of a remote class fits each remote interface, and so does a stub
+  object_fits : IsKnown w w.object → (reference : Ref) (row : ℕ) → pointee_at held (ReferenceRow row) ≡ Some (remote_pointee held.references reference) → IsRemote w.classes reference.class
       → (e : ElementType) → is_remote_element w.classes e ≡ true → Fits w held no_marks (element_type w.classes e) (Remote row)
   unfolding element_type
-  object_fits reference row there remote (element.Class name) is = by (number_of w.classes name) is
+  object_fits object reference row there remote (element.Class name) is = by (number_of w.classes name) is
     where
       known : IsKnown w reference.class
       known = let c = some_of (slice_get w.classes reference.class.0) (λ c. ¬ IsInterface c) remote.is_class in slice_get_within w.classes reference.class.0 c.0 c.1
 
+      placed : (b : Bool) (class : ClassId) → IsSomeAnd (slice_get w.classes class.0) IsInterface → IsA w class (if b then OfSpace reference.class else OfStub reference.class)
+      placed true class interface = (known, inl interface, remote)
+      placed false class interface = (object, inl interface, (known, remote))
+
       by : (o : Option ClassId) → option_map_or (is_remote_interface w.classes) o false ≡ true → Fits w held no_marks (option_map_or vtype.Object o vtype.Top) (Remote row)
       by None e = absurd (cc)
       by (Some class) e =
-          let interface = interface_is w.classes class (both (is_interface w.classes class) (is_below_remote w.classes class) e).0 in
-          rw there (known, inl interface, remote)
-  object_fits reference row there remote e is = absurd (cc)
+          let interface = interface_sound w.classes class (both (is_interface w.classes class) (is_below_remote w.classes class) e).0 in
+          rw there (placed (is_own held.references reference) class interface)
+  object_fits object reference row there remote e is = absurd (cc)
 
-  reference_fits : (own : Uuid) → held.references.own ≡ own → (kind : FieldType) (reference : Ref) → is_of_type w.classes own kind (value.Ref reference) ≡ true
+  reference_fits : IsKnown w w.object → (kind : FieldType) (reference : Ref) → is_of_type w.classes kind (value.Ref reference) ≡ true
       → IsSome (row_of held.references.rows reference) → Fits w held no_marks (field_vtype w.classes kind) (remote_at (row_of held.references.rows reference))
   unfolding field_vtype
-  reference_fits own same kind reference is some = by (row_of held.references.rows reference) refl some
+  reference_fits object kind reference is some = by (row_of held.references.rows reference) refl some
     where
-      parts : (is_remote_type w.classes kind ≡ true) × (is_own_object w.classes own reference ≡ true)
-      parts = both (is_remote_type w.classes kind) (is_own_object w.classes own reference) is
-
-      object : (bytes_eq reference.space own ≡ true) × (is_remote w.classes reference.class ≡ true)
-      object = both (bytes_eq reference.space own) (is_remote w.classes reference.class) parts.1
+      parts : (is_remote_type w.classes kind ≡ true) × (is_remote w.classes reference.class ≡ true)
+      parts = both (is_remote_type w.classes kind) (is_remote w.classes reference.class) is
 
       types : (kind.dimensions == 0 ≡ true) × (is_remote_element w.classes kind.element ≡ true)
       types = both (kind.dimensions == 0) (is_remote_element w.classes kind.element) parts.0
@@ -168,47 +157,46 @@ module _ (w : World) (held : Held) where
       by None e some = absurd (cc)
       by (Some row) e some =
           let none : kind.dimensions ≡ 0 = eqb-true kind.dimensions 0 types.0 in
-          let own_one : is_own held.references reference ≡ true = subst (λ o. bytes_eq reference.space o ≡ true) (sym same) object.0 in
-          rw none (object_fits reference row (known_there held reference row e own_one) (remote_sound w.classes reference.class object.1) kind.element types.1)
+          rw none (object_fits object reference row (known_there held reference row e) (remote_sound w.classes reference.class parts.1) kind.element types.1)
 
   -- an argument fits the type of its parameter, where its copy comes next
-  value_fits : (own : Uuid) → held.references.own ≡ own → (kind : FieldType) (v : Value) (before following : List Cell) → crosses w.classes kind ≡ true
-      → is_of_type w.classes own kind v ≡ true → held.cells ≡ before ++ (copy_of v ++ following) → IsHeld held.references v
+  value_fits : IsKnown w w.object → (kind : FieldType) (v : Value) (before following : List Cell) → crosses w.classes kind ≡ true
+      → is_of_type w.classes kind v ≡ true → held.cells ≡ before ++ (copy_of v ++ following) → IsHeld held.references v
       → Fits w held no_marks (field_vtype w.classes kind) (passed_at (all_cost before) held.references v)
-  value_fits own same kind value.Null before following cross is are known = by (is_int_type kind) refl is (is_array_type kind) refl cross
+  value_fits object kind value.Null before following cross is are known = by (is_int_type kind) refl is (is_array_type kind) refl cross
     where
       by : (b : Bool) → is_int_type kind ≡ b → not b ≡ true → (c : Bool) → is_array_type kind ≡ c → (b || (c || is_remote_type w.classes kind)) ≡ true → Fits w held no_marks (field_vtype w.classes kind) Null
       by true int other c array cross = absurd (cc)
       by false int other true array cross = null_fits w.classes kind true array (inr refl)
       by false int other false array cross = null_fits w.classes kind false array (inl cross)
-  value_fits own same kind (value.Int n) before following cross is are known = rw (int_vtype w.classes kind is) tt
-  value_fits own same kind (value.Ints elements) before following cross is are known =
+  value_fits object kind (value.Int n) before following cross is are known = rw (int_vtype w.classes kind is) tt
+  value_fits object kind (value.Ints elements) before following cross is are known =
       rw (array_vtype w.classes kind is)
       (subst (λ (o : Option Cell). There IsInts (option_map (λ cell. OfHeap cell) o)) (sym (ap (λ cs. cell_at cs (all_cost before)) are ∙ cell_between before (Ints elements) following)) tt)
-  value_fits own same kind (value.Ref reference) before following cross is are known = reference_fits own same kind reference is known
+  value_fits object kind (value.Ref reference) before following cross is are known = reference_fits object kind reference is known
 
-  all_fit : (own : Uuid) → held.references.own ≡ own → (kinds : List FieldType) (values : List Value) (before : List Cell) → list_all (crosses w.classes) kinds ≡ true
-      → fill w.classes own kinds values ≡ true → held.cells ≡ before ++ copies values → EachHeld held.references values
+  all_fit : IsKnown w w.object → (kinds : List FieldType) (values : List Value) (before : List Cell) → list_all (crosses w.classes) kinds ≡ true
+      → fill w.classes kinds values ≡ true → held.cells ≡ before ++ copies values → EachHeld held.references values
       → AllFit w held no_marks (map (field_vtype w.classes) kinds) (passed_from (all_cost before) held.references values)
   unfolding fill copies passed_from
-  all_fit own same [] [] before cross filled are known = tt
-  all_fit own same [] (v ∷ values) before cross filled are known = absurd (cc)
-  all_fit own same (kind ∷ kinds) [] before cross filled are known = absurd (cc)
-  all_fit own same (kind ∷ kinds) (v ∷ values) before cross filled are known =
+  all_fit object [] [] before cross filled are known = tt
+  all_fit object [] (v ∷ values) before cross filled are known = absurd (cc)
+  all_fit object (kind ∷ kinds) [] before cross filled are known = absurd (cc)
+  all_fit object (kind ∷ kinds) (v ∷ values) before cross filled are known =
       let first = both (crosses w.classes kind) (list_all (crosses w.classes) kinds) cross in
-      let given = both (is_of_type w.classes own kind v) (fill w.classes own kinds values) filled in
+      let given = both (is_of_type w.classes kind v) (fill w.classes kinds values) filled in
       let later : held.cells ≡ (before ++ copy_of v) ++ copies values = are ∙ sym (append_assoc before (copy_of v) (copies values)) in (
-        value_fits own same kind v before (copies values) first.0 given.0 are known.0,
+        value_fits object kind v before (copies values) first.0 given.0 are known.0,
         subst (λ address. AllFit w held no_marks (map (field_vtype w.classes) kinds) (passed_from address held.references values)) (all_cost-append before (copy_of v))
-            (all_fit own same kinds values (before ++ copy_of v) first.1 given.1 later known.1),
+            (all_fit object kinds values (before ++ copy_of v) first.1 given.1 later known.1),
       )
 
-length-fill : (classes : List Class) (own : Uuid) (kinds : List FieldType) (values : List Value) → fill classes own kinds values ≡ true → length values ≡ length kinds
+length-fill : (classes : List Class) (kinds : List FieldType) (values : List Value) → fill classes kinds values ≡ true → length values ≡ length kinds
 unfolding fill
-length-fill classes own [] [] e = refl
-length-fill classes own [] (v ∷ values) e = absurd (cc)
-length-fill classes own (kind ∷ kinds) [] e = absurd (cc)
-length-fill classes own (kind ∷ kinds) (v ∷ values) e = ap (λ (n : ℕ). suc n) (length-fill classes own kinds values (both (is_of_type classes own kind v) (fill classes own kinds values) e).1)
+length-fill classes [] [] e = refl
+length-fill classes [] (v ∷ values) e = absurd (cc)
+length-fill classes (kind ∷ kinds) [] e = absurd (cc)
+length-fill classes (kind ∷ kinds) (v ∷ values) e = ap (λ (n : ℕ). suc n) (length-fill classes kinds values (both (is_of_type classes kind v) (fill classes kinds values) e).1)
 
 -- copies of arrays are of no types that have to be met
 copies_fit : (w : World) (held : Held) (values : List Value) → AllCells (CellFits w held) (copies values)
@@ -220,10 +208,10 @@ copies_fit w held (value.Ints elements ∷ values) = (tt, copies_fit w held valu
 copies_fit w held (value.Ref reference ∷ values) = copies_fit w held values
 
 -- what a method takes and is given, where it is not refused
-pub record Accepts (classes : List Class) (own : Uuid) (method : Method) (arguments : List Value) : Type 0 where
+pub record Accepts (classes : List Class) (method : Method) (arguments : List Value) : Type 0 where
   pub static : is_static method ≡ true
   pub crossing : list_all (crosses classes) method.types.parameters ≡ true
-  pub filled : fill classes own method.types.parameters arguments ≡ true
+  pub filled : fill classes method.types.parameters arguments ≡ true
 
 argument_types-static : (m : Subject) → is_static m.method ≡ true → argument_types m ≡ map (field_vtype m.classes) m.method.types.parameters
 unfolding argument_types receiver_types
@@ -234,7 +222,7 @@ unfolding begins_uninit
 begins-static m static = rw static refl
 
 module _ (links : Links) (own : Uuid) (id : MethodId) (m : Subject) (arguments : List Value) (limits : Limits) (are : AreLinks links) (sound : IsSoundSet links)
-    (found : subject_at links id.0 ≡ Some m) (classes : m.classes ≡ links.classes) (normal : is_init m ≡ false) (given : Accepts links.classes own m.method arguments) where
+    (found : subject_at links id.0 ≡ Some m) (classes : m.classes ≡ links.classes) (normal : is_init m ≡ false) (given : Accepts links.classes m.method arguments) where
   abbrev world : World
   world = world_of links sound.frames
 
@@ -257,7 +245,7 @@ module _ (links : Links) (own : Uuid) (id : MethodId) (m : Subject) (arguments :
   passed_is = rw (type_is, normal, argument_types-static m given.static, classes) refl
 
   count : length arguments ≡ length (parameters (world.method id.0))
-  count = rw passed_is (length-fill links.classes own m.method.types.parameters arguments given.filled ∙ sym (length-map m.method.types.parameters (field_vtype links.classes)))
+  count = rw passed_is (length-fill links.classes m.method.types.parameters arguments given.filled ∙ sym (length-map m.method.types.parameters (field_vtype links.classes)))
 
   agrees : IsCallee world callee
   agrees = record {
@@ -297,7 +285,7 @@ module _ (links : Links) (own : Uuid) (id : MethodId) (m : Subject) (arguments :
       (ap (λ (t : MethodType). t.is_init) type_is ∙ normal)
     where
       fits : AllFit world at_first no_marks (map (field_vtype links.classes) m.method.types.parameters) (passed_from 0 table arguments)
-      fits = all_fit world at_first own (own_stays arguments first) m.method.types.parameters arguments [] given.crossing given.filled refl
+      fits = all_fit world at_first owes.object m.method.types.parameters arguments [] given.crossing given.filled refl
           (each_held table arguments (are_held arguments first rows))
 
   abbrev asked : Option VType
@@ -401,14 +389,14 @@ pub record Begins (links : Links) (own : Uuid) (id : MethodId) (m : Declared) (a
   pub within_replies : (moves : List Move) → AreDue links moves (opening_state own id m.code arguments limits)
       → KeepsWithin links (played links moves (opening_state own id m.code arguments limits))
 
-accepts : (classes : List Class) (own : Uuid) (method : Method) (arguments : List Value) → refusal classes own method arguments ≡ None → Accepts classes own method arguments
-accepts classes own method arguments e = taken (takes_crossing classes method.types) refl e
+accepts : (classes : List Class) (method : Method) (arguments : List Value) → refusal classes method arguments ≡ None → Accepts classes method arguments
+accepts classes method arguments e = taken (takes_crossing classes method.types) refl e
   where
-    given : (b : Bool) → (is_static method && fill classes own method.types.parameters arguments) ≡ b → takes_crossing classes method.types ≡ true
-        → (if b then None else Some fault.BadArgument) ≡ None → Accepts classes own method arguments
+    given : (b : Bool) → (is_static method && fill classes method.types.parameters arguments) ≡ b → takes_crossing classes method.types ≡ true
+        → (if b then None else Some fault.BadArgument) ≡ None → Accepts classes method arguments
     given false is takes e = absurd (cc)
     given true is takes e =
-        let parts = both (is_static method) (fill classes own method.types.parameters arguments) is in
+        let parts = both (is_static method) (fill classes method.types.parameters arguments) is in
         record {
           static = parts.0;
           crossing = (both (list_all (crosses classes) method.types.parameters) (option_map_or (crosses classes) method.types.result true) takes).0;
@@ -416,9 +404,9 @@ accepts classes own method arguments e = taken (takes_crossing classes method.ty
         }
 
     taken : (b : Bool) → takes_crossing classes method.types ≡ b
-        → (if not b then Some fault.BadSignature else (if is_static method && fill classes own method.types.parameters arguments then None else Some fault.BadArgument)) ≡ None → Accepts classes own method arguments
+        → (if not b then Some fault.BadSignature else (if is_static method && fill classes method.types.parameters arguments then None else Some fault.BadArgument)) ≡ None → Accepts classes method arguments
     taken false is e = absurd (cc)
-    taken true is e = given (is_static method && fill classes own method.types.parameters arguments) refl is e
+    taken true is e = given (is_static method && fill classes method.types.parameters arguments) refl is e
 
 maps_some : {A B : Type 0} (o : Option A) (f : A → B) (b : B) → option_map f o ≡ Some b → (a : A) × ((o ≡ Some a) × (f a ≡ b))
 maps_some None f b e = absurd (cc)
@@ -432,14 +420,14 @@ normal m e = is_not (bytes_eq m.method.name (codes "<init>")) (both (not (bytes_
     is_not false e = refl
 
 pub startable-begins : (links : Links) (own : Uuid) (id : MethodId) (m : Declared) (arguments : List Value) (limits : Limits) → AreLinks links → IsSoundSet links → startable links id ≡ Some m
-    → refusal links.classes own m.method arguments ≡ None → Begins links own id m arguments limits
+    → refusal links.classes m.method arguments ≡ None → Begins links own id m arguments limits
 unfolding declared_at
 startable-begins links own id m arguments limits are sound found taken =
     let at = passes_both (declared_at links id) (λ d. if is_startable d then Some d else None) m found in
     let passed = tested at.0 (is_startable at.0) refl at.1.1 in
     let subject = maps_some (subject_at links id.0) declared_of at.0 at.1.0 in
-    let given : Accepts links.classes own subject.0.method arguments =
-    subst (λ (d : Declared). Accepts links.classes own d.method arguments) (sym (subject.1.1 ∙ passed.0)) (accepts links.classes own m.method arguments taken) in
+    let given : Accepts links.classes subject.0.method arguments =
+    subst (λ (d : Declared). Accepts links.classes d.method arguments) (sym (subject.1.1 ∙ passed.0)) (accepts links.classes m.method arguments taken) in
     let no_init : is_init subject.0 ≡ false = normal (declared_of subject.0) (subst (λ (d : Declared). is_startable d ≡ true) (sym subject.1.1) passed.1) in
     let same = (stands links id.0 subject.0 subject.1.0).classes in
     let begins : Begins links own id (declared_of subject.0) arguments limits = record {
@@ -457,9 +445,9 @@ startable-begins links own id m arguments limits are sound found taken =
 -- the same, of what a start found and did not refuse
 pub found_begins : (links program : Links) (own : Uuid) (id : MethodId) (r : Option Found) (found : Found) (classes : List Class) (why : Option StartFault) (given arguments : List Value) (limits : Limits)
     → links ≡ program → AreLinks links → IsSoundSet program → option_map shown r ≡ startable links id → r ≡ Some found → classes ≡ links.classes
-    → why ≡ refusal classes own found.method.now given → why ≡ None → given ≡ arguments → Begins program own id (shown found) arguments limits
+    → why ≡ refusal classes found.method.now given → why ≡ None → given ≡ arguments → Begins program own id (shown found) arguments limits
 found_begins links program own id r found classes why given arguments limits same are sound is was set refuses none args =
     let at : startable program id ≡ Some (shown found) = subst (λ (l : Links). startable l id ≡ Some (shown found)) same (sym is ∙ ap (option_map shown) was) in
     let here : classes ≡ program.classes = set ∙ ap (λ (l : Links). l.classes) same in
-    let accepted : refusal program.classes own found.method.now arguments ≡ None = rw (← here, ← args) (sym refuses ∙ none) in
+    let accepted : refusal program.classes found.method.now arguments ≡ None = rw (← here, ← args) (sym refuses ∙ none) in
     startable-begins program own id (shown found) arguments limits (subst AreLinks same are) sound at accepted

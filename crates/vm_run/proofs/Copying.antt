@@ -1,14 +1,11 @@
 -- Arguments that are copied into the heap, and passed one after another.
-use Rattle.std.proofs.Common.{◌≡◌, ℕ, zero, suc, ◌+◌, ◌-◌, ◌<◌, ◌≤◌, Bool, true, false, List, [], ◌∷◌, ◌++◌, length, get_or, take, drop, refl, ap, sym, subst, ◌∙◌, arith, add-one, Some, None, eqb-true, ltb-true, lt-ltb, le-leb, leb-true}
-use Rattle.std.proofs.Math.ListN.{set}
-use Rattle.std.specs.Prelude.{ℤ, pos, ◌↔◌, ◌^◌, ◌&&◌, nat_eq, nat_lt, nat_le, if◌then◌else◌, replicate, slice_get, slice_set, option_and_then, IsSome, IsTrue}
+use Rattle.std.proofs.Common.{◌≡◌, ℕ, zero, suc, ◌+◌, ◌-◌, ◌<◌, ◌≤◌, Bool, true, false, List, [], ◌∷◌, ◌++◌, length, get_or, drop, refl, ap, sym, ◌∙◌, arith, add-one, Some, None, eqb-true, ltb-true, lt-ltb, le-leb, leb-true}
+use Rattle.std.specs.Prelude.{ℤ, ◌↔◌, ◌^◌, ◌&&◌, nat_eq, nat_lt, nat_le, if◌then◌else◌, IsTrue}
 use Rattle.std.specs.Bool.{OnTrue}
 use Rattle.cls_set.specs.declared.class.Class.{Class}
 use Rattle.space_ids.specs.declared.value.Value.{Value}
 use Rattle.space_ids.specs.declared.value.Value.TheVariants as value
-use Rattle.uuid.specs.declared.Uuid.{Uuid}
-use Rattle.vm_heap.specs.Heap.{Cell, Object, Ints, Store, all_cost, cell_at, changed_at, cost, element_at, element_of, cell_with_element, with_element, with_new}
-use Rattle.vm_typing.proofs.Kept.{cell_at-new}
+use Rattle.vm_heap.specs.Heap.{Cell, Object, Ints, Store, all_cost, cell_at, cost, with_new}
 use Rattle.vm_run.specs.Start.{copy_of, fill, has_room_for, is_of_type}
 use Rattle.cf_text.specs.declared.types.FieldType.{FieldType}
 
@@ -17,18 +14,7 @@ unfolding cost
 cost_some (Object class fields) = omega arith
 cost_some (Ints elements) = omega arith
 
--- the cell that was made last is changed at its address
-pub changed_new : (change : Cell → Cell) (cells : List Cell) (new : Cell) → changed_at change (all_cost cells) (cells ++ new ∷ []) ≡ cells ++ change new ∷ []
-unfolding changed_at all_cost
-changed_new change [] new = refl
-changed_new change (c ∷ cs) new = at_first (changed_new change cs new) (nat_eq (cost c + all_cost cs) 0) refl
-  where
-    at_first : changed_at change (all_cost cs) (cs ++ new ∷ []) ≡ cs ++ change new ∷ [] → (b : Bool) → nat_eq (cost c + all_cost cs) 0 ≡ b
-        → (if b then change c ∷ (cs ++ new ∷ []) else c ∷ changed_at change (cost c + all_cost cs - cost c) (cs ++ new ∷ [])) ≡ c ∷ (cs ++ change new ∷ [])
-    at_first go true eq = let none : cost c + all_cost cs ≡ 0 = eqb-true (cost c + all_cost cs) 0 eq in absurd (omega (arith, cost_some c))
-    at_first go false eq = let same : cost c + all_cost cs - cost c ≡ all_cost cs = omega arith in rw same (ap (λ (rest : List Cell). c ∷ rest) go)
-
--- and a cell with others after it stands at its address
+-- a cell with others after it stands at its address
 pub cell_between : (before : List Cell) (cell : Cell) (following : List Cell) → cell_at (before ++ cell ∷ following) (all_cost before) ≡ Some cell
 unfolding cell_at all_cost
 cell_between [] cell following = refl
@@ -49,56 +35,6 @@ unfolding all_cost
 all_cost-append [] following = let e : 0 + all_cost following ≡ all_cost following = omega arith in sym e
 all_cost-append (c ∷ cs) following = let so : all_cost (cs ++ following) ≡ all_cost cs + all_cost following = all_cost-append cs following in rw so (omega arith)
 
--- the elements that are written so far, and zeros
-abbrev pub mixed : ℕ → List ℤ → List ℤ → List ℤ
-mixed index elements zeros = take index elements ++ drop index zeros
-
-pub length-mixed : (elements zeros : List ℤ) (index : ℕ) → index ≤ length elements → length elements ≡ length zeros → length (mixed index elements zeros) ≡ length elements
-length-mixed elements zeros zero within same = sym same
-length-mixed [] zeros (suc index) within same = absurd (omega (arith, within))
-length-mixed (e ∷ elements) [] (suc index) within same = absurd (omega (arith, same))
-length-mixed (e ∷ elements) (z ∷ zeros) (suc index) within same =
-    ap (λ (n : ℕ). suc n) (length-mixed elements zeros index (omega (arith, within)) (omega (arith, same)))
-
-mixed_suc : (elements zeros : List ℤ) (index : ℕ) (n d : ℤ) → get_or elements index d ≡ n → index < length elements → length elements ≡ length zeros
-    → set (mixed index elements zeros) index n ≡ mixed (suc index) elements zeros
-mixed_suc [] zeros index n d is within same = absurd (omega (arith, within))
-mixed_suc (e ∷ elements) [] index n d is within same = absurd (omega (arith, same))
-mixed_suc (e ∷ elements) (z ∷ zeros) zero n d is within same = ap (λ (x : ℤ). x ∷ zeros) (sym is)
-mixed_suc (e ∷ elements) (z ∷ zeros) (suc index) n d is within same =
-    ap (λ (rest : List ℤ). e ∷ rest) (mixed_suc elements zeros index n d is (omega (arith, within)) (omega (arith, same)))
-
-pub mixed_one : (elements zeros : List ℤ) (index : ℕ) (n d : ℤ) → get_or elements index d ≡ n → index < length elements → length elements ≡ length zeros
-    → slice_set (mixed index elements zeros) index n ≡ mixed (index + 1) elements zeros
-mixed_one elements zeros index n d is within same = rw (add-one index) (mixed_suc elements zeros index n d is within same)
-
-pub mixed_all : (elements zeros : List ℤ) → length elements ≡ length zeros → mixed (length elements) elements zeros ≡ elements
-mixed_all [] [] same = refl
-mixed_all [] (z ∷ zeros) same = absurd (omega (arith, same))
-mixed_all (e ∷ elements) [] same = absurd (omega (arith, same))
-mixed_all (e ∷ elements) (z ∷ zeros) same = ap (λ (rest : List ℤ). e ∷ rest) (mixed_all elements zeros (omega (arith, same)))
-
-pub length-zeros : (n : ℕ) → n ≡ length (replicate n (pos 0))
-length-zeros zero = refl
-length-zeros (suc n) = ap (λ (k : ℕ). suc k) (length-zeros n)
-
-get_there : (xs : List ℤ) (index : ℕ) → index < length xs → IsSome (slice_get xs index)
-get_there [] index h = absurd (omega (arith, h))
-get_there (x ∷ xs) zero h = refl
-get_there (x ∷ xs) (suc index) h = get_there xs index (omega (arith, h))
-
--- an element of the array that was made last is there
-pub slot_there : (cells : List Cell) (xs : List ℤ) (address index : ℕ) → address ≡ all_cost cells → index < length xs
-    → IsSome (element_at address index (cells ++ Ints xs ∷ []))
-slot_there cells xs address index is within =
-    rw is (subst (λ o. IsSome (option_and_then (element_of index) o)) (sym (cell_at-new cells (Ints xs))) (get_there xs index within))
-
--- and is written
-pub slot_written : (cells : List Cell) (xs ys : List ℤ) (address index : ℕ) (n : ℤ) → address ≡ all_cost cells → slice_set xs index n ≡ ys
-    → with_element address index n (cells ++ Ints xs ∷ []) ≡ cells ++ Ints ys ∷ []
-slot_written cells xs ys address index n is so =
-    rw is (changed_new (cell_with_element index n) cells (Ints xs) ∙ ap (λ (zs : List ℤ). cells ++ Ints zs ∷ []) so)
-
 -- how many words the copy of an argument takes
 pub words_of_ints : (v : Value) (elements : List ℤ) → v ≡ value.Ints elements → length elements + 2 ≡ all_cost (copy_of v)
 unfolding all_cost cost
@@ -116,29 +52,29 @@ and_false : (b c : Bool) → false ≡ c → false ≡ (b && c)
 and_false true c is = is
 and_false false c is = refl
 
-pub fill_other : (classes : List Class) (own : Uuid) (kinds : List FieldType) (values : List Value) → (length kinds ≡ length values → ⊥) → false ≡ fill classes own kinds values
+pub fill_other : (classes : List Class) (kinds : List FieldType) (values : List Value) → (length kinds ≡ length values → ⊥) → false ≡ fill classes kinds values
 unfolding fill
-fill_other classes own [] [] other = absurd (other refl)
-fill_other classes own [] (v ∷ values) other = refl
-fill_other classes own (kind ∷ kinds) [] other = refl
-fill_other classes own (kind ∷ kinds) (v ∷ values) other = and_false (is_of_type classes own kind v) (fill classes own kinds values) (fill_other classes own kinds values (λ same. other (ap (λ (n : ℕ). suc n) same)))
+fill_other classes [] [] other = absurd (other refl)
+fill_other classes [] (v ∷ values) other = refl
+fill_other classes (kind ∷ kinds) [] other = refl
+fill_other classes (kind ∷ kinds) (v ∷ values) other = and_false (is_of_type classes kind v) (fill classes kinds values) (fill_other classes kinds values (λ same. other (ap (λ (n : ℕ). suc n) same)))
 
 -- those from an index on
-pub fill_at : (classes : List Class) (own : Uuid) (kinds : List FieldType) (values : List Value) (index : ℕ) (k d : FieldType) (v e : Value) → index < length kinds → index < length values
-    → k ≡ get_or kinds index d → v ≡ get_or values index e → fill classes own (drop index kinds) (drop index values) ≡ (is_of_type classes own k v && fill classes own (drop (index + 1) kinds) (drop (index + 1) values))
+pub fill_at : (classes : List Class) (kinds : List FieldType) (values : List Value) (index : ℕ) (k d : FieldType) (v e : Value) → index < length kinds → index < length values
+    → k ≡ get_or kinds index d → v ≡ get_or values index e → fill classes (drop index kinds) (drop index values) ≡ (is_of_type classes k v && fill classes (drop (index + 1) kinds) (drop (index + 1) values))
 unfolding fill
-fill_at classes own kinds values index k d v e within room is was = rw (add-one index) (at kinds values index within room is was)
+fill_at classes kinds values index k d v e within room is was = rw (add-one index) (at kinds values index within room is was)
   where
     at : (kinds : List FieldType) (values : List Value) (index : ℕ) → index < length kinds → index < length values → k ≡ get_or kinds index d → v ≡ get_or values index e
-        → fill classes own (drop index kinds) (drop index values) ≡ (is_of_type classes own k v && fill classes own (drop (suc index) kinds) (drop (suc index) values))
+        → fill classes (drop index kinds) (drop index values) ≡ (is_of_type classes k v && fill classes (drop (suc index) kinds) (drop (suc index) values))
     at [] values index within room is was = absurd (omega (arith, within))
     at (kind ∷ kinds) [] index within room is was = absurd (omega (arith, room))
     at (kind ∷ kinds) (x ∷ values) zero within room is was = rw (is, was) refl
     at (kind ∷ kinds) (x ∷ values) (suc index) within room is was = at kinds values index (omega (arith, within)) (omega (arith, room)) is was
 
-pub fill_none : (classes : List Class) (own : Uuid) → fill classes own [] [] ≡ true
+pub fill_none : (classes : List Class) → fill classes [] [] ≡ true
 unfolding fill
-fill_none classes own = refl
+fill_none classes = refl
 
 first_no : (b c : Bool) → false ≡ b → false ≡ (b && c)
 first_no true c fails = absurd (cc)
@@ -148,16 +84,16 @@ first_yes : (b c : Bool) → true ≡ b → c ≡ (b && c)
 first_yes true c holds = refl
 first_yes false c holds = absurd (cc)
 
-pub fill_no : (classes : List Class) (own : Uuid) (kinds : List FieldType) (values : List Value) (index : ℕ) (k d : FieldType) (v e : Value) → index < length kinds → index < length values
-    → k ≡ get_or kinds index d → v ≡ get_or values index e → false ≡ is_of_type classes own k v → fill classes own (drop index kinds) (drop index values) ≡ fill classes own kinds values → false ≡ fill classes own kinds values
-fill_no classes own kinds values index k d v e within room is was fails so =
-    first_no (is_of_type classes own k v) (fill classes own (drop (index + 1) kinds) (drop (index + 1) values)) fails ∙ (sym (fill_at classes own kinds values index k d v e within room is was) ∙ so)
+pub fill_no : (classes : List Class) (kinds : List FieldType) (values : List Value) (index : ℕ) (k d : FieldType) (v e : Value) → index < length kinds → index < length values
+    → k ≡ get_or kinds index d → v ≡ get_or values index e → false ≡ is_of_type classes k v → fill classes (drop index kinds) (drop index values) ≡ fill classes kinds values → false ≡ fill classes kinds values
+fill_no classes kinds values index k d v e within room is was fails so =
+    first_no (is_of_type classes k v) (fill classes (drop (index + 1) kinds) (drop (index + 1) values)) fails ∙ (sym (fill_at classes kinds values index k d v e within room is was) ∙ so)
 
-pub fill_more : (classes : List Class) (own : Uuid) (kinds : List FieldType) (values : List Value) (index : ℕ) (k d : FieldType) (v e : Value) → index < length kinds → index < length values
-    → k ≡ get_or kinds index d → v ≡ get_or values index e → true ≡ is_of_type classes own k v → fill classes own (drop index kinds) (drop index values) ≡ fill classes own kinds values
-    → fill classes own (drop (index + 1) kinds) (drop (index + 1) values) ≡ fill classes own kinds values
-fill_more classes own kinds values index k d v e within room is was holds so =
-    first_yes (is_of_type classes own k v) (fill classes own (drop (index + 1) kinds) (drop (index + 1) values)) holds ∙ (sym (fill_at classes own kinds values index k d v e within room is was) ∙ so)
+pub fill_more : (classes : List Class) (kinds : List FieldType) (values : List Value) (index : ℕ) (k d : FieldType) (v e : Value) → index < length kinds → index < length values
+    → k ≡ get_or kinds index d → v ≡ get_or values index e → true ≡ is_of_type classes k v → fill classes (drop index kinds) (drop index values) ≡ fill classes kinds values
+    → fill classes (drop (index + 1) kinds) (drop (index + 1) values) ≡ fill classes kinds values
+fill_more classes kinds values index k d v e within room is was holds so =
+    first_yes (is_of_type classes k v) (fill classes (drop (index + 1) kinds) (drop (index + 1) values)) holds ∙ (sym (fill_at classes kinds values index k d v e within room is was) ∙ so)
 
 pub dropped : {A : Type 0} (xs : List A) (n : ℕ) → length xs ≤ n → drop n xs ≡ []
 dropped [] zero h = refl
@@ -165,8 +101,8 @@ dropped [] (suc n) h = refl
 dropped (x ∷ xs) zero h = absurd (omega (arith, h))
 dropped (x ∷ xs) (suc n) h = dropped xs n (omega (arith, h))
 
-pub fill_end : (classes : List Class) (own : Uuid) (kinds : List FieldType) (values : List Value) (index : ℕ) → length kinds ≤ index → length values ≤ index → true ≡ fill classes own (drop index kinds) (drop index values)
-fill_end classes own kinds values index k v = rw (dropped kinds index k, dropped values index v) (sym (fill_none classes own))
+pub fill_end : (classes : List Class) (kinds : List FieldType) (values : List Value) (index : ℕ) → length kinds ≤ index → length values ≤ index → true ≡ fill classes (drop index kinds) (drop index values)
+fill_end classes kinds values index k v = rw (dropped kinds index k, dropped values index v) (sym (fill_none classes))
 
 -- ---- the copies
 
@@ -214,7 +150,3 @@ untouched value.Null s not_ints = let so = nothing_copied s in record { fits = s
 untouched (value.Int n) s not_ints = let so = nothing_copied s in record { fits = so.0; cells = so.1; free = so.2 }
 untouched (value.Ints elements) s not_ints = absurd (not_ints elements refl)
 untouched (value.Ref reference) s not_ints = let so = nothing_copied s in record { fits = so.0; cells = so.1; free = so.2 }
-
-pub cost_zeros : (elements : List ℤ) → cost (Ints elements) ≡ cost (Ints (replicate (length elements) (pos 0)))
-unfolding cost
-cost_zeros elements = ap (λ (n : ℕ). 2 + n) (length-zeros (length elements))

@@ -1,8 +1,10 @@
 pub mod Runs
+pub mod Groups
 pub mod Areturns
 pub mod Safe
 pub mod Throws
 pub mod Outcomes
+pub mod Calls
 pub mod Copying
 pub mod Passing
 pub mod Begins
@@ -11,4 +13,5 @@ pub mod Limited
 pub mod Made
 pub mod Holding
 pub mod Refused
+pub mod Replies
 pub mod Views

@@ -42,28 +42,49 @@ module _ (links : Links) (frames : ℕ → ℕ → types.Frame) (typed : AreType
       on None is known = absurd (cc)
       on (Some m) is known = (m, is)
 
-  -- what has as few local variables and operands as a type frame of its method has
+  -- a method with code, as it is declared
+  record Known (frame : Frame) : Type 0 where
+    at : Subject
+    is : subject_at links frame.method ≡ Some at
+
+  known_at : (frame : Frame) → world.has_code frame.method ≡ true → Known frame
+  known_at frame known = let s = has_subject frame.method known in record { at = s.0; is = s.1 }
+
+  -- the type frame at an index is within its limits
+  within_at : (frame : Frame) (k : Known frame) (index : ℕ) → index < (world.method frame.method).count
+      → (length ((world.method frame.method).frames index).locals ≤ k.at.code.max_locals) × (length ((world.method frame.method).frames index).stack ≤ k.at.code.max_stack)
+  within_at frame k index inside =
+      let type : world.method frame.method ≡ method_type k.at (frames frame.method) =
+      ap (λ (o : Option Subject). option_map_or (λ (m : Subject). method_type m (frames frame.method)) o no_method) k.is in
+      let count : (world.method frame.method).count ≡ length k.at.linked.insns = ap (λ (t : MethodType). t.count) type in
+      let here : (world.method frame.method).frames index ≡ frames frame.method index = ap (λ (t : MethodType). t.frames index) type in
+      let within = (typed frame.method k.at k.is).typing.within index (subst (λ (n : ℕ). index < n) count inside) in
+      let fewer_locals : length (frames frame.method index).locals ≤ k.at.code.max_locals = within.locals in
+      let fewer_operands : length (frames frame.method index).stack ≤ k.at.code.max_stack = within.stack in
+      let some_locals : length ((world.method frame.method).frames index).locals ≡ length (frames frame.method index).locals = ap (λ (f : types.Frame). length f.locals) here in
+      let some_operands : length ((world.method frame.method).frames index).stack ≡ length (frames frame.method index).stack = ap (λ (f : types.Frame). length f.stack) here in
+      (omega (arith, some_locals, fewer_locals), omega (arith, some_operands, fewer_operands))
+
+  -- what has as few local variables as a type frame of its method at one index, and as few operands as one at another
+  few_at : (frame : Frame) (index other : ℕ) → world.has_code frame.method ≡ true → index < (world.method frame.method).count → other < (world.method frame.method).count
+      → length frame.locals ≡ length ((world.method frame.method).frames index).locals
+      → length frame.operands ≤ length ((world.method frame.method).frames other).stack → IsWithinCode links frame
+  unfolding declared_at
+  few_at frame index other known inside there locals operands =
+      let k = known_at frame known in
+      let one = within_at frame k index inside in
+      let two = within_at frame k other there in
+      record {
+        declared = declared_of k.at;
+        is = ap (option_map declared_of) k.is;
+        locals = omega (arith, locals, one.0);
+        operands = omega (arith, operands, two.1);
+      }
+
   few_within : (frame : Frame) (index : ℕ) → world.has_code frame.method ≡ true → index < (world.method frame.method).count
       → length frame.locals ≡ length ((world.method frame.method).frames index).locals
       → length frame.operands ≤ length ((world.method frame.method).frames index).stack → IsWithinCode links frame
-  unfolding declared_at
-  few_within frame index known inside locals operands =
-      let at = has_subject frame.method known in
-      let type : world.method frame.method ≡ method_type at.0 (frames frame.method) =
-      ap (λ (o : Option Subject). option_map_or (λ (m : Subject). method_type m (frames frame.method)) o no_method) at.1 in
-      let count : (world.method frame.method).count ≡ length at.0.linked.insns = ap (λ (t : MethodType). t.count) type in
-      let here : (world.method frame.method).frames index ≡ frames frame.method index = ap (λ (t : MethodType). t.frames index) type in
-      let within = (typed frame.method at.0 at.1).typing.within index (subst (λ (n : ℕ). index < n) count inside) in
-      let fewer_locals : length (frames frame.method index).locals ≤ at.0.code.max_locals = within.locals in
-      let fewer_operands : length (frames frame.method index).stack ≤ at.0.code.max_stack = within.stack in
-      let some_locals : length ((world.method frame.method).frames index).locals ≡ length (frames frame.method index).locals = ap (λ (f : types.Frame). length f.locals) here in
-      let some_operands : length ((world.method frame.method).frames index).stack ≡ length (frames frame.method index).stack = ap (λ (f : types.Frame). length f.stack) here in
-      record {
-        declared = declared_of at.0;
-        is = ap (option_map declared_of) at.1;
-        locals = omega (arith, locals, some_locals, fewer_locals);
-        operands = omega (arith, operands, some_operands, fewer_operands);
-      }
+  few_within frame index known inside locals operands = few_at frame index index known inside inside locals operands
 
   waiting_within : (held : Held) (result : Option VType) (frame : Frame) → waiting.Waits world held result frame → IsWithinCode links frame
   waiting_within held result frame waits =
@@ -99,16 +120,14 @@ module _ (links : Links) (frames : ℕ → ℕ → types.Frame) (typed : AreType
         callers_within asked (held_by m) (world.method m.stack.frame.method).result m.stack.callers is.at.callers,
       )
 
-  -- a machine that waits has no more than comes in at the next instruction
+  -- a machine that waits has as many local variables as come in at the next instruction, and no more operands than come in at some
   waits_within : (asked : Option VType) (m : Machine) → StandsBefore world asked m → IsWithinCode links m.stack.frame × AreWithinCode links m.stack.callers
   waits_within asked m is =
       let enters = is.enters in
+      let depth = is.operands in
       let there_locals : length ((world.method m.stack.frame.method).frames (m.stack.frame.index + 1)).locals ≡ length is.next.locals =
-      length-AllZip (IsAssignable links.classes) is.next.locals ((world.method m.stack.frame.method).frames (m.stack.frame.index + 1)).locals enters.to.locals in
-      let there_operands : length ((world.method m.stack.frame.method).frames (m.stack.frame.index + 1)).stack ≡ length is.next.stack =
-      length-AllZip (IsAssignable links.classes) is.next.stack ((world.method m.stack.frame.method).frames (m.stack.frame.index + 1)).stack enters.to.stack in
-      let few = is.operands in (
-        few_within m.stack.frame (m.stack.frame.index + 1) is.known enters.inside (is.locals ∙ sym there_locals) (omega (arith, few, there_operands)),
+      length-AllZip (IsAssignable links.classes) is.next.locals ((world.method m.stack.frame.method).frames (m.stack.frame.index + 1)).locals enters.to.locals in (
+        few_at m.stack.frame (m.stack.frame.index + 1) depth.index is.known enters.inside depth.inside (is.locals ∙ sym there_locals) depth.few,
         callers_within asked (held_by m) (world.method m.stack.frame.method).result m.stack.callers is.callers,
       )
 

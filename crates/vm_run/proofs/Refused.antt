@@ -14,22 +14,22 @@ use Rattle.vm_run.specs.declared.fault.StartFault.TheVariants as fault
 use Rattle.vm_run.specs.declared.found.Found.{Found}
 use Rattle.vm_run.specs.declared.limits.Limits.{Limits}
 
-module _ (links : Links) (own : Uuid) (id : MethodId) (arguments : List Value) where
+module _ (links : Links) (id : MethodId) (arguments : List Value) where
   abbrev fault_at : Option Declared → Option StartFault
-  fault_at o = option_map_or (λ (m : Declared). refusal links.classes own m.method arguments) o (Some fault.AbsentMethod)
+  fault_at o = option_map_or (λ (m : Declared). refusal links.classes m.method arguments) o (Some fault.AbsentMethod)
 
   -- what is found, and what its method is refused for
   pub fault_found : (found : Found) (classes : List Class) (why : Option StartFault) → Some (shown found) ≡ startable links id → classes ≡ links.classes
-      → why ≡ refusal classes own found.method.now arguments → why ≡ start_fault links own id arguments
+      → why ≡ refusal classes found.method.now arguments → why ≡ start_fault links id arguments
   fault_found found classes why is set refuses =
-      refuses ∙ (ap (λ (cs : List Class). refusal cs own found.method.now arguments) set ∙ ap fault_at is)
+      refuses ∙ (ap (λ (cs : List Class). refusal cs found.method.now arguments) set ∙ ap fault_at is)
 
-  pub fault_absent : None ≡ startable links id → Some fault.AbsentMethod ≡ start_fault links own id arguments
+  pub fault_absent : None ≡ startable links id → Some fault.AbsentMethod ≡ start_fault links id arguments
   fault_absent is = ap fault_at is
 
   -- starting refuses the same
-  pub refused : (why : Option StartFault) → why ≡ start_fault links own id arguments → IfSome why (λ w. (limits : Limits) → started links own id arguments limits ≡ Err w)
-  refused why is = by (startable links id) refl why (sym is)
+  pub refused : (own : Uuid) (why : Option StartFault) → why ≡ start_fault links id arguments → IfSome why (λ w. (limits : Limits) → started links own id arguments limits ≡ Err w)
+  refused own why is = by (startable links id) refl why (sym is)
     where
       by : (o : Option Declared) → startable links id ≡ o → (why : Option StartFault) → fault_at o ≡ why
           → IfSome why (λ w. (limits : Limits) → started links own id arguments limits ≡ Err w)
@@ -37,8 +37,8 @@ module _ (links : Links) (own : Uuid) (id : MethodId) (arguments : List Value) w
       by None at (Some w) e = λ limits. rw at (cc)
       by (Some m) at (Some w) e = λ limits. rw (at, e) refl
 
-  pub starts : (why : Option StartFault) → why ≡ start_fault links own id arguments → IfNone why ((limits : Limits) → IsOk (started links own id arguments limits))
-  starts why is = by (startable links id) refl why (sym is)
+  pub starts : (own : Uuid) (why : Option StartFault) → why ≡ start_fault links id arguments → IfNone why ((limits : Limits) → IsOk (started links own id arguments limits))
+  starts own why is = by (startable links id) refl why (sym is)
     where
       by : (o : Option Declared) → startable links id ≡ o → (why : Option StartFault) → fault_at o ≡ why
           → IfNone why ((limits : Limits) → IsOk (started links own id arguments limits))

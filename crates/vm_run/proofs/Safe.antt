@@ -23,7 +23,7 @@ use Rattle.vm_world.specs.Worlds.{method_type, subject_at, world_of}
 use Rattle.vm_rows.proofs.Entries.{is_entry}
 use Rattle.vm_rows.specs.Steps as insns
 use Rattle.vm_run.specs.Ends.{End, IsEndIn, end_of, returned_cell}
-use Rattle.vm_run.specs.Run.{State, Running, Waits, Over, Lost, over, after, answer, code_of, played, step, run, AreDue, IsDue, IsNotLost, IsNeverStuck}
+use Rattle.vm_run.specs.Run.{State, Running, Waits, Over, Lost, over, after, answer, fuel_after, code_of, played, step, run, AreDue, IsDue, IsNotLost, IsNeverStuck}
 
 cell-there : (links : Links) (P : Pointee → Type 0) (o : Option Cell) (fuel : ℕ) → There P (option_map (λ cell. OfHeap cell) o)
     → IsNotLost links (over (option_map returned_cell o) fuel)
@@ -84,6 +84,7 @@ module _ (links : Links) (frames : ℕ → ℕ → types.Frame) (asked : Option 
   ended held (ending.ReturnedRemote reference) fuel given = tt
   ended held (ending.Threw thrown) fuel given = tt
   ended held (ending.ThrewObject class) fuel given = given
+  ended held ending.Spent fuel given = tt
 
   after-sound : (m : Machine) (next : Next) (fuel : ℕ) → LeadsTo world asked (held_by m) Typed next → IsSound (after m.heap.cells next fuel)
   after-sound m (On m1) fuel leads = leads
@@ -115,7 +116,7 @@ module _ (links : Links) (frames : ℕ → ℕ → types.Frame) (asked : Option 
   pub answer-sound : (given : Reply) (s : State) → IsSound s → IsDue links.classes given s → IsSound (answer given s)
   unfolding answer
   answer-sound given (Running m fuel) sound due = absurd due
-  answer-sound given (Waits op m fuel) sound due = completed-sound m (answered given m) fuel (sound.completes given due)
+  answer-sound given (Waits op m fuel) sound due = completed-sound m (answered op given m) (fuel_after op given fuel) (sound.completes given due.0)
   answer-sound given (Over end fuel) sound due = absurd due
   answer-sound given Lost sound due = absurd due
 
@@ -128,7 +129,7 @@ module _ (links : Links) (frames : ℕ → ℕ → types.Frame) (asked : Option 
   not-lost : (s : State) → IsSound s → IsNotLost links s
   not-lost (Running m fuel) sound = tt
   not-lost (Waits op m fuel) sound =
-      (sound.fits, subst (λ (n : ℕ). m.stack.frame.index + 1 < n) (counted links frames m.stack.frame.method sound.before.known) sound.before.enters.inside)
+      (sound.fits, subst (λ (n : ℕ). m.stack.frame.index + 1 < n) (counted links frames m.stack.frame.method sound.before.known) sound.before.enters.inside, sound.call)
   not-lost (Over end fuel) sound = sound
   not-lost Lost sound = sound
 

@@ -23,6 +23,7 @@ thrown_stands links thrown.StackOverflowError are = are.set.built_in 12 (built_i
 thrown_stands links thrown.AbstractMethodError are = are.set.built_in 16 (built_in [] []) (lit< tt)
 thrown_stands links thrown.IllegalAccessError are = are.set.built_in 17 (built_in [] []) (lit< tt)
 thrown_stands links thrown.IncompatibleClassChangeError are = are.set.built_in 15 (built_in [] []) (lit< tt)
+thrown_stands links thrown.MarshalException are = are.set.built_in 22 (built_in [] []) (lit< tt)
 
 pub marshal_stands : (links : Links) → AreLinks links → IsSome (number_of links.classes unmarshalled)
 unfolding built_ins
@@ -52,3 +53,4 @@ are_thrown classes n a b c d e f g h i j m = record { named = by; marshal_except
     by thrown.AbstractMethodError = h
     by thrown.IllegalAccessError = i
     by thrown.IncompatibleClassChangeError = j
+    by thrown.MarshalException = m

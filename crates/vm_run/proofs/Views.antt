@@ -1,5 +1,5 @@
 -- What a program tells of the classes of its set.
-use Rattle.std.proofs.Common.{◌≡◌, ◌≤◌, ◌<◌, ◌↔◌, Bool, true, false, Option, Some, None, List, IsTrue, length, refl, sym, ap, ◌∙◌}
+use Rattle.std.proofs.Common.{◌≡◌, ◌≤◌, Bool, true, false, Option, Some, None, List, length, refl, sym, ap, ◌∙◌}
 use Rattle.std.specs.Prelude.{◌&&◌, not, codes}
 use Rattle.std.specs.Option.{option_map_or}
 use Rattle.cls_search.specs.MethodSearches.{is_interface}
@@ -7,7 +7,7 @@ use Rattle.cls_set.specs.Classes.{number_of}
 use Rattle.cls_set.specs.declared.class.Class.{Class}
 use Rattle.space_ids.specs.declared.ids.ClassId.{ClassId}
 use Rattle.vm_code.proofs.Subtypes.{no_subtype}
-use Rattle.vm_code.specs.Classes.{is_below_remote, is_remote, is_subtype}
+use Rattle.vm_code.specs.Classes.{is_remote, is_subtype}
 
 -- what is no class of the set is not remote
 pub none_remote : (classes : List Class) (class : ClassId) → length classes ≤ class.0 → false ≡ is_remote classes class

@@ -6,9 +6,11 @@ use Rattle.vm_run.specs.Sound.{IsSoundSet}
 use Rattle.vm_run.specs.Thrown.{AreThrown}
 use Rattle.vm_run.specs.declared.thrown.ThrownClasses.{ThrownClasses}
 
-pub record IsProgram (links : Links) (looked_up : Links) (numbers : ThrownClasses) : Type 0 where
+pub record IsProgram (links : Links) (looked_up : Links) (rows : Links) (called : Links) (numbers : ThrownClasses) : Type 0 where
   pub sound : IsSoundSet links
   pub tables : looked_up ≡ links
+  pub flat : rows ≡ links
+  pub callees : called ≡ links
   pub thrown : AreThrown links.classes numbers
 
 -- what is known of a task: its machine is never stuck

@@ -10,16 +10,14 @@ use Rattle.cf_reader.specs.declared.class_file.Code.{Code}
 use Rattle.cf_reader.specs.declared.class_file.Method.{Method}
 use Rattle.cls_link.specs.Links.{Links}
 use Rattle.cls_link.specs.declared.linked_code.MethodId.{MethodId}
-use Rattle.cls_search.specs.MethodSearches.{is_interface}
 use Rattle.cls_set.specs.Classes.{number_of}
 use Rattle.cls_set.specs.declared.class.Class.{Class}
-use Rattle.space_ids.specs.declared.ids.ClassId.{ClassId}
-use Rattle.space_ids.specs.declared.ids.Ref.{Ref}
 use Rattle.space_ids.specs.declared.value.Value.{Value}
 use Rattle.space_ids.specs.declared.value.Value.TheVariants as value
 use Rattle.uuid.specs.declared.Uuid.{Uuid}
 use Rattle.ver_frames.specs.Method.{is_static}
-use Rattle.vm_code.specs.Classes.{is_below_remote, is_remote}
+use Rattle.vm_code.specs.Classes.{is_remote, is_remote_interface}
+use Rattle.vm_code.specs.Parameters.{is_array_type}
 use Rattle.vm_heap.specs.Heap.{Cell, Ints, all_cost}
 use Rattle.vm_heap.specs.References.{Table, row_for, row_of, with_reference}
 use Rattle.vm_heap.specs.Tagged.{Tagged, Int, Null, Local, Remote, Unset}
@@ -42,10 +40,6 @@ is_startable m = not (bytes_eq m.method.name (codes "<init>")) && not (length m.
 abbrev pub startable : Links → MethodId → Option Declared
 startable links id = option_and_then (λ m. if is_startable m then Some m else None) (declared_at links id)
 
--- whether a class is a remote interface (Java RMI specification, 2.4)
-abbrev pub is_remote_interface : List Class → ClassId → Bool
-is_remote_interface classes class = is_interface classes class && is_below_remote classes class
-
 abbrev pub is_int_element : ElementType → Bool
 is_int_element element.Int = true
 is_int_element element.Boolean = true
@@ -56,17 +50,9 @@ abbrev pub is_remote_element : List Class → ElementType → Bool
 is_remote_element classes (element.Class name) = option_map_or (is_remote_interface classes) (number_of classes name) false
 is_remote_element classes _ = false
 
-abbrev pub is_array_element : ElementType → Bool
-is_array_element element.Int = true
-is_array_element _ = false
-
 -- int and boolean
 abbrev pub is_int_type : FieldType → Bool
 is_int_type kind = (kind.dimensions == 0) && is_int_element kind.element
-
--- int[]
-abbrev pub is_array_type : FieldType → Bool
-is_array_type kind = (kind.dimensions == 1) && is_array_element kind.element
 
 -- a remote interface
 abbrev pub is_remote_type : List Class → FieldType → Bool
@@ -80,35 +66,32 @@ crosses classes kind = is_int_type kind || (is_array_type kind || is_remote_type
 abbrev pub takes_crossing : List Class → MethodDescriptor → Bool
 takes_crossing classes types = list_all (crosses classes) types.parameters && option_map_or (crosses classes) types.result true
 
--- whether a reference is to an object of the task's own space, of a remote class
-abbrev pub is_own_object : List Class → Uuid → Ref → Bool
-is_own_object classes own reference = bytes_eq reference.space own && is_remote classes reference.class
-
--- whether a value may be passed where a type that crosses is asked: null may for each class and int[], and a reference to an object of the
--- task's own space for each remote interface, since an interface is treated like java/lang/Object (JVMS 4.10.1.2)
-abbrev pub is_of_type : List Class → Uuid → FieldType → Value → Bool
-is_of_type classes own kind value.Null = not (is_int_type kind)
-is_of_type classes own kind (value.Int n) = is_int_type kind
-is_of_type classes own kind (value.Ints elements) = is_array_type kind
-is_of_type classes own kind (value.Ref reference) = is_remote_type classes kind && is_own_object classes own reference
+-- whether a value may be passed where a type that crosses is asked: null may for each class and int[], and a reference to an object of a
+-- remote class, of the task's own space or a stub, for each remote interface, since an interface is treated like java/lang/Object (JVMS
+-- 4.10.1.2)
+abbrev pub is_of_type : List Class → FieldType → Value → Bool
+is_of_type classes kind value.Null = not (is_int_type kind)
+is_of_type classes kind (value.Int n) = is_int_type kind
+is_of_type classes kind (value.Ints elements) = is_array_type kind
+is_of_type classes kind (value.Ref reference) = is_remote_type classes kind && is_remote classes reference.class
 
 -- whether the values are one for each parameter, of its type
-unfoldable pub fill : List Class → Uuid → List FieldType → List Value → Bool
-fill classes own [] [] = true
-fill classes own [] (v ∷ values) = false
-fill classes own (kind ∷ kinds) [] = false
-fill classes own (kind ∷ kinds) (v ∷ values) = is_of_type classes own kind v && fill classes own kinds values
+unfoldable pub fill : List Class → List FieldType → List Value → Bool
+fill classes [] [] = true
+fill classes [] (v ∷ values) = false
+fill classes (kind ∷ kinds) [] = false
+fill classes (kind ∷ kinds) (v ∷ values) = is_of_type classes kind v && fill classes kinds values
 
 -- why a method is not started with these arguments
-abbrev pub refusal : List Class → Uuid → Method → List Value → Option StartFault
-refusal classes own method arguments =
+abbrev pub refusal : List Class → Method → List Value → Option StartFault
+refusal classes method arguments =
     if not (takes_crossing classes method.types) then Some fault.BadSignature
-    else (if is_static method && fill classes own method.types.parameters arguments then None else Some fault.BadArgument)
+    else (if is_static method && fill classes method.types.parameters arguments then None else Some fault.BadArgument)
 
--- why no task of a space starts at a method with these arguments, if none does
-abbrev pub start_fault : Links → Uuid → MethodId → List Value → Option StartFault
-start_fault links own id arguments =
-    option_map_or (λ (m : Declared). refusal links.classes own m.method arguments) (startable links id) (Some fault.AbsentMethod)
+-- why no task starts at a method with these arguments, if none does
+abbrev pub start_fault : Links → MethodId → List Value → Option StartFault
+start_fault links id arguments =
+    option_map_or (λ (m : Declared). refusal links.classes m.method arguments) (startable links id) (Some fault.AbsentMethod)
 
 -- what an argument puts into the heap: an array is passed by copy
 abbrev pub copy_of : Value → List Cell
@@ -232,4 +215,4 @@ started links own id arguments limits =
 
     start_at : Option Declared → Result Tasked StartFault
     start_at None = Err fault.AbsentMethod
-    start_at (Some m) = begin m (refusal links.classes own m.method arguments)
+    start_at (Some m) = begin m (refusal links.classes m.method arguments)

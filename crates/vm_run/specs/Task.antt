@@ -1,6 +1,6 @@
 -- Tasks: a program, the space that the task belongs to, and the state of its machine; and what its end is to callers. (This project's own;
 -- the classes that are thrown are those of JVMS 6.3 and 6.5, and of the Java RMI specification, appendix A.)
-use Rattle.std.specs.Prelude.{◌≡◌, ℕ, suc, ◌+◌, ◌<◌, ℤ, nat_le, if◌then◌else◌, List, [], length, Option, Some, None, codes, option_map, MatchBool}
+use Rattle.std.specs.Prelude.{◌≡◌, ℕ, suc, ◌+◌, ◌<◌, ℤ, nat_le, if◌then◌else◌, List, [], length, Option, Some, None, codes, option_and_then, option_map, reverse, MatchBool}
 use Rattle.cls_link.specs.Links.{Links}
 use Rattle.cls_set.specs.Classes.{name_at, number_of}
 use Rattle.cls_set.specs.declared.class.Class.{Class}
@@ -8,10 +8,17 @@ use Rattle.space_ids.specs.declared.ids.ClassId.{ClassId}
 use Rattle.uuid.specs.declared.Uuid.{Uuid}
 use Rattle.space_ids.specs.declared.value.Value.TheVariants as value
 use Rattle.vm_act.specs.declared.ending.Ending.TheVariants.{ReturnedReference}
+use Rattle.vm_act.specs.Crossing.{most_elements, values_of}
+use Rattle.vm_act.specs.declared.asked.Asked.{Asked}
+use Rattle.vm_act.specs.declared.asked.Asked.TheVariants as ask
+use Rattle.vm_act.specs.declared.asked.Reply.{Reply}
+use Rattle.vm_act.specs.declared.machine.Machine.{Machine}
+use Rattle.vm_world.specs.Worlds.{takes_at}
+use Rattle.space_ids.specs.declared.value.Value.{Value}
 use Rattle.vm_act.specs.declared.ending.Thrown.{Thrown}
 use Rattle.vm_act.specs.declared.ending.Thrown.TheVariants as thrown
 use Rattle.vm_run.specs.Ends.{End, ReturnedNothing, ReturnedInt, ReturnedNull, ReturnedInts, ReturnedObject, ReturnedRemote, Threw, ThrewObject, Spent, end_of}
-use Rattle.vm_run.specs.Run.{State, Running, Waits, Over, Lost, over, run}
+use Rattle.vm_run.specs.Run.{State, Running, Waits, Over, Lost, fuel_after, over, run}
 use Rattle.vm_run.specs.declared.outcome.Outcome.{Outcome}
 use Rattle.vm_run.specs.declared.outcome.Outcome.TheVariants as outcome
 use Rattle.vm_run.specs.declared.outcome.Pause.{Pause}
@@ -45,12 +52,48 @@ pause_at (Waits op machine fuel) = Ask op
 pause_at (Over end fuel) = Ended
 pause_at Lost = Ended
 
--- the fuel that is left; an instruction that waits for its reply has not taken its unit yet
+-- the fuel that is left; an instruction that waits for its reply has not taken its unit yet, nor has a call lent the rest
 abbrev pub fuel_left : State → ℕ
 fuel_left (Running machine fuel) = fuel
 fuel_left (Waits op machine fuel) = suc fuel
 fuel_left (Over end fuel) = fuel
 fuel_left Lost = 0
+
+-- the fuel that is left after a reply
+abbrev pub left_after : Reply → State → ℕ
+left_after given (Running machine fuel) = 0
+left_after given (Waits op machine fuel) = fuel_after op given fuel
+left_after given (Over end fuel) = 0
+left_after given Lost = 0
+
+-- a call is asked for
+abbrev pub IsCall : Asked → Type 0
+IsCall (ask.Create class) = ⊥
+IsCall (ask.Get object slot) = ⊥
+IsCall (ask.Put object slot written) = ⊥
+IsCall (ask.Call target method count) = Unit {0}
+
+-- a task waits for the reply to a call
+abbrev pub IsCalling : State → Type 0
+IsCalling (Running machine fuel) = ⊥
+IsCalling (Waits op machine fuel) = IsCall op
+IsCalling (Over end fuel) = ⊥
+IsCalling Lost = ⊥
+
+-- the arguments of the call that a machine asks for, as they cross; it asks for no call if there are none
+abbrev pub arguments_of : List Class → Asked → Machine → Option (List Value)
+arguments_of classes (ask.Create class) machine = None
+arguments_of classes (ask.Get object slot) machine = None
+arguments_of classes (ask.Put object slot written) machine = None
+arguments_of classes (ask.Call target method count) machine =
+    option_and_then (λ values. values) (values_of (reverse (takes_at classes method)) machine.references machine.heap.cells machine.stack.frame.operands)
+
+-- the same of the call that a task asks for
+abbrev pub call_arguments : List Class → State → Option (List Value)
+call_arguments classes (Running machine fuel) = None
+call_arguments classes (Waits op machine fuel) = arguments_of classes op machine
+call_arguments classes (Over end fuel) = None
+call_arguments classes Lost = None
 
 -- the state in which a task ends or asks: one step more than it has fuel for finds it spent, if nothing ended it before
 abbrev pub final_state : Links → State → State
@@ -68,14 +111,11 @@ thrown_name thrown.StackOverflowError = codes "java/lang/StackOverflowError"
 thrown_name thrown.AbstractMethodError = codes "java/lang/AbstractMethodError"
 thrown_name thrown.IllegalAccessError = codes "java/lang/IllegalAccessError"
 thrown_name thrown.IncompatibleClassChangeError = codes "java/lang/IncompatibleClassChangeError"
+thrown_name thrown.MarshalException = codes "java/rmi/MarshalException"
 
 -- the name of the class that is thrown where a result cannot cross (Java RMI specification, appendix A)
 abbrev pub unmarshalled : List ℕ
 unmarshalled = codes "java/rmi/MarshalException"
-
--- how many elements an array may have that crosses (a rule of this project)
-abbrev pub most_elements : ℕ
-most_elements = 8000
 
 -- a thrown class by its number in the set
 abbrev pub threw_named : List Class → List ℕ → Option Outcome

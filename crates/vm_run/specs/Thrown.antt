@@ -20,6 +20,7 @@ number_in numbers thrown.StackOverflowError = numbers.stack_overflow_error
 number_in numbers thrown.AbstractMethodError = numbers.abstract_method_error
 number_in numbers thrown.IllegalAccessError = numbers.illegal_access_error
 number_in numbers thrown.IncompatibleClassChangeError = numbers.incompatible_class_change_error
+number_in numbers thrown.MarshalException = numbers.marshal_exception
 
 -- the numbers are those of the classes of these names
 pub record AreThrown (classes : List Class) (numbers : ThrownClasses) : Type 0 where

@@ -88,19 +88,7 @@ fn copy_ints(heap: &mut Heap, elements: &[i32]) -> bool
     ensures fits { IsTrue result ↔ (length elements.now < 2 ^ 31) × (cost (Ints elements.now) ≤ heap.old.free) }
     ensures copied { OnTrue result (heap.new ≡ with_new (Ints elements.now) heap.old) }
 {
-    if elements.len() >= 0x8000_0000 {
-        return false;
-    }
-    let Some(word) = heap.new_ints(elements.len() as u32) else {
-        return false;
-    };
-    let Some(address) = word.as_address() else {
-        unreachable!()
-    };
-    for index in 0..elements.len() {
-        heap.put_element(address, index, Word::int(elements[index]));
-    }
-    true
+    elements.len() < 0x8000_0000 && heap.copy_ints(elements).is_some()
 }
 
 // Comes by the arguments that are references, if all of them are within the limit.

@@ -3,8 +3,8 @@ ghost use Rattle.std.specs.Prelude.{◌≡◌, ℕ, ◌+◌, ◌<◌, ◌≤◌,
 ghost use Rattle.vm_act.specs.Next.{NotStuck};
 ghost use Rattle.vm_act.specs.Remote.{answered};
 ghost use Rattle.vm_run.specs.Ends.{end_of};
-ghost use Rattle.vm_run.specs.Run.{after, answer, run, HasStopped, IsDue, IsNeverStuck};
-ghost use Rattle.vm_run.specs.Task.{last_end, phase_state, fuel_left, pause_at, final_state};
+ghost use Rattle.vm_run.specs.Run.{after, answer, fuel_after, given_back, run, HasStopped, IsDue, IsNeverStuck};
+ghost use Rattle.vm_run.specs.Task.{last_end, phase_state, fuel_left, left_after, pause_at, final_state};
 
 use crate::outcome::Pause;
 use crate::program::Program;
@@ -80,7 +80,8 @@ impl Phase {
         requires due { IsDue program.now.classes reply (phase_state self) }
         ensures state { phase_state result ≡ answer reply (phase_state self) }
         ensures never_stuck { IsNeverStuck program.now (phase_state result) }
-        ensures fuel { fuel_left (phase_state result) + 1 ≡ fuel_left (phase_state self) }
+        ensures fuel { fuel_left (phase_state result) ≡ left_after reply (phase_state self) }
+        ensures spent { fuel_left (phase_state result) < fuel_left (phase_state self) }
     {
         self.answered(program, reply)
     }
@@ -91,28 +92,48 @@ impl Phase {
         ensures { phase_state result ≡ answer reply (phase_state self) }
     {
         match self {
-            Phase::Waiting(machine, _, fuel) => {
+            Phase::Waiting(machine, asked, fuel) => {
                 let code = instructions(program.linked(), machine.stack.method());
-                complete(machine, code, reply, fuel)
+                complete(machine, asked, code, reply, fuel)
             }
             other => other,
         }
     }
 }
 
-// The phase of a machine that waited for this reply. Among the instructions of its method there is one
-// after the one that asked.
-fn complete(machine: Machine, code: &[LinkedInsn], reply: Reply, fuel: u64) -> Phase
+// The phase of a machine that waited for this reply to what it asked. Among the instructions of its
+// method there is one after the one that asked.
+fn complete(machine: Machine, asked: Asked, code: &[LinkedInsn], reply: Reply, fuel: u64) -> Phase
     requires next { machine.stack.frame.index + 1 < length code.now }
-    requires fits { NotStuck (answered reply machine) }
-    ensures { phase_state result ≡ after machine.heap.cells (answered reply machine) fuel }
+    requires fits { NotStuck (answered asked reply machine) }
+    ensures { phase_state result ≡ after machine.heap.cells (answered asked reply machine) (fuel_after asked reply fuel) }
 {
     let mut machine = machine;
     let _count = code.len();
-    match machine.answer_with(reply) {
-        Flow::Ends(ending) => Phase::Over(keep(machine, ending), fuel),
-        Flow::Asks(asked) => Phase::Waiting(machine, asked, fuel),
-        _ => Phase::Running(machine, fuel),
+    let left = fuel_after(&asked, &reply, fuel);
+    match machine.answer_with(asked, reply) {
+        Flow::Ends(ending) => Phase::Over(keep(machine, ending), left),
+        Flow::Asks(asked) => Phase::Waiting(machine, asked, left),
+        _ => Phase::Running(machine, left),
+    }
+}
+
+// The fuel that is left after a reply: a call has what its callee left.
+fn fuel_after(asked: &Asked, reply: &Reply, fuel: u64) -> u64
+    ensures { result ≡ fuel_after asked.now reply.now fuel }
+{
+    match asked {
+        Asked::Call { .. } => given_back(reply),
+        _ => fuel,
+    }
+}
+
+fn given_back(reply: &Reply) -> u64
+    ensures { result ≡ given_back reply.now }
+{
+    match reply {
+        Reply::Returned { value: _, fuel } => *fuel,
+        _ => 0,
     }
 }
 

@@ -17,7 +17,9 @@ use cls_link::{ClassId, Linked, MethodId};
 use std::alloc::{AllocError, Global};
 use std::marker::Model;
 use ver_check::Accepted;
+use vm_calls::Callees;
 use vm_code::{Tables, WordKind};
+use vm_flat::FlatRows;
 use vm_heap::{Uuid, Value};
 
 /// A class set that the type checker accepted, and what running it looks up. A contract sees it as the
@@ -26,6 +28,8 @@ use vm_heap::{Uuid, Value};
 pub struct Program {
     accepted: Accepted,
     tables: Tables,
+    flat: FlatRows,
+    callees: Callees,
     thrown: ThrownClasses,
 }
 
@@ -37,7 +41,7 @@ impl Model for Program {
 
     ghost view = { λ program. program.accepted };
 
-    ghost invariant = { λ program. IsProgram program.accepted program.tables program.thrown };
+    ghost invariant = { λ program. IsProgram program.accepted program.tables program.flat program.callees program.thrown };
 }
 
 impl Program {
@@ -49,10 +53,14 @@ impl Program {
         let linked = accepted.linked();
         let _methods = linked.len();
         let tables = Tables::build(alloc, linked)?;
+        let flat = FlatRows::build(alloc, linked)?;
+        let callees = Callees::build(alloc, linked)?;
         let thrown = ThrownClasses::of(linked);
         Ok(Program {
             accepted,
             tables,
+            flat,
+            callees,
             thrown,
         })
     }
@@ -97,16 +105,16 @@ impl Program {
         self.thrown().out_of_memory_error
     }
 
-    /// Why no task of the space `own` starts at a method with these arguments: `AbsentMethod`,
-    /// `BadSignature` or `BadArgument`, the first that fits. `None` if a task starts.
+    /// Why no task starts at a method with these arguments: `AbsentMethod`, `BadSignature` or
+    /// `BadArgument`, the first that fits. `None` if a task starts.
     #[tactic(auto, using(crate::proofs::Refused::refused, crate::proofs::Refused::starts))]
-    pub fn refusal(&self, own: &Uuid, method: MethodId, arguments: &[Value]) -> Option<StartFault>
-        ensures fault { result ≡ start_fault self.now own.now method arguments.now }
-        // So does starting a task.
-        ensures refused { IfSome result (λ fault. (limits : Limits) → started self.now own.now method arguments.now limits ≡ Err fault) }
-        ensures starts { IfNone result ((limits : Limits) → IsOk (started self.now own.now method arguments.now limits)) }
+    pub fn refusal(&self, method: MethodId, arguments: &[Value]) -> Option<StartFault>
+        ensures fault { result ≡ start_fault self.now method arguments.now }
+        // So does starting a task, in each space.
+        ensures refused { IfSome result (λ fault. (own : Uuid) (limits : Limits) → started self.now own method arguments.now limits ≡ Err fault) }
+        ensures starts { IfNone result ((own : Uuid) (limits : Limits) → IsOk (started self.now own method arguments.now limits)) }
     {
-        refuses_start(self.linked(), own, method, arguments)
+        refuses_start(self.linked(), method, arguments)
     }
 
     // What running asks of its fields and of the methods that its classes select.
@@ -114,6 +122,20 @@ impl Program {
         ensures { result.now ≡ self.now }
     {
         &self.tables
+    }
+
+    // The flat instructions of its methods.
+    pub(crate) fn flat(&self) -> &FlatRows
+        ensures { result.now ≡ self.now }
+    {
+        &self.flat
+    }
+
+    // What calls need to know of its methods.
+    pub(crate) fn callees(&self) -> &Callees
+        ensures { result.now ≡ self.now }
+    {
+        &self.callees
     }
 
     // The classes of which the machine throws objects.

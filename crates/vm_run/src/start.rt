@@ -2,10 +2,9 @@
 ghost use Rattle.std.specs.Prelude.{◌≡◌, drop, length, option_map, true};
 ghost use Rattle.std.specs.Option.{option_map_or};
 ghost use Rattle.std.specs.List.{list_all};
-ghost use Rattle.cls_search.specs.MethodSearches.{is_interface};
 ghost use Rattle.ver_frames.specs.Method.{is_static};
-ghost use Rattle.vm_code.specs.Classes.{is_below_remote, is_remote};
-ghost use Rattle.vm_run.specs.Start.{is_remote_interface, is_int_element, is_remote_element, is_array_element, is_int_type, is_array_type, is_remote_type, crosses, takes_crossing, is_of_type, is_own_object, fill, refusal, start_fault};
+ghost use Rattle.vm_code.specs.Classes.{is_remote};
+ghost use Rattle.vm_run.specs.Start.{is_int_element, is_remote_element, is_int_type, is_remote_type, crosses, takes_crossing, is_of_type, fill, refusal, start_fault};
 
 use crate::fault::StartFault;
 use crate::found::find;
@@ -13,41 +12,28 @@ use cls_link::{
     ClassId, ClassSet, ElementType, FieldType, Flags, Linked, Method, MethodDescriptor, MethodId,
     Shared,
 };
-use vm_code::is_subtype;
-use vm_heap::{Ref, Uuid, Value};
+use vm_code::{is_array, is_below_remote, is_interface, is_remote_interface};
+use vm_heap::Value;
 
-/// Why no task of the space starts at the method of this number with these arguments: the lowest fault
-/// that fits.
+/// Why no task starts at the method of this number with these arguments: the lowest fault that fits.
 #[tactic(auto, using(crate::proofs::Refused::fault_found, crate::proofs::Refused::fault_absent))]
-pub fn refuses_start(
-    linked: &Linked,
-    own: &Uuid,
-    id: MethodId,
-    arguments: &[Value],
-) -> Option<StartFault>
-    ensures { result ≡ start_fault linked.now own.now id arguments.now }
+pub fn refuses_start(linked: &Linked, id: MethodId, arguments: &[Value]) -> Option<StartFault>
+    ensures { result ≡ start_fault linked.now id arguments.now }
 {
     match find(linked, id) {
-        Some(found) => refuses(linked.set(), own, found.method, arguments),
+        Some(found) => refuses(linked.set(), found.method, arguments),
         None => Some(StartFault::AbsentMethod),
     }
 }
 
 /// Why the method is not started with these arguments: the lowest fault that fits.
-pub fn refuses(
-    set: &ClassSet,
-    own: &Uuid,
-    method: &Method,
-    arguments: &[Value],
-) -> Option<StartFault>
-    ensures { result ≡ refusal set.now own.now method.now arguments.now }
+pub fn refuses(set: &ClassSet, method: &Method, arguments: &[Value]) -> Option<StartFault>
+    ensures { result ≡ refusal set.now method.now arguments.now }
 {
     if !may_take(set, &method.types) {
         return Some(StartFault::BadSignature);
     }
-    if is_class_method(method)
-        && are_filled(set, own, method.types.parameters.as_slice(), arguments)
-    {
+    if is_class_method(method) && are_filled(set, method.types.parameters.as_slice(), arguments) {
         None
     } else {
         Some(StartFault::BadArgument)
@@ -97,16 +83,6 @@ fn is_int(kind: &FieldType) -> bool
     kind.dimensions == 0 && is_element
 }
 
-fn is_array(kind: &FieldType) -> bool
-    ensures { result ≡ is_array_type kind.now }
-{
-    let is_element = match kind.element {
-        ElementType::Int => true,
-        _ => false,
-    };
-    kind.dimensions == 1 && is_element
-}
-
 fn is_remote(set: &ClassSet, kind: &FieldType) -> bool
     ensures { result ≡ is_remote_type set.now kind.now }
 {
@@ -125,60 +101,29 @@ fn is_remote_element(set: &ClassSet, element: &ElementType) -> bool
     }
 }
 
-fn is_remote_interface(set: &ClassSet, class: ClassId) -> bool
-    ensures { result ≡ is_remote_interface set.now class }
-{
-    is_interface(set, class) && is_below_remote(set, class)
-}
-
-fn is_interface(set: &ClassSet, class: ClassId) -> bool
-    ensures { result ≡ is_interface set.now class }
-{
-    if class.0 as usize >= set.len() {
-        return false;
-    }
-    set.class(class).file.flags.has(Flags::INTERFACE)
-}
-
-fn is_below_remote(set: &ClassSet, class: ClassId) -> bool
-    ensures { result ≡ is_below_remote set.now class }
-{
-    match set.number(b"java/rmi/Remote") {
-        Some(remote) => is_subtype(set, class, remote),
-        None => false,
-    }
-}
-
-fn are_filled(set: &ClassSet, own: &Uuid, kinds: &[Shared<FieldType>], arguments: &[Value]) -> bool
-    ensures { result ≡ fill set.now own.now kinds.now arguments.now }
+fn are_filled(set: &ClassSet, kinds: &[Shared<FieldType>], arguments: &[Value]) -> bool
+    ensures { result ≡ fill set.now kinds.now arguments.now }
 {
     if kinds.len() != arguments.len() {
         return false;
     }
     for index in 0..arguments.len() {
-        if !is_of_type(set, own, &kinds[index], &arguments[index]) {
+        if !is_of_type(set, &kinds[index], &arguments[index]) {
             return false;
         }
     }
     true
 }
 
-fn is_of_type(set: &ClassSet, own: &Uuid, kind: &Shared<FieldType>, value: &Value) -> bool
-    ensures { result ≡ is_of_type set.now own.now kind.now value.now }
+fn is_of_type(set: &ClassSet, kind: &Shared<FieldType>, value: &Value) -> bool
+    ensures { result ≡ is_of_type set.now kind.now value.now }
 {
     match value {
         Value::Null => !is_int(kind),
         Value::Int(_) => is_int(kind),
         Value::Ints(_) => is_array(kind),
-        Value::Ref(reference) => is_remote(set, kind) && is_own_object(set, own, reference),
+        Value::Ref(reference) => is_remote(set, kind) && is_remote_class(set, reference.class),
     }
-}
-
-// Whether a reference is to an object of the own space, of a remote class.
-fn is_own_object(set: &ClassSet, own: &Uuid, reference: &Ref) -> bool
-    ensures { result ≡ is_own_object set.now own.now reference.now }
-{
-    reference.space == *own && is_remote_class(set, reference.class)
 }
 
 fn is_remote_class(set: &ClassSet, class: ClassId) -> bool

@@ -1,13 +1,15 @@
 //! Tasks.
-ghost use Rattle.std.specs.Prelude.{List, ◌≡◌, ◌≢◌, ℕ, ◌+◌, ◌^◌, ◌<◌, ◌≤◌, [], IsSome, IfSome, IfOk, IfErr, option_and_then};
+ghost use Rattle.std.specs.Prelude.{List, ◌≡◌, ◌≢◌, ℕ, ◌+◌, ◌^◌, ◌<◌, ◌≤◌, [], IsSome, IfSome, IfOk, IfErr, map, option_and_then, option_map};
 ghost use Rattle.vm_heap.specs.Heap.{Ints, cell_at, length_at};
 ghost use Rattle.vm_heap.specs.Tagged.{most_rows};
 ghost use Rattle.vm_run.specs.Ends.{end_of, returned_at};
 ghost use Rattle.vm_run.specs.Start.{opening_state, started};
 ghost use Rattle.vm_run.specs.Limited.{KeepsWithin};
+ghost use Rattle.vm_code.specs.Parameters.{parameter_of};
 ghost use Rattle.vm_typing.specs.Runs.{Move};
-ghost use Rattle.vm_run.specs.Run.{answer, played, run, AreDue, HasStopped, IsDue, IsOver, IsNeverStuck};
-ghost use Rattle.vm_run.specs.Task.{pause_at, fuel_left, final_state, last_end, outcome_of, outcome_at, phase_state, threw_named, unmarshalled, IsOutcome, IsOfSet};
+ghost use Rattle.vm_world.specs.Worlds.{takes_at};
+ghost use Rattle.vm_run.specs.Run.{answer, played, run, AreDue, HasStopped, IsCrossing, IsDue, IsOver, IsNeverStuck};
+ghost use Rattle.vm_run.specs.Task.{pause_at, fuel_left, left_after, final_state, arguments_of, call_arguments, last_end, outcome_of, outcome_at, phase_state, threw_named, unmarshalled, IsCall, IsCalling, IsOutcome, IsOfSet};
 
 use crate::fault::StartFault;
 use crate::found::find;
@@ -18,12 +20,12 @@ use crate::phase::{Last, Phase};
 use crate::program::Program;
 use crate::start::refuses;
 use crate::thrown::ThrownClasses;
-use cls_link::MethodId;
+use cls_link::{FieldType, Linked, MethodId, Shared};
 use std::alloc::{AllocError, Global};
 use std::marker::Model;
 use std::mem;
 use std::snapshot::Snapshot;
-use vm_code::{Ending, Reply};
+use vm_code::{Asked, Ending, Machine, Reply, arguments};
 use vm_heap::{Heap, Row, Uuid, Value};
 
 /// A method that runs on a machine of its own.
@@ -82,7 +84,7 @@ impl Task {
         let Some(found) = find(linked, method) else {
             return Err(StartFault::AbsentMethod);
         };
-        match refuses(linked.set(), &own, found.method, &arguments) {
+        match refuses(linked.set(), found.method, &arguments) {
             Some(fault) => return Err(fault),
             None => {}
         }
@@ -127,18 +129,48 @@ impl Task {
     }
 
     /// Completes the instruction that waits for this reply. The reply is one that fits what was asked:
-    /// an own object of the class; a value of the field's type; or an exception of a class of the set.
-    /// It takes no memory.
+    /// an own object of the class; a value of the field's type; what a method of this result gives, with
+    /// no more fuel than was lent, or that its fuel was spent; or an exception of a class of the set. It
+    /// takes no memory.
     pub fn answer(&mut self, program: &Program, reply: Reply)
         requires program { self.old.program ≡ program.now }
         requires due { IsDue program.now.classes reply self.old.state }
         ensures task { self.new ≡ record self.old { state = answer reply self.old.state } }
-        // An instruction that is completed has taken its unit of fuel.
-        ensures fuel { fuel_left self.new.state + 1 ≡ fuel_left self.old.state }
+        // An instruction that is completed has taken its unit of fuel, and a call has what came back.
+        ensures fuel { fuel_left self.new.state ≡ left_after reply self.old.state }
+        ensures spent { fuel_left self.new.state < fuel_left self.old.state }
         ensures never_stuck { IsNeverStuck program.now self.new.state }
     {
         let phase = mem::replace(&mut self.phase, Phase::Over(Last::Spent, 0));
         self.phase = phase.answer(program, reply);
+    }
+
+    /// Returns a copy of the arguments of the call that the task asks for: `None` if it asks for none.
+    pub fn arguments(
+        &self,
+        alloc: Global,
+        program: &Program,
+    ) -> Result<Option<Vec<Value>>, AllocError>
+        requires { self.now.program ≡ program.now }
+        ensures value { IfOk result (λ given. option_map (λ values. values.items) given ≡ call_arguments program.now.classes self.now.state) }
+        ensures calling { IfOk result (λ given. IsCalling self.now.state → IsSome given) }
+    {
+        match &self.phase {
+            Phase::Waiting(machine, asked, _) => passed(alloc, program, machine, asked),
+            _ => Ok(None),
+        }
+    }
+
+    /// Returns how much fuel the call that the task asks for lends to its callee: all but the unit of
+    /// the call itself.
+    pub fn lent(&self) -> u64
+        requires { IsCalling self.now.state }
+        ensures { result + 1 ≡ fuel_left self.now.state }
+    {
+        match &self.phase {
+            Phase::Waiting(_, _, fuel) => *fuel,
+            _ => unreachable!(),
+        }
     }
 
     /// How the task ended: `None` if it has not. An array is copied. One of more than 8,000 elements,
@@ -182,6 +214,7 @@ impl Task {
             Ending::ReturnedRemote(reference) => { Outcome::Returned(Some(Value::Ref(reference))) }
             Ending::Threw(thrown) => Outcome::Threw(self.thrown.number(thrown)),
             Ending::ThrewObject(class) => Outcome::Threw(class),
+            Ending::Spent => Outcome::Spent,
         }
     }
 
@@ -196,7 +229,7 @@ impl Task {
         if heap.length(address) > MOST_ELEMENTS {
             return Ok(self.not_crossing());
         }
-        let elements = elements_at(alloc, heap, address)?;
+        let elements = heap.elements(alloc, address)?;
         Ok(Outcome::Returned(Some(Value::Ints(Row::new(elements)))))
     }
 
@@ -210,15 +243,40 @@ impl Task {
 // How many elements an array may have that crosses.
 const MOST_ELEMENTS: u32 = 8_000;
 
-// The elements of an array of the heap.
-fn elements_at(alloc: Global, heap: &Heap, address: usize) -> Result<Vec<i32>, AllocError>
-    requires { IsSome (length_at address heap.now.cells) }
-    ensures { IfOk result (λ elements. cell_at heap.now.cells address ≡ Some (Ints elements.items)) }
+// A copy of the arguments of the call that a machine asks for, if it asks for one.
+fn passed(
+    alloc: Global,
+    program: &Program,
+    machine: &Machine,
+    asked: &Asked,
+) -> Result<Option<Vec<Value>>, AllocError>
+    requires { IsCrossing program.now.classes asked.now machine.now }
+    ensures value { IfOk result (λ given. option_map (λ values. values.items) given ≡ arguments_of program.now.classes asked.now machine.now) }
+    ensures calling { IfOk result (λ given. IsCall asked.now → IsSome given) }
 {
-    let count = heap.length(address) as usize;
-    let mut elements = Vec::with_capacity(alloc, count)?;
-    for index in 0..count {
-        elements.push(heap.element(address, index).as_int())?;
+    match asked {
+        Asked::Call {
+            target: _,
+            method,
+            arguments: _,
+        } => {
+            let types = parameters(program.linked(), *method);
+            Ok(Some(arguments(alloc, machine, types)?))
+        }
+        _ => Ok(None),
     }
-    Ok(elements)
+}
+
+// The types of the parameters of a method: none if there is no such method.
+fn parameters(linked: &Linked, method: u32) -> &[Shared<FieldType>]
+    ensures { map parameter_of result.now ≡ takes_at linked.now.classes method }
+{
+    if method as usize >= linked.len() {
+        return &[];
+    }
+    linked
+        .declaration(MethodId(method))
+        .types
+        .parameters
+        .as_slice()
 }

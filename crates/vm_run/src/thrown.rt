@@ -19,7 +19,7 @@ pub struct ThrownClasses {
     pub abstract_method_error: ClassId,
     pub illegal_access_error: ClassId,
     pub incompatible_class_change_error: ClassId,
-    // Where a result cannot cross.
+    // Where an argument or a result cannot cross.
     pub marshal_exception: ClassId,
 }
 
@@ -69,6 +69,7 @@ impl ThrownClasses {
             Thrown::AbstractMethodError => self.abstract_method_error,
             Thrown::IllegalAccessError => self.illegal_access_error,
             Thrown::IncompatibleClassChangeError => self.incompatible_class_change_error,
+            Thrown::MarshalException => self.marshal_exception,
         }
     }
 }

@@ -89,6 +89,9 @@ module _ (links : Links) (frames : ℕ → ℕ → Frame) (are : AreLinks links)
       method = m;
       declared = there;
       selects = record { object = object; runs = λ below known to. callees.selects_interface links frames are files member m there other below class };
+      takes = (callees.asked_as links frames are files member m there).takes;
+      gives = (callees.asked_as links frames are files member m there).gives;
+      types = (callees.asked_as links frames are files member m there).types;
     }
 
     special_named : (current class : ClassId) → (is_init m ≡ true → member.class ≡ class) → NamesSpecial world current class member

@@ -4,7 +4,7 @@ use Rattle.std.specs.Prelude.{replicate}
 use Rattle.std.proofs.lemmas.List.{length-take, take-take, drop-take, take-append-drop, take-append-le, reverse-append, reverse-reverse, length-reverse}
 use Rattle.vm_heap.specs.Tagged.{Tagged, Unset}
 use Rattle.vm_heap.specs.Words.{forgotten}
-use Rattle.vm_stack.specs.Frames.{Frame, Frames, entered, frame_cost}
+use Rattle.vm_stack.specs.Frames.{Frame, Frames, entered, frame_cost, without}
 use Rattle.vm_stack.specs.Layout.{frame_of, frames_of, callers_of, IsPlaced}
 use Rattle.vm_stack.specs.declared.link.Link.{Link}
 use Rattle.vm_stack.proofs.Rows.{drop_before, frames_of-grown}
@@ -93,6 +93,22 @@ frames_of-entered words link top links free method arguments max_locals max_stac
     ∙ (ap reverse (drop-take link.base (length (drop link.base row) - arguments) row) ∙ sym (before_last arguments (drop link.base row) few'))) in
     let caller_below : take link.bottom (take below words) ≡ take link.bottom words = take-take link.bottom below words (omega (arith, placed.locals)) in
     rw (reverse-append links (link ∷ []), lower, caller_locals, caller_operands, caller_below, taken, again, none, kept, last, unset, room) refl
+
+-- the operands on top are taken off
+pub frames_of-without : (words : List Tagged) (link : Link) (top count : ℕ) (links : List Link) (free : ℕ) → link.base ≤ top → top ≤ length words
+    → count ≤ length (frame_of (take top words) link).operands → frames_of words link (top - count) links free ≡ without count (frames_of words link top links free)
+frames_of-without words link top count links free placed within few =
+    let row : List Tagged = take top words in
+    let below : ℕ = top - count in
+    let size : length (drop link.base row) ≡ top - link.base = omega (arith, length-drop link.base row, length-take top words) in
+    let few' : count ≤ length (drop link.base row) = omega (arith, few, length-reverse (drop link.base row)) in
+    let at_last : link.base + (length (drop link.base row) - count) ≡ below = omega arith in
+    let locals : take link.base (take below words) ≡ take link.base row = take-take link.base below words (omega arith) ∙ sym (take-take link.base top words placed) in
+    let operands : reverse (drop link.base (take below words)) ≡ drop count (reverse (drop link.base row)) =
+    ap (λ (zs : List Tagged). reverse (drop link.base zs)) (sym (take-take below top words (omega arith)))
+    ∙ (ap (λ (n : ℕ). reverse (drop link.base (take n row))) (sym at_last)
+    ∙ (ap reverse (drop-take link.base (length (drop link.base row) - count) row) ∙ sym (before_last count (drop link.base row) few'))) in
+    rw (locals, operands) refl
 
 pub length-callers : (row : List Tagged) (links : List Link) → length (callers_of row links) ≡ length links
 length-callers row [] = refl

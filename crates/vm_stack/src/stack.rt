@@ -1,7 +1,7 @@
 //! The stack of a task.
 ghost use Rattle.std.specs.Prelude.{◌≡◌, ◌+◌, ◌<◌, ◌≤◌, ◌↔◌, [], ◌∷◌, length, IsTrue, IfOk, Some, slice_get, nat_lt};
 ghost use Rattle.std.specs.Bool.{OnTrue, OnFalse};
-ghost use Rattle.vm_stack.specs.Frames.{empty_frame, frame_cost, pushed, with_local, at_index, entered, initialised, begun};
+ghost use Rattle.vm_stack.specs.Frames.{empty_frame, frame_cost, pushed, without, with_local, at_index, entered, initialised, begun};
 
 use crate::link::Link;
 use std::alloc::{AllocError, Global};
@@ -100,6 +100,16 @@ impl Stack {
     {
         self.top -= 1;
         self.words.get(self.top)
+    }
+
+    /// Takes the operands on top off, so many of them. The caller owes that they are there; nothing
+    /// tests it.
+    #[inline(always)]
+    pub fn discard(&mut self, count: usize)
+        requires { count ≤ length self.old.frame.operands }
+        ensures { self.new ≡ without count self.old }
+    {
+        self.top -= count;
     }
 
     /// Returns the operand with `depth` others above it. The caller owes that there is one; nothing

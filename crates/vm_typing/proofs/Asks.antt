@@ -12,7 +12,7 @@ use Rattle.ver_frames.specs.Assignable.{IsAssignable}
 use Rattle.ver_frames.specs.declared.vtype.VType.{VType}
 use Rattle.ver_frames.specs.declared.vtype.VType.TheVariants as vtype
 use Rattle.vm_heap.specs.Heap.{with_field}
-use Rattle.vm_heap.specs.References.{Table, is_own, row_for, with_reference}
+use Rattle.vm_heap.specs.References.{Table, row_for, with_reference}
 use Rattle.vm_heap.specs.Tagged.{Tagged, Site, HeapAddress, ReferenceRow, Int, Null, Local, Remote, Fresh, This, Unset, Head}
 use Rattle.vm_heap.specs.declared.heap.WordKind.{WordKind}
 use Rattle.vm_heap.specs.declared.heap.WordKind.TheVariants as kind
@@ -27,14 +27,14 @@ use Rattle.vm_act.specs.declared.asked.Reply.{Reply}
 use Rattle.vm_act.specs.declared.asked.Reply.TheVariants as reply
 use Rattle.vm_act.specs.declared.machine.Machine.{Machine}
 use Rattle.vm_typing.specs.World.{World, IsKnown, IsPlain, Enters, is_made_at, cleared}
-use Rattle.vm_typing.specs.Fits.{Held, Marks, OfSpace, held_by, held_in, no_marks, pointee_at, IsA, There, Points, Fits, CellFits, AllFit, HeapFits}
+use Rattle.vm_typing.specs.Fits.{Held, Marks, OfSpace, OfStub, remote_pointee, held_by, held_in, no_marks, pointee_at, IsA, There, Points, Fits, CellFits, AllFit, HeapFits}
 use Rattle.vm_typing.specs.Asking.{IsOwnObject, ReplyFits, ValueFits}
 use Rattle.vm_typing.specs.Typed.{IsAt, IsTyped, StandsBefore, marks_of}
 use Rattle.vm_typing.specs.Owed.{Owed, HasKind, MayWrite, Moves}
 use Rattle.vm_typing.specs.Leads.{Completes, IsWaiting, LeadsTo}
 use Rattle.vm_typing.proofs.Arrivals.{comes}
 use Rattle.vm_typing.proofs.Kept.{Keeps, CellFits-keeps, AllCells-map, FitsFrame-keeps, CallersWait-keeps, with_field-Keeps}
-use Rattle.vm_typing.proofs.Leads.{Fits-assignable, go_on-leads, kind_value, no_array_away, length-AllZip, own_row, plain_fits, plain_initialised, push-leads}
+use Rattle.vm_typing.proofs.Leads.{Fits-assignable, go_on-leads, kind_value, no_array_away, length-AllZip, own_row, remote_row, plain_fits, plain_initialised, push-leads}
 use Rattle.vm_typing.proofs.Objects.{field_found, field_put, push_made-leads, with_heap}
 
 -- what holds a value of a type moves as its kind
@@ -72,7 +72,7 @@ module _ (w : World) (owed : Owed w) (asked : Option VType) (held : Held) (fresh
   pushed-leads value t f m room enters at fit =
       push-leads w owed asked held fresh receiver Typed value go_on t f m room at fit (λ all. go_on-leads w owed asked held fresh receiver _ _ enters all)
 
-  pushed : (over : Held) (value : Tagged) (t : VType) (f : Frame) (m : Machine) → length f.stack < (w.method m.stack.frame.method).max_stack
+  pub pushed : (over : Held) (value : Tagged) (t : VType) (f : Frame) (m : Machine) → length f.stack < (w.method m.stack.frame.method).max_stack
       → Enters w m.stack.frame.method (m.stack.frame.index + 1) (record f { stack = t ∷ f.stack }) → Here f m
       → Fits w (held_by m) (marks m) t value → Done over (push value go_on m)
   pushed over value t f m room enters at fit =
@@ -89,16 +89,16 @@ module _ (w : World) (owed : Owed w) (asked : Option VType) (held : Held) (fresh
   abbrev arrived : Ref → Machine → Machine
   arrived reference m = record m { references = with_reference reference m.references }
 
-  -- a reference to an own object comes, or is one too many
-  on_held-completes : (reference : Ref) (next : ℕ → Machine → Next) (f : Frame) (m : Machine) → is_own m.references reference ≡ true → Here f m
-      → ((row : ℕ) → pointee_at (held_by (arrived reference m)) (ReferenceRow row) ≡ Some (OfSpace reference.class) → Here f (arrived reference m)
+  -- a reference comes, or is one too many
+  pub on_held-completes : (reference : Ref) (next : ℕ → Machine → Next) (f : Frame) (m : Machine) → Here f m
+      → ((row : ℕ) → pointee_at (held_by (arrived reference m)) (ReferenceRow row) ≡ Some (remote_pointee m.references reference) → Here f (arrived reference m)
       → Done (held_by m) (next row (arrived reference m))) → Done (held_by m) (on_held reference next m)
-  on_held-completes reference next f m own at go = by (row_for reference m.references) refl
+  on_held-completes reference next f m at go = by (row_for reference m.references) refl
     where
       by : (o : Option ℕ) → row_for reference m.references ≡ o → Done (held_by m) (on_row (λ row. next row (arrived reference m)) o)
       by None is = tt
       by (Some row) is =
-          let come = comes (held_by m) reference row is own in
+          let come = comes (held_by m) reference row is in
           go row come.there (with_references f m (with_reference reference m.references) come.keeps at)
 
   -- what a field holds is pushed
@@ -110,8 +110,8 @@ module _ (w : World) (owed : Owed w) (asked : Option VType) (held : Held) (fresh
   push_value-completes (vtype.Object c) field.Null f m fits room enters at = pushed (held_by m) Null (vtype.Object c) f m room enters at tt
   push_value-completes vtype.IntArray field.Null f m fits room enters at = pushed (held_by m) Null vtype.IntArray f m room enters at tt
   push_value-completes (vtype.Object c) (field.Reference reference) f m fits room enters at =
-      on_held-completes reference (λ row. push (Remote row) go_on) f m fits.0 at
-      (λ row there all. pushed (held_by m) (Remote row) (vtype.Object c) f (arrived reference m) room enters all (rw there fits.1))
+      on_held-completes reference (λ row. push (Remote row) go_on) f m at
+      (λ row there all. pushed (held_by m) (Remote row) (vtype.Object c) f (arrived reference m) room enters all (rw there fits))
   push_value-completes t value f m fits room enters at = absurd fits
 
   -- the frame after the instruction comes in at the next one
@@ -120,7 +120,15 @@ module _ (w : World) (owed : Owed w) (asked : Option VType) (held : Held) (fresh
   before f next m at enters locals operands =
       let all_locals = length-AllZip (Fits w (held_by m) (marks m)) f.locals m.stack.frame.locals at.frame.locals in
       let all_operands = length-AllZip (Fits w (held_by m) (marks m)) f.stack m.stack.frame.operands at.frame.operands in
-      record { next = next; known = at.frame.known; enters = enters; locals = all_locals ∙ locals; operands = omega (arith, all_operands, operands); callers = at.callers }
+      let all_there = length-AllZip (IsAssignable w.classes) next.stack ((w.method m.stack.frame.method).frames (m.stack.frame.index + 1)).stack enters.to.stack in
+      record {
+        next = next;
+        known = at.frame.known;
+        enters = enters;
+        locals = all_locals ∙ locals;
+        operands = record { index = m.stack.frame.index + 1; inside = enters.inside; few = omega (arith, all_operands, all_there, operands) };
+        callers = at.callers;
+      }
 
   -- new of a remote class; no object of the instruction at this offset is on the stack
   pub create-leads : (class : ClassId) (offset : ℕ) (f : Frame) (m : Machine) → IsKnown w class → IsRemote w.classes class
@@ -131,6 +139,7 @@ module _ (w : World) (owed : Owed w) (asked : Option VType) (held : Held) (fresh
       → Here f m → Leads (create class m)
   create-leads class offset f m known remote inside stands names none room enters at = record {
     fits = (known, remote);
+    call = tt;
     before = before f _ m at enters (sym (length-map f.locals (cleared offset))) (omega arith);
     completes = by;
   }
@@ -138,14 +147,16 @@ module _ (w : World) (owed : Owed w) (asked : Option VType) (held : Held) (fresh
       made : (reference : Ref) → reference.class ≡ class → (c : ClassId) → c ≡ class → (c ≡ class) × IsKnown w c × IsRemote w.classes c
       made reference is c same = (same, subst (λ (d : ClassId). IsKnown w d) (sym same) known, subst (λ (d : ClassId). IsRemote w.classes d) (sym same) remote)
 
-      by : (given : Reply) → ReplyFits w m.references (ask.Create class) given → Done (held_by m) (answered given m)
+      by : (given : Reply) → ReplyFits w m.references (ask.Create class) given → Done (held_by m) (answered (ask.Create class) given m)
       by (reply.Made reference) fits =
-          on_held-completes reference (λ row. push (Fresh m.stack.frame.index (ReferenceRow row)) go_on) f m fits.0 at
+          on_held-completes reference (λ row. push (Fresh m.stack.frame.index (ReferenceRow row)) go_on) f m at
           (λ row there all. quiet (held_by m) (nat_lt (length m.stack.frame.operands) m.stack.frame.room) _
           (push_made-leads w owed asked held fresh receiver class offset (ReferenceRow row) f (arrived reference m)
-          (rw there (made reference fits.1 reference.class fits.1)) inside stands names none room enters all))
+          (rw (there, fits.0) (made reference fits.1 reference.class fits.1)) inside stands names none room enters all))
       by (reply.Holds value) fits = absurd fits
       by reply.Written fits = absurd fits
+      by (reply.Returned value fuel) fits = absurd fits
+      by reply.RunsOut fits = absurd fits
       by (reply.Throws thrown) fits = fits
 
   -- the field of an own object that getfield asks for
@@ -154,13 +165,15 @@ module _ (w : World) (owed : Owed w) (asked : Option VType) (held : Held) (fresh
       → length f.stack < (w.method m.stack.frame.method).max_stack
       → Enters w m.stack.frame.method (m.stack.frame.index + 1) (record f { stack = t ∷ f.stack }) → Here f m
       → IsWaiting w asked Typed (ask.Get reference slot) m
-  get-waits reference slot t f m own has room enters at = record { fits = (own, rw has refl); before = before f _ m at enters refl (omega arith); completes = by }
+  get-waits reference slot t f m own has room enters at = record { fits = (own, rw has refl); call = tt; before = before f _ m at enters refl (omega arith); completes = by }
     where
-      by : (given : Reply) → ReplyFits w m.references (ask.Get reference slot) given → Done (held_by m) (answered given m)
+      by : (given : Reply) → ReplyFits w m.references (ask.Get reference slot) given → Done (held_by m) (answered (ask.Get reference slot) given m)
       by (reply.Made other) fits = absurd fits
       by (reply.Holds value) fits =
           push_value-completes t value f m (subst (λ (o : Option VType). There (λ t. ValueFits w m.references t value) o) has fits) room enters at
       by reply.Written fits = absurd fits
+      by (reply.Returned value fuel) fits = absurd fits
+      by reply.RunsOut fits = absurd fits
       by (reply.Throws thrown) fits = fits
 
   -- the value that putfield asks a field to hold
@@ -168,12 +181,14 @@ module _ (w : World) (owed : Owed w) (asked : Option VType) (held : Held) (fresh
       → slice_get (w.fields reference.class) slot ≡ Some t → ValueFits w m.references t value
       → Enters w m.stack.frame.method (m.stack.frame.index + 1) f → Here f m
       → IsWaiting w asked Typed (ask.Put reference slot value) m
-  put-waits reference slot t value f m own has fits enters at = record { fits = (own, rw has fits); before = before f f m at enters refl (omega arith); completes = by }
+  put-waits reference slot t value f m own has fits enters at = record { fits = (own, rw has fits); call = tt; before = before f f m at enters refl (omega arith); completes = by }
     where
-      by : (given : Reply) → ReplyFits w m.references (ask.Put reference slot value) given → Done (held_by m) (answered given m)
+      by : (given : Reply) → ReplyFits w m.references (ask.Put reference slot value) given → Done (held_by m) (answered (ask.Put reference slot value) given m)
       by (reply.Made other) fits = absurd fits
       by (reply.Holds other) fits = absurd fits
       by reply.Written fits = go_on-leads w owed asked held fresh receiver f m enters at
+      by (reply.Returned value fuel) fits = absurd fits
+      by reply.RunsOut fits = absurd fits
       by (reply.Throws thrown) fits = fits
 
   module _ (class : ClassId) (slot : ℕ) (t : VType) (has : slice_get (w.fields class) slot ≡ Some t) where
@@ -183,6 +198,13 @@ module _ (w : World) (owed : Owed w) (asked : Option VType) (held : Held) (fresh
     -- the class of a remote object that may stand for this one has the field too
     has_field : (reference : Ref) → IsA w class (OfSpace reference.class) → slice_get (w.fields reference.class) slot ≡ Some t
     has_field reference is = owed.inherits reference.class class slot t is.0 is.1 has
+
+    -- and no stub may: java/lang/Object has no fields
+    no_stub : (c : ClassId) → IsA w class (OfStub c) → ⊥
+    no_stub c is =
+        let there : slice_get (w.fields w.object) slot ≡ Some t = owed.inherits w.object class slot t is.0 is.1 has in
+        let none : ◌≡◌ {A = Option VType} None (Some t) = subst (λ (fs : List VType). slice_get fs slot ≡ Some t) owed.object_fields there in
+        cc
 
     -- getfield of a value that stands for the class
     read_one : (types : List VType) (f : Frame) (m : Machine) (v : Tagged) (below : List Tagged) → Points (IsA w class) (held_by m) v
@@ -196,7 +218,7 @@ module _ (w : World) (owed : Owed w) (asked : Option VType) (held : Held) (fresh
         (pushed-leads found.0 t (record f { stack = types }) (with_operands below m) room enters at
         (plain_fits w (held_by m) no_marks (marks m) t found.0 plain found.1.1))
     read_one types f m (Remote row) below fits room enters at =
-        let r = own_row (IsA w class) (held_by m) row fits in
+        let r = own_row (IsA w class) (held_by m) row no_stub fits in
         rw (r.is, r.own)
         (get-waits r.reference slot t (record f { stack = types }) (with_operands below m) (r.own, r.fits.0, r.fits.2) (has_field r.reference r.fits) room enters at)
     read_one types f m (Int n) below fits room enters at = absurd fits
@@ -249,8 +271,8 @@ module _ (w : World) (owed : Owed w) (asked : Option VType) (held : Held) (fresh
           by (vtype.Object c) Null same is_plain fits = wait field.Null (subst (λ (s : VType). ValueFits w m.references s field.Null) same tt)
           by (vtype.Object c) (Local a) same is_plain fits = tt
           by (vtype.Object c) (Remote row) same is_plain fits =
-              let r = own_row (IsA w c) (held_by m) row fits in
-              rw r.is (wait (field.Reference r.reference) (subst (λ (s : VType). ValueFits w m.references s (field.Reference r.reference)) same (r.own, r.fits)))
+              let r = remote_row (IsA w c) (held_by m) row fits in
+              rw r.is (wait (field.Reference r.reference) (subst (λ (s : VType). ValueFits w m.references s (field.Reference r.reference)) same r.fits))
           by vtype.IntArray Null same is_plain fits = wait field.Null (subst (λ (s : VType). ValueFits w m.references s field.Null) same tt)
           by vtype.IntArray (Local a) same is_plain fits = tt
           by vtype.IntArray (Remote row) same is_plain fits = absurd (no_array_away (held_by m) row fits)
@@ -272,7 +294,7 @@ module _ (w : World) (owed : Owed w) (asked : Option VType) (held : Held) (fresh
         write_one Null fits = rw initialised tt
         write_one (Local a) fits = rw initialised (put_here a fits)
         write_one (Remote row) fits =
-            let r = own_row (IsA w class) (held_by m) row fits in
+            let r = own_row (IsA w class) (held_by m) row no_stub fits in
             rw (moved, r.is, r.own) (stored r.reference (r.own, r.fits.0, r.fits.2) (has_field r.reference r.fits) t refl plain fit)
         write_one (Int n) fits = absurd fits
         write_one (Fresh index site) fits = absurd fits
@@ -284,7 +306,7 @@ module _ (w : World) (owed : Owed w) (asked : Option VType) (held : Held) (fresh
         write_own : (site : Site) → There (IsA w class) (pointee_at (held_by m) site) → Leads (write_field slot k (with_operands (v ∷ This site ∷ below) m))
         write_own (HeapAddress a) there = rw initialised (put_here a there)
         write_own (ReferenceRow row) there =
-            let r = own_row (IsA w class) (held_by m) row there in
+            let r = own_row (IsA w class) (held_by m) row no_stub there in
             rw (moved, r.is, r.own) (stored r.reference (r.own, r.fits.0, r.fits.2) (has_field r.reference r.fits) t refl plain fit)
 
         write_into : (r : VType) (o : Tagged) → MayWrite w (w.method m.stack.frame.method).owner class r → Fits w (held_by m) (marks m) r o

@@ -23,7 +23,7 @@ use Rattle.vm_act.specs.declared.calls.Callee.{Callee}
 use Rattle.vm_act.specs.declared.ending.Ending.TheVariants as ending
 use Rattle.vm_act.specs.declared.ending.Thrown.TheVariants as thrown
 use Rattle.vm_typing.specs.World.{World, MethodType, init_receiver, parameters, opening, Enters, made_is, this_is}
-use Rattle.vm_typing.specs.Fits.{Held, Pointee, OfHeap, OfSpace, pointee_at, held_by, held_in, no_site, IsA, IsOf, There, Marks, IsMade, IsReceiver, Fits, AllFit, HeapFits}
+use Rattle.vm_typing.specs.Fits.{Held, Pointee, OfHeap, OfSpace, OfStub, pointee_at, held_by, held_in, no_site, IsA, IsOf, There, Marks, IsMade, IsReceiver, Fits, AllFit, HeapFits}
 use Rattle.vm_typing.specs.Typed.{with_result, HasRoom, Waits, CallersWait, IsAt, IsTyped, marks_of}
 use Rattle.vm_typing.specs.Owed.{Owed, IsCallee, Passes}
 use Rattle.vm_typing.specs.Leads.{LeadsTo}
@@ -86,6 +86,7 @@ reversed w held k types values fit =
 IsOf-IsA : (w : World) (owed : Owed w) (class : ClassId) (x : Pointee) → IsOf w class x → IsA w class x
 IsOf-IsA w owed class (OfHeap (Object c fs)) is = (is.1, subst (λ (d : ClassId). IsObjectAssignable w.classes c d) is.0 (inr (itself c)), tt)
 IsOf-IsA w owed class (OfHeap (Ints items)) is = absurd is
+IsOf-IsA w owed class (OfStub c) is = absurd is
 IsOf-IsA w owed class (OfSpace c) is = (is.1, subst (λ (d : ClassId). IsObjectAssignable w.classes c d) is.0 (inr (itself c)), is.2)
 
 turns_new : (o : ℕ) (site : Site) → after_init (Fresh o site) (Fresh o site) ≡ object_at site

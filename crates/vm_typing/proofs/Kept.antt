@@ -11,7 +11,7 @@ use Rattle.vm_heap.specs.Tagged.{Tagged, Site, HeapAddress, ReferenceRow, Int, N
 use Rattle.vm_heap.specs.Heap.{Cell, Object, Ints, cost, cell_at, changed_at, all_cost, cell_with_field, cell_with_element}
 use Rattle.vm_stack.specs.Frames as frames
 use Rattle.vm_typing.specs.World.{World}
-use Rattle.vm_typing.specs.Fits.{Held, Pointee, OfHeap, OfSpace, own_pointee, pointee_at, class_in, IsA, IsOf, IsInts, There, Points, Marks, Fits, AllFit, CellFits, AllCells, no_marks}
+use Rattle.vm_typing.specs.Fits.{Held, Pointee, OfHeap, OfSpace, OfStub, remote_pointee, pointee_at, class_in, IsA, IsOf, IsInts, There, Points, Marks, Fits, AllFit, CellFits, AllCells, no_marks}
 use Rattle.vm_typing.specs.Typed.{FitsFrame, CallersWait, marks_of}
 
 -- of the same class
@@ -57,12 +57,12 @@ There-keeps P before after (HeapAddress a) mono keeps there = at (cell_at before
     at (Some x) is there = to (cell_at after.cells a) x (keeps.heap.kept a x is) there
 There-keeps P before after (ReferenceRow row) mono keeps there = at (slice_get before.references.rows row) refl there
   where
-    at : (o : Option Ref) → slice_get before.references.rows row ≡ o → There P (option_and_then (own_pointee before.references) o)
-        → There P (option_and_then (own_pointee after.references) (slice_get after.references.rows row))
+    at : (o : Option Ref) → slice_get before.references.rows row ≡ o → There P (option_map (remote_pointee before.references) o)
+        → There P (option_map (remote_pointee after.references) (slice_get after.references.rows row))
     at None is there = absurd there
     at (Some reference) is there =
         rw (keeps.rows row reference is)
-        (subst (λ own. There P (if bytes_eq reference.space own then Some (OfSpace reference.class) else None)) keeps.own there)
+        (subst (λ own. P (if bytes_eq reference.space own then OfSpace reference.class else OfStub reference.class)) keeps.own there)
 
 class_in-same : (w : World) (x y : Cell) → IsSame x y → class_in w (OfHeap x) ≡ class_in w (OfHeap y)
 class_in-same w (Object c fs) (Object d gs) same = same

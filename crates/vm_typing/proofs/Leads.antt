@@ -1,6 +1,6 @@
 -- If a machine fits a type frame and an operand or a local variable has a type, a small step is not stuck, and fits the frame after it.
 use Rattle.std.proofs.Common.{◌≡◌, ℕ, zero, suc, ◌+◌, ◌<◌, Bool, true, false, List, [], ◌∷◌, length, refl, ap, sym, subst, Option, Some, None, inr}
-use Rattle.std.specs.Prelude.{ℤ, nat_lt, slice_get, slice_set, option_and_then, if◌then◌else◌}
+use Rattle.std.specs.Prelude.{ℤ, nat_lt, slice_get, slice_set, option_map, if◌then◌else◌}
 use Rattle.std.specs.List.{AllZip}
 use Rattle.std.proofs.lemmas.Bool.{lt-ltb}
 use Rattle.std.proofs.lemmas.Option.{slice_get_within}
@@ -24,7 +24,7 @@ use Rattle.vm_act.specs.Next.{Next, Stuck}
 use Rattle.vm_act.specs.Steps.{on_int, on_object, on_reference, on_top, pop, pop_as, pop_int, pop_reference, push, load_as, store, is_kind, is_initialised, with_operands, go_on, jump, branch}
 use Rattle.vm_act.specs.declared.machine.Machine.{Machine}
 use Rattle.vm_typing.specs.World.{World, IsPlain, Enters}
-use Rattle.vm_typing.specs.Fits.{Held, Pointee, OfHeap, OfSpace, own_pointee, pointee_at, held_by, class_in, IsA, IsInts, IsNull, There, Points, Marks, Fits, AllFit}
+use Rattle.vm_typing.specs.Fits.{Held, Pointee, OfHeap, OfSpace, OfStub, remote_pointee, pointee_at, held_by, class_in, IsA, IsInts, IsNull, There, Points, Marks, Fits, AllFit}
 use Rattle.vm_typing.specs.Typed.{FitsFrame, IsAt, IsTyped, marks_of}
 use Rattle.vm_typing.specs.Owed.{Owed, Moves}
 use Rattle.vm_typing.specs.Leads.{LeadsTo}
@@ -89,28 +89,40 @@ plain_initialised w held k vtype.Null v plain fits = absurd plain
 plain_initialised w held k (vtype.Uninitialized o) v plain fits = absurd plain
 plain_initialised w held k vtype.UninitializedThis v plain fits = absurd plain
 
--- a reference of a list, by its row: it is to an object of the own space, which has the property
+-- a reference of a list, by its row: what it stands for has the property
+pub record RemoteRow (P : Pointee → Type 0) (held : Held) (row : ℕ) : Type 0 where
+  pub reference : Ref
+  pub is : slice_get held.references.rows row ≡ Some reference
+  pub fits : P (remote_pointee held.references reference)
+
+pub remote_row : (P : Pointee → Type 0) (held : Held) (row : ℕ) → There P (pointee_at held (ReferenceRow row)) → RemoteRow P held row
+remote_row P held row there = at (slice_get held.references.rows row) refl there
+  where
+    at : (o : Option Ref) → slice_get held.references.rows row ≡ o → There P (option_map (remote_pointee held.references) o) → RemoteRow P held row
+    at None is there = absurd there
+    at (Some reference) is there = record { reference = reference; is = is; fits = there }
+
+-- it is to an object of the own space, if no stub has the property
 pub record OwnRow (P : Pointee → Type 0) (held : Held) (row : ℕ) : Type 0 where
   pub reference : Ref
   pub is : slice_get held.references.rows row ≡ Some reference
   pub own : is_own held.references reference ≡ true
   pub fits : P (OfSpace reference.class)
 
-pub own_row : (P : Pointee → Type 0) (held : Held) (row : ℕ) → There P (pointee_at held (ReferenceRow row)) → OwnRow P held row
-own_row P held row there = at (slice_get held.references.rows row) refl there
+pub own_row : (P : Pointee → Type 0) (held : Held) (row : ℕ) → ((class : ClassId) → P (OfStub class) → ⊥) → There P (pointee_at held (ReferenceRow row)) → OwnRow P held row
+own_row P held row none there = of (remote_row P held row there)
   where
     to : (reference : Ref) → slice_get held.references.rows row ≡ Some reference → (b : Bool) → is_own held.references reference ≡ b
-        → There P (if b then Some (OfSpace reference.class) else None) → OwnRow P held row
-    to reference is true own there = record { reference = reference; is = is; own = own; fits = there }
-    to reference is false own there = absurd there
+        → P (if b then OfSpace reference.class else OfStub reference.class) → OwnRow P held row
+    to reference is true own fits = record { reference = reference; is = is; own = own; fits = fits }
+    to reference is false own fits = absurd (none reference.class fits)
 
-    at : (o : Option Ref) → slice_get held.references.rows row ≡ o → There P (option_and_then (own_pointee held.references) o) → OwnRow P held row
-    at None is there = absurd there
-    at (Some reference) is there = to reference is (is_own held.references reference) refl there
+    of : RemoteRow P held row → OwnRow P held row
+    of r = to r.reference r.is (is_own held.references r.reference) refl r.fits
 
 -- no array is a remote object
 pub no_array_away : (held : Held) (row : ℕ) → There IsInts (pointee_at held (ReferenceRow row)) → ⊥
-no_array_away held row there = (own_row IsInts held row there).fits
+no_array_away held row there = (own_row IsInts held row (λ class is. is) there).fits
 
 -- an object of its site
 pub at_site : (P : Pointee → Type 0) (held : Held) (site : Site) → There P (pointee_at held site) → Points P held (object_at site)
@@ -154,6 +166,7 @@ module _ (w : World) (owed : Owed w) where
   Ints-are (OfHeap (Object d fs)) is = absurd is
   Ints-are (OfHeap (Ints is)) is' = (owed.object, inr (itself w.object), tt)
   Ints-are (OfSpace class) is = absurd is
+  Ints-are (OfStub class) is = absurd is
 
   -- a value of a type is of each type to which the type is assignable
   pub Fits-assignable : (held : Held) (k : Marks) (s t : VType) (v : Tagged) → IsAssignable w.classes s t → Fits w held k s v → Fits w held k t v

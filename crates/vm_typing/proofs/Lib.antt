@@ -12,3 +12,4 @@ pub mod Runs
 pub mod Example
 pub mod Uses
 pub mod Sets
+pub mod Stubs

@@ -1,14 +1,16 @@
 -- What is asked of the object below other operands: calls of methods that its class selects, casts, and athrow.
-use Rattle.std.proofs.Common.{◌≡◌, ℕ, ◌+◌, ◌<◌, Bool, true, false, List, [], ◌∷◌, ◌++◌, length, reverse, refl, ap, sym, subst, ◌∙◌, Option, Some, None}
+use Rattle.std.proofs.Common.{◌≡◌, ℕ, ◌+◌, ◌<◌, Bool, true, false, List, [], ◌∷◌, ◌++◌, length, reverse, refl, ap, sym, subst, ◌∙◌, Option, Some, None, inl, inr, ◌⊎◌}
 use Rattle.std.specs.Prelude.{pos, slice_get, option_map, if◌then◌else◌}
 use Rattle.std.proofs.lemmas.List.{reverse-append, length-reverse}
 use Rattle.space_ids.specs.declared.ids.ClassId.{ClassId}
+use Rattle.space_ids.specs.declared.ids.Ref.{Ref}
 use Rattle.ver_frames.specs.Frames.{Frame}
 use Rattle.ver_frames.specs.Assignable.{IsAssignable, IsObjectAssignable}
 use Rattle.ver_frames.specs.declared.vtype.VType.{VType}
 use Rattle.ver_frames.specs.declared.vtype.VType.TheVariants as vtype
 use Rattle.vm_heap.specs.Tagged.{Tagged, Site, Int, Null, Local, Remote, Fresh, This, Unset, Head}
 use Rattle.vm_heap.specs.Heap.{Cell, Object, Ints, cell_at}
+use Rattle.vm_heap.specs.References.{is_own}
 use Rattle.vm_act.specs.Next.{Next}
 use Rattle.vm_act.specs.Steps.{push, with_operands, go_on}
 use Rattle.vm_act.specs.Objects.{referent_of, on_referent, cast, answer, throw}
@@ -19,11 +21,12 @@ use Rattle.vm_act.specs.declared.calls.Selected.TheVariants as selected
 use Rattle.vm_act.specs.declared.objects.Referent.{Referent}
 use Rattle.vm_act.specs.declared.objects.Referent.TheVariants as referent
 use Rattle.vm_typing.specs.World.{World, IsKnown, Enters}
-use Rattle.vm_typing.specs.Fits.{Held, OfHeap, held_by, IsA, IsInts, IsNull, There, Points, Marks, Fits, AllFit}
+use Rattle.vm_typing.specs.Fits.{Held, OfHeap, OfSpace, OfStub, held_by, IsA, IsInts, IsNull, There, Points, Marks, Fits, AllFit}
 use Rattle.vm_typing.specs.Typed.{with_result, HasRoom, IsAt, IsTyped, marks_of}
+use Rattle.vm_typing.specs.Asking.{IsForeignObject}
 use Rattle.vm_typing.specs.Owed.{Owed, Selects, Passes, Refers, IsOne, CastFits}
 use Rattle.vm_typing.specs.Leads.{LeadsTo}
-use Rattle.vm_typing.proofs.Leads.{own_row, no_array_away, Fits-assignable, length-AllZip, pop-leads, push-leads, go_on-leads}
+use Rattle.vm_typing.proofs.Leads.{RemoteRow, remote_row, no_array_away, Fits-assignable, length-AllZip, pop-leads, push-leads, go_on-leads}
 use Rattle.vm_typing.proofs.Turns.{popped, get_front, more_front}
 use Rattle.vm_typing.proofs.Calls.{reversed, on_left, passed-leads, waits_for}
 
@@ -35,9 +38,11 @@ record Found (w : World) (held : Held) (t : VType) (v : Tagged) : Type 0 where
   -- and it is of each class that this one may stand for
   above : (c : ClassId) → CastFits w (vtype.Object c) stands → Points (IsA w c) held v
   ints : CastFits w vtype.IntArray stands → Points IsInts held v
+  -- a stub is one of an object of another space
+  away : (reference : Ref) → stands ≡ referent.Stub reference → IsForeignObject w held.references reference
 
 found_object : (w : World) (held : Held) (class : ClassId) (v : Tagged) → Points (IsA w class) held v → Found w held (vtype.Object class) v
-found_object w held class Null fit = record { stands = referent.Null; is = refl; one = tt; above = λ c fits. tt; ints = λ fits. tt }
+found_object w held class Null fit = record { stands = referent.Null; is = refl; one = tt; above = λ c fits. tt; ints = λ fits. tt; away = λ reference e. absurd (cc) }
 found_object w held class (Local a) fit = at (cell_at held.cells a) refl fit
   where
     at : (o : Option Cell) → cell_at held.cells a ≡ o → There (IsA w class) (option_map (λ cell. OfHeap cell) o) → Found w held (vtype.Object class) (Local a)
@@ -48,6 +53,7 @@ found_object w held class (Local a) fit = at (cell_at held.cells a) refl fit
       one = (there.0, there.1);
       above = λ c fits. rw e (fits.0, fits.1, tt);
       ints = λ fits. absurd fits;
+      away = λ reference e. absurd (cc);
     }
     at (Some (Ints elements)) e there = record {
       stands = referent.Ints;
@@ -55,16 +61,31 @@ found_object w held class (Local a) fit = at (cell_at held.cells a) refl fit
       one = (there.0, there.1);
       above = λ c fits. rw e (fits.0, fits.1, tt);
       ints = λ fits. rw e tt;
+      away = λ reference e. absurd (cc);
     }
-found_object w held class (Remote row) fit =
-    let r = own_row (IsA w class) held row fit in
-    record {
-      stands = referent.Object r.reference.class;
-      is = rw (r.is, r.own) refl;
-      one = (r.fits.0, r.fits.1);
-      above = λ c fits. rw (r.is, r.own) (fits.0, fits.1, r.fits.2);
-      ints = λ fits. absurd fits;
+found_object w held class (Remote row) fit = of (remote_row (IsA w class) held row fit)
+  where
+    by : (reference : Ref) → slice_get held.references.rows row ≡ Some reference → (b : Bool) → is_own held.references reference ≡ b
+        → IsA w class (if b then OfSpace reference.class else OfStub reference.class) → Found w held (vtype.Object class) (Remote row)
+    by reference is true own fits = record {
+      stands = referent.Object reference.class;
+      is = rw (is, own) refl;
+      one = (fits.0, fits.1);
+      above = λ c casts. rw (is, own) (casts.0, casts.1, fits.2);
+      ints = λ casts. absurd casts;
+      away = λ other e. absurd (cc);
     }
+    by reference is false own fits = record {
+      stands = referent.Stub reference;
+      is = rw (is, own) refl;
+      one = (fits.0, fits.1);
+      above = λ c casts. rw (is, own) (casts.0, casts.1, fits.2);
+      ints = λ casts. absurd casts;
+      away = λ other e. let same : reference ≡ other = cc in subst (λ (r : Ref). IsForeignObject w held.references r) same (own, fits.2.0, fits.2.1);
+    }
+
+    of : RemoteRow (IsA w class) held row → Found w held (vtype.Object class) (Remote row)
+    of r = by r.reference r.is (is_own held.references r.reference) refl r.fits
 found_object w held class (Int n) fit = absurd fit
 found_object w held class (Fresh index site) fit = absurd fit
 found_object w held class (This site) fit = absurd fit
@@ -72,7 +93,7 @@ found_object w held class Unset fit = absurd fit
 found_object w held class (Head header) fit = absurd fit
 
 found_ints : (w : World) (held : Held) (v : Tagged) → Points IsInts held v → Found w held vtype.IntArray v
-found_ints w held Null fit = record { stands = referent.Null; is = refl; one = tt; above = λ c fits. tt; ints = λ fits. tt }
+found_ints w held Null fit = record { stands = referent.Null; is = refl; one = tt; above = λ c fits. tt; ints = λ fits. tt; away = λ reference e. absurd (cc) }
 found_ints w held (Local a) fit = at (cell_at held.cells a) refl fit
   where
     at : (o : Option Cell) → cell_at held.cells a ≡ o → There IsInts (option_map (λ cell. OfHeap cell) o) → Found w held vtype.IntArray (Local a)
@@ -84,6 +105,7 @@ found_ints w held (Local a) fit = at (cell_at held.cells a) refl fit
       one = tt;
       above = λ c fits. rw e (fits.0, fits.1, tt);
       ints = λ fits. rw e tt;
+      away = λ reference e. absurd (cc);
     }
 found_ints w held (Remote row) fit = absurd (no_array_away held row fit)
 found_ints w held (Int n) fit = absurd fit
@@ -93,7 +115,7 @@ found_ints w held Unset fit = absurd fit
 found_ints w held (Head header) fit = absurd fit
 
 found_null : (w : World) (held : Held) (v : Tagged) → IsNull v → Found w held vtype.Null v
-found_null w held Null fit = record { stands = referent.Null; is = refl; one = tt; above = λ c fits. tt; ints = λ fits. tt }
+found_null w held Null fit = record { stands = referent.Null; is = refl; one = tt; above = λ c fits. tt; ints = λ fits. tt; away = λ reference e. absurd (cc) }
 found_null w held v fit = absurd fit
 
 found : (w : World) (held : Held) (k : Marks) (t : VType) (v : Tagged) → Refers t → Fits w held k t v → Found w held t v
@@ -140,17 +162,19 @@ module _ (w : World) (owed : Owed w) (asked : Option VType) (held : Held) where
     get_at n operands passed left v whole long = rw (whole, ← long) (get_front passed left v)
 
     -- A call on a receiver that stands for a class and lies below the arguments: invokevirtual, invokeinterface, and invokespecial of what
-    -- is no `<init>`. An object runs the method that its class selects, an array the one that java/lang/Object selects; what null leads to,
-    -- the caller says.
+    -- is no `<init>`. An object runs the method that its class selects, an array the one that java/lang/Object selects, and so does a stub, or it
+    -- does what the caller says; what null leads to, the caller says too.
     pub receiver-leads : (class : ClassId) (arguments : List VType) (result : Option VType) (next : Referent → Machine → Next) (f : Frame) (below : List VType) (m : Machine)
         → Passes w (reverse arguments) f.stack (vtype.Object class ∷ below)
         → Leads (next referent.Null m)
         → ((b : ClassId) → IsKnown w b → IsObjectAssignable w.classes b class → (s : Selected) × (Selects w b arguments result s × (next (referent.Object b) m ≡ invoke s m)))
         → (IsObjectAssignable w.classes w.object class → (s : Selected) × (Selects w w.object arguments result s × (next referent.Ints m ≡ invoke s m)))
+        → ((reference : Ref) → IsForeignObject w m.references reference → IsObjectAssignable w.classes w.object class
+        → ((s : Selected) × (Selects w w.object arguments result s × (next (referent.Stub reference) m ≡ invoke s m))) ⊎ Leads (next (referent.Stub reference) m))
         → HasRoom (w.method m.stack.frame.method).max_stack result (record f { stack = below })
         → Enters w m.stack.frame.method (m.stack.frame.index + 1) (with_result result (record f { stack = below }))
         → Here f m → Leads (on_referent (length arguments) next m)
-    receiver-leads class arguments result next f below m passes null object ints room enters at =
+    receiver-leads class arguments result next f below m passes null object ints stub room enters at =
         let k : Marks = marks m in
         let off = popped w owed (held_by m) k passes.given (reverse arguments) (vtype.Object class ∷ below) m.stack.frame.operands passes.to (rw (← passes.whole) at.frame.operands) in
         let top = on_left (Fits w (held_by m) k) (vtype.Object class) below off.left off.rest in
@@ -159,17 +183,23 @@ module _ (w : World) (owed : Owed w) (asked : Option VType) (held : Held) where
         let long : length off.passed ≡ length arguments = sym (length-reverse off.passed) ∙ length-AllZip (Fits w (held_by m) k) arguments (reverse off.passed) fit in
         let there : slice_get m.stack.frame.operands (length arguments) ≡ Some top.0 = get_at (length arguments) m.stack.frame.operands off.passed top.1.0 top.0 whole long in
         let one : Found w (held_by m) (vtype.Object class) top.0 = found w (held_by m) k (vtype.Object class) top.0 tt top.1.1.1.0 in
-        rw (there, one.is) (by off.passed top.1.0 top.0 one.stands one.one one.above whole fit top.1.1.1.1)
+        rw (there, one.is) (by off.passed top.1.0 top.0 one.stands one.one one.above one.away whole fit top.1.1.1.1)
       where
         by : (passed left : List Tagged) (v : Tagged) (r : Referent) → IsOne w (vtype.Object class) r → ((c : ClassId) → CastFits w (vtype.Object c) r → Points (IsA w c) (held_by m) v)
+            → ((reference : Ref) → r ≡ referent.Stub reference → IsForeignObject w m.references reference)
             → m.stack.frame.operands ≡ passed ++ v ∷ left → AllFit w (held_by m) (marks m) arguments (reverse passed) → AllFit w (held_by m) (marks m) below left → Leads (next r m)
-        by passed left v referent.Null one above whole fit rest = null
-        by passed left v (referent.Object b) one above whole fit rest =
+        by passed left v referent.Null one above away whole fit rest = null
+        by passed left v (referent.Object b) one above away whole fit rest =
             let sel = object b one.0 one.1 in
             rw sel.1.1 (selected-leads b arguments result sel.0 m f below passed left v at sel.1.0 (λ owner is. above owner (one.0, is)) whole fit rest room enters)
-        by passed left v referent.Ints one above whole fit rest =
+        by passed left v referent.Ints one above away whole fit rest =
             let sel = ints one.1 in
             rw sel.1.1 (selected-leads w.object arguments result sel.0 m f below passed left v at sel.1.0 (λ owner is. above owner (one.0, is)) whole fit rest room enters)
+        by passed left v (referent.Stub reference) one above away whole fit rest =
+            elim (stub reference (away reference refl) one.1) [
+              | inl sel ↦ rw sel.1.1 (selected-leads w.object arguments result sel.0 m f below passed left v at sel.1.0 (λ owner is. above owner (one.0, is)) whole fit rest room enters)
+              | inr leads ↦ leads
+            ]
 
     -- what is on top stands for what its type says
     on_top-leads : (s : VType) (types : List VType) (next : Referent → Machine → Next) (f : Frame) (m : Machine) → f.stack ≡ s ∷ types → Refers s
@@ -240,6 +270,7 @@ module _ (w : World) (owed : Owed w) (asked : Option VType) (held : Held) where
         thrown_one referent.Null one = tt
         thrown_one (referent.Object b) one = one.0
         thrown_one referent.Ints one = absurd (none one.1)
+        thrown_one (referent.Stub reference) one = absurd (none one.1)
 
         by : (v : Tagged) (r : Referent) → (one : Found w (held_by m) (vtype.Object class) v) → referent_of m.references m.heap.cells v ≡ Some r → Leads (throw r m)
         by v r one is =

@@ -23,7 +23,7 @@ use Rattle.vm_typing.specs.Fits.{Held, held_by, IsA, IsInts, There, Points, Mark
 use Rattle.vm_typing.specs.Typed.{Waits, CallersWait, IsAt, IsTyped, marks_of}
 use Rattle.vm_typing.specs.Owed.{Owed, Moves}
 use Rattle.vm_typing.specs.Leads.{LeadsTo, IsGiven, reference_to}
-use Rattle.vm_typing.proofs.Leads.{own_row, no_array_away, plain_fits, FitsFrame-assignable, pop_typed-leads, pop_int-leads, push-leads}
+use Rattle.vm_typing.proofs.Leads.{remote_row, no_array_away, plain_fits, FitsFrame-assignable, pop_typed-leads, pop_int-leads, push-leads}
 
 module _ (w : World) (owed : Owed w) (asked : Option VType) where
   abbrev Typed : Machine → Type 0
@@ -96,10 +96,10 @@ module _ (w : World) (owed : Owed w) (asked : Option VType) where
     on_object class m (Local a) plain fits go = go (ending.ReturnedReference (Some a)) (given_reference (held_by m) (marks m) (vtype.Object class) (Some a) plain fits)
     on_object class m (Int n) plain fits go = absurd fits
     on_object class m (Remote row) plain fits go =
-        let r = own_row (IsA w class) (held_by m) row fits in
+        let r = remote_row (IsA w class) (held_by m) row fits in
         subst (λ (o : Option Ref). LeadsTo w asked (held_by m) Typed (on_some (λ reference. leave (push (Remote row) On) (ending.ReturnedRemote reference) m) o)) (sym r.is)
         (go (ending.ReturnedRemote r.reference)
-        (λ is. subst (λ (a : Option VType). There (λ t. ValueFits w m.references t (field.Reference r.reference)) a) is (r.own, r.fits)))
+        (λ is. subst (λ (a : Option VType). There (λ t. ValueFits w m.references t (field.Reference r.reference)) a) is r.fits))
     on_object class m (Fresh index site) plain fits go = absurd fits
     on_object class m (This site) plain fits go = absurd fits
     on_object class m Unset plain fits go = absurd fits

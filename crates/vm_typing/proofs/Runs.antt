@@ -65,7 +65,7 @@ module _ (w : World) (asked : Option VType) (step : Machine → Next) (keeps : K
   one_move (Steps n) next sound fits = further n next sound
   one_move (Replied given) (On m) sound fits = absurd fits
   one_move (Replied given) (Ends ending) sound fits = absurd fits
-  one_move (Replied given) (Asks op m) sound fits = completed m (answered given m) (sound.completes given fits)
+  one_move (Replied given) (Asks op m) sound fits = completed m (answered op given m) (sound.completes given fits)
   one_move (Replied given) Stuck sound fits = absurd fits
 
   plays : (moves : List Move) (next : Next) → IsSound w asked next → MovesFit w step moves next → IsSound w asked (played step moves next)

@@ -132,6 +132,8 @@ world = record {
   fields = λ class. fields_from class.0;
   has_code = has_code;
   method = methods;
+  takes = λ number. [];
+  gives = λ number. None;
 }
 
 abbrev pub main_callee : Callee

@@ -1,5 +1,5 @@
 -- When a value is of a type, over what its task holds: "each value is of the type in its place" (JVMS 4.10.1.2 for the types).
-use Rattle.std.specs.Prelude.{◌≡◌, ℕ, false, if◌then◌else◌, Option, Some, None, List, [], ◌∷◌, slice_get, option_map, option_and_then}
+use Rattle.std.specs.Prelude.{◌≡◌, ℕ, false, if◌then◌else◌, Option, Some, None, List, [], ◌∷◌, slice_get, option_map}
 use Rattle.std.specs.List.{AllZip}
 use Rattle.space_ids.specs.declared.ids.ClassId.{ClassId}
 use Rattle.space_ids.specs.declared.ids.Ref.{Ref}
@@ -24,29 +24,33 @@ held_in heap references = record { cells = heap.cells; references = references }
 abbrev pub held_by : Machine → Held
 held_by m = held_in m.heap m.references
 
--- what a reference may stand for: an object or an array of the heap, or a remote object of the task's own space, of which the class is known
+-- what a reference may stand for: an object or an array of the heap, a remote object of the task's own space, or a stub of an object of
+-- another one. Of remote objects the class is known
 pub data Pointee : Type 0 where
   OfHeap : Cell → Pointee
   OfSpace : ClassId → Pointee
+  OfStub : ClassId → Pointee
 
-abbrev pub own_pointee : Table → Ref → Option Pointee
-own_pointee table reference = if is_own table reference then Some (OfSpace reference.class) else None
+abbrev pub remote_pointee : Table → Ref → Pointee
+remote_pointee table reference = if is_own table reference then OfSpace reference.class else OfStub reference.class
 
 -- what stands at a site
 abbrev pub pointee_at : Held → Site → Option Pointee
 pointee_at held (HeapAddress address) = option_map (λ cell. OfHeap cell) (cell_at held.cells address)
-pointee_at held (ReferenceRow row) = option_and_then (own_pointee held.references) (slice_get held.references.rows row)
+pointee_at held (ReferenceRow row) = option_map (remote_pointee held.references) (slice_get held.references.rows row)
 
--- the class of an object; an array is used as an object of java/lang/Object
+-- the class of an object; an array and a stub are used as objects of java/lang/Object
 abbrev pub class_in : World → Pointee → ClassId
 class_in w (OfHeap (Object class fields)) = class
 class_in w (OfHeap (Ints elements)) = w.object
 class_in w (OfSpace class) = class
+class_in w (OfStub class) = w.object
 
--- objects of the space are those of remote classes
+-- remote objects are those of remote classes
 abbrev pub IsPlaced : World → Pointee → Type 0
 IsPlaced w (OfHeap cell) = Unit {0}
 IsPlaced w (OfSpace class) = IsRemote w.classes class
+IsPlaced w (OfStub class) = IsKnown w class × IsRemote w.classes class
 
 -- what may stand for an object of a class
 abbrev pub IsA : World → ClassId → Pointee → Type 0
@@ -58,11 +62,13 @@ abbrev pub IsOf : World → ClassId → Pointee → Type 0
 IsOf w class (OfHeap (Object c fields)) = (c ≡ class) × IsKnown w c
 IsOf w class (OfHeap (Ints elements)) = ⊥
 IsOf w class (OfSpace c) = (c ≡ class) × IsKnown w c × IsRemote w.classes c
+IsOf w class (OfStub c) = ⊥
 
 abbrev pub IsInts : Pointee → Type 0
 IsInts (OfHeap (Object class fields)) = ⊥
 IsInts (OfHeap (Ints elements)) = Unit {0}
 IsInts (OfSpace class) = ⊥
+IsInts (OfStub class) = ⊥
 
 -- there is one, and it has the property
 abbrev pub There : {A : Type 0} → (A → Type 0) → Option A → Type 0

@@ -1,8 +1,9 @@
 -- What a step of a typed machine leads to (JVMS 4.10.1.9, 6.5), for each instruction on which frames, heap or callers depend: the laws from
 -- which the rows of an interpreter follow. `asked` is the type of the task's result; an ending is told over what is `held`.
-use Rattle.std.specs.Prelude.{◌≡◌, ℕ, ◌+◌, ◌<◌, Bool, true, false, not, ℤ, Option, Some, None, List, ◌∷◌, length, map, reverse, slice_get, slice_set}
+use Rattle.std.specs.Prelude.{◌≡◌, ℕ, ◌⊎◌, ◌+◌, ◌<◌, Bool, true, false, not, ℤ, Option, Some, None, List, ◌∷◌, length, map, reverse, slice_get, slice_set}
 use Rattle.std.specs.List.{AllZip, AllByRecursion, list_all}
 use Rattle.space_ids.specs.declared.ids.ClassId.{ClassId}
+use Rattle.space_ids.specs.declared.ids.Ref.{Ref}
 use Rattle.cls_set.specs.Subtypes.{IsRemote}
 use Rattle.ver_frames.specs.Frames.{Frame}
 use Rattle.ver_frames.specs.Assignable.{IsAssignable, IsObjectAssignable}
@@ -16,7 +17,7 @@ use Rattle.vm_heap.specs.Tagged.{Site, Int}
 use Rattle.vm_act.specs.Steps.{pop_int, push, go_on, jump, branch}
 use Rattle.vm_act.specs.Words.{constant, null, load, store_top, increment, pop_one, pop_two, dup, dup_x1, dup_x2, dup2, dup2_x1, dup2_x2, swap, if_same, if_null}
 use Rattle.vm_act.specs.Switches.{table_switch, lookup_switch}
-use Rattle.vm_act.specs.Remote.{create, read_field, write_field}
+use Rattle.vm_act.specs.Remote.{ask_call, create, read_field, write_field}
 use Rattle.vm_act.specs.Objects.{new_object, referent_at, on_referent, cast, answer, throw}
 use Rattle.vm_act.specs.Arrays.{new_array, array_load, array_store, array_length}
 use Rattle.vm_act.specs.Calls.{call, construct, invoke, return_int, return_reference, return_nothing}
@@ -30,8 +31,9 @@ use Rattle.vm_act.specs.declared.objects.Referent.{Referent}
 use Rattle.vm_act.specs.declared.objects.Referent.TheVariants as referent
 use Rattle.vm_typing.specs.World.{World, IsKnown, Enters, is_made_at, cleared, made_is, this_is}
 use Rattle.vm_typing.specs.Fits.{Held, held_by}
-use Rattle.vm_typing.specs.Typed.{with_result, HasRoom, IsAt, IsTyped}
-use Rattle.vm_typing.specs.Owed.{HasKind, IsCallee, Selects, Passes, Moves, MayWrite, Refers, IsOne, CastFits}
+use Rattle.vm_typing.specs.Asking.{IsForeignObject}
+use Rattle.vm_typing.specs.Typed.{with_result, HasDepth, HasRoom, IsAt, IsTyped}
+use Rattle.vm_typing.specs.Owed.{HasKind, IsCallee, Selects, Passes, Moves, MayWrite, Refers, IsOne, CastFits, Takes}
 use Rattle.vm_typing.specs.Leads.{LeadsTo, IsGiven}
 
 -- a step of a typed machine leads to a typed machine, or to one that waits for a reply, or ends its task with what it may give
@@ -206,13 +208,15 @@ pub record CallsLead (w : World) (asked : Option VType) (held : Held) (fresh : �
 -- What is asked of the object on top or below the arguments
 pub record ReferentsLead (w : World) (asked : Option VType) (held : Held) (fresh : ℕ → Site) (receiver : Site) : Type 0 where
   -- A call on a receiver that stands for a class and lies below the arguments: invokevirtual, invokeinterface, and invokespecial of what is
-  -- no `<init>`. An object runs the method that its class selects, an array the one that java/lang/Object selects; what null leads to, the
-  -- caller says.
+  -- no `<init>`. An object runs the method that its class selects, an array the one that java/lang/Object selects, and so does a stub, or it does
+  -- what the caller says; what null leads to, the caller says too.
   pub on_receiver : (class : ClassId) (arguments : List VType) (result : Option VType) (next : Referent → Machine → Next) (f : Frame) (below : List VType) (m : Machine)
       → Passes w (reverse arguments) f.stack (vtype.Object class ∷ below)
       → Leads w asked held (next referent.Null m)
       → ((b : ClassId) → IsKnown w b → IsObjectAssignable w.classes b class → (s : Selected) × (Selects w b arguments result s × (next (referent.Object b) m ≡ invoke s m)))
       → (IsObjectAssignable w.classes w.object class → (s : Selected) × (Selects w w.object arguments result s × (next referent.Ints m ≡ invoke s m)))
+      → ((reference : Ref) → IsForeignObject w m.references reference → IsObjectAssignable w.classes w.object class
+      → ((s : Selected) × (Selects w w.object arguments result s × (next (referent.Stub reference) m ≡ invoke s m))) ⊎ Leads w asked held (next (referent.Stub reference) m))
       → HasRoom (w.method m.stack.frame.method).max_stack result (record f { stack = below })
       → Enters w m.stack.frame.method (m.stack.frame.index + 1) (with_result result (record f { stack = below }))
       → IsAt w asked fresh receiver f m → Leads w asked held (on_referent (length arguments) next m)
@@ -231,6 +235,17 @@ pub record ReferentsLead (w : World) (asked : Option VType) (held : Held) (fresh
   pub throw : (class : ClassId) (s : VType) (types : List VType) (f : Frame) (m : Machine) → f.stack ≡ s ∷ types → Refers s
       → IsAssignable w.classes s (vtype.Object class)
       → ¬ IsObjectAssignable w.classes w.object class → IsAt w asked fresh receiver f m → Leads w asked held (on_referent 0 throw m)
+
+-- A call of a stub, by the number of a method whose parameters take values of these types: the task's space is asked for it, if its arguments
+-- cross
+pub record StubsLead (w : World) (asked : Option VType) (held : Held) (fresh : ℕ → Site) (receiver : Site) : Type 0 where
+  pub ask_call : (target : Ref) (method : ℕ) (class : ClassId) (arguments : List VType) (result : Option VType) (f : Frame) (below : List VType) (m : Machine)
+      → IsForeignObject w m.references target → AllZip Takes (w.takes method) arguments → w.gives method ≡ result
+      → Passes w (reverse arguments) f.stack (vtype.Object class ∷ below)
+      → HasDepth w m.stack.frame.method (length m.stack.frame.operands)
+      → HasRoom (w.method m.stack.frame.method).max_stack result (record f { stack = below })
+      → Enters w m.stack.frame.method (m.stack.frame.index + 1) (with_result result (record f { stack = below }))
+      → IsAt w asked fresh receiver f m → Leads w asked held (ask_call target method (w.takes method) m)
 
 -- Returns: a task ends with what the method that was started declares, over what it holds
 pub record ReturnsLead (w : World) (asked : Option VType) (fresh : ℕ → Site) (receiver : Site) : Type 0 where

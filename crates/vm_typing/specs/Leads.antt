@@ -14,7 +14,7 @@ use Rattle.vm_act.specs.declared.ending.Ending.{Ending}
 use Rattle.vm_act.specs.declared.ending.Ending.TheVariants as ending
 use Rattle.vm_typing.specs.World.{World, IsKnown}
 use Rattle.vm_typing.specs.Fits.{Held, Fits, There, held_by, no_marks}
-use Rattle.vm_typing.specs.Asking.{AskedFits, ReplyFits, ValueFits}
+use Rattle.vm_typing.specs.Asking.{AskedFits, CallCrosses, ReplyFits, ValueFits}
 use Rattle.vm_typing.specs.Typed.{StandsBefore}
 
 -- null, or the object or array at an address
@@ -31,6 +31,7 @@ IsGiven w asked held (ending.ReturnedReference address) = There (λ t. Fits w he
 IsGiven w asked held (ending.ReturnedRemote reference) = There (λ t. ValueFits w held.references t (field.Reference reference)) asked
 IsGiven w asked held (ending.Threw thrown) = Unit {0}
 IsGiven w asked held (ending.ThrewObject class) = IsKnown w class
+IsGiven w asked held ending.Spent = Unit {0}
 
 -- what the reply to what was asked leads to: nothing more is asked
 abbrev pub Completes : World → Option VType → Held → (Machine → Type 0) → Next → Type 0
@@ -39,12 +40,13 @@ Completes w asked held P (Ends ending) = IsGiven w asked held ending
 Completes w asked held P (Asks op m) = ⊥
 Completes w asked held P Stuck = ⊥
 
--- A machine waits for a reply: what it asks is of typed words, it stands before the next instruction, and with each reply that fits it goes
--- on with the property, or ends its task with what is given
+-- A machine waits for a reply: what it asks is of typed words, the arguments of a call cross, it stands before the next instruction, and with
+-- each reply that fits it goes on with the property, or ends its task with what is given
 pub record IsWaiting (w : World) (asked : Option VType) (P : Machine → Type 0) (op : Asked) (m : Machine) : Type 0 where
   pub fits : AskedFits w m.references op
+  pub call : CallCrosses w op m
   pub before : StandsBefore w asked m
-  pub completes : (given : Reply) → ReplyFits w m.references op given → Completes w asked (held_by m) P (answered given m)
+  pub completes : (given : Reply) → ReplyFits w m.references op given → Completes w asked (held_by m) P (answered op given m)
 
 -- a step is not stuck: what it goes on with has the property, what it asks for is waited for, and what it ends with is given
 abbrev pub LeadsTo : World → Option VType → Held → (Machine → Type 0) → Next → Type 0

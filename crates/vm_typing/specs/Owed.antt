@@ -7,6 +7,8 @@ use Rattle.ver_frames.specs.declared.vtype.VType.{VType}
 use Rattle.ver_frames.specs.declared.vtype.VType.TheVariants as vtype
 use Rattle.vm_heap.specs.declared.heap.WordKind.{WordKind}
 use Rattle.vm_heap.specs.declared.heap.WordKind.TheVariants as kind
+use Rattle.vm_act.specs.declared.crossing.Parameter.{Parameter}
+use Rattle.vm_act.specs.declared.crossing.Parameter.TheVariants as parameter
 use Rattle.vm_act.specs.declared.calls.Callee.{Callee}
 use Rattle.vm_act.specs.declared.calls.Selected.{Selected}
 use Rattle.vm_act.specs.declared.calls.Selected.TheVariants as selected
@@ -87,6 +89,13 @@ Moves kind.Reference (vtype.Uninitialized offset) = Unit {0}
 Moves kind.Reference vtype.UninitializedThis = Unit {0}
 Moves k t = ⊥
 
+-- a parameter of a type, in a call of a stub
+abbrev pub Takes : Parameter → VType → Type 0
+Takes parameter.Int vtype.Int = Unit {0}
+Takes parameter.Ints vtype.IntArray = Unit {0}
+Takes parameter.Reference (vtype.Object class) = Unit {0}
+Takes p t = ⊥
+
 -- putfield may write a field of the class into an object of a type: one that may stand for the class, or the receiver of an `<init>` of
 -- the class itself, before it calls another one (JVMS 4.10.1.9, putfield)
 abbrev pub MayWrite : World → ClassId → ClassId → VType → Type 0
@@ -108,11 +117,12 @@ Refers vtype.IntArray = Unit {0}
 Refers (vtype.Uninitialized offset) = ⊥
 Refers vtype.UninitializedThis = ⊥
 
--- what a reference of a type stands for may stand for the type; an array is used as an object of java/lang/Object
+-- what a reference of a type stands for may stand for the type; an array and a stub are used as objects of java/lang/Object
 abbrev pub IsOne : World → VType → Referent → Type 0
 IsOne w t referent.Null = Unit {0}
 IsOne w (vtype.Object class) (referent.Object b) = IsKnown w b × IsObjectAssignable w.classes b class
 IsOne w (vtype.Object class) referent.Ints = IsKnown w w.object × IsObjectAssignable w.classes w.object class
+IsOne w (vtype.Object class) (referent.Stub reference) = IsKnown w w.object × IsObjectAssignable w.classes w.object class
 IsOne w vtype.IntArray referent.Ints = Unit {0}
 IsOne w t r = ⊥
 
@@ -121,9 +131,11 @@ abbrev pub CastFits : World → VType → Referent → Type 0
 CastFits w (vtype.Object class) referent.Null = Unit {0}
 CastFits w (vtype.Object class) (referent.Object b) = IsKnown w b × IsObjectAssignable w.classes b class
 CastFits w (vtype.Object class) referent.Ints = IsKnown w w.object × IsObjectAssignable w.classes w.object class
+CastFits w (vtype.Object class) (referent.Stub reference) = IsKnown w w.object × IsObjectAssignable w.classes w.object class
 CastFits w vtype.IntArray referent.Null = Unit {0}
 CastFits w vtype.IntArray (referent.Object b) = ⊥
 CastFits w vtype.IntArray referent.Ints = Unit {0}
+CastFits w vtype.IntArray (referent.Stub reference) = ⊥
 CastFits w t r = ⊥
 
 -- what every class set gives of what is owed: java/lang/Object is above each class, and standing for a class is transitive

@@ -74,7 +74,7 @@ pub data Move : Type 0 where
 abbrev pub replied : Reply → Next → Next
 replied given (On m) = Stuck
 replied given (Ends ending) = Stuck
-replied given (Asks op m) = answered given m
+replied given (Asks op m) = answered op given m
 replied given Stuck = Stuck
 
 abbrev pub moved : (Machine → Next) → Move → Next → Next

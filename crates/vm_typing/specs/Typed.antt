@@ -47,14 +47,20 @@ CallersWait w asked held result (frame ∷ []) = result ≡ asked
 CallersWait w asked held result (frame ∷ below ∷ callers) =
     Waits w held result frame × CallersWait w asked held (w.method frame.method).result (below ∷ callers)
 
--- A machine stands before the instruction after the one that it makes: it has as many local variables, and at most as many operands, as the
--- frame that comes in there
+-- so many operands are no more than a method has at one of its instructions
+pub record HasDepth (w : World) (number depth : ℕ) : Type 0 where
+  pub index : ℕ
+  pub inside : index < (w.method number).count
+  pub few : depth ≤ length ((w.method number).frames index).stack
+
+-- A machine stands before the instruction after the one that it makes: it has as many local variables as the frame that comes in there, and no
+-- more operands than its method has somewhere
 pub record StandsBefore (w : World) (asked : Option VType) (m : Machine) : Type 0 where
   pub next : Frame
   pub known : w.has_code m.stack.frame.method ≡ true
   pub enters : Enters w m.stack.frame.method (m.stack.frame.index + 1) next
   pub locals : length m.stack.frame.locals ≡ length next.locals
-  pub operands : length m.stack.frame.operands ≤ length next.stack
+  pub operands : HasDepth w m.stack.frame.method (length m.stack.frame.operands)
   pub callers : CallersWait w asked (held_by m) (w.method m.stack.frame.method).result m.stack.callers
 
 -- a machine whose running frame fits a type frame

@@ -6,6 +6,7 @@ use Rattle.ver_frames.specs.Frames.{Frame}
 use Rattle.ver_frames.specs.Assignable.{IsFrameAssignable}
 use Rattle.ver_frames.specs.declared.vtype.VType.{VType}
 use Rattle.ver_frames.specs.declared.vtype.VType.TheVariants as vtype
+use Rattle.vm_act.specs.declared.crossing.Parameter.{Parameter}
 
 -- a method with code
 pub record MethodType : Type 0 where
@@ -40,6 +41,9 @@ pub record World : Type 0 where
   -- whether the method of a number has code
   pub has_code : ℕ → Bool
   pub method : ℕ → MethodType
+  -- what the method of a number takes and gives when it is called on a stub, whether it has code or not
+  pub takes : ℕ → List Parameter
+  pub gives : ℕ → Option VType
 
 -- a class of the set
 abbrev pub IsKnown : World → ClassId → Type 0

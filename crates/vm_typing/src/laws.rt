@@ -8,7 +8,7 @@ ghost use Rattle.vm_heap.specs.Tagged.{Site};
 ghost use Rattle.vm_typing.specs.World.{World};
 ghost use Rattle.vm_typing.specs.Fits.{Held};
 ghost use Rattle.vm_typing.specs.Owed.{Owed, SetsGive};
-ghost use Rattle.vm_typing.specs.Laws.{WordsLead, ObjectsLead, CallsLead, ReferentsLead, ReturnsLead, StepsAreMade};
+ghost use Rattle.vm_typing.specs.Laws.{WordsLead, ObjectsLead, CallsLead, ReferentsLead, StubsLead, ReturnsLead, StepsAreMade};
 ghost use Rattle.vm_typing.specs.Runs.{StartsTyped, RunsSound, PlaysSound};
 ghost use Rattle.vm_typing.specs.Example.{world, ExampleIsSound};
 
@@ -34,6 +34,11 @@ pub fn calls_lead()
 /// machine to a typed one, or end the task.
 pub fn referents_lead()
     ensures { (w : World) → Owed w → (asked : Option VType) (held : Held) (fresh : ℕ → Site) (receiver : Site) → ReferentsLead w asked held fresh receiver }
+{}
+
+/// A call of a stub asks the task's space for what crosses, and waits for the reply, or ends the task.
+pub fn stubs_lead()
+    ensures { (w : World) → Owed w → (asked : Option VType) (held : Held) (fresh : ℕ → Site) (receiver : Site) → StubsLead w asked held fresh receiver }
 {}
 
 /// A return leads to the typed machine of a caller that waits, or ends the task with a result of

@@ -21,7 +21,9 @@ use Rattle.ver_frames.specs.declared.vtype.VType.{VType}
 use Rattle.ver_frames.specs.declared.vtype.VType.TheVariants as vtype
 use Rattle.vm_heap.specs.declared.heap.WordKind.{WordKind}
 use Rattle.vm_heap.specs.declared.heap.WordKind.TheVariants as kind
-use Rattle.vm_typing.specs.Owed.{HasKind}
+use Rattle.vm_act.specs.declared.crossing.Parameter.TheVariants as parameter
+use Rattle.vm_code.specs.Parameters.{is_array_element, parameter_of, parameter_with}
+use Rattle.vm_typing.specs.Owed.{HasKind, Takes}
 use Rattle.vm_typing.specs.World.{IsPlain, ArePlain}
 use Rattle.vm_code.specs.Fields.{element_kind, fields_up, fields_of, index_of, is_field_index, kind_of, kinds_of, kinds_up, own_kinds, slot_of}
 use Rattle.vm_world.specs.Files.{own_types, types_of, types_up, AreAsRead}
@@ -50,6 +52,43 @@ module _ (classes : List Class) where
           → HasKind (if a then element_type classes type.element else (if b then vtype.IntArray else vtype.Top)) (if a then element_kind type.element else kind.Reference)
       on true b plain = of_element type.element plain
       on false b plain = array b plain
+
+  -- ---- what parameters take
+
+  named_takes : (o : Option ClassId) → IsPlain (option_map_or vtype.Object o vtype.Top) → Takes parameter.Reference (option_map_or vtype.Object o vtype.Top)
+  named_takes None plain = absurd plain
+  named_takes (Some class) plain = tt
+
+  element_takes : (e : ElementType) → IsPlain (element_type classes e) → Takes (parameter_with false (element_kind e)) (element_type classes e)
+  unfolding element_type
+  element_takes element.Int plain = tt
+  element_takes element.Boolean plain = tt
+  element_takes (element.Class name) plain = named_takes (number_of classes name) plain
+  element_takes e plain = absurd plain
+
+  array_takes : (e : ElementType) → IsPlain (if is_int e then vtype.IntArray else vtype.Top)
+      → Takes (if is_array_element e then parameter.Ints else parameter.Reference) (if is_int e then vtype.IntArray else vtype.Top)
+  array_takes element.Int plain = tt
+  array_takes e plain = absurd plain
+
+  pub takes_type : (type : FieldType) → IsPlain (field_vtype classes type) → Takes (parameter_of type) (field_vtype classes type)
+  unfolding field_vtype
+  takes_type type plain = on (type.dimensions == 0) (type.dimensions == 1) apart plain
+    where
+      apart : (type.dimensions == 0) ≡ true → (type.dimensions == 1) ≡ false
+      apart none = let zero_is : type.dimensions ≡ 0 = eqb-true type.dimensions 0 none in rw zero_is refl
+
+      on : (a b : Bool) → (a ≡ true → b ≡ false) → IsPlain (if a then element_type classes type.element else (if b && is_int type.element then vtype.IntArray else vtype.Top))
+          → Takes (parameter_with (b && is_array_element type.element) (if a then element_kind type.element else kind.Reference))
+          (if a then element_type classes type.element else (if b && is_int type.element then vtype.IntArray else vtype.Top))
+      on true true apart plain = absurd (true_false (apart refl))
+      on true false apart plain = element_takes type.element plain
+      on false true apart plain = array_takes type.element plain
+      on false false apart plain = absurd plain
+
+  pub all_take : (types : List FieldType) → ArePlain (map (field_vtype classes) types) → AllZip Takes (map parameter_of types) (map (field_vtype classes) types)
+  all_take [] plain = tt
+  all_take (type ∷ types) plain = (takes_type type plain.0, all_take types plain.1)
 
   own_held : (fs : List Field) → ArePlain (own_types classes fs) → AllZip HasKind (own_types classes fs) (own_kinds fs)
   unfolding own_types own_kinds

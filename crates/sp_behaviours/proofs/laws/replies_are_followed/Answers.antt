@@ -1,5 +1,5 @@
-use Rattle.sp_behaviours.proofs.Following.{throws-follow, values-follow}
+use Rattle.sp_behaviours.proofs.Following.{lent-left, replies-follow}
 use Rattle.sp_behaviours.proofs.laws.replies_are_followed.Goals as goal
 
 pub returns : goal.returns
-returns c = record { values = values-follow; throws = throws-follow }
+returns c = record { follows = replies-follow; lent = lent-left }

@@ -1,6 +1,6 @@
 use Rattle.std.proofs.Common.{◌≡◌}
 use Rattle.std.specs.Prelude.{filter}
-use Rattle.vm_run.specs.Start.{is_remote_interface}
+use Rattle.vm_code.specs.Classes.{is_remote_interface}
 use Rattle.sp_call_set.proofs.calls.list_remote_interfaces.Given as goal
 use Rattle.sp_call_set.specs.Calls.{first_classes}
 

@@ -4,4 +4,4 @@ use Rattle.vm_run.proofs.start.are_filled.Given as goal
 
 abbrev pub invariant-loop-index : goal.invariant-loop-index
 invariant-loop-index l =
-    fill l.set l.own (drop l.index l.kinds) (drop l.index l.arguments) ≡ fill l.set l.own l.kinds l.arguments
+    fill l.set (drop l.index l.kinds) (drop l.index l.arguments) ≡ fill l.set l.kinds l.arguments

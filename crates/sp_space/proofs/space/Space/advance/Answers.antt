@@ -30,13 +30,19 @@ ask-requires-clause-asks g c =
     (moves-of c.id.result c.args.hand.id (after_run 1) c.args.self.now.machines c.step.new.self c.id.ensures c.in-Ask.ensures.machine)
     (λ task plays. c.in-Ask.ensures.pause task (ap (λ n. machine_at n c.step.new.self) c.id.ensures ∙ plays))).asks
 
+pub ask-requires-clause-store : goal.ask-requires-clause-store
+ask-requires-clause-store g c =
+    (asked-hand c.args.program.now c.requires.known.0 c.requires.known.1 c.args.self.now c.step.new.self c.args.hand c.in-Ask.asked c.requires.known.2 c.requires.fresh
+    (moves-of c.id.result c.args.hand.id (after_run 1) c.args.self.now.machines c.step.new.self c.id.ensures c.in-Ask.ensures.machine)
+    (λ task plays. c.in-Ask.ensures.pause task (ap (λ n. machine_at n c.step.new.self) c.id.ensures ∙ plays))).store
+
 pub returns-in-Ask-clause-steps : goal.returns-in-Ask-clause-steps
 returns-in-Ask-clause-steps g c =
     if-ok-with c.ask.result _ _ _ _ c.ask.ensures.done c.ask.ensures.done c.ask.ensures.outputs (λ outputs done _ none. λ g' h is tells.
     let asked = asked-hand c.args.program.now g' h c.args.self.now c.step.new.self c.args.hand c.in-Ask.asked is c.requires.fresh
     (moves-of c.id.result c.args.hand.id (after_run 1) c.args.self.now.machines c.step.new.self c.id.ensures c.in-Ask.ensures.machine)
     (λ task plays. c.in-Ask.ensures.pause task (ap (λ n. machine_at n c.step.new.self) c.id.ensures ∙ plays)) in
-    ask-step c.args.program.now g' h c.ask.new.self c.args.hand.id asked.living c.in-Ask.asked (map output_of outputs.items) asked.lives asked.stands (ap (map output_of) none) (done g' h asked.in_hand tells))
+    ask-step c.args.program.now g' h c.ask.new.self c.args.hand.id asked.living c.in-Ask.asked (map output_of outputs.items) asked.store asked.lives asked.stands (ap (map output_of) none) (done g' h asked.in_hand tells))
 
 pub returns-in-Ask-clause-failed : goal.returns-in-Ask-clause-failed
 returns-in-Ask-clause-failed g c =

@@ -20,14 +20,14 @@ answer-requires g c =
     let reply = c.in-Ok.ensures.reply c.requires.known.0 s is.stands.core c.requires.known.3 ∙ ap (λ o. op_reply c.requires.known.0 o s) c.op.ensures in
     let id = c.id.ensures ∙ ap (λ (x : Hand). x.id) c.in-Ok.ensures.task in
     subst (λ r. TakesAt c.args.program.now c.args.asked.now r (machine_at c.id.result c.args.self.now.machines)) (sym reply)
-    (subst (λ n. TakesAt c.args.program.now c.args.asked.now (op_reply c.requires.known.0 (asked_op c.args.asked.now) s) (machine_at n c.args.self.now.machines)) (sym id)
-    (takes-reply c.args.program.now c.requires.known.0 c.requires.known.1 c.args.self.now c.args.hand c.args.asked.now is c.requires.fresh c.requires.asks))
+    (subst (λ n. TakesAt c.args.program.now c.args.asked.now (op_reply c.requires.known.0 (asked_op [] c.args.asked.now) s) (machine_at n c.args.self.now.machines)) (sym id)
+    (takes-reply c.args.program.now c.requires.known.0 c.requires.known.1 c.args.self.now c.args.hand c.args.asked.now is c.requires.fresh c.requires.asks c.requires.store))
 
 pub returns-in-Ok-clause-done : goal.returns-in-Ok-clause-done
 returns-in-Ok-clause-done g c = λ g' h is tells.
     let s = state_of g' h in
     let now = c.commit_lent.new.task in
-    replied-space c.args.program.now g' h c.args.self.now c.take_back.new.self c.commit_lent.new.self c.answer.new.self.machines c.args.hand now c.args.asked.now _ (reply_of c.in-Ok.reply) is c.requires.fresh c.requires.asks c.op.ensures
+    replied-space c.args.program.now g' h c.args.self.now c.take_back.new.self c.commit_lent.new.self c.answer.new.self.machines c.args.hand now c.args.asked.now _ (reply_of c.in-Ok.reply) is c.requires.fresh c.requires.asks c.requires.store c.op.ensures
     (c.in-Ok.ensures.state g' s is.stands.core tells) c.in-Ok.ensures.lent (c.in-Ok.ensures.accepted g' s (c.args.hand.id ∷ []) is.stands.core (lends-it c.args.self.now.core c.args.hand.id is.lends) tells)
     c.in-Ok.ensures.task c.in-Ok.ensures.own (c.in-Ok.ensures.reply g' s is.stands.core tells)
     (λ given told. moves-of c.id.result now.id (after_answer given) c.args.self.now.machines c.answer.new.self.machines c.id.ensures (c.answer.ensures.machine given told))

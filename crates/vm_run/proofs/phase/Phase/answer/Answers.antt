@@ -1,7 +1,7 @@
-use Rattle.std.proofs.Common.{◌+◌, ap, subst, sym, ◌∙◌}
+use Rattle.std.proofs.Common.{◌<◌, ap, subst, sym, ◌∙◌}
 use Rattle.vm_run.specs.Run.{State, IsNeverStuck}
 use Rattle.vm_run.specs.Task.{fuel_left, phase_state}
-use Rattle.vm_run.proofs.Runs.{IsNeverStuck-answer, answer-fuel}
+use Rattle.vm_run.proofs.Runs.{IsNeverStuck-answer, answer-fuel, answer-spends}
 use Rattle.vm_run.proofs.phase.Phase.answer.Goals as goal
 
 pub returns-clause-never_stuck : goal.returns-clause-never_stuck
@@ -10,4 +10,9 @@ returns-clause-never_stuck c =
 
 pub returns-clause-fuel : goal.returns-clause-fuel
 returns-clause-fuel c =
-    ap (λ (s : State). fuel_left s + 1) c.answered.ensures ∙ answer-fuel c.args.program.now c.args.reply (phase_state c.args.self) c.requires.safe c.requires.due
+    ap fuel_left c.answered.ensures ∙ answer-fuel c.args.program.now c.args.reply (phase_state c.args.self) c.requires.safe c.requires.due
+
+pub returns-clause-spent : goal.returns-clause-spent
+returns-clause-spent c =
+    subst (λ (s : State). fuel_left s < fuel_left (phase_state c.args.self)) (sym c.answered.ensures)
+    (answer-spends c.args.program.now c.args.reply (phase_state c.args.self) c.requires.safe c.requires.due)

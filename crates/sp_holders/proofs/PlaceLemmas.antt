@@ -1,0 +1,208 @@
+-- Where a reference is held.
+use Rattle.std.proofs.Common.{◌≡◌, ℕ, ◌+◌, ◌<◌, ◌≤◌, Bool, true, false, cond, List, [], ◌∷◌, Option, None, Some, refl, sym, ap, ◌∙◌, map, nat_eq, true≢false, arith, zero, suc}
+use Rattle.std.specs.Prelude.{◌&&◌, ◌||◌, ◌==◌, Result, Ok, Err, IfOk, filter, find, option_map, slice_get, unwrap_or}
+use Rattle.std.specs.List.{list_any}
+use Rattle.std.specs.Str.{bytes_eq}
+use Rattle.std.proofs.lemmas.Bool.{eq-eqb, eqb-true}
+use Rattle.space_ids.specs.declared.ids.ClassId.{ClassId}
+use Rattle.space_ids.specs.declared.ids.ObjId.{ObjId}
+use Rattle.space_ids.specs.declared.ids.Ref.{Ref}
+use Rattle.space_ids.specs.declared.value.Value.{Value}
+use Rattle.uuid.specs.declared.Uuid.{Uuid}
+use Rattle.sp_call_results.specs.Held.{acked_row, of_calls, of_roots, references_of_results}
+use Rattle.sp_call_results.proofs.RootLemmas.{any-of-both}
+use Rattle.sp_living.specs.Views.{Seen, kept, seen, seen_row}
+use Rattle.sp_owner.specs.Owners.{owner_parts, told}
+use Rattle.sp_peers.proofs.RowLemmas.{peer-laws}
+use Rattle.sp_results.specs.Waiting as waiting
+use Rattle.sp_rules.specs.Classes.{Setting}
+use Rattle.sp_rules.specs.Frames.{is_acked_by}
+use Rattle.sp_rules.specs.Holders.{fields_of}
+use Rattle.sp_rules.specs.Laws.{AllOf, RisesWithin}
+use Rattle.sp_rules.specs.References.{is_id, is_id_in, is_reference_in, is_same_reference, own_ids, reference_of, references_in, references_of}
+use Rattle.sp_rules.specs.State.{State, KeptResult, Living, Object, object_at, standing}
+use Rattle.sp_state.specs.Spaces.{AreNumbered}
+use Rattle.sp_tasks.proofs.HeldLemmas.{any_own}
+use Rattle.sp_tasks.specs.Rows.{TaskRow, row_of}
+use Rattle.sp_holders.specs.Places.{fields_have}
+use Rattle.sp_holders.proofs.AnyLemmas.{any-filter, any-flat, any-map, none-implied}
+
+-- ---- values
+
+pub any-value : (r : Ref) (vs : List Value) → list_any (λ (v : Value). is_reference_in (reference_of v) r) vs ≡ is_reference_in (references_of vs) r
+any-value r vs = sym (any-flat (is_same_reference r) reference_of vs)
+
+-- ---- objects
+
+above : (n last : ℕ) (os : List Object) → RisesWithin n last (map (λ (o : Object). o.id.0) os) → AllOf (λ (o : Object). n < o.id.0) os
+above n last [] r = tt
+above n last (o ∷ os) r = (omega (arith, r.0), all-higher n o.id.0 os (omega (arith, r.0)) (above o.id.0 last os r.1))
+  where
+    all-higher : (n m : ℕ) (os : List Object) → n < m → AllOf (λ (o : Object). m < o.id.0) os → AllOf (λ (o : Object). n < o.id.0) os
+    all-higher n m [] h a = tt
+    all-higher n m (o ∷ os) h a = (let b = a.0 in omega arith, all-higher n m os h a.1)
+
+-- the first object of an id is the one that has it
+found-at : (n last : ℕ) (os : List Object) (i : ℕ) (x : Object) → RisesWithin n last (map (λ (o : Object). o.id.0) os) → slice_get os i ≡ Some x → find (λ (o : Object). is_id o.id x.id) os ≡ Some x
+found-at n last [] i x r at = cc
+found-at n last (o ∷ os) zero x r at =
+    let same : o ≡ x = cc in
+    ap (λ b. cond b (Some o) (find (λ (p : Object). is_id p.id x.id) os)) (eq-eqb o.id.0 x.id.0 (ap (λ (p : Object). p.id.0) same)) ∙ at
+found-at n last (o ∷ os) (suc i) x r at =
+    ap (λ b. cond b (Some o) (find (λ (p : Object). is_id p.id x.id) os)) (apart (is_id o.id x.id) refl) ∙ found-at o.id.0 last os i x r.1 at
+  where
+    there : (i : ℕ) (os : List Object) → AllOf (λ (p : Object). o.id.0 < p.id.0) os → slice_get os i ≡ Some x → o.id.0 < x.id.0
+    there i [] all at = cc
+    there zero (p ∷ ps) all at = let same : p ≡ x = cc in let less = all.0 in let number = ap (λ (q : Object). q.id.0) same in omega (arith, less, number)
+    there (suc i) (p ∷ ps) all at = there i ps all.1 at
+
+    apart : (b : Bool) → is_id o.id x.id ≡ b → is_id o.id x.id ≡ false
+    apart true e = let less = there i os (above o.id.0 last os r.1) at in let same = eqb-true o.id.0 x.id.0 e in absurd (omega (arith, less, same))
+    apart false e = e
+
+-- what is found of the object at an index
+pub object-found : (g : Setting) (s : State) (i : ℕ) (o : Option Object) (id : ObjId) (class : ClassId) → AreNumbered (owner_parts s) → slice_get (standing s.store) i ≡ o → (let p : ObjId × ClassId = (id, class) in Some p ≡ option_map told o)
+    → option_map (fields_of g s) (object_at s id) ≡ option_map (fields_of g s) o
+object-found g s i None id class numbers at e = cc
+object-found g s i (Some x) id class numbers at e =
+    let pair : (id, class) ≡ (x.id, x.class) = ap (λ (p : Option (ObjId × ClassId)). unwrap_or p (id, class)) e in
+    let same : id ≡ x.id = ap (λ (p : ObjId × ClassId). p.0) pair in
+    ap (option_map (fields_of g s)) (ap (object_at s) same ∙ found-at 0 s.objects_made (standing s.store) i x numbers at)
+
+pub has-fields : (g : Setting) (s : State) (r : Ref) (o : Option Object) (fields : List Value) → Some fields ≡ option_map (fields_of g s) o → is_reference_in (references_of fields) r ≡ fields_have g s r o
+has-fields g s r None fields e = cc
+has-fields g s r (Some o) fields e = let same : fields ≡ fields_of g s o = cc in ap (λ (vs : List Value). is_reference_in (references_of vs) r) same
+
+pub no-fields : (g : Setting) (s : State) (r : Ref) (o : Option Object) → None ≡ option_map (fields_of g s) o → false ≡ fields_have g s r o
+no-fields g s r None e = refl
+no-fields g s r (Some o) e = cc
+
+pub no-object : (g : Setting) (s : State) (r : Ref) (o : Option Object) → None ≡ option_map told o → false ≡ fields_have g s r o
+no-object g s r None e = refl
+no-object g s r (Some o) e = cc
+
+-- ---- tasks
+
+pub row-held : (r : Ref) (id : ℕ) (held : List Ref) (es : List (ℕ × TaskRow)) → Some held ≡ option_map (λ (row : TaskRow). row.held) (row_of id es) → is_reference_in held r ≡ true
+    → list_any (λ (row : ℕ × TaskRow). is_reference_in row.1.held r) es ≡ true
+row-held r id held [] e has = cc
+row-held r id held (x ∷ xs) e has = by (λ e. row-held r id held xs e has) (nat_eq id x.0) e
+  where
+    more : Bool
+    more = list_any (λ (row : ℕ × TaskRow). is_reference_in row.1.held r) xs
+
+    or-so : (a b : Bool) → b ≡ true → (a || b) ≡ true
+    or-so true b h = refl
+    or-so false b h = h
+
+    by : (Some held ≡ option_map (λ (row : TaskRow). row.held) (row_of id xs) → more ≡ true) → (b : Bool) → Some held ≡ option_map (λ (row : TaskRow). row.held) (cond b (Some x.1) (row_of id xs)) → (is_reference_in x.1.held r || more) ≡ true
+    by go true e =
+        let same : held ≡ x.1.held = cc in
+        ap (λ b. b || more) (sym (ap (λ (rs : List Ref). is_reference_in rs r) same) ∙ has)
+    by go false e = or-so (is_reference_in x.1.held r) more (go e)
+
+pub tasks-have : (r : Ref) (es : List (ℕ × TaskRow)) (ts : List Living) → map seen_row es ≡ map seen ts
+    → list_any (λ (row : ℕ × TaskRow). is_reference_in row.1.held r) es ≡ list_any (λ (t : Living). is_reference_in t.task.held r) ts
+tasks-have r es ts same =
+    sym (any-map (λ (x : Seen). is_reference_in x.held r) seen_row es) ∙ ap (list_any (λ (x : Seen). is_reference_in x.held r)) same
+    ∙ any-map (λ (x : Seen). is_reference_in x.held r) seen ts
+
+-- ---- results
+
+pub roots-have : (r : Ref) (roots : List (ℕ × Option Value)) (results : List KeptResult) → map kept roots ≡ of_roots results
+    → list_any (λ (row : ℕ × Option Value). is_reference_in (references_in row.1) r) roots ≡ list_any (λ (k : KeptResult). is_reference_in (references_in k.value) r) (of_roots results)
+roots-have r roots results are =
+    sym (any-map (λ (k : KeptResult). is_reference_in (references_in k.value) r) kept roots) ∙ ap (list_any (λ (k : KeptResult). is_reference_in (references_in k.value) r)) are
+
+-- one of the results of roots and lookups is one of all
+pub root-has : (r : Ref) (results : List KeptResult) → list_any (λ (k : KeptResult). is_reference_in (references_in k.value) r) (of_roots results) ≡ true → list_any (λ (k : KeptResult). is_reference_in (references_in k.value) r) results ≡ true
+root-has r results one =
+    any-of-both (λ (k : KeptResult). is_reference_in (references_in k.value) r) results ∙ ap (λ b. b || list_any (λ (k : KeptResult). is_reference_in (references_in k.value) r) (of_calls results)) one
+
+-- what is left of results
+pub left-has : (p : ℕ × Option Value → Bool) (task : ℕ) (rows : List (ℕ × Option Value)) → list_any p (waiting.without task rows) ≡ true → list_any p rows ≡ true
+left-has p task rows one = any-filter p _ rows one
+
+pub taken-has : (r : Ref) (task : ℕ) (value : Option Value) (rows : List (ℕ × Option Value)) → waiting.of_task task rows ≡ waiting.row_of task (Some value) → is_reference_in (references_in value) r ≡ true
+    → list_any (λ (row : ℕ × Option Value). is_reference_in (references_in row.1) r) rows ≡ true
+taken-has r task value rows taken has =
+    any-filter (λ (row : ℕ × Option Value). is_reference_in (references_in row.1) r) _ rows
+    (ap (list_any (λ (row : ℕ × Option Value). is_reference_in (references_in row.1) r)) taken ∙ ap (λ b. b || false) has)
+
+-- the result of a call
+pub acked-has : (r : Ref) (conn number : ℕ) (value : Option Value) (results : List KeptResult) → filter (is_acked_by conn number) results ≡ acked_row conn number (Some value) → is_reference_in (references_in value) r ≡ true
+    → list_any (λ (k : KeptResult). is_reference_in (references_in k.value) r) results ≡ true
+acked-has r conn number value results acked has =
+    any-filter (λ (k : KeptResult). is_reference_in (references_in k.value) r) (is_acked_by conn number) results
+    (ap (list_any (λ (k : KeptResult). is_reference_in (references_in k.value) r)) acked ∙ ap (λ b. b || false) has)
+
+-- the references in some of the results
+pub over-has : (r : Ref) (is : KeptResult → Bool) (results : List KeptResult) (references : List Ref) → references ≡ references_of_results (filter is results) → is_reference_in references r ≡ true
+    → list_any (λ (k : KeptResult). is_reference_in (references_in k.value) r) results ≡ true
+over-has r is results references are has =
+    any-filter (λ (k : KeptResult). is_reference_in (references_in k.value) r) is results
+    (sym (any-flat (is_same_reference r) (λ (k : KeptResult). references_in k.value) (filter is results)) ∙ sym (ap (λ (rs : List Ref). is_reference_in rs r) are) ∙ has)
+
+-- ---- none by ids
+
+not-three : (x y z : Bool) → (x && y) ≡ false → (x && (y && z)) ≡ false
+not-three false y z h = refl
+not-three true false z h = refl
+not-three true true z h = absurd (true≢false h)
+
+-- references of which none has a space and id
+none-named : (r : Ref) (refs : List Ref) → is_id_in (own_ids r.space refs) r.id ≡ false → is_reference_in refs r ≡ false
+none-named r refs none =
+    none-implied (is_same_reference r) (λ (a : Ref). bytes_eq a.space r.space && is_id r.id a.id) refs
+    (λ a other. not-three (bytes_eq r.space a.space) (r.id.0 == a.id.0) (r.class.0 == a.class.0) (ap (λ b. b && (r.id.0 == a.id.0)) (peer-laws.symm r.space a.space) ∙ other))
+    (any_own r.space r.id refs ∙ none)
+
+pub no-task : (r : Ref) (ts : List Living) → list_any (λ (t : Living). is_id_in (own_ids r.space t.task.held) r.id) ts ≡ false → list_any (λ (t : Living). is_reference_in t.task.held r) ts ≡ false
+no-task r ts none = none-implied (λ (t : Living). is_reference_in t.task.held r) (λ (t : Living). is_id_in (own_ids r.space t.task.held) r.id) ts (λ t other. none-named r t.task.held other) none
+
+pub no-result : (r : Ref) (ks : List KeptResult) → list_any (λ (k : KeptResult). is_id_in (own_ids r.space (references_in k.value)) r.id) ks ≡ false → list_any (λ (k : KeptResult). is_reference_in (references_in k.value) r) ks ≡ false
+no-result r ks none =
+    none-implied (λ (k : KeptResult). is_reference_in (references_in k.value) r) (λ (k : KeptResult). is_id_in (own_ids r.space (references_in k.value)) r.id) ks (λ k other. none-named r (references_in k.value) other) none
+
+-- what three tables gave
+pub record AreNone (t r c : Bool) : Type 0 where
+  pub tasks : t ≡ false
+  pub roots : r ≡ false
+  pub calls : c ≡ false
+
+pub gathered-none : (n three two one t r c : Bool) → n ≡ three → one ≡ (false || t) → two ≡ (one || r) → three ≡ (two || c) → n ≡ false → AreNone t r c
+gathered-none n three two one t r c is a b d none =
+    let last : (two || c) ≡ false = sym d ∙ sym is ∙ none in
+    let before : (one || r) ≡ false = sym b ∙ first two c last in
+    record { tasks = sym a ∙ first one r before; roots = second one r before; calls = second two c last }
+  where
+    first : (a b : Bool) → (a || b) ≡ false → a ≡ false
+    first true b h = h
+    first false b h = refl
+
+    second : (a b : Bool) → (a || b) ≡ false → b ≡ false
+    second true b h = absurd (true≢false h)
+    second false b h = h
+
+-- ---- all places
+
+pub in-fields : (t f r p : Bool) → f ≡ true → true ≡ (t || (f || (r || p)))
+in-fields true f r p h = refl
+in-fields false f r p h = sym (ap (λ b. b || (r || p)) h)
+
+pub in-frames : (t f r p : Bool) → p ≡ true → true ≡ (t || (f || (r || p)))
+in-frames true f r p h = refl
+in-frames false true r p h = refl
+in-frames false false true p h = refl
+in-frames false false false p h = sym h
+
+pub elsewhere : (t f r p n : Bool) → f ≡ false → p ≡ false → n ≡ (t || r) → n ≡ (t || (f || (r || p)))
+elsewhere t f r p n no-field no-frame is = is ∙ ap (λ b. t || b) (sym (or-none r)) ∙ (λ j. t || (sym no-field j || (r || sym no-frame j)))
+  where
+    or-none : (b : Bool) → (b || false) ≡ b
+    or-none true = refl
+    or-none false = refl
+
+pub if-ok : {A E : Type 0} (o : Result A E) (P Q : A → Type 0) → ((x : A) → P x → Q x) → IfOk o P → IfOk o Q
+if-ok (Ok x) P Q each h = each x h
+if-ok (Err e) P Q each h = h

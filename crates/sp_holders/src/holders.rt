@@ -1,0 +1,45 @@
+//! Whether a reference has a holder (Java RMI specification, 3.3: what is referenced stays).
+
+ghost use Rattle.std.specs.Prelude.{◌≡◌, IfOk};
+ghost use Rattle.sp_rules.specs.Classes.{Setting};
+ghost use Rattle.sp_rules.specs.Holders.{has_holder};
+ghost use Rattle.sp_rules.specs.State.{State};
+ghost use Rattle.sp_state.specs.Spaces.{IsSpace};
+
+use crate::fields::is_in_fields;
+use crate::frames::is_in_frames;
+use crate::tables::is_in_tables;
+use sp_state::SpaceState;
+use space_ids::Ref;
+use std::alloc::{AllocError, Global};
+
+/// A call that came, by its connection and its number there.
+#[derive(Clone, Copy, Debug, PartialEq, Eq)]
+pub struct CallKey {
+    pub conn: u64,
+    pub number: u64,
+}
+
+/// Whether a reference, under its class, has a holder: a living task, a field of a standing object, a held
+/// result or a frame that waits. It looks at all of them, and at the ids that were given to tasks and lookups.
+///
+/// Results of calls that wait for their Ack are looked at by the keys of the calls, so the caller tells the
+/// calls whose results may be references. A reference that is found nowhere, while a task or a result has one
+/// of its space and id, is out of memory: so is one that a peer that lies has sent under two classes.
+pub fn has_holder(
+    alloc: Global,
+    space: &SpaceState,
+    calls: &[CallKey],
+    reference: &Ref,
+) -> Result<bool, AllocError>
+    ensures { IfOk result (λ held. (g : Setting) (s : State) → IsSpace g s space.now → held ≡ has_holder g s reference.now) }
+{
+    if is_in_fields(space.owner(), reference) {
+        return Ok(true);
+    }
+    let living = space.living();
+    if is_in_frames(alloc, living.parked(), reference)? {
+        return Ok(true);
+    }
+    is_in_tables(alloc, living, calls, reference)
+}

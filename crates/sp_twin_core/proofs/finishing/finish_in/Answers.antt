@@ -1,0 +1,18 @@
+use Rattle.std.proofs.Common.{sym, ap, subst, ◌∙◌}
+use Rattle.std.proofs.lemmas.Result.{on_ok_weaker}
+use Rattle.sp_rules.specs.LivingTasks.{finish_task}
+use Rattle.sp_rules.specs.Space.{finish_event, on}
+use Rattle.sp_twin_core.specs.Hands.{finished}
+use Rattle.sp_twin_core.proofs.EventLemmas.{end-is, end-may, space-is}
+use Rattle.sp_twin_core.proofs.TwinLemmas.{if-ok}
+use Rattle.sp_twin_core.proofs.finishing.finish_in.Goals as goal
+
+pub returns-clause-outputs : goal.returns-clause-outputs
+returns-clause-outputs w c = if-ok c.conclude.result _ _ (λ outs told. λ g s is rest tells stands fuel.
+    let task = c.args.task.now in
+    told g (finish_task g task.id task.made s) (c.in_ok-finish_task.ensures g s is tells stands fuel) (end-may g s task.id task.made rest) ∙ sym (ap (λ r. r.1) (end-is g s task.id task.made))) c.conclude.ensures.outputs
+
+pub returns-clause-state : goal.returns-clause-state
+returns-clause-state w c = on_ok_weaker c.conclude.result (λ told. λ g s is rest tells stands fuel.
+    let task = c.args.task.now in
+    space-is g _ (on g (finished task) s).0 _ (ap (λ r. r.0) (end-is g s task.id task.made)) (told g (finish_task g task.id task.made s) (c.in_ok-finish_task.ensures g s is tells stands fuel) (end-may g s task.id task.made rest))) c.conclude.ensures.concluded

@@ -1,0 +1,18 @@
+use Rattle.std.proofs.Common.{sym, ap, subst, ◌∙◌, ◌-◌}
+use Rattle.std.proofs.lemmas.Result.{on_ok_weaker}
+use Rattle.sp_rules.specs.LivingTasks.{park_call}
+use Rattle.sp_rules.specs.Space.{finish_event, on}
+use Rattle.sp_twin_core.specs.Hands.{parked}
+use Rattle.sp_twin_core.proofs.EventLemmas.{call-is, call-may, space-is}
+use Rattle.sp_twin_core.proofs.TwinLemmas.{if-ok}
+use Rattle.sp_twin_core.proofs.parking.park_in.Goals as goal
+
+pub returns-clause-outputs : goal.returns-clause-outputs
+returns-clause-outputs w c = if-ok c.conclude.result _ _ (λ outs told. λ g s is rest tells stands fuel.
+    let task = c.args.task in
+    told g (park_call g task.id task.made s) (c.in-Ok.ensures.parked g s is tells stands (c.saturating_sub-lent.ensures ∙ ap (λ n. n - 1) fuel)) (call-may g s task.id task.made rest) ∙ sym (ap (λ r. r.1) (call-is g s task.id task.made))) c.conclude.ensures.outputs
+
+pub returns-clause-state : goal.returns-clause-state
+returns-clause-state w c = on_ok_weaker c.conclude.result (λ told. λ g s is rest tells stands fuel.
+    let task = c.args.task in
+    space-is g _ (on g (parked task) s).0 _ (ap (λ r. r.0) (call-is g s task.id task.made)) (told g (park_call g task.id task.made s) (c.in-Ok.ensures.parked g s is tells stands (c.saturating_sub-lent.ensures ∙ ap (λ n. n - 1) fuel)) (call-may g s task.id task.made rest))) c.conclude.ensures.concluded

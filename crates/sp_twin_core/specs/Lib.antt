@@ -1,0 +1,4 @@
+pub mod Cores
+pub mod Hands
+pub mod Roots
+pub mod Shown

@@ -1,0 +1,192 @@
+//! Why events of lent tasks are refused.
+
+ghost use Rattle.std.specs.Prelude.{◌≡◌, ℕ, List, None, Some, true, IfErr, IfOk, OnOk, option_and_then, option_map};
+ghost use Rattle.sp_call_classes.specs.ClassSets.{kind_of};
+ghost use Rattle.sp_events.specs.FaultNames.{core_fault_number};
+ghost use Rattle.sp_living.specs.Hands.{StandsAt};
+ghost use Rattle.sp_rules.specs.Classes.{Setting, field_kind, fits_kind};
+ghost use Rattle.sp_rules.specs.References.{references_in};
+ghost use Rattle.sp_rules.specs.Refusals.{fits_call, fits_store, refusal, refusal_number, result_of};
+ghost use Rattle.sp_rules.specs.State.{State, object_at};
+ghost use Rattle.sp_tasks.specs.Behaviours.{op_of, outcome_of, stand_of};
+ghost use Rattle.sp_tasks.specs.Rows.{TaskRow, row_holds, row_holds_op, row_of};
+ghost use Rattle.sp_rules.specs.Tasks.{AsksFor, HasEnded};
+ghost use Rattle.sp_twin_core.specs.Hands.{committed, finished, parked};
+
+use crate::{LentTask, SpaceCore};
+use sp_call_classes::{CallClasses, ClassSet, FieldKind};
+use sp_events::CoreFault;
+use sp_tasks::{Op, Outcome, Stand};
+use space_ids::{ObjId, Value};
+
+impl SpaceCore {
+    ghost use Rattle.sp_twin_core.specs.Cores.{IsCore, Lends, lends, lent_as};
+
+    // Why the operation on the store is refused, if it is: the reason with the lowest number, but 98 first.
+    pub(crate) fn refuse_commit<C: ClassSet>(
+        &self,
+        classes: &C,
+        task: &LentTask,
+        op: &Op,
+        is_own: bool,
+    ) -> Option<CoreFault>
+        requires { lends self.now task.now.task ≡ is_own }
+        ensures lent { result ≡ None → is_own ≡ true }
+        ensures refused { (g : Setting) (s : State) (lent : List ℕ) → IsCore g s self.now → Lends self.now lent → C.tells classes.now g.classes → option_map refusal_number (refusal g (lent_as s task.now.task lent) s (committed task.now.task op.now)) ≡ option_and_then core_fault_number result }
+    {
+        if self.is_worn() {
+            return Some(CoreFault::WornOut);
+        }
+        if !is_own {
+            return Some(CoreFault::NotLent);
+        }
+        if !self.holds_op(task, op) {
+            return Some(CoreFault::NotHeld);
+        }
+        if !self.fits_store(classes, op) {
+            return Some(CoreFault::WrongKind);
+        }
+        None
+    }
+
+    // The call for which the task in hand asks, or why it is refused.
+    pub(crate) fn refuse_park<'a, C: CallClasses>(
+        &self,
+        classes: &C,
+        task: &LentTask,
+        stand: &'a Stand,
+    ) -> Result<&'a Op, CoreFault>
+        ensures asks { IfOk result (λ op. stand_of stand.now ≡ AsksFor (op_of op.now)) }
+        ensures lent { OnOk result (lends self.now task.now.task ≡ true) }
+        ensures accepted { OnOk result ((g : Setting) (s : State) (lent : List ℕ) → IsCore g s self.now → Lends self.now lent → C.tells classes.now g.classes → StandsAt g task.now.task stand.now → refusal g (lent_as s task.now.task lent) s (parked task.now.task) ≡ None) }
+        ensures refused { IfErr result (λ fault. (g : Setting) (s : State) (lent : List ℕ) → IsCore g s self.now → Lends self.now lent → C.tells classes.now g.classes → StandsAt g task.now.task stand.now → option_map refusal_number (refusal g (lent_as s task.now.task lent) s (parked task.now.task)) ≡ core_fault_number fault) }
+    {
+        if self.is_worn() {
+            return Err(CoreFault::WornOut);
+        }
+        if !self.lends(task) {
+            return Err(CoreFault::NotLent);
+        }
+        match stand {
+            Stand::AsksFor(op) => {
+                if !self.holds_op(task, op) {
+                    return Err(CoreFault::NotHeld);
+                }
+                if !self.fits_call(classes, op) {
+                    return Err(CoreFault::WrongKind);
+                }
+                Ok(op)
+            }
+            _ => Err(CoreFault::WrongKind),
+        }
+    }
+
+    // How the task in hand ended, or why it is refused.
+    pub(crate) fn refuse_finish<'a>(
+        &self,
+        task: &LentTask,
+        stand: &'a Stand,
+    ) -> Result<&'a Outcome, CoreFault>
+        ensures ended { IfOk result (λ outcome. stand_of stand.now ≡ HasEnded (outcome_of outcome.now)) }
+        ensures lent { OnOk result (lends self.now task.now.task ≡ true) }
+        ensures accepted { OnOk result ((g : Setting) (s : State) (lent : List ℕ) → IsCore g s self.now → Lends self.now lent → StandsAt g task.now.task stand.now → refusal g (lent_as s task.now.task lent) s (finished task.now.task) ≡ None) }
+        ensures refused { IfErr result (λ fault. (g : Setting) (s : State) (lent : List ℕ) → IsCore g s self.now → Lends self.now lent → StandsAt g task.now.task stand.now → option_map refusal_number (refusal g (lent_as s task.now.task lent) s (finished task.now.task)) ≡ core_fault_number fault) }
+    {
+        if self.is_worn() {
+            return Err(CoreFault::WornOut);
+        }
+        if !self.lends(task) {
+            return Err(CoreFault::NotLent);
+        }
+        match stand {
+            Stand::HasEnded(outcome) => {
+                if self.holds_result_of(task, outcome) {
+                    Ok(outcome)
+                } else {
+                    Err(CoreFault::NotHeld)
+                }
+            }
+            _ => Err(CoreFault::WrongKind),
+        }
+    }
+
+    // Whether the operation is one on the store, and its class, field and value fit.
+    fn fits_store<C: ClassSet>(&self, classes: &C, op: &Op) -> bool
+        ensures { (g : Setting) (s : State) → IsCore g s self.now → C.tells classes.now g.classes → result ≡ fits_store g s (op_of op.now) }
+    {
+        match op {
+            Op::Create(class) => classes.is_remote(*class),
+            Op::Get { object, slot } => self.kind_at(classes, *object, *slot).is_some(),
+            Op::Put {
+                object,
+                slot,
+                value,
+            } => match self.kind_at(classes, *object, *slot) {
+                Some(kind) => fits(kind, value),
+                None => false,
+            },
+            Op::Call {
+                target: _,
+                method: _,
+                arguments: _,
+            } => false,
+        }
+    }
+
+    // The kind of a field of a standing object, if there are both.
+    fn kind_at<C: ClassSet>(&self, classes: &C, object: ObjId, slot: usize) -> Option<FieldKind>
+        ensures { (g : Setting) (s : State) → IsCore g s self.now → C.tells classes.now g.classes → option_map kind_of result ≡ option_and_then (λ o. field_kind g.classes o.class slot) (object_at s object) }
+    {
+        match self.state.owner().class_of(object) {
+            Some(class) => classes.field_kind(class, slot),
+            None => None,
+        }
+    }
+
+    // Whether the operation is a call of an object of another space, with arguments that fit.
+    fn fits_call<C: CallClasses>(&self, classes: &C, op: &Op) -> bool
+        ensures { (g : Setting) (s : State) → IsCore g s self.now → C.tells classes.now g.classes → result ≡ fits_call g (op_of op.now) }
+    {
+        match op {
+            Op::Call {
+                target,
+                method,
+                arguments,
+            } => target.space != self.id && classes.takes(*method, arguments.as_slice()),
+            Op::Create(_) => false,
+            Op::Get { object: _, slot: _ } => false,
+            Op::Put {
+                object: _,
+                slot: _,
+                value: _,
+            } => false,
+        }
+    }
+
+    // Whether the task in hand holds what it asks for.
+    fn holds_op(&self, task: &LentTask, op: &Op) -> bool
+        ensures { (row : TaskRow) → row_of task.now.task.id self.now.state.living.tasks.rows ≡ Some row → result ≡ row_holds_op self.now.id row (op_of op.now) }
+    {
+        self.state
+            .living()
+            .tasks()
+            .holds_op(&self.id, task.id(), op)
+    }
+
+    // Whether the task in hand holds the reference that it returns, if it returns one.
+    fn holds_result_of(&self, task: &LentTask, outcome: &Outcome) -> bool
+        ensures { (row : TaskRow) → row_of task.now.task.id self.now.state.living.tasks.rows ≡ Some row → result ≡ row_holds row (references_in (result_of (outcome_of outcome.now))) }
+    {
+        self.state.living().tasks().holds_result(task.id(), outcome)
+    }
+}
+
+fn fits(kind: FieldKind, value: &Value) -> bool
+    ensures { result ≡ fits_kind (kind_of kind) value.now }
+{
+    match (kind, value) {
+        (FieldKind::Int, Value::Int(_)) => true,
+        (FieldKind::Reference, Value::Null | Value::Ref(_)) => true,
+        _ => false,
+    }
+}

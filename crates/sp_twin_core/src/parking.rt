@@ -1,0 +1,177 @@
+//! Calls of lent tasks.
+
+ghost use Rattle.std.specs.Prelude.{◌≡◌, ◌∷◌, ℕ, List, true, None, IfErr, IfOk, IfSome, OnErr, OnOk, map};
+ghost use Rattle.sp_events.specs.FaultNames.{Refuses};
+ghost use Rattle.sp_living.specs.Hands.{StandsAt, task_of};
+ghost use Rattle.sp_outputs.specs.Notes.{output_of};
+ghost use Rattle.sp_rules.specs.Behaviours.{Call as Calls};
+ghost use Rattle.sp_rules.specs.Classes.{Setting};
+ghost use Rattle.sp_rules.specs.Events.{Event as Happening};
+ghost use Rattle.sp_rules.specs.Origins.{IsTaken, OwnStand};
+ghost use Rattle.sp_rules.specs.Refusals.{refusal};
+ghost use Rattle.sp_rules.specs.Space.{on as after_event, state_of};
+ghost use Rattle.sp_rules.specs.State.{State};
+ghost use Rattle.sp_rules.specs.Tasks.{AsksFor, stand};
+ghost use Rattle.sp_state.specs.Hands as state;
+ghost use Rattle.sp_state.specs.Spaces.{IsAtRest, IsSpace};
+ghost use Rattle.sp_tasks.specs.Behaviours.{op_of};
+ghost use Rattle.sp_twin_core.specs.Hands.{HasFuel, parked};
+
+use crate::space_core::let_go;
+use crate::{LentTask, SpaceCore};
+use sp_call_classes::CallClasses;
+use sp_events::CoreFault;
+use sp_outputs::Output;
+use sp_state::SpaceState;
+use sp_tasks::{LentTask as TaskInHand, Op, Stand};
+use space_ids::{Ref, Row, Value};
+use std::alloc::{AllocError, Global};
+use std::mem;
+use table_copies::copy_values;
+
+// A call for which a task asks.
+#[derive(Debug, Drop)]
+struct Call {
+    target: Ref,
+    method: u32,
+    arguments: Row<Value>,
+}
+
+impl SpaceCore {
+    ghost use Rattle.sp_twin_core.specs.Cores.{IsCore, Lends, has_lent, lends, lent_as};
+
+    /// Lets a lent task, with this fuel left, wait for the reply to the call at which its machine stands. The
+    /// peer is asked, with all of the fuel but the unit of the call. A task that is refused or finds no memory
+    /// is handed back, and nothing has changed. Of several refusals the lowest counts, but 98 first.
+    pub fn park<C: CallClasses>(
+        &mut self,
+        classes: &C,
+        task: LentTask,
+        stand: &Stand,
+        fuel: u64,
+    ) -> Result<Vec<Output>, (LentTask, CoreFault)>
+        ensures accepted { OnOk result ((g : Setting) (s : State) (lent : List ℕ) → IsCore g s self.old → Lends self.old lent → C.tells classes.now g.classes → StandsAt g task.task stand.now → refusal g (lent_as s task.task lent) s (parked task.task) ≡ None) }
+        ensures outputs { IfOk result (λ outputs. (g : Setting) (s : State) → IsCore g s self.old → C.tells classes.now g.classes → StandsAt g task.task stand.now → HasFuel g task.task fuel → map output_of outputs.items ≡ (after_event g (parked task.task) s).1) }
+        ensures state { OnOk result ((g : Setting) (s : State) → IsCore g s self.old → C.tells classes.now g.classes → StandsAt g task.task stand.now → HasFuel g task.task fuel → IsCore g (after_event g (parked task.task) s).0 self.new) }
+        ensures refused { IfErr result (λ back. (g : Setting) (s : State) (lent : List ℕ) → IsCore g s self.old → Lends self.old lent → C.tells classes.now g.classes → StandsAt g task.task stand.now → Refuses (refusal g (lent_as s task.task lent) s (parked task.task)) back.1) }
+        ensures task { IfErr result (λ back. back.0.task ≡ task.task) }
+        ensures unchanged { OnErr result ((g : Setting) (s : State) → IsCore g s self.old → IsCore g s self.new) }
+
+        // Own references name standing objects of their class after each history that the space took.
+        ensures standing { OnOk result ((g : Setting) (h : List Happening) (lent : List ℕ) → IsCore g (state_of g h) self.old → Lends self.old lent → C.tells classes.now g.classes → StandsAt g task.task stand.now → IsTaken g h → OwnStand g (state_of g (parked task.task ∷ h))) }
+    {
+        let mut task = task;
+        match self.refuse_park(classes, &task, stand) {
+            Err(fault) => Err((task, fault)),
+            Ok(op) => {
+                self.keep_twin(&mut task);
+                match self.call(classes, task, op, fuel) {
+                    Ok(outputs) => Ok(outputs),
+                    Err(task) => Err((task, CoreFault::Memory)),
+                }
+            }
+        }
+    }
+
+    // Lets a task wait for the reply to this call.
+    fn call<C: CallClasses>(
+        &mut self,
+        classes: &C,
+        task: LentTask,
+        op: &Op,
+        fuel: u64,
+    ) -> Result<Vec<Output>, LentTask>
+        requires { has_lent self.old task ≡ true }
+        ensures outputs { IfOk result (λ outputs. (g : Setting) (s : State) → IsCore g s self.old → C.tells classes.now g.classes → stand (task_of g task.task) ≡ AsksFor (op_of op.now) → HasFuel g task.task fuel → map output_of outputs.items ≡ (after_event g (parked task.task) s).1) }
+        ensures state { OnOk result ((g : Setting) (s : State) → IsCore g s self.old → C.tells classes.now g.classes → stand (task_of g task.task) ≡ AsksFor (op_of op.now) → HasFuel g task.task fuel → IsCore g (after_event g (parked task.task) s).0 self.new) }
+        ensures unchanged { OnErr result ((g : Setting) (s : State) → IsCore g s self.old → IsCore g s self.new) }
+        ensures task { IfErr result (λ back. back.task ≡ task.task) }
+    {
+        let mut task = task;
+        let Ok(first) = call_of(self.alloc, op) else {
+            return Err(task);
+        };
+        let Ok(second) = call_of(self.alloc, op) else {
+            return Err(task);
+        };
+        let Ok(mut next) = self.take_second(&task) else {
+            return Err(task);
+        };
+        let Some(twin) = task.twin.take() else {
+            let_go(next);
+            return Err(task);
+        };
+        let Ok(outputs) = park_in(&mut next, classes, twin, first, fuel) else {
+            let_go(next);
+            return Err(task);
+        };
+        let last = mem::replace(&mut self.state, next);
+        let LentTask { task, twin: _twin } = task;
+        let spare = park_too(last, classes, task, second, fuel);
+        self.put_spare(spare);
+        Ok(outputs)
+    }
+}
+
+// The state in which the task waits too. There is none at out of memory.
+fn park_too<C: CallClasses>(
+    last: SpaceState,
+    classes: &C,
+    task: TaskInHand,
+    call: Call,
+    fuel: u64,
+) -> Option<SpaceState>
+    requires { state.has_lent last task ≡ true }
+    ensures { IfSome result (λ space. (g : Setting) (s : State) → IsSpace g s last → IsAtRest s → C.tells classes.now g.classes → stand (task_of g task) ≡ AsksFor (Calls call.target call.method call.arguments) → HasFuel g task fuel → IsSpace g (after_event g (parked task) s).0 space) }
+{
+    let mut last = last;
+    match park_in(&mut last, classes, task, call, fuel) {
+        Ok(_) => Some(last),
+        Err(_) => {
+            let_go(last);
+            None
+        }
+    }
+}
+
+// Lets a task that one state lends, with this fuel left, wait for the reply to its call, and ends the event.
+fn park_in<C: CallClasses>(
+    space: &mut SpaceState,
+    classes: &C,
+    task: TaskInHand,
+    call: Call,
+    fuel: u64,
+) -> Result<Vec<Output>, AllocError>
+    requires { state.has_lent space.old task ≡ true }
+    ensures outputs { IfOk result (λ outputs. (g : Setting) (s : State) → IsSpace g s space.old → IsAtRest s → C.tells classes.now g.classes → stand (task_of g task) ≡ AsksFor (Calls call.target call.method call.arguments) → HasFuel g task fuel → map output_of outputs.items ≡ (after_event g (parked task) s).1) }
+    ensures state { OnOk result ((g : Setting) (s : State) → IsSpace g s space.old → IsAtRest s → C.tells classes.now g.classes → stand (task_of g task) ≡ AsksFor (Calls call.target call.method call.arguments) → HasFuel g task fuel → IsSpace g (after_event g (parked task) s).0 space.new) }
+{
+    let Call {
+        target,
+        method,
+        arguments,
+    } = call;
+    let lent = fuel.saturating_sub(1);
+    let Ok(()) = space.park_call(classes, task, target, method, arguments, lent) else {
+        return Err(AllocError);
+    };
+    space.conclude()
+}
+
+// A copy of a call. There is no other operation here.
+fn call_of(alloc: Global, op: &Op) -> Result<Call, AllocError>
+    ensures { IfOk result (λ call. op_of op.now ≡ Calls call.target call.method call.arguments) }
+{
+    match op {
+        Op::Call {
+            target,
+            method,
+            arguments,
+        } => Ok(Call {
+            target: *target,
+            method: *method,
+            arguments: Row::new(copy_values(alloc, arguments.as_slice())?),
+        }),
+        _ => Err(AllocError),
+    }
+}
