@@ -11,8 +11,9 @@ pub fn tasks_go_on()
 {}
 
 /// After every history of a space an event of a lent task makes of that task, if it is ready, what the
-/// event says: it goes on with the reply to its operation, waits for the reply to its call, stands
-/// where its own instructions brought it, or is gone. All other tasks stay as they were.
+/// event says. After a Committed it goes on with the reply to its operation, after a Parked it waits if
+/// it stands at a call, after a GivenBack it stands at the point to which its own instructions brought
+/// it, and after a Finished it is gone if it stands at its end. All other tasks stay as they were.
 pub fn lent_tasks_go_on()
     ensures own { LentTasksGoOn }
     ensures others { OtherTasksStay }
