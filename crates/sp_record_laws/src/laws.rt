@@ -1,0 +1,20 @@
+//! The laws of what one event makes of tasks.
+
+ghost use Rattle.sp_record_laws.specs.Changes.{LentTasksGoOn, OtherTasksStay, TasksGoOn};
+
+/// After every history of a space an event that is not of a lent task ends no task, and gives each task
+/// one reply at most. The task of an id stays as it was; or it waited for the reply to a call, and goes
+/// on with one reply; or it has just begun, with nothing in its record, under an id that was not given
+/// before. So whoever has played the record of a task needs only that one reply.
+pub fn tasks_go_on()
+    ensures { TasksGoOn }
+{}
+
+/// After every history of a space an event of a lent task makes of that task, if it is ready, what the
+/// event says. After a Committed it goes on with the reply to its operation, after a Parked it waits if
+/// it stands at a call, after a GivenBack it stands at the point to which its own instructions brought
+/// it, and after a Finished it is gone if it stands at its end. All other tasks stay as they were.
+pub fn lent_tasks_go_on()
+    ensures own { LentTasksGoOn }
+    ensures others { OtherTasksStay }
+{}
