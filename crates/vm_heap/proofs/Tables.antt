@@ -1,14 +1,15 @@
 -- Each reference of a task stands once in its list.
-use Rattle.std.proofs.Common.{◌≡◌, ◌<◌, ◌≤◌, ◌+◌, ℕ, zero, suc, ◌⊎◌, inl, inr, Bool, true, List, [], ◌∷◌, ◌++◌, length, Some, None, slice_get, refl, arith, ap}
+use Rattle.std.proofs.Common.{◌≡◌, ◌<◌, ◌≤◌, ◌+◌, ℕ, zero, suc, ◌⊎◌, inl, inr, Bool, true, List, [], ◌∷◌, ◌++◌, length, Some, None, slice_get, refl, arith, ap, sym, ◌∙◌}
 use Rattle.std.specs.Str.{bytes_eq}
 use Rattle.std.specs.List.{position}
 use Rattle.std.proofs.lemmas.List.Quantifiers.{position-Some}
 use Rattle.std.specs.List.{prefix_len}
-use Rattle.std.specs.Prelude.{not}
+use Rattle.std.specs.Prelude.{not, map}
 use Rattle.std.proofs.lemmas.List.Sums.{prefix_len-le-length}
 use Rattle.std.proofs.lemmas.Cmp.{nat_list_eq_equiv}
 use Rattle.std.proofs.lemmas.Grind.{common_steps}
 use Rattle.space_ids.specs.declared.ids.Ref.{Ref}
+use Rattle.uuid.specs.declared.Uuid.{Uuid}
 use Rattle.vm_heap.specs.References.{is_same_reference, row_of}
 
 pub row_within : (rows : List Ref) (r : Ref) (row : ℕ) → row_of rows r ≡ Some row → row < length rows
@@ -53,3 +54,13 @@ added rows new once absent row r e = each (get_added rows new r row e)
 pub length_added : (rows : List Ref) (new : Ref) → length (rows ++ new ∷ []) ≡ length rows + 1
 length_added [] new = refl
 length_added (x ∷ rows) new = omega (arith, length_added rows new)
+
+map_added : (f : Ref → Bool) (rows : List Ref) (new : Ref) → map f (rows ++ new ∷ []) ≡ map f rows ++ f new ∷ []
+map_added f [] new = refl
+map_added f (x ∷ rows) new = ap (λ (l : List Bool). f x ∷ l) (map_added f rows new)
+
+-- with one more reference it is known of each of them whether it is to an object of this space
+pub mark_added : (own : Uuid) (rows : List Ref) (new : Ref) (known : List Bool) (is : Bool) → known ≡ map (λ (r : Ref). bytes_eq r.space own) rows
+    → is ≡ bytes_eq new.space own → known ++ is ∷ [] ≡ map (λ (r : Ref). bytes_eq r.space own) (rows ++ new ∷ [])
+mark_added own rows new known is e same =
+    ap (λ (l : List Bool). l ++ is ∷ []) e ∙ (ap (λ (b : Bool). map (λ (r : Ref). bytes_eq r.space own) rows ++ b ∷ []) same ∙ sym (map_added (λ (r : Ref). bytes_eq r.space own) rows new))

@@ -1,6 +1,6 @@
 -- The references to remote objects that a task has come by: each stands once, in the order in which they came, and a task's values name
 -- them by their rows. A task may come by a limited number of them. (This project's own; Java RMI specification, 2.6, on references.)
-use Rattle.std.specs.Prelude.{◌≡◌, ◌≤◌, ◌<◌, ℕ, Bool, List, [], ◌∷◌, ◌++◌, length, Option, Some, None, nat_lt, ◌&&◌, ◌==◌, if◌then◌else◌, slice_get}
+use Rattle.std.specs.Prelude.{◌≡◌, ◌≤◌, ◌<◌, ℕ, Bool, List, [], ◌∷◌, ◌++◌, length, Option, Some, None, map, nat_lt, ◌&&◌, ◌==◌, if◌then◌else◌, slice_get}
 use Rattle.std.specs.List.{position}
 use Rattle.std.specs.Str.{bytes_eq}
 use Rattle.space_ids.specs.declared.ids.Ref.{Ref}
@@ -47,6 +47,11 @@ with_reference_unless reference table (Some row) = table
 -- the references once the task has come by one: it counts once, and one over the limit changes nothing
 abbrev pub with_reference : Ref → Table → Table
 with_reference reference table = with_reference_unless reference table (row_of table.rows reference)
+
+-- of each row is known whether its reference is to an object of this space, and there is room to know it of as many as there may be
+pub record AreMarked (own : Uuid) (rows : List Ref) (limit : ℕ) (are_own : List Bool) (room : ℕ) : Type 0 where
+  pub marks : are_own ≡ map (λ (r : Ref). bytes_eq r.space own) rows
+  pub reserved : limit ≤ room
 
 -- each reference stands once: the row of each is its own
 pub record IsTable (rows : List Ref) (limit room : ℕ) : Type 0 where

@@ -15,18 +15,21 @@ use std::marker::Model;
 pub struct References {
     own: Uuid,
     rows: Vec<Ref>,
+    // Whether the reference of a row is to an object of the task's own space. It is not compared while the
+    // task runs: a loop that passes an address in its machine on keeps none of it in registers.
+    are_own: Vec<bool>,
     limit: u16,
 }
 
 impl Model for References {
     ghost use Rattle.std.specs.Prelude.{vec_capacity};
-    ghost use Rattle.vm_heap.specs.References.{Table, IsTable};
+    ghost use Rattle.vm_heap.specs.References.{Table, AreMarked, IsTable};
 
     ghost Value = { Table };
 
     ghost view = { λ r. record { own = r.own; rows = r.rows.items; limit = r.limit } };
 
-    ghost invariant = { λ r. IsTable r.rows.items r.limit (vec_capacity r.rows) };
+    ghost invariant = { λ r. IsTable r.rows.items r.limit (vec_capacity r.rows) × AreMarked r.own r.rows.items r.limit r.are_own.items (vec_capacity r.are_own) };
 }
 
 impl References {
@@ -38,6 +41,7 @@ impl References {
         Ok(References {
             own,
             rows: Vec::with_capacity(alloc, limit as usize)?,
+            are_own: Vec::with_capacity(alloc, limit as usize)?,
             limit,
         })
     }
@@ -66,9 +70,7 @@ impl References {
         requires { row < length self.now.rows }
         ensures { option_map (is_own self.now) (slice_get self.now.rows row) ≡ Some result }
     {
-        // A copy: where an address in the machine is taken, the loop of a task keeps none of it in registers.
-        let own = self.own;
-        self.rows[row].space == own
+        self.are_own[row]
     }
 
     /// Returns the word of a reference. One that the task has not come by yet gets a row of its own.
@@ -84,6 +86,7 @@ impl References {
         if row >= self.limit as usize {
             return None;
         }
+        self.are_own.push_reserved(reference.space == self.own);
         self.rows.push_reserved(reference);
         Some(Word::remote(row as u16))
     }
