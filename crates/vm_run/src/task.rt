@@ -1,5 +1,5 @@
 //! Tasks.
-ghost use Rattle.std.specs.Prelude.{List, ◌≡◌, ◌≢◌, ℕ, ◌+◌, ◌^◌, ◌<◌, ◌≤◌, [], IsSome, IfSome, IfOk, IfErr, map, option_and_then, option_map};
+ghost use Rattle.std.specs.Prelude.{List, ◌≡◌, ◌≢◌, ℕ, ◌+◌, ◌^◌, ◌<◌, ◌≤◌, [], IsSome, IsTrue, IfSome, IfOk, IfErr, map, option_and_then, option_map};
 ghost use Rattle.vm_heap.specs.Heap.{Ints, cell_at, length_at};
 ghost use Rattle.vm_heap.specs.Tagged.{most_rows};
 ghost use Rattle.vm_run.specs.Ends.{end_of, returned_at};
@@ -9,7 +9,7 @@ ghost use Rattle.vm_run.specs.Limited.{AlwaysKeepsWithin, KeepsWithin};
 ghost use Rattle.vm_code.specs.Parameters.{parameter_of};
 ghost use Rattle.vm_typing.specs.Runs.{Move};
 ghost use Rattle.vm_world.specs.Worlds.{takes_at};
-ghost use Rattle.vm_run.specs.Run.{answer, played, run, AreDue, HasStopped, IsCrossing, IsDue, IsOver, IsNeverStuck};
+ghost use Rattle.vm_run.specs.Run.{answer, played, run, AreDue, HasStopped, IsCrossing, IsDue, IsOfSpace, IsOver, IsNeverStuck};
 ghost use Rattle.vm_run.specs.Task.{pause_at, fuel_left, left_after, final_state, arguments_of, call_arguments, last_end, outcome_of, outcome_at, phase_state, threw_named, unmarshalled, IsCall, IsCalling, IsOutcome, IsOfSet};
 
 use crate::fault::StartFault;
@@ -17,7 +17,7 @@ use crate::found::find;
 use crate::limits::Limits;
 use crate::opening::opening;
 use crate::outcome::{Outcome, Pause};
-use crate::phase::{Last, Phase};
+use crate::phase::{Last, Phase, fuel_after};
 use crate::program::Program;
 use crate::receiving::refuses_begin;
 use crate::thrown::ThrownClasses;
@@ -28,6 +28,7 @@ use std::mem;
 use std::snapshot::Snapshot;
 use vm_code::{Asked, Ending, Machine, Reply, arguments};
 use vm_heap::{Heap, Row, Uuid, Value};
+use vm_replies::fits;
 
 /// A method that runs on a machine of its own.
 #[derive(Drop)]
@@ -93,12 +94,9 @@ impl Task {
         requires { limits.heap_words + most_rows < 2 ^ 32 }
         ensures begun { IfOk result (λ task. begun program.now own method values.items limits ≡ Ok task) }
         ensures refused { IfErr result (Refuses (begun program.now own method values.items limits)) }
-
-        // It has all its fuel, and however many instructions it makes, its machine is not stuck.
         ensures program { IfOk result (λ task. task.program ≡ program.now) }
         ensures fuel { IfOk result (λ task. fuel_left task.state ≡ limits.fuel) }
         ensures never_stuck { IfOk result (λ task. IsNeverStuck program.now task.state) }
-        // All frames keep within max_stack and max_locals of their methods.
         ensures within { IfOk result (λ task. (k : ℕ) → KeepsWithin program.now (run program.now k task.state)) }
         ensures within_replies { IfOk result (λ task. AlwaysKeepsWithin program.now task.state) }
     {
@@ -147,6 +145,20 @@ impl Task {
             Phase::Running(..) => Pause::Turn,
             Phase::Waiting(_, asked, _) => Pause::Ask(asked),
             Phase::Over(..) => Pause::Ended,
+        }
+    }
+
+    /// Returns whether the task waits for a reply that this one fits, so that `answer` may be given it.
+    pub fn takes(&self, program: &Program, reply: &Reply) -> bool
+        requires { IsOfSpace self.now.own self.now.state }
+        ensures { IsTrue result → IsDue program.now.classes reply.now self.now.state }
+    {
+        match &self.phase {
+            Phase::Waiting(_, asked, fuel) => {
+                let fits = fits(program.linked(), self.own, asked, reply);
+                fits && fuel_after(asked, reply, *fuel) <= *fuel
+            }
+            _ => false,
         }
     }
 
