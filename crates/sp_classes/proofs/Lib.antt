@@ -1,2 +1,3 @@
 pub mod KeptKinds
 pub mod Told
+pub mod Selected

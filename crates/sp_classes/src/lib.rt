@@ -8,5 +8,6 @@ pub use starting::start_refusal;
 
 mod classes;
 mod fields;
+pub mod receiving;
 mod remote;
 mod starting;

@@ -18,14 +18,15 @@ pub fn sum(alloc: Global) -> Result<Program, RowFault> {
     program_of(alloc, SUM)
 }
 
-/// Returns the program of a class T that implements an interface, none for `-`, and has one static method f.
-pub fn one_method(alloc: Global, words: &[&str]) -> Result<Program, RowFault> {
+/// Returns the program of a class T that implements an interface, none for `-`, and has one method f with
+/// these flags.
+pub fn one_method(alloc: Global, flags: u16, words: &[&str]) -> Result<Program, RowFault> {
     let [interface, descriptor, max_stack, max_locals, code] = words else {
         return Err(RowFault::Bad);
     };
     let code = hex::decode(alloc, *code).map_err(|_| RowFault::Bad)?;
     let method = MethodParts {
-        flags: 0x0009,
+        flags,
         name: "f",
         descriptor: *descriptor,
         code: Some(CodeParts {

@@ -50,7 +50,7 @@ impl Stage {
         match (kind, words) {
             ("argument", []) => self.value(said, ""),
             ("faults", []) => tasks::put_faults(said),
-            ("sum" | "class" | "limits", words) => self.begin(kind, words),
+            ("sum" | "class" | "instance" | "limits", words) => self.begin(kind, words),
             ("number", [name]) => put(said, "number", &class_number(self.program()?, name)),
             ("turns" | "pieces", words) => {
                 tasks::play(self.alloc, said, self.program()?, self.limits, kind, words)
@@ -70,7 +70,8 @@ impl Stage {
     fn begin(&mut self, kind: &str, words: &[&str]) -> Result<(), RowFault> {
         match (kind, words) {
             ("sum", []) => self.program = Some(sum(self.alloc)?),
-            ("class", words) => self.program = Some(one_method(self.alloc, words)?),
+            ("class", words) => self.program = Some(one_method(self.alloc, 0x0009, words)?),
+            ("instance", words) => self.program = Some(one_method(self.alloc, 0x0001, words)?),
             ("limits", words) => self.limits = limits_of(words)?,
             _ => return Err(RowFault::Bad),
         }

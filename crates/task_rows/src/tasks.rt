@@ -101,7 +101,7 @@ fn start(
     if limits.heap_words > MOST_HEAP_WORDS {
         return Err(Untold::Row(RowFault::Bad));
     }
-    Task::start(alloc, program, Uuid::nil(), method, arguments, limits).map_err(told_of)
+    Task::begin(alloc, program, Uuid::nil(), method, arguments, limits).map_err(told_of)
 }
 
 fn told_of(fault: StartFault) -> Untold {

@@ -119,7 +119,7 @@ fn complete(machine: Machine, asked: Asked, code: &[LinkedInsn], reply: Reply, f
 }
 
 // The fuel that is left after a reply: a call has what its callee left.
-fn fuel_after(asked: &Asked, reply: &Reply, fuel: u64) -> u64
+pub(crate) fn fuel_after(asked: &Asked, reply: &Reply, fuel: u64) -> u64
     ensures { result ≡ fuel_after asked.now reply.now fuel }
 {
     match asked {
