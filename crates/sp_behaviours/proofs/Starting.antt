@@ -17,7 +17,8 @@ use Rattle.vm_heap.specs.References.{Table, row_for}
 use Rattle.vm_act.specs.declared.ending.Thrown.TheVariants.{OutOfMemoryError, StackOverflowError}
 use Rattle.vm_run.specs.Ends.{Threw}
 use Rattle.vm_run.specs.Run.{State, Running, Waits, Over, Lost, IsNeverStuck}
-use Rattle.vm_run.specs.Start.{have_room, have_rows, is_row, no_references, opening_machine, opening_state, refusal, startable, started, with_arguments}
+use Rattle.vm_run.specs.Begin.{begun, is_static_at, receiver_refusal}
+use Rattle.vm_run.specs.Start.{have_room, have_rows, is_row, no_references, opening_machine, opening_state, refusal, startable, with_arguments}
 use Rattle.vm_run.specs.Subjects.{Declared}
 use Rattle.vm_run.specs.Task.{Tasked, fuel_left}
 use Rattle.vm_run.specs.declared.fault.StartFault.{StartFault}
@@ -25,7 +26,7 @@ use Rattle.vm_run.specs.declared.fault.StartFault.TheVariants as fault
 use Rattle.vm_run.specs.declared.limits.Limits.{Limits}
 use Rattle.vm_run.specs.declared.outcome.Outcome.TheVariants as outcome
 use Rattle.vm_stack.specs.Frames.{frame_cost}
-use Rattle.sp_behaviours.specs.Behaviours.{behaviour, behaviour_at, limits_of, of_started, told_end, told_some}
+use Rattle.sp_behaviours.specs.Behaviours.{behaviour, behaviour_at, limits_of, of_begun, told_end, told_some}
 use Rattle.sp_behaviours.proofs.OwnSteps.{stand-is}
 use Rattle.sp_behaviours.specs.Follows.{Does, Follows, HoldsAs, HoldsIn, PlaysOn}
 use Rattle.sp_behaviours.proofs.Coming.{Arrives, Comes, Overflows, comes, over-more, stays-within}
@@ -109,26 +110,31 @@ module _ (links : Links) (g : Setting) (arguments : List Value) (fuel : ℕ) (pl
     opening-follows =
         opens (have_room arguments limits.heap_words) (have_rows arguments none) (nat_le (frame_cost code.max_locals code.max_stack) limits.stack_words) (all-come g arguments [] none nothing)
 
--- what starts begins in the opening state
-opened-state : (links : Links) (own : Uuid) (id : MethodId) (arguments : List Value) (limits : Limits) (task : Tasked) → started links own id arguments limits ≡ Ok task
-    → (code : Code) × (task.state ≡ opening_state own id code arguments limits)
-opened-state links own id arguments limits task e = by (startable links id) e
+-- what begins does so in the opening state
+opened-state : (links : Links) (own : Uuid) (id : MethodId) (values : List Value) (limits : Limits) (task : Tasked) → begun links own id values limits ≡ Ok task
+    → (code : Code) × (task.state ≡ opening_state own id code values limits)
+opened-state links own id values limits task e = chosen (is_static_at links id) e
   where
     begin : Declared → Option StartFault → Result Tasked StartFault
     begin m (Some why) = Err why
-    begin m None = Ok (record { program = links; own = own; state = opening_state own id m.code arguments limits })
+    begin m None = Ok (record { program = links; own = own; state = opening_state own id m.code values limits })
 
-    start_at : Option Declared → Result Tasked StartFault
-    start_at None = Err fault.AbsentMethod
-    start_at (Some m) = begin m (refusal links.classes m.method arguments)
+    start_at : (Declared → Option StartFault) → Option Declared → Result Tasked StartFault
+    start_at refuses None = Err fault.AbsentMethod
+    start_at refuses (Some m) = begin m (refuses m)
 
-    begun : (m : Declared) (why : Option StartFault) → begin m why ≡ Ok task → (code : Code) × (task.state ≡ opening_state own id code arguments limits)
-    begun m (Some why) e = absurd (cc)
-    begun m None e = let same : record { program = links; own = own; state = opening_state own id m.code arguments limits } ≡ task = cc in (m.code, ap (λ (t : Tasked). t.state) (sym same))
+    opened : (m : Declared) (why : Option StartFault) → begin m why ≡ Ok task → (code : Code) × (task.state ≡ opening_state own id code values limits)
+    opened m (Some why) e = absurd (cc)
+    opened m None e = let same : record { program = links; own = own; state = opening_state own id m.code values limits } ≡ task = cc in (m.code, ap (λ (t : Tasked). t.state) (sym same))
 
-    by : (o : Option Declared) → start_at o ≡ Ok task → (code : Code) × (task.state ≡ opening_state own id code arguments limits)
-    by None e = absurd (cc)
-    by (Some m) e = begun m (refusal links.classes m.method arguments) e
+    by : (refuses : Declared → Option StartFault) (o : Option Declared) → start_at refuses o ≡ Ok task → (code : Code) × (task.state ≡ opening_state own id code values limits)
+    by refuses None e = absurd (cc)
+    by refuses (Some m) e = opened m (refuses m) e
+
+    chosen : (b : Bool) → (if b then start_at (λ m. refusal links.classes m.method values) (startable links id) else start_at (λ m. receiver_refusal links.classes own m values) (startable links id)) ≡ Ok task
+        → (code : Code) × (task.state ≡ opening_state own id code values limits)
+    chosen true e = by (λ m. refusal links.classes m.method values) (startable links id) e
+    chosen false e = by (λ m. receiver_refusal links.classes own m values) (startable links id) e
 
 -- what does as a state tells does so as deep as its fuel
 abbrev depth_of : State → ℕ
@@ -144,13 +150,13 @@ does_at links t (Over end fuel) b = stand-is t (rules.Over (told_end links.class
 does_at links t Lost b = tt
 
 pub starts-follow : (links : Links) (g : Setting) (method : ℕ) (arguments : List Value) (fuel : ℕ) (task : Tasked) → PlaysOn links g
-    → started links g.id (record { 0 = method }) arguments (limits_of g.limits fuel) ≡ Ok task → IsNeverStuck links task.state → Follows links g (start g method arguments fuel) task.state
+    → begun links g.id (record { 0 = method }) arguments (limits_of g.limits fuel) ≡ Ok task → IsNeverStuck links task.state → Follows links g (start g method arguments fuel) task.state
 unfolding start behaviour
 starts-follow links g method arguments fuel task plays e safe =
     let id : MethodId = record { 0 = method } in
     let opened = opened-state links g.id id arguments (limits_of g.limits fuel) task e in
     let is = opening-follows links g arguments fuel plays id opened.0 in
-    let does : g.classes.behaviour g.id g.limits method arguments fuel ≡ behaviour_at links task.state = plays.behaviour g.id g.limits method arguments fuel ∙ ap (of_started links) e in
+    let does : g.classes.behaviour g.id g.limits method arguments fuel ≡ behaviour_at links task.state = plays.behaviour g.id g.limits method arguments fuel ∙ ap (of_begun links) e in
     let came : List Ref = with_references [] (references_of arguments) in
     record {
       depth = depth_of task.state;

@@ -22,7 +22,7 @@ use Rattle.vm_act.specs.declared.machine.Machine.{Machine}
 use Rattle.vm_rows.specs.Steps.{step}
 use Rattle.vm_run.specs.Ends.{End, end_of}
 use Rattle.vm_run.specs.Run.{State, Running, Waits, Over, Lost}
-use Rattle.vm_run.specs.Start.{started}
+use Rattle.vm_run.specs.Begin.{begun}
 use Rattle.vm_run.specs.Task.{Tasked, arguments_of, outcome_of}
 use Rattle.vm_run.specs.declared.fault.StartFault.{StartFault}
 use Rattle.vm_run.specs.declared.limits.Limits.{Limits}
@@ -176,11 +176,12 @@ limits_of limits fuel = record {
   fuel = fuel;
 }
 
-abbrev pub of_started : Links → Result Tasked StartFault → rules.Behaviour
-of_started links (Ok task) = behaviour_at links task.state
-of_started links (Err fault) = rules.Over rules.Spent
+abbrev pub of_begun : Links → Result Tasked StartFault → rules.Behaviour
+of_begun links (Ok task) = behaviour_at links task.state
+of_begun links (Err fault) = rules.Over rules.Spent
 
--- what a task of a space does that starts at a method with these arguments and this fuel, if it does start
+-- what a task of a space does that starts at a method with these values and this fuel, if it does start: those of a method that is not static
+-- are its receiver and the arguments
 unfoldable pub behaviour : Links → Uuid → classes.Limits → ℕ → List Value → ℕ → rules.Behaviour
 behaviour links own limits method arguments fuel =
-    of_started links (started links own (record { 0 = method }) arguments (limits_of limits fuel))
+    of_begun links (begun links own (record { 0 = method }) arguments (limits_of limits fuel))

@@ -9,7 +9,7 @@ use Rattle.vm_act.specs.declared.asked.Asked.{Asked}
 use Rattle.vm_act.specs.declared.asked.Reply.{Reply}
 use Rattle.vm_act.specs.declared.machine.Machine.{Machine}
 use Rattle.vm_run.specs.Run.{State, Waits, answer, made, run, IsDue, IsNeverStuck}
-use Rattle.vm_run.specs.Start.{started}
+use Rattle.vm_run.specs.Begin.{begun}
 use Rattle.vm_run.specs.Task.{Tasked, outcome_at}
 use Rattle.vm_run.specs.declared.outcome.Outcome.{Outcome}
 use Rattle.sp_behaviours.specs.Behaviours.{limits_of, reply_to, told}
@@ -53,5 +53,5 @@ LentIsLeft = (links : Links) (g : Setting) (t : tasks.Task) (op : Asked) (m : Ma
 -- A task that starts follows its machine as that begins.
 abbrev pub StartsFollow : Type 0
 StartsFollow = (links : Links) (g : Setting) (method : ℕ) (arguments : List Value) (fuel : ℕ) (task : Tasked)
-    → PlaysOn links g → started links g.id (record { 0 = method }) arguments (limits_of g.limits fuel) ≡ Ok task → IsNeverStuck links task.state
+    → PlaysOn links g → begun links g.id (record { 0 = method }) arguments (limits_of g.limits fuel) ≡ Ok task → IsNeverStuck links task.state
     → Follows links g (tasks.start g method arguments fuel) task.state

@@ -25,8 +25,8 @@ pub fn replies_are_followed()
     ensures lent { LentIsLeft }
 {}
 
-/// A task that starts follows its machine as that begins, also where its arguments, their references or
-/// its first frame do not fit.
+/// A task that starts at a static method, or at one with its receiver, follows its machine as that begins,
+/// also where its arguments, their references or its first frame do not fit.
 pub fn starts_are_followed()
     ensures { StartsFollow }
 {}

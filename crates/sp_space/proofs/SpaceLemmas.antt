@@ -21,6 +21,7 @@ use Rattle.sp_core.specs.declared.event.Event.{Event as Told}
 use Rattle.sp_core.specs.declared.event.Root.{Root}
 use Rattle.sp_core.specs.declared.space.SpaceCore.{SpaceCore}
 use Rattle.sp_core.specs.declared.fault.StartFault.{StartFault as Refused}
+use Rattle.vm_run.proofs.Begun.{started_begun}
 use Rattle.vm_run.specs.Run.{IsNeverStuck}
 use Rattle.vm_run.specs.Start.{started}
 use Rattle.vm_run.specs.Task.{Tasked}
@@ -137,7 +138,7 @@ pub begins-so : (links : Links) (g : Setting) (root : Root) (method : MethodId) 
 begins-so links g root method arguments fuel task runs same starts program safe fits =
     let begun : IsTold g (record { method = method.0; arguments = arguments; fuel = fuel; refused = None }) × IsStarted links g (record { method = method.0; arguments = arguments; fuel = fuel; refused = None }) task = (
       runs.starts method.0 arguments fuel task starts,
-      record { program = program; follows = starts-follow links g method.0 arguments fuel task runs.plays starts safe; fits = fits },
+      record { program = program; follows = starts-follow links g method.0 arguments fuel task runs.plays (started_begun links g.id (record { 0 = method.0 }) arguments (limits_of g.limits fuel) task starts) safe; fits = fits },
     ) in
     subst (λ (r : Root). IsTold g r × IsStarted links g r task) (sym same) begun
 

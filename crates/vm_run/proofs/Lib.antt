@@ -7,7 +7,9 @@ pub mod Outcomes
 pub mod Calls
 pub mod Copying
 pub mod Passing
+pub mod Arguments
 pub mod Begins
+pub mod Begun
 pub mod Sound
 pub mod Limited
 pub mod Made

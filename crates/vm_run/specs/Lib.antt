@@ -8,4 +8,5 @@ pub mod Task
 pub mod Thrown
 pub mod Program
 pub mod Start
+pub mod Begin
 pub mod FaultNames

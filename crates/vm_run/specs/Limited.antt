@@ -3,7 +3,8 @@
 use Rattle.std.specs.Prelude.{◌≡◌, ◌≤◌, Some, List, [], ◌∷◌, length}
 use Rattle.cls_link.specs.Links.{Links}
 use Rattle.vm_stack.specs.Frames.{Frame}
-use Rattle.vm_run.specs.Run.{State, Running, Waits, Over, Lost}
+use Rattle.vm_typing.specs.Runs.{Move}
+use Rattle.vm_run.specs.Run.{State, Running, Waits, Over, Lost, played, AreDue}
 use Rattle.vm_run.specs.Subjects.{Declared, declared_at}
 
 -- a frame is one of a method with code, and has no more local variables and operands than that allows
@@ -25,3 +26,7 @@ KeepsWithin links (Running m fuel) = IsWithinCode links m.stack.frame × AreWith
 KeepsWithin links (Waits op m fuel) = IsWithinCode links m.stack.frame × AreWithinCode links m.stack.callers
 KeepsWithin links (Over end fuel) = Unit {0}
 KeepsWithin links Lost = Unit {0}
+
+-- so they are after any steps, and any replies that are due
+abbrev pub AlwaysKeepsWithin : Links → State → Type 0
+AlwaysKeepsWithin links state = (moves : List Move) → AreDue links moves state → KeepsWithin links (played links moves state)

@@ -1,5 +1,5 @@
 -- How tasks start (JVMS 5.2 for the command line's class; the rest are rules of this project).
-use Rattle.std.specs.Prelude.{All, IsSome, ℕ, ◌+◌, ◌-◌, ◌^◌, Bool, true, false, not, ◌&&◌, ◌||◌, ◌==◌, nat_le, nat_lt, if◌then◌else◌, Option, Some, None, Result, Ok, Err, List, [], ◌∷◌, ◌++◌, length, replicate, bytes_eq, codes, option_and_then}
+use Rattle.std.specs.Prelude.{All, ◌≡◌, ◌≢◌, IsSome, ℕ, ◌+◌, ◌-◌, ◌^◌, Bool, true, false, not, ◌&&◌, ◌||◌, ◌==◌, nat_le, nat_lt, if◌then◌else◌, Option, Some, None, Result, Ok, Err, List, [], ◌∷◌, ◌++◌, length, replicate, bytes_eq, codes, option_and_then}
 use Rattle.std.specs.List.{list_all}
 use Rattle.std.specs.Option.{option_map_or}
 use Rattle.cf_text.specs.declared.types.ElementType.{ElementType}
@@ -216,3 +216,7 @@ started links own id arguments limits =
     start_at : Option Declared → Result Tasked StartFault
     start_at None = Err fault.AbsentMethod
     start_at (Some m) = begin m (refusal links.classes m.method arguments)
+
+-- a start is refused for this, unless memory ran out
+abbrev pub Refuses : Result Tasked StartFault → StartFault → Type 0
+Refuses starting why = why ≢ fault.Memory → starting ≡ Err why

@@ -4,11 +4,12 @@ ghost use Rattle.cls_link.specs.Links.{AreLinks};
 ghost use Rattle.vm_run.specs.Start.{startable};
 ghost use Rattle.vm_run.specs.Subjects.{declared_at, shown};
 
-use cls_link::{Code, Linked, LinkedInsn, Method, MethodId};
+use cls_link::{ClassId, Code, Linked, LinkedInsn, Method, MethodId};
 
-/// A method and its code, as read and as linked.
+/// A method with the class that declares it, and its code, as read and as linked.
 #[derive(Clone, Copy)]
 pub struct Found<'a> {
+    pub class: ClassId,
     pub method: &'a Method,
     pub code: &'a Code,
     pub insns: &'a [LinkedInsn],
@@ -49,6 +50,7 @@ fn look_up(linked: &Linked, id: MethodId) -> Option<Found<'_>>
     let code = method.code.as_ref()?;
     let insns = entry.code.as_ref()?.insns.as_slice();
     Some(Found {
+        class: entry.class,
         method,
         code,
         insns,

@@ -22,6 +22,7 @@ mod opening;
 mod outcome;
 mod phase;
 mod program;
+mod receiving;
 mod run;
 mod start;
 mod task;

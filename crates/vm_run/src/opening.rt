@@ -27,6 +27,7 @@ pub fn opening(
     requires memory { limits.heap_words + most_rows < 2 ^ 32 }
     ensures opens { IfOk result (λ phase. phase_state phase ≡ opening_state own method code.now arguments.now limits) }
     ensures fuel { IfOk result (λ phase. fuel_left (phase_state phase) ≡ limits.fuel) }
+    ensures short { IfOk result (λ phase. fuel_left (phase_state phase) < 2 ^ 64) }
 {
     let mut stack = Stack::with_words(alloc, limits.stack_words as usize)?;
     let mut heap = Heap::with_words(alloc, limits.heap_words)?;

@@ -40,13 +40,13 @@ pub fn refuses(set: &ClassSet, method: &Method, arguments: &[Value]) -> Option<S
     }
 }
 
-fn is_class_method(method: &Method) -> bool
+pub(crate) fn is_class_method(method: &Method) -> bool
     ensures { result ≡ is_static method.now }
 {
     method.flags.has(Flags::STATIC)
 }
 
-fn may_take(set: &ClassSet, types: &MethodDescriptor) -> bool
+pub(crate) fn may_take(set: &ClassSet, types: &MethodDescriptor) -> bool
     ensures { result ≡ takes_crossing set.now types.now }
 {
     all_cross(set, types.parameters.as_slice()) && result_crosses(set, &types.result)
@@ -101,7 +101,7 @@ fn is_remote_element(set: &ClassSet, element: &ElementType) -> bool
     }
 }
 
-fn are_filled(set: &ClassSet, kinds: &[Shared<FieldType>], arguments: &[Value]) -> bool
+pub(crate) fn are_filled(set: &ClassSet, kinds: &[Shared<FieldType>], arguments: &[Value]) -> bool
     ensures { result ≡ fill set.now kinds.now arguments.now }
 {
     if kinds.len() != arguments.len() {
@@ -126,7 +126,7 @@ fn is_of_type(set: &ClassSet, kind: &Shared<FieldType>, value: &Value) -> bool
     }
 }
 
-fn is_remote_class(set: &ClassSet, class: ClassId) -> bool
+pub(crate) fn is_remote_class(set: &ClassSet, class: ClassId) -> bool
     ensures { result ≡ is_remote set.now class }
 {
     !is_interface(set, class) && is_below_remote(set, class)

@@ -3,8 +3,9 @@ ghost use Rattle.std.specs.Prelude.{List, ◌≡◌, ◌≢◌, ℕ, ◌+◌, �
 ghost use Rattle.vm_heap.specs.Heap.{Ints, cell_at, length_at};
 ghost use Rattle.vm_heap.specs.Tagged.{most_rows};
 ghost use Rattle.vm_run.specs.Ends.{end_of, returned_at};
-ghost use Rattle.vm_run.specs.Start.{opening_state, started};
-ghost use Rattle.vm_run.specs.Limited.{KeepsWithin};
+ghost use Rattle.vm_run.specs.Begin.{begun};
+ghost use Rattle.vm_run.specs.Start.{started, Refuses};
+ghost use Rattle.vm_run.specs.Limited.{AlwaysKeepsWithin, KeepsWithin};
 ghost use Rattle.vm_code.specs.Parameters.{parameter_of};
 ghost use Rattle.vm_typing.specs.Runs.{Move};
 ghost use Rattle.vm_world.specs.Worlds.{takes_at};
@@ -18,7 +19,7 @@ use crate::opening::opening;
 use crate::outcome::{Outcome, Pause};
 use crate::phase::{Last, Phase};
 use crate::program::Program;
-use crate::start::refuses;
+use crate::receiving::refuses_begin;
 use crate::thrown::ThrownClasses;
 use cls_link::{FieldType, Linked, MethodId, Shared};
 use std::alloc::{AllocError, Global};
@@ -61,11 +62,7 @@ impl Task {
     ) -> Result<Task, StartFault>
         requires { limits.heap_words + most_rows < 2 ^ 32 }
         ensures started { IfOk result (λ task. started program.now own method arguments.items limits ≡ Ok task) }
-        ensures refused { IfErr
-            result
-            (λ fault.
-            fault ≢ StartFault.Memory
-            → started program.now own method arguments.items limits ≡ Err fault) }
+        ensures refused { IfErr result (Refuses (started program.now own method arguments.items limits)) }
 
         // It has all its fuel, and however many instructions it makes, its machine is not stuck.
         ensures program { IfOk result (λ task. task.program ≡ program.now) }
@@ -73,22 +70,47 @@ impl Task {
         ensures never_stuck { IfOk result (λ task. IsNeverStuck program.now task.state) }
         // All frames keep within max_stack and max_locals of their methods.
         ensures within { IfOk result (λ task. (k : ℕ) → KeepsWithin program.now (run program.now k task.state)) }
-        ensures within_replies { IfOk
-            result
-            (λ task.
-            (moves : List Move)
-            → AreDue program.now moves task.state
-            → KeepsWithin program.now (played program.now moves task.state)) }
+        ensures within_replies { IfOk result (λ task. AlwaysKeepsWithin program.now task.state) }
+    {
+        match program.refusal(method, &arguments) {
+            Some(fault) => Err(fault),
+            None => Task::begin(alloc, program, own, method, arguments, limits),
+        }
+    }
+
+    /// A task of the space `own` that begins at a method: with an argument for each parameter if it is
+    /// static, and if not with a receiver before them. That is a reference to an object of the space, of a
+    /// remote class that is the method's or a subtype of it. Or else why it does not begin: the first fault
+    /// that fits is told, in the order of `StartFault`.
+    pub fn begin(
+        alloc: Global,
+        program: &Program,
+        own: Uuid,
+        method: MethodId,
+        values: Vec<Value>,
+        limits: Limits,
+    ) -> Result<Task, StartFault>
+        requires { limits.heap_words + most_rows < 2 ^ 32 }
+        ensures begun { IfOk result (λ task. begun program.now own method values.items limits ≡ Ok task) }
+        ensures refused { IfErr result (Refuses (begun program.now own method values.items limits)) }
+
+        // It has all its fuel, and however many instructions it makes, its machine is not stuck.
+        ensures program { IfOk result (λ task. task.program ≡ program.now) }
+        ensures fuel { IfOk result (λ task. fuel_left task.state ≡ limits.fuel) }
+        ensures never_stuck { IfOk result (λ task. IsNeverStuck program.now task.state) }
+        // All frames keep within max_stack and max_locals of their methods.
+        ensures within { IfOk result (λ task. (k : ℕ) → KeepsWithin program.now (run program.now k task.state)) }
+        ensures within_replies { IfOk result (λ task. AlwaysKeepsWithin program.now task.state) }
     {
         let linked = program.linked();
         let Some(found) = find(linked, method) else {
             return Err(StartFault::AbsentMethod);
         };
-        match refuses(linked.set(), found.method, &arguments) {
+        match refuses_begin(linked.set(), own, found, &values) {
             Some(fault) => return Err(fault),
             None => {}
         }
-        let phase = opening(alloc, own, method, found.code, &arguments, limits)?;
+        let phase = opening(alloc, own, method, found.code, &values, limits)?;
         Ok(Task {
             program: Snapshot::of(program),
             own,
@@ -158,6 +180,18 @@ impl Task {
         match &self.phase {
             Phase::Waiting(machine, asked, _) => passed(alloc, program, machine, asked),
             _ => Ok(None),
+        }
+    }
+
+    /// Returns how much fuel the task has left. While it waits, the unit of the instruction that asks is
+    /// among it, and so is what a call lends.
+    pub fn fuel(&self) -> u64
+        ensures { result ≡ fuel_left self.now.state }
+    {
+        match &self.phase {
+            Phase::Running(_, fuel) => *fuel,
+            Phase::Waiting(_, _, fuel) => *fuel + 1,
+            Phase::Over(_, fuel) => *fuel,
         }
     }
 

@@ -1,41 +1,22 @@
-use Rattle.vm_run.specs.Subjects.{shown}
-use Rattle.vm_run.proofs.Begins.{Begins, found_begins}
+use Rattle.std.proofs.Common.{◌≡◌, List, subst}
+use Rattle.std.specs.Prelude.{IfErr, IfOk, IsOk, Ok, Result}
+use Rattle.space_ids.specs.declared.value.Value.{Value}
+use Rattle.vm_run.proofs.Begun.{begun_started}
+use Rattle.vm_run.specs.Start.{started, Refuses}
+use Rattle.vm_run.specs.Task.{Tasked}
+use Rattle.vm_run.specs.declared.fault.StartFault.{StartFault}
 use Rattle.vm_run.proofs.task.Task.start.Goals as goal
 
-pub opening-requires : goal.opening-requires
-opening-requires c =
-    let begins : Begins c.args.program.now c.args.own c.args.method (shown c.in-Some.found) c.args.arguments.items c.args.limits =
-    found_begins c.linked-linked.result.now c.args.program.now c.args.own c.args.method c.find.result c.in-Some.found c.set.result.now c.refuses.result c.deref.result.now c.args.arguments.items c.args.limits
-    c.linked-linked.ensures.linked c.find.ensures.links c.linked-linked.ensures.sound c.find.ensures.found c.in-Some.is c.set.ensures c.refuses.ensures c.in-None.is c.deref.ensures.value in
-    record { few = rw c.deref-2.ensures.value begins.few; memory = c.requires }
+pub returns-in-None-clause-started : goal.returns-in-None-clause-started
+returns-in-None-clause-started c =
+    let ok : IsOk (started c.args.program.now c.args.own c.args.method c.args.arguments.items c.args.limits) =
+    subst (λ (values : List Value). IsOk (started c.args.program.now c.args.own c.args.method values c.args.limits)) c.deref.ensures.value (c.in-None.ensures.starts c.args.own c.args.limits) in
+    subst (λ (r : Result Tasked StartFault). IfOk c.begin.result (λ task. r ≡ Ok task)) (begun_started c.args.program.now c.args.own c.args.method c.args.arguments.items c.args.limits ok)
+    c.begin.ensures.begun
 
-pub invariant_of-result : goal.invariant_of-result
-invariant_of-result c =
-    let begins : Begins c.args.program.now c.args.own c.args.method (shown c.in-Some.found) c.args.arguments.items c.args.limits =
-    found_begins c.linked-linked.result.now c.args.program.now c.args.own c.args.method c.find.result c.in-Some.found c.set.result.now c.refuses.result c.deref.result.now c.args.arguments.items c.args.limits
-    c.linked-linked.ensures.linked c.find.ensures.links c.linked-linked.ensures.sound c.find.ensures.found c.in-Some.is c.set.ensures c.refuses.ensures c.in-None.is c.deref.ensures.value in
-    record {
-      thrown = rw c.of.ensures c.thrown.ensures;
-      never_stuck = rw (c.of.ensures, c.in_ok-phase.ensures.opens, c.deref-2.ensures.value) begins.never_stuck;
-    }
-
-pub returns-clause-never_stuck : goal.returns-clause-never_stuck
-returns-clause-never_stuck c =
-    let begins : Begins c.args.program.now c.args.own c.args.method (shown c.in-Some.found) c.args.arguments.items c.args.limits =
-    found_begins c.linked-linked.result.now c.args.program.now c.args.own c.args.method c.find.result c.in-Some.found c.set.result.now c.refuses.result c.deref.result.now c.args.arguments.items c.args.limits
-    c.linked-linked.ensures.linked c.find.ensures.links c.linked-linked.ensures.sound c.find.ensures.found c.in-Some.is c.set.ensures c.refuses.ensures c.in-None.is c.deref.ensures.value in
-    rw (c.in_ok-phase.ensures.opens, c.deref-2.ensures.value) begins.never_stuck
-
-pub returns-clause-within : goal.returns-clause-within
-returns-clause-within c =
-    let begins : Begins c.args.program.now c.args.own c.args.method (shown c.in-Some.found) c.args.arguments.items c.args.limits =
-    found_begins c.linked-linked.result.now c.args.program.now c.args.own c.args.method c.find.result c.in-Some.found c.set.result.now c.refuses.result c.deref.result.now c.args.arguments.items c.args.limits
-    c.linked-linked.ensures.linked c.find.ensures.links c.linked-linked.ensures.sound c.find.ensures.found c.in-Some.is c.set.ensures c.refuses.ensures c.in-None.is c.deref.ensures.value in
-    rw (c.in_ok-phase.ensures.opens, c.deref-2.ensures.value) begins.within
-
-pub returns-clause-within_replies : goal.returns-clause-within_replies
-returns-clause-within_replies c =
-    let begins : Begins c.args.program.now c.args.own c.args.method (shown c.in-Some.found) c.args.arguments.items c.args.limits =
-    found_begins c.linked-linked.result.now c.args.program.now c.args.own c.args.method c.find.result c.in-Some.found c.set.result.now c.refuses.result c.deref.result.now c.args.arguments.items c.args.limits
-    c.linked-linked.ensures.linked c.find.ensures.links c.linked-linked.ensures.sound c.find.ensures.found c.in-Some.is c.set.ensures c.refuses.ensures c.in-None.is c.deref.ensures.value in
-    rw (c.in_ok-phase.ensures.opens, c.deref-2.ensures.value) begins.within_replies
+pub returns-in-None-clause-refused : goal.returns-in-None-clause-refused
+returns-in-None-clause-refused c =
+    let ok : IsOk (started c.args.program.now c.args.own c.args.method c.args.arguments.items c.args.limits) =
+    subst (λ (values : List Value). IsOk (started c.args.program.now c.args.own c.args.method values c.args.limits)) c.deref.ensures.value (c.in-None.ensures.starts c.args.own c.args.limits) in
+    subst (λ (r : Result Tasked StartFault). IfErr c.begin.result (Refuses r)) (begun_started c.args.program.now c.args.own c.args.method c.args.arguments.items c.args.limits ok)
+    c.begin.ensures.refused
