@@ -1,0 +1,4 @@
+pub mod ResultLemmas
+pub mod LentLemmas
+pub mod EndLemmas
+pub mod EventLemmas
