@@ -1,4 +1,5 @@
 -- What holds of a result, from other facts that hold of it.
+use Rattle.std.proofs.Common.{◌≡◌, refl}
 use Rattle.std.specs.Prelude.{Result, Ok, Err, IfOk, IfErr, OnOk, OnErr}
 
 pub if-ok : {T E : Type 0} (r : Result T E) (P Q : T → Type 0) → ((x : T) → P x → Q x) → IfOk r P → IfOk r Q
@@ -33,3 +34,24 @@ on-ok (Err e) A B f a = tt
 pub on-ok-two : {T E : Type 0} (r : Result T E) (A B C : Type 0) → (A → B → C) → OnOk r A → OnOk r B → OnOk r C
 on-ok-two (Ok x) A B C f a b = f a b
 on-ok-two (Err e) A B C f a b = tt
+
+pub from-ok : {T E : Type 0} (r : Result T E) (A : Type 0) → OnOk r A → ((e : E) → r ≡ Err e → ⊥) → A
+from-ok (Ok x) A a some = a
+from-ok (Err e) A a some = absurd (some e refl)
+
+pub value-ok : {T E : Type 0} (r : Result T E) (P : T → Type 0) → IfOk r P → ((e : E) → r ≡ Err e → ⊥) → (x : T) × P x
+value-ok (Ok x) P p some = (x, p)
+value-ok (Err e) P p some = absurd (some e refl)
+
+-- what follows either way
+pub ok-or-err : {T E : Type 0} (r : Result T E) (A : Type 0) (P : E → Type 0) (B : Type 0) → (A → B) → ((e : E) → P e → B) → OnOk r A → IfErr r P → B
+ok-or-err (Ok x) A P B f h a p = f a
+ok-or-err (Err e) A P B f h a p = h e p
+
+pub ok-or-on : {T E : Type 0} (r : Result T E) (A B C : Type 0) → (A → C) → (B → C) → OnOk r A → OnErr r B → C
+ok-or-on (Ok x) A B C f h a b = f a
+ok-or-on (Err e) A B C f h a b = h b
+
+pub ok-of : {T E : Type 0} (r : Result T E) (P : T → Type 0) (B : Type 0) → ((x : T) → P x → B) → IfOk r P → OnOk r B
+ok-of (Ok x) P B f p = f x p
+ok-of (Err e) P B f p = tt

@@ -40,7 +40,8 @@ pub record ComesNext (g : Setting) (h : List Event) (space : Space) (hand : Lent
   pub in_hand : IsInHand g h space hand
   pub living : Living
   pub lives : task_at (state_of g h) hand.task.id ≡ Some living
-  pub comes : IsNextAt space.program.now g living (machine_at hand.task.id space.machines) next
+  pub level : IsLevelAt space.program.now g living (machine_at hand.task.id space.machines)
+  pub comes : IsNextAt living (machine_at hand.task.id space.machines) next
 
 -- Its machine stands at this operation.
 pub record AsksInHand (g : Setting) (h : List Event) (space : Space) (hand : LentTask) (op : Op) : Type 0 where

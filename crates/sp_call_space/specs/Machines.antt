@@ -1,13 +1,11 @@
 -- The machines of a space, by the ids of their tasks. (This project's own.)
 use Rattle.std.specs.Prelude.{◌≡◌, ℕ, true, false, nat_eq, Option, Some, None, option_map}
 use Rattle.std.specs.Map.{lookup}
-use Rattle.cls_link.specs.Links.{Links}
-use Rattle.sp_rules.specs.Classes.{Setting}
 use Rattle.sp_rules.specs.State.{Living}
 use Rattle.sp_rules.specs.Tasks.{HasEnded, Runs, stand, step}
 use Rattle.sp_tasks.specs.Behaviours.{outcome_of}
 use Rattle.vm_run.specs.Task.{fuel_left}
-use Rattle.sp_call_space.specs.Players.{AsksIn, IsLevel, Played, end_at}
+use Rattle.sp_call_space.specs.Players.{AsksIn, Played, end_at}
 use Rattle.sp_call_space.specs.declared.machines.Machines.{Machines}
 use Rattle.sp_call_space.specs.declared.player.Next.{Next}
 use Rattle.sp_call_space.specs.declared.player.Next.TheVariants as next
@@ -28,6 +26,6 @@ IsNext t p (next.Ended outcome) = (p.ahead ≡ false) × (stand t.task ≡ HasEn
 IsNext t p (next.Asks asked) = (p.ahead ≡ false) × AsksIn asked p.task.state
 IsNext t p (next.Made outcome) = (p.ahead ≡ true) × (stand t.task ≡ Runs) × (end_at (stand (step t.task)) ≡ option_map outcome_of outcome)
 
-abbrev pub IsNextAt : Links → Setting → Living → Option Played → Next → Type 0
-IsNextAt links g t None next = ⊥
-IsNextAt links g t (Some p) next = IsLevel links g t p × IsNext t p next
+abbrev pub IsNextAt : Living → Option Played → Next → Type 0
+IsNextAt t None next = ⊥
+IsNextAt t (Some p) next = IsNext t p next

@@ -47,13 +47,11 @@ impl<'p> Space<'p> {
         ensures refused { IfErr result (λ fault. (g : Setting) (h : List Happening) → AsksInHand g h self.old hand op.now → is_on_store (op_of op.now) ≡ true → IsStepRefused g h hand.task.id fault) }
         ensures same { OnErr result ((g : Setting) (h : List Happening) → Stands g h self.old → Stands g h self.new) }
     {
-        match self.core.commit_lent(self.classes, &mut hand, op) {
-            Ok(_) => {
-                self.core.take_back(hand);
-                Ok(Vec::new(self.alloc))
-            }
-            Err(fault) => Err(self.fail(hand, fault)),
+        if let Err(fault) = self.core.commit_lent(self.classes, &mut hand, op) {
+            return Err(self.fail(hand, fault));
         }
+        self.core.take_back(hand);
+        Ok(Vec::new(self.alloc))
     }
 
     // Lets a task in hand wait for the reply to the call at which its machine stands.

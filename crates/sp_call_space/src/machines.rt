@@ -82,7 +82,7 @@ impl<'p> Machines<'p> {
         ensures others { (other : ℕ) → (id == other) ≡ false → machine_at other self.new ≡ machine_at other self.old }
     {
         match self.rows.get_mut(&id) {
-            Some(player) => player.catch_up(alloc, record),
+            Some(player) => Ok(player.catch_up(alloc, record)?),
             None => Err(AllocError),
         }
     }
@@ -91,11 +91,11 @@ impl<'p> Machines<'p> {
     /// and is not ahead. Returns what comes next of the task.
     pub(crate) fn next(&mut self, alloc: Global, id: u64) -> Result<Next, AllocError>
         ensures level { (links : Links) (g : Setting) (t : Living) → IsLevelAt links g t (machine_at id self.old) → IsLevelAt links g t (machine_at id self.new) }
-        ensures next { IfOk result (λ next. (links : Links) (g : Setting) (t : Living) → IsLevelAt links g t (machine_at id self.old) → IsNextAt links g t (machine_at id self.new) next) }
+        ensures next { IfOk result (λ next. (links : Links) (g : Setting) (t : Living) → IsLevelAt links g t (machine_at id self.old) → IsNextAt t (machine_at id self.new) next) }
         ensures others { (other : ℕ) → (id == other) ≡ false → machine_at other self.new ≡ machine_at other self.old }
     {
         match self.rows.get_mut(&id) {
-            Some(player) => player.next(alloc),
+            Some(player) => Ok(player.next(alloc)?),
             None => Err(AllocError),
         }
     }

@@ -1,6 +1,7 @@
 //! The machine of a living task.
 
 ghost use Rattle.std.specs.Prelude.{◌≡◌, ◌+◌, ◌<◌, ◌^◌, ℕ, false, IfOk, OnOk, OnErr, Ok, option_map};
+ghost use Rattle.cls_link.specs.Links.{Links};
 ghost use Rattle.sp_behaviours.specs.Behaviours.{op_at};
 ghost use Rattle.sp_behaviours.specs.Follows.{PlaysOn};
 ghost use Rattle.sp_living.specs.Views.{recorded_in};
@@ -89,7 +90,7 @@ impl<'p> Player<'p> {
     /// Gives the machine of a task that does not wait the reply for which it stands, if the record has one more
     /// than it has taken.
     pub(crate) fn catch_up(&mut self, alloc: Global, record: &Record) -> Result<(), AllocError>
-        ensures level { OnOk result ((g : Setting) (t : Living) → PlaysOn self.old.task.program g → IsPlayedBy self.old.task.program g t self.old → t.waits ≡ false → recorded_in t ≡ record.now.past → IsLevel self.old.task.program g t self.new) }
+        ensures level { OnOk result ((links : Links) (g : Setting) (t : Living) → PlaysOn links g → IsPlayedBy links g t self.old → t.waits ≡ false → recorded_in t ≡ record.now.past → IsLevel links g t self.new) }
         ensures same { OnErr result (self.new ≡ self.old) }
     {
         let Some(given) = pending::reply(record, self.taken) else {
@@ -102,30 +103,33 @@ impl<'p> Player<'p> {
             return Err(AllocError);
         };
         // Every reply fits what was asked (laws of sp_reply_laws and sp_world_laws).
-        if !pending::takes(&self.task, self.program, &reply) {
-            return Err(AllocError);
+        if pending::takes(&self.task, self.program, &reply) {
+            self.task.answer(self.program, reply);
+            self.taken = pending::replies(record);
+            return Ok(());
         }
-        self.task.answer(self.program, reply);
-        self.taken = pending::replies(record);
-        Ok(())
+        Err(AllocError)
     }
 
     /// Lets a machine that is level with its task make an instruction, if it has not ended and does not ask, and is
     /// not ahead. Returns what comes next of the task.
     pub(crate) fn next(&mut self, alloc: Global) -> Result<Next, AllocError>
-        ensures level { (g : Setting) (t : Living) → IsLevel self.old.task.program g t self.old → IsLevel self.old.task.program g t self.new }
-        ensures next { IfOk result (λ next. (g : Setting) (t : Living) → IsLevel self.old.task.program g t self.old → IsNext t self.new next) }
+        ensures level { (links : Links) (g : Setting) (t : Living) → IsLevel links g t self.old → IsLevel links g t self.new }
+        ensures next { IfOk result (λ next. (links : Links) (g : Setting) (t : Living) → IsLevel links g t self.old → IsNext t self.new next) }
     {
-        if !self.is_ahead {
-            if let Some(outcome) = self.outcome(alloc)? {
-                return Ok(Next::Ended(outcome));
-            }
-            match self.task.run(self.program, 1) {
-                Pause::Ask(asked) => return Ok(Next::Asks(asked)),
-                _ => self.is_ahead = true,
+        if self.is_ahead {
+            return Ok(Next::Made(self.outcome(alloc)?));
+        }
+        if let Some(outcome) = self.outcome(alloc)? {
+            return Ok(Next::Ended(outcome));
+        }
+        match self.task.run(self.program, 1) {
+            Pause::Ask(asked) => Ok(Next::Asks(asked)),
+            _ => {
+                self.is_ahead = true;
+                Ok(Next::Made(self.outcome(alloc)?))
             }
         }
-        Ok(Next::Made(self.outcome(alloc)?))
     }
 
     // How it ended, if it has, or if no fuel is left.

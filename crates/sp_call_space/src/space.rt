@@ -1,11 +1,11 @@
 //! Spaces.
 
-ghost use Rattle.std.specs.Prelude.{◌≡◌, ◌+◌, ◌^◌, ◌<◌, [], IfOk, option_map, slice_get};
+ghost use Rattle.std.specs.Prelude.{◌≡◌, ◌+◌, ◌^◌, ◌<◌, ℕ, List, IfOk, option_map, slice_get};
 ghost use Rattle.vm_heap.specs.Tagged.{most_rows};
 ghost use Rattle.sp_classes.specs.Classes.{classes_of};
 ghost use Rattle.sp_rules.specs.Classes.{Setting};
 ghost use Rattle.sp_rules.specs.State.{State, opening, standing};
-ghost use Rattle.sp_twin_core.specs.Shown.{shown, shown_of};
+ghost use Rattle.sp_twin_core.specs.Shown.{lowest_ready, shown, shown_of};
 ghost use Rattle.sp_call_space.specs.Spaces.{AreLimits, IsSpace};
 
 use crate::machines::Machines;
@@ -73,8 +73,10 @@ impl<'p> Space<'p> {
         self.core.object(index)
     }
 
-    /// The lowest task that may go on.
-    pub fn ready(&self) -> Option<u64> {
+    /// The lowest task that may go on and is not lent.
+    pub fn ready(&self) -> Option<u64>
+        ensures { (g : Setting) (s : State) → IsSpace g s self.now → (lent : List ℕ) × (result ≡ lowest_ready lent s) }
+    {
         self.core.ready()
     }
 }

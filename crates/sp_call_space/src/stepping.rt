@@ -56,11 +56,21 @@ impl<'p> Space<'p> {
         ensures same { (g : Setting) (h : List Happening) → IsInHand g h self.old hand.now → IsInHand g h self.new hand.now }
         ensures core { self.new.core ≡ self.old.core }
     {
+        self.make(hand)?;
+        self.machines
+            .catch_up(self.alloc, hand.id(), hand.record())
+    }
+
+    // Makes the machine of a task in hand that has none.
+    fn make(&mut self, hand: &LentTask) -> Result<(), AllocError>
+        ensures same { (g : Setting) (h : List Happening) → IsInHand g h self.old hand.now → IsInHand g h self.new hand.now }
+        ensures core { self.new.core ≡ self.old.core }
+    {
         let id = hand.id();
-        if !self.machines.has(id) {
-            self.begin(id, hand.record())?;
+        if self.machines.has(id) {
+            return Ok(());
         }
-        self.machines.catch_up(self.alloc, id, hand.record())
+        self.begin(id, hand.record())
     }
 
     // Makes the machine of a task to which nothing has happened since it began.
