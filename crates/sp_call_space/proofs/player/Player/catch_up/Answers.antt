@@ -1,4 +1,4 @@
-use Rattle.std.proofs.Common.{◌≡◌, Bool, true, false, Some, None, ap, sym, subst, ◌∙◌, length}
+use Rattle.std.proofs.Common.{◌≡◌, ℕ, Bool, true, false, Some, None, ap, sym, subst, ◌∙◌, length}
 use Rattle.std.specs.Prelude.{IsTrue, option_map, slice_get}
 use Rattle.cls_link.specs.Links.{Links}
 use Rattle.sp_living.specs.Views.{recorded_in}

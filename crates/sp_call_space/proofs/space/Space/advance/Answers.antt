@@ -18,10 +18,3 @@ pub returns-in-Ok-clause-same : goal.returns-in-Ok-clause-same
 returns-in-Ok-clause-same c =
     on-err c.take.result _ _ (λ same. λ g h l.
     same g h (comes-next g h c.args.self.now c.next.new.self c.args.hand c.id.result c.in-Ok.next c.id.ensures l c.next.ensures.level c.in-Ok.ensures.next c.next.ensures.others)) c.take.ensures.same
-
-pub returns-in_default-clause-refused : goal.returns-in_default-clause-refused
-returns-in_default-clause-refused c = λ g h l. inl c.fail.ensures.fault
-
-pub returns-in_default-clause-same : goal.returns-in_default-clause-same
-returns-in_default-clause-same c = λ g h l.
-    c.fail.ensures.same g h (still-stands g h c.args.self.now c.next.new.self c.args.hand c.id.result c.id.ensures l c.next.ensures.level c.next.ensures.others)

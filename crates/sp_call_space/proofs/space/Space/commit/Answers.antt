@@ -8,6 +8,7 @@ use Rattle.sp_rules.specs.Space.{state_of}
 use Rattle.sp_tasks.specs.Rows.{Hand}
 use Rattle.sp_twin_core.specs.Cores.{lent_as}
 use Rattle.sp_twin_core.specs.Hands.{committed, given_back}
+use Rattle.sp_call_space.specs.Events.{IsRefused}
 use Rattle.sp_call_space.specs.Machines.{machine_at}
 use Rattle.sp_call_space.proofs.HandLemmas.{back-played, commit-played}
 use Rattle.sp_call_space.proofs.LentLemmas.{back-alone, commit-alone, lends-those, lent-hand, lent_ids}
@@ -45,3 +46,16 @@ returns-clause-done c = λ g h a on.
     (lent-event g (e ∷ h) (record space { core = c.commit_lent.new.self }) c.take_back.new.self space.machines (given_back after.task) after.task.id done refl
     (lent_as t after.task (lent_ids c.commit_lent.new.self)) back (c.take_back.ensures.state g t done.core)
     (back-played g (e ∷ h) space.program.now after.task (machine_at after.task.id space.machines) none (done.played after.task.id)) (λ other apart. refl))
+
+pub returns-in-Err-clause-refused : goal.returns-in-Err-clause-refused
+returns-in-Err-clause-refused c = λ g h a on.
+    let s = state_of g h in
+    let space = c.args.self.now in
+    let hand = c.args.hand in
+    let op = c.args.op.now in
+    let stands = a.in_hand.stands in
+    let lent = lent-hand g s space.core hand stands.core a.in_hand.own in
+    let refused = c.in-Err.ensures.refused g s (lent_ids space.core) stands.core (lends-those space.core) stands.of.classes in
+    let why : IsRefused g h (committed hand.task op) c.in-Err.fault = inr (subst (λ (r : Option Refusal). Refuses r c.in-Err.fault) (commit-alone g s space.core hand.task op lent) refused) in
+    event-refused g h hand.task.id a.living (committed hand.task op) (GivenBack hand.task.id 0 ∷ []) c.fail.result a.lives a.level.ready (commit-step g h space hand op a on)
+    (subst (IsRefused g h (committed hand.task op)) (sym c.fail.ensures.fault) why)

@@ -21,10 +21,10 @@ returns-in-Ok-clause-done c = λ g h e.
     let hand = c.args.hand in
     let core-is = e.stands.core in
     let lent = lent-hand g s space.core hand core-is e.own in
-    let fuel : HasFuel g hand.task c.fuel.result = c.fuel.ensures ∙ ap (λ n. fuel_at (machine_at n space.machines)) c.id.ensures ∙ e.fuel in
+    let fuel : HasFuel g hand.task c.fuel-fuel.result = c.fuel-fuel.ensures ∙ ap (λ n. fuel_at (machine_at n space.machines)) c.id-id.ensures ∙ e.fuel in
     let taken = c.in-Ok.ensures.accepted g s (lent_ids space.core) core-is (lends-those space.core) e.at in
-    let gone : machine_at hand.task.id c.remove.new.self ≡ None = c.remove.ensures hand.task.id ∙ ap (λ b. cond b None (machine_at hand.task.id space.machines)) (eq-eqb c.id.result hand.task.id c.id.ensures) in
+    let gone : machine_at hand.task.id c.remove.new.self ≡ None = c.remove.ensures hand.task.id ∙ ap (λ b. cond b None (machine_at hand.task.id space.machines)) (eq-eqb c.id-id.result hand.task.id c.id-id.ensures) in
     happened g h (finished hand.task) _ _ (sym (finish-alone g s space.core hand.task lent) ∙ taken) (c.in-Ok.ensures.outputs g s core-is e.stands.of.classes e.at fuel)
     (lent-event g h space c.finish.new.self c.remove.new.self (finished hand.task) hand.task.id e.stands refl (lent_as s hand.task (lent_ids space.core)) taken
     (c.in-Ok.ensures.state g s core-is e.stands.of.classes e.at fuel) (gone-played g h space hand c.args.outcome c.remove.new.self e gone)
-    (λ other apart. c.remove.ensures other ∙ ap (λ b. cond b None (machine_at other space.machines)) (ap (λ n. n == other) c.id.ensures ∙ apart)))
+    (λ other apart. c.remove.ensures other ∙ ap (λ b. cond b None (machine_at other space.machines)) (ap (λ n. n == other) c.id-id.ensures ∙ apart)))

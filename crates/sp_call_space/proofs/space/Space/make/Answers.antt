@@ -13,7 +13,7 @@ returns-clause-same c = λ g h i.
     let hand = c.args.hand.now in
     let l = lent-hand g s space.core hand i.stands.core i.own in
     record {
-      stands = c.begin.ensures.stands g h l.living i.stands (ap (λ n. task_at s n) c.id.ensures ∙ l.there) (l.past ∙ sym c.record.ensures) (sym c.has.ensures ∙ c.if-has.false);
+      stands = c.begin.ensures.stands g h l.living i.stands (ap (λ n. task_at s n) c.id-id.ensures ∙ l.there) (l.past ∙ sym c.record.ensures) (sym c.has.ensures ∙ c.if-has.false);
       own = subst (λ (core : SpaceCore). has_lent core hand ≡ true) (sym c.begin.ensures.core) i.own;
       fresh = i.fresh;
     }

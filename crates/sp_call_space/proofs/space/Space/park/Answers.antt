@@ -20,7 +20,7 @@ returns-in-Ok-clause-done c = λ g h a off.
     let stands = a.in_hand.stands in
     let lent = lent-hand g s space.core hand stands.core a.in_hand.own in
     let at = asks-told g h space hand op a in
-    let fuel : HasFuel g hand.task c.fuel.result = c.fuel.ensures ∙ ap (λ n. fuel_at (machine_at n space.machines)) c.id.ensures ∙ asks-fuel g h space hand op a in
+    let fuel : HasFuel g hand.task c.fuel-fuel.result = c.fuel-fuel.ensures ∙ ap (λ n. fuel_at (machine_at n space.machines)) c.id.ensures ∙ asks-fuel g h space hand op a in
     let taken = c.in-Ok.ensures.accepted g s (lent_ids space.core) stands.core (lends-those space.core) stands.of.classes at in
     one-event g h hand.task.id a.living (parked hand.task) _ _ a.lives a.level.ready (park-step g h space hand op a off)
     (happened g h (parked hand.task) _ _ (sym (park-alone g s space.core hand.task lent) ∙ taken) (c.in-Ok.ensures.outputs g s stands.core stands.of.classes at fuel)

@@ -18,7 +18,7 @@ returns-in_default-clause-same c = λ g h is. core-change g h c.args.self.now c.
 
 -- it is
 pub advance-requires : goal.advance-requires
-advance-requires c = subst (λ (core : SpaceCore). has_lent core c.in-Some.hand ≡ true) (sym c.level.ensures.core) c.in-Some.ensures.own
+advance-requires c = record { own = subst (λ (core : SpaceCore). has_lent core c.in-Some.hand ≡ true) (sym c.level.ensures.core) c.in-Some.ensures.own }
 
 pub returns-in-Ok-clause-done : goal.returns-in-Ok-clause-done
 returns-in-Ok-clause-done c =
