@@ -91,8 +91,7 @@ ended-hand g h space hand outcome c =
     let comes = comes-at c.living (machine_at hand.task.id space.machines) l.player (next.Ended outcome) l.plays c.comes in
     let here : c.living.task ≡ task_of g hand.task =
     sym (steps-none c.living.task) ∙ ap (λ k. steps k c.living.task) (sym c.in_hand.fresh) ∙ hand-task g (state_of g h) space.core hand c.living c.in_hand.stands.core c.in_hand.own c.lives in
-    let follows = follows-abreast space.program.now g c.living l.player l.level comes.0 in
-    (
+    let follows = follows-abreast space.program.now g c.living l.player l.level comes.0 in (
       record {
         stands = c.in_hand.stands;
         own = c.in_hand.own;

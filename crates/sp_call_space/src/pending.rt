@@ -60,8 +60,7 @@ pub(crate) fn takes(task: &Task, program: &Program, reply: &vm_code::Reply) -> b
 // sp_twin_core, LentTask::undo: takes the instructions back that its machine made since it was lent.
 pub(crate) fn undo(hand: &mut LentTask)
     ensures { hand.new.task ≡ record hand.old.task { made = 0 } }
-{
-}
+{}
 
 // sp_twin_core, SpaceCore::is_ready: whether a task lives that does not wait.
 pub(crate) fn is_ready(core: &SpaceCore, task: u64) -> bool

@@ -57,8 +57,7 @@ impl<'p> Space<'p> {
         ensures core { self.new.core ≡ self.old.core }
     {
         self.make(hand)?;
-        self.machines
-            .catch_up(self.alloc, hand.id(), hand.record())
+        self.machines.catch_up(self.alloc, hand.id(), hand.record())
     }
 
     // Makes the machine of a task in hand that has none.
