@@ -82,6 +82,13 @@ impl LentTask {
         self.made += made;
     }
 
+    /// Takes the instructions back that its machine made since it was lent or given a reply.
+    pub fn undo(&mut self)
+        ensures { self.new ≡ record self.old { made = 0 } }
+    {
+        self.made = 0;
+    }
+
     // Its record, which has room for a reply if the task has.
     pub(crate) fn into_record(self) -> Record
         ensures past { result.past ≡ self.past }

@@ -1,6 +1,7 @@
 //! The record of a living task.
 
-ghost use Rattle.std.specs.Prelude.{◌≡◌, ◌<◌, ◌≤◌, [], IfOk, OnOk};
+ghost use Rattle.std.specs.Prelude.{◌≡◌, ◌<◌, ◌≤◌, [], IfOk, OnOk, length, option_map, slice_get};
+ghost use Rattle.sp_rules.specs.State as rules;
 ghost use Rattle.sp_tasks.specs.Behaviours.{reply_of};
 ghost use Rattle.sp_tasks.specs.Recorded.{with_entry};
 ghost use Rattle.sp_tasks.specs.Same.{is_recorded};
@@ -72,6 +73,44 @@ impl Record {
             fuel: self.fuel,
             given,
         })
+    }
+
+    /// The number of the method at which the task began.
+    pub fn method(&self) -> u32
+        ensures { result ≡ self.now.past.began.method }
+    {
+        self.method
+    }
+
+    /// The arguments with which it began.
+    pub fn arguments(&self) -> &[Value]
+        ensures { result.now ≡ self.now.past.began.arguments }
+    {
+        self.arguments.as_slice()
+    }
+
+    /// The fuel with which it began.
+    pub fn fuel(&self) -> u64
+        ensures { result ≡ self.now.past.began.fuel }
+    {
+        self.fuel
+    }
+
+    /// How many replies it was given.
+    pub fn replies(&self) -> usize
+        ensures { result ≡ length self.now.past.given }
+    {
+        self.given.len()
+    }
+
+    /// A reply that it was given, by its index, the oldest first.
+    pub fn reply(&self, index: usize) -> Option<&Reply>
+        ensures { option_map (λ reply. reply_of reply.now) result ≡ option_map (λ (given : rules.Given). given.reply) (slice_get self.now.past.given index) }
+    {
+        match self.given.get(index) {
+            Some(given) => Some(&given.reply),
+            None => None,
+        }
     }
 
     /// Whether the two records are the same.

@@ -46,6 +46,13 @@ impl References {
         })
     }
 
+    /// Returns the id of the space whose task came by the references.
+    pub fn own(&self) -> Uuid
+        ensures { result ≡ self.now.own }
+    {
+        self.own
+    }
+
     /// Returns how many references there are.
     #[inline(always)]
     pub fn len(&self) -> usize

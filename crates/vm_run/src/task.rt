@@ -9,7 +9,7 @@ ghost use Rattle.vm_run.specs.Limited.{AlwaysKeepsWithin, KeepsWithin};
 ghost use Rattle.vm_code.specs.Parameters.{parameter_of};
 ghost use Rattle.vm_typing.specs.Runs.{Move};
 ghost use Rattle.vm_world.specs.Worlds.{takes_at};
-ghost use Rattle.vm_run.specs.Run.{answer, played, run, AreDue, HasStopped, IsCrossing, IsDue, IsOfSpace, IsOver, IsNeverStuck};
+ghost use Rattle.vm_run.specs.Run.{answer, played, run, AreDue, HasStopped, IsCrossing, IsDue, IsOver, IsNeverStuck};
 ghost use Rattle.vm_run.specs.Task.{pause_at, fuel_left, left_after, final_state, arguments_of, call_arguments, last_end, outcome_of, outcome_at, phase_state, threw_named, unmarshalled, IsCall, IsCalling, IsOutcome, IsOfSet};
 
 use crate::fault::StartFault;
@@ -150,12 +150,11 @@ impl Task {
 
     /// Returns whether the task waits for a reply that this one fits, so that `answer` may be given it.
     pub fn takes(&self, program: &Program, reply: &Reply) -> bool
-        requires { IsOfSpace self.now.own self.now.state }
         ensures { IsTrue result → IsDue program.now.classes reply.now self.now.state }
     {
         match &self.phase {
-            Phase::Waiting(_, asked, fuel) => {
-                let fits = fits(program.linked(), self.own, asked, reply);
+            Phase::Waiting(machine, asked, fuel) => {
+                let fits = fits(program.linked(), machine.references.own(), asked, reply);
                 fits && fuel_after(asked, reply, *fuel) <= *fuel
             }
             _ => false,
