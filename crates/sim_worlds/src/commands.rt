@@ -74,7 +74,7 @@ impl<S: Played + Drop> Player<S> {
             fuel,
         };
         match self
-            .begin(variable, number, &event)?
+            .begin(variable, number, event)?
             .and_then(PlayFault::of_root)
         {
             Some(fault) => Err(fault),
@@ -98,7 +98,7 @@ impl<S: Played + Drop> Player<S> {
             event: Event::Lookup { peer, name },
         };
         match self
-            .begin(variable, number, &event)?
+            .begin(variable, number, event)?
             .and_then(PlayFault::of_lookup)
         {
             Some(fault) => Err(fault),
@@ -112,7 +112,7 @@ impl<S: Played + Drop> Player<S> {
         match event {
             Between::Open => return self.open(dial),
             Between::Refuse => {
-                let _ = self.happen(&WorldEvent::Refuse { dialler, dialled })?;
+                let _ = self.happen(WorldEvent::Refuse { dialler, dialled })?;
                 return Ok(());
             }
             _ => {}
@@ -121,7 +121,7 @@ impl<S: Played + Drop> Player<S> {
             return Ok(());
         };
         if let Some(event) = event_on(conn, event) {
-            let _ = self.happen(&event)?;
+            let _ = self.happen(event)?;
         }
         Ok(())
     }
@@ -129,7 +129,7 @@ impl<S: Played + Drop> Player<S> {
     // Lets the lowest task of a space that may go on make an instruction.
     pub(crate) fn step(&mut self, space: usize) -> Result<(), PlayFault> {
         if let Some(task) = self.ready(space) {
-            let _ = self.happen(&WorldEvent::Step { space, task })?;
+            let _ = self.happen(WorldEvent::Step { space, task })?;
         }
         Ok(())
     }
@@ -138,7 +138,7 @@ impl<S: Played + Drop> Player<S> {
     fn own(&mut self, command: &Command<'_>) -> Result<(), PlayFault> {
         let (space, event) = self.event(command)?;
         let space = self.names.number(space)?;
-        let _ = self.happen(&WorldEvent::Own { space, event })?;
+        let _ = self.happen(WorldEvent::Own { space, event })?;
         Ok(())
     }
 

@@ -6,9 +6,11 @@ use crate::texts::{put_object, put_outcome};
 use crate::variables::{TaskKey, Variable, Variables, started};
 use crate::{PlayFault, Played};
 use sp_arguments::argument_of;
+use sp_promises::run;
 use sp_world::{CoreFault, Dial, Output, World, WorldEvent};
 use space_ids::{Row, Value};
 use std::alloc::Global;
+use std::mem;
 use table_copies::copy_value;
 
 /// A script as it is played over a world: the names of its spaces, the connections that were opened, the
@@ -65,13 +67,29 @@ impl<S: Played + Drop> Player<S> {
     }
 
     // Lets an event happen, and notes which tasks it ended. Returns why it was refused, if it was.
-    pub(crate) fn happen(&mut self, event: &WorldEvent) -> Result<Option<CoreFault>, PlayFault> {
-        self.world.event(event)?;
-        self.world.settle()?;
+    pub(crate) fn happen(&mut self, event: WorldEvent) -> Result<Option<CoreFault>, PlayFault> {
+        self.run(event)?;
         for space in 0..self.told.len() {
             self.note(space)?;
         }
         Ok(self.world.refused())
+    }
+
+    // Runs the world for an event: the run takes it, and gives it back. Until then a world of no space stands here,
+    // which takes no memory.
+    fn run(&mut self, event: WorldEvent) -> Result<(), PlayFault> {
+        let none = World::new(self.alloc, Vec::new(self.alloc))?;
+        let world = mem::replace(&mut self.world, none);
+        match run(world, &[event]) {
+            Ok(world) => {
+                self.world = world;
+                Ok(())
+            }
+            Err(unfinished) => {
+                self.world = unfinished.world;
+                Err(PlayFault::Memory)
+            }
+        }
     }
 
     // Lets a root or a look-up of a space begin, and gives its task a variable. Returns why it was refused,
@@ -80,13 +98,12 @@ impl<S: Played + Drop> Player<S> {
         &mut self,
         variable: &str,
         space: usize,
-        event: &WorldEvent,
+        event: WorldEvent,
     ) -> Result<Option<CoreFault>, PlayFault> {
         if self.variables.find(variable).is_some() {
             return Err(PlayFault::Bad);
         }
-        self.world.event(event)?;
-        self.world.settle()?;
+        self.run(event)?;
         if let Some(fault) = self.world.refused() {
             return Ok(Some(fault));
         }
@@ -147,9 +164,9 @@ impl<S: Played + Drop> Player<S> {
         }
         let conn = self.connections.len() as u64;
         let Dial { dialler, dialled } = dial;
-        let _ = self.happen(&WorldEvent::Open { dialler, dialled })?;
+        let _ = self.happen(WorldEvent::Open { dialler, dialled })?;
         self.connections.add(dial)?;
-        let _ = self.happen(&WorldEvent::Accept(conn))?;
+        let _ = self.happen(WorldEvent::Accept(conn))?;
         Ok(())
     }
 

@@ -28,7 +28,7 @@ impl<S: Played + Drop> Player<S> {
             return Ok(true);
         }
         if let Some(event) = self.first_delivery() {
-            let _ = self.happen(&event)?;
+            let _ = self.happen(event)?;
             return Ok(true);
         }
         if let Some(space) = self.first_ready() {

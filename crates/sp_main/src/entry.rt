@@ -19,8 +19,10 @@ use super::{
 };
 use cf_reader::MAX_LEN;
 use dev_io::{ReadError, StdSource, read_bytes};
-use sp_runs::{Home, Limits, Program, ScriptFault, play_script};
-use space_ids::Uuid;
+use net_message::Digest;
+use sim_spaces::{Homes, ScriptFault, class_digest, play_script};
+use sp_call_set::CallSet;
+use sp_runs::{Limits, Program};
 use std::alloc::{AllocError, Global};
 use std::io::{Read, Write};
 
@@ -119,29 +121,31 @@ fn sim_report<F: Folder>(
         Err(fault) => return folder_report(alloc, fault),
     };
     match program_of(alloc, &files) {
-        Ok(program) => script_report(alloc, &program, request.script, folder),
+        Ok(program) => {
+            let digest = class_digest(alloc, &files)?;
+            script_report(alloc, &program, digest, request.script, folder)
+        }
         Err(refusal) => refusal_report(alloc, &files, &refusal),
     }
 }
 
-// What the script at a path comes to, over a space of the program.
+// What the script at a path comes to, over spaces of the program.
 fn script_report<F: Folder>(
     alloc: Global,
     program: &Program,
+    digest: Digest,
     path: &str,
     folder: &F,
 ) -> Result<Report, AllocError>
-    requires { (files : List ClassBytes) × IsProgram files program.now }
     ensures { IfOk result (λ report. IsPlayed path.now report.status report.text.items) }
 {
     let script = match read_content(alloc, folder, path, usize::MAX)? {
         Content::Bytes(script) => script,
         Content::Unreadable => return unreadable_report(alloc, path),
     };
-    // The first space of a script has the id 1.
-    let id = Uuid::from_u64_pair(0, 1);
-    let home = Home::new(alloc, program, id, Limits::default())?;
-    match play_script(alloc, home, &script) {
+    let classes = CallSet::new(alloc, program)?;
+    let homes = Homes::new(alloc, program, &classes, digest);
+    match play_script(alloc, &homes, &script) {
         Ok(text) => Ok(played_report(text)),
         Err(ScriptFault::BadLine(number)) => bad_line_report(alloc, number),
         Err(ScriptFault::Memory) => Err(AllocError),

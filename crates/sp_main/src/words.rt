@@ -223,7 +223,7 @@ fn sim_command<'a>(alloc: Global) -> Result<Command<'a>, AllocError>
     ensures { IfOk result (IsCommand sim_shape) }
 {
     Command::new(alloc, "sim")
-        .about("Plays a script over a space and prints what it shows")
+        .about("Plays a script over spaces and prints what it shows")
         .arg(folder_word(alloc))?
         .arg(wanted(alloc, "script", "SCRIPT", "The file of the script"))
 }

@@ -10,4 +10,3 @@ pub mod SpaceSteps
 pub mod SpaceRoots
 pub mod SpaceOnly
 pub mod SpaceGoes
-pub mod Homes

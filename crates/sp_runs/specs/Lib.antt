@@ -2,5 +2,4 @@ pub mod Outcomes
 pub mod InSpace
 pub mod Runs
 pub mod Only
-pub mod Homes
 pub mod Going

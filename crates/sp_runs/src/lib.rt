@@ -2,14 +2,13 @@
 //! in a space.
 #![tactic(auto)]
 
-pub use home::Home;
 pub use in_space::run_in_space;
 pub use refusal::Refusal;
-pub use running::{ClassBytes, Content, RunOutcome, check_classes, program_of, run_classes};
-pub use sim_player::{Played, ScriptFault, play_script};
+pub use running::{
+    ClassBytes, Content, RunOutcome, check_classes, find_named, program_of, run_classes,
+};
 pub use vm_run::{Limits, Program, StartFault};
 
-mod home;
 mod in_space;
 mod refusal;
 mod running;

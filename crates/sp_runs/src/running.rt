@@ -153,8 +153,9 @@ fn read_file(alloc: Global, file: &ClassBytes) -> Result<ClassFile, LoadFault>
     }
 }
 
-// The method that a text names in the class of this name, or in a class or interface above it.
-pub(crate) fn find_named(
+/// Returns the method that a text names, as `f(I)I`, in the class of this name, or in a class or interface above
+/// it, if there is one (JVMS 5.4.3.3).
+pub fn find_named(
     alloc: Global,
     program: &Program,
     class: &[u8],

@@ -175,3 +175,31 @@ twin-new id o (Some hand) at = lend-new id o hand at
 -- what the first state tells is all that is told of lent tasks
 pub lent-same : (core new : SpaceCore) → new.state ≡ core.state → (other : ℕ) → is_lent new other ≡ is_lent core other
 lent-same core new same other = ap (λ (x : SpaceState). unwrap_or (option_map (λ (row : TaskRow). row.lent) (row_of other x.living.tasks.rows)) false) same
+
+-- whether a task lives that does not wait
+abbrev has_row : Option TaskRow → Bool
+has_row o = is_some (option_map (λ (row : TaskRow). row.origin) o)
+
+pub ready-one : (id : ℕ) (o : Option TaskRow) (p : Option Living) → option_map (λ (row : TaskRow). seen_row (id, row)) o ≡ option_map seen p
+    → (has_row o && not (rows.is_parked o)) ≡ is_some (that_is_ready p)
+ready-one id None None e = refl
+ready-one id None (Some t) e = cc
+ready-one id (Some row) None e = cc
+ready-one id (Some row) (Some t) e =
+    let same : seen_row (id, row) ≡ seen t = only (seen_row (id, row)) (seen t) e in
+    (λ j. not ((same j).waits)) ∙ cases t.waits
+  where
+    cases : (w : Bool) → not w ≡ is_some (cond w None (Some t))
+    cases true = refl
+    cases false = refl
+
+some-mapped : {A B : Type 0} (f : A → B) (o : Option A) → is_some (option_map f o) ≡ is_some o
+some-mapped f None = refl
+some-mapped f (Some x) = refl
+
+-- what is told of its origin, and whether it waits, say whether it may go on
+pub ready-told : {A B : Type 0} (f : A → B) (of : TaskRow → B) (told : Option A) (g : Setting) (s : State) (core : SpaceCore) (id : ℕ) (o : Option TaskRow) → o ≡ row_of id core.state.living.tasks.rows
+    → option_map f told ≡ option_map of o → IsCore g s core → (is_some told && not (rows.is_parked o)) ≡ is_some (ready_at s id)
+ready-told f of told g s core id o at same is =
+    ap (λ b. b && not (rows.is_parked o)) (sym (some-mapped f told) ∙ ap is_some same ∙ some-mapped of o ∙ sym (some-mapped (λ (row : TaskRow). row.origin) o))
+    ∙ ready-one id o (task_at s id) (ap (option_map (λ (row : TaskRow). seen_row (id, row))) at ∙ at-row g s core id is)

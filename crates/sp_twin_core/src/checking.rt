@@ -125,11 +125,7 @@ impl SpaceCore {
                 Some(kind) => fits(kind, value),
                 None => false,
             },
-            Op::Call {
-                target: _,
-                method: _,
-                arguments: _,
-            } => false,
+            Op::Call { .. } => false,
         }
     }
 
@@ -153,13 +149,7 @@ impl SpaceCore {
                 method,
                 arguments,
             } => target.space != self.id && classes.takes(*method, arguments.as_slice()),
-            Op::Create(_) => false,
-            Op::Get { object: _, slot: _ } => false,
-            Op::Put {
-                object: _,
-                slot: _,
-                value: _,
-            } => false,
+            Op::Create(_) | Op::Get { .. } | Op::Put { .. } => false,
         }
     }
 
@@ -167,10 +157,8 @@ impl SpaceCore {
     fn holds_op(&self, task: &LentTask, op: &Op) -> bool
         ensures { (row : TaskRow) → row_of task.now.task.id self.now.state.living.tasks.rows ≡ Some row → result ≡ row_holds_op self.now.id row (op_of op.now) }
     {
-        self.state
-            .living()
-            .tasks()
-            .holds_op(&self.id, task.id(), op)
+        let tasks = self.state.living().tasks();
+        tasks.holds_op(&self.id, task.id(), op)
     }
 
     // Whether the task in hand holds the reference that it returns, if it returns one.

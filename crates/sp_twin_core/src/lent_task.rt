@@ -57,15 +57,23 @@ impl LentTask {
         self.task.ran(made);
         self.twin = run_twin(self.twin.take(), made);
     }
+
+    /// Takes the instructions back that its machine made since it was lent or given a reply.
+    pub fn undo(&mut self)
+        ensures { self.new.task ≡ record self.old.task { made = 0 } }
+    {
+        self.task.undo();
+        if let Some(twin) = &mut self.twin {
+            twin.undo();
+        }
+    }
 }
 
 // The twin after these instructions. It is let go if they are too many: it is not equal.
 fn run_twin(twin: Option<TaskInHand>, made: u64) -> Option<TaskInHand>
     ensures { HasRun made twin result }
 {
-    let Some(mut twin) = twin else {
-        return None;
-    };
+    let mut twin = twin?;
     let before = twin.steps() + twin.made();
     if before.checked_add(made).is_none() {
         return None;

@@ -42,14 +42,9 @@ impl SpaceCore {
             }
             Event::Refused { peer } => fault_if(!self.is_dialling(peer), CoreFault::Strange),
             Event::Received { conn, message: _ } => self.check_open(*conn),
-            Event::Closed { conn } => self.check_open(*conn),
-            Event::ReadFailed { conn } => self.check_open(*conn),
-            Event::Bad { conn } => self.check_open(*conn),
-            Event::WriteFailed { conn, unsent: _ } => self.check_open(*conn),
-            Event::Sweep => None,
-            Event::Bind { name: _, value: _ } => None,
-            Event::Rebind { name: _, value: _ } => None,
-            Event::Unbind { name: _ } => None,
+            Event::Closed { conn } | Event::ReadFailed { conn } => self.check_open(*conn),
+            Event::Bad { conn } | Event::WriteFailed { conn, .. } => self.check_open(*conn),
+            Event::Sweep | Event::Bind { .. } | Event::Rebind { .. } | Event::Unbind { .. } => None,
         }
     }
 

@@ -1,8 +1,8 @@
 //! What a core shows of its objects and its tasks.
 
-ghost use Rattle.std.specs.Prelude.{◌≡◌, ℕ, List, option_map, slice_get};
+ghost use Rattle.std.specs.Prelude.{◌≡◌, ℕ, List, is_some, option_map, slice_get};
 ghost use Rattle.sp_rules.specs.Classes.{Setting};
-ghost use Rattle.sp_rules.specs.State.{State, standing};
+ghost use Rattle.sp_rules.specs.State.{State, ready_at, standing};
 ghost use Rattle.sp_twin_core.specs.Shown.{lowest_ready, shown, shown_of};
 
 use crate::SpaceCore;
@@ -49,5 +49,13 @@ impl SpaceCore {
         ensures { (g : Setting) (s : State) (lent : List ℕ) → IsCore g s self.now → Lends self.now lent → result ≡ lowest_ready lent s }
     {
         self.state.living().tasks().ready()
+    }
+
+    /// Whether a task lives that does not wait.
+    pub fn is_ready(&self, task: u64) -> bool
+        ensures { (g : Setting) (s : State) → IsCore g s self.now → result ≡ is_some (ready_at s task) }
+    {
+        let tasks = self.state.living().tasks();
+        tasks.origin(task).is_some() && !tasks.waits(task)
     }
 }

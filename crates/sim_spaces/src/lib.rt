@@ -1,0 +1,11 @@
+//! The spaces of a program, as scripts over worlds play them.
+#![tactic(auto)]
+
+pub use digests::class_digest;
+pub use home::Home;
+pub use homes::Homes;
+pub use sim_worlds::{ScriptFault, play_script};
+
+mod digests;
+mod home;
+mod homes;

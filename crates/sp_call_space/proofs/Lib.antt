@@ -1,0 +1,11 @@
+pub mod ResultLemmas
+pub mod LentLemmas
+pub mod EndLemmas
+pub mod PlayedLemmas
+pub mod EventLemmas
+pub mod StandLemmas
+pub mod StepLemmas
+pub mod BeginLemmas
+pub mod HandLemmas
+pub mod NextLemmas
+pub mod SpaceStep

@@ -1,0 +1,5 @@
+pub mod Players
+pub mod Machines
+pub mod Spaces
+pub mod Events
+pub mod Hands

@@ -1,0 +1,41 @@
+//! A space as an inhabitant of a world.
+
+use crate::{Space, telling};
+use sp_events::{CoreFault, Event, Root};
+use sp_outputs::Output;
+use sp_world::Inhabitant;
+use space_ids::{Row, Uuid, Value};
+use table_copies::copy_values;
+
+impl<'p> Inhabitant for Space<'p> {
+    ghost use Rattle.sp_call_space.specs.Spaces.{IsSpace};
+
+    ghost is_space = { λ g s space. IsSpace g s space };
+
+    fn id(&self) -> Uuid {
+        self.id
+    }
+
+    fn on(&mut self, event: &Event) -> Result<Vec<Output>, CoreFault> {
+        self.core.on(self.classes, event)
+    }
+
+    fn root(
+        &mut self,
+        method: u32,
+        arguments: &[Value],
+        fuel: u64,
+    ) -> Result<Vec<Output>, CoreFault> {
+        let refused = telling::refusal(self.program, method, arguments)?;
+        self.core.root(&Root {
+            method,
+            arguments: Row::new(copy_values(self.alloc, arguments)?),
+            fuel,
+            refused,
+        })
+    }
+
+    fn step(&mut self, task: u64) -> Result<Vec<Output>, CoreFault> {
+        self.step_task(task)
+    }
+}

@@ -1,0 +1,16 @@
+//! A space of a world of many spaces: its core, which takes calls, and the machines of its living tasks.
+//!
+//! A contract names the history of the rules of spaces at whose end the space stands.
+#![tactic(auto)]
+
+pub use space::Space;
+
+mod asking;
+mod ending;
+mod inhabiting;
+mod machines;
+mod player;
+mod space;
+mod stepping;
+mod task_limits;
+mod telling;

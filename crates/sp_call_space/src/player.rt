@@ -1,0 +1,166 @@
+//! The machine of a living task.
+
+ghost use Rattle.std.specs.Prelude.{◌≡◌, ◌+◌, ◌<◌, ◌^◌, ℕ, false, IfOk, OnOk, OnErr, Ok, option_map};
+ghost use Rattle.cls_link.specs.Links.{Links};
+ghost use Rattle.sp_behaviours.specs.Behaviours.{op_at};
+ghost use Rattle.sp_behaviours.specs.Follows.{PlaysOn};
+ghost use Rattle.sp_living.specs.Views.{recorded_in};
+ghost use Rattle.sp_rules.specs.Classes.{Setting};
+ghost use Rattle.sp_rules.specs.State.{Living};
+ghost use Rattle.sp_tasks.specs.Behaviours.{op_of, outcome_of};
+ghost use Rattle.vm_act.specs.declared.machine.Machine.{Machine};
+ghost use Rattle.vm_run.specs.Begin.{begun};
+ghost use Rattle.vm_run.specs.Run.{Waits, IsNeverStuck};
+ghost use Rattle.vm_run.specs.Task.{fuel_left};
+ghost use Rattle.vm_heap.specs.Tagged.{most_rows};
+ghost use Rattle.sp_call_space.specs.Machines.{IsNext};
+ghost use Rattle.sp_call_space.specs.Players.{IsLevel, IsPlayedBy, end_in};
+
+use crate::telling;
+use sp_tasks::{Op, Outcome, Record};
+use space_ids::Uuid;
+use std::alloc::{AllocError, Global};
+use std::marker::Model;
+use table_copies::copy_values;
+use vm_code::Asked;
+use vm_run::{Limits, MethodId, Pause, Program, Task};
+
+/// The machine of a living task, and how many replies of the task's record it has taken. It may have made an
+/// instruction that its task has not made: the space could not take what that led to, and takes it with the
+/// task's next step.
+#[derive(Drop)]
+pub(crate) struct Player<'p> {
+    program: &'p Program,
+    task: Task,
+    taken: usize,
+    is_ahead: bool,
+}
+
+impl<'p> Model for Player<'p> {
+    ghost use Rattle.std.specs.Prelude.{◌≡◌};
+    ghost use Rattle.sp_call_space.specs.Players.{Played};
+
+    ghost Value = { Played };
+
+    ghost view = { λ player. record { task = player.task; taken = player.taken; ahead = player.is_ahead } };
+
+    ghost invariant = { λ player. player.task.program ≡ player.program.now };
+}
+
+/// What comes next of a task.
+#[derive(Drop)]
+pub(crate) enum Next {
+    /// It has ended so.
+    Ended(Outcome),
+    /// It asks its space for this.
+    Asks(Asked),
+    /// Its machine has made an instruction of its own, which may have ended it.
+    Made(Option<Outcome>),
+}
+
+impl<'p> Player<'p> {
+    /// The machine of a task that begins as its record says.
+    pub(crate) fn new(
+        alloc: Global,
+        program: &'p Program,
+        own: Uuid,
+        record: &Record,
+        limits: Limits,
+    ) -> Result<Player<'p>, AllocError>
+        requires { limits.heap_words + most_rows < 2 ^ 32 }
+        ensures begins { IfOk result (λ player. begun program.now own (record { 0 = record.now.past.began.method }) record.now.past.began.arguments limits ≡ Ok player.task) }
+        ensures never_stuck { IfOk result (λ player. IsNeverStuck program.now player.task.state) }
+        ensures program { IfOk result (λ player. player.task.program ≡ program.now) }
+        ensures new { IfOk result (λ player. (player.taken ≡ 0) × (player.ahead ≡ false)) }
+    {
+        let values = copy_values(alloc, record.arguments())?;
+        let method = MethodId(record.method());
+        // A task that lives has begun (law `tasks_are_runs`): its method has been started.
+        match Task::begin(alloc, program, own, method, values, limits) {
+            Ok(task) => Ok(Player {
+                program,
+                task,
+                taken: 0,
+                is_ahead: false,
+            }),
+            Err(_) => Err(AllocError),
+        }
+    }
+
+    /// Gives the machine of a task that does not wait the reply for which it stands, if the record has one more
+    /// than it has taken.
+    pub(crate) fn catch_up(&mut self, alloc: Global, record: &Record) -> Result<(), AllocError>
+        ensures level { OnOk result ((links : Links) (g : Setting) (t : Living) → PlaysOn links g → IsPlayedBy links g t self.old → t.waits ≡ false → recorded_in t ≡ record.now.past → IsLevel links g t self.new) }
+        ensures same { OnErr result (self.new ≡ self.old) }
+    {
+        let Some(given) = record.reply(self.taken) else {
+            return Ok(());
+        };
+        let Pause::Ask(asked) = self.task.run(self.program, 0) else {
+            return Err(AllocError);
+        };
+        let Some(reply) = telling::reply(alloc, &asked, given)? else {
+            return Err(AllocError);
+        };
+        // Every reply fits what was asked (laws of sp_reply_laws and sp_world_laws).
+        if self.task.takes(self.program, &reply) {
+            self.task.answer(self.program, reply);
+            self.taken = record.replies();
+            return Ok(());
+        }
+        Err(AllocError)
+    }
+
+    /// Lets a machine that is level with its task make an instruction, if it has not ended and does not ask, and is
+    /// not ahead. Returns what comes next of the task.
+    pub(crate) fn next(&mut self, alloc: Global) -> Result<Next, AllocError>
+        ensures level { (links : Links) (g : Setting) (t : Living) → IsLevel links g t self.old → IsLevel links g t self.new }
+        ensures next { IfOk result (λ next. (links : Links) (g : Setting) (t : Living) → IsLevel links g t self.old → IsNext t self.new next) }
+    {
+        if self.is_ahead {
+            return Ok(Next::Made(self.outcome(alloc)?));
+        }
+        if let Some(outcome) = self.outcome(alloc)? {
+            return Ok(Next::Ended(outcome));
+        }
+        match self.task.run(self.program, 1) {
+            Pause::Ask(asked) => Ok(Next::Asks(asked)),
+            _ => {
+                self.is_ahead = true;
+                Ok(Next::Made(self.outcome(alloc)?))
+            }
+        }
+    }
+
+    // How it ended, if it has, or if no fuel is left.
+    fn outcome(&self, alloc: Global) -> Result<Option<Outcome>, AllocError>
+        ensures { IfOk result (λ told. option_map outcome_of told ≡ end_in self.now.task.program.classes self.now.task.state) }
+    {
+        match self.task.outcome(alloc)? {
+            Some(ended) => Ok(Some(telling::outcome(ended))),
+            None if self.task.fuel() == 0 => Ok(Some(Outcome::Spent)),
+            None => Ok(None),
+        }
+    }
+
+    /// The task has made the instruction too.
+    pub(crate) fn settle(&mut self)
+        ensures { self.new ≡ record self.old { ahead = false } }
+    {
+        self.is_ahead = false;
+    }
+
+    /// The fuel that it has left.
+    pub(crate) fn fuel(&self) -> u64
+        ensures { result ≡ fuel_left self.now.task.state }
+    {
+        self.task.fuel()
+    }
+
+    /// What it asks for as an operation.
+    pub(crate) fn op(&self, alloc: Global, asked: &Asked) -> Result<Op, AllocError>
+        ensures { IfOk result (λ op. (m : Machine) (fuel : ℕ) → self.now.task.state ≡ Waits asked.now m fuel → op_of op ≡ op_at self.now.task.program.classes asked.now m) }
+    {
+        telling::op(alloc, self.program, &self.task, asked)
+    }
+}

@@ -1,0 +1,113 @@
+//! Steps of tasks.
+
+ghost use Rattle.std.specs.Prelude.{◌≡◌, ◌∷◌, ℕ, List, IfOk, IfErr, OnErr, OnOk, map, is_some, true, false};
+ghost use Rattle.sp_living.specs.Views.{recorded_in};
+ghost use Rattle.sp_outputs.specs.Notes.{output_of};
+ghost use Rattle.sp_rules.specs.Classes.{Setting};
+ghost use Rattle.sp_rules.specs.Events.{Event as Happening};
+ghost use Rattle.sp_rules.specs.Space.{state_of};
+ghost use Rattle.sp_rules.specs.State.{Living, task_at};
+ghost use Rattle.sp_twin_core.specs.Cores.{has_lent};
+ghost use Rattle.sp_call_space.specs.Events.{IsStep, IsStepRefused};
+ghost use Rattle.sp_call_space.specs.Hands.{ComesNext, IsInHand, IsLevelHand};
+ghost use Rattle.sp_call_space.specs.Machines.{machine_at};
+ghost use Rattle.sp_call_space.specs.Spaces.{Stands};
+
+use crate::player::{Next, Player};
+use crate::Space;
+use sp_events::CoreFault;
+use sp_outputs::Output;
+use sp_tasks::Record;
+use sp_twin_core::LentTask;
+use std::alloc::AllocError;
+
+impl<'p> Space<'p> {
+    // Lets a task make one instruction, and answers the outputs of the events that it is. Refused or out of
+    // memory, the space stands where it stood.
+    pub(crate) fn step_task(&mut self, task: u64) -> Result<Vec<Output>, CoreFault>
+        ensures done { IfOk result (λ outputs. (g : Setting) (h : List Happening) → Stands g h self.old → IsStep g h task self.new (map output_of outputs.items)) }
+        ensures refused { IfErr result (λ fault. (g : Setting) (h : List Happening) → Stands g h self.old → IsStepRefused g h task fault) }
+        ensures same { OnErr result ((g : Setting) (h : List Happening) → Stands g h self.old → Stands g h self.new) }
+    {
+        let Some(hand) = self.core.lend(task) else {
+            return Err(self.not_lent(task));
+        };
+        match self.level(&hand) {
+            Ok(()) => self.advance(hand),
+            Err(_) => Err(self.fail(hand, CoreFault::Memory)),
+        }
+    }
+
+    // Why a task cannot be lent: it does not live, or it waits for a reply. One that may go on is always lent, since
+    // each comes back before the next step (out of memory stands for that here).
+    fn not_lent(&self, task: u64) -> CoreFault
+        ensures { (g : Setting) (h : List Happening) → Stands g h self.now → IsStepRefused g h task result }
+    {
+        if self.core.is_ready(task) {
+            CoreFault::Memory
+        } else {
+            CoreFault::NotLent
+        }
+    }
+
+    // Brings the machine of a task in hand to where the task's record is. A task that has none gets one.
+    fn level(&mut self, hand: &LentTask) -> Result<(), AllocError>
+        ensures level { OnOk result ((g : Setting) (h : List Happening) → IsInHand g h self.old hand.now → IsLevelHand g h self.new hand.now) }
+        ensures same { (g : Setting) (h : List Happening) → IsInHand g h self.old hand.now → IsInHand g h self.new hand.now }
+        ensures core { self.new.core ≡ self.old.core }
+    {
+        self.make(hand)?;
+        self.machines.catch_up(self.alloc, hand.id(), hand.record())
+    }
+
+    // Makes the machine of a task in hand that has none.
+    fn make(&mut self, hand: &LentTask) -> Result<(), AllocError>
+        ensures same { (g : Setting) (h : List Happening) → IsInHand g h self.old hand.now → IsInHand g h self.new hand.now }
+        ensures core { self.new.core ≡ self.old.core }
+    {
+        let id = hand.id();
+        if self.machines.has(id) {
+            return Ok(());
+        }
+        self.begin(id, hand.record())
+    }
+
+    // Makes the machine of a task to which nothing has happened since it began.
+    fn begin(&mut self, id: u64, record: &Record) -> Result<(), AllocError>
+        ensures stands { (g : Setting) (h : List Happening) (t : Living) → Stands g h self.old → task_at (state_of g h) id ≡ Some t → recorded_in t ≡ record.now.past → is_some (machine_at id self.old.machines) ≡ false → Stands g h self.new }
+        ensures core { self.new.core ≡ self.old.core }
+    {
+        let limits = self.limits.with_fuel(record.fuel());
+        let player = Player::new(self.alloc, self.program, self.id, record, limits)?;
+        self.machines.reserve()?;
+        self.machines.insert_reserved(id, player);
+        Ok(())
+    }
+
+    // Makes an instruction of a task in hand, with whose machine it is level.
+    fn advance(&mut self, hand: LentTask) -> Result<Vec<Output>, CoreFault>
+        requires own { has_lent self.old.core hand ≡ true }
+        ensures done { IfOk result (λ outputs. (g : Setting) (h : List Happening) → IsLevelHand g h self.old hand → IsStep g h hand.task.id self.new (map output_of outputs.items)) }
+        ensures refused { IfErr result (λ fault. (g : Setting) (h : List Happening) → IsLevelHand g h self.old hand → IsStepRefused g h hand.task.id fault) }
+        ensures same { OnErr result ((g : Setting) (h : List Happening) → IsLevelHand g h self.old hand → Stands g h self.new) }
+    {
+        match self.machines.next(self.alloc, hand.id()) {
+            Ok(next) => self.take(hand, next),
+            Err(_) => Err(self.fail(hand, CoreFault::Memory)),
+        }
+    }
+
+    // Takes what comes next of a task in hand.
+    fn take(&mut self, hand: LentTask, next: Next) -> Result<Vec<Output>, CoreFault>
+        requires own { has_lent self.old.core hand ≡ true }
+        ensures done { IfOk result (λ outputs. (g : Setting) (h : List Happening) → ComesNext g h self.old hand next → IsStep g h hand.task.id self.new (map output_of outputs.items)) }
+        ensures refused { IfErr result (λ fault. (g : Setting) (h : List Happening) → ComesNext g h self.old hand next → IsStepRefused g h hand.task.id fault) }
+        ensures same { OnErr result ((g : Setting) (h : List Happening) → ComesNext g h self.old hand next → Stands g h self.new) }
+    {
+        match next {
+            Next::Ended(outcome) => self.finish(hand, outcome),
+            Next::Asks(asked) => self.ask(hand, &asked),
+            Next::Made(outcome) => self.made(hand, outcome),
+        }
+    }
+}
