@@ -131,8 +131,10 @@ impl<S: Played + Drop> Player<S> {
         let Some(told) = self.told.get_mut(space) else {
             return Ok(());
         };
-        for row in rows.iter().skip(*told) {
-            self.variables.note(space, row)?;
+        if *told <= rows.len() {
+            for row in &rows[*told..] {
+                self.variables.note(space, row)?;
+            }
         }
         *told = rows.len();
         Ok(())
