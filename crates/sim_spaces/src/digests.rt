@@ -11,15 +11,16 @@ use std::alloc::{AllocError, Global};
 pub fn class_digest(alloc: Global, files: &[ClassBytes]) -> Result<Digest, AllocError> {
     let names = names_of(alloc, files)?;
     let mut named = Vec::new(alloc);
-    for (file, name) in files.iter().zip(names.iter()) {
+    for (index, file) in files.iter().enumerate() {
+        let Some(name) = names.get(index) else {
+            return Err(AllocError);
+        };
         let bytes = bytes_of(file);
         if bytes.len() > MAX_LEN {
             return Err(AllocError);
         }
-        named.push(NamedFile {
-            name: name.as_bytes(),
-            bytes,
-        })?;
+        let name = name.as_bytes();
+        named.push(NamedFile { name, bytes })?;
     }
     digest_of(alloc, &named)
 }

@@ -5,7 +5,6 @@ ghost use Rattle.sp_main.specs.CommandLine.{AsksCheck, AsksRun, AsksSim};
 ghost use Rattle.sp_main.specs.Folders.{AreFilesOf, AreRead, IsContent, told_by};
 ghost use Rattle.sp_main.specs.Replies.{Fails, IsPlayed, IsReply, Replies};
 ghost use Rattle.sp_main.specs.Requests.{run_words, sim_words};
-ghost use Rattle.sp_runs.specs.Runs.{IsProgram};
 
 use super::report::write_text;
 use super::texts::{

@@ -18,9 +18,6 @@ returns-in-Ok-program_of g c =
     (IfOk-at_ok (λ files. AreFilesOf (told_by (g.F.Folder.lists c.args.folder.now) (g.F.Folder.gives c.args.folder.now)) c.args.request.now.folder.now files.items) c.in-Ok.is c.in_ok-files.ensures)
     (c.deref.ensures).value _ c.script_report.result (c.in-Ok-program_of.ensures).program c.script_report.ensures
 
-pub script_report-requires : goal.script_report-requires
-script_report-requires g c = (_, (c.in-Ok-program_of.ensures).program)
-
 pub refusal_report-requires : goal.refusal_report-requires
 refusal_report-requires g c = record {
   file = subst (λ files. IsRefusalOf files c.in-Err-program_of.refusal) ((c.deref.ensures).value ∙ sym (c.deref-in-Err-program_of.ensures).value)

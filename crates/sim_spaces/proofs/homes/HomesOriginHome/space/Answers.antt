@@ -1,0 +1,10 @@
+use Rattle.std.proofs.Common.{ap, subst, sym, ◌∙◌}
+use Rattle.sp_call_space.specs.Spaces.{AreLimits}
+use Rattle.sp_classes.specs.Classes.{classes_of}
+use Rattle.sim_spaces.specs.Homes.{Origins}
+use Rattle.sim_spaces.proofs.homes.HomesOriginHome.space.Goals as goal
+
+pub returns : goal.returns
+returns c = λ g classes id digest limits.
+    c.in_ok-space.ensures g (classes ∙ sym (ap (λ (o : Origins). classes_of o.links) c.self.view_is)) id (digest ∙ sym (ap (λ (o : Origins). o.digest) c.self.view_is))
+    (subst (AreLimits g) (sym c.default.ensures) limits)
