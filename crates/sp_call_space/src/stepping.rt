@@ -13,8 +13,8 @@ ghost use Rattle.sp_call_space.specs.Hands.{ComesNext, IsInHand, IsLevelHand};
 ghost use Rattle.sp_call_space.specs.Machines.{machine_at};
 ghost use Rattle.sp_call_space.specs.Spaces.{Stands};
 
-use crate::player::{Next, Player};
 use crate::Space;
+use crate::player::{Next, Player};
 use sp_events::CoreFault;
 use sp_outputs::Output;
 use sp_tasks::Record;
