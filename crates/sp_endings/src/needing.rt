@@ -22,7 +22,7 @@ use std::alloc::{AllocError, Global};
 // How many tasks may live, parked calls included.
 const MOST_TASKS: usize = 4096;
 
-/// Whether no more calls may come: so many tasks live, parked calls included.
+/// Whether no more calls may come, since as many tasks live as may, parked calls included.
 pub fn is_busy(alloc: Global, living: &Living) -> Result<bool, AllocError>
     ensures { IfOk result (λ busy. (g : Setting) (s : State) → IsLiving g s living.now → busy ≡ is_busy s) }
 {

@@ -17,15 +17,16 @@ use Rattle.sp_peers.proofs.RowLemmas.{peer-laws}
 use Rattle.sp_results.specs.Waiting as waiting
 use Rattle.sp_rules.specs.Classes.{Setting}
 use Rattle.sp_rules.specs.Frames.{is_acked_by}
-use Rattle.sp_rules.specs.Holders.{fields_of}
+use Rattle.sp_rules.specs.Holders.{fields_of, references_of_frame}
 use Rattle.sp_rules.specs.Laws.{AllOf, RisesWithin}
 use Rattle.sp_rules.specs.References.{is_id, is_id_in, is_reference_in, is_same_reference, own_ids, reference_of, references_in, references_of}
+use Rattle.sp_rules.specs.State as rules
 use Rattle.sp_rules.specs.State.{State, KeptResult, Living, Object, object_at, standing}
 use Rattle.sp_state.specs.Spaces.{AreNumbered}
 use Rattle.sp_tasks.proofs.HeldLemmas.{any_own}
 use Rattle.sp_tasks.specs.Rows.{TaskRow, row_of}
 use Rattle.sp_holders.specs.Places.{fields_have}
-use Rattle.sp_holders.proofs.AnyLemmas.{any-filter, any-flat, any-map, none-implied}
+use Rattle.sp_holders.proofs.AnyLemmas.{any-filter, any-flat, any-map, none-implied, or-left, or-right}
 
 -- ---- values
 
@@ -77,6 +78,25 @@ pub no-fields : (g : Setting) (s : State) (r : Ref) (o : Option Object) → None
 no-fields g s r None e = refl
 no-fields g s r (Some o) e = cc
 
+-- what is found is one of them
+found-one : (p q : Object → Bool) (os : List Object) (x : Object) → find p os ≡ Some x → q x ≡ true → list_any q os ≡ true
+found-one p q [] x found has = cc
+found-one p q (o ∷ os) x found has = by (p o) found
+  where
+    by : (b : Bool) → cond b (Some o) (find p os) ≡ Some x → (q o || list_any q os) ≡ true
+    by true e = let same : o ≡ x = cc in or-left (q o) (list_any q os) (ap q same ∙ has)
+    by false e = or-right (q o) (list_any q os) (found-one p q os x e has)
+
+pub object-has : (g : Setting) (s : State) (r : Ref) (id : ObjId) (fields : List Value) → Some fields ≡ option_map (fields_of g s) (object_at s id) → is_reference_in (references_of fields) r ≡ true
+    → list_any (λ (o : Object). is_reference_in (references_of (fields_of g s o)) r) (standing s.store) ≡ true
+object-has g s r id fields told has = by (object_at s id) refl told
+  where
+    by : (o : Option Object) → object_at s id ≡ o → Some fields ≡ option_map (fields_of g s) o → list_any (λ (o : Object). is_reference_in (references_of (fields_of g s o)) r) (standing s.store) ≡ true
+    by None at e = cc
+    by (Some x) at e =
+        let same : fields ≡ fields_of g s x = cc in
+        found-one (λ (o : Object). is_id o.id id) (λ (o : Object). is_reference_in (references_of (fields_of g s o)) r) (standing s.store) x at (sym (ap (λ (vs : List Value). is_reference_in (references_of vs) r) same) ∙ has)
+
 pub no-object : (g : Setting) (s : State) (r : Ref) (o : Option Object) → None ≡ option_map told o → false ≡ fields_have g s r o
 no-object g s r None e = refl
 no-object g s r (Some o) e = cc
@@ -118,10 +138,6 @@ roots-have r roots results are =
 pub root-has : (r : Ref) (results : List KeptResult) → list_any (λ (k : KeptResult). is_reference_in (references_in k.value) r) (of_roots results) ≡ true → list_any (λ (k : KeptResult). is_reference_in (references_in k.value) r) results ≡ true
 root-has r results one =
     any-of-both (λ (k : KeptResult). is_reference_in (references_in k.value) r) results ∙ ap (λ b. b || list_any (λ (k : KeptResult). is_reference_in (references_in k.value) r) (of_calls results)) one
-
--- what is left of results
-pub left-has : (p : ℕ × Option Value → Bool) (task : ℕ) (rows : List (ℕ × Option Value)) → list_any p (waiting.without task rows) ≡ true → list_any p rows ≡ true
-left-has p task rows one = any-filter p _ rows one
 
 pub taken-has : (r : Ref) (task : ℕ) (value : Option Value) (rows : List (ℕ × Option Value)) → waiting.of_task task rows ≡ waiting.row_of task (Some value) → is_reference_in (references_in value) r ≡ true
     → list_any (λ (row : ℕ × Option Value). is_reference_in (references_in row.1) r) rows ≡ true
@@ -186,6 +202,18 @@ gathered-none n three two one t r c is a b d none =
 
 -- ---- all places
 
+abbrev pub tasks : State → Ref → Bool
+tasks s r = list_any (λ (t : Living). is_reference_in t.task.held r) s.tasks
+
+abbrev pub fields : Setting → State → Ref → Bool
+fields g s r = list_any (λ (o : Object). is_reference_in (references_of (fields_of g s o)) r) (standing s.store)
+
+abbrev pub results : State → Ref → Bool
+results s r = list_any (λ (k : KeptResult). is_reference_in (references_in k.value) r) s.results
+
+abbrev pub frames : State → Ref → Bool
+frames s r = list_any (λ (p : rules.ParkedFrame). is_reference_in (references_of_frame p.frame) r) s.parked
+
 pub in-fields : (t f r p : Bool) → f ≡ true → true ≡ (t || (f || (r || p)))
 in-fields true f r p h = refl
 in-fields false f r p h = sym (ap (λ b. b || (r || p)) h)
@@ -195,6 +223,11 @@ in-frames true f r p h = refl
 in-frames false true r p h = refl
 in-frames false false true p h = refl
 in-frames false false false p h = sym h
+
+pub in-tables : (t f r p : Bool) → (t || r) ≡ true → (t || (f || (r || p))) ≡ true
+in-tables true f r p h = refl
+in-tables false true r p h = refl
+in-tables false false r p h = ap (λ b. b || p) h
 
 pub elsewhere : (t f r p n : Bool) → f ≡ false → p ≡ false → n ≡ (t || r) → n ≡ (t || (f || (r || p)))
 elsewhere t f r p n no-field no-frame is = is ∙ ap (λ b. t || b) (sym (or-none r)) ∙ (λ j. t || (sym no-field j || (r || sym no-frame j)))

@@ -1,22 +1,17 @@
 //! References that tasks hold, and that are in results.
 
-ghost use Rattle.std.specs.Prelude.{◌≡◌, ◌||◌, ℕ, List, true, false, IfOk};
-ghost use Rattle.std.specs.List.{list_any};
-ghost use Rattle.sp_call_results.specs.Held.{AreCallResults};
+ghost use Rattle.std.specs.Prelude.{◌≡◌, true, false, IfOk};
 ghost use Rattle.sp_living.specs.Livings.{IsLiving};
-ghost use Rattle.sp_results.specs.Waiting.{without};
 ghost use Rattle.sp_rules.specs.Classes.{Setting};
-ghost use Rattle.sp_rules.specs.References.{is_reference_in, references_in};
-ghost use Rattle.sp_rules.specs.State.{KeptResult as Kept, State};
+ghost use Rattle.sp_rules.specs.State.{State};
 ghost use Rattle.sp_holders.specs.Places.{tables_have};
 
 use crate::CallKey;
-use crate::same::{is_among, is_result};
-use sp_call_results::CallResults;
+use crate::finding::find_in_tables;
+use crate::holder::is_in_table;
+use crate::same::is_among;
 use sp_living::Living;
-use sp_results::Results;
 use sp_store::IdSet;
-use sp_tasks::Tasks;
 use space_ids::Ref;
 use std::alloc::{AllocError, Global};
 
@@ -64,87 +59,10 @@ fn is_seen(
 ) -> Result<bool, AllocError>
     ensures { IfOk result (λ seen. seen ≡ true → (g : Setting) (s : State) → IsLiving g s living.now → tables_have s reference.now ≡ true) }
 {
-    let tasks = living.tasks();
-    if is_held(tasks, reference) {
-        return Ok(true);
-    }
-    let kept = is_kept(living.results(), tasks.made(), reference)?;
-    if kept {
-        return Ok(true);
+    if let Some(holder) = find_in_tables(living, calls, reference) {
+        return Ok(is_in_table(living, &holder, reference));
     }
     let results = living.call_results();
-    if is_answered(results, calls, reference) {
-        return Ok(true);
-    }
     let ended = results.references_over(alloc, u64::MAX)?;
     Ok(is_among(ended.as_slice(), reference))
-}
-
-// Whether a task holds the reference.
-fn is_held(tasks: &Tasks, reference: &Ref) -> bool
-    ensures { result ≡ true → list_any (λ row. is_reference_in row.1.held reference.now) tasks.now.rows ≡ true }
-{
-    let made = tasks.made();
-    for before in 0..made {
-        if holds(tasks, made - before, reference) {
-            return true;
-        }
-    }
-    false
-}
-
-// Whether the task of this id lives and holds the reference.
-fn holds(tasks: &Tasks, id: u64, reference: &Ref) -> bool
-    ensures { result ≡ true → list_any (λ row. is_reference_in row.1.held reference.now) tasks.now.rows ≡ true }
-{
-    match tasks.held(id) {
-        Some(held) => is_among(held, reference),
-        None => false,
-    }
-}
-
-// Whether a result of a root or lookup has the reference. So many ids were given to them.
-fn is_kept(results: &Results, made: u64, reference: &Ref) -> Result<bool, AllocError>
-    ensures { IfOk result (λ kept. kept ≡ true → list_any (λ row. is_reference_in (references_in row.1) reference.now) results.now ≡ true) }
-{
-    let mut left = results.copy()?;
-    for before in 0..made {
-        if take_kept(&mut left, made - before, reference) {
-            return Ok(true);
-        }
-    }
-    Ok(false)
-}
-
-// Takes the result of a root or lookup away, if it has one, and says whether it is the reference.
-fn take_kept(left: &mut Results, task: u64, reference: &Ref) -> bool
-    ensures kept { result ≡ true → list_any (λ row. is_reference_in (references_in row.1) reference.now) left.old ≡ true }
-    ensures left { left.new ≡ without task left.old }
-{
-    match left.take(task) {
-        Some(value) => is_result(&value, reference),
-        None => false,
-    }
-}
-
-// Whether a result of one of these calls has the reference.
-fn is_answered(results: &CallResults, calls: &[CallKey], reference: &Ref) -> bool
-    ensures { result ≡ true → (moment : ℕ) (all : List Kept) → AreCallResults moment all results.now → list_any (λ k. is_reference_in (references_in k.value) reference.now) all ≡ true }
-{
-    for call in calls {
-        if answers(results, call, reference) {
-            return true;
-        }
-    }
-    false
-}
-
-// Whether the result of a call has the reference.
-fn answers(results: &CallResults, call: &CallKey, reference: &Ref) -> bool
-    ensures { result ≡ true → (moment : ℕ) (all : List Kept) → AreCallResults moment all results.now → list_any (λ k. is_reference_in (references_in k.value) reference.now) all ≡ true }
-{
-    match results.get(call.conn, call.number) {
-        Some(value) => is_result(value, reference),
-        None => false,
-    }
 }

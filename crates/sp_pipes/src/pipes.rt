@@ -107,8 +107,8 @@ impl Pipes {
         }
     }
 
-    /// How many of the last frames that an end wrote are lost if so many were not sent: at most those that
-    /// were not delivered.
+    /// How many of the last frames that an end wrote are lost if `unsent` of them were not sent: at most those
+    /// that were not delivered.
     pub fn lost(&self, conn: u64, end: End, unsent: u64) -> u64
         ensures { (pipes : List Row) → ArePipes pipes self.now → result ≡ lost_at unsent (end_of end) (slice_get pipes conn) }
     {

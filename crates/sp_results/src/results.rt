@@ -1,6 +1,6 @@
 //! Results that wait to be acknowledged.
 
-ghost use Rattle.std.specs.Prelude.{◌≡◌, ◌++◌, ◌||◌, [], ◌∷◌, false, filter, IfOk, OnOk, OnErr};
+ghost use Rattle.std.specs.Prelude.{◌≡◌, ◌++◌, ◌||◌, [], ◌∷◌, false, filter, IfOk, OnOk, OnErr, option_copied};
 ghost use Rattle.std.specs.List.{list_any};
 ghost use Rattle.space_ids.specs.declared.ids.ObjId.{ObjId};
 ghost use Rattle.sp_rules.specs.References.{is_id_in, own_ids, references_in};
@@ -60,6 +60,13 @@ impl Results {
         ensures { result ≡ is_waiting self.now task }
     {
         self.results.contains(&task)
+    }
+
+    /// The result of the task, if one waits.
+    pub fn get(&self, task: u64) -> Option<&Option<Value>>
+        ensures { of_task task self.now ≡ row_of task (option_copied result) }
+    {
+        self.results.peek(&task)
     }
 
     /// Holds the result of a task of which none waits, after all others. At out of memory nothing

@@ -100,9 +100,13 @@ if-ok (Err e) P Q each h = h
 pub core-is : (g : Setting) (s : State) (a b : SpaceCore) → b ≡ a → IsCore g s a → IsCore g s b
 core-is g s a b same is = subst (λ (core : SpaceCore). IsCore g s core) (sym same) is
 
--- with other calls that were answered
-pub with-calls : (g : Setting) (s : State) (core new : SpaceCore) → new ≡ record core { answered = new.answered } → IsCore g s core → IsCore g s new
-with-calls g s core new same is = core-is g s (record core { answered = new.answered }) new same (record { id = is.id; fuel = is.fuel; state = is.state; spare = is.spare; rest = is.rest })
+-- with other sightings of holders
+pub with-sightings : (g : Setting) (s : State) (core new : SpaceCore) → new ≡ record core { sightings = new.sightings } → IsCore g s core → IsCore g s new
+with-sightings g s core new same is = core-is g s (record core { sightings = new.sightings }) new same (record { id = is.id; fuel = is.fuel; state = is.state; spare = is.spare; rest = is.rest })
+
+-- an event was not taken, and sightings were kept
+pub unseen : (g : Setting) (s : State) (core seen new : SpaceCore) → seen ≡ record core { sightings = seen.sightings } → (IsCore g s seen → IsCore g s new) → IsCore g s core → IsCore g s new
+unseen g s core seen new same kept is = kept (with-sightings g s core seen same is)
 
 -- without the second state
 pub without-spare : (g : Setting) (s : State) (core : SpaceCore) → IsCore g s core → IsCore g s (record core { spare = None })

@@ -60,7 +60,7 @@ impl SpaceCore {
                 let call = self.call_returned(&task, outcome);
                 match self.end(classes, &mut task, fuel, outcome) {
                     Ok(outputs) => {
-                        self.keep_call(call);
+                        self.see_end(call, outputs.as_slice());
                         Ok(outputs)
                     }
                     Err(_) => Err((task, CoreFault::Memory)),
@@ -79,21 +79,15 @@ impl SpaceCore {
         }
     }
 
-    // Keeps a call whose result may wait for its Ack. Those whose results went are forgotten for room.
-    fn keep_call(&mut self, call: Option<CallKey>)
-        ensures { self.new ≡ record self.old { answered = self.new.answered } }
+    // Keeps where the result of a task that ended is held, if it is a reference: with the call that started it,
+    // or as the outputs say.
+    fn see_end(&mut self, call: Option<CallKey>, outputs: &[Output])
+        ensures { self.new ≡ record self.old { sightings = self.new.sightings } }
     {
-        let Some(call) = call else {
-            return;
-        };
-        if self.answered.len() == self.answered.capacity() {
-            let results = self.state.living().call_results();
-            self.answered
-                .retain(|call| results.contains(call.conn, call.number));
-            let more = self.answered.len().saturating_add(1);
-            let _ = self.answered.reserve(more);
+        match call {
+            Some(call) => self.sightings.see_call(&self.state, call),
+            None => self.sightings.see_results(&self.state, outputs),
         }
-        let _ = self.answered.push(call);
     }
 
     // Lets a task go that ended so.

@@ -68,6 +68,7 @@ impl SpaceCore {
         let last = mem::replace(&mut self.state, next);
         let spare = follow(last, classes, second);
         self.put_spare(spare);
+        self.sightings.see_results(&self.state, outputs.as_slice());
         Ok(outputs)
     }
 }

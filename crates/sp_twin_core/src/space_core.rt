@@ -6,7 +6,7 @@ ghost use Rattle.sp_rules.specs.State.{State, opening};
 ghost use Rattle.sp_state.specs.Spaces.{IsSpace};
 
 use net_message::Digest;
-use sp_holders::CallKey;
+use sp_holders::Sightings;
 use sp_state::SpaceState;
 use space_ids::Uuid;
 use std::alloc::{AllocError, Global};
@@ -26,8 +26,8 @@ pub struct SpaceCore {
     pub(crate) fuel: u64,
     pub(crate) state: SpaceState,
     pub(crate) spare: Option<SpaceState>,
-    // The calls whose results may wait for their Ack and be references. One that finds no memory is not kept.
-    pub(crate) answered: Vec<CallKey>,
+    // Where references were seen to be held. What finds no memory is not kept.
+    pub(crate) sightings: Sightings,
 }
 
 impl SpaceCore {
@@ -45,7 +45,7 @@ impl SpaceCore {
             fuel,
             state,
             spare: None,
-            answered: Vec::new(alloc),
+            sightings: Sightings::new(alloc),
         })
     }
 

@@ -17,7 +17,7 @@ pub(crate) fn field_type(set: &ClassSet, class: ClassId, slot: usize) -> Option<
     }
 }
 
-// The type of the field in a slot of an object of a class and of its superclasses, at most so many classes
+// The type of the field in a slot of an object of a class and of its superclasses, at most n classes
 // up; or how many fields there are, which all come before the slot.
 fn type_up(set: &ClassSet, most: usize, class: ClassId, slot: usize) -> Result<VType, usize>
     ensures found { IfOk result (λ type. slice_get (types_up most set.now class) slot ≡ Some type) }
@@ -41,7 +41,7 @@ fn type_up(set: &ClassSet, most: usize, class: ClassId, slot: usize) -> Result<V
     }
 }
 
-// The type of the field in a slot where so many fields come before those of a class; or how many fields
+// The type of the field in a slot, if `above` fields come before those of a class; or how many fields
 // there are with these.
 fn type_after(set: &ClassSet, fields: &[Field], slot: usize, above: usize) -> Result<VType, usize>
     requires { above ≤ slot }

@@ -1,25 +1,6 @@
-use Rattle.std.proofs.Common.{◌≡◌, Bool, sym, ◌∙◌}
-use Rattle.std.specs.List.{list_any}
-use Rattle.space_ids.specs.declared.ids.Ref.{Ref}
-use Rattle.sp_rules.specs.Classes.{Setting}
-use Rattle.sp_rules.specs.Holders.{fields_of, references_of_frame}
-use Rattle.sp_rules.specs.References.{is_reference_in, references_in, references_of}
-use Rattle.sp_rules.specs.State as rules
-use Rattle.sp_rules.specs.State.{State, KeptResult, Living, Object, standing}
-use Rattle.sp_holders.proofs.PlaceLemmas.{elsewhere, if-ok, in-fields, in-frames}
+use Rattle.std.proofs.Common.{sym, ◌∙◌}
+use Rattle.sp_holders.proofs.PlaceLemmas.{elsewhere, fields, frames, if-ok, in-fields, in-frames, results, tasks}
 use Rattle.sp_holders.proofs.holders.has_holder.Goals as goal
-
-abbrev tasks : State → Ref → Bool
-tasks s r = list_any (λ (t : Living). is_reference_in t.task.held r) s.tasks
-
-abbrev fields : Setting → State → Ref → Bool
-fields g s r = list_any (λ (o : Object). is_reference_in (references_of (fields_of g s o)) r) (standing s.store)
-
-abbrev results : State → Ref → Bool
-results s r = list_any (λ (k : KeptResult). is_reference_in (references_in k.value) r) s.results
-
-abbrev frames : State → Ref → Bool
-frames s r = list_any (λ (p : rules.ParkedFrame). is_reference_in (references_of_frame p.frame) r) s.parked
 
 pub returns-then-is_in_fields : goal.returns-then-is_in_fields
 returns-then-is_in_fields c = λ g s is.

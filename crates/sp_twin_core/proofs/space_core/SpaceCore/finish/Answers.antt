@@ -7,7 +7,7 @@ use Rattle.sp_living.specs.Hands.{task_of}
 use Rattle.sp_twin_core.specs.Cores.{IsCore, lends, lent_as}
 use Rattle.sp_twin_core.specs.Hands.{finished}
 use Rattle.sp_twin_core.proofs.CheckLemmas.{refused-some}
-use Rattle.sp_twin_core.proofs.TwinLemmas.{both, with-calls}
+use Rattle.sp_twin_core.proofs.TwinLemmas.{both, with-sightings}
 use Rattle.sp_twin_core.proofs.space_core.SpaceCore.finish.Goals as goal
 
 pub returns-in-Err-clause-refused : goal.returns-in-Err-clause-refused
@@ -24,7 +24,7 @@ returns-in-Ok-end-clause-outputs w c = λ g s is tells at fuel.
 pub returns-in-Ok-end-clause-state : goal.returns-in-Ok-end-clause-state
 returns-in-Ok-end-clause-state w c = λ g s is tells at fuel.
     let keep = c.keep_twin.ensures.task in
-    with-calls g (on g (finished c.args.task.task) s).0 c.end.new.self c.keep_call.new.self c.keep_call.ensures
+    with-sightings g (on g (finished c.args.task.task) s).0 c.end.new.self c.see_end.new.self c.see_end.ensures
     (subst (λ (hand : Hand). IsCore g (on g (finished hand) s).0 c.end.new.self) keep
     (c.in-Ok-end.ensures.state g s is tells (ap (λ (hand : Hand). stand (task_of g hand)) keep ∙ at ∙ c.in-Ok.ensures.ended) (fuel ∙ sym (ap (λ (hand : Hand). (task_of g hand).fuel) keep))))
 

@@ -1,6 +1,6 @@
 use Rattle.std.proofs.Common.{sym, ◌∙◌}
 use Rattle.sp_holders.proofs.PlaceLemmas.{acked-has}
-use Rattle.sp_holders.proofs.tables.answers.Goals as goal
+use Rattle.sp_holders.proofs.holder.call_has.Goals as goal
 
 pub returns-in-Some : goal.returns-in-Some
 returns-in-Some c = λ has. λ moment all are.
