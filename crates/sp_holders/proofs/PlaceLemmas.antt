@@ -1,5 +1,5 @@
 -- Where a reference is held.
-use Rattle.std.proofs.Common.{◌≡◌, ℕ, ◌+◌, ◌<◌, ◌≤◌, Bool, true, false, cond, List, [], ◌∷◌, Option, None, Some, refl, sym, ap, ◌∙◌, map, nat_eq, true≢false, arith, zero, suc}
+use Rattle.std.proofs.Common.{◌≡◌, ℕ, ◌<◌, Bool, true, false, cond, List, [], ◌∷◌, Option, None, Some, refl, sym, ap, ◌∙◌, map, nat_eq, true≢false, arith, zero, suc}
 use Rattle.std.specs.Prelude.{◌&&◌, ◌||◌, ◌==◌, Result, Ok, Err, IfOk, filter, find, option_map, slice_get, unwrap_or}
 use Rattle.std.specs.List.{list_any}
 use Rattle.std.specs.Str.{bytes_eq}
@@ -8,7 +8,6 @@ use Rattle.space_ids.specs.declared.ids.ClassId.{ClassId}
 use Rattle.space_ids.specs.declared.ids.ObjId.{ObjId}
 use Rattle.space_ids.specs.declared.ids.Ref.{Ref}
 use Rattle.space_ids.specs.declared.value.Value.{Value}
-use Rattle.uuid.specs.declared.Uuid.{Uuid}
 use Rattle.sp_call_results.specs.Held.{acked_row, of_calls, of_roots, references_of_results}
 use Rattle.sp_call_results.proofs.RootLemmas.{any-of-both}
 use Rattle.sp_living.specs.Views.{Seen, kept, seen, seen_row}
@@ -81,11 +80,11 @@ no-fields g s r (Some o) e = cc
 -- what is found is one of them
 found-one : (p q : Object → Bool) (os : List Object) (x : Object) → find p os ≡ Some x → q x ≡ true → list_any q os ≡ true
 found-one p q [] x found has = cc
-found-one p q (o ∷ os) x found has = by (p o) found
+found-one p q (o ∷ os) x found has = by (λ there. found-one p q os x there has) (p o) found
   where
-    by : (b : Bool) → cond b (Some o) (find p os) ≡ Some x → (q o || list_any q os) ≡ true
-    by true e = let same : o ≡ x = cc in or-left (q o) (list_any q os) (ap q same ∙ has)
-    by false e = or-right (q o) (list_any q os) (found-one p q os x e has)
+    by : (find p os ≡ Some x → list_any q os ≡ true) → (b : Bool) → cond b (Some o) (find p os) ≡ Some x → (q o || list_any q os) ≡ true
+    by more true e = let same : o ≡ x = cc in or-left (q o) (list_any q os) (ap q same ∙ has)
+    by more false e = or-right (q o) (list_any q os) (more e)
 
 pub object-has : (g : Setting) (s : State) (r : Ref) (id : ObjId) (fields : List Value) → Some fields ≡ option_map (fields_of g s) (object_at s id) → is_reference_in (references_of fields) r ≡ true
     → list_any (λ (o : Object). is_reference_in (references_of (fields_of g s o)) r) (standing s.store) ≡ true

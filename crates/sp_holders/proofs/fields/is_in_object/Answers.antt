@@ -1,4 +1,4 @@
-use Rattle.std.proofs.Common.{refl, sym, ◌∙◌}
+use Rattle.std.proofs.Common.{refl, ◌∙◌}
 use Rattle.std.specs.Prelude.{slice_get}
 use Rattle.sp_rules.specs.State.{standing}
 use Rattle.sp_holders.proofs.PlaceLemmas.{has-fields, no-fields, no-object, object-found}
