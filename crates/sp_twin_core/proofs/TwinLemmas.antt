@@ -21,6 +21,7 @@ use Rattle.sp_twin_core.specs.Cores.{IsCore, has_lent, lends}
 use Rattle.sp_twin_core.specs.Hands.{fits}
 use Rattle.sp_twin_core.specs.declared.lent_task.LentTask.{LentTask}
 use Rattle.sp_twin_core.specs.declared.space_core.SpaceCore.{SpaceCore}
+use Rattle.sp_holders.specs.declared.sightings.Sightings.{Sightings}
 
 only : {A : Type 0} (x y : A) → Some x ≡ Some y → x ≡ y
 only x y h = ap (λ o. unwrap_or o x) h
@@ -101,12 +102,11 @@ pub core-is : (g : Setting) (s : State) (a b : SpaceCore) → b ≡ a → IsCore
 core-is g s a b same is = subst (λ (core : SpaceCore). IsCore g s core) (sym same) is
 
 -- with other sightings of holders
-pub with-sightings : (g : Setting) (s : State) (core new : SpaceCore) → new ≡ record core { sightings = new.sightings } → IsCore g s core → IsCore g s new
-with-sightings g s core new same is = core-is g s (record core { sightings = new.sightings }) new same (record { id = is.id; fuel = is.fuel; state = is.state; spare = is.spare; rest = is.rest })
+pub seen-is : (g : Setting) (s : State) (core : SpaceCore) (sightings : Sightings) → IsCore g s core → IsCore g s (record core { sightings = sightings })
+seen-is g s core sightings is = record { id = is.id; fuel = is.fuel; state = is.state; spare = is.spare; rest = is.rest }
 
--- an event was not taken, and sightings were kept
-pub unseen : (g : Setting) (s : State) (core seen new : SpaceCore) → seen ≡ record core { sightings = seen.sightings } → (IsCore g s seen → IsCore g s new) → IsCore g s core → IsCore g s new
-unseen g s core seen new same kept is = kept (with-sightings g s core seen same is)
+pub with-sightings : (g : Setting) (s : State) (core new : SpaceCore) → new ≡ record core { sightings = new.sightings } → IsCore g s core → IsCore g s new
+with-sightings g s core new same is = core-is g s (record core { sightings = new.sightings }) new same (seen-is g s core new.sightings is)
 
 -- without the second state
 pub without-spare : (g : Setting) (s : State) (core : SpaceCore) → IsCore g s core → IsCore g s (record core { spare = None })

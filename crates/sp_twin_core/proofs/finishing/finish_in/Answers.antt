@@ -1,7 +1,7 @@
-use Rattle.std.proofs.Common.{sym, ap, subst, ◌∙◌}
+use Rattle.std.proofs.Common.{sym, ap, ◌∙◌}
 use Rattle.std.proofs.lemmas.Result.{on_ok_weaker}
 use Rattle.sp_rules.specs.LivingTasks.{finish_task}
-use Rattle.sp_rules.specs.Space.{finish_event, on}
+use Rattle.sp_rules.specs.Space.{on}
 use Rattle.sp_twin_core.specs.Hands.{finished}
 use Rattle.sp_twin_core.proofs.EventLemmas.{end-is, end-may, space-is}
 use Rattle.sp_twin_core.proofs.TwinLemmas.{if-ok}

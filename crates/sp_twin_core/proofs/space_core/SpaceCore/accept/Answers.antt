@@ -7,7 +7,7 @@ use Rattle.sp_rules.specs.State.{State}
 use Rattle.sp_state.specs.Spaces.{IsSpace}
 use Rattle.sp_state.proofs.HappenLemmas.{outside-answers}
 use Rattle.sp_twin_core.proofs.EventLemmas.{advanced}
-use Rattle.sp_twin_core.proofs.TwinLemmas.{core-is, if-some, on-err, taken-out}
+use Rattle.sp_twin_core.proofs.TwinLemmas.{core-is, if-some, on-err, seen-is, taken-out}
 use Rattle.sp_twin_core.proofs.space_core.SpaceCore.accept.Goals as goal
 
 pub returns-in_err-next-clause-unchanged : goal.returns-in_err-next-clause-unchanged
@@ -22,8 +22,9 @@ returns-clause-outputs w c = λ g s is tells.
 
 pub returns-clause-state : goal.returns-clause-state
 returns-clause-state w c = λ g s is tells.
-    core-is g (on g (event_of c.args.event.now) s).0 (record c.take_spare.new.self { state = c.replace-last.new.dest; spare = c.follow-spare.result }) c.put_spare.new.self c.put_spare.ensures
+    seen-is g (on g (event_of c.args.event.now) s).0 c.put_spare.new.self c.see_results.new.self
+    (core-is g (on g (event_of c.args.event.now) s).0 (record c.take_spare.new.self { state = c.replace-last.new.dest; spare = c.follow-spare.result }) c.put_spare.new.self c.put_spare.ensures
     (advanced g s (event_of c.args.event.now) c.args.self.now c.take_spare.new.self c.replace-last.result c.replace-last.new.dest c.on.new.self c.follow-spare.result (outside-answers c.args.event.now) is c.take_spare.ensures.core
     c.replace-last.ensures.value c.replace-last.ensures.after
     (subst (λ (e : Event). IsSpace g (on g (event_of e) s).0 c.on.new.self) c.in_ok-first.ensures (c.in-Ok.ensures.happened g s (c.in_ok-next.ensures.spare g s is) is.rest tells))
-    (if-some c.follow-spare.result _ _ (λ space told. λ here rest. subst (λ (e : Event). IsSpace g (on g (event_of e) s).0 space) c.in_ok-second.ensures (told g s here rest tells)) c.follow-spare.ensures))
+    (if-some c.follow-spare.result _ _ (λ space told. λ here rest. subst (λ (e : Event). IsSpace g (on g (event_of e) s).0 space) c.in_ok-second.ensures (told g s here rest tells)) c.follow-spare.ensures)))

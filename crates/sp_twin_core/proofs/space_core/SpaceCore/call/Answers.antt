@@ -1,4 +1,4 @@
-use Rattle.std.proofs.Common.{◌≡◌, Option, Some, true, refl, sym, ap, ◌∙◌}
+use Rattle.std.proofs.Common.{◌≡◌, Option, Some, refl, sym, ap, ◌∙◌}
 use Rattle.sp_rules.specs.Space.{on}
 use Rattle.sp_rules.specs.Tasks.{AsksFor, stand}
 use Rattle.sp_state.specs.Hands as state

@@ -1,4 +1,4 @@
-use Rattle.std.proofs.Common.{List, refl, sym, ap, ◌∙◌}
+use Rattle.std.proofs.Common.{List, sym, ap, ◌∙◌}
 use Rattle.std.specs.Prelude.{nat_lt}
 use Rattle.std.specs.List.{list_all}
 use Rattle.space_ids.specs.declared.value.Value.{Value}

@@ -1,9 +1,7 @@
-use Rattle.std.proofs.Common.{Option, Some, true, refl, sym, ap, ◌≡◌, ◌∙◌}
-use Rattle.sp_living.specs.Hands.{task_of}
+use Rattle.std.proofs.Common.{Option, Some, refl, sym, ap, ◌≡◌, ◌∙◌}
 use Rattle.sp_rules.specs.Space.{on}
 use Rattle.sp_rules.specs.Tasks.{HasEnded, stand}
 use Rattle.sp_state.specs.Hands as state
-use Rattle.sp_state.specs.Spaces.{IsSpace}
 use Rattle.sp_state.specs.declared.space_state.SpaceState.{SpaceState}
 use Rattle.sp_tasks.specs.Behaviours.{outcome_of}
 use Rattle.sp_tasks.specs.Rows.{Hand}

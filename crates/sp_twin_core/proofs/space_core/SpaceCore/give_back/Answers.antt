@@ -1,4 +1,4 @@
-use Rattle.std.proofs.Common.{◌∷◌, cond, None, Some, refl, sym, ap, subst, ◌∙◌}
+use Rattle.std.proofs.Common.{◌∷◌, cond, None, Some, ap, subst, ◌∙◌}
 use Rattle.std.specs.Prelude.{not, ◌==◌, ◌&&◌}
 use Rattle.sp_rules.specs.Refusals.{NotLent}
 use Rattle.sp_rules.specs.Space.{on, state_of}

@@ -1,5 +1,4 @@
-use Rattle.std.proofs.Common.{◌≡◌, Some, None, sym, ap, subst, ◌∙◌}
-use Rattle.sp_connections.specs.Tables.{link_of}
+use Rattle.std.proofs.Common.{Some, sym, ap, ◌∙◌}
 use Rattle.sp_connections.specs.declared.connection.Link.{Link}
 use Rattle.sp_connections.proofs.TableLemmas.{dialling-link, other-link}
 use Rattle.sp_twin_core.proofs.CheckLemmas.{no-link, other-open}

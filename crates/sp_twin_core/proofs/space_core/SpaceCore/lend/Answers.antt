@@ -1,10 +1,8 @@
-use Rattle.std.proofs.Common.{◌≡◌, Some, None, sym, ap, ◌∙◌}
+use Rattle.std.proofs.Common.{Some, None, ap, ◌∙◌}
 use Rattle.std.specs.Prelude.{◌==◌, ◌||◌}
 use Rattle.sp_tasks.specs.Rows.{hand_of, row_of}
 use Rattle.sp_state.specs.Hands as state
 use Rattle.sp_state.specs.declared.space_state.SpaceState.{SpaceState}
-use Rattle.sp_twin_core.specs.Cores.{is_lent}
-use Rattle.sp_twin_core.specs.declared.space_core.SpaceCore.{SpaceCore}
 use Rattle.sp_twin_core.proofs.LendLemmas.{lend-hand, lend-lent, lend-new, lend-none, lend-others, lent-same}
 use Rattle.sp_twin_core.proofs.TwinLemmas.{both, fits-lent, with-states}
 use Rattle.sp_twin_core.proofs.space_core.SpaceCore.lend.Goals as goal

@@ -1,4 +1,4 @@
-use Rattle.std.proofs.Common.{Option, Some, None, sym, subst}
+use Rattle.std.proofs.Common.{Option, Some, sym, subst}
 use Rattle.std.specs.Prelude.{IfSome}
 use Rattle.sp_state.specs.Spaces.{IsSpace}
 use Rattle.sp_state.specs.declared.space_state.SpaceState.{SpaceState}

@@ -1,8 +1,7 @@
-use Rattle.std.proofs.Common.{Option, Some, true, refl, sym, ap, subst, ◌≡◌, ◌∙◌}
+use Rattle.std.proofs.Common.{Option, Some, refl, sym, ap, subst, ◌≡◌, ◌∙◌}
 use Rattle.sp_rules.specs.Space.{on}
 use Rattle.sp_state.specs.Hands as state
 use Rattle.sp_state.specs.Spaces.{IsSpace}
-use Rattle.sp_state.specs.declared.space_state.SpaceState.{SpaceState}
 use Rattle.sp_tasks.specs.Behaviours.{op_of, reply_of}
 use Rattle.sp_tasks.specs.Rows.{Hand}
 use Rattle.sp_twin_core.specs.Cores.{has_lent}

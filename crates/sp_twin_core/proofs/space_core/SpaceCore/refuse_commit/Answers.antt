@@ -1,4 +1,4 @@
-use Rattle.std.proofs.Common.{cond, None, Some, refl, sym, ap, ◌∙◌}
+use Rattle.std.proofs.Common.{cond, None, Some, refl, sym, ◌∙◌}
 use Rattle.sp_rules.specs.Refusals.{fits_store, holds_op}
 use Rattle.sp_rules.specs.State.{task_at}
 use Rattle.sp_tasks.specs.Behaviours.{op_of}

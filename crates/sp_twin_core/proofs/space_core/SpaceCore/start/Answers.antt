@@ -1,4 +1,4 @@
-use Rattle.std.proofs.Common.{refl, sym, ap, ◌∙◌}
+use Rattle.std.proofs.Common.{refl}
 use Rattle.sp_events.specs.Events.{event_of_root}
 use Rattle.sp_rules.specs.Space.{on}
 use Rattle.sp_twin_core.proofs.EventLemmas.{advanced}
