@@ -9,15 +9,15 @@ use sp_owner::Owner;
 use sp_state::SpaceState;
 use space_ids::Ref;
 
-// One who holds the reference: an object, a task, or a result, one of these calls' or of a root or lookup.
+// One who holds the reference: a task or a result, one of these calls' or of a root or lookup, or an object.
 pub(crate) fn find_holder(
     space: &SpaceState,
     calls: &[CallKey],
     reference: &Ref,
 ) -> Option<Holder> {
-    match find_object(space.owner(), reference) {
+    match find_in_tables(space.living(), calls, reference) {
         Some(holder) => Some(holder),
-        None => find_in_tables(space.living(), calls, reference),
+        None => find_object(space.owner(), reference),
     }
 }
 

@@ -100,10 +100,10 @@ impl Sightings {
         }
     }
 
-    // Keeps the holder of a reference, if it holds it and there is room. Those that do not hold theirs any more
-    // are forgotten for room.
+    // Keeps the holder of a reference, if it holds it and there is room, unless one that was seen before holds
+    // it still: what is held long stays so. Those that do not hold theirs any more are forgotten for room.
     fn see(&mut self, space: &SpaceState, reference: &Ref, holder: Holder) {
-        if !is_held_by(space, &holder, reference) {
+        if self.is_held(space, reference) || !is_held_by(space, &holder, reference) {
             return;
         }
         if self.rows.len() == self.rows.capacity() {
