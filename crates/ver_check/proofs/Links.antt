@@ -24,7 +24,8 @@ use Rattle.ver_check.specs.Listed.{IsListed}
 use Rattle.ver_check.specs.Typing.{IsWithin}
 use Rattle.ver_frames.specs.Frames.{Frame}
 use Rattle.ver_frames.specs.Limits.{FitsMethod}
-use Rattle.ver_frames.specs.Method.{Subject}
+use Rattle.ver_frames.specs.Method.{Subject, argument_types, opening}
+use Rattle.ver_frames.proofs.Fillings.{filled_count}
 
 -- ---- the code of a linked method is listed
 
@@ -83,7 +84,7 @@ module _ (classes : List Class) where
 -- ---- the frame at each index fits
 
 abbrev FitsIn : Subject → Frame → Type 0
-FitsIn m f = (length f.locals ≤ m.code.max_locals) × (length f.stack ≤ m.code.max_stack)
+FitsIn m f = (length f.locals ≡ m.code.max_locals) × (length f.stack ≤ m.code.max_stack)
 
 this_or_later : (m : Subject) (d : ℕ × Frame) (later : Option Frame) (f : Frame) (here : Bool) → FitsMethod m d → (later ≡ Some f → FitsIn m f)
     → (if here then Some d.1 else later) ≡ Some f → FitsIn m f
@@ -105,3 +106,8 @@ within_at m ds fit index f e = of_offset (slice_get m.linked.offsets index) e
     of_offset : (o : Option ℕ) → option_and_then (frame_at_offset ds) o ≡ Some f → IsWithin (body_of m ds) f
     of_offset None found = absurd (cc)
     of_offset (Some offset) found = let fits = fits_at m ds fit offset f found in record { locals = fits.0; stack = fits.1 }
+
+-- the frame in which a method begins has its local variables at least
+pub opening_full : (m : Subject) → m.code.max_locals ≤ length (opening m).locals
+unfolding opening
+opening_full m = let all = filled_count m.code.max_locals (argument_types m) in omega (arith, all)

@@ -1,5 +1,5 @@
--- Effects keep a frame within the local variables and operands of the method.
-use Rattle.std.proofs.Common.{◌≡◌, ℕ, suc, ◌==◌, ◌<◌, ◌≤◌, Bool, true, false, Option, Some, None, Result, Ok, Err, List, [], ◌∷◌, length, refl, subst, arith}
+-- Effects keep the local variables of a frame, and its operands within those of the method.
+use Rattle.std.proofs.Common.{◌≡◌, ℕ, suc, ◌==◌, ◌<◌, ◌≤◌, Bool, true, false, Option, Some, None, Result, Ok, Err, List, [], ◌∷◌, length, refl, subst, ◌∙◌, arith}
 use Rattle.std.specs.Prelude.{nat_lt, if◌then◌else◌, map, slice_get, slice_set, is_none, not, IfOk}
 use Rattle.std.specs.List.{list_any}
 use Rattle.std.specs.Option.{option_map_or}
@@ -157,12 +157,12 @@ module _ (body : Body) where
   mapped change f fits =
       let locals : length (map change f.locals) ≡ length f.locals = length-map f.locals change in
       let stack : length (map change f.stack) ≡ length f.stack = length-map f.stack change in
-      record { locals = omega (arith, locals, fits.locals); stack = omega (arith, stack, fits.stack) }
+      record { locals = locals ∙ fits.locals; stack = omega (arith, stack, fits.stack) }
 
   mapped_locals : (change : VType → VType) (f : Frame) → IsWithin body f → IsWithin body (map_locals change f)
   mapped_locals change f fits =
       let locals : length (map change f.locals) ≡ length f.locals = length-map f.locals change in
-      record { locals = omega (arith, locals, fits.locals); stack = fits.stack }
+      record { locals = locals ∙ fits.locals; stack = fits.stack }
 
   get_field_fits : (class : ClassId) (field : Field) (f : Frame) → IsWithin body f → Fits (get_field body class field f)
   unfolding get_field

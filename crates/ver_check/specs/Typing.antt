@@ -34,9 +34,9 @@ pub record IsFineAt (body : Body) (frames : ℕ → Frame) (index : ℕ) (insn :
   pub lands : AllByRecursion (Lands body after) (targets body insn)
   pub goes_on : GoesOn body frames index insn after
 
--- a frame has no more local variables and operands than the method
+-- a frame has as many local variables as the method, and no more operands
 pub record IsWithin (body : Body) (f : Frame) : Type 0 where
-  pub locals : length f.locals ≤ body.max_locals
+  pub locals : length f.locals ≡ body.max_locals
   pub stack : length f.stack ≤ body.max_stack
 
 -- these are the frames of the instructions, by index

@@ -61,10 +61,11 @@ impl BodyView<'_> {
     }
 
     // The frame in which the method begins.
-    #[tactic(auto, unfolding(ver_frames::specs::Method::opening))]
+    #[tactic(auto, using(crate::proofs::Links::opening_full), unfolding(ver_frames::specs::Method::opening))]
     fn opening(&self, alloc: Global) -> Result<TypeFrame, AllocError>
         ensures opening { IfOk result (λ frame. frame ≡ self.now.opening) }
         ensures empty { self.now.opening.stack ≡ [] }
+        ensures full { self.now.max_locals ≤ length self.now.opening.locals }
     {
         let method = self.method;
         method.opening(alloc)

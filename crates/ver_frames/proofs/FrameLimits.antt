@@ -1,5 +1,5 @@
--- What is true of all declared frames: their offsets rise, and they have no more local variables and operands than the
--- method.
+-- What is true of all declared frames: their offsets rise, and they have as many local variables as the method and no more
+-- operands.
 use Rattle.std.proofs.Common.{◌≡◌, ℕ, zero, suc, ◌+◌, ◌-◌, ◌<◌, ◌≤◌, Bool, true, false, Option, Some, None, Result, Ok, Err, List, [], ◌∷◌, ◌++◌, length, take, reverse, replicate, unwrap_or, refl, ap, sym, subst, arith, add-one}
 use Rattle.std.specs.Prelude.{nat_le, map, option_map, option_and_then, slice_index}
 use Rattle.std.specs.List.{AllByRecursion}
@@ -110,7 +110,7 @@ IsAfter (Some last) at = last < at
 -- each declared frame is after the one before it, and fits the method
 abbrev pub RiseAndFit : Subject → Option ℕ → List (ℕ × Frame) → Type 0
 RiseAndFit m last [] = Unit {0}
-RiseAndFit m last (d ∷ ds) = IsAfter last d.0 × (length d.1.locals ≤ m.code.max_locals) × (length d.1.stack ≤ m.code.max_stack) × RiseAndFit m (Some d.0) ds
+RiseAndFit m last (d ∷ ds) = IsAfter last d.0 × (length d.1.locals ≡ m.code.max_locals) × (length d.1.stack ≤ m.code.max_stack) × RiseAndFit m (Some d.0) ds
 
 after_last : (last : Option ℕ) (distance : ℕ) → IsAfter last (next_offset last distance)
 after_last None distance = tt
@@ -145,7 +145,7 @@ frames_fit m (suc n) last before bytes ds e =
     let long : length (filled m.code.max_locals first.0.0.locals) ≡ m.code.max_locals = filled_long m.code.max_locals first.0.0.locals fits.locals in
     let deep : length (reverse first.0.0.stack) ≡ length first.0.0.stack = length-reverse first.0.0.stack in
     subst (λ (fs : List (ℕ × Frame)). RiseAndFit m last fs) same
-    (fits.after, omega arith, omega (arith, fits.stack), frames_fit m n (Some first.0.0.offset) first.0.0.locals first.0.1 others.0 others.1.0)
+    (fits.after, long, omega (arith, fits.stack), frames_fit m n (Some first.0.0.offset) first.0.0.locals first.0.1 others.0 others.1.0)
 
 -- a reading of n frames gives n declared frames
 pub frames_long : (m : Subject) (n : ℕ) (last : Option ℕ) (before : List VType) (bytes : List ℕ) (ds : List (ℕ × Frame)) → frames m n last before bytes ≡ Ok ds → length ds ≡ n
@@ -190,6 +190,6 @@ declared_rise m ds e k lt =
     let next : k + 1 ≡ suc k = add-one k in
     rw next (rise_on m None ds (declared_fit m ds e) k (omega arith))
 
--- the declared frames have no more local variables and operands than the method
+-- the declared frames have as many local variables as the method, and no more operands
 pub declared_within : (m : Subject) (ds : List (ℕ × Frame)) → declared_frames m ≡ Ok ds → AllByRecursion (FitsMethod m) ds
 declared_within m ds e = all_fit m None ds (declared_fit m ds e)

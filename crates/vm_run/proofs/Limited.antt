@@ -52,20 +52,20 @@ module _ (links : Links) (frames : ℕ → ℕ → types.Frame) (typed : AreType
 
   -- the type frame at an index is within its limits
   within_at : (frame : Frame) (k : Known frame) (index : ℕ) → index < (world.method frame.method).count
-      → (length ((world.method frame.method).frames index).locals ≤ k.at.code.max_locals) × (length ((world.method frame.method).frames index).stack ≤ k.at.code.max_stack)
+      → (length ((world.method frame.method).frames index).locals ≡ k.at.code.max_locals) × (length ((world.method frame.method).frames index).stack ≤ k.at.code.max_stack)
   within_at frame k index inside =
       let type : world.method frame.method ≡ method_type k.at (frames frame.method) =
       ap (λ (o : Option Subject). option_map_or (λ (m : Subject). method_type m (frames frame.method)) o no_method) k.is in
       let count : (world.method frame.method).count ≡ length k.at.linked.insns = ap (λ (t : MethodType). t.count) type in
       let here : (world.method frame.method).frames index ≡ frames frame.method index = ap (λ (t : MethodType). t.frames index) type in
       let within = (typed frame.method k.at k.is).typing.within index (subst (λ (n : ℕ). index < n) count inside) in
-      let fewer_locals : length (frames frame.method index).locals ≤ k.at.code.max_locals = within.locals in
+      let all_locals : length (frames frame.method index).locals ≡ k.at.code.max_locals = within.locals in
       let fewer_operands : length (frames frame.method index).stack ≤ k.at.code.max_stack = within.stack in
       let some_locals : length ((world.method frame.method).frames index).locals ≡ length (frames frame.method index).locals = ap (λ (f : types.Frame). length f.locals) here in
       let some_operands : length ((world.method frame.method).frames index).stack ≡ length (frames frame.method index).stack = ap (λ (f : types.Frame). length f.stack) here in
-      (omega (arith, some_locals, fewer_locals), omega (arith, some_operands, fewer_operands))
+      (some_locals ∙ all_locals, omega (arith, some_operands, fewer_operands))
 
-  -- what has as few local variables as a type frame of its method at one index, and as few operands as one at another
+  -- what has as many local variables as a type frame of its method at one index, and as few operands as one at another
   few_at : (frame : Frame) (index other : ℕ) → world.has_code frame.method ≡ true → index < (world.method frame.method).count → other < (world.method frame.method).count
       → length frame.locals ≡ length ((world.method frame.method).frames index).locals
       → length frame.operands ≤ length ((world.method frame.method).frames other).stack → IsWithinCode links frame
@@ -77,7 +77,7 @@ module _ (links : Links) (frames : ℕ → ℕ → types.Frame) (typed : AreType
       record {
         declared = declared_of k.at;
         is = ap (option_map declared_of) k.is;
-        locals = omega (arith, locals, one.0);
+        locals = locals ∙ one.0;
         operands = omega (arith, operands, two.1);
       }
 

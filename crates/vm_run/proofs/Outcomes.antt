@@ -1,5 +1,5 @@
 -- What the outcome of a task tells of its end.
-use Rattle.std.proofs.Common.{◌≡◌, ℕ, ◌<◌, List, [], length, refl, ap, subst, ◌∙◌, arith, Option, Some, None}
+use Rattle.std.proofs.Common.{◌≡◌, ℕ, ◌<◌, List, [], length, refl, ap, subst, ◌∙◌, ◌≤◌, arith, le-leb, Option, Some, None}
 use Rattle.std.proofs.lemmas.List.{length-map}
 use Rattle.std.proofs.lemmas.Option.{slice_get_within}
 use Rattle.std.specs.Prelude.{ℤ, Bool, true, false, nat_le, if◌then◌else◌, IsSome, MatchBool, option_and_then, option_map}
@@ -11,14 +11,14 @@ use Rattle.space_ids.specs.declared.ids.ClassId.{ClassId}
 use Rattle.space_ids.specs.declared.value.Value.TheVariants as value
 use Rattle.vm_run.specs.Run.{State, over, run, IsNotLost, IsNeverStuck}
 use Rattle.vm_run.proofs.Runs.{at_once}
-use Rattle.vm_run.specs.Task.{outcome_of, thrown_name, threw_named, unmarshalled, IsOfSet, IsOutcome, Tells, TellsThrown}
+use Rattle.vm_run.specs.Task.{outcome_at, outcome_of, thrown_name, threw_named, unmarshalled, GivesInts, IsOfSet, IsOutcome, Tells, TellsThrown}
 use Rattle.vm_act.specs.Crossing.{most_elements}
 use Rattle.vm_run.specs.declared.outcome.Outcome.{Outcome}
 use Rattle.vm_run.specs.declared.outcome.Outcome.TheVariants as outcome
-use Rattle.vm_heap.specs.Heap.{cell_at}
+use Rattle.vm_heap.specs.Heap.{Cell, Ints, Object, cell_at, length_at, length_of}
 use Rattle.vm_act.specs.declared.ending.Ending.{Ending}
 use Rattle.vm_act.specs.declared.ending.Ending.TheVariants.{ReturnedReference}
-use Rattle.vm_run.specs.Ends.{End, ReturnedNothing, ReturnedInt, ReturnedNull, ReturnedInts, ReturnedObject, ReturnedRemote, Threw, ThrewObject, Spent, IsEndIn, end_of}
+use Rattle.vm_run.specs.Ends.{End, ReturnedNothing, ReturnedInt, ReturnedNull, ReturnedInts, ReturnedObject, ReturnedRemote, Threw, ThrewObject, Spent, IsEndIn, end_of, returned_at, returned_cell}
 
 -- what is returned lies in no empty heap
 pub nowhere : (e : Ending) (o : Option ℕ) (address : ℕ) → IsSome (end_of [] e) → e ≡ ReturnedReference o → o ≡ Some address → ⊥
@@ -91,3 +91,22 @@ is_outcome links s o fuel told safe is e = of o (subst (IsNotLost links) is (at_
     of (Some end) h is e =
         let so = told_end links.classes end told e h in
         record { ending = record { end = end; left = fuel; over = is; tells = so.tells }; of_set = so.of_set }
+
+-- ---- an array is given
+
+ints_within : (classes : List Class) (elements : List ℤ) → length elements ≤ most_elements → GivesInts (outcome_of classes (ReturnedInts elements))
+ints_within classes elements few = rw (le-leb (length elements) most_elements few) tt
+
+-- an array that is not too long crosses
+pub gives_ints : (classes : List Class) (cells : List Cell) (address count : ℕ) → length_at address cells ≡ Some count → count ≤ most_elements
+    → GivesInts (option_and_then (outcome_of classes) (returned_at cells (Some address)))
+gives_ints classes cells address count is few = of_cell (cell_at cells address) is
+  where
+    of_cell : (o : Option Cell) → option_and_then length_of o ≡ Some count → GivesInts (option_and_then (outcome_of classes) (option_map returned_cell o))
+    of_cell None long = absurd (cc)
+    of_cell (Some (Object class fields)) long = absurd (cc)
+    of_cell (Some (Ints elements)) long = let same : length elements ≡ count = cc in ints_within classes elements (omega (arith, same, few))
+
+pub given_over : (classes : List Class) (o : Option End) (fuel : ℕ) → GivesInts (option_and_then (outcome_of classes) o) → GivesInts (outcome_at classes (over o fuel))
+given_over classes None fuel gives = absurd gives
+given_over classes (Some end) fuel gives = gives

@@ -142,6 +142,20 @@ outcome_at classes (Waits op machine fuel) = None
 outcome_at classes (Over end fuel) = outcome_of classes end
 outcome_at classes Lost = None
 
+-- an array of ints is returned
+abbrev pub IsInts : Value → Type 0
+IsInts value.Null = ⊥
+IsInts (value.Int n) = ⊥
+IsInts (value.Ints elements) = Unit {0}
+IsInts (value.Ref reference) = ⊥
+
+abbrev pub GivesInts : Option Outcome → Type 0
+GivesInts None = ⊥
+GivesInts (Some (outcome.Returned None)) = ⊥
+GivesInts (Some (outcome.Returned (Some returned))) = IsInts returned
+GivesInts (Some (outcome.Threw class)) = ⊥
+GivesInts (Some outcome.Spent) = ⊥
+
 -- a class of this name was thrown, and stands in the set under it
 abbrev pub TellsThrown : List Class → List ℕ → Outcome → Type 0
 TellsThrown classes name told = (class : ClassId) × (told ≡ outcome.Threw class) × (name_at classes class ≡ Some name)

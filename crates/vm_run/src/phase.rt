@@ -3,7 +3,7 @@ ghost use Rattle.std.specs.Prelude.{◌≡◌, ℕ, ◌+◌, ◌<◌, ◌≤◌,
 ghost use Rattle.vm_act.specs.Next.{NotStuck};
 ghost use Rattle.vm_act.specs.Remote.{answered};
 ghost use Rattle.vm_run.specs.Ends.{end_of};
-ghost use Rattle.vm_run.specs.Run.{after, answer, fuel_after, given_back, run, HasStopped, IsDue, IsNeverStuck};
+ghost use Rattle.vm_run.specs.Run.{after, answer, fuel_after, given_back, run, HasNoRemote, HasStopped, IsDue, IsNeverStuck, IsOver};
 ghost use Rattle.vm_run.specs.Task.{last_end, phase_state, fuel_left, left_after, pause_at, final_state};
 
 use crate::outcome::Pause;
@@ -49,6 +49,7 @@ impl Phase {
         ensures stopped { fuel_left (phase_state self) < k → HasStopped (phase_state result) }
         ensures finished { fuel_left (phase_state self) < k
             → phase_state result ≡ final_state program.now (phase_state self) }
+        ensures over { fuel_left (phase_state self) < k → HasNoRemote program.now.classes → IsOver (phase_state result) }
     {
         self.after(program, k)
     }

@@ -1,5 +1,5 @@
 //! Tasks.
-ghost use Rattle.std.specs.Prelude.{List, ◌≡◌, ◌≢◌, ℕ, ◌+◌, ◌^◌, ◌<◌, ◌≤◌, [], IsSome, IsTrue, IfSome, IfOk, IfErr, map, option_and_then, option_map};
+ghost use Rattle.std.specs.Prelude.{List, ◌≡◌, ◌≢◌, ℕ, ◌+◌, ◌^◌, ◌<◌, ◌≤◌, [], IsSome, IsTrue, IfSome, IfOk, IfErr, OnErr, map, option_and_then, option_map};
 ghost use Rattle.vm_heap.specs.Heap.{Ints, cell_at, length_at};
 ghost use Rattle.vm_heap.specs.Tagged.{most_rows};
 ghost use Rattle.vm_run.specs.Ends.{end_of, returned_at};
@@ -9,8 +9,8 @@ ghost use Rattle.vm_run.specs.Limited.{AlwaysKeepsWithin, KeepsWithin};
 ghost use Rattle.vm_code.specs.Parameters.{parameter_of};
 ghost use Rattle.vm_typing.specs.Runs.{Move};
 ghost use Rattle.vm_world.specs.Worlds.{takes_at};
-ghost use Rattle.vm_run.specs.Run.{answer, played, run, AreDue, HasStopped, IsCrossing, IsDue, IsOver, IsNeverStuck};
-ghost use Rattle.vm_run.specs.Task.{pause_at, fuel_left, left_after, final_state, arguments_of, call_arguments, last_end, outcome_of, outcome_at, phase_state, threw_named, unmarshalled, IsCall, IsCalling, IsOutcome, IsOfSet};
+ghost use Rattle.vm_run.specs.Run.{answer, played, run, AreDue, HasNoRemote, HasStopped, IsCrossing, IsDue, IsOver, IsNeverStuck};
+ghost use Rattle.vm_run.specs.Task.{pause_at, fuel_left, left_after, final_state, arguments_of, call_arguments, last_end, outcome_of, outcome_at, phase_state, threw_named, unmarshalled, GivesInts, IsCall, IsCalling, IsOutcome, IsOfSet};
 
 use crate::fault::StartFault;
 use crate::found::find;
@@ -69,7 +69,7 @@ impl Task {
         ensures program { IfOk result (λ task. task.program ≡ program.now) }
         ensures fuel { IfOk result (λ task. fuel_left task.state ≡ limits.fuel) }
         ensures never_stuck { IfOk result (λ task. IsNeverStuck program.now task.state) }
-        // All frames keep within max_stack and max_locals of their methods.
+        // All frames have max_locals local variables of their methods, and keep within max_stack.
         ensures within { IfOk result (λ task. (k : ℕ) → KeepsWithin program.now (run program.now k task.state)) }
         ensures within_replies { IfOk result (λ task. AlwaysKeepsWithin program.now task.state) }
     {
@@ -138,6 +138,8 @@ impl Task {
         // With more instructions than it has fuel for it ends, or waits.
         ensures stopped { fuel_left self.old.state < k → HasStopped self.new.state }
         ensures finished { fuel_left self.old.state < k → self.new.state ≡ final_state program.now self.old.state }
+        // In a set without remote classes it ends.
+        ensures over { fuel_left self.old.state < k → HasNoRemote program.now.classes → IsOver self.new.state }
     {
         let phase = mem::replace(&mut self.phase, Phase::Over(Last::Spent, 0));
         self.phase = phase.run(program, k);
@@ -218,13 +220,15 @@ impl Task {
         }
     }
 
-    /// How the task ended: `None` if it has not. An array is copied. One of more than 8,000 elements,
-    /// and an object of the task's heap, cannot cross: a MarshalException is thrown in their place.
+    /// How the task ended: `None` if it has not. An array is copied, and only then it may be out of memory.
+    /// An array of more than 8,000 elements, and an object of the task's heap, cannot cross: a
+    /// MarshalException is thrown in their place.
     pub fn outcome(&self, alloc: Global) -> Result<Option<Outcome>, AllocError>
         ensures value { IfOk result (λ told. told ≡ outcome_at self.now.program.classes self.now.state) }
         ensures over { IfOk result (λ told. IsOver self.now.state → IsSome told) }
         ensures ending { IfOk result (λ told. IfSome told (IsOutcome self.now.program.classes self.now.state)) }
         ensures of_set { IfOk result (λ told. IfSome told (IsOfSet self.now.program.classes)) }
+        ensures memory { OnErr result (GivesInts (outcome_at self.now.program.classes self.now.state)) }
     {
         match &self.phase {
             Phase::Running(..) | Phase::Waiting(..) => Ok(None),
@@ -235,7 +239,8 @@ impl Task {
     // What the end of a task is to callers.
     fn told_last(&self, alloc: Global, last: &Last) -> Result<Outcome, AllocError>
         requires { IsSome (last_end last.now) }
-        ensures { IfOk result (λ told. option_and_then (outcome_of self.now.program.classes) (last_end last.now) ≡ Some told) }
+        ensures told { IfOk result (λ told. option_and_then (outcome_of self.now.program.classes) (last_end last.now) ≡ Some told) }
+        ensures memory { OnErr result (GivesInts (option_and_then (outcome_of self.now.program.classes) (last_end last.now))) }
     {
         match last {
             Last::Ended(ending) => Ok(self.told(*ending)),
@@ -264,9 +269,11 @@ impl Task {
     }
 
     // What is returned that lies in the heap: an array that can cross, or else a MarshalException.
+    #[tactic(auto, using(crate::proofs::Outcomes::gives_ints))]
     fn crossing(&self, alloc: Global, heap: &Heap, address: usize) -> Result<Outcome, AllocError>
         requires { IsSome (cell_at heap.now.cells address) }
-        ensures { IfOk result (λ told. option_and_then (outcome_of self.now.program.classes) (returned_at heap.now.cells (Some address)) ≡ Some told) }
+        ensures told { IfOk result (λ told. option_and_then (outcome_of self.now.program.classes) (returned_at heap.now.cells (Some address)) ≡ Some told) }
+        ensures memory { OnErr result (GivesInts (option_and_then (outcome_of self.now.program.classes) (returned_at heap.now.cells (Some address)))) }
     {
         if heap.class_of(address).is_some() {
             return Ok(self.not_crossing());

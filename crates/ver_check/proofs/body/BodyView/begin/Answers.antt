@@ -13,7 +13,7 @@ returns-in-Ok c =
     let opens = c.in_ok-frame.ensures.opening in (
       begins c.enter.new.frame (rw opens at c.in-Ok.ensures 0),
       record {
-        locals = omega (arith, c.local_count.ensures, ap (λ (f : Frame). length f.locals) opens);
+        locals = omega (arith, c.local_count.ensures, ap (λ (f : Frame). length f.locals) opens, c.in_ok-frame.ensures.full);
         stack = rw c.in_ok-frame.ensures.empty (omega arith);
       },
       omega (arith, c.if-insn_count-eq0.false, c.insn_count.ensures),
