@@ -64,7 +64,6 @@ impl Task {
         requires { limits.heap_words + most_rows < 2 ^ 32 }
         ensures started { IfOk result (λ task. started program.now own method arguments.items limits ≡ Ok task) }
         ensures refused { IfErr result (Refuses (started program.now own method arguments.items limits)) }
-
         // It has all its fuel, and however many instructions it makes, its machine is not stuck.
         ensures program { IfOk result (λ task. task.program ≡ program.now) }
         ensures fuel { IfOk result (λ task. fuel_left task.state ≡ limits.fuel) }
@@ -123,22 +122,18 @@ impl Task {
         requires { self.old.program ≡ program.now }
         ensures task { self.new ≡ record self.old { state = run program.now k self.old.state } }
         ensures pause { result ≡ pause_at self.new.state }
-
         // However many instructions more, they lead where all of them at once would have led.
         ensures further { (more : ℕ)
             → run program.now more self.new.state
             ≡ run program.now (k + more) self.old.state }
-
         // The fuel goes down by at most `k`, and by `k` if the task has not ended and does not wait.
         ensures fuel { fuel_left self.new.state ≤ fuel_left self.old.state }
         ensures most { fuel_left self.old.state ≤ fuel_left self.new.state + k }
         ensures turn { result ≡ Pause.Turn → fuel_left self.new.state + k ≡ fuel_left self.old.state }
         ensures never_stuck { IsNeverStuck program.now self.new.state }
-
-        // With more instructions than it has fuel for it ends, or waits.
+        // With more instructions than it has fuel for it ends, or waits; without remote classes it ends.
         ensures stopped { fuel_left self.old.state < k → HasStopped self.new.state }
         ensures finished { fuel_left self.old.state < k → self.new.state ≡ final_state program.now self.old.state }
-        // In a set without remote classes it ends.
         ensures over { fuel_left self.old.state < k → HasNoRemote program.now.classes → IsOver self.new.state }
     {
         let phase = mem::replace(&mut self.phase, Phase::Over(Last::Spent, 0));
@@ -220,9 +215,8 @@ impl Task {
         }
     }
 
-    /// How the task ended: `None` if it has not. An array is copied, and only then it may be out of memory.
-    /// An array of more than 8,000 elements, and an object of the task's heap, cannot cross: a
-    /// MarshalException is thrown in their place.
+    /// How the task ended: `None` if it has not. An array is copied; else memory does not run out. One of
+    /// more than 8,000 elements, and an object of the heap, cannot cross: a MarshalException is thrown.
     pub fn outcome(&self, alloc: Global) -> Result<Option<Outcome>, AllocError>
         ensures value { IfOk result (λ told. told ≡ outcome_at self.now.program.classes self.now.state) }
         ensures over { IfOk result (λ told. IsOver self.now.state → IsSome told) }
