@@ -24,4 +24,4 @@ pub returns-in_err-told_last-in-Over-clause-memory : goal.returns-in_err-told_la
 returns-in_err-told_last-in-Over-clause-memory c =
     let is : c.args.self.now.state ≡ over (last_end c.in-Over.last) c.in-Over.field-1 = sym (ap (λ (t : Tasked). t.state) c.self.view_is) ∙ ap phase_state c.in-Over.is in
     on_err c.from_residual.result (subst (λ (s : State). GivesInts (outcome_at c.args.self.now.program.classes s)) (sym is)
-        (given_over c.args.self.now.program.classes (last_end c.in-Over.last) c.in-Over.field-1 c.in_err-told_last-in-Over.ensures.memory))
+    (given_over c.args.self.now.program.classes (last_end c.in-Over.last) c.in-Over.field-1 c.in_err-told_last-in-Over.ensures.memory))
