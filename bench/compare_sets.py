@@ -18,10 +18,12 @@ import sys
 from altered_classes import Layout
 
 REFUSED = re.compile(r"refused ([^.]+)\.(\S+) at (\d+): (5[0-4]|6[0-8]) ")
-NEW, RETURN = 0xBB, 0xB1
+NEW, RETURN, ALOAD, WIDE = 0xBB, 0xB1, 0x19, 0xC4
+LOADS = {ALOAD, 0x2A, 0x2B, 0x2C, 0x2D}
 KNOWN = {
     "kind": "a frame names a type out of the profile or the set",
     "new": "a new with its older object on the stack",
+    "local": "an aload of the older object of a new",
     "return": "a return with an uninitialized receiver, in no <init>",
 }
 
@@ -33,18 +35,22 @@ def answer_of(program, folder):
 
 
 def opcode_at(folder, name, method, offset):
+    """The opcode of the instruction at an offset, of a wide one that which it widens."""
     with open(os.path.join(folder, name + ".class"), "rb") as file:
         content = file.read()
-    return content[Layout(content).code_of[method.encode()][0] + offset]
+    at = Layout(content).code_of[method.encode()][0] + offset
+    return content[at + 1] if content[at] == WIDE else content[at]
 
 
 def known(folder, name, method, offset, number):
     """The way in which the JDK is known to take what rmispace refuses, or none."""
     if number == 54:
         return "kind"
-    if number != 63:
+    if number not in (63, 67):
         return None
     opcode = opcode_at(folder, name, method, offset)
+    if number == 67:
+        return "local" if opcode in LOADS else None
     return "new" if opcode == NEW else "return" if opcode == RETURN and not method.startswith("<init>") else None
 
 
