@@ -1,6 +1,6 @@
 //! The types of a method's parameters, by their indices in a table of types.
 
-ghost use Rattle.std.specs.Prelude.{◌≡◌, ◌<◌, Some, length, slice_get};
+ghost use Rattle.std.specs.Prelude.{◌≡◌, ◌<◌, length, slice_index_or};
 ghost use Rattle.std.specs.Iterator.{YieldsFirstRef, item_count};
 ghost use Rattle.cf_text.specs.TypesAt.{types_at, types_left};
 
@@ -61,9 +61,12 @@ impl Index<usize> for Parameters {
 
     ghost can_index = { λ parameters index. index < length parameters };
 
-    ghost index_gives = { λ parameters index kind. slice_get parameters index ≡ Some kind };
+    ghost index_gives = { λ parameters index kind. kind ≡ slice_index_or parameters index kind };
 
-    fn index(&self, index: usize) -> &FieldType {
+    fn index(&self, index: usize) -> &FieldType
+        requires { index < length self.now }
+        ensures { result.now ≡ slice_index_or self.now index result.now }
+    {
         &self.types.as_slice()[self.indices[index] as usize]
     }
 }
