@@ -1,6 +1,6 @@
 //! Descriptors of a constant pool, each read once however many members share it.
 
-ghost use Rattle.std.specs.Prelude.{◌≡◌, ℕ, Some, IfSome, List};
+ghost use Rattle.std.specs.Prelude.{◌≡◌, ℕ, Some, IfOk, IfSome, List};
 ghost use Rattle.cf_text.specs.Reading.{Gives};
 ghost use Rattle.cf_text.specs.Descriptors.{IsMethodType};
 ghost use Rattle.cf_text.specs.Types.{field_descriptor_of, method_descriptor_of};
@@ -8,7 +8,7 @@ ghost use Rattle.cf_pool.specs.declared.pool.Entry.{Entry};
 ghost use Rattle.cf_pool.specs.Pools.{utf8_at};
 ghost use Rattle.cf_descriptors.specs.Descriptors.{AreFieldTypes, AreMethodTypes, ArePackedTypes};
 
-use cf_layout::Item;
+use cf_layout::{Item, Member};
 use cf_pool::{
     FieldType, MethodDescriptor, Pool, ReadFault, Text, read_field_descriptor,
     read_method_descriptor,
@@ -96,6 +96,42 @@ impl<'a> MethodTypes<'a> {
         let types = Shared::new(alloc, types)?;
         self.by_index.insert(item.value, types.share()?)?;
         Ok(types)
+    }
+
+    /// Returns what the descriptors of these methods say, so that all their types are known. One that is at
+    /// fault is left out.
+    pub fn of(
+        alloc: Global,
+        pool: &'a Pool,
+        methods: &[Member],
+    ) -> Result<MethodTypes<'a>, AllocError>
+        ensures { IfOk result (AreMethodTypes pool.now) }
+    {
+        let mut types = MethodTypes::new(alloc);
+        for method in methods {
+            if let Some(text) = pool.utf8(method.descriptor.value) {
+                types.note(alloc, pool, method.descriptor, text)?;
+            }
+        }
+        Ok(types)
+    }
+
+    // Reads a descriptor, if it is not at fault.
+    fn note(
+        &mut self,
+        alloc: Global,
+        pool: &Pool,
+        item: Item,
+        text: &'a Text,
+    ) -> Result<(), AllocError>
+        requires named { utf8_at pool.now item.value ≡ Some text.now }
+        requires known { AreMethodTypes pool.now self.old }
+        ensures { AreMethodTypes pool.now self.new }
+    {
+        match self.read(alloc, pool, item, text) {
+            Ok(_) | Err(ReadFault::Broken { .. }) => Ok(()),
+            Err(ReadFault::Memory) => Err(AllocError),
+        }
     }
 
     /// Returns what the descriptor of an index says, if it was read.

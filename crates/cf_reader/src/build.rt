@@ -1,8 +1,7 @@
 //! What a layout says, once its demands hold.
 
-ghost use Rattle.std.specs.Prelude.{◌≡◌, ◌≤◌, None, Some, length};
+ghost use Rattle.std.specs.Prelude.{◌≡◌, ◌≤◌, None, length};
 ghost use Rattle.cf_descriptors.specs.Descriptors.{AreFieldTypes, AreMethodTypes, ArePackedTypes};
-ghost use Rattle.cf_pool.specs.Pools.{utf8_at};
 ghost use Rattle.cf_text.specs.Reading.{Gives, GivesSeen};
 ghost use Rattle.cf_layout.specs.CodeLengths.{IsShort};
 ghost use Rattle.cf_reader.specs.Builds.{class_from, class_name_of, code_from, code_in, constant_attribute, constant_from, each, field_from, method_from, table_in, text_of};
@@ -13,7 +12,7 @@ use cf_descriptors::{FieldTypes, MethodTypes, PackedTypes};
 use cf_layout::{Attribute, CodeLayout, Item, Layout, Member, between, read_code, read_constant};
 use cf_pool::{Pool, ReadFault, Row, Rule, Table, Text};
 use cf_text::Shared;
-use std::alloc::{AllocError, Global};
+use std::alloc::Global;
 
 fn wrong_index(at: usize) -> ReadFault
     ensures { result ≡ ReadFault.Broken Rule.Index at }
@@ -220,41 +219,6 @@ fn fields_from(
     Ok(Table::new(fields))
 }
 
-// Reads the descriptors of methods, so that all their types are known. One that is at fault is left out.
-fn read_types<'a>(
-    alloc: Global,
-    pool: &'a Pool,
-    known: &mut MethodTypes<'a>,
-    items: &[Member],
-) -> Result<(), AllocError>
-    requires { AreMethodTypes pool.now known.old }
-    ensures { AreMethodTypes pool.now known.new }
-{
-    for item in items {
-        if let Some(text) = pool.utf8(item.descriptor.value) {
-            read_type(alloc, pool, known, item.descriptor, text)?;
-        }
-    }
-    Ok(())
-}
-
-fn read_type<'a>(
-    alloc: Global,
-    pool: &'a Pool,
-    known: &mut MethodTypes<'a>,
-    descriptor: Item,
-    text: &'a Text,
-) -> Result<(), AllocError>
-    requires named { utf8_at pool.now descriptor.value ≡ Some text.now }
-    requires known { AreMethodTypes pool.now known.old }
-    ensures { AreMethodTypes pool.now known.new }
-{
-    match known.read(alloc, pool, descriptor, text) {
-        Ok(_) | Err(ReadFault::Broken { .. }) => Ok(()),
-        Err(ReadFault::Memory) => Err(AllocError),
-    }
-}
-
 fn methods_from(
     alloc: Global,
     bytes: &[u8],
@@ -266,32 +230,11 @@ fn methods_from(
     requires few { length items.now ≤ 65535 }
     ensures { Gives (each (method_from bytes.now pool.now) items.now) result }
 {
-    let mut known = MethodTypes::new(alloc);
-    read_types(alloc, pool, &mut known, items)?;
-    let packed = PackedTypes::new(alloc, known.table(alloc)?);
-    packed_methods(alloc, bytes, pool, &known, packed, no_code, items)
-}
-
-// The methods, whose descriptors were read.
-fn packed_methods<'a>(
-    alloc: Global,
-    bytes: &[u8],
-    pool: &Pool,
-    known: &'a MethodTypes<'_>,
-    packed: PackedTypes<'a>,
-    no_code: &Shared<Option<Code>>,
-    items: &[Member],
-) -> Result<Table<Method>, ReadFault>
-    requires none { no_code.now ≡ None }
-    requires few { length items.now ≤ 65535 }
-    requires known { AreMethodTypes pool.now known.now }
-    requires packed { ArePackedTypes pool.now packed }
-    ensures { Gives (each (method_from bytes.now pool.now) items.now) result }
-{
-    let mut packed = packed;
+    let known = MethodTypes::of(alloc, pool, items)?;
+    let mut packed = PackedTypes::new(alloc, known.table(alloc)?);
     let mut methods = Vec::with_capacity(alloc, items.len())?;
     for item in items {
-        let method = method_from(alloc, bytes, pool, known, &mut packed, no_code, item)?;
+        let method = method_from(alloc, bytes, pool, &known, &mut packed, no_code, item)?;
         methods.push(method)?;
     }
     Ok(Table::new(methods))

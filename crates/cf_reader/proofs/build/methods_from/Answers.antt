@@ -5,7 +5,7 @@ use Rattle.cf_layout.specs.declared.items.Item.{Item}
 use Rattle.cf_reader.specs.declared.class_file.Method.{Method}
 use Rattle.cf_reader.specs.Builds.{method_from}
 use Rattle.cf_reader.proofs.Each.{each-goes_on, each-fails, each-end, each-long}
-use Rattle.cf_reader.proofs.build.packed_methods.Goals as goal
+use Rattle.cf_reader.proofs.build.methods_from.Goals as goal
 
 -- what stands past the end of a row of items
 abbrev nowhere : Item
