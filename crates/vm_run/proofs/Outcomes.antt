@@ -2,7 +2,7 @@
 use Rattle.std.proofs.Common.{◌≡◌, ℕ, ◌<◌, List, [], length, refl, ap, subst, ◌∙◌, ◌≤◌, arith, le-leb, Option, Some, None}
 use Rattle.std.proofs.lemmas.List.{length-map}
 use Rattle.std.proofs.lemmas.Option.{slice_get_within}
-use Rattle.std.specs.Prelude.{ℤ, Bool, true, false, nat_le, if◌then◌else◌, IsSome, MatchBool, option_and_then, option_map}
+use Rattle.std.specs.Prelude.{ℤ, Bool, true, false, nat_le, if◌then◌else◌, IsSome, MatchBool, OnErr, Result, Ok, Err, option_and_then, option_map}
 use Rattle.cls_link.specs.Links.{Links}
 use Rattle.cls_set.proofs.Names.{name_at_number}
 use Rattle.cls_set.specs.Classes.{names, number_of}
@@ -110,3 +110,8 @@ gives_ints classes cells address count is few = of_cell (cell_at cells address) 
 pub given_over : (classes : List Class) (o : Option End) (fuel : ℕ) → GivesInts (option_and_then (outcome_of classes) o) → GivesInts (outcome_at classes (over o fuel))
 given_over classes None fuel gives = absurd gives
 given_over classes (Some end) fuel gives = gives
+
+-- what holds in any case holds of an error
+pub on_err : {T E P : Type 0} (r : Result T E) → P → OnErr r P
+on_err (Ok x) holds = tt
+on_err (Err e) holds = holds

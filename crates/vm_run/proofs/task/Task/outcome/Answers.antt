@@ -1,7 +1,7 @@
 use Rattle.std.proofs.Common.{◌≡◌, ◌∙◌, ap, sym, subst}
 use Rattle.vm_run.specs.Run.{State, over, IsNeverStuck}
 use Rattle.vm_run.specs.Task.{Tasked, GivesInts, last_end, outcome_at, phase_state}
-use Rattle.vm_run.proofs.Outcomes.{end_there, given_over, is_outcome}
+use Rattle.vm_run.proofs.Outcomes.{end_there, given_over, is_outcome, on_err}
 use Rattle.vm_run.proofs.task.Task.outcome.Goals as goal
 
 pub told_last-requires : goal.told_last-requires
@@ -23,5 +23,5 @@ returns-in_ok-told_last-in-Over-clause-of_set c =
 pub returns-in_err-told_last-in-Over-clause-memory : goal.returns-in_err-told_last-in-Over-clause-memory
 returns-in_err-told_last-in-Over-clause-memory c =
     let is : c.args.self.now.state ≡ over (last_end c.in-Over.last) c.in-Over.field-1 = sym (ap (λ (t : Tasked). t.state) c.self.view_is) ∙ ap phase_state c.in-Over.is in
-    subst (λ (s : State). GivesInts (outcome_at c.args.self.now.program.classes s)) (sym is)
-    (given_over c.args.self.now.program.classes (last_end c.in-Over.last) c.in-Over.field-1 c.in_err-told_last-in-Over.ensures.memory)
+    on_err c.from_residual.result (subst (λ (s : State). GivesInts (outcome_at c.args.self.now.program.classes s)) (sym is)
+    (given_over c.args.self.now.program.classes (last_end c.in-Over.last) c.in-Over.field-1 c.in_err-told_last-in-Over.ensures.memory))
