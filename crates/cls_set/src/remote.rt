@@ -99,9 +99,7 @@ fn is_one_not_crossing(entries: &[Entry], remote: &[bool], kinds: &Parameters) -
     requires { AreKnown entries.now remote.now }
     ensures { IsTrue result ↔ Any (CannotCross (origins_of entries.now)) kinds.now }
 {
-    kinds
-        .iter()
-        .any(|kind| cannot_cross(entries, remote, kind))
+    kinds.iter().any(|kind| cannot_cross(entries, remote, kind))
 }
 
 fn is_method_not_crossing(entries: &[Entry], remote: &[bool], method: &Method) -> bool
