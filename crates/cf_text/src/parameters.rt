@@ -1,6 +1,6 @@
 //! The types of a method's parameters, by their indices in a table of types.
 
-ghost use Rattle.std.specs.Prelude.{◌≡◌, ◌<◌, length, slice_index_or};
+ghost use Rattle.std.specs.Prelude.{◌≡◌, ◌+◌, ◌<◌, ◌^◌, length, slice_index_or};
 ghost use Rattle.std.specs.Iterator.{YieldsFirstRef, item_count};
 ghost use Rattle.cf_text.specs.TypesAt.{types_at, types_left};
 
@@ -40,7 +40,8 @@ impl Parameters {
 
     /// Returns how many parameters there are.
     pub fn len(&self) -> usize
-        ensures { result ≡ length self.now }
+        ensures count { result ≡ length self.now }
+        ensures few { result + 1 < 2 ^ 64 }
     {
         self.indices.len()
     }
