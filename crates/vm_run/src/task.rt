@@ -1,5 +1,6 @@
 //! Tasks.
 ghost use Rattle.std.specs.Prelude.{List, ◌≡◌, ◌≢◌, ℕ, ◌+◌, ◌^◌, ◌<◌, ◌≤◌, [], IsSome, IsTrue, IfSome, IfOk, IfErr, OnErr, map, option_and_then, option_map};
+ghost use Rattle.std.specs.Option.{option_map_or};
 ghost use Rattle.vm_heap.specs.Heap.{Ints, cell_at, length_at};
 ghost use Rattle.vm_heap.specs.Tagged.{most_rows};
 ghost use Rattle.vm_run.specs.Ends.{end_of, returned_at};
@@ -21,7 +22,7 @@ use crate::phase::{Last, Phase, fuel_after};
 use crate::program::Program;
 use crate::receiving::refuses_begin;
 use crate::thrown::ThrownClasses;
-use cls_link::{FieldType, Linked, MethodId, Shared};
+use cls_link::{Linked, MethodId, Parameters};
 use std::alloc::{AllocError, Global};
 use std::marker::Model;
 use std::mem;
@@ -306,23 +307,21 @@ fn passed(
             method,
             arguments: _,
         } => {
-            let types = parameters(program.linked(), *method);
-            Ok(Some(arguments(alloc, machine, types)?))
+            match parameters(program.linked(), *method) {
+                Some(types) => Ok(Some(arguments(alloc, machine, types)?)),
+                None => Ok(Some(Vec::new(alloc))),
+            }
         }
         _ => Ok(None),
     }
 }
 
-// The types of the parameters of a method: none if there is no such method.
-fn parameters(linked: &Linked, method: u32) -> &[Shared<FieldType>]
-    ensures { map parameter_of result.now ≡ takes_at linked.now.classes method }
+// The types of the parameters of a method, if there is one of this number.
+fn parameters(linked: &Linked, method: u32) -> Option<&Parameters>
+    ensures { option_map_or (λ types. map parameter_of types.now) result [] ≡ takes_at linked.now.classes method }
 {
     if method as usize >= linked.len() {
-        return &[];
+        return None;
     }
-    linked
-        .declaration(MethodId(method))
-        .types
-        .parameters
-        .as_slice()
+    Some(&linked.declaration(MethodId(method)).types.parameters)
 }

@@ -7,13 +7,13 @@ returns-then-kinds-arguments c = fit_other c.args.kinds.now c.args.arguments.now
 
 pub returns-then-not-fits_type : goal.returns-then-not-fits_type
 returns-then-not-fits_type c =
-    fit_no c.args.kinds.now c.args.arguments.now c.loop-index.index c.index-kinds-index.result _ c.index-arguments-index.result _ (omega (arith, c.if-kinds-arguments.false, c.loop-index-test.true))
-    c.loop-index-test.true c.index-kinds-index.is c.index-arguments-index.is c.if-not-fits_type.ensures c.loop-index.invariant
+    fit_no c.args.kinds.now c.args.arguments.now c.loop-index.index c.index.result.now _ c.index-arguments-index.result _ (omega (arith, c.if-kinds-arguments.false, c.loop-index-test.true))
+    c.loop-index-test.true c.index.ensures c.index-arguments-index.is c.if-not-fits_type.ensures c.loop-index.invariant
 
 pub loop-index-preserved : goal.loop-index-preserved
 loop-index-preserved c =
-    fit_more c.args.kinds.now c.args.arguments.now c.loop-index.index c.index-kinds-index.result _ c.index-arguments-index.result _ (omega (arith, c.if-kinds-arguments.false, c.loop-index-test.true))
-    c.loop-index-test.true c.index-kinds-index.is c.index-arguments-index.is c.if-not-fits_type.ensures c.loop-index.invariant
+    fit_more c.args.kinds.now c.args.arguments.now c.loop-index.index c.index.result.now _ c.index-arguments-index.result _ (omega (arith, c.if-kinds-arguments.false, c.loop-index-test.true))
+    c.loop-index-test.true c.index.ensures c.index-arguments-index.is c.if-not-fits_type.ensures c.loop-index.invariant
 
 pub returns : goal.returns
 returns c =

@@ -14,20 +14,20 @@ loop-index-init c =
 
 pub argument-requires : goal.argument-requires
 argument-requires c =
-    let within : c.loop-index.index < length c.args.types.now = c.loop-index-test.true in
+    let within : c.loop-index.index < length c.args.types.now = omega (arith, c.loop-index-test.true, c.len-index-end.ensures) in
     let there : slice_get (reverse (map parameter_of c.args.types.now)) (length c.args.types.now - 1 - c.loop-index.index) ≡ Some c.parameter.result =
     taken_at parameter_of c.args.types.now c.loop-index.index (length c.args.types.now - 1 - c.loop-index.index) _ within refl
-    ∙ ap (λ (p : _). Some p) (ap parameter_of (sym c.index-types-index.is) ∙ (ap parameter_of (sym c.deref.ensures) ∙ sym c.parameter.ensures)) in
+    ∙ ap (λ (p : _). Some p) (ap parameter_of (sym c.index.ensures) ∙ sym c.parameter.ensures) in
     crosses_at c.args.machine.now.references c.args.machine.now.heap.cells (length c.args.types.now - 1 - c.loop-index.index) c.parameter.result (reverse (map parameter_of c.args.types.now)) c.args.machine.now.stack.frame.operands c.requires there
 
 pub loop-index-preserved : goal.loop-index-preserved
 loop-index-preserved c =
-    let within : c.loop-index.index < length c.args.types.now = c.loop-index-test.true in
+    let within : c.loop-index.index < length c.args.types.now = omega (arith, c.loop-index-test.true, c.len-index-end.ensures) in
     let next : length c.args.types.now - c.loop-index.index ≡ suc (length c.args.types.now - 1 - c.loop-index.index) = omega arith in
     let here : length c.args.types.now - 1 - c.loop-index.index ≡ length c.args.types.now - (c.loop-index.index + 1) = omega arith in
     let there : slice_get (reverse (map parameter_of c.args.types.now)) (length c.args.types.now - 1 - c.loop-index.index) ≡ Some c.parameter.result =
     taken_at parameter_of c.args.types.now c.loop-index.index (length c.args.types.now - 1 - c.loop-index.index) _ within refl
-    ∙ ap (λ (p : _). Some p) (ap parameter_of (sym c.index-types-index.is) ∙ (ap parameter_of (sym c.deref.ensures) ∙ sym c.parameter.ensures)) in
+    ∙ ap (λ (p : _). Some p) (ap parameter_of (sym c.index.ensures) ∙ sym c.parameter.ensures) in
     subst (λ (k : ℕ). values_of (drop k (reverse (map parameter_of c.args.types.now))) c.args.machine.now.references c.args.machine.now.heap.cells (drop k c.args.machine.now.stack.frame.operands) ≡ Some (Some c.push.new.self.items)) here
     (copies_more c.args.machine.now.references c.args.machine.now.heap.cells (length c.args.types.now - 1 - c.loop-index.index) c.parameter.result (reverse (map parameter_of c.args.types.now))
     c.args.machine.now.stack.frame.operands c.in_ok-argument.field-0 c.loop-index.values.items c.requires there c.in_ok-argument.ensures

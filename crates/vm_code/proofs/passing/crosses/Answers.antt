@@ -12,20 +12,20 @@ loop-index-init c =
 
 pub argument_bytes-requires : goal.argument_bytes-requires
 argument_bytes-requires c =
-    let within : c.loop-index.index < length c.args.types.now = c.loop-index-test.true in
+    let within : c.loop-index.index < length c.args.types.now = omega (arith, c.loop-index-test.true, c.len-index-end.ensures) in
     let there : slice_get (reverse (map parameter_of c.args.types.now)) (length c.args.types.now - 1 - c.loop-index.index) ≡ Some c.parameter.result =
     taken_at parameter_of c.args.types.now c.loop-index.index (length c.args.types.now - 1 - c.loop-index.index) _ within refl
-    ∙ ap (λ (p : _). Some p) (ap parameter_of (sym c.index-types-index.is) ∙ (ap parameter_of (sym c.deref.ensures) ∙ sym c.parameter.ensures)) in
+    ∙ ap (λ (p : _). Some p) (ap parameter_of (sym c.index.ensures) ∙ sym c.parameter.ensures) in
     let a = at_depth c.args.machine.now.references c.args.machine.now.heap.cells (length c.args.types.now - 1 - c.loop-index.index) c.parameter.result (reverse (map parameter_of c.args.types.now)) c.args.machine.now.stack.frame.operands c.requires there in
     subst IsSome (sym a.is) refl
 
 pub returns-in_default : goal.returns-in_default
 returns-in_default c =
-    let within : c.loop-index.index < length c.args.types.now = c.loop-index-test.true in
+    let within : c.loop-index.index < length c.args.types.now = omega (arith, c.loop-index-test.true, c.len-index-end.ensures) in
     let next : length c.args.types.now - c.loop-index.index ≡ suc (length c.args.types.now - 1 - c.loop-index.index) = omega arith in
     let there : slice_get (reverse (map parameter_of c.args.types.now)) (length c.args.types.now - 1 - c.loop-index.index) ≡ Some c.parameter.result =
     taken_at parameter_of c.args.types.now c.loop-index.index (length c.args.types.now - 1 - c.loop-index.index) _ within refl
-    ∙ ap (λ (p : _). Some p) (ap parameter_of (sym c.index-types-index.is) ∙ (ap parameter_of (sym c.deref.ensures) ∙ sym c.parameter.ensures)) in
+    ∙ ap (λ (p : _). Some p) (ap parameter_of (sym c.index.ensures) ∙ sym c.parameter.ensures) in
     let more : c.loop-index.left < c.in-Some.bytes = omega (arith, c.if-bytes-left.false) in
     leaves_none c.args.machine.now.references c.args.machine.now.heap.cells (length c.args.types.now - 1 - c.loop-index.index) c.parameter.result (reverse (map parameter_of c.args.types.now))
     c.args.machine.now.stack.frame.operands c.loop-index.left (Some c.in-Some.bytes) c.requires there (c.argument_bytes.ensures ∙ ap (λ (o : _). Some o) c.in-Some.is)
@@ -34,11 +34,11 @@ returns-in_default c =
 
 pub returns-in_default-2 : goal.returns-in_default-2
 returns-in_default-2 c =
-    let within : c.loop-index.index < length c.args.types.now = c.loop-index-test.true in
+    let within : c.loop-index.index < length c.args.types.now = omega (arith, c.loop-index-test.true, c.len-index-end.ensures) in
     let next : length c.args.types.now - c.loop-index.index ≡ suc (length c.args.types.now - 1 - c.loop-index.index) = omega arith in
     let there : slice_get (reverse (map parameter_of c.args.types.now)) (length c.args.types.now - 1 - c.loop-index.index) ≡ Some c.parameter.result =
     taken_at parameter_of c.args.types.now c.loop-index.index (length c.args.types.now - 1 - c.loop-index.index) _ within refl
-    ∙ ap (λ (p : _). Some p) (ap parameter_of (sym c.index-types-index.is) ∙ (ap parameter_of (sym c.deref.ensures) ∙ sym c.parameter.ensures)) in
+    ∙ ap (λ (p : _). Some p) (ap parameter_of (sym c.index.ensures) ∙ sym c.parameter.ensures) in
     leaves_none c.args.machine.now.references c.args.machine.now.heap.cells (length c.args.types.now - 1 - c.loop-index.index) c.parameter.result (reverse (map parameter_of c.args.types.now))
     c.args.machine.now.stack.frame.operands c.loop-index.left None c.requires there (c.argument_bytes.ensures ∙ ap (λ (o : _). Some o) c.in_default.is)
     (λ (bytes : ℕ) e. absurd (cc))
@@ -46,12 +46,12 @@ returns-in_default-2 c =
 
 pub loop-index-preserved : goal.loop-index-preserved
 loop-index-preserved c =
-    let within : c.loop-index.index < length c.args.types.now = c.loop-index-test.true in
+    let within : c.loop-index.index < length c.args.types.now = omega (arith, c.loop-index-test.true, c.len-index-end.ensures) in
     let next : length c.args.types.now - c.loop-index.index ≡ suc (length c.args.types.now - 1 - c.loop-index.index) = omega arith in
     let here : length c.args.types.now - 1 - c.loop-index.index ≡ length c.args.types.now - (c.loop-index.index + 1) = omega arith in
     let there : slice_get (reverse (map parameter_of c.args.types.now)) (length c.args.types.now - 1 - c.loop-index.index) ≡ Some c.parameter.result =
     taken_at parameter_of c.args.types.now c.loop-index.index (length c.args.types.now - 1 - c.loop-index.index) _ within refl
-    ∙ ap (λ (p : _). Some p) (ap parameter_of (sym c.index-types-index.is) ∙ (ap parameter_of (sym c.deref.ensures) ∙ sym c.parameter.ensures)) in
+    ∙ ap (λ (p : _). Some p) (ap parameter_of (sym c.index.ensures) ∙ sym c.parameter.ensures) in
     subst (λ (k : ℕ). Leaves c.args.machine.now.references c.args.machine.now.heap.cells k (reverse (map parameter_of c.args.types.now)) c.args.machine.now.stack.frame.operands (c.loop-index.left - c.in-Some.bytes)) here
     (leaves_more c.args.machine.now.references c.args.machine.now.heap.cells (length c.args.types.now - 1 - c.loop-index.index) c.parameter.result (reverse (map parameter_of c.args.types.now))
     c.args.machine.now.stack.frame.operands c.loop-index.left c.in-Some.bytes c.requires there (c.argument_bytes.ensures ∙ ap (λ (o : _). Some o) c.in-Some.is) c.if-bytes-left.true

@@ -7,13 +7,13 @@ returns-then-kinds-arguments c = fill_other c.args.set.now c.args.kinds.now c.ar
 
 pub returns-then-not-is_of_type : goal.returns-then-not-is_of_type
 returns-then-not-is_of_type c =
-    fill_no c.args.set.now c.args.kinds.now c.args.arguments.now c.loop-index.index c.index-kinds-index.result _ c.index-arguments-index.result _ (omega (arith, c.if-kinds-arguments.false, c.loop-index-test.true))
-    c.loop-index-test.true c.index-kinds-index.is c.index-arguments-index.is c.if-not-is_of_type.ensures c.loop-index.invariant
+    fill_no c.args.set.now c.args.kinds.now c.args.arguments.now c.loop-index.index c.index.result.now _ c.index-arguments-index.result _ (omega (arith, c.if-kinds-arguments.false, c.loop-index-test.true))
+    c.loop-index-test.true c.index.ensures c.index-arguments-index.is c.if-not-is_of_type.ensures c.loop-index.invariant
 
 pub loop-index-preserved : goal.loop-index-preserved
 loop-index-preserved c =
-    fill_more c.args.set.now c.args.kinds.now c.args.arguments.now c.loop-index.index c.index-kinds-index.result _ c.index-arguments-index.result _ (omega (arith, c.if-kinds-arguments.false, c.loop-index-test.true))
-    c.loop-index-test.true c.index-kinds-index.is c.index-arguments-index.is c.if-not-is_of_type.ensures c.loop-index.invariant
+    fill_more c.args.set.now c.args.kinds.now c.args.arguments.now c.loop-index.index c.index.result.now _ c.index-arguments-index.result _ (omega (arith, c.if-kinds-arguments.false, c.loop-index-test.true))
+    c.loop-index-test.true c.index.ensures c.index-arguments-index.is c.if-not-is_of_type.ensures c.loop-index.invariant
 
 pub returns : goal.returns
 returns c =
