@@ -2,7 +2,6 @@
 ghost use Rattle.std.specs.Prelude.{List, ◌≡◌, ◌≢◌, ℕ, ◌+◌, ◌^◌, ◌<◌, ◌≤◌, [], IsSome, IsTrue, IfSome, IfOk, IfErr, OnErr, map, option_and_then, option_map};
 ghost use Rattle.std.specs.Option.{option_map_or};
 ghost use Rattle.vm_heap.specs.Heap.{Ints, cell_at, length_at};
-ghost use Rattle.vm_heap.specs.Tagged.{most_rows};
 ghost use Rattle.vm_run.specs.Ends.{end_of, returned_at};
 ghost use Rattle.vm_run.specs.Begin.{begun};
 ghost use Rattle.vm_run.specs.Start.{started, Refuses};
@@ -62,7 +61,6 @@ impl Task {
         arguments: Vec<Value>,
         limits: Limits,
     ) -> Result<Task, StartFault>
-        requires { limits.heap_words + most_rows < 2 ^ 32 }
         ensures started { IfOk result (λ task. started program.now own method arguments.items limits ≡ Ok task) }
         ensures refused { IfErr result (Refuses (started program.now own method arguments.items limits)) }
         // It has all its fuel, and however many instructions it makes, its machine is not stuck.
@@ -91,7 +89,6 @@ impl Task {
         values: Vec<Value>,
         limits: Limits,
     ) -> Result<Task, StartFault>
-        requires { limits.heap_words + most_rows < 2 ^ 32 }
         ensures begun { IfOk result (λ task. begun program.now own method values.items limits ≡ Ok task) }
         ensures refused { IfErr result (Refuses (begun program.now own method values.items limits)) }
         ensures program { IfOk result (λ task. task.program ≡ program.now) }
