@@ -12,7 +12,7 @@ loop-index-init c =
 
 pub argument_bytes-requires : goal.argument_bytes-requires
 argument_bytes-requires c =
-    let within : c.loop-index.index < length c.args.types.now = omega (arith, c.loop-index-test.true, c.len-index-end.ensures) in
+    let within : c.loop-index.index < length c.args.types.now = omega (arith, c.loop-index-test.true, c.len-index-end.ensures.count) in
     let there : slice_get (reverse (map parameter_of c.args.types.now)) (length c.args.types.now - 1 - c.loop-index.index) ≡ Some c.parameter.result =
     taken_at parameter_of c.args.types.now c.loop-index.index (length c.args.types.now - 1 - c.loop-index.index) _ within refl
     ∙ ap (λ (p : _). Some p) (ap parameter_of (sym c.index.ensures) ∙ sym c.parameter.ensures) in
@@ -21,7 +21,7 @@ argument_bytes-requires c =
 
 pub returns-in_default : goal.returns-in_default
 returns-in_default c =
-    let within : c.loop-index.index < length c.args.types.now = omega (arith, c.loop-index-test.true, c.len-index-end.ensures) in
+    let within : c.loop-index.index < length c.args.types.now = omega (arith, c.loop-index-test.true, c.len-index-end.ensures.count) in
     let next : length c.args.types.now - c.loop-index.index ≡ suc (length c.args.types.now - 1 - c.loop-index.index) = omega arith in
     let there : slice_get (reverse (map parameter_of c.args.types.now)) (length c.args.types.now - 1 - c.loop-index.index) ≡ Some c.parameter.result =
     taken_at parameter_of c.args.types.now c.loop-index.index (length c.args.types.now - 1 - c.loop-index.index) _ within refl
@@ -34,7 +34,7 @@ returns-in_default c =
 
 pub returns-in_default-2 : goal.returns-in_default-2
 returns-in_default-2 c =
-    let within : c.loop-index.index < length c.args.types.now = omega (arith, c.loop-index-test.true, c.len-index-end.ensures) in
+    let within : c.loop-index.index < length c.args.types.now = omega (arith, c.loop-index-test.true, c.len-index-end.ensures.count) in
     let next : length c.args.types.now - c.loop-index.index ≡ suc (length c.args.types.now - 1 - c.loop-index.index) = omega arith in
     let there : slice_get (reverse (map parameter_of c.args.types.now)) (length c.args.types.now - 1 - c.loop-index.index) ≡ Some c.parameter.result =
     taken_at parameter_of c.args.types.now c.loop-index.index (length c.args.types.now - 1 - c.loop-index.index) _ within refl
@@ -46,7 +46,7 @@ returns-in_default-2 c =
 
 pub loop-index-preserved : goal.loop-index-preserved
 loop-index-preserved c =
-    let within : c.loop-index.index < length c.args.types.now = omega (arith, c.loop-index-test.true, c.len-index-end.ensures) in
+    let within : c.loop-index.index < length c.args.types.now = omega (arith, c.loop-index-test.true, c.len-index-end.ensures.count) in
     let next : length c.args.types.now - c.loop-index.index ≡ suc (length c.args.types.now - 1 - c.loop-index.index) = omega arith in
     let here : length c.args.types.now - 1 - c.loop-index.index ≡ length c.args.types.now - (c.loop-index.index + 1) = omega arith in
     let there : slice_get (reverse (map parameter_of c.args.types.now)) (length c.args.types.now - 1 - c.loop-index.index) ≡ Some c.parameter.result =
