@@ -55,7 +55,12 @@ pub(crate) fn may_take(set: &ClassSet, types: &MethodDescriptor) -> bool
 fn all_cross(set: &ClassSet, kinds: &Parameters) -> bool
     ensures { result ≡ list_all (crosses set.now) kinds.now }
 {
-    kinds.iter().all(|kind| crosses(set, kind))
+    for index in 0..kinds.len() {
+        if !crosses(set, &kinds[index]) {
+            return false;
+        }
+    }
+    true
 }
 
 fn result_crosses(set: &ClassSet, result_type: &Option<Shared<FieldType>>) -> bool
