@@ -59,7 +59,6 @@ pub fn run_in_space(
     arguments: Vec<Value>,
     limits: Limits,
 ) -> Result<RunOutcome, Refusal>
-    requires memory { limits.heap_words + 65536 < 2 ^ 32 }
     requires program { (files : List ClassBytes) × IsProgram files program.now }
     ensures run { IfOk result (RunsInSpace program.now method arguments.items limits) }
     ensures refused { IfErr result (IsNotRunInSpace program.now method arguments.items limits) }

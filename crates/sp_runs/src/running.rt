@@ -65,7 +65,6 @@ pub fn run_classes(
     arguments: Vec<Value>,
     limits: Limits,
 ) -> Result<RunOutcome, Refusal>
-    requires memory { limits.heap_words + 65536 < 2 ^ 32 }
     // From the bytes to the outcome: the classes that the bytes spell are type safe, and the tagged machine of
     // all instructions runs the method to this end, never stuck and within its bounds; in a set with remote
     // classes a space does, as the rules of spaces say.
@@ -215,7 +214,6 @@ fn run_method(
     arguments: Vec<Value>,
     limits: Limits,
 ) -> Result<RunOutcome, Refusal>
-    requires memory { limits.heap_words + 65536 < 2 ^ 32 }
     requires plain { HasNoRemote program.now.classes }
     ensures run { IfOk result (Runs program.now method arguments.items limits) }
     ensures refused { IfErr result (IsNotRun program.now method arguments.items limits) }
