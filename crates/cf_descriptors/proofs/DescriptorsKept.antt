@@ -34,3 +34,16 @@ module _ {T : Type 0} (Says : List ℕ → T → Type 0) (pool : List Entry) whe
           let texts : text ≡ spelled = cc in
           subst (λ (s : List ℕ). Says s told) texts (subst (Says text) types says)
       by false differs = kept other told (sym (updates.2 other differs) ∙ is) spelled at
+
+  -- the same, if it is what any text of the index says
+  pub kept_any_more : (old new : BTreeMap ℕ T) (index : ℕ) (type : T) → Updates nat_cmp old new index (Some type)
+      → ((text : List ℕ) → utf8_at pool index ≡ Some text → Says text type) → AreKept old → AreKept new
+  kept_any_more old new index type updates says kept other told is spelled at =
+      by (is_eq (nat_cmp index other)) refl
+    where
+      by : (same : Bool) → is_eq (nat_cmp index other) ≡ same → Says spelled told
+      by true same =
+          let one : index ≡ other = same_index index other same in
+          let types : type ≡ told = cc in
+          subst (Says spelled) types (says spelled (subst (λ (n : ℕ). utf8_at pool n ≡ Some spelled) (sym one) at))
+      by false differs = kept other told (sym (updates.2 other differs) ∙ is) spelled at

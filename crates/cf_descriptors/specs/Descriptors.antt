@@ -9,6 +9,7 @@ use Rattle.cf_pool.specs.declared.pool.Entry.{Entry}
 use Rattle.cf_pool.specs.Pools.{utf8_at}
 use Rattle.cf_descriptors.specs.declared.descriptors.FieldTypes.{FieldTypes}
 use Rattle.cf_descriptors.specs.declared.descriptors.MethodTypes.{MethodTypes}
+use Rattle.cf_descriptors.specs.declared.descriptors.PackedTypes.{PackedTypes}
 
 -- what is kept of an index is what the text of this index says
 abbrev pub AreFieldTypes : List Entry → FieldTypes → Type 0
@@ -18,5 +19,10 @@ AreFieldTypes pool types =
 
 abbrev pub AreMethodTypes : List Entry → MethodTypes → Type 0
 AreMethodTypes pool types =
+    (index : ℕ) (type : MethodDescriptor) → get nat_cmp types.by_index index ≡ Some type
+    → (text : List ℕ) → utf8_at pool index ≡ Some text → IsMethodType text type
+
+abbrev pub ArePackedTypes : List Entry → PackedTypes → Type 0
+ArePackedTypes pool types =
     (index : ℕ) (type : MethodDescriptor) → get nat_cmp types.by_index index ≡ Some type
     → (text : List ℕ) → utf8_at pool index ≡ Some text → IsMethodType text type

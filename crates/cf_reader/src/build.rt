@@ -1,14 +1,14 @@
 //! What a layout says, once its demands hold.
 
 ghost use Rattle.std.specs.Prelude.{◌≡◌, ◌≤◌, None, length};
-ghost use Rattle.cf_descriptors.specs.Descriptors.{AreFieldTypes, AreMethodTypes};
+ghost use Rattle.cf_descriptors.specs.Descriptors.{AreFieldTypes, AreMethodTypes, ArePackedTypes};
 ghost use Rattle.cf_text.specs.Reading.{Gives, GivesSeen};
 ghost use Rattle.cf_layout.specs.CodeLengths.{IsShort};
 ghost use Rattle.cf_reader.specs.Builds.{class_from, class_name_of, code_from, code_in, constant_attribute, constant_from, each, field_from, method_from, table_in, text_of};
 
 use super::attributes::{CODE, CONSTANT_VALUE, STACK_MAP_TABLE, first_named};
 use super::{ClassFile, Code, Field, Flags, Method};
-use cf_descriptors::{FieldTypes, MethodTypes};
+use cf_descriptors::{FieldTypes, MethodTypes, PackedTypes};
 use cf_layout::{Attribute, CodeLayout, Item, Layout, Member, between, read_code, read_constant};
 use cf_pool::{Pool, ReadFault, Row, Rule, Table, Text};
 use cf_text::Shared;
@@ -100,19 +100,21 @@ fn code_from(
 fn method_from<'a>(
     alloc: Global,
     bytes: &[u8],
-    pool: &'a Pool,
-    known: &mut MethodTypes<'a>,
+    pool: &Pool,
+    known: &'a MethodTypes<'_>,
+    packed: &mut PackedTypes<'a>,
     no_code: &Shared<Option<Code>>,
     method: &Member,
 ) -> Result<Method, ReadFault>
     requires none { no_code.now ≡ None }
-    requires known { AreMethodTypes pool.now known.old }
+    requires known { AreMethodTypes pool.now known.now }
+    requires packed { ArePackedTypes pool.now packed.old }
     ensures value { Gives (method_from bytes.now pool.now method.now) result }
-    ensures known { AreMethodTypes pool.now known.new }
+    ensures packed { ArePackedTypes pool.now packed.new }
 {
     let name = text_of(pool, method.name)?.copy()?;
     let descriptor = text_of(pool, method.descriptor)?;
-    let types = known.read(alloc, pool, method.descriptor, descriptor)?;
+    let types = packed.pack(alloc, known, method.descriptor)?;
     let attribute = first_named(pool, CODE, method.attributes.as_slice());
     let code = code_from(alloc, bytes, pool, no_code, attribute)?;
     let flags = Flags {
@@ -228,10 +230,11 @@ fn methods_from(
     requires few { length items.now ≤ 65535 }
     ensures { Gives (each (method_from bytes.now pool.now) items.now) result }
 {
-    let mut known = MethodTypes::new(alloc);
+    let known = MethodTypes::of(alloc, pool, items)?;
+    let mut packed = PackedTypes::new(alloc, known.table(alloc)?);
     let mut methods = Vec::with_capacity(alloc, items.len())?;
     for item in items {
-        let method = method_from(alloc, bytes, pool, &mut known, no_code, item)?;
+        let method = method_from(alloc, bytes, pool, &known, &mut packed, no_code, item)?;
         methods.push(method)?;
     }
     Ok(Table::new(methods))

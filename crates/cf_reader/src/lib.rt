@@ -6,7 +6,7 @@ pub use cf_pool::{
     Descriptor, ElementType, Entry, FieldType, MemberKind, MethodDescriptor, Numbered, Pool,
     ReadFault, Row, Rule, Table, Text,
 };
-pub use cf_text::Shared;
+pub use cf_text::{Parameters, Shared};
 pub use class_file::{ClassFile, Code, Field, Method};
 pub use flags::Flags;
 pub use read::{demands_rise, one_reading, read_class};

@@ -5,8 +5,8 @@ ghost use Rattle.std.specs.List.{list_all};
 ghost use Rattle.cf_reader.specs.Profile.{class_flags_in_profile, field_flags_in_profile, handlers_in_profile, is_int_type, is_profile_type, method_flags_in_profile, method_name_in_profile, method_type_in_profile};
 
 use super::Flags;
-use cf_pool::{CLASS_INITIALIZER, ElementType, FieldType, MethodDescriptor, Text};
-use cf_text::Shared;
+use cf_pool::{CLASS_INITIALIZER, ElementType, FieldType, Text};
+use cf_text::{ReadDescriptor, Shared};
 
 #[tactic(auto, unfolding(crate::specs::Profile::class_flags_in_profile))]
 pub(crate) fn class_flags_in_profile(flags: Flags) -> bool
@@ -76,7 +76,7 @@ fn are_profile_types(kinds: &[Shared<FieldType>]) -> bool
 }
 
 #[tactic(auto, unfolding(crate::specs::Profile::method_type_in_profile))]
-pub(crate) fn method_type_in_profile(kind: &MethodDescriptor) -> bool
+pub(crate) fn method_type_in_profile(kind: &ReadDescriptor) -> bool
     ensures { result ≡ method_type_in_profile kind.now }
 {
     let result_fits = match &kind.result {

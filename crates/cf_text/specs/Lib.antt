@@ -9,3 +9,4 @@ pub mod Looks
 pub mod Descriptors
 pub mod Order
 pub mod FaultNames
+pub mod TypesAt

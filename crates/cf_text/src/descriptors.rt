@@ -8,7 +8,7 @@ ghost use Rattle.cf_text.specs.Looks.{Exactly};
 ghost use Rattle.cf_text.specs.Types.{begins_with, class_type_of, descriptor_in, descriptor_of, dimensions_of, element_type_of, field_descriptor_of, field_type_of, letter_type, method_descriptor_of, name_length, parameters_of, result_of};
 
 use super::{
-    Descriptor, ElementType, FieldType, KnownTypes, MethodDescriptor, ReadFault, Row, Rule, Shared,
+    Descriptor, ElementType, FieldType, KnownTypes, ReadDescriptor, ReadFault, Row, Rule, Shared,
     Text, is_class_name,
 };
 use std::alloc::{AllocError, Global};
@@ -220,7 +220,7 @@ pub fn read_method_descriptor<'a>(
     known: &mut KnownTypes<'a>,
     text: &'a Text,
     at: usize,
-) -> Result<MethodDescriptor, ReadFault>
+) -> Result<ReadDescriptor, ReadFault>
     ensures { Gives (method_descriptor_of at text.now) result }
 {
     let bytes = text.as_bytes();
@@ -232,7 +232,7 @@ pub fn read_method_descriptor<'a>(
     // A parameter takes a byte at least.
     let parameters = parameters(alloc, known, bytes, &mut rest, bytes.len(), at)?;
     let result = method_result(alloc, known, bytes, &mut rest, at)?;
-    Ok(MethodDescriptor { parameters, result })
+    Ok(ReadDescriptor { parameters, result })
 }
 
 #[tactic(auto, unfolding(crate::specs::Types::descriptor_of))]
@@ -241,8 +241,8 @@ fn any_descriptor(alloc: Global, text: &Text) -> Result<Descriptor, ReadFault>
 {
     if begins_with(text.as_bytes(), b'(') {
         let mut known = KnownTypes::new(alloc);
-        let kind = read_method_descriptor(alloc, &mut known, text, 0)?;
-        return Ok(Descriptor::Method(kind));
+        let read = read_method_descriptor(alloc, &mut known, text, 0)?;
+        return Ok(Descriptor::Method(read.packed(alloc)?));
     }
     let kind = read_field_descriptor(text, 0)?;
     Ok(Descriptor::Field(kind))

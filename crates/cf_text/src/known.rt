@@ -35,7 +35,7 @@ fn is_same_element(one: &ElementType, other: &ElementType) -> bool
     }
 }
 
-fn is_same(one: &FieldType, other: &FieldType) -> bool
+pub(crate) fn is_same(one: &FieldType, other: &FieldType) -> bool
     ensures { IsTrue result → one.now ≡ other.now }
 {
     one.dimensions == other.dimensions && is_same_element(&one.element, &other.element)

@@ -110,7 +110,7 @@ pub fn put_descriptor(alloc: Global, said: &mut Vec<u8>, text: &str) -> Result<(
 }
 
 fn put_types(said: &mut Vec<u8>, method: &MethodDescriptor) -> Result<(), RowFault> {
-    for parameter in method.parameters.as_slice() {
+    for parameter in method.parameters.iter() {
         put_type(said, "parameter", parameter)?;
     }
     match &method.result {

@@ -9,7 +9,7 @@ pub use cf_insns::{
 pub use cls_resolve::{CastType, LinkRule, MemberIndex};
 pub use cls_set::{
     Class, ClassFile, ClassId, ClassSet, Code, ElementType, Field, FieldType, Flags, Method,
-    MethodDescriptor, Numbered, Pool, Row, SetFault, SetRule, Shared, Table, Text,
+    MethodDescriptor, Numbered, Parameters, Pool, Row, SetFault, SetRule, Shared, Table, Text,
 };
 pub use fault::LinkFault;
 pub use linked::{Linked, link};

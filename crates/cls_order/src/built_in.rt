@@ -4,7 +4,7 @@
 ghost use Rattle.std.specs.Prelude.{◌≡◌, ◌++◌, IfOk, OnOk, map};
 ghost use Rattle.cls_order.specs.BuiltIn.{built_in_files, built_in_init, built_in_methods, built_in_flags, file_of};
 
-use cf_reader::{ClassFile, Code, Flags, Method, MethodDescriptor, Pool, Row, Shared, Table, Text};
+use cf_reader::{ClassFile, Code, Flags, Method, MethodDescriptor, Pool, Shared, Table, Text};
 use std::alloc::{AllocError, Global};
 
 // What a built-in class is.
@@ -64,10 +64,7 @@ fn text(alloc: Global, bytes: &[u8]) -> Result<Text, AllocError>
 fn init(alloc: Global) -> Result<Method, AllocError>
     ensures { IfOk result (λ method. method ≡ built_in_init) }
 {
-    let types = MethodDescriptor {
-        parameters: Row::new(Vec::new(alloc)),
-        result: None,
-    };
+    let types = MethodDescriptor::without_types(alloc)?;
     let code = Code {
         max_stack: 0,
         max_locals: 1,

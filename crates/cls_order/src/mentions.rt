@@ -9,7 +9,9 @@ ghost use Rattle.cls_order.specs.Classes.{names};
 ghost use Rattle.cls_order.specs.Entries.{classes_of, AreOrdered};
 
 use super::entries::{Entry, find};
-use cf_reader::{ClassFile, ElementType, Field, FieldType, Method, MethodDescriptor, Shared};
+use cf_reader::{
+    ClassFile, ElementType, Field, FieldType, Method, MethodDescriptor, Parameters, Shared,
+};
 
 // Whether a type names a class that is not in the set.
 fn is_absent(entries: &[Entry], kind: &FieldType) -> bool
@@ -29,11 +31,11 @@ fn is_type_absent(entries: &[Entry], kind: &Shared<FieldType>) -> bool
     is_absent(entries, kind)
 }
 
-fn is_one_absent(entries: &[Entry], kinds: &[Shared<FieldType>]) -> bool
+fn is_one_absent(entries: &[Entry], kinds: &Parameters) -> bool
     requires { AreOrdered entries.now }
     ensures { IsTrue result ↔ Any (NamesAbsent (names (classes_of entries.now))) kinds.now }
 {
-    kinds.iter().any(|kind| is_type_absent(entries, kind))
+    kinds.iter().any(|kind| is_absent(entries, kind))
 }
 
 fn descriptor_names_absent(entries: &[Entry], types: &MethodDescriptor) -> bool
@@ -42,7 +44,7 @@ fn descriptor_names_absent(entries: &[Entry], types: &MethodDescriptor) -> bool
 {
     match &types.result {
         Some(kind) if is_type_absent(entries, kind) => true,
-        _ => is_one_absent(entries, types.parameters.as_slice()),
+        _ => is_one_absent(entries, &types.parameters),
     }
 }
 

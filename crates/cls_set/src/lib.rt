@@ -4,7 +4,7 @@
 
 pub use cf_reader::{
     ClassFile, Code, ElementType, Field, FieldType, Flags, Method, MethodDescriptor, Numbered,
-    Pool, Row, Shared, Table, Text,
+    Parameters, Pool, Row, Shared, Table, Text,
 };
 pub use class::Class;
 pub use class_set::ClassSet;

@@ -9,7 +9,7 @@ ghost use Rattle.cls_order.specs.Entries.{classes_of, AreArranged};
 ghost use Rattle.cls_order.specs.Marks.{IsByRank};
 ghost use Rattle.cls_set.specs.Rules.{CanBeKept, CanCross, NamesRemoteInterface};
 
-use cf_reader::{ElementType, Field, FieldType, Flags, Method, Shared, Text};
+use cf_reader::{ElementType, Field, FieldType, Flags, Method, Parameters, Shared, Text};
 use cls_order::{Entry, find, is_in, spread};
 use std::alloc::{AllocError, Global};
 
@@ -95,13 +95,11 @@ fn is_field_not_kept(entries: &[Entry], remote: &[bool], field: &Field) -> bool
     !field.flags.has(Flags::STATIC) && !can_be_kept(entries, remote, &field.kind)
 }
 
-fn is_one_not_crossing(entries: &[Entry], remote: &[bool], kinds: &[Shared<FieldType>]) -> bool
+fn is_one_not_crossing(entries: &[Entry], remote: &[bool], kinds: &Parameters) -> bool
     requires { AreKnown entries.now remote.now }
     ensures { IsTrue result ↔ Any (CannotCross (origins_of entries.now)) kinds.now }
 {
-    kinds
-        .iter()
-        .any(|kind| does_not_cross(entries, remote, kind))
+    kinds.iter().any(|kind| cannot_cross(entries, remote, kind))
 }
 
 fn is_method_not_crossing(entries: &[Entry], remote: &[bool], method: &Method) -> bool
@@ -110,7 +108,7 @@ fn is_method_not_crossing(entries: &[Entry], remote: &[bool], method: &Method) -
 {
     match &method.types.result {
         Some(kind) if does_not_cross(entries, remote, kind) => true,
-        _ => is_one_not_crossing(entries, remote, method.types.parameters.as_slice()),
+        _ => is_one_not_crossing(entries, remote, &method.types.parameters),
     }
 }
 

@@ -9,7 +9,7 @@ ghost use Rattle.sp_classes.specs.Kinds as kinds;
 ghost use Rattle.sp_requests.specs.Asking.{kind_of};
 ghost use Rattle.sp_rules.specs.Classes.{fit_kinds, fits_kind};
 
-use cls_link::{ElementType, FieldType, Method, Shared};
+use cls_link::{ElementType, FieldType, Method, Parameters, Shared};
 use sp_call_classes::ResultKind;
 use space_ids::Value;
 use vm_run::{MethodId, Program};
@@ -19,7 +19,7 @@ pub(crate) fn takes(program: &Program, method: u32, arguments: &[Value]) -> bool
     ensures { result ≡ fit_kinds (parameters_of program.now.classes method) arguments.now }
 {
     match method_at(program, method) {
-        Some(declared) => are_taken(declared.types.parameters.as_slice(), arguments),
+        Some(declared) => are_taken(&declared.types.parameters, arguments),
         None => arguments.len() == 0,
     }
 }
@@ -87,7 +87,7 @@ fn is_array(kind: &FieldType) -> bool
 }
 
 // Whether the values are one for each of these parameters, of its kind.
-fn are_taken(kinds: &[Shared<FieldType>], arguments: &[Value]) -> bool
+fn are_taken(kinds: &Parameters, arguments: &[Value]) -> bool
     ensures { result ≡ fit_kinds (map kind_of_type kinds.now) arguments.now }
 {
     if kinds.len() != arguments.len() {
@@ -101,7 +101,7 @@ fn are_taken(kinds: &[Shared<FieldType>], arguments: &[Value]) -> bool
     true
 }
 
-fn fits_type(kind: &Shared<FieldType>, value: &Value) -> bool
+fn fits_type(kind: &FieldType, value: &Value) -> bool
     ensures { result ≡ fits_kind (kind_of_type kind.now) value.now }
 {
     fits(kind_of_type(kind), value)

@@ -106,7 +106,7 @@ fn holds_words(method: &Method, code: &Code) -> bool
 fn words_passed(method: &Method) -> usize
     ensures { result ≡ words_passed method.now }
 {
-    let count = method.types.parameters.as_slice().len();
+    let count = method.types.parameters.len();
     if method.flags.has(Flags::STATIC) {
         count
     } else {

@@ -12,5 +12,4 @@ mod machines;
 mod player;
 mod space;
 mod stepping;
-mod task_limits;
 mod telling;

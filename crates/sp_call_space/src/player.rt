@@ -1,6 +1,6 @@
 //! The machine of a living task.
 
-ghost use Rattle.std.specs.Prelude.{◌≡◌, ◌+◌, ◌<◌, ◌^◌, ℕ, false, IfOk, OnOk, OnErr, Ok, option_map};
+ghost use Rattle.std.specs.Prelude.{◌≡◌, ℕ, false, IfOk, OnOk, OnErr, Ok, option_map};
 ghost use Rattle.cls_link.specs.Links.{Links};
 ghost use Rattle.sp_behaviours.specs.Behaviours.{op_at};
 ghost use Rattle.sp_behaviours.specs.Follows.{PlaysOn};
@@ -12,7 +12,6 @@ ghost use Rattle.vm_act.specs.declared.machine.Machine.{Machine};
 ghost use Rattle.vm_run.specs.Begin.{begun};
 ghost use Rattle.vm_run.specs.Run.{Waits, IsNeverStuck};
 ghost use Rattle.vm_run.specs.Task.{fuel_left};
-ghost use Rattle.vm_heap.specs.Tagged.{most_rows};
 ghost use Rattle.sp_call_space.specs.Machines.{IsNext};
 ghost use Rattle.sp_call_space.specs.Players.{IsLevel, IsPlayedBy, end_in};
 
@@ -67,7 +66,6 @@ impl<'p> Player<'p> {
         record: &Record,
         limits: Limits,
     ) -> Result<Player<'p>, AllocError>
-        requires { limits.heap_words + most_rows < 2 ^ 32 }
         ensures begins { IfOk result (λ player. begun program.now own (record { 0 = record.now.past.began.method }) record.now.past.began.arguments limits ≡ Ok player.task) }
         ensures never_stuck { IfOk result (λ player. IsNeverStuck program.now player.task.state) }
         ensures program { IfOk result (λ player. player.task.program ≡ program.now) }

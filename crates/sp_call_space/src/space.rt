@@ -1,7 +1,6 @@
 //! Spaces.
 
-ghost use Rattle.std.specs.Prelude.{◌≡◌, ◌+◌, ◌^◌, ◌<◌, ℕ, List, IfOk, option_map, slice_get};
-ghost use Rattle.vm_heap.specs.Tagged.{most_rows};
+ghost use Rattle.std.specs.Prelude.{◌≡◌, ℕ, List, IfOk, option_map, slice_get};
 ghost use Rattle.sp_classes.specs.Classes.{classes_of};
 ghost use Rattle.sp_rules.specs.Classes.{Setting};
 ghost use Rattle.sp_rules.specs.State.{State, opening, standing};
@@ -9,7 +8,6 @@ ghost use Rattle.sp_twin_core.specs.Shown.{lowest_ready, shown, shown_of};
 ghost use Rattle.sp_call_space.specs.Spaces.{AreLimits, IsSpace};
 
 use crate::machines::Machines;
-use crate::task_limits::TaskLimits;
 use net_message::Digest;
 use sp_call_set::CallSet;
 use sp_twin_core::{Shown, SpaceCore};
@@ -24,7 +22,7 @@ use vm_run::{Limits, Program};
 pub struct Space<'p> {
     pub(crate) alloc: Global,
     pub(crate) id: Uuid,
-    pub(crate) limits: TaskLimits,
+    pub(crate) limits: Limits,
     pub(crate) program: &'p Program,
     pub(crate) classes: &'p CallSet<'p>,
     pub(crate) core: SpaceCore,
@@ -42,7 +40,6 @@ impl<'p> Space<'p> {
         id: Uuid,
         limits: Limits,
     ) -> Result<Space<'p>, AllocError>
-        requires heap { limits.heap_words + most_rows < 2 ^ 32 }
         requires classes { classes.now ≡ program.now }
         ensures { IfOk result (λ space. (g : Setting) → g.classes ≡ classes_of program.now → g.id ≡ id → g.digest ≡ digest → AreLimits g limits → IsSpace g opening space) }
     {
@@ -51,7 +48,7 @@ impl<'p> Space<'p> {
         Ok(Space {
             alloc,
             id,
-            limits: TaskLimits::new(limits),
+            limits,
             program,
             classes,
             core: SpaceCore::new(alloc, id, digest, limits.fuel)?,

@@ -20,6 +20,7 @@ use sp_outputs::Output;
 use sp_tasks::Record;
 use sp_twin_core::LentTask;
 use std::alloc::AllocError;
+use vm_run::Limits;
 
 impl<'p> Space<'p> {
     // Lets a task make one instruction, and answers the outputs of the events that it is. Refused or out of
@@ -77,7 +78,10 @@ impl<'p> Space<'p> {
         ensures stands { (g : Setting) (h : List Happening) (t : Living) → Stands g h self.old → task_at (state_of g h) id ≡ Some t → recorded_in t ≡ record.now.past → is_some (machine_at id self.old.machines) ≡ false → Stands g h self.new }
         ensures core { self.new.core ≡ self.old.core }
     {
-        let limits = self.limits.with_fuel(record.fuel());
+        let limits = Limits {
+            fuel: record.fuel(),
+            ..self.limits
+        };
         let player = Player::new(self.alloc, self.program, self.id, record, limits)?;
         self.machines.reserve()?;
         self.machines.insert_reserved(id, player);

@@ -1,6 +1,6 @@
 //! A method that runs as the only root of a space.
 
-ghost use Rattle.std.specs.Prelude.{◌≡◌, ◌+◌, ◌^◌, ◌<◌, true, false, List, Option, IfOk, IfErr, map};
+ghost use Rattle.std.specs.Prelude.{◌≡◌, true, false, List, Option, IfOk, IfErr, map};
 ghost use Rattle.sp_behaviours.specs.Behaviours.{told as told_to_space};
 ghost use Rattle.sp_classes.specs.Classes.{classes_of};
 ghost use Rattle.sp_core.specs.Events.{output_of};
@@ -50,8 +50,8 @@ pub(crate) fn spaces_run_on(program: &Program)
 
 /// Runs the method as the only root of a new space of id 0, and returns how it ended. `Refusal::Start` if it
 /// does not start with these arguments, and with `StartFault::BadArgument` if one of them is a reference: a
-/// new space has no object. It may be out of memory instead of any answer. The limits' heap words are below
-/// 2^32 - 2^16.
+/// new space has no object. It may be out of memory instead of any answer. A heap of 2^32 - 2^16 words or more is
+/// out of memory.
 pub fn run_in_space(
     alloc: Global,
     program: &Program,
@@ -59,7 +59,6 @@ pub fn run_in_space(
     arguments: Vec<Value>,
     limits: Limits,
 ) -> Result<RunOutcome, Refusal>
-    requires memory { limits.heap_words + 65536 < 2 ^ 32 }
     requires program { (files : List ClassBytes) × IsProgram files program.now }
     ensures run { IfOk result (RunsInSpace program.now method arguments.items limits) }
     ensures refused { IfErr result (IsNotRunInSpace program.now method arguments.items limits) }

@@ -1,7 +1,7 @@
 //! From the bytes of class files to how a method ends: reading, sets, linking, checking and running,
 //! without any input or output.
 
-ghost use Rattle.std.specs.Prelude.{◌≡◌, ◌⊎◌, ◌+◌, ◌-◌, ◌^◌, ◌<◌, ◌≤◌, List, length, IfOk, IfErr, IfSome, IsSome};
+ghost use Rattle.std.specs.Prelude.{◌≡◌, ◌⊎◌, ◌≤◌, List, length, IfOk, IfErr, IfSome, IsSome};
 ghost use Rattle.std.specs.List.{position};
 ghost use Rattle.cls_link.specs.Links.{Links};
 ghost use Rattle.cls_link.specs.Numbers.{number_in};
@@ -56,7 +56,7 @@ pub enum RunOutcome {
 /// and returns how it ended. Method resolution finds it, so the class may inherit it (JVMS 5.4.3.3). In a set
 /// with remote classes it is the only root of a new space of id 0.
 /// The first refusal counts: files in order, then the set, links, checks, and the start. It may be out of
-/// memory instead of any answer. The limits' heap words are below 2^32 - 2^16.
+/// memory instead of any answer. A heap of 2^32 - 2^16 words or more is out of memory.
 pub fn run_classes(
     alloc: Global,
     files: &[ClassBytes],
@@ -65,7 +65,6 @@ pub fn run_classes(
     arguments: Vec<Value>,
     limits: Limits,
 ) -> Result<RunOutcome, Refusal>
-    requires memory { limits.heap_words + 65536 < 2 ^ 32 }
     // From the bytes to the outcome: the classes that the bytes spell are type safe, and the tagged machine of
     // all instructions runs the method to this end, never stuck and within its bounds; in a set with remote
     // classes a space does, as the rules of spaces say.
@@ -215,7 +214,6 @@ fn run_method(
     arguments: Vec<Value>,
     limits: Limits,
 ) -> Result<RunOutcome, Refusal>
-    requires memory { limits.heap_words + 65536 < 2 ^ 32 }
     requires plain { HasNoRemote program.now.classes }
     ensures run { IfOk result (Runs program.now method arguments.items limits) }
     ensures refused { IfErr result (IsNotRun program.now method arguments.items limits) }

@@ -13,5 +13,4 @@ mod player;
 mod space;
 mod starting;
 mod stepping;
-mod task_limits;
 mod telling;

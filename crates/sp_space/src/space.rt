@@ -1,8 +1,7 @@
 //! Spaces.
 
-ghost use Rattle.std.specs.Prelude.{◌≡◌, ◌+◌, ◌^◌, ◌<◌, ℕ, List, [], ◌∷◌, IfOk, IfErr, OnOk, OnErr, map, option_map, slice_get};
+ghost use Rattle.std.specs.Prelude.{◌≡◌, ℕ, List, [], IfOk, IfErr, OnOk, OnErr, map, option_map, slice_get};
 ghost use Rattle.cls_link.specs.Links.{Links};
-ghost use Rattle.vm_heap.specs.Tagged.{most_rows};
 ghost use Rattle.sp_rules.specs.Classes.{Setting};
 ghost use Rattle.sp_rules.specs.Events.{Event as Happening};
 ghost use Rattle.sp_rules.specs.Refusals.{refusal};
@@ -14,7 +13,6 @@ ghost use Rattle.sp_core.specs.Shown.{lowest_ready, shown, shown_of};
 ghost use Rattle.sp_space.specs.Spaces.{AreLimits, Happened, IsSpace, RunsOn};
 
 use crate::machines::Machines;
-use crate::task_limits::TaskLimits;
 use sp_core::{CoreFault, Event, Output, Shown, SpaceCore};
 use space_ids::Uuid;
 use std::alloc::{AllocError, Global};
@@ -27,7 +25,7 @@ use vm_run::Limits;
 pub struct Space {
     pub(crate) alloc: Global,
     pub(crate) id: Uuid,
-    pub(crate) limits: TaskLimits,
+    pub(crate) limits: Limits,
     pub(crate) core: SpaceCore,
     pub(crate) machines: Machines,
 }
@@ -35,7 +33,6 @@ pub struct Space {
 impl Space {
     /// The space of this id, whose tasks have these limits. Nothing has happened to it.
     pub fn new(alloc: Global, id: Uuid, limits: Limits) -> Result<Space, AllocError>
-        requires heap { limits.heap_words + most_rows < 2 ^ 32 }
         ensures { IfOk result (λ space. (links : Links) (g : Setting) → RunsOn links g → g.id ≡ id → AreLimits g limits → IsSpace links g [] space) }
     {
         let core = SpaceCore::new(alloc, id, limits.fuel)?;
@@ -43,7 +40,7 @@ impl Space {
         Ok(Space {
             alloc,
             id,
-            limits: TaskLimits::new(limits),
+            limits,
             core,
             machines,
         })

@@ -16,7 +16,7 @@ use crate::player::Player;
 use crate::{Space, telling};
 use sp_core::{CoreFault, Output, Root, StartFault};
 use space_ids::{Row, Value};
-use vm_run::{MethodId, Program, Task};
+use vm_run::{Limits, MethodId, Program, Task};
 
 impl Space {
     /// Starts a task at a method, with arguments and fuel, and answers that it started and may go on. A
@@ -40,7 +40,10 @@ impl Space {
             self.id,
             method,
             copies,
-            self.limits.with_fuel(fuel),
+            Limits {
+                fuel,
+                ..self.limits
+            },
         ) {
             Ok(task) => {
                 let player = Player::new(program, task, fuel);

@@ -59,7 +59,7 @@ impl BodyView<'_> {
     ghost use Rattle.ver_frames.specs.declared.vtype.VType.TheVariants.{Object};
 
     // The verification type of a field type.
-    fn vtype(&self, kind: &Shared<FieldType>) -> VType
+    fn vtype(&self, kind: &FieldType) -> VType
         ensures { result ≡ field_vtype self.now.classes kind.now }
     {
         let method = self.method;
@@ -67,7 +67,7 @@ impl BodyView<'_> {
     }
 
     // Takes a value of a field type off the top.
-    fn take_value(&self, frame: &mut TypeFrame, kind: &Shared<FieldType>) -> Result<(), Stop>
+    fn take_value(&self, frame: &mut TypeFrame, kind: &FieldType) -> Result<(), Stop>
         ensures { Makes (λ _. frame.new) result (take self.now (Want.Fits (field_vtype self.now.classes kind.now)) frame.old) }
     {
         self.take(frame, Want::Fits(self.vtype(kind)))
@@ -153,7 +153,7 @@ impl BodyView<'_> {
     fn take_arguments(&self, frame: &mut TypeFrame, callee: &Method) -> Result<(), Stop>
         ensures { Makes (λ _. frame.new) result (take_arguments self.now callee.now frame.old) }
     {
-        let parameters = callee.types.parameters.as_slice();
+        let parameters = &callee.types.parameters;
         let mut count = parameters.len();
         while count > 0 {
             count -= 1;
@@ -210,7 +210,7 @@ impl BodyView<'_> {
     {
         self.take_arguments(frame, callee)?;
         self.take(frame, Want::Fits(VType::Object(class)))?;
-        let parameters = callee.types.parameters.as_slice();
+        let parameters = &callee.types.parameters;
         if !counts_receiver(count, parameters.len()) {
             return Err(Stop::Broken(CheckRule::Mismatch));
         }

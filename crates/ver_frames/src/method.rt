@@ -68,8 +68,9 @@ impl MethodView<'_> {
                 VType::Object(self.class_id)
             })?;
         }
-        for parameter in self.method.types.parameters.as_slice() {
-            types.push(field_vtype(self.classes, parameter))?;
+        let parameters = &self.method.types.parameters;
+        for index in 0..parameters.len() {
+            types.push(field_vtype(self.classes, &parameters[index]))?;
         }
         Ok(types)
     }
@@ -137,7 +138,7 @@ fn new_class(insn: LinkedInsn) -> Option<ClassId>
 /// Returns the verification type of a field type (JVMS 4.10.1.2); one out of this project's profile
 /// is top.
 #[tactic(auto, unfolding(crate::specs::Types::field_vtype))]
-pub fn field_vtype(classes: &ClassSet, kind: &Shared<FieldType>) -> VType
+pub fn field_vtype(classes: &ClassSet, kind: &FieldType) -> VType
     ensures { result ≡ field_vtype classes.now kind.now }
 {
     match (kind.dimensions, &kind.element) {

@@ -4,13 +4,13 @@ ghost use Rattle.vm_act.specs.Crossing.{AllCross, crosses};
 ghost use Rattle.vm_code.specs.Parameters.{arguments_for, is_array_element, is_array_type, parameter_of};
 
 use crate::fields::kind_of;
-use cf_text::{ElementType, FieldType, Shared};
+use cf_text::{ElementType, FieldType, Parameters};
 use std::alloc::{AllocError, Global};
 use vm_act::{CALL_BYTES, MOST_BYTES, Machine, Parameter, Value, WordKind};
 
 /// Returns whether a call crosses with the operands on top as its arguments: each of them does, and
 /// together they fit in a frame.
-pub fn crosses(machine: &Machine, types: &[Shared<FieldType>]) -> bool
+pub fn crosses(machine: &Machine, types: &Parameters) -> bool
     requires { IsSome (arguments_for types.now machine.now) }
     ensures { option_map crosses (arguments_for types.now machine.now) ≡ Some result }
 {
@@ -30,7 +30,7 @@ pub fn crosses(machine: &Machine, types: &[Shared<FieldType>]) -> bool
 pub fn arguments(
     alloc: Global,
     machine: &Machine,
-    types: &[Shared<FieldType>],
+    types: &Parameters,
 ) -> Result<Vec<Value>, AllocError>
     requires { AllCross (arguments_for types.now machine.now) }
     ensures { IfOk result (λ values. arguments_for types.now machine.now ≡ Some (Some values.items)) }

@@ -3,7 +3,7 @@ ghost use Rattle.std.specs.Prelude.{◌≡◌, ◌+◌, ◌<◌, ◌≤◌, ◌^
 ghost use Rattle.vm_heap.specs.Tagged.{Int, Local, IsInt, int_of, most_rows};
 ghost use Rattle.vm_heap.specs.Heap.{Ints, cell_at, all_cost, cost, class_of, default, new_cell, with_new};
 
-use crate::word::Word;
+use crate::word::{FIRST_ROW, Word};
 use crate::words::Words;
 use ghost_value::{Ghost, Says};
 use space_ids::ClassId;
@@ -54,11 +54,14 @@ impl Heap {
     ghost use Rattle.vm_heap.specs.Heap.{field_at, element_at, length_at, with_field, with_element};
 
     /// Returns a heap with a budget of `words` words, all of them reserved, and nothing in it. The
-    /// highest words stand for remote objects.
+    /// highest 65,536 words stand for remote objects: a heap that would come to them is out of memory.
     pub fn with_words(alloc: Global, words: u32) -> Result<Heap, AllocError>
-        requires { words + most_rows < 2 ^ 32 }
-        ensures { IfOk result (λ heap. heap ≡ record { cells = []; free = words }) }
+        ensures empty { IfOk result (λ heap. heap ≡ record { cells = []; free = words }) }
+        ensures below { IfOk result (λ _. words + most_rows < 2 ^ 32) }
     {
+        if words >= FIRST_ROW {
+            return Err(AllocError);
+        }
         Ok(Heap {
             words: Words::with_room(alloc, words as usize)?,
             cells: Ghost::of::<(), NoCells>(&()),

@@ -44,7 +44,7 @@ pub enum Pointer {
 }
 
 // The lowest of the words that stand for remote objects.
-const FIRST_ROW: u32 = 0xFFFF_0000;
+pub(crate) const FIRST_ROW: u32 = 0xFFFF_0000;
 
 // The word that the heap keeps of an array first: the one after the highest class number.
 const INTS: u32 = 65_536;

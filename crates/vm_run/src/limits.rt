@@ -2,7 +2,7 @@
 
 ghost use Rattle.std.specs.Prelude.{◌≡◌};
 
-/// How much a task may use. The words of its heap are below 2^32 - 2^16.
+/// How much a task may use. A heap of 2^32 - 2^16 words or more is out of memory.
 #[derive(Clone, Copy, Debug, PartialEq, Eq)]
 pub struct Limits {
     /// Words of four bytes for objects and arrays.

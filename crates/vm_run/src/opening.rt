@@ -24,7 +24,6 @@ pub fn opening(
     limits: Limits,
 ) -> Result<Phase, AllocError>
     requires few { length arguments.now ≤ code.now.max_locals }
-    requires memory { limits.heap_words + most_rows < 2 ^ 32 }
     ensures opens { IfOk result (λ phase. phase_state phase ≡ opening_state own method code.now arguments.now limits) }
     ensures fuel { IfOk result (λ phase. fuel_left (phase_state phase) ≡ limits.fuel) }
     ensures short { IfOk result (λ phase. fuel_left (phase_state phase) < 2 ^ 64) }

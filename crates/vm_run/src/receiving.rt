@@ -24,7 +24,7 @@ pub fn refuses_begin(
         return Some(StartFault::BadSignature);
     }
     let fit = if is_class_method(found.method) {
-        are_filled(set, found.method.types.parameters.as_slice(), values)
+        are_filled(set, &found.method.types.parameters, values)
     } else {
         are_received(set, own, found, values)
     };
@@ -42,7 +42,7 @@ fn are_received(set: &ClassSet, own: Uuid, found: Found<'_>, values: &[Value]) -
     match values {
         [receiver, arguments @ ..] => {
             is_receiver(set, own, found.class, receiver)
-                && are_filled(set, found.method.types.parameters.as_slice(), arguments)
+                && are_filled(set, &found.method.types.parameters, arguments)
         }
         [] => false,
     }

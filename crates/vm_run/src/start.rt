@@ -10,7 +10,7 @@ use crate::fault::StartFault;
 use crate::found::find;
 use cls_link::{
     ClassId, ClassSet, ElementType, FieldType, Flags, Linked, Method, MethodDescriptor, MethodId,
-    Shared,
+    Parameters, Shared,
 };
 use vm_code::{is_array, is_below_remote, is_interface, is_remote_interface};
 use vm_heap::Value;
@@ -33,7 +33,7 @@ pub fn refuses(set: &ClassSet, method: &Method, arguments: &[Value]) -> Option<S
     if !may_take(set, &method.types) {
         return Some(StartFault::BadSignature);
     }
-    if is_class_method(method) && are_filled(set, method.types.parameters.as_slice(), arguments) {
+    if is_class_method(method) && are_filled(set, &method.types.parameters, arguments) {
         None
     } else {
         Some(StartFault::BadArgument)
@@ -49,13 +49,18 @@ pub(crate) fn is_class_method(method: &Method) -> bool
 pub(crate) fn may_take(set: &ClassSet, types: &MethodDescriptor) -> bool
     ensures { result ≡ takes_crossing set.now types.now }
 {
-    all_cross(set, types.parameters.as_slice()) && result_crosses(set, &types.result)
+    all_cross(set, &types.parameters) && result_crosses(set, &types.result)
 }
 
-fn all_cross(set: &ClassSet, kinds: &[Shared<FieldType>]) -> bool
+fn all_cross(set: &ClassSet, kinds: &Parameters) -> bool
     ensures { result ≡ list_all (crosses set.now) kinds.now }
 {
-    kinds.iter().all(|kind| crosses(set, kind))
+    for index in 0..kinds.len() {
+        if !crosses(set, &kinds[index]) {
+            return false;
+        }
+    }
+    true
 }
 
 fn result_crosses(set: &ClassSet, result_type: &Option<Shared<FieldType>>) -> bool
@@ -67,7 +72,7 @@ fn result_crosses(set: &ClassSet, result_type: &Option<Shared<FieldType>>) -> bo
     }
 }
 
-fn crosses(set: &ClassSet, kind: &Shared<FieldType>) -> bool
+fn crosses(set: &ClassSet, kind: &FieldType) -> bool
     ensures { result ≡ crosses set.now kind.now }
 {
     is_int(kind) || (is_array(kind) || is_remote(set, kind))
@@ -101,7 +106,7 @@ fn is_remote_element(set: &ClassSet, element: &ElementType) -> bool
     }
 }
 
-pub(crate) fn are_filled(set: &ClassSet, kinds: &[Shared<FieldType>], arguments: &[Value]) -> bool
+pub(crate) fn are_filled(set: &ClassSet, kinds: &Parameters, arguments: &[Value]) -> bool
     ensures { result ≡ fill set.now kinds.now arguments.now }
 {
     if kinds.len() != arguments.len() {
@@ -115,7 +120,7 @@ pub(crate) fn are_filled(set: &ClassSet, kinds: &[Shared<FieldType>], arguments:
     true
 }
 
-fn is_of_type(set: &ClassSet, kind: &Shared<FieldType>, value: &Value) -> bool
+fn is_of_type(set: &ClassSet, kind: &FieldType, value: &Value) -> bool
     ensures { result ≡ is_of_type set.now kind.now value.now }
 {
     match value {

@@ -1,7 +1,7 @@
 //! Tasks.
 ghost use Rattle.std.specs.Prelude.{List, ◌≡◌, ◌≢◌, ℕ, ◌+◌, ◌^◌, ◌<◌, ◌≤◌, [], IsSome, IsTrue, IfSome, IfOk, IfErr, OnErr, map, option_and_then, option_map};
+ghost use Rattle.std.specs.Option.{option_map_or};
 ghost use Rattle.vm_heap.specs.Heap.{Ints, cell_at, length_at};
-ghost use Rattle.vm_heap.specs.Tagged.{most_rows};
 ghost use Rattle.vm_run.specs.Ends.{end_of, returned_at};
 ghost use Rattle.vm_run.specs.Begin.{begun};
 ghost use Rattle.vm_run.specs.Start.{started, Refuses};
@@ -21,7 +21,7 @@ use crate::phase::{Last, Phase, fuel_after};
 use crate::program::Program;
 use crate::receiving::refuses_begin;
 use crate::thrown::ThrownClasses;
-use cls_link::{FieldType, Linked, MethodId, Shared};
+use cls_link::{Linked, MethodId, Parameters};
 use std::alloc::{AllocError, Global};
 use std::marker::Model;
 use std::mem;
@@ -61,7 +61,6 @@ impl Task {
         arguments: Vec<Value>,
         limits: Limits,
     ) -> Result<Task, StartFault>
-        requires { limits.heap_words + most_rows < 2 ^ 32 }
         ensures started { IfOk result (λ task. started program.now own method arguments.items limits ≡ Ok task) }
         ensures refused { IfErr result (Refuses (started program.now own method arguments.items limits)) }
         // It has all its fuel, and however many instructions it makes, its machine is not stuck.
@@ -90,7 +89,6 @@ impl Task {
         values: Vec<Value>,
         limits: Limits,
     ) -> Result<Task, StartFault>
-        requires { limits.heap_words + most_rows < 2 ^ 32 }
         ensures begun { IfOk result (λ task. begun program.now own method values.items limits ≡ Ok task) }
         ensures refused { IfErr result (Refuses (begun program.now own method values.items limits)) }
         ensures program { IfOk result (λ task. task.program ≡ program.now) }
@@ -306,23 +304,21 @@ fn passed(
             method,
             arguments: _,
         } => {
-            let types = parameters(program.linked(), *method);
-            Ok(Some(arguments(alloc, machine, types)?))
+            match parameters(program.linked(), *method) {
+                Some(types) => Ok(Some(arguments(alloc, machine, types)?)),
+                None => Ok(Some(Vec::new(alloc))),
+            }
         }
         _ => Ok(None),
     }
 }
 
-// The types of the parameters of a method: none if there is no such method.
-fn parameters(linked: &Linked, method: u32) -> &[Shared<FieldType>]
-    ensures { map parameter_of result.now ≡ takes_at linked.now.classes method }
+// The types of the parameters of a method, if there is one of this number.
+fn parameters(linked: &Linked, method: u32) -> Option<&Parameters>
+    ensures { option_map_or (λ types. map parameter_of types.now) result [] ≡ takes_at linked.now.classes method }
 {
     if method as usize >= linked.len() {
-        return &[];
+        return None;
     }
-    linked
-        .declaration(MethodId(method))
-        .types
-        .parameters
-        .as_slice()
+    Some(&linked.declaration(MethodId(method)).types.parameters)
 }

@@ -18,7 +18,7 @@ returns-in_err-method c =
 
 pub loop-item-preserved : goal.loop-item-preserved
 loop-item-preserved c =
-    (rw c.in_ok-push.ensures.items (each-goes_on (method_from c.args.bytes.now c.args.pool.now) c.args.items.now c.loop-item.methods.items c.loop-item.item-index c.item-item.result c.item-item.result (search rules) (sym c.item-item.is) c.loop-item.invariant.0 c.in_ok-method.method (search rules)), c.method_from.ensures.known)
+    (rw c.in_ok-push.ensures.items (each-goes_on (method_from c.args.bytes.now c.args.pool.now) c.args.items.now c.loop-item.methods.items c.loop-item.item-index c.item-item.result c.item-item.result (search rules) (sym c.item-item.is) c.loop-item.invariant.0 c.in_ok-method.method (search rules)), c.method_from.ensures.packed)
 
 pub returns : goal.returns
 returns c = rw c.new.ensures (each-end (method_from c.args.bytes.now c.args.pool.now) c.args.items.now c.loop-item.methods.items c.loop-item.item-index (search rules) c.loop-item.invariant.0)

@@ -2,7 +2,7 @@ use Rattle.std.proofs.Common.{arith, rules}
 use Rattle.std.proofs.lemmas.Grind.{common_steps}
 use Rattle.std.proofs.lemmas.Result.{err_from_is_err_and}
 use Rattle.cf_text.specs.Types.{parameters_of}
-use Rattle.cf_text.proofs.Parameters.{parameters-close, parameters-go_on, parameters-fail, parameters-none}
+use Rattle.cf_text.proofs.ParameterSteps.{parameters-close, parameters-go_on, parameters-fail, parameters-none}
 use Rattle.cf_text.proofs.descriptors.parameters.Goals as goal
 
 pub returns-then-begins_with : goal.returns-then-begins_with

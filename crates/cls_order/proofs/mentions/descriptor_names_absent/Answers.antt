@@ -18,10 +18,10 @@ pub returns-in_default : goal.returns-in_default
 returns-in_default c =
     let ns = names (classes_of c.args.entries.now) in
     let types = c.args.types.now in (
-      λ e. by_parameter ns types (subst (Any (NamesAbsent ns)) c.as_slice.ensures (c.is_one_absent.ensures.0 e)),
+      λ e. by_parameter ns types (c.is_one_absent.ensures.0 e),
       λ a.
           elim (by_either ns types a) [
-            | inl one ↦ c.is_one_absent.ensures.1 (subst (Any (NamesAbsent ns)) (sym c.as_slice.ensures) one)
+            | inl one ↦ c.is_one_absent.ensures.1 one
             | inr r ↦
                 elim c.in_default.branch [
                   | in_default-via-in-Some+else-is_type_absent w ↦

@@ -17,7 +17,7 @@ returns-in-Some c = (
 pub returns-in_default : goal.returns-in_default
 returns-in_default c =
     let os = origins_of c.args.entries.now in
-    let slice = c.as_slice.ensures ∙ ap (λ (types : MethodDescriptor). types.parameters) c.deref-in_default.ensures in (
+    let slice = ap (λ (types : MethodDescriptor). types.parameters) c.deref-in_default.ensures in (
       λ e.
           let a = subst (Any (CannotCross os)) slice (c.is_one_not_crossing.ensures.0 e) in
           record { type = a.1; used = inl (a.0, a.2, a.3); not_crossing = a.4.not_crossing },

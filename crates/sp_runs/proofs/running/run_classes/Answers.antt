@@ -41,8 +41,8 @@ returns-in_default-clause-only c = λ outcome only.
 
 -- ---- a class of the program is remote
 
-pub run_in_space-requires-clause-program : goal.run_in_space-requires-clause-program
-run_in_space-requires-clause-program c = (c.args.files.now, (c.in_ok-program.ensures).program)
+pub run_in_space-requires : goal.run_in_space-requires
+run_in_space-requires c = record { program = (c.args.files.now, (c.in_ok-program.ensures).program) }
 
 pub returns-then-has_remote-clause-run : goal.returns-then-has_remote-clause-run
 returns-then-has_remote-clause-run c =
@@ -65,8 +65,8 @@ returns-then-has_remote-clause-only c = λ outcome only.
 
 -- ---- none is
 
-pub run_method-requires-clause-plain : goal.run_method-requires-clause-plain
-run_method-requires-clause-plain c = (c.has_remote.ensures).none c.if-has_remote.false
+pub run_method-requires : goal.run_method-requires
+run_method-requires c = record { plain = (c.has_remote.ensures).none c.if-has_remote.false }
 
 pub returns-clause-run : goal.returns-clause-run
 returns-clause-run c =

@@ -1,4 +1,5 @@
 use Rattle.std.proofs.Common.{◌∙◌, Some, arith, sym, ap}
+use Rattle.ver_frames.specs.Types.{field_vtype}
 use Rattle.vm_replies.proofs.Types.{looks_all, looks_found, looks_more, looks_past}
 use Rattle.vm_replies.proofs.fields.own_type.Goals as goal
 use Rattle.vm_replies.proofs.fields.own_type.Goals.{then-is_of_instances+else-count-index, else-is_of_instances}
@@ -6,7 +7,7 @@ use Rattle.vm_replies.proofs.fields.own_type.Goals.{then-is_of_instances+else-co
 pub returns-then-count-index-clause-found : goal.returns-then-count-index-clause-found
 returns-then-count-index-clause-found c =
     looks_found c.args.set.now c.args.fields.now c.args.index c.loop-field.field-index c.loop-field.count c.field-item.result _ c.field-item.is c.loop-field-test.true c.loop-field.invariant
-    (sym c.if-is_of_instances.true ∙ c.is_of_instances.ensures) c.if-count-index.true ∙ ap (λ t. Some t) (sym c.field_vtype.ensures)
+    (sym c.if-is_of_instances.true ∙ c.is_of_instances.ensures) c.if-count-index.true ∙ ap (λ t. Some t) (ap (field_vtype c.args.set.now) (sym c.deref.ensures) ∙ sym c.field_vtype.ensures)
 
 pub loop-field-preserved : goal.loop-field-preserved
 loop-field-preserved c =

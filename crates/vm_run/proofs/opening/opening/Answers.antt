@@ -10,7 +10,7 @@ returns-clause-opens c =
     opening_runs c.args.own c.args.method c.args.code.now c.args.arguments.now c.args.limits c.in_ok-stack.stack c.push_frame.new.self c.pass.new.stack c.in_ok-heap.heap c.copy_in.new.heap
     c.in_ok-references.references c.hold_all.new.references c.pass.new.references
     c.in_ok-stack.ensures (c.if-not-push_frame.ensures.fits.0 refl) c.if-not-push_frame.ensures.pushed
-    c.pass.ensures.frame c.pass.ensures.callers c.pass.ensures.free c.in_ok-heap.ensures
+    c.pass.ensures.frame c.pass.ensures.callers c.pass.ensures.free c.in_ok-heap.ensures.empty
     c.if-not-copy_in.ensures.fits c.if-not-copy_in.ensures.cells c.if-not-copy_in.ensures.free c.in_ok-references.ensures
     c.if-not-hold_all.ensures.rows c.if-not-hold_all.ensures.held c.pass.ensures.references
 

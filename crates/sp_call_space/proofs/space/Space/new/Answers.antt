@@ -1,8 +1,5 @@
-use Rattle.std.proofs.Common.{◌≡◌, ap, sym, subst, ◌∙◌}
-use Rattle.cls_link.specs.Links.{Links}
+use Rattle.std.proofs.Common.{ap, sym, ◌∙◌}
 use Rattle.sp_classes.specs.Classes.{classes_of}
-use Rattle.vm_run.specs.declared.limits.Limits.{Limits}
-use Rattle.sp_call_space.specs.Spaces.{AreLimits}
 use Rattle.sp_call_space.proofs.BeginLemmas.{new-space, plays-on}
 use Rattle.sp_call_space.proofs.space.Space.new.Goals as goal
 
@@ -14,6 +11,6 @@ returns c = λ g classes id digest limits.
       program = sym c.requires.classes;
       plays = plays-on g c.args.program.now c.out_of_memory-thrown.result classes c.out_of_memory-thrown.ensures;
       id = sym id;
-      limits = subst (AreLimits g) (sym c.new.ensures) limits;
+      limits = limits;
     })
-    (c.in_ok-new.ensures g id digest limits.fuel) c.new-3.ensures
+    (c.in_ok-new.ensures g id digest limits.fuel) c.new-2.ensures

@@ -17,8 +17,8 @@ use Rattle.sp_space.proofs.space.Space.root.Goals as goal
 pub returns-in-Ok-clause-happened : goal.returns-in-Ok-clause-happened
 returns-in-Ok-clause-happened c =
     if-ok c.begin.result _ _ (λ outputs happens. λ g h is.
-    let starts = started-as c.args.program.now g h c.args.self.now c.args.method c.in_ok-copies.copies.items c.args.arguments.items c.with_fuel.result c.args.fuel _ is
-    (c.in_ok-copies.ensures ∙ c.deref.ensures.value) c.with_fuel.ensures.limits c.in-Ok.ensures.started in
+    let starts = started-as c.args.program.now g h c.args.self.now c.args.method c.in_ok-copies.copies.items c.args.arguments.items _ c.args.fuel _ is
+    (c.in_ok-copies.ensures ∙ c.deref.ensures.value) refl c.in-Ok.ensures.started in
     let fits = subst (λ (t : Tasked). left_in t.state < 2 ^ 64) c.new-player.ensures.machine c.new-player.ensures.fits in
     let begun = begins-so c.args.program.now g c.root_at.result c.args.method c.args.arguments.items c.args.fuel c.in-Ok.task is.stands.classes c.root_at.ensures starts c.in-Ok.ensures.program
     c.in-Ok.ensures.never_stuck fits in
@@ -29,8 +29,8 @@ returns-in-Ok-clause-happened c =
 pub returns-in-Ok-clause-refused : goal.returns-in-Ok-clause-refused
 returns-in-Ok-clause-refused c =
     if-err c.begin.result _ _ (λ fault refused. λ g h lent is.
-    let starts = started-as c.args.program.now g h c.args.self.now c.args.method c.in_ok-copies.copies.items c.args.arguments.items c.with_fuel.result c.args.fuel _ is
-    (c.in_ok-copies.ensures ∙ c.deref.ensures.value) c.with_fuel.ensures.limits c.in-Ok.ensures.started in
+    let starts = started-as c.args.program.now g h c.args.self.now c.args.method c.in_ok-copies.copies.items c.args.arguments.items _ c.args.fuel _ is
+    (c.in_ok-copies.ensures ∙ c.deref.ensures.value) refl c.in-Ok.ensures.started in
     let fits = subst (λ (t : Tasked). left_in t.state < 2 ^ 64) c.new-player.ensures.machine c.new-player.ensures.fits in
     let begun = begins-so c.args.program.now g c.root_at.result c.args.method c.args.arguments.items c.args.fuel c.in-Ok.task is.stands.classes c.root_at.ensures starts c.in-Ok.ensures.program
     c.in-Ok.ensures.never_stuck fits in
@@ -40,8 +40,8 @@ returns-in-Ok-clause-refused c =
 pub returns-in_ok-refused-in-Err-clause-happened : goal.returns-in_ok-refused-in-Err-clause-happened
 returns-in_ok-refused-in-Err-clause-happened c =
     if-on-ok c.root.result _ _ c.root.ensures.accepted (λ outputs accepted. λ g h is.
-    let starts = started-as c.args.program.now g h c.args.self.now c.args.method c.in_ok-copies.copies.items c.args.arguments.items c.with_fuel.result c.args.fuel _ is
-    (c.in_ok-copies.ensures ∙ c.deref.ensures.value) c.with_fuel.ensures.limits (c.in-Err.ensures.refused (no-memory c.in-Err.fault c.in_ok-refused-in-Err.refused c.in_ok-refused-in-Err.ensures.reason)) in
+    let starts = started-as c.args.program.now g h c.args.self.now c.args.method c.in_ok-copies.copies.items c.args.arguments.items _ c.args.fuel _ is
+    (c.in_ok-copies.ensures ∙ c.deref.ensures.value) refl (c.in-Err.ensures.refused (no-memory c.in-Err.fault c.in_ok-refused-in-Err.refused c.in_ok-refused-in-Err.ensures.reason)) in
     let told = refused-so c.args.program.now g c.root_at-in-Err.result c.args.method c.args.arguments.items c.args.fuel c.in-Err.fault c.in_ok-refused-in-Err.refused is.stands.classes c.root_at-in-Err.ensures
     c.in_ok-refused-in-Err.ensures.reason starts in
     absurd (start-refused g [] (state_of g h) c.args.method.0 c.args.arguments.items c.args.fuel _ (is.stands.classes.refuses c.args.method.0 c.args.arguments.items c.args.fuel c.in-Err.fault starts ∙ c.in_ok-refused-in-Err.ensures.reason)
@@ -51,8 +51,8 @@ returns-in_ok-refused-in-Err-clause-happened c =
 pub returns-in_ok-refused-in-Err-clause-refused : goal.returns-in_ok-refused-in-Err-clause-refused
 returns-in_ok-refused-in-Err-clause-refused c =
     if-err c.root.result _ _ (λ fault refused. λ g h lent is.
-    let starts = started-as c.args.program.now g h c.args.self.now c.args.method c.in_ok-copies.copies.items c.args.arguments.items c.with_fuel.result c.args.fuel _ is
-    (c.in_ok-copies.ensures ∙ c.deref.ensures.value) c.with_fuel.ensures.limits (c.in-Err.ensures.refused (no-memory c.in-Err.fault c.in_ok-refused-in-Err.refused c.in_ok-refused-in-Err.ensures.reason)) in
+    let starts = started-as c.args.program.now g h c.args.self.now c.args.method c.in_ok-copies.copies.items c.args.arguments.items _ c.args.fuel _ is
+    (c.in_ok-copies.ensures ∙ c.deref.ensures.value) refl (c.in-Err.ensures.refused (no-memory c.in-Err.fault c.in_ok-refused-in-Err.refused c.in_ok-refused-in-Err.ensures.reason)) in
     let told = refused-so c.args.program.now g c.root_at-in-Err.result c.args.method c.args.arguments.items c.args.fuel c.in-Err.fault c.in_ok-refused-in-Err.refused is.stands.classes c.root_at-in-Err.ensures
     c.in_ok-refused-in-Err.ensures.reason starts in
     inr (subst (λ (e : Event). Refuses (refusal g lent (state_of g h) e) fault) (event-is c.root_at-in-Err.result c.args.method c.args.arguments.items c.args.fuel (Some c.in_ok-refused-in-Err.refused) c.root_at-in-Err.ensures)

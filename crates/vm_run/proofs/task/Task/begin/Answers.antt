@@ -7,7 +7,7 @@ opening-requires c =
     let begins : Begins c.args.program.now c.args.own c.args.method (shown c.in-Some.found) c.args.values.items c.args.limits =
     found_begins c.linked-linked.result.now c.args.program.now c.args.own c.args.method c.find.result c.in-Some.found c.set.result.now c.refuses_begin.result c.deref.result.now c.args.values.items c.args.limits
     c.linked-linked.ensures.linked c.find.ensures.links c.linked-linked.ensures.sound c.find.ensures.found c.in-Some.is c.set.ensures c.refuses_begin.ensures c.in-None.is c.deref.ensures.value in
-    record { few = rw c.deref-2.ensures.value begins.few; memory = c.requires }
+    record { few = rw c.deref-2.ensures.value begins.few }
 
 pub invariant_of-result : goal.invariant_of-result
 invariant_of-result c =
