@@ -27,6 +27,9 @@ use space_ids::{ForeignId, ObjId};
 use std::alloc::{AllocError, Global};
 use uuid::Uuid;
 
+// Sequence numbers of dirty and clean calls are below this.
+const END_OF_NUMBERS: u64 = 1 << 63;
+
 /// All foreign references of a space, in the order in which they were first held.
 ///
 /// A contract names the histories that the value may stand for: it is what each of them leaves.
@@ -228,16 +231,16 @@ impl Clients {
     }
 
     /// Notes that the group, or a [part](Group::parts) of it, goes out now in one frame. Returns
-    /// its number, one above the last; `None` if that would be 2^64 - 1, and then nothing changes.
+    /// its number, one above the last; `None` if that would be 2^63, and then nothing changes.
     pub fn sent(&mut self, group: &Group, call: u64) -> Option<u64>
         ensures number { IfSome result (λ number. (h : List Told) → IsAfter h self.old → number ≡ numbers_of h + 1) }
-        ensures below { IfSome result (λ number. number < 2 ^ 64 - 1) }
+        ensures below { IfSome result (λ number. number < 2 ^ 63) }
         ensures some { IfSome result (λ number. (h : List Told) → IsAfter h self.old → IsAfter (sent group.now call h) self.new) }
-        ensures worn { IfNone result ((h : List Told) → IsAfter h self.old → 2 ^ 64 - 1 ≤ numbers_of h + 1) }
+        ensures worn { IfNone result ((h : List Told) → IsAfter h self.old → 2 ^ 63 ≤ numbers_of h + 1) }
         ensures none { IfNone result (self.new ≡ self.old) }
         ensures room { room self.new ≡ room self.old }
     {
-        if self.numbers >= u64::MAX - 1 {
+        if self.numbers >= END_OF_NUMBERS - 1 {
             return None;
         }
         if matches!(group.kind, Due::Dirty) {
