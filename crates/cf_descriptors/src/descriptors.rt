@@ -1,12 +1,13 @@
 //! Descriptors of a constant pool, each read once however many members share it.
 
-ghost use Rattle.std.specs.Prelude.{◌≡◌, ℕ, Some, IfOk, IfSome, List};
+ghost use Rattle.std.specs.Prelude.{◌≡◌, ◌≢◌, ℕ, Some, Err, All, IfOk, IfSome, IfNone, OnOk, List};
+ghost use Rattle.cf_text.specs.declared.fault.ReadFault.TheVariants.{Memory};
 ghost use Rattle.cf_text.specs.Reading.{Gives};
 ghost use Rattle.cf_text.specs.Descriptors.{IsMethodType};
 ghost use Rattle.cf_text.specs.Types.{field_descriptor_of, method_descriptor_of};
 ghost use Rattle.cf_pool.specs.declared.pool.Entry.{Entry};
 ghost use Rattle.cf_pool.specs.Pools.{utf8_at};
-ghost use Rattle.cf_descriptors.specs.Descriptors.{AreFieldTypes, AreMethodTypes, ArePackedTypes};
+ghost use Rattle.cf_descriptors.specs.Descriptors.{AreFieldTypes, AreMethodTypes, ArePackedTypes, IsKnown, IsKnownIfRight};
 
 use cf_layout::{Item, Member};
 use cf_pool::{
@@ -88,6 +89,8 @@ impl<'a> MethodTypes<'a> {
         requires known { AreMethodTypes pool.now self.old }
         ensures value { Gives (method_descriptor_of item.at text.now) result }
         ensures known { AreMethodTypes pool.now self.new }
+        ensures kept { (index : ℕ) → IsKnown self.old index → IsKnown self.new index }
+        ensures more { OnOk result (IsKnown self.new item.value) }
     {
         if let Some(known) = self.by_index.get(&item.value) {
             return Ok(known.share()?);
@@ -105,39 +108,35 @@ impl<'a> MethodTypes<'a> {
         pool: &'a Pool,
         methods: &[Member],
     ) -> Result<MethodTypes<'a>, AllocError>
-        ensures { IfOk result (AreMethodTypes pool.now) }
+        ensures known { IfOk result (AreMethodTypes pool.now) }
+        ensures all { IfOk result (λ types. All (λ method. IsKnownIfRight pool.now types method.descriptor.value) methods.now) }
     {
         let mut types = MethodTypes::new(alloc);
         for method in methods {
-            if let Some(text) = pool.utf8(method.descriptor.value) {
-                types.note(alloc, pool, method.descriptor, text)?;
-            }
+            types.note(alloc, pool, method.descriptor)?;
         }
         Ok(types)
     }
 
-    // Reads a descriptor, if it is not at fault.
-    fn note(
-        &mut self,
-        alloc: Global,
-        pool: &Pool,
-        item: Item,
-        text: &'a Text,
-    ) -> Result<(), AllocError>
-        requires named { utf8_at pool.now item.value ≡ Some text.now }
-        requires known { AreMethodTypes pool.now self.old }
-        ensures { AreMethodTypes pool.now self.new }
+    // Reads the descriptor that an item names, if it is not at fault.
+    fn note(&mut self, alloc: Global, pool: &'a Pool, item: Item) -> Result<(), AllocError>
+        requires { AreMethodTypes pool.now self.old }
+        ensures known { AreMethodTypes pool.now self.new }
+        ensures kept { (index : ℕ) → IsKnown self.old index → IsKnown self.new index }
+        ensures more { OnOk result (IsKnownIfRight pool.now self.new item.value) }
     {
-        match self.read(alloc, pool, item, text) {
-            Ok(_) | Err(ReadFault::Broken { .. }) => Ok(()),
-            Err(ReadFault::Memory) => Err(AllocError),
-        }
+        let Some(text) = pool.utf8(item.value) else {
+            return Ok(());
+        };
+        let read = self.read(alloc, pool, item, text);
+        unless_out_of_memory(&read)
     }
 
     /// Returns what the descriptor of an index says, if it was read.
     pub fn get(&self, index: u16) -> Option<&ReadDescriptor>
-        ensures { IfSome result (λ types. (pool : List Entry) (text : List ℕ) → AreMethodTypes pool self.now
+        ensures types { IfSome result (λ types. (pool : List Entry) (text : List ℕ) → AreMethodTypes pool self.now
             → utf8_at pool index ≡ Some text → IsMethodType text types.now) }
+        ensures none { IfNone result (¬ IsKnown self.now index) }
     {
         match self.by_index.get(&index) {
             Some(types) => Some(types),
@@ -196,5 +195,15 @@ impl<'a> PackedTypes<'a> {
         let packed = Shared::new(alloc, self.table.pack(alloc, read)?)?;
         self.by_index.insert(item.value, packed.share()?)?;
         Ok(packed)
+    }
+}
+
+// A fault of the text is for others to tell.
+fn unless_out_of_memory(read: &Result<Shared<ReadDescriptor>, ReadFault>) -> Result<(), AllocError>
+    ensures { OnOk result (read.now ≢ Err Memory) }
+{
+    match read {
+        Ok(_) | Err(ReadFault::Broken { .. }) => Ok(()),
+        Err(ReadFault::Memory) => Err(AllocError),
     }
 }
