@@ -3,7 +3,7 @@
 #![tactic(auto)]
 
 use cf_load::load;
-use cf_reader::ClassFile;
+use cf_reader::ReadClass;
 use dev_io::StdSource;
 use std::alloc::Global;
 use std::process::ExitCode;
@@ -24,7 +24,7 @@ fn main(rt: HostRuntime) -> ExitCode {
 fn classes_of<R: Env + Files + AllocGlobal>(
     rt: &R,
     alloc: Global,
-) -> io::Result<Option<Vec<ClassFile>>> {
+) -> io::Result<Option<Vec<ReadClass>>> {
     let mut classes = Vec::new(alloc);
     for path in env::args(rt)?.skip(1) {
         let file = fs::open(rt, path.as_str())?;

@@ -5,7 +5,7 @@ ghost use Rattle.cf_reader.specs.Builds.{reading_of};
 ghost use Rattle.cf_load.specs.Loads.{Loads, LoadsPassed};
 
 use super::load_fault::LoadFault;
-use cf_reader::{ClassFile, MAX_LEN, ReadFault, read_class};
+use cf_reader::{MAX_LEN, ReadClass, ReadFault, read_class};
 use dev_io::{ReadError, Source, read_bytes};
 use std::alloc::Global;
 
@@ -13,7 +13,7 @@ use std::alloc::Global;
 /// bytes, or Device, exactly if the source has failed. A source of more than 1,048,576 bytes is
 /// TooLarge, and has given one byte more than these. After a fault the source has given some of its
 /// bytes: to load again, take a new source.
-pub fn load<S: Source>(alloc: Global, source: &mut S) -> Result<ClassFile, LoadFault>
+pub fn load<S: Source>(alloc: Global, source: &mut S) -> Result<ReadClass, LoadFault>
     ensures device { IsErrOf result LoadFault.Device ↔ IsTrue (S.has_failed source.new) }
     // As the bytes that the source gave are read.
     ensures passed { LoadsPassed reading_of (S.remaining source.old) (S.remaining source.new)

@@ -8,6 +8,7 @@ pub use cf_pool::{
 };
 pub use cf_text::{Parameters, Shared};
 pub use class_file::{ClassFile, Code, Field, Method};
+pub use class_read::ReadClass;
 pub use flags::Flags;
 pub use read::{demands_rise, one_reading, read_class};
 
@@ -15,6 +16,7 @@ mod attributes;
 mod build;
 mod check;
 mod class_file;
+mod class_read;
 mod flags;
 mod members;
 mod names;

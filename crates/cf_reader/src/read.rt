@@ -4,13 +4,14 @@ ghost use Rattle.std.specs.Prelude.{◌≡◌, ℕ, List, IfOk, IfErr};
 ghost use Rattle.cf_text.specs.Reading.{Gives};
 ghost use Rattle.cf_layout.specs.declared.items.Layout.{Layout};
 ghost use Rattle.cf_layout.specs.FileFormat.{LaysOut};
+ghost use Rattle.cf_reader.specs.declared.class_file.ClassFile.{ClassFile};
 ghost use Rattle.cf_reader.specs.Builds.{reading_of};
 ghost use Rattle.cf_text.specs.Demands.{Demand};
 ghost use Rattle.cf_text.specs.Order.{Rises};
 ghost use Rattle.cf_reader.specs.Spells.{AreDemands, IsAtFault, IsInProfile, Spells};
 ghost use Rattle.cf_reader.specs.WellFormed.{IsWellFormed};
 
-use super::ClassFile;
+use super::ReadClass;
 use super::build::class_from;
 use super::check::check_layout;
 use cf_layout::read_layout;
@@ -27,7 +28,7 @@ use std::alloc::Global;
 /// at fault in the order of bytes, and at one item the rule of the lowest number: Utf8, Index,
 /// Descriptor, Flags, CodeLength, AttributeLength, Duplicate, OutOfProfile. It may be out of memory
 /// instead of any answer.
-pub fn read_class(alloc: Global, bytes: &[u8]) -> Result<ClassFile, ReadFault>
+pub fn read_class(alloc: Global, bytes: &[u8]) -> Result<ReadClass, ReadFault>
     // What is read is spelled, and in profile.
     ensures found { IfOk result (λ class. (layout : Layout) × Spells bytes.now layout class
         × IsInProfile bytes.now layout) }
@@ -46,12 +47,13 @@ pub fn read_class(alloc: Global, bytes: &[u8]) -> Result<ClassFile, ReadFault>
 
 // The reading after `read_class`, with the first fault.
 #[tactic(auto, unfolding(crate::specs::Builds::reading_of))]
-fn reading_of(alloc: Global, bytes: &[u8]) -> Result<ClassFile, ReadFault>
+fn reading_of(alloc: Global, bytes: &[u8]) -> Result<ReadClass, ReadFault>
     ensures { Gives (reading_of bytes.now) result }
 {
     let layout = read_layout(alloc, bytes)?;
     check_layout(alloc, bytes, &layout)?;
-    class_from(alloc, bytes, layout)
+    let file = class_from(alloc, bytes, layout)?;
+    Ok(ReadClass::new(file))
 }
 
 /// No bytes have two readings: what they spell, by any layout, is one class file.

@@ -4,7 +4,7 @@ use super::devices::source_of;
 use super::pools::put_pool;
 use super::spelling::{plain, put};
 use cf_load::{LoadFault, load};
-use cf_reader::{ClassFile, Field, Method, read_class};
+use cf_reader::{ClassFile, Field, Method, ReadClass, read_class};
 use cf_text::{
     Descriptor, ElementType, FieldType, MethodDescriptor, Numbered, ReadFault, Text, descriptor,
 };
@@ -16,17 +16,17 @@ use test_rows::RowFault;
 /// Prints the class that bytes spell, or why they are refused.
 pub fn play(alloc: Global, said: &mut Vec<u8>, bytes: &[u8]) -> Result<(), RowFault> {
     match class_of(alloc, bytes) {
-        Ok(class) => put_class(said, &class),
+        Ok(class) => put_class(said, class.file()),
         Err(fault) => put(said, "refused", &fault),
     }
 }
 
 // What the calls answer. These functions promise nothing, so that a row is proved at once.
-fn class_of(alloc: Global, bytes: &[u8]) -> Result<ClassFile, ReadFault> {
+fn class_of(alloc: Global, bytes: &[u8]) -> Result<ReadClass, ReadFault> {
     read_class(alloc, bytes)
 }
 
-fn loaded(alloc: Global, source: &mut MemSource) -> Result<ClassFile, LoadFault> {
+fn loaded(alloc: Global, source: &mut MemSource) -> Result<ReadClass, LoadFault> {
     load(alloc, source)
 }
 

@@ -1,3 +1,4 @@
+pub mod Bits
 pub mod Absent
 pub mod BuiltInFiles
 pub mod Cycles

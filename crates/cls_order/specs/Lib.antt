@@ -1,3 +1,4 @@
+pub mod Bits
 pub mod BuiltIn
 pub mod Building
 pub mod Classes

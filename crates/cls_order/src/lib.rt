@@ -4,6 +4,7 @@
 
 pub use building::{gather, last_name, refuse_cycles, refuse_duplicates, refuse_many};
 pub use class::Class;
+pub use class_marks::ClassMarks;
 pub use drafts::{Draft, Index};
 pub use entries::{Entry, find, is_in};
 pub use fault::{SetFault, SetRule};
@@ -14,6 +15,7 @@ pub use subtype_tables::tables;
 mod building;
 mod built_in;
 mod class;
+mod class_marks;
 mod drafts;
 mod entries;
 mod fault;

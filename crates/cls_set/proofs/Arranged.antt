@@ -14,7 +14,7 @@ use Rattle.cls_order.specs.declared.fault.SetRule.TheVariants as rules
 use Rattle.cls_set.specs.declared.rules.ClassRule.{ClassRule}
 use Rattle.cls_set.specs.declared.rules.ClassRule.TheVariants.{BadSuper, FinalSuper, RemoteField, RemoteMethod, Override}
 use Rattle.cls_order.specs.Building.{origins_of, IsFaultOf}
-use Rattle.cls_set.specs.ClassRules.{set_rule, AreOf, IsFirstRuleFault, IsRuleFault, KeepBelow}
+use Rattle.cls_set.specs.ClassRules.{set_rule, AreOf, IsFirstRuleFault, KeepBelow}
 use Rattle.cls_set.specs.Faults.{IsFirstToBreak, IsKept, IsSetFault, Keeps, MakeASet}
 use Rattle.cls_order.specs.Entries.{classes_of, AreEntries, HaveTables}
 use Rattle.cls_order.specs.FaultNames.{set_rule_number}

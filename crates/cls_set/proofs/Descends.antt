@@ -11,7 +11,7 @@ use Rattle.cls_order.specs.Building.{origins_of}
 use Rattle.cls_order.specs.declared.class.Class.{Class}
 use Rattle.cls_order.specs.declared.entries.Entry.{Entry}
 use Rattle.cls_order.specs.Entries.{classes_of, AreArranged}
-use Rattle.cls_order.specs.Marks.{IsByRank, IsMarked}
+use Rattle.cls_order.specs.Marks.{IsByRank}
 use Rattle.cls_order.specs.Subtypes.{IsDirectSupertype}
 use Rattle.cls_order.proofs.Heights.{long_classes}
 use Rattle.cls_order.proofs.Hierarchy.{same_some, some_and, true_false}

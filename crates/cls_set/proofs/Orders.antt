@@ -2,7 +2,7 @@
 use Rattle.std.proofs.Common.{◌≡◌, ℕ, ◌+◌, ◌<◌, ◌≤◌, inl, inr, true, false, Bool, Some, None, List, [], ◌∷◌, ◌++◌, length}
 use Rattle.std.proofs.Common.{get_or, refl, sym, subst, ap, ◌∙◌, arith}
 use Rattle.std.specs.Prelude.{◌&&◌, bytes_eq, cond, nat_lt, option_map, slice_get}
-use Rattle.std.specs.List.{position, position_or_len, Any}
+use Rattle.std.specs.List.{position, position_or_len}
 use Rattle.std.specs.List.Sorted.{IsNonDecreasingBy, IsPartitionedBy, IsSortedBy}
 use Rattle.std.specs.Ordering.{bool_cmp, is_lt, nat_cmp, ordering_index, ordering_then}
 use Rattle.std.specs.declared.cmp.Ordering.{Ordering}
@@ -21,12 +21,11 @@ use Rattle.cls_set.specs.declared.remote.MemberKind.{MemberKind}
 use Rattle.cls_set.specs.declared.remote.MemberKind.TheVariants.{Methods}
 use Rattle.cls_set.specs.Orders.{index_cmp, is_below, is_key, is_short_name, key_at, key_cmp, key_in, keys_of, longer}
 use Rattle.cls_set.specs.Orders.{method_key, shorter, HaveOrders, IsOrder, IsLowerBound, Key}
-use Rattle.cls_set.specs.Rules.{Clashes}
-use Rattle.cls_order.proofs.Hierarchy.{same_read, same_some, true_false}
+use Rattle.cls_order.proofs.Hierarchy.{same_read, true_false}
 use Rattle.cls_order.proofs.Names.{same_test}
 use Rattle.std.proofs.lemmas.Slice.Eq.{bytes_eq-Decides}
 use Rattle.std.proofs.Math.ListN.{get_or-append}
-use Rattle.std.proofs.lemmas.List.{get_or_push, length-append, length-map}
+use Rattle.std.proofs.lemmas.List.{get_or_push, length-append}
 use Rattle.std.proofs.lemmas.Option.{slice_get-get_or, slice_get-map, slice_get_within}
 use Rattle.cls_order.proofs.Walks.{before}
 

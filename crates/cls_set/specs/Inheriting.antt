@@ -1,5 +1,5 @@
 -- What the methods that a class inherits under one name and descriptor forbid of its own one, as they are gathered on the way down. (This project's own.)
-use Rattle.std.specs.Prelude.{◌≡◌, ◌≢◌, ◌⊎◌, ℕ, List, IsTrue}
+use Rattle.std.specs.Prelude.{◌≢◌, ◌⊎◌, ℕ, List, IsTrue}
 use Rattle.cf_reader.specs.declared.class_file.Method.{Method}
 use Rattle.cf_reader.specs.declared.flags.TheConstants.Flags.{PRIVATE, STATIC, FINAL}
 use Rattle.cls_set.specs.declared.inheriting.Inherited.{Inherited}

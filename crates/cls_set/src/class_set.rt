@@ -1,13 +1,13 @@
 //! Class sets: their look-ups.
 
-use super::arranging::arrange;
+use super::arranging::{arrange, class_files};
 use super::members::{Member, find_number, number_classes};
 use super::ordering::{find_member, orders};
 use super::remote::MemberKind;
 use super::rules::{find_facts, refuse_broken};
 use super::{Class, ClassId, SetFault};
-use cf_reader::{ClassFile, Row, Text};
-use cls_order::{is_in, last_name, refuse_many, tables};
+use cf_reader::{ClassFile, ReadClass, Row, Text};
+use cls_order::{ClassMarks, last_name, refuse_many, tables};
 use std::alloc::Global;
 use std::marker::Model;
 
@@ -17,7 +17,7 @@ use std::marker::Model;
 pub struct ClassSet {
     members: Vec<Member>,
     // For each class a table of its supertypes by number.
-    tables: Vec<Row<bool>>,
+    tables: Vec<ClassMarks>,
     // For each class its methods, and its fields, by name and descriptor.
     methods: Vec<Row<u16>>,
     fields: Vec<Row<u16>>,
@@ -56,8 +56,17 @@ impl ClassSet {
     /// `AbsentClass`, `Cycle`, `BadSuper`, `FinalSuper`, `RemoteField`, `RemoteMethod`, `Override`,
     /// `TooMany` (more than 4,096 classes with the built-in ones). The fault names the first class
     /// at fault by name; `TooMany` names the class of the last file.
-    pub fn build(alloc: Global, files: Vec<ClassFile>) -> Result<ClassSet, SetFault>
-        // They were read, so that each is well formed.
+    pub fn build(alloc: Global, files: Vec<ReadClass>) -> Result<ClassSet, SetFault>
+        ensures set { IfOk result (λ set. IsClassSet set) }
+        ensures classes { IfOk result (λ set. HasClasses files.items set) }
+        ensures found { OnOk result (MakeASet files.items) }
+        ensures only { MakeASet files.items → IfErr result (λ fault. fault ≡ Memory) }
+        ensures fault { IfErr result (IsSetFault files.items) }
+    {
+        ClassSet::of_files(alloc, class_files(alloc, files)?)
+    }
+
+    fn of_files(alloc: Global, files: Vec<ClassFile>) -> Result<ClassSet, SetFault>
         requires { All IsWellFormed files.items }
         ensures set { IfOk result (λ set. IsClassSet set) }
         ensures classes { IfOk result (λ set. HasClasses files.items set) }
@@ -143,8 +152,8 @@ impl ClassSet {
         requires { sub.0 < length self.now }
         ensures { IsTrue result ↔ IsSubclass self.now sub sup }
     {
-        let table = self.tables[usize::from(sub.0)].as_slice();
-        sub == sup || (is_in(table, usize::from(sup.0)) && !self.class(sup).is_interface())
+        let table = &self.tables[usize::from(sub.0)];
+        sub == sup || (table.has(usize::from(sup.0)) && !self.class(sup).is_interface())
     }
 
     /// Returns whether a class or interface is a subtype of an interface.
@@ -152,8 +161,8 @@ impl ClassSet {
         requires { class.0 < length self.now }
         ensures { IsTrue result ↔ IsSubtype self.now class interface }
     {
-        let table = self.tables[usize::from(class.0)].as_slice();
-        class == interface || is_in(table, usize::from(interface.0))
+        let table = &self.tables[usize::from(class.0)];
+        class == interface || table.has(usize::from(interface.0))
     }
 
     /// Returns whether a class is remote: a class, not an interface, that implements

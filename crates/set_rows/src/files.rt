@@ -1,11 +1,8 @@
 //! Sets of class files.
 
-ghost use Rattle.std.specs.Prelude.{All, IfOk};
-ghost use Rattle.cf_reader.specs.WellFormed.{IsWellFormed};
-
 use super::parts::{Made, bare_class};
 use super::spelling::{plain, put};
-use cf_reader::{ClassFile, Numbered, ReadFault, read_class};
+use cf_reader::{Numbered, ReadClass, ReadFault, read_class};
 use class_builder::BuildFault;
 use cls_link::{LinkFault, Linked, link};
 use cls_set::{ClassSet, SetFault};
@@ -39,10 +36,8 @@ fn put_linked(
     Ok(Some(linked))
 }
 
-// What the calls answer. Those of the set promise nothing but that what was read is well formed, so that a row
-// is proved at once.
-fn read(alloc: Global, bytes: &[u8]) -> Result<ClassFile, RowFault>
-    ensures { IfOk result IsWellFormed }
+// What the calls answer. These functions promise nothing, so that a row is proved at once.
+fn read(alloc: Global, bytes: &[u8]) -> Result<ReadClass, RowFault>
 {
     match read_class(alloc, bytes) {
         Ok(class) => Ok(class),
@@ -51,8 +46,7 @@ fn read(alloc: Global, bytes: &[u8]) -> Result<ClassFile, RowFault>
     }
 }
 
-fn read_all(alloc: Global, files: &[Vec<u8>]) -> Result<Vec<ClassFile>, RowFault>
-    ensures { IfOk result (λ classes. All IsWellFormed classes.items) }
+fn read_all(alloc: Global, files: &[Vec<u8>]) -> Result<Vec<ReadClass>, RowFault>
 {
     let mut classes = Vec::new(alloc);
     for bytes in files {

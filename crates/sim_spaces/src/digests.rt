@@ -30,7 +30,7 @@ fn names_of(alloc: Global, files: &[ClassBytes]) -> Result<Vec<Text>, AllocError
     let mut names = Vec::new(alloc);
     for file in files {
         match read_class(alloc, bytes_of(file)) {
-            Ok(class) => names.push(class.name.copy()?)?,
+            Ok(class) => names.push(class.file().name.copy()?)?,
             Err(_) => return Err(AllocError),
         }
     }

@@ -1,15 +1,10 @@
 -- One file more, and one class file more.
 use Rattle.std.proofs.Common.{◌≡◌, ◌++◌, ℕ, zero, suc, List, [], ◌∷◌, Some, ◌<◌, ◌∙◌, length, get_or, ap, sym, subst}
 use Rattle.std.proofs.lemmas.Option.{slice_get-get_or}
-use Rattle.std.specs.Prelude.{All, Result, Ok, Err, IfErr, IfOk, IsErrAnd, take, slice_get}
-use Rattle.std.proofs.lemmas.List.Elements.{All-cons, All-nil}
-use Rattle.cf_reader.proofs.WellFormedLaws.{spelled_well}
-use Rattle.cf_reader.specs.WellFormed.{IsWellFormed}
+use Rattle.std.specs.Prelude.{Result, Ok, Err, IfErr, IfOk, IsErrAnd, take, slice_get}
 use Rattle.cf_reader.specs.declared.class_file.ClassFile.{ClassFile}
 use Rattle.sp_runs.specs.Runs.{AreSpelled, IsSpelled}
 use Rattle.sp_runs.specs.declared.running.ClassBytes.{ClassBytes}
-use Rattle.sp_runs.specs.declared.running.Content.{Content}
-use Rattle.sp_runs.specs.declared.running.Content.TheVariants.{Bytes, Unreadable}
 
 pub AreSpelled-next : (files : List ClassBytes) (index : ℕ) (file : ClassBytes) (classes : List ClassFile) (class : ClassFile)
     → slice_get files index ≡ Some file → AreSpelled (take index files) classes → IsSpelled file.content class → AreSpelled (take (suc index) files) (classes ++ class ∷ [])
@@ -21,17 +16,6 @@ AreSpelled-next (f ∷ files) zero file (c ∷ classes) class is before spelled 
 AreSpelled-next (f ∷ files) (suc index) file [] class is before spelled = absurd before
 AreSpelled-next (f ∷ files) (suc index) file (c ∷ classes) class is before spelled =
     (before.0, AreSpelled-next files index file classes class is before.1 spelled)
-
--- what files spell is well formed
-file_well : (content : Content) (class : ClassFile) → IsSpelled content class → IsWellFormed class
-file_well (Bytes bytes) class spelled = spelled_well bytes.items spelled.0 class spelled.1 spelled.2
-file_well Unreadable class spelled = absurd spelled
-
-pub files_well : (files : List ClassBytes) (classes : List ClassFile) → AreSpelled files classes → All IsWellFormed classes
-files_well [] [] spelled = All-nil IsWellFormed
-files_well [] (c ∷ classes) spelled = absurd spelled
-files_well (f ∷ files) [] spelled = absurd spelled
-files_well (f ∷ files) (c ∷ classes) spelled = All-cons IsWellFormed c classes (file_well f.content c spelled.0) (files_well files classes spelled.1)
 
 -- an error of which all is known is the error of the result
 pub known_error : {A E : Type 0} (r : Result A E) (known : E) (P : E → Type 0) → IsErrAnd r (λ e. e ≡ known) → P known → IfErr r P

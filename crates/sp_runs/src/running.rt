@@ -3,6 +3,7 @@
 
 ghost use Rattle.std.specs.Prelude.{◌≡◌, ◌⊎◌, ◌≤◌, List, length, IfOk, IfErr, IfSome, IsSome};
 ghost use Rattle.std.specs.List.{position};
+ghost use Rattle.cf_reader.specs.declared.class_file.ClassFile.{ClassFile};
 ghost use Rattle.cls_link.specs.Links.{Links};
 ghost use Rattle.cls_link.specs.Numbers.{number_in};
 ghost use Rattle.cls_search.specs.MethodSearches.{method_in};
@@ -15,7 +16,7 @@ ghost use Rattle.sp_runs.specs.Runs.{AreSpelled, IsFileFault, IsNoProgram, IsNot
 use crate::Refusal;
 use crate::in_space::{has_remote, run_in_space};
 use cf_load::LoadFault;
-use cf_reader::{ClassFile, Text, read_class};
+use cf_reader::{ReadClass, Text, read_class};
 use cls_link::{Linked, MethodId, link};
 use cls_resolve::MemberIndex;
 use cls_search::{MethodIndex, find_method};
@@ -124,7 +125,7 @@ fn accepted_of(alloc: Global, files: &[ClassBytes]) -> Result<Accepted, Refusal>
     Ok(accept(alloc, linked)?)
 }
 
-fn read_files(alloc: Global, files: &[ClassBytes]) -> Result<Vec<ClassFile>, Refusal>
+fn read_files(alloc: Global, files: &[ClassBytes]) -> Result<Vec<ReadClass>, Refusal>
     ensures read { IfOk result (λ classes. AreSpelled files.now classes.items) }
     ensures refused { IfErr result (IsUnread files.now) }
     ensures only { (classes : List ClassFile)
@@ -141,7 +142,7 @@ fn read_files(alloc: Global, files: &[ClassBytes]) -> Result<Vec<ClassFile>, Ref
     Ok(classes)
 }
 
-fn read_file(alloc: Global, file: &ClassBytes) -> Result<ClassFile, LoadFault>
+fn read_file(alloc: Global, file: &ClassBytes) -> Result<ReadClass, LoadFault>
     ensures read { IfOk result (IsSpelled file.now.content) }
     ensures fault { IfErr result (IsFileFault file.now.content) }
     ensures only { (class : ClassFile) → IsSpelled file.now.content class → IfErr result IsReadOut }

@@ -1,10 +1,7 @@
 //! From the parts of a class to its program.
 
-ghost use Rattle.std.specs.Prelude.{All, IfOk};
-ghost use Rattle.cf_reader.specs.WellFormed.{IsWellFormed};
-
 use super::spelling::count;
-use cf_reader::{ClassFile, ReadFault, read_class};
+use cf_reader::{ReadClass, ReadFault, read_class};
 use class_builder::{BuildFault, ClassParts, CodeParts, Line, MethodParts, SUM, class_bytes};
 use cls_link::{LinkFault, Linked, link};
 use cls_set::{ClassId, ClassSet, SetFault};
@@ -95,8 +92,7 @@ fn set_of(alloc: Global, bytes: &[u8]) -> Result<ClassSet, RowFault> {
     }
 }
 
-fn files_of(alloc: Global, bytes: &[u8]) -> Result<Vec<ClassFile>, RowFault>
-    ensures { IfOk result (λ files. All IsWellFormed files.items) }
+fn files_of(alloc: Global, bytes: &[u8]) -> Result<Vec<ReadClass>, RowFault>
 {
     let class = read(alloc, bytes)?;
     let mut files = Vec::new(alloc);
@@ -104,8 +100,7 @@ fn files_of(alloc: Global, bytes: &[u8]) -> Result<Vec<ClassFile>, RowFault>
     Ok(files)
 }
 
-fn read(alloc: Global, bytes: &[u8]) -> Result<ClassFile, RowFault>
-    ensures { IfOk result IsWellFormed }
+fn read(alloc: Global, bytes: &[u8]) -> Result<ReadClass, RowFault>
 {
     match read_class(alloc, bytes) {
         Ok(class) => Ok(class),

@@ -1,5 +1,4 @@
 use Rattle.std.proofs.Common.{inl, inr, refl, sym, subst, ◌∙◌}
-use Rattle.std.specs.List.{Any}
 use Rattle.cls_order.specs.Building.{NamesAbsent}
 use Rattle.cls_order.specs.Classes.{names}
 use Rattle.cls_order.specs.Entries.{classes_of}

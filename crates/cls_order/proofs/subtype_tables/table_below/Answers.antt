@@ -62,7 +62,7 @@ loop-interface-preserved c =
     let direct : IsDirectSupertype classes (record { 0 = k }) item = of_class classes (record { 0 = k }) item m.class here (Contains-append_left m.class.interfaces (option_to_list m.class.superclass) item among) in
     let more = take_more all i item c.loop-interface-test.true ∙ ap (λ x. take i all ++ x ∷ []) (sym c.interface-item.is) in (
       c.add_supertype.ensures.long ∙ c.loop-interface.invariant.0,
-      subst (λ xs. IsTelling classes (record { 0 = k }) xs c.add_supertype.new.table.items) (sym more)
+      subst (λ xs. IsTelling classes (record { 0 = k }) xs c.add_supertype.new.table) (sym more)
           (c.add_supertype.ensures.told classes (record { 0 = k }) (take i all) c.loop-interface.invariant.1 direct (c.requires.above item direct)),
     )
 
@@ -102,7 +102,7 @@ returns c =
     let items = c.as_slice-interface-items.ensures ∙ ap (λ (x : Class). x.interfaces) c.class.view_is in
     let inv = c.loop-interface.invariant in
     let whole : take c.loop-interface.interface-index all ≡ m.class.interfaces = take_all c.loop-interface.interface-index all c.loop-interface-test.false ∙ items in
-    let telling = subst (λ xs. IsTelling classes (record { 0 = k }) xs c.loop-interface.table.items) whole inv.1 in
+    let telling = subst (λ xs. IsTelling classes (record { 0 = k }) xs c.loop-interface.table) whole inv.1 in
     let long = inv.0 ∙ sym (long_classes entries) in
     elim c.match-class.branch [
       | in-Some w ↦
@@ -111,10 +111,10 @@ returns c =
           let direct : IsDirectSupertype classes (record { 0 = k }) s = inl (some_and (slice_get classes k) (λ (x : Class). x.superclass ≡ Some s) m.class here up) in
           let ups = ap (λ o. m.class.interfaces ++ option_to_list o) (sym up) ∙ ap ups_of (sym here) in
           rw w.table-is
-          (tells_all classes k w.add_supertype-in-Some.new.table.items (w.add_supertype-in-Some.ensures.long ∙ long)
-          (subst (λ xs. IsTelling classes (record { 0 = k }) xs w.add_supertype-in-Some.new.table.items) ups (w.add_supertype-in-Some.ensures.told classes (record { 0 = k }) m.class.interfaces telling direct (c.requires.above s direct))))
+          (tells_all classes k w.add_supertype-in-Some.new.table (w.add_supertype-in-Some.ensures.long ∙ long)
+          (subst (λ xs. IsTelling classes (record { 0 = k }) xs w.add_supertype-in-Some.new.table) ups (w.add_supertype-in-Some.ensures.told classes (record { 0 = k }) m.class.interfaces telling direct (c.requires.above s direct))))
       | in_default w ↦
           let up : m.class.superclass ≡ None = sym (ap (λ (x : Class). x.superclass) c.class.view_is) ∙ w.in_default.is in
           let ups = sym (append_none m.class.interfaces) ∙ (ap (λ o. m.class.interfaces ++ option_to_list o) (sym up) ∙ ap ups_of (sym here)) in
-          rw w.table-is (tells_all classes k c.loop-interface.table.items long (subst (λ xs. IsTelling classes (record { 0 = k }) xs c.loop-interface.table.items) ups telling))
+          rw w.table-is (tells_all classes k c.loop-interface.table long (subst (λ xs. IsTelling classes (record { 0 = k }) xs c.loop-interface.table) ups telling))
     ]

@@ -32,12 +32,12 @@ loop-index-preserved c =
     let i = c.loop-index.index-index in
     let n = get_or order i 0 in
     let tables = c.loop-index.tables.items in
-    let row = c.new-in-loop-index.result in
+    let row = c.in_ok-table.table in
     let inv = c.loop-index.invariant in
     let ranks : IsByRank entries order = subst (IsByRank entries) (sym c.as_slice-index-items.ensures.value) c.in_ok-order.ensures in
     let inside : n < length entries = ranks.only i 0 c.loop-index-test.true in
     let long = inv.0 in
-    let new : IsTable classes n row = subst (IsTable classes n) (sym c.new-in-loop-index.ensures) c.in_ok-table.ensures in (
+    let new : IsTable classes n row = c.in_ok-table.ensures in (
       length-set tables n row ∙ inv.0,
       λ k among.
           same_or_other_index (IsTable classes k (get_or (set tables n row) k [])) k n

@@ -1,4 +1,4 @@
-use Rattle.std.proofs.Common.{◌≡◌, length, ap, sym, ◌∙◌, arith}
+use Rattle.std.proofs.Common.{length, ap, arith}
 use Rattle.cls_order.specs.declared.class.Class.{Class}
 use Rattle.cls_set.proofs.KeyOrder.{keys_read, method_added}
 use Rattle.cls_set.proofs.key_numbers.add_declared.Goals as goal

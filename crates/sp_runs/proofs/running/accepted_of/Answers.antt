@@ -9,7 +9,7 @@ use Rattle.cls_set.specs.Sets.{HasClasses}
 use Rattle.sp_runs.specs.Runs.{AreSpelled, IsNoProgram, IsProgram, unread, no_set, not_linked, not_safe}
 use Rattle.sp_runs.specs.declared.refusal.Refusal.TheVariants.{Set, Link, Check}
 use Rattle.cls_set.specs.Faults.{MakeASet}
-use Rattle.sp_runs.proofs.Files.{files_well, known_error}
+use Rattle.sp_runs.proofs.Files.{known_error}
 use Rattle.sp_runs.proofs.Only.{one_list, safe_out, same_set}
 use Rattle.sp_runs.specs.Only.{IsOutOfMemory}
 use Rattle.ver_check.specs.Acceptance.{AreSafe}
@@ -53,9 +53,6 @@ returns-in_err-accept-clause-refused c =
     let has = subst (HasClasses c.in_ok-classes.classes.items) (sym (c.in_ok-linked.ensures).classes) (c.in_ok-set.ensures).classes in
     known_error c.from_residual-in_err-accept.result (Check c.in_err-accept.field-0.0) (IsNoProgram c.args.files.now) c.from_residual-in_err-accept.ensures.1
     (not_safe c.in_ok-classes.classes.items c.in_ok-linked.linked c.in_err-accept.field-0.0 (c.in_ok-classes.ensures).read has (c.in_ok-linked.ensures).links (c.in_err-accept.ensures).fault)
-
-pub build-requires : goal.build-requires
-build-requires c = files_well c.args.files.now c.in_ok-classes.classes.items (c.in_ok-classes.ensures).read
 
 pub returns-in_err-classes-clause-only : goal.returns-in_err-classes-clause-only
 returns-in_err-classes-clause-only c = λ program is.

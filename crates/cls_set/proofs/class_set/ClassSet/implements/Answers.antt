@@ -19,8 +19,8 @@ returns-else-eq c =
     let inside : a.0 < length classes = omega (arith, c.requires, viewed) in
     let within : a.0 < length tables = omega (arith, long, inside) in
     let table = c.self.invariant.tables.table a.0 inside in
-    let read : get_or tables a.0 [] ≡ c.as_slice-table.result.now = same_read tables a.0 [] c.index.result.now within ∙ (ap (λ i. get_or tables i c.index.result.now) (sym c.from.ensures) ∙ (sym c.index.ensures ∙ sym c.as_slice-table.ensures)) in
-    let bit : get_or (get_or tables a.0 []) b.0 false ≡ c.is_in.result = ap (λ xs. get_or xs b.0 false) read ∙ (ap (λ i. get_or c.as_slice-table.result.now i false) (sym c.from-else-eq.ensures) ∙ sym c.is_in.ensures) in (
+    let read : get_or tables a.0 [] ≡ c.index-table.result.now = same_read tables a.0 [] c.index-table.result.now within ∙ (ap (λ i. get_or tables i c.index-table.result.now) (sym c.from.ensures) ∙ sym c.index-table.ensures) in
+    let bit : get_or (get_or tables a.0 []) b.0 false ≡ c.has.result = ap (λ xs. get_or xs b.0 false) read ∙ (ap (λ i. get_or c.index-table.result.now i false) (sym c.from-else-eq.ensures) ∙ sym c.has.ensures) in (
       λ e. subst (λ cs. IsSubtype cs a b) c.self.view_is (subtype_of_proper classes a b ((table.supertypes b).0 (bit ∙ e))),
       λ h.
           elim (proper_of_subtype classes a b (subst (λ cs. IsSubtype cs a b) (sym c.self.view_is) h)) [

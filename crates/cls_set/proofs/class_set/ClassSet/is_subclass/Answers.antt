@@ -28,9 +28,9 @@ class-requires c =
     let inside : a.0 < length classes = omega (arith, c.requires, viewed) in
     let within : a.0 < length tables = omega (arith, long, inside) in
     let table = c.self.invariant.tables.table a.0 inside in
-    let read : get_or tables a.0 [] ≡ c.as_slice-table.result.now = same_read tables a.0 [] c.index.result.now within ∙ (ap (λ i. get_or tables i c.index.result.now) (sym c.from.ensures) ∙ (sym c.index.ensures ∙ sym c.as_slice-table.ensures)) in
-    let bit : get_or (get_or tables a.0 []) b.0 false ≡ c.is_in.result = ap (λ xs. get_or xs b.0 false) read ∙ (ap (λ i. get_or c.as_slice-table.result.now i false) (sym c.from-else-eq.ensures) ∙ sym c.is_in.ensures) in
-    let low = true_within (get_or tables a.0 []) b.0 (bit ∙ c.if-is_in.true) in
+    let read : get_or tables a.0 [] ≡ c.index-table.result.now = same_read tables a.0 [] c.index-table.result.now within ∙ (ap (λ i. get_or tables i c.index-table.result.now) (sym c.from.ensures) ∙ sym c.index-table.ensures) in
+    let bit : get_or (get_or tables a.0 []) b.0 false ≡ c.has.result = ap (λ xs. get_or xs b.0 false) read ∙ (ap (λ i. get_or c.index-table.result.now i false) (sym c.from-else-eq.ensures) ∙ sym c.has.ensures) in
+    let low = true_within (get_or tables a.0 []) b.0 (bit ∙ c.if-has.true) in
     let same = table.long in
     omega (arith, low, same, viewed)
 
@@ -40,8 +40,8 @@ returns-then-eq c = (
   λ _. c.if-eq.true,
 )
 
-pub returns-then-is_in : goal.returns-then-is_in
-returns-then-is_in c =
+pub returns-then-has : goal.returns-then-has
+returns-then-has c =
     let a = c.args.sub in
     let b = c.args.sup in
     let classes = classes_of c.self.inside.members.items in
@@ -52,9 +52,9 @@ returns-then-is_in c =
     let inside : a.0 < length classes = omega (arith, c.requires, viewed) in
     let within : a.0 < length tables = omega (arith, long, inside) in
     let table = c.self.invariant.tables.table a.0 inside in
-    let read : get_or tables a.0 [] ≡ c.as_slice-table.result.now = same_read tables a.0 [] c.index.result.now within ∙ (ap (λ i. get_or tables i c.index.result.now) (sym c.from.ensures) ∙ (sym c.index.ensures ∙ sym c.as_slice-table.ensures)) in
-    let bit : get_or (get_or tables a.0 []) b.0 false ≡ c.is_in.result = ap (λ xs. get_or xs b.0 false) read ∙ (ap (λ i. get_or c.as_slice-table.result.now i false) (sym c.from-else-eq.ensures) ∙ sym c.is_in.ensures) in
-    let proper : IsProperSubtype classes a b = (table.supertypes b).0 (bit ∙ c.if-is_in.true) in
+    let read : get_or tables a.0 [] ≡ c.index-table.result.now = same_read tables a.0 [] c.index-table.result.now within ∙ (ap (λ i. get_or tables i c.index-table.result.now) (sym c.from.ensures) ∙ sym c.index-table.ensures) in
+    let bit : get_or (get_or tables a.0 []) b.0 false ≡ c.has.result = ap (λ xs. get_or xs b.0 false) read ∙ (ap (λ i. get_or c.index-table.result.now i false) (sym c.from-else-eq.ensures) ∙ sym c.has.ensures) in
+    let proper : IsProperSubtype classes a b = (table.supertypes b).0 (bit ∙ c.if-has.true) in
     let there : slice_get classes b.0 ≡ Some c.class.result.now = ap (λ cs. slice_get cs b.0) c.self.view_is ∙ c.class.ensures in (
       λ e. subst (λ cs. IsSubclass cs a b) c.self.view_is
           (subclass_of_proper classes set a b (some_and (slice_get classes b.0) (λ k. ¬ IsInterface k) c.class.result.now there (λ h. not_true c.is_interface.result (not_is c.is_interface.result e) (c.is_interface.ensures.1 h))) proper),
@@ -67,8 +67,8 @@ returns-then-is_in c =
           ],
     )
 
-pub returns-else-is_in : goal.returns-else-is_in
-returns-else-is_in c =
+pub returns-else-has : goal.returns-else-has
+returns-else-has c =
     let a = c.args.sub in
     let b = c.args.sup in
     let classes = classes_of c.self.inside.members.items in
@@ -79,9 +79,9 @@ returns-else-is_in c =
     let inside : a.0 < length classes = omega (arith, c.requires, viewed) in
     let within : a.0 < length tables = omega (arith, long, inside) in
     let table = c.self.invariant.tables.table a.0 inside in
-    let read : get_or tables a.0 [] ≡ c.as_slice-table.result.now = same_read tables a.0 [] c.index.result.now within ∙ (ap (λ i. get_or tables i c.index.result.now) (sym c.from.ensures) ∙ (sym c.index.ensures ∙ sym c.as_slice-table.ensures)) in
-    let bit : get_or (get_or tables a.0 []) b.0 false ≡ c.is_in.result = ap (λ xs. get_or xs b.0 false) read ∙ (ap (λ i. get_or c.as_slice-table.result.now i false) (sym c.from-else-eq.ensures) ∙ sym c.is_in.ensures) in (
-      λ e. absurd (not_true c.is_in.result c.if-is_in.false e),
+    let read : get_or tables a.0 [] ≡ c.index-table.result.now = same_read tables a.0 [] c.index-table.result.now within ∙ (ap (λ i. get_or tables i c.index-table.result.now) (sym c.from.ensures) ∙ sym c.index-table.ensures) in
+    let bit : get_or (get_or tables a.0 []) b.0 false ≡ c.has.result = ap (λ xs. get_or xs b.0 false) read ∙ (ap (λ i. get_or c.index-table.result.now i false) (sym c.from-else-eq.ensures) ∙ sym c.has.ensures) in (
+      λ e. absurd (not_true c.has.result c.if-has.false e),
       λ h.
           elim (proper_of_subclass classes set a b (subst (λ cs. IsSubclass cs a b) (sym c.self.view_is) h)) [
             | inl same ↦ absurd (differ_by a b (sym c.eq.ensures ∙ c.if-eq.false) same)

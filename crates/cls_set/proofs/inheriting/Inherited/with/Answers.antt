@@ -1,4 +1,4 @@
-use Rattle.std.proofs.Common.{◌≡◌, ◌||◌, not, refl, sym, ◌∙◌}
+use Rattle.std.proofs.Common.{◌||◌, not, sym, ◌∙◌}
 use Rattle.std.specs.Prelude.{IsTrue}
 use Rattle.cf_reader.specs.declared.flags.TheConstants.Flags.{FINAL, STATIC}
 use Rattle.cls_order.proofs.Hierarchy.{by_contradiction_false, true_false}

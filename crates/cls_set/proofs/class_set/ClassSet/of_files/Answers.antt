@@ -14,7 +14,7 @@ use Rattle.cls_set.proofs.Arranged.{are_entries, few_held, has_classes, make_a_s
 use Rattle.cls_set.proofs.Numbering.{within_few}
 use Rattle.cls_order.proofs.Supertypes.{are_within}
 use Rattle.cls_set.proofs.Turns.{only_memory}
-use Rattle.cls_set.proofs.class_set.ClassSet.build.Goals as goal
+use Rattle.cls_set.proofs.class_set.ClassSet.of_files.Goals as goal
 
 pub returns-in_err-entries-clause-only : goal.returns-in_err-entries-clause-only
 returns-in_err-entries-clause-only c = λ make.
