@@ -27,9 +27,6 @@ use space_ids::{ForeignId, ObjId};
 use std::alloc::{AllocError, Global};
 use uuid::Uuid;
 
-// Sequence numbers of dirty and clean calls are below this.
-const END_OF_NUMBERS: u64 = 1 << 63;
-
 /// All foreign references of a space, in the order in which they were first held.
 ///
 /// A contract names the histories that the value may stand for: it is what each of them leaves.
@@ -240,7 +237,8 @@ impl Clients {
         ensures none { IfNone result (self.new ≡ self.old) }
         ensures room { room self.new ≡ room self.old }
     {
-        if self.numbers >= END_OF_NUMBERS - 1 {
+        // Numbers are below 2^63.
+        if self.numbers >= (1 << 63) - 1 {
             return None;
         }
         if matches!(group.kind, Due::Dirty) {
