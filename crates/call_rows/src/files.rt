@@ -22,8 +22,7 @@ pub fn program_of(
 }
 
 // What the calls answer. These functions promise nothing, so that a row is proved at once.
-fn read(alloc: Global, bytes: &[u8]) -> Result<ReadClass, RowFault>
-{
+fn read(alloc: Global, bytes: &[u8]) -> Result<ReadClass, RowFault> {
     match read_class(alloc, bytes) {
         Ok(class) => Ok(class),
         Err(ReadFault::Memory) => Err(RowFault::Memory),
@@ -31,8 +30,7 @@ fn read(alloc: Global, bytes: &[u8]) -> Result<ReadClass, RowFault>
     }
 }
 
-fn read_all(alloc: Global, files: &[Vec<u8>]) -> Result<Vec<ReadClass>, RowFault>
-{
+fn read_all(alloc: Global, files: &[Vec<u8>]) -> Result<Vec<ReadClass>, RowFault> {
     let mut classes = Vec::new(alloc);
     for bytes in files {
         classes.push(read(alloc, bytes)?)?;

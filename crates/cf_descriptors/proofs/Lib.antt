@@ -1,1 +1,2 @@
 pub mod DescriptorsKept
+pub mod MemberKeyLaws

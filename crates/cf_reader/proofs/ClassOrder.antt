@@ -22,7 +22,8 @@ use Rattle.cf_reader.specs.Rules.{has}
 use Rattle.cf_reader.specs.Profile.{is_profile_type, method_name_in_profile, method_type_in_profile}
 use Rattle.cf_layout.specs.FileFormat.{LaysOut, attributes_format, body_format, file_format, member_format}
 use Rattle.cf_layout.specs.CodeFormat.{AreInsides, Insides}
-use Rattle.cf_reader.specs.Checks.{are_few, class_flag_demands, class_index_demands, demand, demands, field_demands, field_demands_if, field_descriptor_demands, field_flag_demands, field_known, field_type_demands, fields_demands, flag_demands, head_demands, interfaces_demands, is_initializer, method_attribute_demands, method_demands, method_demands_if, method_descriptor_demands, method_flag_demands, method_name_demands, method_type_demands, methods_demands, occurs, plain_demands}
+use Rattle.cf_reader.specs.Checks.{are_few, class_flag_demands, class_index_demands, demand, demands, field_demands, field_demands_if, field_descriptor_demands, field_flag_demands, field_known, field_type_demands, fields_demands, flag_demands, head_demands, interfaces_demands, is_initializer, method_attribute_demands, method_demands, method_demands_if, method_descriptor_demands, method_flag_demands, method_name_demands, method_type_demands, methods_demands, plain_demands}
+use Rattle.cf_descriptors.specs.MemberKeys.{occurs}
 use Rattle.cf_text.specs.Order.{Rises, number_of}
 use Rattle.cf_reader.specs.Spells.{AreDemands}
 use Rattle.cf_text.proofs.Spans.{Span, many_span, span_append, span_high, span_low, span_rises}

@@ -1,7 +1,6 @@
 pub mod AttributeSteps
 pub mod Each
 pub mod SaysLaws
-pub mod SeenLaws
 pub mod PlacedLaws
 pub mod ClassOrder
 pub mod SpellsLaws

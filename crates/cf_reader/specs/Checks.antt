@@ -3,7 +3,6 @@
 -- covers is not made: flags that the profile leaves out need not go together, a Code of a wrong length need
 -- not fill its attribute, and a second attribute of a known kind is not entered.
 use Rattle.std.specs.Prelude.{ℕ, Bool, false, ◌==◌, ◌&&◌, ◌||◌, ◌+◌, nat_le, not, List, [], ◌∷◌, ◌++◌, take, Option, Some, None, is_some, is_none, codes, if◌then◌else◌, sum_by, true, Result, Ok, Err}
-use Rattle.std.specs.List.{list_any}
 use Rattle.std.specs.Str.{bytes_eq}
 use Rattle.cf_text.specs.declared.fault.Rule.{Rule}
 use Rattle.cf_text.specs.declared.fault.ReadFault.{ReadFault}
@@ -20,6 +19,7 @@ use Rattle.cf_reader.specs.declared.flags.TheConstants.Flags.{INTERFACE, STATIC}
 use Rattle.cf_layout.specs.declared.items.Item.{Item}
 use Rattle.cf_layout.specs.declared.items.Attribute.{Attribute}
 use Rattle.cf_layout.specs.declared.items.Member.{Member}
+use Rattle.cf_descriptors.specs.MemberKeys.{occurs}
 use Rattle.cf_layout.specs.declared.items.Layout.{Layout}
 use Rattle.cf_reader.specs.declared.attributes.Known.{Known}
 use Rattle.cf_reader.specs.declared.attributes.Known.TheVariants as known
@@ -89,22 +89,6 @@ method_attribute_demands insides pool attributes =
     attribute_demands pool (is_named pool (codes "Code")) (code_demands insides pool) false attributes
 
 -- ---- members
-
--- two texts that were found are one
-abbrev pub same_text : Option (List ℕ) → Option (List ℕ) → Bool
-same_text (Some a) (Some b) = bytes_eq a b
-same_text (Some a) None = false
-same_text None other = false
-
--- two members of one name and descriptor
-unfoldable pub same_member : List Entry → Member → Member → Bool
-same_member pool a b =
-    same_text (utf8_at pool a.name.value) (utf8_at pool b.name.value)
-    && same_text (utf8_at pool a.descriptor.value) (utf8_at pool b.descriptor.value)
-
--- a member's name and descriptor stood before
-unfoldable pub occurs : List Entry → List Member → Member → Bool
-occurs pool earlier member = list_any (same_member pool member) earlier
 
 -- the demands of a member's flags: they go together, the member is new, it is in profile
 unfoldable pub flag_demands : ℕ → Bool → Bool → Bool → List Demand

@@ -1,7 +1,6 @@
 pub mod Rules
 pub mod Profile
 pub mod Checks
-pub mod Seen
 pub mod MemberNames
 pub mod Builds
 pub mod Says

@@ -23,4 +23,3 @@ mod names;
 mod profile;
 mod read;
 mod rules;
-mod seen;

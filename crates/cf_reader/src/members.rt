@@ -18,8 +18,7 @@ use super::profile::{
     method_type_in_profile,
 };
 use super::rules::{field_flags_fit, method_flags_fit};
-use super::seen::Seen;
-use cf_descriptors::{FieldTypes, MethodTypes};
+use cf_descriptors::{FieldTypes, MemberKeys, MethodTypes};
 use cf_layout::{Item, Member};
 use cf_pool::{ElementType, FieldType, INITIALIZER, Pool, ReadFault, Rule, Text, demand};
 use cf_text::Shared;
@@ -190,7 +189,7 @@ pub(crate) fn check_each_field(
     ensures { Gives (verdict (of_each (field_demands (insides_of bytes.now) pool.now class.bits
         fields.now) 0 fields.now)) result }
 {
-    let mut seen = Seen::new(alloc);
+    let mut seen = MemberKeys::new(alloc);
     let mut known = FieldTypes::new(alloc);
     let mut names = FieldNames::new(alloc);
     for field in fields {
@@ -354,7 +353,7 @@ pub(crate) fn check_each_method(
     ensures { Gives (verdict (of_each (method_demands (insides_of bytes.now) pool.now class.bits
         methods.now) 0 methods.now)) result }
 {
-    let mut seen = Seen::new(alloc);
+    let mut seen = MemberKeys::new(alloc);
     let mut known = MethodTypes::new(alloc);
     let mut names = MethodNames::new(alloc);
     for method in methods {

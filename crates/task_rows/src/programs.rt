@@ -92,16 +92,14 @@ fn set_of(alloc: Global, bytes: &[u8]) -> Result<ClassSet, RowFault> {
     }
 }
 
-fn files_of(alloc: Global, bytes: &[u8]) -> Result<Vec<ReadClass>, RowFault>
-{
+fn files_of(alloc: Global, bytes: &[u8]) -> Result<Vec<ReadClass>, RowFault> {
     let class = read(alloc, bytes)?;
     let mut files = Vec::new(alloc);
     files.push(class)?;
     Ok(files)
 }
 
-fn read(alloc: Global, bytes: &[u8]) -> Result<ReadClass, RowFault>
-{
+fn read(alloc: Global, bytes: &[u8]) -> Result<ReadClass, RowFault> {
     match read_class(alloc, bytes) {
         Ok(class) => Ok(class),
         Err(ReadFault::Memory) => Err(RowFault::Memory),

@@ -6,8 +6,8 @@ use Rattle.cf_text.specs.Reading.{Fails}
 use Rattle.cf_text.proofs.Verdicts.{of_each-goes_on, of_each-fails, of_each-end}
 use Rattle.cf_layout.specs.ReadInsides.{insides_of}
 use Rattle.cf_layout.specs.declared.items.Member.{Member}
-use Rattle.cf_reader.specs.Checks.{field_demands, field_demands_if, occurs}
-use Rattle.cf_reader.specs.Seen.{AreSeen}
+use Rattle.cf_reader.specs.Checks.{field_demands, field_demands_if}
+use Rattle.cf_descriptors.specs.MemberKeys.{AreSeen, occurs}
 use Rattle.cf_reader.proofs.members.check_each_field.Goals as goal
 
 pub loop-field-init : goal.loop-field-init

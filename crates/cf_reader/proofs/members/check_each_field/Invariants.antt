@@ -4,7 +4,7 @@ use Rattle.cf_layout.specs.ReadInsides.{insides_of}
 use Rattle.cf_reader.specs.Checks.{field_demands}
 use Rattle.cf_descriptors.specs.Descriptors.{AreFieldTypes}
 use Rattle.cf_reader.specs.MemberNames.{AreFieldNames}
-use Rattle.cf_reader.specs.Seen.{AreSeen}
+use Rattle.cf_descriptors.specs.MemberKeys.{AreSeen}
 use Rattle.cf_reader.proofs.members.check_each_field.Given as goal
 
 -- what is left to judge decides, and those so far are in the table, and the descriptors and names that are kept are those of the pool

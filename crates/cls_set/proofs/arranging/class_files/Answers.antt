@@ -11,9 +11,9 @@ loop-class-preserved c =
     let files = c.loop-class.files.items in
     let file = c.into_file.result in
     let rest = into_iter_items c.next.new.self in (
-  ap (λ xs. xs ++ rest) c.in_ok-push.ensures.items
-      ∙ (append_assoc files (file ∷ []) rest
-      ∙ (ap (λ (x : ClassFile). files ++ (x ∷ rest)) c.into_file.ensures.same ∙ (ap (λ (xs : List ClassFile). files ++ xs) (sym c.in-Some.ensures.steps.0) ∙ c.loop-class.invariant.0))),
-  subst (All IsWellFormed) (sym c.in_ok-push.ensures.items)
-      (All-push IsWellFormed c.loop-class.files.items c.into_file.result c.loop-class.invariant.1 c.into_file.ensures.well_formed),
-)
+      ap (λ xs. xs ++ rest) c.in_ok-push.ensures.items
+          ∙ (append_assoc files (file ∷ []) rest
+          ∙ (ap (λ (x : ClassFile). files ++ (x ∷ rest)) c.into_file.ensures.same ∙ (ap (λ (xs : List ClassFile). files ++ xs) (sym c.in-Some.ensures.steps.0) ∙ c.loop-class.invariant.0))),
+      subst (All IsWellFormed) (sym c.in_ok-push.ensures.items)
+          (All-push IsWellFormed c.loop-class.files.items c.into_file.result c.loop-class.invariant.1 c.into_file.ensures.well_formed),
+    )

@@ -15,9 +15,8 @@ use Rattle.std.proofs.lemmas.Slice.Eq.{bytes_eq-Decides}
 use Rattle.cf_pool.specs.declared.pool.Entry.{Entry}
 use Rattle.cf_pool.specs.Pools.{utf8_at}
 use Rattle.cf_layout.specs.declared.items.Member.{Member}
-use Rattle.cf_reader.specs.declared.seen.Seen.{Seen}
-use Rattle.cf_reader.specs.Checks.{occurs, same_member, same_text}
-use Rattle.cf_reader.specs.Seen.{AreSeen, IsKey, Key, descriptor_of, is_keyed, key_cmp, name_of}
+use Rattle.cf_descriptors.specs.declared.member_keys.MemberKeys.{MemberKeys}
+use Rattle.cf_descriptors.specs.MemberKeys.{AreSeen, IsKey, Key, descriptor_of, is_keyed, key_cmp, name_of, occurs, same_member, same_text}
 
 -- ---- tests
 
@@ -119,11 +118,11 @@ module _ (pool : List Entry) (member : Member) (key : Key) (of_key : IsKey key) 
       ∙ ap (λ (x : Bool). bytes_eq (descriptor_of key) (descriptor_of other) && x) (eq_swap (name_of other) (name_of key))
       ∙ sym (equal_keys key other of_key of_other)
 
-  pub key-tells : (seen : Seen) (members : List Member) → AreSeen pool seen members → contains key_cmp seen.keys key ≡ occurs pool members member
+  pub key-tells : (seen : MemberKeys) (members : List Member) → AreSeen pool seen members → contains key_cmp seen.keys key ≡ occurs pool members member
   unfolding occurs
   key-tells seen members are = are key of_key ∙ any_along (is_keyed pool key) (same_member pool member) same_key members
 
-  pub key-put : (old new : Seen) (members : List Member) → ((other : Key) → contains key_cmp new.keys other ≡ cond (is_eq (key_cmp key other)) true (contains key_cmp old.keys other))
+  pub key-put : (old new : MemberKeys) (members : List Member) → ((other : Key) → contains key_cmp new.keys other ≡ cond (is_eq (key_cmp key other)) true (contains key_cmp old.keys other))
       → AreSeen pool old members → AreSeen pool new (members ++ member ∷ [])
   key-put old new members updates are other of_other =
       updates other ∙ ap (λ (x : Bool). cond (is_eq (key_cmp key other)) true x) (are other of_other) ∙ put_in (is_eq (key_cmp key other)) (list_any (is_keyed pool other) members)

@@ -3,8 +3,7 @@
 ghost use Rattle.std.specs.Prelude.{◌≡◌, ◌∷◌, ◌++◌, [], List, IfErr, IfOk, OnOk, not};
 ghost use Rattle.cf_pool.specs.declared.pool.Entry.{Entry};
 ghost use Rattle.cf_text.specs.declared.fault.ReadFault.TheVariants.{Memory};
-ghost use Rattle.cf_reader.specs.Checks.{occurs};
-ghost use Rattle.cf_reader.specs.Seen.{descriptor_of, name_of, AreSeen, IsKey};
+ghost use Rattle.cf_descriptors.specs.MemberKeys.{descriptor_of, name_of, occurs, AreSeen, IsKey};
 
 use cf_layout::Member;
 use cf_pool::{Pool, ReadFault};
@@ -14,7 +13,7 @@ use std::collections::BTreeSet;
 /// The names and descriptors of members so far. Of a name and a descriptor the shorter one is compared first:
 /// so a long text that many members share is compared only if the other one is the same too.
 #[derive(Drop)]
-pub(crate) struct Seen<'a> {
+pub struct MemberKeys<'a> {
     keys: BTreeSet<((&'a [u8], &'a [u8]), bool)>,
 }
 
@@ -31,17 +30,19 @@ fn key<'a>(name: &'a [u8], descriptor: &'a [u8]) -> ((&'a [u8], &'a [u8]), bool)
     }
 }
 
-impl<'a> Seen<'a> {
-    pub(crate) fn new(alloc: Global) -> Seen<'a>
+impl<'a> MemberKeys<'a> {
+    /// Returns those of no member.
+    pub fn new(alloc: Global) -> MemberKeys<'a>
         ensures { (pool : List Entry) → AreSeen pool result [] }
     {
-        Seen {
+        MemberKeys {
             keys: BTreeSet::new(alloc),
         }
     }
 
-    /// Puts a member after those so far, and returns whether it is new among them.
-    pub(crate) fn add(&mut self, pool: &'a Pool, member: &Member) -> Result<bool, ReadFault>
+    /// Returns whether a member's name and descriptor are new, and puts it after those so far. A member
+    /// whose name or descriptor is no text is new.
+    pub fn add(&mut self, pool: &'a Pool, member: &Member) -> Result<bool, ReadFault>
         ensures value { IfOk result (λ new. (members : List Member)
             → AreSeen pool.now self.old members → new ≡ not (occurs pool.now members member.now)) }
         ensures added { OnOk result ((members : List Member) → AreSeen pool.now self.old members

@@ -1,7 +1,7 @@
 use Rattle.std.proofs.Common.{ap, inl, inr, not, rules, ◌∙◌}
-use Rattle.cf_reader.specs.Seen.{Key}
-use Rattle.cf_reader.proofs.SeenLaws.{key-put, key-tells, none-tells}
-use Rattle.cf_reader.proofs.seen.Seen.add.Goals as goal
+use Rattle.cf_descriptors.specs.MemberKeys.{Key}
+use Rattle.cf_descriptors.proofs.MemberKeyLaws.{key-put, key-tells, none-tells}
+use Rattle.cf_descriptors.proofs.member_keys.MemberKeys.add.Goals as goal
 
 pub returns-in_default-clause-value : goal.returns-in_default-clause-value
 returns-in_default-clause-value c = λ members are. none-tells c.args.pool.now c.args.member.now (inl (search rules)) members
