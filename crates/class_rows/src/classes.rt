@@ -75,7 +75,7 @@ pub fn put_loaded(
     source: &mut MemSource,
 ) -> Result<(), RowFault> {
     match loaded(alloc, source) {
-        Ok(class) => put(said, "class", &plain(&class.name)),
+        Ok(class) => put(said, "class", &plain(&class.file().name)),
         Err(fault) => put_fault(said, fault),
     }
 }
