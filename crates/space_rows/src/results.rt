@@ -15,52 +15,17 @@ pub fn play(
     call: &str,
     words: &[&str],
 ) -> Result<(), RowFault> {
-    match call {
-        "hold" => hold(results, alloc, words),
-        "release" => release(results, words),
-        "has" => put_held(results, said, words),
-        "own" => put_named(results, alloc, said, words),
-        _ => Err(RowFault::Bad),
+    match (call, words) {
+        ("hold", [task, held]) => hold(results, number(task)?, value(alloc, held)?)?,
+        ("release", [task]) => results.release(number(task)?),
+        ("has", [task]) => writeln!(said, "{}", results.contains(number(task)?))?,
+        ("own", [id]) => writeln!(said, "{}", names(results, alloc, object(id)?)?)?,
+        _ => return Err(RowFault::Bad),
     }
-}
-
-fn hold(results: &mut Results, alloc: Global, words: &[&str]) -> Result<(), RowFault> {
-    let [task, held] = words else {
-        return Err(RowFault::Bad);
-    };
-    hold_value(results, number(task)?, value(alloc, held)?)
-}
-
-fn release(results: &mut Results, words: &[&str]) -> Result<(), RowFault> {
-    let [task] = words else {
-        return Err(RowFault::Bad);
-    };
-    results.release(number(task)?);
     Ok(())
 }
 
-fn put_held(results: &Results, said: &mut Vec<u8>, words: &[&str]) -> Result<(), RowFault> {
-    let [task] = words else {
-        return Err(RowFault::Bad);
-    };
-    writeln!(said, "{}", results.contains(number(task)?))?;
-    Ok(())
-}
-
-fn put_named(
-    results: &Results,
-    alloc: Global,
-    said: &mut Vec<u8>,
-    words: &[&str],
-) -> Result<(), RowFault> {
-    let [id] = words else {
-        return Err(RowFault::Bad);
-    };
-    writeln!(said, "{}", names(results, alloc, object(id)?)?)?;
-    Ok(())
-}
-
-fn hold_value(results: &mut Results, task: u64, value: Value) -> Result<(), RowFault> {
+fn hold(results: &mut Results, task: u64, value: Value) -> Result<(), RowFault> {
     if results.contains(task) {
         return Err(RowFault::Bad);
     }

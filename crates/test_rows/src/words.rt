@@ -4,14 +4,6 @@ use crate::RowFault;
 use space_ids::{ClassId, ObjId, Ref, Uuid, Value};
 use std::alloc::Global;
 
-/// Returns the words that single spaces part: none for an empty text.
-pub fn words_of<'a>(alloc: Global, text: &'a str) -> Result<Vec<&'a str>, RowFault> {
-    if text.is_empty() {
-        return Ok(Vec::new(alloc));
-    }
-    Ok(text.split(' ').collect(alloc)?)
-}
-
 /// Returns the number that a word spells.
 pub fn number(word: &str) -> Result<u64, RowFault> {
     word.parse::<u64>().map_err(|_| RowFault::Bad)
