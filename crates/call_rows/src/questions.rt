@@ -5,10 +5,9 @@ use sp_call_set::CallSet;
 use sp_core::{ClassSet, FieldKind};
 use space_ids::{ClassId, Row, Value};
 use std::alloc::{AllocError, Global};
-use std::fmt::Debug;
 use std::io::Write;
 use std::str;
-use test_rows::{RowFault, class, value};
+use test_rows::{RowFault, class, one_word, put, value};
 use vm_run::Program;
 
 /// Plays a question about a program.
@@ -20,23 +19,44 @@ pub fn play(
     words: &[&str],
 ) -> Result<(), RowFault> {
     let set = made(alloc, program)?;
-    match (kind, words) {
-        ("takes", [of, values @ ..]) => {
-            let values = values_of(alloc, values)?;
-            put(said, "takes", &takes(&set, method(of)?, &values))
-        }
-        ("gives", [of]) => put(said, "gives", &result_kind(&set, method(of)?)),
-        ("thrown", []) => put_thrown(program, &set, said),
-        (kind, [of, words @ ..]) => {
-            let of = class_of(program, of)?;
-            play_class(program, &set, said, kind, of, words)
-        }
-        _ => Err(RowFault::Bad),
+    ask(alloc, program, &set, said, kind, words)
+}
+
+fn ask(
+    alloc: Global,
+    program: &Program,
+    set: &CallSet<'_>,
+    said: &mut Vec<u8>,
+    kind: &str,
+    words: &[&str],
+) -> Result<(), RowFault> {
+    let [of, words @ ..] = words else {
+        return if kind == "thrown" {
+            put_thrown(program, set, said)
+        } else {
+            Err(RowFault::Bad)
+        };
+    };
+    match kind {
+        "takes" => put_takes(alloc, set, said, of, words),
+        "gives" => put(said, "gives", &result_kind(set, method(of)?)),
+        _ => ask_class(program, set, said, kind, class_of(program, of)?, words),
     }
 }
 
+fn put_takes(
+    alloc: Global,
+    set: &CallSet<'_>,
+    said: &mut Vec<u8>,
+    of: &str,
+    words: &[&str],
+) -> Result<(), RowFault> {
+    let values = values_of(alloc, words)?;
+    put(said, "takes", &takes(set, method(of)?, &values))
+}
+
 // A question about a class.
-fn play_class(
+fn ask_class(
     program: &Program,
     set: &CallSet<'_>,
     said: &mut Vec<u8>,
@@ -44,17 +64,42 @@ fn play_class(
     of: ClassId,
     words: &[&str],
 ) -> Result<(), RowFault> {
-    match (kind, words) {
-        ("class", []) => put(said, "number", &of.0),
-        ("remote", []) => put_remote(set, said, of),
-        ("call", [called]) => put(said, "may call", &may_call(set, of, method(called)?)),
-        ("runs", [called]) => put(said, "runs", &selected(set, of, method(called)?)),
-        ("throws", []) => {
-            put(said, "throwable", &is_throwable(set, of))?;
-            put_class(program, said, "told", told_class(set, of))
+    match kind {
+        "class" | "remote" | "throws" if words.is_empty() => {
+            put_class_kind(program, set, said, kind, of)
         }
+        "call" => put(
+            said,
+            "may call",
+            &may_call(set, of, method(one_word(words)?)?),
+        ),
+        "runs" => put(said, "runs", &selected(set, of, method(one_word(words)?)?)),
         _ => Err(RowFault::Bad),
     }
+}
+
+fn put_class_kind(
+    program: &Program,
+    set: &CallSet<'_>,
+    said: &mut Vec<u8>,
+    kind: &str,
+    of: ClassId,
+) -> Result<(), RowFault> {
+    match kind {
+        "class" => put(said, "number", &of.0),
+        "remote" => put_remote(set, said, of),
+        _ => put_throws(program, set, said, of),
+    }
+}
+
+fn put_throws(
+    program: &Program,
+    set: &CallSet<'_>,
+    said: &mut Vec<u8>,
+    of: ClassId,
+) -> Result<(), RowFault> {
+    put(said, "throwable", &is_throwable(set, of))?;
+    put_class(program, said, "told", told_class(set, of))
 }
 
 fn put_remote(set: &CallSet<'_>, said: &mut Vec<u8>, of: ClassId) -> Result<(), RowFault> {
@@ -106,11 +151,6 @@ fn value_of(alloc: Global, word: &str) -> Result<Value, RowFault> {
         return Ok(Value::Ints(Row::new(vec![in alloc; 1; 2]?)));
     }
     value(alloc, word)
-}
-
-fn put<T: Debug>(said: &mut Vec<u8>, word: &str, answer: &T) -> Result<(), RowFault> {
-    writeln!(said, "{word} {answer:?}")?;
-    Ok(())
 }
 
 fn put_class(

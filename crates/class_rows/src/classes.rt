@@ -2,7 +2,7 @@
 
 use super::devices::source_of;
 use super::pools::put_pool;
-use super::spelling::{plain, put};
+use super::spelling::plain;
 use cf_load::{LoadFault, load};
 use cf_reader::{ClassFile, Field, Method, ReadClass, read_class};
 use cf_text::{
@@ -11,7 +11,7 @@ use cf_text::{
 use dev_io::MemSource;
 use std::alloc::{AllocError, Global};
 use std::io::Write;
-use test_rows::RowFault;
+use test_rows::{RowFault, put};
 
 /// Prints the class that bytes spell, or why they are refused.
 pub fn play(alloc: Global, said: &mut Vec<u8>, bytes: &[u8]) -> Result<(), RowFault> {

@@ -1,53 +1,54 @@
 //! Sources and sinks.
 
 use super::faulty::{Faulty, Stuck};
-use super::spelling::{bytes_of, put};
+use super::spelling::bytes_of;
 use dev_io::{Failed, MemSink, MemSource, Sink, Source, StdSink, StdSource};
 use std::alloc::Global;
-use test_rows::{RowFault, index, number};
+use test_rows::{RowFault, index, number, one_word, put};
 
-/// Plays reads of a source.
-pub fn play_source(
-    alloc: Global,
-    said: &mut Vec<u8>,
-    kind: &str,
-    words: &[&str],
-) -> Result<(), RowFault> {
-    match (kind, words) {
-        ("source", [step, fail, lengths, bytes]) => {
-            let bytes = bytes_of(alloc, &[], &[*bytes])?;
-            let mut source = source_of(bytes, index(step)?, number(fail)?)?;
-            reads(alloc, said, &mut source, lengths)
-        }
-        ("reader", [lengths, bytes]) => {
-            let bytes = bytes_of(alloc, &[], &[*bytes])?;
-            reads(alloc, said, &mut StdSource::new(bytes.as_slice()), lengths)
-        }
-        ("faulty-reader", [lengths]) => {
-            reads(alloc, said, &mut StdSource::new(Faulty::new()), lengths)
-        }
+/// Plays reads of a source, or writes of a sink.
+pub fn play(alloc: Global, said: &mut Vec<u8>, kind: &str, words: &[&str]) -> Result<(), RowFault> {
+    match kind {
+        "source" => put_source(alloc, said, words),
+        "reader" => put_reader(alloc, said, words),
+        "faulty-reader" => put_faulty_reader(alloc, said, words),
+        "sink" => put_sink(alloc, said, words),
+        "writer" => put_written(alloc, said, words),
+        "faulty-writer" => writes(alloc, said, &mut StdSink::new(Faulty::new()), words),
+        "stuck-writer" => writes(alloc, said, &mut StdSink::new(Stuck), words),
         _ => Err(RowFault::Bad),
     }
 }
 
-/// Plays writes of a sink.
-pub fn play_sink(
-    alloc: Global,
-    said: &mut Vec<u8>,
-    kind: &str,
-    words: &[&str],
-) -> Result<(), RowFault> {
-    match (kind, words) {
-        ("sink", [room, step, fail, words @ ..]) => {
-            let mut sink = sink_of(alloc, index(room)?, index(step)?, number(fail)?)?;
-            writes(alloc, said, &mut sink, words)?;
-            put(said, "holds", &sink.bytes())
-        }
-        ("writer", words) => put_written(alloc, said, words),
-        ("faulty-writer", words) => writes(alloc, said, &mut StdSink::new(Faulty::new()), words),
-        ("stuck-writer", words) => writes(alloc, said, &mut StdSink::new(Stuck), words),
-        _ => Err(RowFault::Bad),
-    }
+fn put_source(alloc: Global, said: &mut Vec<u8>, words: &[&str]) -> Result<(), RowFault> {
+    let [step, fail, lengths, bytes] = words else {
+        return Err(RowFault::Bad);
+    };
+    let bytes = bytes_of(alloc, &[], &[*bytes])?;
+    let mut source = source_of(bytes, index(step)?, number(fail)?)?;
+    reads(alloc, said, &mut source, lengths)
+}
+
+fn put_reader(alloc: Global, said: &mut Vec<u8>, words: &[&str]) -> Result<(), RowFault> {
+    let [lengths, bytes] = words else {
+        return Err(RowFault::Bad);
+    };
+    let bytes = bytes_of(alloc, &[], &[*bytes])?;
+    reads(alloc, said, &mut StdSource::new(bytes.as_slice()), lengths)
+}
+
+fn put_faulty_reader(alloc: Global, said: &mut Vec<u8>, words: &[&str]) -> Result<(), RowFault> {
+    let lengths = one_word(words)?;
+    reads(alloc, said, &mut StdSource::new(Faulty::new()), lengths)
+}
+
+fn put_sink(alloc: Global, said: &mut Vec<u8>, words: &[&str]) -> Result<(), RowFault> {
+    let [room, step, fail, words @ ..] = words else {
+        return Err(RowFault::Bad);
+    };
+    let mut sink = sink_of(alloc, index(room)?, index(step)?, number(fail)?)?;
+    writes(alloc, said, &mut sink, words)?;
+    put(said, "holds", &sink.bytes())
 }
 
 /// Returns the source of these bytes that gives at most `step` a call, and fails at call `fail`, if that is

@@ -1,13 +1,13 @@
 //! The raw items of class files.
 
-use super::spelling::{plain, put};
+use super::spelling::plain;
 use cf_layout::{
     Attribute, CodeLayout, Item, Layout, Member, between, check_table, read_code, read_constant,
     read_layout,
 };
 use cf_text::{FileBytes, ReadFault, Row, Text, read_row, read_text};
 use std::alloc::Global;
-use test_rows::RowFault;
+use test_rows::{RowFault, put};
 
 /// Prints the items of a class file, and what stands in attributes of fields, of methods and of code.
 pub fn play(alloc: Global, said: &mut Vec<u8>, bytes: &[u8]) -> Result<(), RowFault> {

@@ -1,12 +1,12 @@
 //! Constant pools.
 
-use super::spelling::{plain, put};
+use super::spelling::plain;
 use cf_pool::{
     MemberRef, NameAndTypeRef, Pool, PoolLayout, ReadFault, Text, check_pool, read_layout,
     read_pool,
 };
 use std::alloc::Global;
-use test_rows::RowFault;
+use test_rows::{RowFault, put};
 
 /// Prints what a pool says, where it ends, and whether its entries go together; or the fault of its
 /// bytes.

@@ -1,10 +1,8 @@
-//! How rows spell bytes, and how answers and texts are printed.
+//! How rows spell bytes, and how texts are printed.
 
 use cf_text::Text;
 use class_builder::SUM;
 use std::alloc::Global;
-use std::fmt::Debug;
-use std::io::Write;
 use std::str;
 use test_rows::{RowFault, index};
 
@@ -52,10 +50,4 @@ pub fn plain(text: &Text) -> &str {
         Ok(text) => text,
         Err(_) => "?",
     }
-}
-
-/// Prints a word and an answer on a line.
-pub fn put<T: Debug>(said: &mut Vec<u8>, word: &str, answer: &T) -> Result<(), RowFault> {
-    writeln!(said, "{word} {answer:?}")?;
-    Ok(())
 }

@@ -1,41 +1,31 @@
 //! The rows, and the bytes that they keep.
 
 use super::layouts::{bytes_between, put_text, row_at};
-use super::spelling::{bytes_of, put};
+use super::spelling::bytes_of;
 use super::{classes, devices, layouts, pools};
 use cf_text::FileBytes;
 use std::alloc::Global;
-use test_rows::{RowFault, index, number};
+use test_rows::{RowFault, Stage, index, number, one_word, put, words_of};
 
 /// The bytes that the rows so far keep.
 #[derive(Drop)]
-pub struct Stage {
+pub struct KeptBytes {
     alloc: Global,
     kept: Vec<u8>,
 }
 
-impl Stage {
+impl KeptBytes {
     /// Returns a stage that keeps no bytes.
-    pub fn new(alloc: Global) -> Stage {
-        Stage {
+    pub fn new(alloc: Global) -> KeptBytes {
+        KeptBytes {
             alloc,
             kept: Vec::new(alloc),
         }
     }
 
-    /// Plays a row, and returns the answer to it.
-    pub fn play(&mut self, text: &str) -> Result<Vec<u8>, RowFault> {
-        let mut said = Vec::new(self.alloc);
-        if text.is_empty() || text.starts_with('#') {
-            return Ok(said);
-        }
-        let words: Vec<&str> = text.split(' ').collect(self.alloc)?;
-        match words.as_slice() {
-            ["keep", words @ ..] => self.kept = self.bytes(words)?,
-            [kind, words @ ..] => self.call(&mut said, kind, words)?,
-            [] => return Err(RowFault::Bad),
-        }
-        Ok(said)
+    fn keep(&mut self, words: &[&str]) -> Result<(), RowFault> {
+        self.kept = self.bytes(words)?;
+        Ok(())
     }
 
     fn bytes(&self, words: &[&str]) -> Result<Vec<u8>, RowFault> {
@@ -48,49 +38,30 @@ impl Stage {
             "layout" => layouts::play(self.alloc, said, &self.bytes(words)?),
             "class" => classes::play(self.alloc, said, &self.bytes(words)?),
             "fail" => classes::put_lost(self.alloc, said, &self.bytes(words)?),
-            "source" | "reader" | "faulty-reader" => {
-                devices::play_source(self.alloc, said, kind, words)
-            }
-            "sink" | "writer" | "faulty-writer" | "stuck-writer" => {
-                devices::play_sink(self.alloc, said, kind, words)
-            }
-            _ => self.look(said, kind, words),
+            "load" => self.load(said, words),
+            "part" => self.part(said, words),
+            "between" => self.between(said, words),
+            "types" => put_types(self.alloc, said, words),
+            _ => devices::play(self.alloc, said, kind, words),
         }
     }
 
-    fn look(&self, said: &mut Vec<u8>, kind: &str, words: &[&str]) -> Result<(), RowFault> {
-        match (kind, words) {
-            ("load", [step, fail, words @ ..]) => self.load(
-                said,
-                index(step)?,
-                number(fail)?,
-                words,
-            ),
-            ("part", [from, length, words @ ..]) => {
-                self.part(said, index(from)?, index(length)?, words)
-            }
-            ("between", [from, to, words @ ..]) => {
-                let bytes = self.bytes(words)?;
-                let answer = bytes_between(self.alloc, &bytes, index(from)?, index(to)?);
-                put(said, "between", &answer)
-            }
-            ("types", [text]) => classes::put_descriptor(self.alloc, said, text),
-            _ => Err(RowFault::Bad),
-        }
-    }
-
-    fn load(
-        &self,
-        said: &mut Vec<u8>,
-        step: usize,
-        fail: u64,
-        words: &[&str],
-    ) -> Result<(), RowFault> {
-        let mut source = devices::source_of(self.bytes(words)?, step, fail)?;
+    fn load(&self, said: &mut Vec<u8>, words: &[&str]) -> Result<(), RowFault> {
+        let [step, fail, words @ ..] = words else {
+            return Err(RowFault::Bad);
+        };
+        let mut source = devices::source_of(self.bytes(words)?, index(step)?, number(fail)?)?;
         classes::put_loaded(self.alloc, said, &mut source)
     }
 
-    fn part(
+    fn part(&self, said: &mut Vec<u8>, words: &[&str]) -> Result<(), RowFault> {
+        let [from, length, words @ ..] = words else {
+            return Err(RowFault::Bad);
+        };
+        self.put_part(said, index(from)?, index(length)?, words)
+    }
+
+    fn put_part(
         &self,
         said: &mut Vec<u8>,
         from: usize,
@@ -101,4 +72,28 @@ impl Stage {
         put(said, "row", &row_at(self.alloc, &bytes, from, length))?;
         put_text(said, &FileBytes::new(self.alloc, bytes)?, from, length)
     }
+
+    fn between(&self, said: &mut Vec<u8>, words: &[&str]) -> Result<(), RowFault> {
+        let [from, to, words @ ..] = words else {
+            return Err(RowFault::Bad);
+        };
+        let (from, to) = (index(from)?, index(to)?);
+        let answer = bytes_between(self.alloc, &self.bytes(words)?, from, to);
+        put(said, "between", &answer)
+    }
+}
+
+impl Stage for KeptBytes {
+    fn play(&mut self, said: &mut Vec<u8>, kind: &str, text: &str) -> Result<(), RowFault> {
+        let words = words_of(self.alloc, text)?;
+        match kind {
+            "keep" => self.keep(&words),
+            _ => self.call(said, kind, &words),
+        }
+    }
+}
+
+fn put_types(alloc: Global, said: &mut Vec<u8>, words: &[&str]) -> Result<(), RowFault> {
+    let text = one_word(words)?;
+    classes::put_descriptor(alloc, said, text)
 }

@@ -1,4 +1,4 @@
-//! The lines of a script.
+//! What the words of a script's lines stand for.
 
 use super::class_draft::{Field, Method, MethodCode};
 use super::fault::LineFault;
@@ -6,211 +6,168 @@ use super::shelf::Change;
 use class_builder::SUM;
 use std::alloc::Global;
 
-/// A line of the script.
-#[derive(Drop)]
-pub enum Line<'a> {
-    /// An empty line or a heading.
-    Heading,
-    Folder,
-    /// A file at this path. A file without bytes is listed and cannot be opened.
-    File(&'a str, Option<Vec<u8>>),
-    Class { path: &'a str, name: &'a str },
-    /// A script at this path, whose lines follow.
-    Script(&'a str),
-    Flags(u16),
-    Extends(&'a str),
-    Implements(&'a str),
-    Field(Field),
-    Method(Method),
-    /// A line of the last method's code, or of the script.
-    Code(&'a str),
-    /// A line of the script that comes `count` times, with a `#` for its number.
-    Times { count: usize, text: &'a str },
-    Change(Change),
-    /// A command line for the program, over the folder in memory.
-    InMemory(&'a str),
-    /// A command line for the program, over the folder in memory, with an output that fails after
-    /// `room` bytes.
-    CutOff { room: usize, words: &'a str },
-    /// A command line for the program, over the file system.
-    OnDisk(&'a str),
+/// Returns the words that single spaces part: none for an empty text.
+pub fn words_of<'a>(alloc: Global, text: &'a str) -> Result<Vec<&'a str>, LineFault> {
+    if text.is_empty() {
+        return Ok(Vec::new(alloc));
+    }
+    Ok(text.split(' ').collect(alloc)?)
 }
 
-/// Returns what a line of the script asks for.
-pub fn line_of<'a>(alloc: Global, text: &'a str) -> Result<Line<'a>, LineFault> {
-    if text.is_empty() || text.starts_with('#') {
-        return Ok(Line::Heading);
-    }
-    if let Some(words) = text.strip_prefix("> ") {
-        return Ok(Line::InMemory(words));
-    }
-    if let Some(code) = text.strip_prefix("| ") {
-        return Ok(Line::Code(code));
-    }
-    if let Some(words) = text.strip_prefix("@ ") {
-        return Ok(Line::OnDisk(words));
-    }
-    if let Some(cut_off) = text.strip_prefix("! ") {
-        return cut_off_of(cut_off);
-    }
-    if let Some(times) = text.strip_prefix("times ") {
-        return times_of(times);
-    }
-    let words: Vec<&str> = text.split(' ').collect(alloc)?;
-    match words.as_slice() {
-        ["folder"] => Ok(Line::Folder),
-        ["file", path, "absent"] => Ok(Line::File(*path, None)),
-        ["file", path, example @ ..] => Ok(Line::File(*path, Some(example_of(alloc, example)?))),
-        ["class", path, name] => Ok(Line::Class {
-            path: *path,
-            name: *name,
-        }),
-        ["script", path] => Ok(Line::Script(*path)),
-        ["flags", flags] => Ok(Line::Flags(flags_of(flags)?)),
-        ["extends", name] => Ok(Line::Extends(*name)),
-        ["implements", name] => Ok(Line::Implements(*name)),
-        ["field", parts @ ..] => Ok(Line::Field(field_of(alloc, parts)?)),
-        ["abstract", flags, name, descriptor] => {
-            Ok(Line::Method(named(alloc, flags, name, descriptor, None)?))
-        }
-        [
-            "code",
-            flags,
-            name,
-            descriptor,
-            max_stack,
-            max_locals,
-            frames @ ..,
-        ] => {
-            let code = code_of(alloc, max_stack, max_locals, "", frames)?;
-            Ok(Line::Method(named(alloc, flags, name, descriptor, Some(code))?))
-        }
-        [
-            "method",
-            flags,
-            name,
-            descriptor,
-            max_stack,
-            max_locals,
-            bytes,
-            frames @ ..,
-        ] => {
-            let code = code_of(alloc, max_stack, max_locals, *bytes, frames)?;
-            Ok(Line::Method(named(alloc, flags, name, descriptor, Some(code))?))
-        }
-        parts => Ok(Line::Change(change_of(alloc, parts)?)),
-    }
+/// Returns the word of a line that has one.
+pub fn one_word<'a>(words: &[&'a str]) -> Result<&'a str, LineFault> {
+    let [word] = words else {
+        return Err(LineFault::Bad);
+    };
+    Ok(*word)
 }
 
-fn cut_off_of<'a>(text: &'a str) -> Result<Line<'a>, LineFault> {
-    let (room, words) = text.split_once(' ').ok_or(LineFault::Bad)?;
-    Ok(Line::CutOff {
-        room: number(room)?,
-        words,
-    })
-}
-
-fn times_of<'a>(text: &'a str) -> Result<Line<'a>, LineFault> {
-    let (count, text) = text.split_once(' ').ok_or(LineFault::Bad)?;
-    Ok(Line::Times {
-        count: number(count)?,
-        text,
-    })
-}
-
-// The bytes that the words after a file's path ask for.
-fn example_of(alloc: Global, words: &[&str]) -> Result<Vec<u8>, LineFault> {
-    match words {
-        ["sum"] => Ok(Vec::from_slice(alloc, SUM)?),
-        ["empty"] => Ok(Vec::new(alloc)),
-        ["zeros", length] => Ok(vec![in alloc; 0u8; number(length)?]?),
+/// Returns the bytes that the words after a file's path ask for: none for a file that cannot be opened.
+pub fn example_of(alloc: Global, words: &[&str]) -> Result<Option<Vec<u8>>, LineFault> {
+    let [kind, words @ ..] = words else {
+        return Err(LineFault::Bad);
+    };
+    match *kind {
+        "absent" => Ok(None),
+        "sum" => Ok(Some(Vec::from_slice(alloc, SUM)?)),
+        "empty" => Ok(Some(Vec::new(alloc))),
+        "zeros" => Ok(Some(vec![in alloc; 0u8; number(one_word(words)?)?]?)),
         _ => Err(LineFault::Bad),
     }
 }
 
-fn flags_of(word: &str) -> Result<u16, LineFault> {
+/// Returns the number of four hex digits.
+pub fn flags_of(word: &str) -> Result<u16, LineFault> {
     let mut bytes = [0u8; 2];
     hex::decode_to_slice(word, &mut bytes)?;
     Ok(u16::from_be_bytes(bytes))
 }
 
-// A field: its flags, name and descriptor, and the value of its ConstantValue attribute, if it has one.
-fn field_of(alloc: Global, words: &[&str]) -> Result<Field, LineFault> {
+/// Returns a field: its flags, name and descriptor, and the value of its ConstantValue attribute, if it has one.
+pub fn field_of(alloc: Global, words: &[&str]) -> Result<Field, LineFault> {
     let [flags, name, descriptor, constant @ ..] = words else {
         return Err(LineFault::Bad);
     };
-    let constant = match constant {
-        [] => None,
-        [value] => Some(value.parse::<i32>().map_err(|_| LineFault::Bad)?),
-        _ => return Err(LineFault::Bad),
-    };
     Ok(Field {
         flags: flags_of(flags)?,
+        constant: constant_of(constant)?,
         name: String::from_str(alloc, name)?,
         descriptor: String::from_str(alloc, descriptor)?,
-        constant,
     })
 }
 
+fn constant_of(words: &[&str]) -> Result<Option<i32>, LineFault> {
+    if words.is_empty() {
+        return Ok(None);
+    }
+    let value = one_word(words)?.parse::<i32>();
+    Ok(Some(value.map_err(|_| LineFault::Bad)?))
+}
+
+/// Returns a method: its flags, name and descriptor, and its code, if it has any.
+pub fn method_of(alloc: Global, kind: &str, words: &[&str]) -> Result<Method, LineFault> {
+    let [flags, name, descriptor, words @ ..] = words else {
+        return Err(LineFault::Bad);
+    };
+    let flags = flags_of(flags)?;
+    let name = String::from_str(alloc, name)?;
+    let descriptor = String::from_str(alloc, descriptor)?;
+    Ok(Method {
+        flags,
+        name,
+        descriptor,
+        code: code_of(alloc, kind, words)?,
+    })
+}
+
+fn code_of(alloc: Global, kind: &str, words: &[&str]) -> Result<Option<MethodCode>, LineFault> {
+    match kind {
+        "code" => Ok(Some(empty_code(alloc, words)?)),
+        "method" => Ok(Some(spelled_code(alloc, words)?)),
+        _ if words.is_empty() => Ok(None),
+        _ => Err(LineFault::Bad),
+    }
+}
+
+// Code whose lines follow.
+fn empty_code(alloc: Global, words: &[&str]) -> Result<MethodCode, LineFault> {
+    let [max_stack, max_locals, frames @ ..] = words else {
+        return Err(LineFault::Bad);
+    };
+    made_code(alloc, max_stack, max_locals, "", frames)
+}
+
+// Code that is given by its bytes.
+fn spelled_code(alloc: Global, words: &[&str]) -> Result<MethodCode, LineFault> {
+    let [max_stack, max_locals, bytes, frames @ ..] = words else {
+        return Err(LineFault::Bad);
+    };
+    made_code(alloc, max_stack, max_locals, bytes, frames)
+}
+
 // Code: its first bytes, and the bytes of its StackMapTable, if it has one.
-fn code_of(
+fn made_code(
     alloc: Global,
     max_stack: &str,
     max_locals: &str,
     bytes: &str,
     frames: &[&str],
 ) -> Result<MethodCode, LineFault> {
-    let frames = match frames {
-        [] => None,
-        [frames] => Some(hex::decode(alloc, *frames)?),
-        _ => return Err(LineFault::Bad),
-    };
+    let max_stack = short_number(max_stack)?;
+    let max_locals = short_number(max_locals)?;
+    let frames = frames_of(alloc, frames)?;
     Ok(MethodCode {
-        max_stack: short_number(max_stack)?,
-        max_locals: short_number(max_locals)?,
+        max_stack,
+        max_locals,
         bytes: hex::decode(alloc, bytes)?,
         lines: Vec::new(alloc),
         frames,
     })
 }
 
-fn named(
-    alloc: Global,
-    flags: &str,
-    name: &str,
-    descriptor: &str,
-    code: Option<MethodCode>,
-) -> Result<Method, LineFault> {
-    Ok(Method {
-        flags: flags_of(flags)?,
-        name: String::from_str(alloc, name)?,
-        descriptor: String::from_str(alloc, descriptor)?,
-        code,
-    })
+fn frames_of(alloc: Global, words: &[&str]) -> Result<Option<Vec<u8>>, LineFault> {
+    if words.is_empty() {
+        return Ok(None);
+    }
+    Ok(Some(hex::decode(alloc, one_word(words)?)?))
 }
 
-fn change_of(alloc: Global, words: &[&str]) -> Result<Change, LineFault> {
-    match words {
-        ["byte", offset, value] => {
-            let mut byte = [0u8; 1];
-            hex::decode_to_slice(*value, &mut byte)?;
-            Ok(Change::Byte {
-                offset: number(offset)?,
-                value: byte[0],
-            })
-        }
-        ["cut", length] => Ok(Change::Cut(number(length)?)),
-        ["append", bytes] => Ok(Change::Append(hex::decode(alloc, *bytes)?)),
-        ["again", from, to] => Ok(Change::Again {
-            from: number(from)?,
-            to: number(to)?,
-        }),
-        ["torn"] => Ok(Change::Torn),
+/// Returns the change of a file that words ask for.
+pub fn change_of(alloc: Global, kind: &str, words: &[&str]) -> Result<Change, LineFault> {
+    match kind {
+        "byte" => byte_of(words),
+        "cut" => Ok(Change::Cut(number(one_word(words)?)?)),
+        "append" => Ok(Change::Append(hex::decode(alloc, one_word(words)?)?)),
+        "again" => again_of(words),
+        "torn" if words.is_empty() => Ok(Change::Torn),
         _ => Err(LineFault::Bad),
     }
 }
 
-fn number(word: &str) -> Result<usize, LineFault> {
+fn byte_of(words: &[&str]) -> Result<Change, LineFault> {
+    let [offset, value] = words else {
+        return Err(LineFault::Bad);
+    };
+    let mut byte = [0u8; 1];
+    hex::decode_to_slice(*value, &mut byte)?;
+    Ok(Change::Byte {
+        offset: number(offset)?,
+        value: byte[0],
+    })
+}
+
+fn again_of(words: &[&str]) -> Result<Change, LineFault> {
+    let [from, to] = words else {
+        return Err(LineFault::Bad);
+    };
+    Ok(Change::Again {
+        from: number(from)?,
+        to: number(to)?,
+    })
+}
+
+/// Returns the number that a word spells.
+pub fn number(word: &str) -> Result<usize, LineFault> {
     word.parse::<usize>().map_err(|_| LineFault::Bad)
 }
 

@@ -32,8 +32,10 @@
 
 use fault::LineFault;
 use script::{Reply, Script};
+use std::alloc::Global;
 use std::io;
 use std::io::{BufRead, BufReader, BufWriter, ErrorKind, Write};
+use std::rt::Files;
 
 mod class_draft;
 mod code_line;
@@ -45,19 +47,33 @@ mod shelf;
 
 fn main(rt: HostRuntime) -> io::Result<()> {
     let alloc = rt.alloc();
-    let mut out = BufWriter::new(alloc, io::writer(&rt))?;
+    let input = BufReader::new(alloc, rt.reader())?;
+    let out = BufWriter::new(alloc, io::writer(&rt))?;
+    play_lines(&rt, alloc, input, out)
+}
+
+// Plays the lines of the input as a script.
+fn play_lines<R: Files + AllocGlobal + Clone + Drop, I: BufRead + Drop, W: Write + Drop>(
+    runtime: &R,
+    alloc: Global,
+    input: I,
+    mut out: W,
+) -> io::Result<()> {
     let mut script = Script::new(alloc);
-    for text in BufReader::new(alloc, rt.reader())?.lines(alloc) {
-        let text = text?;
-        let reply = script.play(&rt, &text);
-        put_reply(&mut out, &text, reply)?;
+    for text in input.lines(alloc) {
+        put_line(runtime, &mut script, &text?, &mut out)?;
     }
     out.flush()
 }
 
-// Prints what a line of the script came to.
-fn put_reply<W: Write>(out: &mut W, text: &str, reply: Result<Reply, LineFault>) -> io::Result<()> {
-    match reply {
+// Plays a line, and prints what it came to.
+fn put_line<R: Files + AllocGlobal + Clone + Drop, W: Write>(
+    runtime: &R,
+    script: &mut Script,
+    text: &str,
+    out: &mut W,
+) -> io::Result<()> {
+    match script.play(runtime, text) {
         Ok(Reply::Silent) => Ok(()),
         Ok(Reply::Copy) => writeln!(out, "{text}"),
         Ok(Reply::Said(said)) => {

@@ -17,7 +17,6 @@ pub enum Hand {
 /// A row of the input.
 #[derive(Drop)]
 pub enum Row {
-    Heading,
     Core(Uuid, u64),
     Event(Event),
     /// A root, and how often it comes.
@@ -31,19 +30,8 @@ pub enum Row {
     Ready,
 }
 
-/// Returns what a row asks for.
-pub fn row_of(alloc: Global, text: &str) -> Result<Row, RowFault> {
-    if text.is_empty() || text.starts_with('#') {
-        return Ok(Row::Heading);
-    }
-    let words: Vec<&str> = text.split(' ').collect(alloc)?;
-    match words.as_slice() {
-        [kind, parts @ ..] => row_of_kind(alloc, kind, parts),
-        [] => Err(RowFault::Bad),
-    }
-}
-
-fn row_of_kind(alloc: Global, kind: &str, parts: &[&str]) -> Result<Row, RowFault> {
+/// Returns what a row of this first word asks for.
+pub fn row_of(alloc: Global, kind: &str, parts: &[&str]) -> Result<Row, RowFault> {
     match kind {
         "core" => core_of(parts),
         "root" | "roots" | "refused" => root_of(alloc, kind, parts),

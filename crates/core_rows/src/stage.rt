@@ -4,48 +4,51 @@ use super::calls;
 use super::calls::{Answer, HandAnswer};
 use super::classes::OneClass;
 use super::row::{Hand, Row, row_of};
-use sp_core::{CoreFault, LentTask, Op, Output, Root, SpaceCore};
+use sp_core::{CoreFault, Event, LentTask, Op, Output, Root, SpaceCore};
 use space_ids::Uuid;
 use std::alloc::{AllocError, Global};
 use std::io::Write;
-use test_rows::RowFault;
+use test_rows::{RowFault, Stage, replace, words_of};
 
 /// A core, and the tasks that it or cores before it lent.
 #[derive(Drop)]
-pub struct Stage {
+pub struct CoreStage {
     alloc: Global,
     classes: OneClass,
     core: SpaceCore,
     tasks: Vec<LentTask>,
 }
 
-impl Stage {
+impl CoreStage {
     /// Returns a core to which nothing has happened, and no task in hand.
-    pub fn new(alloc: Global) -> Result<Stage, AllocError> {
-        Ok(Stage {
+    pub fn new(alloc: Global) -> Result<CoreStage, AllocError> {
+        let classes = OneClass::new(alloc)?;
+        let core = SpaceCore::new(alloc, Uuid::from_u64_pair(0, 1), 1_000)?;
+        Ok(CoreStage {
             alloc,
-            classes: OneClass::new(alloc)?,
-            core: SpaceCore::new(alloc, Uuid::from_u64_pair(0, 1), 1_000)?,
+            classes,
+            core,
             tasks: Vec::new(alloc),
         })
     }
 
-    /// Plays a row, and returns the answer to it.
-    pub fn play(&mut self, text: &str) -> Result<Vec<u8>, RowFault> {
-        let mut said = Vec::new(self.alloc);
-        match row_of(self.alloc, text)? {
-            Row::Heading => {}
-            Row::Core(id, fuel) => self.core = SpaceCore::new(self.alloc, id, fuel)?,
-            Row::Event(event) => put_answer(&mut said, &calls::event(&mut self.core, &event))?,
-            Row::Root(root, times) => self.start(&mut said, &root, times)?,
-            Row::Lend(task) => self.lend(&mut said, task)?,
-            Row::Ran(task, made) => self.ran(task, made)?,
-            Row::Commit(task, op, times) => self.commit(&mut said, task, &op, times)?,
-            Row::Hand(task, hand) => self.hand(&mut said, task, &hand)?,
-            Row::Object(index) => writeln!(said, "{:?}", calls::object(&self.core, index))?,
-            Row::Ready => writeln!(said, "{:?}", calls::ready(&self.core))?,
-        }
-        Ok(said)
+    fn begin(&mut self, id: Uuid, fuel: u64) -> Result<(), RowFault> {
+        replace(&mut self.core, SpaceCore::new(self.alloc, id, fuel)?);
+        Ok(())
+    }
+
+    fn happen(&mut self, said: &mut Vec<u8>, event: &Event) -> Result<(), RowFault> {
+        put_answer(said, &calls::event(&mut self.core, event))
+    }
+
+    fn put_object(&self, said: &mut Vec<u8>, index: usize) -> Result<(), RowFault> {
+        writeln!(said, "{:?}", calls::object(&self.core, index))?;
+        Ok(())
+    }
+
+    fn put_ready(&self, said: &mut Vec<u8>) -> Result<(), RowFault> {
+        writeln!(said, "{:?}", calls::ready(&self.core))?;
+        Ok(())
     }
 
     fn start(&mut self, said: &mut Vec<u8>, root: &Root, times: usize) -> Result<(), RowFault> {
@@ -111,6 +114,22 @@ impl Stage {
                 self.tasks.push(lent)?;
                 put_fault(said, fault)
             }
+        }
+    }
+}
+
+impl Stage for CoreStage {
+    fn play(&mut self, said: &mut Vec<u8>, kind: &str, text: &str) -> Result<(), RowFault> {
+        match row_of(self.alloc, kind, &words_of(self.alloc, text)?)? {
+            Row::Core(id, fuel) => self.begin(id, fuel),
+            Row::Event(event) => self.happen(said, &event),
+            Row::Root(root, times) => self.start(said, &root, times),
+            Row::Lend(task) => self.lend(said, task),
+            Row::Ran(task, made) => self.ran(task, made),
+            Row::Commit(task, op, times) => self.commit(said, task, &op, times),
+            Row::Hand(task, hand) => self.hand(said, task, &hand),
+            Row::Object(index) => self.put_object(said, index),
+            Row::Ready => self.put_ready(said),
         }
     }
 }

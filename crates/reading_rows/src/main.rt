@@ -14,18 +14,16 @@
 //! BYTES are words in hex digits, or none. A row that is none of these is printed after `bad row: `.
 #![tactic(auto)]
 
+use said::Answers;
 use std::io;
-use std::io::{BufRead, BufReader, BufWriter, Write};
-use test_rows::put_answer;
+use std::io::{BufReader, BufWriter};
+use test_rows::play_rows;
 
 mod said;
 
 fn main(rt: HostRuntime) -> io::Result<()> {
     let alloc = rt.alloc();
-    let mut out = BufWriter::new(alloc, io::writer(&rt))?;
-    for text in BufReader::new(alloc, rt.reader())?.lines(alloc) {
-        let text = text?;
-        put_answer(&mut out, &text, said::said_of(alloc, &text))?;
-    }
-    out.flush()
+    let input = BufReader::new(alloc, rt.reader())?;
+    let out = BufWriter::new(alloc, io::writer(&rt))?;
+    play_rows(alloc, Answers { alloc }, input, out)
 }

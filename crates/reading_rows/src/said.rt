@@ -1,6 +1,6 @@
 //! What rows come to.
 
-use cf_insns::{CodeFault, decode};
+use cf_insns::{CodeFault, Insn, decode};
 use cf_text::{
     Descriptor, Numbered, Text, descriptor, is_class_name, is_method_name, is_modified_utf8,
     is_name,
@@ -8,27 +8,30 @@ use cf_text::{
 use sp_digest::{NamedFile, digest_of};
 use std::alloc::Global;
 use std::io::Write;
-use test_rows::RowFault;
+use test_rows::{RowFault, Stage, words_of};
 
-/// Returns what a row comes to.
-pub fn said_of(alloc: Global, text: &str) -> Result<Vec<u8>, RowFault> {
-    if text.is_empty() || text.starts_with('#') {
-        return Ok(Vec::new(alloc));
-    }
-    let (kind, rest) = match text.split_once(' ') {
-        Some(parts) => parts,
-        None => (text, ""),
-    };
-    match kind {
-        "code" => code(alloc, rest),
-        "text" => utf8(alloc, rest),
-        "name" => name(alloc, rest.as_bytes()),
-        "descriptor" => described(alloc, rest.as_bytes().to_vec(alloc)?),
-        "dimensions" => dimensions(alloc, rest),
-        "digest" => digest(alloc, rest),
-        _ => Err(RowFault::Bad),
+/// The answers to rows, none of which keeps anything.
+#[derive(Drop)]
+pub struct Answers {
+    pub alloc: Global,
+}
+
+impl Stage for Answers {
+    fn play(&mut self, said: &mut Vec<u8>, kind: &str, text: &str) -> Result<(), RowFault> {
+        let alloc = self.alloc;
+        match kind {
+            "code" => put_code(alloc, said, text),
+            "text" => put_utf8(alloc, said, text),
+            "name" => put_name(said, text.as_bytes()),
+            "descriptor" => put_described(alloc, said, text.as_bytes().to_vec(alloc)?),
+            "dimensions" => put_dimensions(alloc, said, text),
+            "digest" => put_digest(alloc, said, text),
+            _ => Err(RowFault::Bad),
+        }
     }
 }
+
+type Listing = Vec<(u16, Insn)>;
 
 // The bytes of words in hex digits.
 fn bytes_of(alloc: Global, words: &str) -> Result<Vec<u8>, RowFault> {
@@ -40,77 +43,76 @@ fn bytes_of(alloc: Global, words: &str) -> Result<Vec<u8>, RowFault> {
     Ok(bytes)
 }
 
-fn code(alloc: Global, words: &str) -> Result<Vec<u8>, RowFault> {
-    let bytes = bytes_of(alloc, words)?;
+fn put_code(alloc: Global, said: &mut Vec<u8>, words: &str) -> Result<(), RowFault> {
+    match decoded(alloc, &bytes_of(alloc, words)?)? {
+        Ok(listing) => put_listing(said, &listing),
+        Err(CodeFault::Broken { rule, at }) => {
+            writeln!(said, "{} {rule} at {at}", rule.number())?;
+            Ok(())
+        }
+        Err(CodeFault::Memory) => Err(RowFault::Memory),
+    }
+}
+
+// What the call answers. This function promises nothing, so that a row is proved at once.
+fn decoded(alloc: Global, bytes: &[u8]) -> Result<Result<Listing, CodeFault>, RowFault> {
     if bytes.len() > 65_535 {
         return Err(RowFault::Bad);
     }
-    let mut said = Vec::new(alloc);
-    match decode(alloc, &bytes) {
-        Ok(listing) => {
-            for (offset, insn) in &listing {
-                writeln!(said, "{offset} {insn:?}")?;
-            }
-        }
-        Err(CodeFault::Broken { rule, at }) => {
-            writeln!(said, "{} {rule} at {at}", rule.number())?;
-        }
-        Err(CodeFault::Memory) => return Err(RowFault::Memory),
+    Ok(decode(alloc, bytes))
+}
+
+fn put_listing(said: &mut Vec<u8>, listing: &[(u16, Insn)]) -> Result<(), RowFault> {
+    for (offset, insn) in listing {
+        writeln!(said, "{offset} {insn:?}")?;
     }
-    Ok(said)
+    Ok(())
 }
 
-fn utf8(alloc: Global, words: &str) -> Result<Vec<u8>, RowFault> {
-    let mut said = Vec::new(alloc);
+fn put_utf8(alloc: Global, said: &mut Vec<u8>, words: &str) -> Result<(), RowFault> {
     writeln!(said, "{}", is_modified_utf8(&bytes_of(alloc, words)?))?;
-    Ok(said)
+    Ok(())
 }
 
-fn name(alloc: Global, text: &[u8]) -> Result<Vec<u8>, RowFault> {
-    let mut said = Vec::new(alloc);
+fn put_name(said: &mut Vec<u8>, text: &[u8]) -> Result<(), RowFault> {
     let (plain, of_method) = (is_name(text), is_method_name(text));
     writeln!(said, "{plain} {of_method} {}", is_class_name(text))?;
-    Ok(said)
+    Ok(())
 }
 
-fn described(alloc: Global, text: Vec<u8>) -> Result<Vec<u8>, RowFault> {
-    let mut said = Vec::new(alloc);
+fn put_described(alloc: Global, said: &mut Vec<u8>, text: Vec<u8>) -> Result<(), RowFault> {
     match descriptor(alloc, &Text::new(alloc, text)?)? {
         Some(Descriptor::Method(_)) => writeln!(said, "a method")?,
         Some(Descriptor::Field(_)) => writeln!(said, "a field")?,
         None => writeln!(said, "none")?,
     }
-    Ok(said)
+    Ok(())
 }
 
-fn dimensions(alloc: Global, word: &str) -> Result<Vec<u8>, RowFault> {
+fn put_dimensions(alloc: Global, said: &mut Vec<u8>, word: &str) -> Result<(), RowFault> {
     let count = word.parse::<usize>().map_err(|_| RowFault::Bad)?;
     let mut text = vec![in alloc; b'['; count]?;
     text.push(b'I')?;
-    described(alloc, text)
+    put_described(alloc, said, text)
 }
 
-fn digest(alloc: Global, words: &str) -> Result<Vec<u8>, RowFault> {
-    let words: Vec<&str> = words.split(' ').collect(alloc)?;
-    match words.as_slice() {
-        [name, bytes, other_name, other_bytes] => digest_of_two(
-            alloc,
-            name,
-            &bytes_of(alloc, bytes)?,
-            other_name,
-            &bytes_of(alloc, other_bytes)?,
-        ),
-        _ => Err(RowFault::Bad),
-    }
+fn put_digest(alloc: Global, said: &mut Vec<u8>, text: &str) -> Result<(), RowFault> {
+    let words = words_of(alloc, text)?;
+    let [name, bytes, other_name, other_bytes] = words.as_slice() else {
+        return Err(RowFault::Bad);
+    };
+    let (bytes, other_bytes) = (bytes_of(alloc, bytes)?, bytes_of(alloc, other_bytes)?);
+    put_digest_of_two(alloc, said, name, &bytes, other_name, &other_bytes)
 }
 
-fn digest_of_two(
+fn put_digest_of_two(
     alloc: Global,
+    said: &mut Vec<u8>,
     name: &str,
     bytes: &[u8],
     other_name: &str,
     other_bytes: &[u8],
-) -> Result<Vec<u8>, RowFault> {
+) -> Result<(), RowFault> {
     if bytes.len() > 1_000 || other_bytes.len() > 1_000 {
         return Err(RowFault::Bad);
     }
@@ -124,7 +126,6 @@ fn digest_of_two(
             bytes: other_bytes,
         },
     ];
-    let mut said = Vec::new(alloc);
     writeln!(said, "{}", hex::encode(alloc, digest_of(alloc, &files)?)?)?;
-    Ok(said)
+    Ok(())
 }

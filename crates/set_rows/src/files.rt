@@ -1,14 +1,14 @@
 //! Sets of class files.
 
 use super::parts::{Made, bare_class};
-use super::spelling::{plain, put};
+use super::spelling::plain;
 use cf_reader::{Numbered, ReadClass, ReadFault, read_class};
 use class_builder::BuildFault;
 use cls_link::{LinkFault, Linked, link};
 use cls_set::{ClassSet, SetFault};
 use std::alloc::Global;
 use std::io::Write;
-use test_rows::RowFault;
+use test_rows::{RowFault, put};
 
 /// Links the set of class files, and prints how many classes and methods it has, or why there is none.
 pub fn linked_set(
@@ -31,9 +31,13 @@ fn put_linked(
         Err(LinkFault::Memory) => return Err(RowFault::Memory),
         Err(_) => return Err(RowFault::Bad),
     };
-    put(said, "classes", &class_count(linked.set()))?;
-    put(said, "methods", &method_count(&linked))?;
+    put_counts(said, &linked)?;
     Ok(Some(linked))
+}
+
+fn put_counts(said: &mut Vec<u8>, linked: &Linked) -> Result<(), RowFault> {
+    put(said, "classes", &class_count(linked.set()))?;
+    put(said, "methods", &method_count(linked))
 }
 
 // What the calls answer. These functions promise nothing, so that a row is proved at once.

@@ -4,10 +4,9 @@ ghost use Rattle.std.specs.Prelude.{IsTrue};
 ghost use Rattle.std.specs.List.Sorted.{IsStrictlyIncreasing};
 
 use super::links::{class_at, class_named, declared_method};
-use super::spelling::put;
 use cls_link::{ClassId, Linked, MethodId};
 use std::alloc::Global;
-use test_rows::RowFault;
+use test_rows::{RowFault, put};
 use ver_frames::{
     DeclaredFrame, DeclaredFrames, MethodView, TypeFrame, VType, declared, frame_assignable,
 };

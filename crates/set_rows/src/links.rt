@@ -1,8 +1,8 @@
 //! Classes, methods and fields of a linked set.
 
-use super::spelling::{plain, put};
+use super::spelling::plain;
 use cls_link::{Class, ClassId, FieldSlot, Linked, MethodId, Selection};
-use test_rows::{RowFault, class};
+use test_rows::{RowFault, class, one_word, put};
 
 /// Plays a question about a linked set.
 pub fn play(
@@ -11,49 +11,49 @@ pub fn play(
     kind: &str,
     words: &[&str],
 ) -> Result<(), RowFault> {
-    match (kind, words) {
-        ("number", [name]) => put(said, "number", &number(linked, name)),
-        ("at", [number]) => put_class(said, class_at(linked, class(number)?)?),
-        ("below", [sub, sup]) => {
-            put_below(
-                said,
-                linked,
-                class_named(linked, sub)?,
-                class_named(linked, sup)?,
-            )
-        }
-        ("select", [of, called]) => {
-            let of = class_named(linked, of)?;
-            put(said, "selects", &select(linked, of, number_of(called)?)?)
-        }
-        (_, [of, name, descriptor]) => {
-            let of = class_named(linked, of)?;
-            put_member(said, linked, kind, of, name, descriptor)
-        }
+    match kind {
+        "number" => put_number(said, linked, words),
+        "at" => put_class_at(said, linked, words),
+        "below" => put_below(said, linked, words),
+        "select" => put_selected(said, linked, words),
+        "method" => put_method(said, linked, words),
+        "slot" => put_slot(said, linked, words),
         _ => Err(RowFault::Bad),
     }
 }
 
-fn put_member(
-    said: &mut Vec<u8>,
-    linked: &Linked,
-    kind: &str,
-    of: ClassId,
-    name: &str,
-    descriptor: &str,
-) -> Result<(), RowFault> {
-    match kind {
-        "method" => {
-            put(said, "means", &method(linked, of, name, descriptor)?)?;
-            put(
-                said,
-                "declares",
-                &declared_method(linked, of, name, descriptor)?,
-            )
-        }
-        "slot" => put(said, "slot", &slot(linked, of, name, descriptor)?),
-        _ => Err(RowFault::Bad),
-    }
+fn put_number(said: &mut Vec<u8>, linked: &Linked, words: &[&str]) -> Result<(), RowFault> {
+    put(said, "number", &number(linked, one_word(words)?))
+}
+
+fn put_class_at(said: &mut Vec<u8>, linked: &Linked, words: &[&str]) -> Result<(), RowFault> {
+    put_class(said, class_at(linked, class(one_word(words)?)?)?)
+}
+
+fn put_selected(said: &mut Vec<u8>, linked: &Linked, words: &[&str]) -> Result<(), RowFault> {
+    let [of, called] = words else {
+        return Err(RowFault::Bad);
+    };
+    let of = class_named(linked, of)?;
+    put(said, "selects", &select(linked, of, number_of(called)?)?)
+}
+
+fn put_method(said: &mut Vec<u8>, linked: &Linked, words: &[&str]) -> Result<(), RowFault> {
+    let [of, name, descriptor] = words else {
+        return Err(RowFault::Bad);
+    };
+    let of = class_named(linked, of)?;
+    put(said, "means", &method(linked, of, name, descriptor)?)?;
+    let declared = declared_method(linked, of, name, descriptor)?;
+    put(said, "declares", &declared)
+}
+
+fn put_slot(said: &mut Vec<u8>, linked: &Linked, words: &[&str]) -> Result<(), RowFault> {
+    let [of, name, descriptor] = words else {
+        return Err(RowFault::Bad);
+    };
+    let of = class_named(linked, of)?;
+    put(said, "slot", &slot(linked, of, name, descriptor)?)
 }
 
 fn number_of(word: &str) -> Result<MethodId, RowFault> {
@@ -156,12 +156,11 @@ fn put_class(said: &mut Vec<u8>, class: &Class) -> Result<(), RowFault> {
     put(said, "methods", &class.file.methods.as_slice().len())
 }
 
-fn put_below(
-    said: &mut Vec<u8>,
-    linked: &Linked,
-    sub: ClassId,
-    sup: ClassId,
-) -> Result<(), RowFault> {
+fn put_below(said: &mut Vec<u8>, linked: &Linked, words: &[&str]) -> Result<(), RowFault> {
+    let [sub, sup] = words else {
+        return Err(RowFault::Bad);
+    };
+    let (sub, sup) = (class_named(linked, sub)?, class_named(linked, sup)?);
     put(said, "subclass", &is_subclass(linked, sub, sup)?)?;
     put(said, "subtype", &implements(linked, sub, sup)?)?;
     put(said, "remote", &is_remote(linked, sub)?)

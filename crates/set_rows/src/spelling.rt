@@ -1,9 +1,7 @@
-//! How rows spell flags and lists, and how answers and texts are printed.
+//! How rows spell flags and lists, and how texts are printed.
 
 use cf_text::Text;
 use std::alloc::Global;
-use std::fmt::Debug;
-use std::io::Write;
 use std::str;
 use test_rows::RowFault;
 
@@ -28,10 +26,4 @@ pub fn plain(text: &Text) -> &str {
         Ok(text) => text,
         Err(_) => "?",
     }
-}
-
-/// Prints a word and an answer on a line.
-pub fn put<T: Debug>(said: &mut Vec<u8>, word: &str, answer: &T) -> Result<(), RowFault> {
-    writeln!(said, "{word} {answer:?}")?;
-    Ok(())
 }

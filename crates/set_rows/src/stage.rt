@@ -2,54 +2,28 @@
 
 use super::files::{file_of, linked_set, put_many};
 use super::parts::{bare_class, class_file, example};
-use super::spelling::put;
 use super::{frames, links};
 use class_builder::{BuildFault, SUM};
 use cls_link::Linked;
 use std::alloc::Global;
-use test_rows::{RowFault, index, number};
+use test_rows::{RowFault, Stage, one_number, put, replace, words_of};
 
 /// The class files of the rows so far, and the last set that was linked.
 #[derive(Drop)]
-pub struct Stage {
+pub struct Files {
     alloc: Global,
     files: Vec<Vec<u8>>,
     linked: Option<Linked>,
 }
 
-impl Stage {
+impl Files {
     /// Returns a stage without class files.
-    pub fn new(alloc: Global) -> Stage {
-        Stage {
+    pub fn new(alloc: Global) -> Files {
+        Files {
             alloc,
             files: Vec::new(alloc),
             linked: None,
         }
-    }
-
-    /// Plays a row, and returns the answer to it.
-    pub fn play(&mut self, text: &str) -> Result<Vec<u8>, RowFault> {
-        let mut said = Vec::new(self.alloc);
-        if text.is_empty() || text.starts_with('#') {
-            return Ok(said);
-        }
-        let words: Vec<&str> = text.split(' ').collect(self.alloc)?;
-        match words.as_slice() {
-            [kind, words @ ..] => self.call(&mut said, kind, words)?,
-            [] => return Err(RowFault::Bad),
-        }
-        Ok(said)
-    }
-
-    fn call(&mut self, said: &mut Vec<u8>, kind: &str, words: &[&str]) -> Result<(), RowFault> {
-        match (kind, words) {
-            ("new", []) => *self = Stage::new(self.alloc),
-            ("file", parts) => self.add(class_file(self.alloc, parts)?)?,
-            ("example", []) => self.add(example(self.alloc))?,
-            ("link", []) => self.linked = linked_set(self.alloc, said, &self.files)?,
-            _ => self.look(said, kind, words)?,
-        }
-        Ok(())
     }
 
     fn add(&mut self, made: Result<Vec<u8>, BuildFault>) -> Result<(), RowFault> {
@@ -57,16 +31,21 @@ impl Stage {
         Ok(())
     }
 
+    fn link(&mut self, said: &mut Vec<u8>) -> Result<(), RowFault> {
+        replace(&mut self.linked, linked_set(self.alloc, said, &self.files)?);
+        Ok(())
+    }
+
     fn linked(&self) -> Result<&Linked, RowFault> {
         self.linked.as_ref().ok_or(RowFault::Bad)
     }
 
-    fn look(&self, said: &mut Vec<u8>, kind: &str, words: &[&str]) -> Result<(), RowFault> {
-        match (kind, words) {
-            ("same", []) => put(said, "same", &self.is_example()),
-            ("long", [count]) => put_long(self.alloc, said, index(count)?),
-            ("many", [count]) => put_many(self.alloc, said, number(count)?),
-            ("frames", words) => frames::play(self.alloc, said, self.linked()?, words),
+    fn call(&mut self, said: &mut Vec<u8>, kind: &str, words: &[&str]) -> Result<(), RowFault> {
+        match kind {
+            "file" => self.add(class_file(self.alloc, words)?),
+            "many" => put_many(self.alloc, said, one_number(words)?),
+            "long" => put_long(self.alloc, said, one_number(words)?),
+            "frames" => frames::play(self.alloc, said, self.linked()?, words),
             _ => links::play(self.linked()?, said, kind, words),
         }
     }
@@ -80,9 +59,24 @@ impl Stage {
     }
 }
 
+impl Stage for Files {
+    fn play(&mut self, said: &mut Vec<u8>, kind: &str, text: &str) -> Result<(), RowFault> {
+        match kind {
+            "new" if text.is_empty() => {
+                replace(self, Files::new(self.alloc));
+                Ok(())
+            }
+            "example" if text.is_empty() => self.add(example(self.alloc)),
+            "link" if text.is_empty() => self.link(said),
+            "same" if text.is_empty() => put(said, "same", &self.is_example()),
+            _ => self.call(said, kind, &words_of(self.alloc, text)?),
+        }
+    }
+}
+
 // Prints how many bytes a class file has whose class has a name of this length, or why there is none.
-fn put_long(alloc: Global, said: &mut Vec<u8>, count: usize) -> Result<(), RowFault> {
-    let name = String::from_utf8(vec![in alloc; b'a'; count]?).map_err(|_| RowFault::Bad)?;
+fn put_long(alloc: Global, said: &mut Vec<u8>, count: u64) -> Result<(), RowFault> {
+    let name = String::from_utf8(vec![in alloc; b'a'; count as usize]?).map_err(|_| RowFault::Bad)?;
     match bare_class(alloc, &name) {
         Ok(bytes) => put(said, "bytes", &bytes.len()),
         Err(BuildFault::Memory) => Err(RowFault::Memory),

@@ -74,12 +74,12 @@ impl SpaceCore {
 }
 
 // The state after the event happened to it too. There is none at out of memory.
-fn follow<C: CallClasses>(last: SpaceState, classes: &C, event: Event) -> Option<SpaceState>
+fn follow<C: CallClasses>(mut last: SpaceState, classes: &C, event: Event) -> Option<SpaceState>
     ensures { IfSome result (λ space. (g : Setting) (s : State) → IsSpace g s last → IsAtRest s → C.tells classes.now g.classes → IsSpace g (after_event g (event_of event) s).0 space) }
 {
-    let mut last = last;
-    match last.on(classes, event) {
-        Ok(_) => Some(last),
-        Err(_) => None,
-    }
+    let Ok(_) = last.on(classes, event) else {
+        let_go(last);
+        return None;
+    };
+    Some(last)
 }

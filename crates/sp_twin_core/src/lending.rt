@@ -47,7 +47,8 @@ impl SpaceCore {
         ensures same { (g : Setting) (s : State) → IsCore g s self.old → IsCore g s self.new }
         ensures state { self.new.state ≡ self.old.state }
     {
-        self.spare = self.take_spare().ok();
+        let spare = self.take_spare().ok();
+        self.put_spare(spare);
     }
 
     // The twin of a task, which the second state lends, if there are both.
@@ -61,7 +62,7 @@ impl SpaceCore {
             return None;
         };
         let twin = spare.lend(task);
-        self.spare = Some(spare);
+        self.put_spare(Some(spare));
         twin
     }
 
@@ -170,10 +171,11 @@ fn take_twin_back(
     requires { fits spare task.now twin ≡ true }
     ensures { IfSome result (λ new. (g : Setting) (s : State) → IfSome spare (IsSpace g s) → IsSpace g (give_back task.now.id task.now.made s) new) }
 {
-    let Some(twin) = twin else {
+    let Some(mut spare) = spare else {
         return None;
     };
-    let Some(mut spare) = spare else {
+    let Some(twin) = twin else {
+        crate::space_core::let_go(spare);
         return None;
     };
     spare.give_back(twin);

@@ -138,14 +138,14 @@ impl SpaceCore {
 }
 
 // The state after the root started in it too. There is none at out of memory.
-fn follow_root(last: SpaceState, root: &Root) -> Option<SpaceState>
+fn follow_root(mut last: SpaceState, root: &Root) -> Option<SpaceState>
     ensures { IfSome result (λ space. (g : Setting) (s : State) → IsSpace g s last → IsAtRest s → IsSpace g (after_event g (event_of_root root.now) s).0 space) }
 {
-    let mut last = last;
-    match last.on_root(root) {
-        Ok(_) => Some(last),
-        Err(_) => None,
-    }
+    let Ok(_) = last.on_root(root) else {
+        let_go(last);
+        return None;
+    };
+    Some(last)
 }
 
 // The first of the reasons to refuse a root.

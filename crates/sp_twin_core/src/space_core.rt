@@ -70,10 +70,11 @@ impl SpaceCore {
     pub(crate) fn put_spare(&mut self, spare: Option<SpaceState>)
         ensures { self.new ≡ record self.old { spare = spare } }
     {
-        self.spare = spare;
+        drop(std::mem::replace(&mut self.spare, spare));
     }
 }
 
+// Lets a state go. At each place that lets one go by itself, all of which a state is made of is proved anew.
 pub(crate) fn let_go(space: SpaceState) {
     drop(space);
 }

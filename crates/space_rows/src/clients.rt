@@ -5,7 +5,7 @@ use dgc_client::{ClientLease, Clients, ForeignId, Group};
 use space_ids::ObjId;
 use std::alloc::{AllocError, Global};
 use std::io::Write;
-use test_rows::{RowFault, index, number, object, space, space_of};
+use test_rows::{RowFault, index, number, object, one_number, space, space_of};
 
 // How many objects a frame names at most.
 const MOST_IDS: usize = 1_024;
@@ -18,30 +18,31 @@ pub fn play(
     call: &str,
     words: &[&str],
 ) -> Result<(), RowFault> {
-    match (call, words) {
-        ("due", []) => put_groups(said, &due(clients, alloc)?),
-        ("settle", [period]) => settle(clients, alloc, said, number(period)?),
-        ("fail", [at, of]) => fail(clients, alloc, index(at)?, number(of)?),
-        ("many", [count]) => Ok(hold_many(clients, number(count)?)?),
-        ("renewals", [moment]) => put_references(said, &renewals(clients, alloc, number(moment)?)?),
-        ("lapsed", [moment]) => put_references(said, &lapsed(clients, alloc, number(moment)?)?),
-        ("lease", [of, id]) => put_lease(said, &lease(clients, &reference(of, id)?)),
-        ("last", []) => put_last(said, clients.last_number()),
-        _ => take(clients, call, words),
+    match call {
+        "due" => put_due(clients, alloc, said, words),
+        "settle" => settle(clients, alloc, said, one_number(words)?),
+        "fail" => fail(clients, alloc, words),
+        "many" => Ok(hold_many(clients, one_number(words)?)?),
+        "renewals" | "lapsed" => put_leases(clients, alloc, said, call, words),
+        "lease" => put_lease(said, &lease(clients, &reference(words)?)),
+        "last" => put_last(clients, said, words),
+        "moment" => {
+            clients.moment(one_number(words)?);
+            Ok(())
+        }
+        "hold" => Ok(clients.hold(&reference(words)?)?),
+        "drop" => {
+            clients.drop_holder(&reference(words)?);
+            Ok(())
+        }
+        _ => Err(RowFault::Bad),
     }
 }
 
-fn take(clients: &mut Clients, call: &str, words: &[&str]) -> Result<(), RowFault> {
-    match (call, words) {
-        ("hold", [of, id]) => clients.hold(&reference(of, id)?)?,
-        ("drop", [of, id]) => clients.drop_holder(&reference(of, id)?),
-        ("moment", [moment]) => clients.moment(number(moment)?),
-        _ => return Err(RowFault::Bad),
-    }
-    Ok(())
-}
-
-fn reference(of: &str, id: &str) -> Result<ForeignId, RowFault> {
+fn reference(words: &[&str]) -> Result<ForeignId, RowFault> {
+    let [of, id] = words else {
+        return Err(RowFault::Bad);
+    };
     Ok(ForeignId {
         space: space(of)?,
         id: object(id)?,
@@ -103,7 +104,14 @@ fn answer(clients: &mut Clients, part: &Group, period: u64) -> Option<u64> {
     number
 }
 
-fn fail(clients: &mut Clients, alloc: Global, at: usize, of: u64) -> Result<(), RowFault> {
+fn fail(clients: &mut Clients, alloc: Global, words: &[&str]) -> Result<(), RowFault> {
+    let [at, of] = words else {
+        return Err(RowFault::Bad);
+    };
+    fail_due(clients, alloc, index(at)?, number(of)?)
+}
+
+fn fail_due(clients: &mut Clients, alloc: Global, at: usize, of: u64) -> Result<(), RowFault> {
     match due(clients, alloc)?.get(at) {
         Some(group) => {
             fail_group(clients, group, of);
@@ -117,6 +125,33 @@ fn fail_group(clients: &mut Clients, group: &Group, of: u64) {
     clients.made(group, of);
     clients.dirty_failed(group, of);
     clients.clean_failed(group, of);
+}
+
+fn put_due(
+    clients: &mut Clients,
+    alloc: Global,
+    said: &mut Vec<u8>,
+    words: &[&str],
+) -> Result<(), RowFault> {
+    if !words.is_empty() {
+        return Err(RowFault::Bad);
+    }
+    put_groups(said, &due(clients, alloc)?)
+}
+
+fn put_leases(
+    clients: &Clients,
+    alloc: Global,
+    said: &mut Vec<u8>,
+    call: &str,
+    words: &[&str],
+) -> Result<(), RowFault> {
+    let moment = one_number(words)?;
+    if call == "lapsed" {
+        put_references(said, &lapsed(clients, alloc, moment)?)
+    } else {
+        put_references(said, &renewals(clients, alloc, moment)?)
+    }
 }
 
 fn put_groups(said: &mut Vec<u8>, groups: &[Group]) -> Result<(), RowFault> {
@@ -162,7 +197,10 @@ fn put_lease(said: &mut Vec<u8>, lease: &ClientLease) -> Result<(), RowFault> {
     Ok(())
 }
 
-fn put_last(said: &mut Vec<u8>, number: u64) -> Result<(), RowFault> {
-    writeln!(said, "{number}")?;
+fn put_last(clients: &Clients, said: &mut Vec<u8>, words: &[&str]) -> Result<(), RowFault> {
+    if !words.is_empty() {
+        return Err(RowFault::Bad);
+    }
+    writeln!(said, "{}", clients.last_number())?;
     Ok(())
 }

@@ -3,7 +3,7 @@
 
 use dgc_client::ClientLease;
 use std::io::Write;
-use test_rows::{RowFault, number};
+use test_rows::{RowFault, number, one_number};
 
 /// Plays a call, and prints whether there is a lease and what is due.
 pub fn play(
@@ -27,30 +27,56 @@ fn put(lease: &ClientLease, said: &mut Vec<u8>) -> Result<(), RowFault> {
 }
 
 fn take(lease: &mut ClientLease, call: &str, words: &[&str]) -> Result<(), RowFault> {
-    match (call, words) {
-        ("hold", []) => lease.hold(),
-        ("drop", []) => lease.drop_holder(),
-        ("moment", [moment]) => lease.moment(number(moment)?),
-        ("dirty", [of, words @ ..]) => dirty(lease, number(of)?, words)?,
-        ("clean", [of, what]) => clean(lease, number(of)?, what)?,
-        _ => return Err(RowFault::Bad),
+    match call {
+        "dirty" => take_dirty(lease, words),
+        "clean" => take_clean(lease, words),
+        "moment" => take_moment(lease, words),
+        "hold" | "drop" if words.is_empty() => {
+            take_holder(lease, call);
+            Ok(())
+        }
+        _ => Err(RowFault::Bad),
     }
+}
+
+fn take_holder(lease: &mut ClientLease, call: &str) {
+    if call == "hold" {
+        lease.hold();
+    } else {
+        lease.drop_holder();
+    }
+}
+
+fn take_moment(lease: &mut ClientLease, words: &[&str]) -> Result<(), RowFault> {
+    lease.moment(one_number(words)?);
     Ok(())
 }
 
-fn dirty(lease: &mut ClientLease, of: u64, words: &[&str]) -> Result<(), RowFault> {
+fn take_dirty(lease: &mut ClientLease, words: &[&str]) -> Result<(), RowFault> {
     match words {
-        ["made"] => lease.dirty_made(of),
-        ["sent"] => lease.dirty_sent(of),
-        ["failed"] => lease.dirty_failed(of),
-        ["answered", period] => lease.dirty_answered(of, number(period)?),
+        [of, "answered", period] => lease.dirty_answered(number(of)?, number(period)?),
+        [of, what] => dirty(lease, number(of)?, what)?,
         _ => return Err(RowFault::Bad),
     }
     Ok(())
 }
 
-fn clean(lease: &mut ClientLease, of: u64, what: &str) -> Result<(), RowFault> {
+fn dirty(lease: &mut ClientLease, of: u64, what: &str) -> Result<(), RowFault> {
     match what {
+        "made" => lease.dirty_made(of),
+        "sent" => lease.dirty_sent(of),
+        "failed" => lease.dirty_failed(of),
+        _ => return Err(RowFault::Bad),
+    }
+    Ok(())
+}
+
+fn take_clean(lease: &mut ClientLease, words: &[&str]) -> Result<(), RowFault> {
+    let [of, what] = words else {
+        return Err(RowFault::Bad);
+    };
+    let of = number(of)?;
+    match *what {
         "made" => lease.clean_made(of),
         "answered" => lease.clean_answered(of),
         "failed" => lease.clean_failed(of),

@@ -6,7 +6,7 @@ use dgc_list::RefList;
 use space_ids::{ObjId, Uuid};
 use std::alloc::{AllocError, Global};
 use std::io::Write;
-use test_rows::{RowFault, number, object, space};
+use test_rows::{RowFault, number, object, one_number, one_word, space};
 
 /// Plays a call, and prints what it answers.
 pub fn play(
@@ -16,46 +16,78 @@ pub fn play(
     call: &str,
     words: &[&str],
 ) -> Result<(), RowFault> {
-    match (call, words) {
-        ("dirty", [of, ids, count, period]) => {
-            let ids = objects(alloc, ids)?;
-            let granted = dirty(list, &space(of)?, &ids, number(count)?, number(period)?)?;
-            writeln!(said, "granted {granted}")?;
-        }
-        ("entries", [id]) => writeln!(said, "{}", entries(list, object(id)?))?,
-        ("until", [of, id]) => writeln!(said, "{:?}", until(list, &space(of)?, object(id)?))?,
-        ("clients", [id]) => put_clients(said, &clients(list, alloc, object(id)?)?)?,
-        ("compare", [calls]) => plain::compare(alloc, said, number(calls)?)?,
-        _ => take(list, alloc, call, words)?,
+    match call {
+        "dirty" => put_granted(list, alloc, said, words),
+        "clean" => take_clean(list, alloc, words),
+        "entries" => put_entries(list, said, words),
+        "until" => put_until(list, said, words),
+        "clients" => put_clients(list, alloc, said, words),
+        _ => take(list, alloc, said, call, words),
     }
+}
+
+fn put_granted(
+    list: &mut RefList,
+    alloc: Global,
+    said: &mut Vec<u8>,
+    words: &[&str],
+) -> Result<(), RowFault> {
+    let [of, ids, count, period] = words else {
+        return Err(RowFault::Bad);
+    };
+    let ids = objects(alloc, ids)?;
+    let granted = dirty(list, &space(of)?, &ids, number(count)?, number(period)?)?;
+    writeln!(said, "granted {granted}")?;
     Ok(())
 }
 
-fn take(list: &mut RefList, alloc: Global, call: &str, words: &[&str]) -> Result<(), RowFault> {
-    match (call, words) {
-        ("clean", [of, ids, count]) => {
-            clean(
-                list,
-                &space(of)?,
-                &objects(alloc, ids)?,
-                number(count)?,
-                false,
-            )?
-        }
-        ("clean", [of, ids, count, "strong"]) => {
-            clean(
-                list,
-                &space(of)?,
-                &objects(alloc, ids)?,
-                number(count)?,
-                true,
-            )?
-        }
-        ("forget", [id]) => list.forget(object(id)?),
-        ("moment", [moment]) => pass(list, number(moment)?)?,
-        _ => return Err(RowFault::Bad),
-    }
+fn take_clean(list: &mut RefList, alloc: Global, words: &[&str]) -> Result<(), RowFault> {
+    let ([of, ids, count] | [of, ids, count, "strong"]) = words else {
+        return Err(RowFault::Bad);
+    };
+    let ids = objects(alloc, ids)?;
+    Ok(clean(list, &space(of)?, &ids, number(count)?, words.len() == 4)?)
+}
+
+fn put_entries(list: &RefList, said: &mut Vec<u8>, words: &[&str]) -> Result<(), RowFault> {
+    writeln!(said, "{}", entries(list, object(one_word(words)?)?))?;
     Ok(())
+}
+
+fn put_until(list: &RefList, said: &mut Vec<u8>, words: &[&str]) -> Result<(), RowFault> {
+    let [of, id] = words else {
+        return Err(RowFault::Bad);
+    };
+    writeln!(said, "{:?}", until(list, &space(of)?, object(id)?))?;
+    Ok(())
+}
+
+fn put_clients(
+    list: &RefList,
+    alloc: Global,
+    said: &mut Vec<u8>,
+    words: &[&str],
+) -> Result<(), RowFault> {
+    put_spaces(said, &clients(list, alloc, object(one_word(words)?)?)?)
+}
+
+fn take(
+    list: &mut RefList,
+    alloc: Global,
+    said: &mut Vec<u8>,
+    call: &str,
+    words: &[&str],
+) -> Result<(), RowFault> {
+    let number = one_number(words)?;
+    match call {
+        "forget" => {
+            list.forget(ObjId(number));
+            Ok(())
+        }
+        "moment" => pass(list, number),
+        "compare" => plain::compare(alloc, said, number),
+        _ => Err(RowFault::Bad),
+    }
 }
 
 // What the calls of the list answer. These functions promise nothing, so that a row is proved at once.
@@ -99,7 +131,7 @@ fn clients(list: &RefList, alloc: Global, id: ObjId) -> Result<Vec<Uuid>, AllocE
     list.clients_of(alloc, id)
 }
 
-fn put_clients(said: &mut Vec<u8>, clients: &[Uuid]) -> Result<(), RowFault> {
+fn put_spaces(said: &mut Vec<u8>, clients: &[Uuid]) -> Result<(), RowFault> {
     for client in clients {
         write!(said, "{} ", number_of(client))?;
     }

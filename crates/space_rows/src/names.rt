@@ -6,7 +6,7 @@ use space_ids::ObjId;
 use std::alloc::Global;
 use std::io::Write;
 use std::str;
-use test_rows::{RowFault, index, object};
+use test_rows::{RowFault, index, object, one_word};
 
 /// Plays a call, and prints what it answers.
 pub fn play(
@@ -16,14 +16,63 @@ pub fn play(
     call: &str,
     words: &[&str],
 ) -> Result<(), RowFault> {
-    match (call, words) {
-        ("list", []) => put_bindings(said, list(names)),
-        ("count", [of]) => put_count(said, count(names, object(of)?)),
-        ("lookup", [text]) => put_found(said, lookup(names, &name(alloc, text)?)),
-        ("bind", [text, of]) => put_change(said, bind(names, &name(alloc, text)?, bound(of)?)),
-        ("rebind", [text, of]) => put_change(said, rebind(names, &name(alloc, text)?, bound(of)?)),
-        ("unbind", [text]) => put_change(said, unbind(names, &name(alloc, text)?)),
+    match call {
+        "list" => put_list(names, said, words),
+        "count" => put_count(names, said, words),
+        "lookup" => put_found(names, alloc, said, words),
+        "unbind" => put_unbound(names, alloc, said, words),
+        "bind" | "rebind" => put_bound(names, alloc, said, call, words),
         _ => Err(RowFault::Bad),
+    }
+}
+
+fn put_list(names: &Registry, said: &mut Vec<u8>, words: &[&str]) -> Result<(), RowFault> {
+    if !words.is_empty() {
+        return Err(RowFault::Bad);
+    }
+    put_bindings(said, list(names))
+}
+
+fn put_count(names: &Registry, said: &mut Vec<u8>, words: &[&str]) -> Result<(), RowFault> {
+    writeln!(said, "{}", count(names, object(one_word(words)?)?))?;
+    Ok(())
+}
+
+fn put_found(
+    names: &Registry,
+    alloc: Global,
+    said: &mut Vec<u8>,
+    words: &[&str],
+) -> Result<(), RowFault> {
+    writeln!(said, "{:?}", lookup(names, &name(alloc, one_word(words)?)?))?;
+    Ok(())
+}
+
+fn put_unbound(
+    names: &mut Registry,
+    alloc: Global,
+    said: &mut Vec<u8>,
+    words: &[&str],
+) -> Result<(), RowFault> {
+    put_change(said, unbind(names, &name(alloc, one_word(words)?)?))
+}
+
+fn put_bound(
+    names: &mut Registry,
+    alloc: Global,
+    said: &mut Vec<u8>,
+    call: &str,
+    words: &[&str],
+) -> Result<(), RowFault> {
+    let [text, of] = words else {
+        return Err(RowFault::Bad);
+    };
+    let name = name(alloc, text)?;
+    let object = bound(of)?;
+    if call == "bind" {
+        put_change(said, bind(names, &name, object))
+    } else {
+        put_change(said, rebind(names, &name, object))
     }
 }
 
@@ -78,16 +127,6 @@ fn put_change(said: &mut Vec<u8>, change: Result<(), BindFault>) -> Result<(), R
         }
         Err(BindFault::Memory) => return Err(RowFault::Memory),
     }
-    Ok(())
-}
-
-fn put_found(said: &mut Vec<u8>, found: Option<ObjId>) -> Result<(), RowFault> {
-    writeln!(said, "{found:?}")?;
-    Ok(())
-}
-
-fn put_count(said: &mut Vec<u8>, count: usize) -> Result<(), RowFault> {
-    writeln!(said, "{count}")?;
     Ok(())
 }
 

@@ -7,11 +7,11 @@ use sp_registry::Registry;
 use sp_results::Results;
 use sp_store::Store;
 use std::alloc::{AllocError, Global};
-use test_rows::{RowFault, space_of};
+use test_rows::{RowFault, Stage, replace, space_of, words_of};
 
 /// The parts of space 1.
 #[derive(Drop)]
-pub struct Stage {
+pub struct Parts {
     alloc: Global,
     lease: ClientLease,
     clients: Clients,
@@ -21,42 +21,31 @@ pub struct Stage {
     results: Results,
 }
 
-impl Stage {
+impl Parts {
     /// Returns parts to which nothing has happened; the moment is 0.
-    pub fn new(alloc: Global) -> Result<Stage, AllocError> {
-        Ok(Stage {
+    pub fn new(alloc: Global) -> Result<Parts, AllocError> {
+        let names = Registry::new(alloc)?;
+        let results = Results::new(alloc)?;
+        Ok(Parts {
             alloc,
             lease: ClientLease::new(0),
             clients: Clients::new(alloc),
             list: RefList::new(alloc),
-            names: Registry::new(alloc)?,
+            names,
             objects: Store::new(alloc, space_of(1)),
-            results: Results::new(alloc)?,
+            results,
         })
     }
 
-    /// Plays a row, and returns the answer to it.
-    pub fn play(&mut self, text: &str) -> Result<Vec<u8>, RowFault> {
-        let mut said = Vec::new(self.alloc);
-        if text.is_empty() || text.starts_with('#') {
-            return Ok(said);
-        }
-        let words: Vec<&str> = text.split(' ').collect(self.alloc)?;
-        match words.as_slice() {
-            ["new"] => *self = Stage::new(self.alloc)?,
-            [part, call, words @ ..] => self.call(&mut said, part, call, words)?,
-            _ => return Err(RowFault::Bad),
-        }
-        Ok(said)
+    fn begin_again(&mut self) -> Result<(), RowFault> {
+        replace(self, Parts::new(self.alloc)?);
+        Ok(())
     }
 
-    fn call(
-        &mut self,
-        said: &mut Vec<u8>,
-        part: &str,
-        call: &str,
-        words: &[&str],
-    ) -> Result<(), RowFault> {
+    fn call(&mut self, said: &mut Vec<u8>, part: &str, words: &[&str]) -> Result<(), RowFault> {
+        let [call, words @ ..] = words else {
+            return Err(RowFault::Bad);
+        };
         match part {
             "lease" => leases::play(&mut self.lease, said, call, words),
             "client" => clients::play(&mut self.clients, self.alloc, said, call, words),
@@ -66,5 +55,15 @@ impl Stage {
             "result" => results::play(&mut self.results, self.alloc, said, call, words),
             _ => Err(RowFault::Bad),
         }
+    }
+}
+
+impl Stage for Parts {
+    fn play(&mut self, said: &mut Vec<u8>, part: &str, text: &str) -> Result<(), RowFault> {
+        if part == "new" && text.is_empty() {
+            return self.begin_again();
+        }
+        let words = words_of(self.alloc, text)?;
+        self.call(said, part, &words)
     }
 }

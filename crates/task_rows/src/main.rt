@@ -25,10 +25,10 @@
 //! answer; a row that is none of these, or that names what is not there, is printed after `bad row: `.
 #![tactic(auto)]
 
-use stage::Stage;
+use stage::Made;
 use std::io;
-use std::io::{BufRead, BufReader, BufWriter, Write};
-use test_rows::put_answer;
+use std::io::{BufReader, BufWriter};
+use test_rows::play_rows;
 
 mod memory;
 mod programs;
@@ -38,11 +38,7 @@ mod tasks;
 
 fn main(rt: HostRuntime) -> io::Result<()> {
     let alloc = rt.alloc();
-    let mut out = BufWriter::new(alloc, io::writer(&rt))?;
-    let mut stage = Stage::new(alloc);
-    for text in BufReader::new(alloc, rt.reader())?.lines(alloc) {
-        let text = text?;
-        put_answer(&mut out, &text, stage.play(&text))?;
-    }
-    out.flush()
+    let input = BufReader::new(alloc, rt.reader())?;
+    let out = BufWriter::new(alloc, io::writer(&rt))?;
+    play_rows(alloc, Made::new(alloc), input, out)
 }

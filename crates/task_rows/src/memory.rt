@@ -1,10 +1,10 @@
 //! Words, a heap and a list of references, as tasks have them.
 
-use super::spelling::{MOST_HEAP_WORDS, count, int, put, reference, short_number};
+use super::spelling::{MOST_HEAP_WORDS, count, int, reference, short_number};
 use ghost_value::Ghost;
 use std::alloc::Global;
 use std::mem::size_of;
-use test_rows::{RowFault, class};
+use test_rows::{RowFault, class, put, replace};
 use vm_heap::{ClassId, Heap, Pointer, Ref, References, Uuid, Word, WordKind};
 
 /// A heap and a list of references, once a row has begun them.
@@ -27,34 +27,40 @@ impl Memory {
 
     /// Plays a row on words, heaps or references.
     pub fn play(&mut self, said: &mut Vec<u8>, kind: &str, words: &[&str]) -> Result<(), RowFault> {
-        match (kind, words) {
-            ("sizes", []) => put_sizes(said),
-            ("word", [spelled]) => put(said, "int", &int_of_copy(int(spelled)?)),
-            ("references", [limit]) => {
-                self.references = Some(list(self.alloc, count(limit)?)?);
-                Ok(())
-            }
-            ("hold", [spelled]) => self.hold(said, reference(self.alloc, spelled)?),
-            _ => self.play_heap(said, kind, words),
+        if kind == "object" {
+            return self.put_object(said, words);
+        }
+        let [word] = words else {
+            return put_plain(said, kind, words);
+        };
+        match kind {
+            "word" => put(said, "int", &int_of_copy(int(word)?)),
+            "references" => self.begin_references(word),
+            "hold" => self.hold(said, reference(self.alloc, word)?),
+            "heap" => self.begin_heap(word),
+            "ints" => put(said, "at", &ints(self.heap()?, short_number(word)?)?),
+            _ => Err(RowFault::Bad),
         }
     }
 
-    fn play_heap(
-        &mut self,
-        said: &mut Vec<u8>,
-        kind: &str,
-        words: &[&str],
-    ) -> Result<(), RowFault> {
-        match (kind, words) {
-            ("heap", [count]) => self.heap = Some(heap(self.alloc, short_number(count)?)?),
-            ("object", [of, kinds]) => {
-                let kinds = kinds_of(self.alloc, kinds)?;
-                put(said, "at", &object(self.heap()?, class(of)?, &kinds))?;
-            }
-            ("ints", [count]) => put(said, "at", &ints(self.heap()?, short_number(count)?)?)?,
-            _ => return Err(RowFault::Bad),
-        }
+    fn begin_references(&mut self, limit: &str) -> Result<(), RowFault> {
+        let references = list(self.alloc, count(limit)?)?;
+        replace(&mut self.references, Some(references));
         Ok(())
+    }
+
+    fn begin_heap(&mut self, words: &str) -> Result<(), RowFault> {
+        let heap = heap(self.alloc, short_number(words)?)?;
+        replace(&mut self.heap, Some(heap));
+        Ok(())
+    }
+
+    fn put_object(&mut self, said: &mut Vec<u8>, words: &[&str]) -> Result<(), RowFault> {
+        let [of, kinds] = words else {
+            return Err(RowFault::Bad);
+        };
+        let kinds = kinds_of(self.alloc, kinds)?;
+        put(said, "at", &object(self.heap()?, class(of)?, &kinds))
     }
 
     fn heap(&mut self) -> Result<&mut Heap, RowFault> {
@@ -65,6 +71,15 @@ impl Memory {
         let references = self.references.as_mut().ok_or(RowFault::Bad)?;
         put(said, "holds", &hold(references, reference))?;
         put(said, "count", &references.len())
+    }
+}
+
+// A row of one word alone.
+fn put_plain(said: &mut Vec<u8>, kind: &str, words: &[&str]) -> Result<(), RowFault> {
+    if kind == "sizes" && words.is_empty() {
+        put_sizes(said)
+    } else {
+        Err(RowFault::Bad)
     }
 }
 

@@ -1,10 +1,8 @@
-//! How rows spell numbers and values, and how answers are printed.
+//! How rows spell numbers and values.
 
 use sp_arguments::argument_of;
 use space_ids::{Ref, Value};
 use std::alloc::Global;
-use std::fmt::Debug;
-use std::io::Write;
 use test_rows::RowFault;
 
 /// The most words of a heap.
@@ -53,10 +51,4 @@ fn value(alloc: Global, word: &str) -> Result<Value, RowFault> {
         Some(value) => Ok(value),
         None => Ok(Value::Ref(reference(alloc, word)?)),
     }
-}
-
-/// Prints a word and an answer on a line.
-pub fn put<T: Debug>(said: &mut Vec<u8>, word: &str, answer: &T) -> Result<(), RowFault> {
-    writeln!(said, "{word} {answer:?}")?;
-    Ok(())
 }

@@ -2,25 +2,25 @@
 
 use super::memory::Memory;
 use super::programs::{class_number, one_method, sum};
-use super::spelling::{argument, count, put, short_number};
+use super::spelling::{argument, count, short_number};
 use super::tasks;
 use std::alloc::Global;
-use test_rows::{RowFault, number};
+use test_rows::{RowFault, Stage, number, one_word, put, replace, words_of};
 use vm_run::{Limits, Program};
 
 /// The heap, the references, the program and the limits of the rows so far.
 #[derive(Drop)]
-pub struct Stage {
+pub struct Made {
     alloc: Global,
     memory: Memory,
     program: Option<Program>,
     limits: Limits,
 }
 
-impl Stage {
+impl Made {
     /// Returns a stage without a program, whose limits are those of the command line.
-    pub fn new(alloc: Global) -> Stage {
-        Stage {
+    pub fn new(alloc: Global) -> Made {
+        Made {
             alloc,
             memory: Memory::new(alloc),
             program: None,
@@ -28,54 +28,50 @@ impl Stage {
         }
     }
 
-    /// Plays a row, and returns the answer to it.
-    pub fn play(&mut self, text: &str) -> Result<Vec<u8>, RowFault> {
-        let mut said = Vec::new(self.alloc);
-        if text.is_empty() || text.starts_with('#') {
-            return Ok(said);
-        }
-        if let Some(word) = text.strip_prefix("argument ") {
-            self.value(&mut said, word)?;
-            return Ok(said);
-        }
-        let words: Vec<&str> = text.split(' ').collect(self.alloc)?;
-        match words.as_slice() {
-            [kind, words @ ..] => self.call(&mut said, kind, words)?,
-            [] => return Err(RowFault::Bad),
-        }
-        Ok(said)
+    fn program(&self) -> Result<&Program, RowFault> {
+        self.program.as_ref().ok_or(RowFault::Bad)
+    }
+
+    fn begin(&mut self, program: Program) -> Result<(), RowFault> {
+        replace(&mut self.program, Some(program));
+        Ok(())
+    }
+
+    fn limit(&mut self, words: &[&str]) -> Result<(), RowFault> {
+        self.limits = limits_of(words)?;
+        Ok(())
+    }
+
+    fn put_number(&self, said: &mut Vec<u8>, words: &[&str]) -> Result<(), RowFault> {
+        put(
+            said,
+            "number",
+            &class_number(self.program()?, one_word(words)?),
+        )
     }
 
     fn call(&mut self, said: &mut Vec<u8>, kind: &str, words: &[&str]) -> Result<(), RowFault> {
-        match (kind, words) {
-            ("argument", []) => self.value(said, ""),
-            ("faults", []) => tasks::put_faults(said),
-            ("sum" | "class" | "instance" | "limits", words) => self.begin(kind, words),
-            ("number", [name]) => put(said, "number", &class_number(self.program()?, name)),
-            ("turns" | "pieces", words) => {
+        match kind {
+            "class" => self.begin(one_method(self.alloc, 0x0009, words)?),
+            "instance" => self.begin(one_method(self.alloc, 0x0001, words)?),
+            "limits" => self.limit(words),
+            "number" => self.put_number(said, words),
+            "turns" | "pieces" => {
                 tasks::play(self.alloc, said, self.program()?, self.limits, kind, words)
             }
             _ => self.memory.play(said, kind, words),
         }
     }
+}
 
-    fn value(&self, said: &mut Vec<u8>, text: &str) -> Result<(), RowFault> {
-        put(said, "value", &argument(self.alloc, text)?)
-    }
-
-    fn program(&self) -> Result<&Program, RowFault> {
-        self.program.as_ref().ok_or(RowFault::Bad)
-    }
-
-    fn begin(&mut self, kind: &str, words: &[&str]) -> Result<(), RowFault> {
-        match (kind, words) {
-            ("sum", []) => self.program = Some(sum(self.alloc)?),
-            ("class", words) => self.program = Some(one_method(self.alloc, 0x0009, words)?),
-            ("instance", words) => self.program = Some(one_method(self.alloc, 0x0001, words)?),
-            ("limits", words) => self.limits = limits_of(words)?,
-            _ => return Err(RowFault::Bad),
+impl Stage for Made {
+    fn play(&mut self, said: &mut Vec<u8>, kind: &str, text: &str) -> Result<(), RowFault> {
+        match kind {
+            "argument" => put(said, "value", &argument(self.alloc, text)?),
+            "faults" if text.is_empty() => tasks::put_faults(said),
+            "sum" if text.is_empty() => self.begin(sum(self.alloc)?),
+            _ => self.call(said, kind, &words_of(self.alloc, text)?),
         }
-        Ok(())
     }
 }
 

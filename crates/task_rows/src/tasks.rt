@@ -3,10 +3,10 @@
 ghost use Rattle.std.specs.Prelude.{◌≡◌, IfOk};
 
 use super::programs::method_of;
-use super::spelling::{MOST_HEAP_WORDS, put, values};
+use super::spelling::{MOST_HEAP_WORDS, values};
 use std::alloc::Global;
 use std::io::Write;
-use test_rows::{RowFault, number};
+use test_rows::{RowFault, number, put};
 use vm_run::{Limits, MethodId, Numbered, Outcome, Pause, Program, StartFault, Task, Uuid, Value};
 
 /// Prints the number and the name of each reason not to start.

@@ -4,6 +4,27 @@ use crate::RowFault;
 use space_ids::{ClassId, ObjId, Ref, Uuid, Value};
 use std::alloc::Global;
 
+/// Returns the words that single spaces part: none for an empty text.
+pub fn words_of<'a>(alloc: Global, text: &'a str) -> Result<Vec<&'a str>, RowFault> {
+    if text.is_empty() {
+        return Ok(Vec::new(alloc));
+    }
+    Ok(text.split(' ').collect(alloc)?)
+}
+
+/// Returns the word of a row that has one.
+pub fn one_word<'a>(words: &[&'a str]) -> Result<&'a str, RowFault> {
+    let [word] = words else {
+        return Err(RowFault::Bad);
+    };
+    Ok(*word)
+}
+
+/// Returns the number of a row that has one.
+pub fn one_number(words: &[&str]) -> Result<u64, RowFault> {
+    number(one_word(words)?)
+}
+
 /// Returns the number that a word spells.
 pub fn number(word: &str) -> Result<u64, RowFault> {
     word.parse::<u64>().map_err(|_| RowFault::Bad)

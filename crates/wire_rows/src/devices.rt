@@ -36,17 +36,25 @@ fn sink(alloc: Global, room: usize, device: Device) -> Result<Outbound<MemSink>,
     Ok(Outbound::new(alloc, sink)?)
 }
 
-/// Returns what comes of a source, up to the end that is told twice.
-pub fn received(alloc: Global, device: Device, bytes: &[u8]) -> Result<Vec<u8>, RowFault> {
+/// Prints what comes of a source, up to the end that is told twice.
+pub fn put_received(
+    alloc: Global,
+    said: &mut Vec<u8>,
+    device: Device,
+    bytes: &[u8],
+) -> Result<(), RowFault> {
     let mut inbound = source(alloc, device, bytes)?;
-    let mut said = Vec::new(alloc);
+    put_inflows(said, &mut inbound)
+}
+
+fn put_inflows(said: &mut Vec<u8>, inbound: &mut Inbound<MemSource>) -> Result<(), RowFault> {
     let mut ends = 0;
     for _ in 0..CALLS {
-        if ends < 2 && !put_inflow(&mut said, &next(&mut inbound)?)? {
+        if ends < 2 && !put_inflow(said, &next(inbound)?)? {
             ends += 1;
         }
     }
-    Ok(said)
+    Ok(())
 }
 
 // Prints what came, and returns whether it is a frame.
@@ -95,30 +103,41 @@ fn first_frame(alloc: Global, bytes: &[u8]) -> Result<Frame, RowFault> {
     }
 }
 
-/// Returns what a sink of that room takes of the frame of the bytes.
-pub fn sent(alloc: Global, room: usize, device: Device, bytes: &[u8]) -> Result<Vec<u8>, RowFault> {
+/// Prints what a sink of that room takes of the frame of the bytes.
+pub fn put_sent(
+    alloc: Global,
+    said: &mut Vec<u8>,
+    room: usize,
+    device: Device,
+    bytes: &[u8],
+) -> Result<(), RowFault> {
     let frame = first_frame(alloc, bytes)?;
-    let mut outbound = sink(alloc, room, device)?;
-    let mut said = Vec::new(alloc);
-    match send(&mut outbound, &frame)? {
+    put_taken(alloc, said, &frame, sink(alloc, room, device)?)
+}
+
+fn put_taken(
+    alloc: Global,
+    said: &mut Vec<u8>,
+    frame: &Frame,
+    outbound: Outbound<MemSink>,
+) -> Result<(), RowFault> {
+    let mut outbound = outbound;
+    match send(&mut outbound, frame)? {
         Ok(()) => writeln!(said, "sent")?,
         Err(failed) => writeln!(said, "{failed}")?,
     }
-    let taken = hex::encode(alloc, outbound.sink().bytes())?;
-    writeln!(said, "{taken}")?;
-    Ok(said)
+    writeln!(said, "{}", hex::encode(alloc, outbound.sink().bytes())?)?;
+    Ok(())
 }
 
-/// Returns how many beginnings of the bytes, none of which has a frame, end inside one.
-pub fn cut(alloc: Global, bytes: &[u8]) -> Result<Vec<u8>, RowFault> {
-    let mut said = Vec::new(alloc);
+/// Prints how many beginnings of the bytes, none of which has a frame, end inside one.
+pub fn put_cut(alloc: Global, said: &mut Vec<u8>, bytes: &[u8]) -> Result<(), RowFault> {
     let mut inside: usize = 0;
     for length in 0..bytes.len() {
-        let mut inbound = source(alloc, Device { step: 7, fail: 0 }, &bytes[..length])?;
-        match next(&mut inbound)? {
-            Inflow::Closed { inside: true } => inside = inside.saturating_add(1),
-            Inflow::Closed { inside: false } => {}
-            _ => writeln!(said, "not the end after {length} bytes")?,
+        match end_of(alloc, &bytes[..length])? {
+            Some(true) => inside = inside.saturating_add(1),
+            Some(false) => {}
+            None => writeln!(said, "not the end after {length} bytes")?,
         }
     }
     writeln!(
@@ -126,37 +145,55 @@ pub fn cut(alloc: Global, bytes: &[u8]) -> Result<Vec<u8>, RowFault> {
         "{inside} of {} beginnings end inside a frame",
         bytes.len()
     )?;
-    Ok(said)
+    Ok(())
 }
 
-/// Returns how many of the first calls of a source that gives a byte a call, and of a sink that takes
-/// one, lose the frame of the bytes if they fail. What a device gave or took before is told right.
-pub fn failed(alloc: Global, bytes: &[u8]) -> Result<Vec<u8>, RowFault> {
+// Whether the bytes end inside a frame, if their end comes first.
+fn end_of(alloc: Global, bytes: &[u8]) -> Result<Option<bool>, RowFault> {
+    let mut inbound = source(alloc, Device { step: 7, fail: 0 }, bytes)?;
+    match next(&mut inbound)? {
+        Inflow::Closed { inside } => Ok(Some(inside)),
+        _ => Ok(None),
+    }
+}
+
+/// Prints how many of the first calls of a source that gives a byte a call, and of a sink that takes one, lose
+/// the frame of the bytes if they fail. What a device gave or took before is told right.
+pub fn put_failed(alloc: Global, said: &mut Vec<u8>, bytes: &[u8]) -> Result<(), RowFault> {
     let frame = first_frame(alloc, bytes)?;
-    let mut said = Vec::new(alloc);
+    put_losses(alloc, said, &frame, bytes)
+}
+
+fn put_losses(
+    alloc: Global,
+    said: &mut Vec<u8>,
+    frame: &Frame,
+    bytes: &[u8],
+) -> Result<(), RowFault> {
     let mut reads: usize = 0;
     let mut writes: usize = 0;
-    for fail in 0..bytes.len() as u64 {
-        let device = Device {
-            step: 1,
-            fail: fail.saturating_add(1),
-        };
-        if is_lost(alloc, device, bytes)? {
+    for calls in 0..bytes.len() as u64 {
+        if is_lost(alloc, failing_after(calls), bytes)? {
             reads = reads.saturating_add(1);
         }
-        if is_cut(alloc, device, &frame, bytes)? {
+        if is_cut(alloc, failing_after(calls), frame, bytes)? {
             writes = writes.saturating_add(1);
         }
     }
-    let last = Device {
-        step: 1,
-        fail: (bytes.len() as u64).saturating_add(1),
-    };
-    if is_lost(alloc, last, bytes)? || is_cut(alloc, last, &frame, bytes)? {
+    let last = failing_after(bytes.len() as u64);
+    if is_lost(alloc, last, bytes)? || is_cut(alloc, last, frame, bytes)? {
         writeln!(said, "and one call more")?;
     }
     writeln!(said, "{reads} reads and {writes} writes")?;
-    Ok(said)
+    Ok(())
+}
+
+// A device of a byte a call, whose next call after these fails.
+fn failing_after(calls: u64) -> Device {
+    Device {
+        step: 1,
+        fail: calls.saturating_add(1),
+    }
 }
 
 // Whether the frame does not come of a source that fails so. Its failure is told for good.

@@ -15,11 +15,10 @@
 //! printed after `bad row: `.
 #![tactic(auto)]
 
-use row::{Row, row_of};
-use std::alloc::Global;
+use row::Frames;
 use std::io;
-use std::io::{BufRead, BufReader, BufWriter, Write};
-use test_rows::{RowFault, put_answer};
+use std::io::{BufReader, BufWriter};
+use test_rows::play_rows;
 
 mod devices;
 mod fault;
@@ -29,23 +28,7 @@ mod row;
 
 fn main(rt: HostRuntime) -> io::Result<()> {
     let alloc = rt.alloc();
-    let mut out = BufWriter::new(alloc, io::writer(&rt))?;
-    for text in BufReader::new(alloc, rt.reader())?.lines(alloc) {
-        let text = text?;
-        put_answer(&mut out, &text, play(alloc, &text))?;
-    }
-    out.flush()
-}
-
-// What a row comes to, beside itself.
-fn play(alloc: Global, text: &str) -> Result<Vec<u8>, RowFault> {
-    match row_of(alloc, text)? {
-        Row::Heading => Ok(Vec::new(alloc)),
-        Row::Read(bytes) => reading::said_of(alloc, &bytes),
-        Row::Receive(device, bytes) => devices::received(alloc, device, &bytes),
-        Row::Send(room, device, bytes) => devices::sent(alloc, room, device, &bytes),
-        Row::Cut(bytes) => devices::cut(alloc, &bytes),
-        Row::Fail(bytes) => devices::failed(alloc, &bytes),
-        Row::Make(parts) => making::made(alloc, parts),
-    }
+    let input = BufReader::new(alloc, rt.reader())?;
+    let out = BufWriter::new(alloc, io::writer(&rt))?;
+    play_rows(alloc, Frames { alloc }, input, out)
 }

@@ -72,21 +72,27 @@ pub enum Parts {
     Lookup(usize),
 }
 
-/// Makes a frame of its parts, and returns how long its body is, and whether it has bytes.
-pub fn made(alloc: Global, parts: Parts) -> Result<Vec<u8>, RowFault> {
-    let mut said = Vec::new(alloc);
+/// Makes a frame of its parts, and prints how long its body is, and whether it has bytes.
+pub fn put_made(alloc: Global, said: &mut Vec<u8>, parts: Parts) -> Result<(), RowFault> {
     match frame_of(alloc, parts)? {
-        Ok(frame) => {
-            writeln!(said, "a body of {} bytes", frame.body_len())?;
-            match encode(alloc, &frame) {
-                Ok(bytes) => writeln!(said, "{} bytes", bytes.len())?,
-                Err(WireError::Fault(fault)) => writeln!(said, "{} {fault}", fault.number())?,
-                Err(WireError::Memory) => return Err(RowFault::Memory),
-            }
-        }
-        Err(fault) => writeln!(said, "{} {fault}", fault.number())?,
+        Ok(frame) => put_bytes(alloc, said, &frame),
+        Err(fault) => put_fault(said, fault),
     }
-    Ok(said)
+}
+
+fn put_bytes(alloc: Global, said: &mut Vec<u8>, frame: &Frame) -> Result<(), RowFault> {
+    writeln!(said, "a body of {} bytes", frame.body_len())?;
+    match encode(alloc, frame) {
+        Ok(bytes) => writeln!(said, "{} bytes", bytes.len())?,
+        Err(WireError::Fault(fault)) => put_fault(said, fault)?,
+        Err(WireError::Memory) => return Err(RowFault::Memory),
+    }
+    Ok(())
+}
+
+fn put_fault(said: &mut Vec<u8>, fault: WireFault) -> Result<(), RowFault> {
+    writeln!(said, "{} {fault}", fault.number())?;
+    Ok(())
 }
 
 // The frame that the constructor of its kind makes of the parts.

@@ -1,9 +1,10 @@
 //! The rows of the input.
 
 use super::making::{Parts, ints};
+use super::{devices, making, reading};
 use net_frames::Value;
 use std::alloc::Global;
-use test_rows::RowFault;
+use test_rows::{RowFault, Stage, index, number, one_word, words_of};
 
 /// How a device in memory gives or takes bytes: at most `step` a call, and failing at call `fail`, if
 /// that is not 0.
@@ -13,56 +14,66 @@ pub struct Device {
     pub fail: u64,
 }
 
-/// A row of the input.
+/// The answers to rows, none of which keeps anything.
 #[derive(Drop)]
-pub enum Row {
-    Heading,
-    Read(Vec<u8>),
-    Receive(Device, Vec<u8>),
-    /// The room of the sink stands first.
-    Send(usize, Device, Vec<u8>),
-    Cut(Vec<u8>),
-    Fail(Vec<u8>),
-    Make(Parts),
+pub struct Frames {
+    pub alloc: Global,
 }
 
-/// Returns what a row asks for.
-pub fn row_of(alloc: Global, text: &str) -> Result<Row, RowFault> {
-    if text.is_empty() || text.starts_with('#') {
-        return Ok(Row::Heading);
-    }
-    let words: Vec<&str> = text.split(' ').collect(alloc)?;
-    match words.as_slice() {
-        ["read", bytes @ ..] => Ok(Row::Read(bytes_of(alloc, bytes)?)),
-        ["receive", step, fail, bytes @ ..] => {
-            let device = device_of(step, fail)?;
-            Ok(Row::Receive(device, bytes_of(alloc, bytes)?))
+impl Stage for Frames {
+    fn play(&mut self, said: &mut Vec<u8>, kind: &str, text: &str) -> Result<(), RowFault> {
+        let words = words_of(self.alloc, text)?;
+        match kind {
+            "read" => reading::put_read(self.alloc, said, &bytes_of(self.alloc, &words)?),
+            "cut" => devices::put_cut(self.alloc, said, &bytes_of(self.alloc, &words)?),
+            "fail" => devices::put_failed(self.alloc, said, &bytes_of(self.alloc, &words)?),
+            "receive" => receive(self.alloc, said, &words),
+            "send" => send(self.alloc, said, &words),
+            "make" => making::put_made(self.alloc, said, parts_of(self.alloc, &words)?),
+            _ => Err(RowFault::Bad),
         }
-        ["send", room, step, fail, bytes @ ..] => {
-            let device = device_of(step, fail)?;
-            Ok(Row::Send(number(room)?, device, bytes_of(alloc, bytes)?))
-        }
-        ["cut", bytes @ ..] => Ok(Row::Cut(bytes_of(alloc, bytes)?)),
-        ["fail", bytes @ ..] => Ok(Row::Fail(bytes_of(alloc, bytes)?)),
-        ["make", parts @ ..] => Ok(Row::Make(parts_of(alloc, parts)?)),
-        _ => Err(RowFault::Bad),
     }
+}
+
+fn receive(alloc: Global, said: &mut Vec<u8>, words: &[&str]) -> Result<(), RowFault> {
+    let [step, fail, bytes @ ..] = words else {
+        return Err(RowFault::Bad);
+    };
+    let device = device_of(step, fail)?;
+    devices::put_received(alloc, said, device, &bytes_of(alloc, bytes)?)
+}
+
+fn send(alloc: Global, said: &mut Vec<u8>, words: &[&str]) -> Result<(), RowFault> {
+    let [room, step, fail, bytes @ ..] = words else {
+        return Err(RowFault::Bad);
+    };
+    let device = device_of(step, fail)?;
+    let bytes = bytes_of(alloc, bytes)?;
+    devices::put_sent(alloc, said, index(room)?, device, &bytes)
 }
 
 // The parts of a frame.
 fn parts_of(alloc: Global, words: &[&str]) -> Result<Parts, RowFault> {
-    match words {
-        ["hello", version] => match version.parse::<u8>() {
-            Ok(version) => Ok(Parts::Hello(version)),
-            Err(_) => Err(RowFault::Bad),
-        },
-        ["call", arguments @ ..] => Ok(Parts::Call(arguments_of(alloc, arguments)?)),
-        ["returned", length] => Ok(Parts::Returned(number(length)?)),
-        ["dirty", count] => Ok(Parts::Dirty(number(count)?)),
-        ["clean", count] => Ok(Parts::Clean(number(count)?)),
-        ["lookup", length] => Ok(Parts::Lookup(number(length)?)),
+    let [kind, words @ ..] = words else {
+        return Err(RowFault::Bad);
+    };
+    match *kind {
+        "hello" => Ok(Parts::Hello(version_of(words)?)),
+        "call" => Ok(Parts::Call(arguments_of(alloc, words)?)),
+        "returned" => Ok(Parts::Returned(one_index(words)?)),
+        "dirty" => Ok(Parts::Dirty(one_index(words)?)),
+        "clean" => Ok(Parts::Clean(one_index(words)?)),
+        "lookup" => Ok(Parts::Lookup(one_index(words)?)),
         _ => Err(RowFault::Bad),
     }
+}
+
+fn version_of(words: &[&str]) -> Result<u8, RowFault> {
+    one_word(words)?.parse::<u8>().map_err(|_| RowFault::Bad)
+}
+
+fn one_index(words: &[&str]) -> Result<usize, RowFault> {
+    index(one_word(words)?)
 }
 
 // Arguments of a call: `null`, or the length of an array.
@@ -71,7 +82,7 @@ fn arguments_of(alloc: Global, words: &[&str]) -> Result<Vec<Value>, RowFault> {
     for word in words {
         let value = match *word {
             "null" => Value::Null,
-            length => ints(alloc, number(length)?)?,
+            length => ints(alloc, index(length)?)?,
         };
         values.push(value)?;
     }
@@ -79,29 +90,27 @@ fn arguments_of(alloc: Global, words: &[&str]) -> Result<Vec<Value>, RowFault> {
 }
 
 fn device_of(step: &str, fail: &str) -> Result<Device, RowFault> {
-    let fail = fail.parse::<u64>().map_err(|_| RowFault::Bad)?;
     Ok(Device {
-        step: number(step)?,
-        fail,
+        step: index(step)?,
+        fail: number(fail)?,
     })
-}
-
-fn number(word: &str) -> Result<usize, RowFault> {
-    word.parse::<usize>().map_err(|_| RowFault::Bad)
 }
 
 // The bytes of the words, one after another.
 fn bytes_of(alloc: Global, words: &[&str]) -> Result<Vec<u8>, RowFault> {
     let mut bytes = Vec::new(alloc);
     for word in words {
-        let (times, digits) = match word.split_once('*') {
-            Some((times, digits)) => (number(times)?, digits),
-            None => (1, *word),
-        };
-        let part = hex::decode(alloc, digits).map_err(|_| RowFault::Bad)?;
-        for _ in 0..times {
-            bytes.extend_from_slice(&part)?;
-        }
+        add_word(alloc, &mut bytes, word)?;
     }
     Ok(bytes)
+}
+
+// Adds the bytes of a word, as often as it says.
+fn add_word(alloc: Global, bytes: &mut Vec<u8>, word: &str) -> Result<(), RowFault> {
+    let (times, digits) = word.split_once('*').unwrap_or(("1", word));
+    let part = hex::decode(alloc, digits).map_err(|_| RowFault::Bad)?;
+    for _ in 0..index(times)? {
+        bytes.extend_from_slice(&part)?;
+    }
+    Ok(())
 }
