@@ -101,8 +101,7 @@ fn play_line(
 ) -> Result<(), AllocError> {
     let mut said = say(alloc, is_remote, line)?;
     if said.is(WANT.0, WANT.1) {
-        tally.want();
-        said = say(alloc, is_remote, line)?;
+        tally.replace(&mut said, say(alloc, is_remote, line)?);
     }
     tally.answer(said.is(0, text));
     Ok(())
@@ -120,15 +119,70 @@ fn play_lines(alloc: Global, tally: &mut Tally) -> Result<(), AllocError> {
 
 type Answer = Result<RunOutcome, Refusal>;
 
-fn run(alloc: Global, file: &[u8], method: &[u8], argument: i32) -> Result<Answer, AllocError> {
+// A run of the class: whole, cut, and by a name that it has not.
+#[derive(Clone, Copy)]
+enum Run {
+    Whole,
+    Cut,
+    Absent,
+}
+
+impl Run {
+    fn bytes(&self) -> &'static [u8] {
+        match self {
+            Run::Cut => &SUM[..143],
+            _ => SUM,
+        }
+    }
+
+    fn method(&self) -> &'static [u8] {
+        match self {
+            Run::Absent => b"g(I)I",
+            _ => b"f(I)I",
+        }
+    }
+
+    // Whether the run owes this answer.
+    fn owes(&self, answer: &Answer) -> bool {
+        match self {
+            Run::Whole => matches!(answer, Ok(RunOutcome::Returned(Some(Value::Int(5050))))),
+            Run::Cut => matches!(
+                answer,
+                Err(Refusal::File {
+                    index: 0,
+                    fault: LoadFault::Read(ReadFault::Broken { at: 142, .. })
+                })
+            ),
+            Run::Absent => matches!(answer, Err(Refusal::Start(StartFault::AbsentMethod))),
+        }
+    }
+
+    fn answer(&self, alloc: Global, files: &[ClassBytes], arguments: Vec<Value>) -> Answer {
+        run_classes(
+            alloc,
+            files,
+            b"T",
+            self.method(),
+            arguments,
+            Limits::default(),
+        )
+    }
+}
+
+fn files_of(alloc: Global, bytes: &[u8]) -> Result<Vec<ClassBytes>, AllocError> {
+    let content = Content::Bytes(bytes.to_vec(alloc)?);
     let mut files = Vec::new(alloc);
     files.push(ClassBytes {
         path: String::new(alloc),
-        content: Content::Bytes(file.to_vec(alloc)?),
+        content,
     })?;
+    Ok(files)
+}
+
+fn arguments(alloc: Global) -> Result<Vec<Value>, AllocError> {
     let mut arguments = Vec::new(alloc);
-    arguments.push(Value::Int(argument))?;
-    Ok(run_classes(alloc, &files, b"T", method, arguments, Limits::default()))
+    arguments.push(Value::Int(100))?;
+    Ok(arguments)
 }
 
 fn is_want(answer: &Answer) -> bool {
@@ -148,35 +202,23 @@ fn is_want(answer: &Answer) -> bool {
     }
 }
 
-fn run_again(
-    alloc: Global,
-    file: &[u8],
-    method: &[u8],
-    argument: i32,
-    tally: &mut Tally,
-) -> Result<Answer, AllocError> {
-    let answer = run(alloc, file, method, argument)?;
+fn play_run(alloc: Global, run: Run, tally: &mut Tally) -> Result<(), AllocError> {
+    let files = files_of(alloc, run.bytes())?;
+    let first = arguments(alloc)?;
+    let second = arguments(alloc)?;
+    let mut answer = run.answer(alloc, &files, first);
     if is_want(&answer) {
-        tally.want();
-        return run(alloc, file, method, argument);
+        tally.replace(&mut answer, run.answer(alloc, &files, second));
     }
-    Ok(answer)
+    tally.answer(run.owes(&answer));
+    Ok(())
 }
 
 /// Gives lines to the program, and runs the class whole, cut, and by a name that it has not.
 pub fn play(alloc: Global, tally: &mut Tally) -> Result<(), AllocError> {
     play_lines(alloc, tally)?;
-    let answer = run_again(alloc, SUM, b"f(I)I", 100, tally)?;
-    tally.answer(matches!(answer, Ok(RunOutcome::Returned(Some(Value::Int(5050))))));
-    let answer = run_again(alloc, &SUM[..143], b"f(I)I", 100, tally)?;
-    tally.answer(matches!(
-        answer,
-        Err(Refusal::File {
-            index: 0,
-            fault: LoadFault::Read(ReadFault::Broken { at: 142, .. })
-        })
-    ));
-    let answer = run_again(alloc, SUM, b"g(I)I", 100, tally)?;
-    tally.answer(matches!(answer, Err(Refusal::Start(StartFault::AbsentMethod))));
+    for run in [Run::Whole, Run::Cut, Run::Absent] {
+        play_run(alloc, run, tally)?;
+    }
     Ok(())
 }

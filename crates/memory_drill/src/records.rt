@@ -1,7 +1,7 @@
 //! Names, reference lists and leases.
 
 use super::Tally;
-use dgc_client::{Clients, Due, ForeignId};
+use dgc_client::{Clients, Due, ForeignId, Group};
 use dgc_list::RefList;
 use sp_registry::{BindFault, Registry};
 use space_ids::ObjId;
@@ -12,23 +12,20 @@ use uuid::Uuid;
 fn names(alloc: Global, tally: &mut Tally) -> Result<(), AllocError> {
     let mut made = Registry::new(alloc);
     if made.is_err() {
-        tally.want();
-        made = Registry::new(alloc);
+        tally.replace(&mut made, Registry::new(alloc));
     }
     let mut names = made?;
     for (name, object) in [(b"a", 1), (b"b", 2)] {
         let mut answer = names.bind(name, Some(ObjId(object)));
         if answer == Err(BindFault::Memory) {
-            tally.want();
-            answer = names.bind(name, Some(ObjId(object)));
+            tally.replace(&mut answer, names.bind(name, Some(ObjId(object))));
         }
         tally.answer(answer == Ok(()));
     }
     for (name, object) in [(b"b", 3), (b"c", 4)] {
         let mut answer = names.rebind(name, Some(ObjId(object)));
         if answer == Err(BindFault::Memory) {
-            tally.want();
-            answer = names.rebind(name, Some(ObjId(object)));
+            tally.replace(&mut answer, names.rebind(name, Some(ObjId(object))));
         }
         tally.answer(answer == Ok(()));
     }
@@ -49,8 +46,7 @@ fn lists(alloc: Global, tally: &mut Tally) {
     for client in [first, second] {
         let mut answer = list.dirty(&client, &OBJECTS, 1, 100);
         if answer.is_err() {
-            tally.want();
-            answer = list.dirty(&client, &OBJECTS, 1, 100);
+            tally.replace(&mut answer, list.dirty(&client, &OBJECTS, 1, 100));
         }
         tally.answer(answer == Ok(100));
     }
@@ -58,16 +54,14 @@ fn lists(alloc: Global, tally: &mut Tally) {
     for object in [ObjId(1), ObjId(3)] {
         let mut answer = list.clean(&first, &[object], 2, true);
         if answer.is_err() {
-            tally.want();
-            answer = list.clean(&first, &[object], 2, true);
+            tally.replace(&mut answer, list.clean(&first, &[object], 2, true));
         }
         tally.answer(answer.is_ok());
     }
     for (object, owed) in [(1, [second].as_slice()), (2, &[first, second]), (3, &[])] {
         let mut answer = list.clients_of(alloc, ObjId(object));
         if answer.is_err() {
-            tally.want();
-            answer = list.clients_of(alloc, ObjId(object));
+            tally.replace(&mut answer, list.clients_of(alloc, ObjId(object)));
         }
         let is_right = match answer {
             Ok(clients) => clients.as_slice() == owed,
@@ -87,20 +81,22 @@ fn leases(alloc: Global, tally: &mut Tally) {
         };
         let mut answer = clients.hold(&reference);
         if answer.is_err() {
-            tally.want();
-            answer = clients.hold(&reference);
+            tally.replace(&mut answer, clients.hold(&reference));
         }
         tally.answer(answer.is_ok() && clients.lease(&reference).holders == 1);
     }
     let mut answer = clients.due(alloc);
     if answer.is_err() {
-        tally.want();
-        answer = clients.due(alloc);
+        tally.replace(&mut answer, clients.due(alloc));
     }
-    let Ok(groups) = answer else {
-        tally.answer(false);
-        return;
-    };
+    match answer {
+        Ok(groups) => compare_groups(&groups, tally),
+        Err(_) => tally.answer(false),
+    }
+}
+
+// The groups that are owed: one for each of the two spaces.
+fn compare_groups(groups: &[Group], tally: &mut Tally) {
     tally.answer(groups.len() == 2);
     for (group, (space, ids)) in groups
         .iter()

@@ -18,8 +18,9 @@ impl Tally {
         }
     }
 
-    /// Counts a call that was out of memory.
-    pub fn want(&mut self) {
+    /// Counts a call that was out of memory, and puts the answer of the same call, made again, in place of its own.
+    pub fn replace<T: Drop>(&mut self, answer: &mut T, again: T) {
         self.wants = self.wants.saturating_add(1);
+        *answer = again;
     }
 }

@@ -32,8 +32,7 @@ fn call(alloc: Global) -> Result<Frame, AllocError> {
 fn is_encoded(alloc: Global, frame: &Frame, bytes: &[u8], tally: &mut Tally) -> bool {
     let mut answer = encode(alloc, frame);
     if let Err(WireError::Memory) = answer {
-        tally.want();
-        answer = encode(alloc, frame);
+        tally.replace(&mut answer, encode(alloc, frame));
     }
     match answer {
         Ok(encoded) => encoded.as_slice() == bytes,
@@ -49,25 +48,43 @@ fn feed(alloc: Global, piece: usize, tally: &mut Tally)
     let mut owed = [CALL, ACK].into_iter();
     for bytes in [CALL, ACK] {
         for piece in bytes.chunks(piece) {
-            let mut answer = reader.feed(piece);
-            if let Err(WireError::Memory) = answer {
-                tally.want();
-                answer = reader.feed(piece);
-            }
-            let Ok(frames) = answer else {
-                tally.answer(false);
-                return;
-            };
-            for frame in &frames {
-                let is_right = match owed.next() {
-                    Some(bytes) => is_encoded(alloc, frame, bytes, tally),
-                    None => false,
-                };
-                tally.answer(is_right);
-            }
+            feed_piece(alloc, &mut reader, piece, &mut owed, tally);
         }
     }
     tally.answer(owed.next().is_none());
+}
+
+// Feeds a piece, and compares the frames that come with the bytes that are owed next.
+fn feed_piece<I: Iterator<Item = &'static [u8]>>(
+    alloc: Global,
+    reader: &mut FrameReader,
+    piece: &[u8],
+    owed: &mut I,
+    tally: &mut Tally,
+) {
+    let mut answer = reader.feed(piece);
+    if let Err(WireError::Memory) = answer {
+        tally.replace(&mut answer, reader.feed(piece));
+    }
+    match answer {
+        Ok(frames) => compare_frames(alloc, &frames, owed, tally),
+        Err(_) => tally.answer(false),
+    }
+}
+
+fn compare_frames<I: Iterator<Item = &'static [u8]>>(
+    alloc: Global,
+    frames: &[Frame],
+    owed: &mut I,
+    tally: &mut Tally,
+) {
+    for frame in frames {
+        let is_right = match owed.next() {
+            Some(bytes) => is_encoded(alloc, frame, bytes, tally),
+            None => false,
+        };
+        tally.answer(is_right);
+    }
 }
 
 // Receives the two frames and then the end from a source that gives `step` bytes at a time.
@@ -80,8 +97,7 @@ fn receive(alloc: Global, step: usize, tally: &mut Tally) -> Result<(), AllocErr
     for owed in [CALL, ACK] {
         let mut answer = inbound.next();
         if answer.is_err() {
-            tally.want();
-            answer = inbound.next();
+            tally.replace(&mut answer, inbound.next());
         }
         let is_right = match answer {
             Ok(Inflow::Frame(frame)) => is_encoded(alloc, &frame, owed, tally),

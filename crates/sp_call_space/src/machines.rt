@@ -57,7 +57,7 @@ impl<'p> Machines<'p> {
         ensures { (other : ℕ) → machine_at other self.new ≡ (if id == other then Some player.entry else machine_at other self.old) }
     {
         match self.rows.insert(id, player) {
-            Ok(_) => {}
+            Ok(none) => drop(none),
             Err(_) => unreachable!(),
         }
     }
@@ -66,7 +66,7 @@ impl<'p> Machines<'p> {
     pub(crate) fn remove(&mut self, id: u64)
         ensures { (other : ℕ) → machine_at other self.new ≡ (if id == other then None else machine_at other self.old) }
     {
-        let _ = self.rows.swap_remove(&id);
+        drop(self.rows.swap_remove(&id));
     }
 
     /// Gives the machine of a task that does not wait the reply for which it stands, if the record has one more

@@ -82,8 +82,8 @@ impl<'p> Space<'p> {
             fuel: record.fuel(),
             ..self.limits
         };
-        let player = Player::new(self.alloc, self.program, self.id, record, limits)?;
         self.machines.reserve()?;
+        let player = Player::new(self.alloc, self.program, self.id, record, limits)?;
         self.machines.insert_reserved(id, player);
         Ok(())
     }

@@ -1,6 +1,6 @@
 //! What lives in a space, and what is seen of it.
 
-ghost use Rattle.std.specs.Prelude.{◌≡◌, [], IfOk, map};
+ghost use Rattle.std.specs.Prelude.{◌≡◌, [], IfOk, Ok, map};
 ghost use Rattle.sp_call_results.specs.Held.{AreCallResults, of_roots};
 ghost use Rattle.sp_rules.specs.Classes.{Setting};
 ghost use Rattle.sp_rules.specs.State.{State, opening};
@@ -58,15 +58,21 @@ impl Living {
     pub fn copy(&self) -> Result<Living, AllocError>
         ensures copied { IfOk result (λ copy. (g : Setting) (s : State) → IsLiving g s self.now → s.fresh ≡ [] → s.notes ≡ [] → IsLiving g s copy) }
     {
+        let ended = both(self.results.copy(), self.call_results.copy());
+        let carried = both(self.parked.copy(), self.transport.copy());
+        let (tasks, ((results, call_results), (parked, transport))) = both(
+            self.tasks.copy(),
+            both(ended, carried),
+        )?;
         Ok(Living {
             alloc: self.alloc,
             id: self.id,
             moment: self.moment,
-            tasks: self.tasks.copy()?,
-            results: self.results.copy()?,
-            call_results: self.call_results.copy()?,
-            parked: self.parked.copy()?,
-            transport: self.transport.copy()?,
+            tasks,
+            results,
+            call_results,
+            parked,
+            transport,
         })
     }
 
@@ -119,4 +125,14 @@ impl Living {
     {
         &self.parked
     }
+}
+
+// Returns both, unless memory ran out for one. What is there beside it is let go here, for any two types at once.
+fn both<T: Drop, U: Drop>(
+    one: Result<T, AllocError>,
+    other: Result<U, AllocError>,
+) -> Result<(T, U), AllocError>
+    ensures { IfOk result (λ pair. (one ≡ Ok pair.0) × (other ≡ Ok pair.1)) }
+{
+    Ok((one?, other?))
 }

@@ -120,11 +120,25 @@ fn sim_report<F: Folder>(
         Err(fault) => return folder_report(alloc, fault),
     };
     match program_of(alloc, &files) {
-        Ok(program) => {
-            let digest = class_digest(alloc, &files)?;
-            script_report(alloc, &program, digest, request.script, folder)
-        }
+        Ok(program) => program_report(alloc, program, &files, request.script, folder),
         Err(refusal) => refusal_report(alloc, &files, &refusal),
+    }
+}
+
+// What the script at a path comes to, over spaces of the program that these files make. The program is let go here,
+// and on one way out.
+fn program_report<F: Folder>(
+    alloc: Global,
+    program: Program,
+    files: &[ClassBytes],
+    path: &str,
+    folder: &F,
+) -> Result<Report, AllocError>
+    ensures { IfOk result (λ report. IsPlayed path.now report.status report.text.items) }
+{
+    match class_digest(alloc, files) {
+        Ok(digest) => script_report(alloc, &program, digest, path, folder),
+        Err(AllocError) => Err(AllocError),
     }
 }
 

@@ -3,7 +3,7 @@
 ghost use Rattle.std.specs.Prelude.{◌≡◌, ℕ, List, map, string_bytes, codes, Option, IfOk, MatchOption, MatchResult};
 ghost use Rattle.std.specs.List.{AllZip};
 ghost use Rattle.clap.specs.Matches.{found_of};
-ghost use Rattle.clap.specs.Simple.{app_of, subcommand_rows_of};
+ghost use Rattle.clap.specs.Simple.{App, Shape, app_of, subcommand_rows_of, with_subcommand};
 ghost use Rattle.clap.specs.Values.{kind_of};
 ghost use Rattle.clap.specs.Walk.{first_of, rows_of};
 ghost use Rattle.space_ids.specs.declared.value.Value.{Value};
@@ -200,15 +200,25 @@ Exit status:
 fn whole_command<'a>(alloc: Global) -> Result<Command<'a>, AllocError>
     ensures { IfOk result (λ command. app_of command ≡ program) }
 {
-    Command::new(alloc, "rmispace")
+    let command = Command::new(alloc, "rmispace")
         .version("0.1.0")
         .about("Checks Java class files, and runs their methods under fuel, alone or in a space")
         .after_help(AFTER_HELP)
         .subcommand_required(true)
-        .disable_help_subcommand(true)
-        .subcommand(run_command(alloc)?)?
-        .subcommand(check_command(alloc)?)?
-        .subcommand(sim_command(alloc)?)
+        .disable_help_subcommand(true);
+    let with_run = add(Ok(command), run_command(alloc));
+    let with_check = add(with_run, check_command(alloc));
+    add(with_check, sim_command(alloc))
+}
+
+// Adds a subcommand to a command, unless memory ran out for one of them. The other is let go here alone.
+fn add<'a>(
+    command: Result<Command<'a>, AllocError>,
+    added: Result<Command<'a>, AllocError>,
+) -> Result<Command<'a>, AllocError>
+    ensures { (app : App) (shape : Shape) → IfOk command.entry (λ old. app_of old ≡ app) → IfOk added.entry (IsCommand shape) → IfOk result (λ new. app_of new ≡ with_subcommand app shape) }
+{
+    command?.subcommand(added?)
 }
 
 fn check_command<'a>(alloc: Global) -> Result<Command<'a>, AllocError>

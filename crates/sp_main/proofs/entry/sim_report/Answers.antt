@@ -16,7 +16,7 @@ pub returns-in-Ok-program_of : goal.returns-in-Ok-program_of
 returns-in-Ok-program_of g c =
     played_simulated (told_by (g.F.Folder.lists c.args.folder.now) (g.F.Folder.gives c.args.folder.now)) (sim_words c.args.request.now) _ c.in-Ok.files.items
     (IfOk-at_ok (λ files. AreFilesOf (told_by (g.F.Folder.lists c.args.folder.now) (g.F.Folder.gives c.args.folder.now)) c.args.request.now.folder.now files.items) c.in-Ok.is c.in_ok-files.ensures)
-    (c.deref.ensures).value _ c.script_report.result (c.in-Ok-program_of.ensures).program c.script_report.ensures
+    (c.deref.ensures).value _ c.program_report.result (c.in-Ok-program_of.ensures).program c.program_report.ensures
 
 pub refusal_report-requires : goal.refusal_report-requires
 refusal_report-requires g c = record {

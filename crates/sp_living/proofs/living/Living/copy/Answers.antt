@@ -1,7 +1,8 @@
 use Rattle.std.proofs.Common.{ℕ, List, Option, sym, ap, subst, map, ◌∙◌}
+use Rattle.std.proofs.lemmas.Result.{IfOk-at_ok}
 use Rattle.space_ids.specs.declared.value.Value.{Value}
 use Rattle.sp_rules.specs.Laws.{AllOf}
-use Rattle.sp_tasks.specs.Rows.{TaskRow, TaskTable}
+use Rattle.sp_tasks.specs.Rows.{TaskTable}
 use Rattle.sp_living.specs.Parts.{IsIdle}
 use Rattle.sp_living.specs.Views.{kept, seen_row}
 use Rattle.sp_living.proofs.living.Living.copy.Goals as goal
@@ -9,10 +10,14 @@ use Rattle.sp_living.proofs.living.Living.copy.Goals as goal
 pub returns : goal.returns
 returns c = record {
   copied = λ g s is fresh notes.
-      let tasks = c.in_ok-copy.ensures.copied in record {
+      let all = c.in_ok-tasks.ensures in
+      let rest = IfOk-at_ok _ all.1 c.both.ensures in
+      let ended = IfOk-at_ok _ rest.0 c.both-ended.ensures in
+      let carried = IfOk-at_ok _ rest.1 c.both-carried.ensures in
+      let tasks = IfOk-at_ok _ all.0 c.copy-5.ensures.copied in record {
         id = is.id;
         moment = is.moment;
-        transport = c.in_ok-copy-5.ensures.copied s is.transport fresh notes;
+        transport = IfOk-at_ok _ carried.1 c.copy-4.ensures.copied s is.transport fresh notes;
         tasks = record {
           rows = ap (λ (t : TaskTable). map seen_row t.rows) tasks ∙ is.tasks.rows;
           last = ap (λ (t : TaskTable). t.made) tasks ∙ is.tasks.last;
@@ -21,13 +26,13 @@ returns c = record {
           idle = subst (λ (t : TaskTable). AllOf IsIdle t.rows) (sym tasks) is.tasks.idle;
         };
         results = record {
-          of_own = ap (λ (rows : List (ℕ × Option Value)). map kept rows) c.in_ok-copy-2.ensures.copied ∙ is.results.of_own;
-          of_calls = c.in_ok-copy-3.ensures.copied s.moment s.results is.results.of_calls;
+          of_own = ap (λ (rows : List (ℕ × Option Value)). map kept rows) (IfOk-at_ok _ ended.0 c.copy.ensures.copied) ∙ is.results.of_own;
+          of_calls = IfOk-at_ok _ ended.1 c.copy-2.ensures.copied s.moment s.results is.results.of_calls;
         };
         parked = record {
           frames = is.parked.frames;
           are = is.parked.are;
-          ticketed = c.in_ok-copy-4.ensures.copied is.parked.frames is.parked.ticketed;
+          ticketed = IfOk-at_ok _ carried.0 c.copy-3.ensures.copied is.parked.frames is.parked.ticketed;
           once = is.parked.once;
         };
       };
