@@ -2,8 +2,8 @@
 
 Of what rmispace accepts the JDK refuses no class, and a class that rmispace refuses by a rule of type checking (50 to
 68) the JDK refuses. What rmispace refuses by another rule is not compared: its profile is smaller than the JVM's, and
-the JVM resolves no name before code runs. Where the JDK takes what the standard or the profile refuses in one of the
-ways of KNOWN, that is counted apart: docs/DECISIONS.md says why. The status is 1 if there is any other difference.
+the JVM resolves no name before code runs. Where the two differ in one of the ways of KNOWN, that is counted apart:
+docs/DECISIONS.md says why. The status is 1 if there is any other difference.
 
 Words: the built program, the folder of the driver's classes, and a file with a line for each set: its folder, and the
 names of the classes that the JDK links.
@@ -18,14 +18,18 @@ import sys
 from altered_classes import Layout
 
 REFUSED = re.compile(r"refused ([^.]+)\.(\S+) at (\d+): (5[0-4]|6[0-8]) ")
-NEW, RETURN, ALOAD, WIDE = 0xBB, 0xB1, 0x19, 0xC4
+NEW, RETURN, PUTFIELD, ALOAD, WIDE = 0xBB, 0xB1, 0xB5, 0x19, 0xC4
 LOADS = {ALOAD, 0x2A, 0x2B, 0x2C, 0x2D}
 KNOWN = {
-    "kind": "a frame names a type out of the profile or the set",
-    "new": "a new with its older object on the stack",
-    "local": "an aload of the older object of a new",
-    "return": "a return with an uninitialized receiver, in no <init>",
+    "kind": "taken by the JDK: a frame names a type out of the profile or the set",
+    "new": "taken by the JDK: a new with its older object on the stack",
+    "local": "taken by the JDK: an aload of the older object of a new",
+    "return": "taken by the JDK: a return with an uninitialized receiver, in no <init>",
+    "put": "taken by the JDK: a putfield of an uninitialized receiver, in no <init>",
+    "own": "refused by the JDK: a putfield of an uninitialized receiver, whose field has the name of a subclass",
 }
+REFUSAL = re.compile(r"(?=java\.lang\.\w+Error: )")
+OWN_FIELD = re.compile(r".*putfield\n.*Type uninitializedThis \(current frame, stack\[\d+\]\) is not assignable to '", re.DOTALL)
 
 
 def answer_of(program, folder):
@@ -51,7 +55,16 @@ def known(folder, name, method, offset, number):
     opcode = opcode_at(folder, name, method, offset)
     if number == 67:
         return "local" if opcode in LOADS else None
-    return "new" if opcode == NEW else "return" if opcode == RETURN and not method.startswith("<init>") else None
+    if opcode == NEW:
+        return "new"
+    return None if method.startswith("<init>") else {RETURN: "return", PUTFIELD: "put"}.get(opcode)
+
+
+def is_of_own_field(driver, line):
+    """Whether the JDK refuses each class of a line that it refuses for such a putfield."""
+    why = subprocess.run(["java", "-cp", driver, "Verification", "--why"], input=line + "\n", capture_output=True, text=True, check=True)
+    refusals = [it for it in REFUSAL.split(why.stdout) if it.strip()]
+    return bool(refusals) and all(OWN_FIELD.match(it) for it in refusals)
 
 
 def verdict(folder, ours, refused):
@@ -77,12 +90,14 @@ def main(program, driver, asked):
         folder = line.split(" ")[0]
         ours = answer_of(program, folder)
         told = verdict(folder, ours, refused.split())
+        if told == "differ" and ours.startswith("accepted") and is_of_own_field(driver, line):
+            told = "own"
         counts[told] += 1
         if told == "differ":
             print(f"{ours}, refused by the JDK: {refused or 'none'}, {line}")
     for word, says in KNOWN.items():
         if counts[word]:
-            print(f"{counts[word]} taken by the JDK: {says}")
+            print(f"{counts[word]} {says}")
     print(
         f"{len(lines)} class sets, {counts['accepted']} accepted, {counts['typed']} refused by type checking, "
         f"{counts['others']} by other rules, {counts['differ']} differences"
