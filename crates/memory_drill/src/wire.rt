@@ -48,43 +48,29 @@ fn feed(alloc: Global, piece: usize, tally: &mut Tally)
     let mut owed = [CALL, ACK].into_iter();
     for bytes in [CALL, ACK] {
         for piece in bytes.chunks(piece) {
-            feed_piece(alloc, &mut reader, piece, &mut owed, tally);
+            let Ok(frames) = fed(&mut reader, piece, tally) else {
+                tally.answer(false);
+                return;
+            };
+            for frame in &frames {
+                let is_right = match owed.next() {
+                    Some(bytes) => is_encoded(alloc, frame, bytes, tally),
+                    None => false,
+                };
+                tally.answer(is_right);
+            }
         }
     }
     tally.answer(owed.next().is_none());
 }
 
-// Feeds a piece, and compares the frames that come with the bytes that are owed next.
-fn feed_piece<I: Iterator<Item = &'static [u8]>>(
-    alloc: Global,
-    reader: &mut FrameReader,
-    piece: &[u8],
-    owed: &mut I,
-    tally: &mut Tally,
-) {
+// Feeds a piece, once more if memory ran out.
+fn fed(reader: &mut FrameReader, piece: &[u8], tally: &mut Tally) -> Result<Vec<Frame>, WireError> {
     let mut answer = reader.feed(piece);
     if let Err(WireError::Memory) = answer {
         tally.replace(&mut answer, reader.feed(piece));
     }
-    match answer {
-        Ok(frames) => compare_frames(alloc, &frames, owed, tally),
-        Err(_) => tally.answer(false),
-    }
-}
-
-fn compare_frames<I: Iterator<Item = &'static [u8]>>(
-    alloc: Global,
-    frames: &[Frame],
-    owed: &mut I,
-    tally: &mut Tally,
-) {
-    for frame in frames {
-        let is_right = match owed.next() {
-            Some(bytes) => is_encoded(alloc, frame, bytes, tally),
-            None => false,
-        };
-        tally.answer(is_right);
-    }
+    answer
 }
 
 // Receives the two frames and then the end from a source that gives `step` bytes at a time.
