@@ -45,17 +45,6 @@ def sum_once():
     Base.below, Base.stamp = once_a_crate(Base.below), once_a_crate(Base.stamp)
 
 
-# What a check of one of our crates takes of memory at most on one processor, in bytes, and some more: `sp_main` took 3.6 GB when measured.
-MOST_MEMORY = 4_500_000_000
-
-
-def reckon_memory():
-    """Has rt reckon with no more memory for a check than ours take. Its own figure grows with all lines below a crate, up to 7 GB for ours, so
-    that it ran three of them on four processors."""
-    reckoned = rt.need
-    rt.need = lambda crate: min(reckoned(crate), MOST_MEMORY)
-
-
 def crates(root):
     """Returns the crates that crates.txt at the root lists, each after those that it stands on."""
     return sorted(rt.rtlib.crates_below(root), key=lambda it: len(it.below()))
