@@ -26,7 +26,7 @@ use Rattle.vm_act.specs.declared.asked.Reply.{Reply}
 use Rattle.vm_act.specs.declared.asked.Reply.TheVariants as reply
 use Rattle.vm_act.specs.declared.ending.Thrown.TheVariants as thrown
 use Rattle.vm_act.specs.declared.machine.Machine.{Machine}
-use Rattle.vm_rows.specs.Steps as insns
+use Rattle.vm_run.specs.Steps as insns
 use Rattle.vm_run.specs.Ends as ends
 use Rattle.vm_run.specs.Ends.{End, Threw, ThrewObject, end_of}
 use Rattle.vm_run.specs.Run.{State, Running, Waits, Over, Lost, after, answer, made, made_in, fuel_after, over, run, step, FitsFuel, IsDue, IsNeverStuck}

@@ -67,7 +67,9 @@ use Rattle.vm_code.specs.Ints.{binary, if_compare, if_zero, push_result, unary}
 use Rattle.vm_code.specs.Methods.{callee_of, chosen, init_begins_uninit, interface_selected, is_init, object_of, selected_of, special_start}
 use Rattle.vm_code.specs.Parameters.{parameters_of}
 use Rattle.vm_code.specs.Operators.{binary_result, condition_holds, unary_result}
-use Rattle.vm_rows.specs.Steps as insns
+use Rattle.vm_rows.specs.Steps as rows
+use Rattle.vm_run.specs.Steps as insns
+use Rattle.vm_run.specs.Steps.{crossing, gives_ints}
 use Rattle.sp_rules.specs.References.{is_reference_in, is_same_reference}
 use Rattle.sp_behaviours.specs.Follows.{HoldsAsked}
 
@@ -614,7 +616,14 @@ module _ (table : Table) where
   act-keeps links (insn.CheckCast type) = referents 0 (λ r. cast (passes links.classes type r)) (λ r. cast-keeps (passes links.classes type r))
   act-keeps links (insn.InstanceOf type) = referents 0 (λ r. answer (is_instance links.classes type r)) (λ r. answer-keeps (is_instance links.classes type r))
 
+crossing-stays : (table : Table) (ints : Bool) (n : Next) → Stays table n → Stays table (crossing ints n)
+crossing-stays table ints (On m) stays = stays
+crossing-stays table ints (Ends ending) stays = stays
+crossing-stays table ints (Asks op m) stays = stays
+crossing-stays table ints Stuck stays = stays
+
 -- an instruction leaves the references of its machine
 pub step-stays : (links : Links) (m : Machine) → Stays m.references (insns.step links m)
 step-stays links m =
-    some m.references (λ i. act links i m) (insns.insn_at links m.stack.frame.method m.stack.frame.index) (λ i. act-keeps m.references links i m refl)
+    crossing-stays m.references (gives_ints links.classes m.stack.frame.method) (rows.step links m)
+    (some m.references (λ i. act links i m) (rows.insn_at links m.stack.frame.method m.stack.frame.index) (λ i. act-keeps m.references links i m refl))

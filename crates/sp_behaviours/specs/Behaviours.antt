@@ -19,7 +19,7 @@ use Rattle.vm_act.specs.declared.asked.FieldValue.TheVariants as field
 use Rattle.vm_act.specs.declared.asked.Reply.{Reply}
 use Rattle.vm_act.specs.declared.asked.Reply.TheVariants as reply
 use Rattle.vm_act.specs.declared.machine.Machine.{Machine}
-use Rattle.vm_rows.specs.Steps.{step}
+use Rattle.vm_run.specs.Steps.{step}
 use Rattle.vm_run.specs.Ends.{End, end_of}
 use Rattle.vm_run.specs.Run.{State, Running, Waits, Over, Lost}
 use Rattle.vm_run.specs.Begin.{begun}

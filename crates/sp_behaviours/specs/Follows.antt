@@ -14,7 +14,7 @@ use Rattle.vm_act.specs.Next.{Next, On, Ends, Asks, Stuck}
 use Rattle.vm_act.specs.declared.asked.Asked.{Asked}
 use Rattle.vm_act.specs.declared.asked.Asked.TheVariants as asked
 use Rattle.vm_heap.specs.References.{Table}
-use Rattle.vm_rows.specs.Steps as insns
+use Rattle.vm_run.specs.Steps as insns
 use Rattle.vm_run.specs.Run.{State, Running, Waits, Over, Lost, IsNeverStuck}
 use Rattle.vm_run.specs.Task.{fuel_left}
 use Rattle.sp_behaviours.specs.Behaviours.{asking, behaviour, behaviour_of, op_at, told_end}

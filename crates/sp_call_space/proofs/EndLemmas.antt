@@ -10,7 +10,7 @@ use Rattle.sp_rules.specs.Tasks.{Task, Stand, Runs, AsksFor, HasEnded, stand, st
 use Rattle.vm_act.specs.Next.{Next, On, Ends, Asks, Stuck}
 use Rattle.vm_act.specs.declared.asked.Asked.{Asked}
 use Rattle.vm_act.specs.declared.machine.Machine.{Machine}
-use Rattle.vm_rows.specs.Steps as insns
+use Rattle.vm_run.specs.Steps as insns
 use Rattle.vm_run.specs.Run as runs
 use Rattle.vm_run.specs.Run.{State, Running, Waits, Over, Lost, after, run, IsNeverStuck, IsNotLost}
 use Rattle.vm_run.specs.Task.{pause_at}

@@ -34,7 +34,7 @@ use Rattle.ver_rules.specs.declared.fault.CheckFault.{CheckFault}
 use Rattle.ver_rules.specs.declared.fault.CheckFault.TheVariants as check
 use Rattle.vm_act.specs.Crossing.{most_elements}
 use Rattle.vm_run.proofs.Runs.{run_ended}
-use Rattle.vm_run.specs.Ends.{End, ReturnedNothing, ReturnedInt, ReturnedNull, ReturnedInts, ReturnedObject, ReturnedRemote, Threw, ThrewObject, Spent}
+use Rattle.vm_run.specs.Ends.{End, ReturnedNothing, ReturnedInt, ReturnedNull, ReturnedInts, ReturnedRemote, Threw, ThrewObject, Spent}
 use Rattle.vm_run.specs.Run.{HasNoRemote, State, Over, run}
 use Rattle.vm_run.specs.Start.{started}
 use Rattle.vm_run.specs.Task.{Tasked, unmarshalled}
@@ -126,7 +126,6 @@ one_told classes ReturnedNothing o p a b = a ∙ sym b
 one_told classes (ReturnedInt n) o p a b = a ∙ sym b
 one_told classes ReturnedNull o p a b = a ∙ sym b
 one_told classes (ReturnedInts elements) o p a b = one_array elements (nat_le (length elements) most_elements) o p a b
-one_told classes (ReturnedObject class) o p a b = a ∙ sym b
 one_told classes (ReturnedRemote reference) o p a b = a ∙ sym b
 one_told classes (Threw thrown) o p a b = a ∙ sym b
 one_told classes (ThrewObject class) o p a b = one_thrown classes class o p a b

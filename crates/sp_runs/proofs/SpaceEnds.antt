@@ -5,7 +5,7 @@ use Rattle.cls_set.specs.declared.class.Class.{Class}
 use Rattle.sp_rules.specs.Behaviours as rules
 use Rattle.sp_rules.specs.Tasks.{HasEnded}
 use Rattle.vm_act.specs.Next.{Next, On, Ends, Asks, Stuck}
-use Rattle.vm_rows.specs.Steps as insns
+use Rattle.vm_run.specs.Steps as insns
 use Rattle.vm_run.specs.Ends.{End}
 use Rattle.vm_run.specs.Run.{State, Running, Waits, Over, Lost, IsNeverStuck}
 use Rattle.vm_run.specs.Task.{IsOfSet, outcome_of}

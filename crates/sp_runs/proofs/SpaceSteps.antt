@@ -30,7 +30,7 @@ use Rattle.sp_core.proofs.SweepLemmas.{drop-own}
 use Rattle.vm_act.specs.declared.asked.Asked.{Asked}
 use Rattle.vm_act.specs.declared.asked.Asked.TheVariants as asked
 use Rattle.vm_act.specs.Next.{Next, On, Ends as NextEnds, Asks as NextAsks, Stuck}
-use Rattle.vm_rows.specs.Steps as insns
+use Rattle.vm_run.specs.Steps as insns
 use Rattle.vm_run.specs.Run.{State as Machine_state, Running, Waits, Over as MachineOver, Lost, after, run, step as machine_step}
 use Rattle.vm_run.specs.Task.{IsOfSet}
 use Rattle.vm_run.specs.declared.outcome.Outcome.{Outcome}

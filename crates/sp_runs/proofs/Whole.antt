@@ -12,7 +12,7 @@ use Rattle.uuid.specs.Parts.{zero_bytes}
 use Rattle.space_ids.specs.declared.value.Value.{Value}
 use Rattle.space_ids.specs.declared.value.Value.TheVariants as value
 use Rattle.vm_act.specs.Crossing.{most_elements}
-use Rattle.vm_run.specs.Ends.{End, ReturnedNothing, ReturnedInt, ReturnedNull, ReturnedInts, ReturnedObject, ReturnedRemote, Threw, ThrewObject, Spent}
+use Rattle.vm_run.specs.Ends.{End, ReturnedNothing, ReturnedInt, ReturnedNull, ReturnedInts, ReturnedRemote, Threw, ThrewObject, Spent}
 use Rattle.vm_run.specs.Limited.{KeepsWithin}
 use Rattle.vm_run.specs.Run.{run, IsNeverStuck}
 use Rattle.vm_run.specs.Start.{started}
@@ -46,7 +46,6 @@ module _ (classes : List Class) (o : Outcome) (named : RunOutcome) (is : IsNamed
   named-IsTold (ReturnedInt n) tells = renamed _ tells
   named-IsTold ReturnedNull tells = renamed _ tells
   named-IsTold (ReturnedInts elements) tells = ints_told elements (nat_le (length elements) most_elements) tells
-  named-IsTold (ReturnedObject class) tells = thrown_told unmarshalled tells
   named-IsTold (ReturnedRemote reference) tells = renamed _ tells
   named-IsTold (Threw thrown) tells = thrown_told (thrown_name thrown) tells
   named-IsTold (ThrewObject class) tells = renamed _ tells

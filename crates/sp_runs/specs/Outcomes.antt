@@ -7,7 +7,7 @@ use Rattle.sp_runs.specs.declared.running.RunOutcome.TheVariants as told
 use Rattle.space_ids.specs.declared.ids.ClassId.{ClassId}
 use Rattle.space_ids.specs.declared.value.Value.TheVariants as value
 use Rattle.vm_act.specs.Crossing.{most_elements}
-use Rattle.vm_run.specs.Ends.{End, ReturnedNothing, ReturnedInt, ReturnedNull, ReturnedInts, ReturnedObject, ReturnedRemote, Threw, ThrewObject, Spent}
+use Rattle.vm_run.specs.Ends.{End, ReturnedNothing, ReturnedInt, ReturnedNull, ReturnedInts, ReturnedRemote, Threw, ThrewObject, Spent}
 use Rattle.vm_run.specs.Task.{thrown_name, unmarshalled}
 use Rattle.vm_run.specs.declared.outcome.Outcome.{Outcome}
 use Rattle.vm_run.specs.declared.outcome.Outcome.TheVariants as outcome
@@ -17,14 +17,13 @@ abbrev pub ThrewClass : List Class → ClassId → RunOutcome → Type 0
 ThrewClass classes class outcome = (name : List ℕ) × (outcome ≡ told.Threw name) × (sets.name_at classes class ≡ Some name)
 
 -- how a task ended, as it is printed: an array by its elements, if there are not too many, and a thrown class by its name. A longer
--- array and an object of the task's own heap cannot cross, and a MarshalException is thrown in their place
+-- array cannot cross, and a MarshalException is thrown in its place
 abbrev pub IsTold : List Class → End → RunOutcome → Type 0
 IsTold classes ReturnedNothing outcome = outcome ≡ told.Returned None
 IsTold classes (ReturnedInt n) outcome = outcome ≡ told.Returned (Some (value.Int n))
 IsTold classes ReturnedNull outcome = outcome ≡ told.Returned (Some value.Null)
 IsTold classes (ReturnedInts elements) outcome =
     MatchBool (nat_le (length elements) most_elements) (outcome ≡ told.Returned (Some (value.Ints elements))) (outcome ≡ told.Threw unmarshalled)
-IsTold classes (ReturnedObject class) outcome = outcome ≡ told.Threw unmarshalled
 IsTold classes (ReturnedRemote reference) outcome = outcome ≡ told.Returned (Some (value.Ref reference))
 IsTold classes (Threw thrown) outcome = outcome ≡ told.Threw (thrown_name thrown)
 IsTold classes (ThrewObject class) outcome = ThrewClass classes class outcome

@@ -14,7 +14,7 @@ use Rattle.vm_act.specs.declared.asked.Reply.{Reply}
 use Rattle.vm_act.specs.declared.asked.Reply.TheVariants as reply
 use Rattle.vm_heap.specs.Heap.{Cell}
 use Rattle.vm_act.specs.declared.machine.Machine.{Machine}
-use Rattle.vm_rows.specs.Steps as insns
+use Rattle.vm_run.specs.Steps as insns
 use Rattle.vm_run.specs.Ends.{End, end_of}
 use Rattle.vm_run.specs.Run.{State, Running, Waits, Over, Lost, after, answer, over, run, step, IsDue, IsNeverStuck}
 use Rattle.vm_run.specs.Task.{fuel_left, outcome_at, pause_at}

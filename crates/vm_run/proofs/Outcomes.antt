@@ -18,7 +18,7 @@ use Rattle.vm_run.specs.declared.outcome.Outcome.TheVariants as outcome
 use Rattle.vm_heap.specs.Heap.{Cell, Ints, Object, cell_at, length_at, length_of}
 use Rattle.vm_act.specs.declared.ending.Ending.{Ending}
 use Rattle.vm_act.specs.declared.ending.Ending.TheVariants.{ReturnedReference}
-use Rattle.vm_run.specs.Ends.{End, ReturnedNothing, ReturnedInt, ReturnedNull, ReturnedInts, ReturnedObject, ReturnedRemote, Threw, ThrewObject, Spent, IsEndIn, end_of, returned_at, returned_cell}
+use Rattle.vm_run.specs.Ends.{End, ReturnedNothing, ReturnedInt, ReturnedNull, ReturnedInts, ReturnedRemote, Threw, ThrewObject, Spent, IsEndIn, end_of, returned_at, returned_cell}
 
 -- what is returned lies in no empty heap
 pub nowhere : (e : Ending) (o : Option ℕ) (address : ℕ) → IsSome (end_of [] e) → e ≡ ReturnedReference o → o ≡ Some address → ⊥
@@ -64,9 +64,6 @@ told_end classes (ReturnedInt n) told e in_set = let same : outcome.Returned (So
 told_end classes ReturnedNull told e in_set = let same : outcome.Returned (Some value.Null) ≡ told = cc in rw (← same) record { tells = refl; of_set = tt }
 told_end classes (ReturnedInts elements) told e in_set =
     let so = told_ints classes elements told (nat_le (length elements) most_elements) refl e in
-    record { tells = so.0; of_set = so.1 }
-told_end classes (ReturnedObject class) told e in_set =
-    let so = named classes unmarshalled told (number_of classes unmarshalled) refl e in
     record { tells = so.0; of_set = so.1 }
 told_end classes (ReturnedRemote reference) told e in_set =
     let same : outcome.Returned (Some (value.Ref reference)) ≡ told = cc in rw (← same) record { tells = refl; of_set = tt }

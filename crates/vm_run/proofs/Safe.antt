@@ -1,5 +1,5 @@
 -- The task of a typed machine is never stuck.
-use Rattle.std.proofs.Common.{◌≡◌, ℕ, zero, suc, ◌+◌, ◌<◌, true, false, List, [], ◌∷◌, length, refl, ap, subst, ◌∙◌, Option, Some, None}
+use Rattle.std.proofs.Common.{◌≡◌, ℕ, zero, suc, ◌+◌, ◌<◌, Bool, true, false, List, [], ◌∷◌, length, refl, ap, subst, ◌∙◌, Option, Some, None}
 use Rattle.std.specs.Prelude.{option_map}
 use Rattle.std.specs.Option.{option_map_or}
 use Rattle.cls_link.specs.Links.{Links}
@@ -21,8 +21,9 @@ use Rattle.vm_typing.specs.Typed.{IsTyped}
 use Rattle.vm_typing.specs.World.{World, IsPlain}
 use Rattle.vm_world.specs.Worlds.{method_type, subject_at, world_of}
 use Rattle.vm_rows.proofs.Entries.{is_entry}
-use Rattle.vm_rows.specs.Steps as insns
+use Rattle.vm_rows.specs.Steps as rows
 use Rattle.vm_run.specs.Ends.{End, IsEndIn, end_of, returned_cell}
+use Rattle.vm_run.specs.Steps.{crossed, crossing, gives_ints}
 use Rattle.vm_run.specs.Run.{State, Running, Waits, Over, Lost, over, after, answer, fuel_after, code_of, played, step, run, AreDue, IsDue, IsNotLost, IsNeverStuck}
 
 cell-there : (links : Links) (P : Pointee → Type 0) (o : Option Cell) (fuel : ℕ) → There P (option_map (λ cell. OfHeap cell) o)
@@ -57,7 +58,7 @@ counted links frames number known = by (subject_at links number) refl known
         ap (λ (o : Option Subject). (option_map_or (λ (s : Subject). method_type s (frames number)) o no_method).count) e ∙ rw (entry.at, entry.code) refl
 
 module _ (links : Links) (frames : ℕ → ℕ → types.Frame) (asked : Option VType) (plain : (t : VType) → asked ≡ Some t → IsPlain t)
-    (keeps : KeepsTyped (world_of links frames) asked (insns.step links)) where
+    (keeps : KeepsTyped (world_of links frames) asked (rows.step links)) where
   abbrev world : World
   world = world_of links frames
 
@@ -98,11 +99,31 @@ module _ (links : Links) (frames : ℕ → ℕ → types.Frame) (asked : Option 
   completed-sound m (Asks op m1) fuel done = absurd done
   completed-sound m Stuck fuel done = done
 
+  -- what crosses of a result is given, as the result is
+  crossed-given : (held : Held) (ints : Bool) (e : Ending) → IsGiven world asked held e → IsGiven world asked held (crossed ints e)
+  crossed-given held ints ending.ReturnedNothing given = given
+  crossed-given held ints (ending.ReturnedInt n) given = given
+  crossed-given held ints (ending.ReturnedReference None) given = given
+  crossed-given held true (ending.ReturnedReference (Some address)) given = given
+  crossed-given held false (ending.ReturnedReference (Some address)) given = tt
+  crossed-given held ints (ending.ReturnedRemote reference) given = given
+  crossed-given held ints (ending.Threw thrown) given = tt
+  crossed-given held ints (ending.ThrewObject class) given = given
+  crossed-given held ints ending.Spent given = tt
+
+  crossing-leads : (held : Held) (ints : Bool) (n : Next) → LeadsTo world asked held Typed n → LeadsTo world asked held Typed (crossing ints n)
+  crossing-leads held ints (On m) leads = leads
+  crossing-leads held ints (Ends e) leads = crossed-given held ints e leads
+  crossing-leads held ints (Asks op m) leads = leads
+  crossing-leads held ints Stuck leads = leads
+
   -- each step leads to such a state
   pub step-sound : (s : State) → IsSound s → IsSound (step links s)
   unfolding step
   step-sound (Running m zero) sound = tt
-  step-sound (Running m (suc fuel)) sound = after-sound m (insns.step links m) fuel (keeps m sound)
+  step-sound (Running m (suc fuel)) sound =
+      let ints = gives_ints links.classes m.stack.frame.method in
+      after-sound m (crossing ints (rows.step links m)) fuel (crossing-leads (held_by m) ints (rows.step links m) (keeps m sound))
   step-sound (Waits op m fuel) sound = sound
   step-sound (Over end fuel) sound = sound
   step-sound Lost sound = sound

@@ -1,4 +1,5 @@
 pub mod Ends
+pub mod Steps
 pub mod Run
 pub mod Reached
 pub mod Sound

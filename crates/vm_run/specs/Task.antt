@@ -17,7 +17,7 @@ use Rattle.vm_world.specs.Worlds.{takes_at}
 use Rattle.space_ids.specs.declared.value.Value.{Value}
 use Rattle.vm_act.specs.declared.ending.Thrown.{Thrown}
 use Rattle.vm_act.specs.declared.ending.Thrown.TheVariants as thrown
-use Rattle.vm_run.specs.Ends.{End, ReturnedNothing, ReturnedInt, ReturnedNull, ReturnedInts, ReturnedObject, ReturnedRemote, Threw, ThrewObject, Spent, end_of}
+use Rattle.vm_run.specs.Ends.{End, ReturnedNothing, ReturnedInt, ReturnedNull, ReturnedInts, ReturnedRemote, Threw, ThrewObject, Spent, end_of}
 use Rattle.vm_run.specs.Run.{State, Running, Waits, Over, Lost, fuel_after, over, run}
 use Rattle.vm_run.specs.declared.outcome.Outcome.{Outcome}
 use Rattle.vm_run.specs.declared.outcome.Outcome.TheVariants as outcome
@@ -121,15 +121,13 @@ unmarshalled = codes "java/rmi/MarshalException"
 abbrev pub threw_named : List Class → List ℕ → Option Outcome
 threw_named classes name = option_map (λ class. outcome.Threw class) (number_of classes name)
 
--- What an end is to callers. An array with too many elements, and an object of the task's own heap, cannot cross: the task throws in
--- place of returning it
+-- What an end is to callers. An array with too many elements cannot cross: the task throws in place of returning it
 abbrev pub outcome_of : List Class → End → Option Outcome
 outcome_of classes ReturnedNothing = Some (outcome.Returned None)
 outcome_of classes (ReturnedInt n) = Some (outcome.Returned (Some (value.Int n)))
 outcome_of classes ReturnedNull = Some (outcome.Returned (Some value.Null))
 outcome_of classes (ReturnedInts elements) =
     if nat_le (length elements) most_elements then Some (outcome.Returned (Some (value.Ints elements))) else threw_named classes unmarshalled
-outcome_of classes (ReturnedObject class) = threw_named classes unmarshalled
 outcome_of classes (ReturnedRemote reference) = Some (outcome.Returned (Some (value.Ref reference)))
 outcome_of classes (Threw thrown) = threw_named classes (thrown_name thrown)
 outcome_of classes (ThrewObject class) = Some (outcome.Threw class)
@@ -171,7 +169,6 @@ Tells classes ReturnedNothing told = told ≡ outcome.Returned None
 Tells classes (ReturnedInt n) told = told ≡ outcome.Returned (Some (value.Int n))
 Tells classes ReturnedNull told = told ≡ outcome.Returned (Some value.Null)
 Tells classes (ReturnedInts elements) told = TellsInts classes elements told
-Tells classes (ReturnedObject class) told = TellsThrown classes unmarshalled told
 Tells classes (ReturnedRemote reference) told = told ≡ outcome.Returned (Some (value.Ref reference))
 Tells classes (Threw thrown) told = TellsThrown classes (thrown_name thrown) told
 Tells classes (ThrewObject class) told = told ≡ outcome.Threw class
