@@ -3,15 +3,14 @@
 use class_builder::BuildFault;
 use hex::FromHexError;
 use std::alloc::{AllocError, AllocFailed};
-use thiserror::Error;
+use test_rows::RowFault;
 
 /// Why a line of the script is not played.
-#[derive(Clone, Copy, Debug, PartialEq, Eq, Error)]
+#[derive(Clone, Copy, Debug)]
 pub enum LineFault {
     /// The line does not parse, or there is nothing that it could change.
-    #[error("bad line")]
     Bad,
-    #[error("memory ran out")]
+    /// Memory ran out.
     Memory,
 }
 
@@ -24,6 +23,15 @@ impl From<AllocError> for LineFault {
 impl<T: Drop> From<AllocFailed<T>> for LineFault {
     fn from(_: AllocFailed<T>) -> LineFault {
         LineFault::Memory
+    }
+}
+
+impl From<RowFault> for LineFault {
+    fn from(fault: RowFault) -> LineFault {
+        match fault {
+            RowFault::Bad => LineFault::Bad,
+            RowFault::Memory => LineFault::Memory,
+        }
     }
 }
 

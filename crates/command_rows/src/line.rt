@@ -5,22 +5,7 @@ use super::fault::LineFault;
 use super::shelf::Change;
 use class_builder::SUM;
 use std::alloc::Global;
-
-/// Returns the words that single spaces part: none for an empty text.
-pub fn words_of<'a>(alloc: Global, text: &'a str) -> Result<Vec<&'a str>, LineFault> {
-    if text.is_empty() {
-        return Ok(Vec::new(alloc));
-    }
-    Ok(text.split(' ').collect(alloc)?)
-}
-
-/// Returns the word of a line that has one.
-pub fn one_word<'a>(words: &[&'a str]) -> Result<&'a str, LineFault> {
-    let [word] = words else {
-        return Err(LineFault::Bad);
-    };
-    Ok(*word)
-}
+use test_rows::one_word;
 
 /// Returns the bytes that the words after a file's path ask for: none for a file that cannot be opened.
 pub fn example_of(alloc: Global, words: &[&str]) -> Result<Option<Vec<u8>>, LineFault> {

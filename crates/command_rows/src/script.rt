@@ -2,14 +2,13 @@
 
 use super::class_draft::ClassDraft;
 use super::fault::LineFault;
-use super::line::{
-    change_of, example_of, field_of, flags_of, method_of, number, one_word, words_of,
-};
+use super::line::{change_of, example_of, field_of, flags_of, method_of, number};
 use super::said::Said;
 use super::shelf::{Change, Shelf};
 use sp_main::Disk;
 use std::alloc::Global;
 use std::rt::Files;
+use test_rows::{one_word, words_of};
 
 /// What a line of a script comes to.
 #[derive(Drop)]
