@@ -1,4 +1,16 @@
-"""How much memory `rt` reckons with for a check of one of our crates. It decides how many checks run side by side, and no verdict."""
+#!/usr/bin/env python3
+"""How much memory `rt` reckons with for a check of one of our crates. It decides how many checks run side by side, and no verdict.
+
+usage: .ci/memory.py TOOL WORD..
+
+As a command it runs a tool of this folder so. The edits' own tools do not import this file, since every stamp of .ci/tried rests on their text.
+"""
+import os
+import runpy
+import sys
+
+sys.path.insert(0, os.path.dirname(os.path.abspath(__file__)))
+sys.dont_write_bytecode = True
 
 from kit import rt
 
@@ -11,3 +23,9 @@ def reckon_memory():
     that it ran three of them on four processors."""
     reckoned = rt.need
     rt.need = lambda crate: min(reckoned(crate), MOST_MEMORY)
+
+
+if __name__ == "__main__":
+    reckon_memory()
+    sys.argv = sys.argv[1:]
+    runpy.run_path(sys.argv[0], run_name="__main__")
