@@ -1,8 +1,10 @@
-//! Whether a reply is one that fits what the machine of a task asks of its space: of the kind and the type
-//! that is asked. It takes no memory.
+//! Whether a reply is one that fits what the machine of a task asks of its space, of the kind and the type
+//! that is asked; and what crosses of what a method gives to who started its task. It takes no memory.
 #![tactic(auto)]
 
 pub use replies::fits;
+pub use results::crossed;
 
 mod fields;
 mod replies;
+mod results;

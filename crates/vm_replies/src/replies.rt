@@ -80,7 +80,7 @@ fn is_given(linked: &Linked, own: Uuid, method: u32, value: &Option<Value>) -> b
 }
 
 // The type of what the method of a number gives: `None` if it gives nothing, or there is no such method.
-fn result_type(linked: &Linked, method: u32) -> Option<VType>
+pub(crate) fn result_type(linked: &Linked, method: u32) -> Option<VType>
     ensures { result ≡ gives_at linked.now.classes method }
 {
     if method as usize >= linked.len() {

@@ -1,5 +1,5 @@
 -- The arguments of the call that a task asks for.
-use Rattle.std.proofs.Common.{◌≡◌, ℕ, ◌≤◌, true, false, List, [], length, ap, sym, subst, ◌∙◌, Option, Some, None}
+use Rattle.std.proofs.Common.{◌≡◌, ℕ, ◌≤◌, true, List, [], length, ap, sym, subst, ◌∙◌, Option, Some, None}
 use Rattle.std.specs.Prelude.{map, option_map, reverse}
 use Rattle.std.specs.Option.{option_map_or}
 use Rattle.std.proofs.lemmas.Option.{slice_get_past}
@@ -13,11 +13,10 @@ use Rattle.vm_act.specs.Crossing.{AllCross, crosses, values_of}
 use Rattle.vm_act.specs.declared.asked.Asked.TheVariants as ask
 use Rattle.vm_act.specs.declared.crossing.Parameter.{Parameter}
 use Rattle.vm_act.specs.declared.machine.Machine.{Machine}
-use Rattle.vm_code.specs.Parameters.{arguments_for, is_array_type, parameter_of, parameters_of}
+use Rattle.vm_code.specs.Parameters.{arguments_for, parameter_of, parameters_of}
 use Rattle.vm_typing.proofs.Leads.{length-AllZip}
 use Rattle.vm_world.specs.Worlds.{takes_at}
 use Rattle.vm_run.specs.Run.{IsCrossing}
-use Rattle.vm_run.specs.Steps.{gives_ints}
 
 -- a number that no method has takes nothing
 pub none_takes : (links : Links) → AreLinks links → (number : ℕ) → length links.methods ≤ number → [] ≡ takes_at links.classes number
@@ -25,19 +24,6 @@ none_takes links are number past =
     let same : length links.methods ≡ length (declared_methods links.classes) = length-AllZip (IsLinked links.classes) (declared_methods links.classes) links.methods are.methods in
     let there : length (declared_methods links.classes) ≤ number = subst (λ (n : ℕ). n ≤ number) same past in
     sym (ap (λ (o : Option Declared). option_map_or parameters_of (option_map (λ (d : Declared). d.method) o) []) (slice_get_past (declared_methods links.classes) number there))
-
--- nor does it give an array
-pub none_gives : (links : Links) → AreLinks links → (number : ℕ) → length links.methods ≤ number → false ≡ gives_ints links.classes number
-none_gives links are number past =
-    let same : length links.methods ≡ length (declared_methods links.classes) = length-AllZip (IsLinked links.classes) (declared_methods links.classes) links.methods are.methods in
-    let there : length (declared_methods links.classes) ≤ number = subst (λ (n : ℕ). n ≤ number) same past in
-    sym (ap (λ (o : Option Declared). option_map_or (λ (m : Method). option_map_or is_array_type m.types.result false) (option_map (λ (d : Declared). d.method) o) false)
-    (slice_get_past (declared_methods links.classes) number there))
-
--- a method gives what it declares
-pub some_gives : (classes : List Class) (number : ℕ) (method : Method) → method_at classes (record { 0 = number }) ≡ Some method
-    → option_map_or is_array_type method.types.result false ≡ gives_ints classes number
-some_gives classes number method there = sym (ap (λ (o : Option Method). option_map_or (λ (m : Method). option_map_or is_array_type m.types.result false) o false) there)
 
 -- a method takes what it declares
 pub some_takes : (classes : List Class) (number : ℕ) (method : Method) → method_at classes (record { 0 = number }) ≡ Some method → map parameter_of method.types.parameters ≡ takes_at classes number

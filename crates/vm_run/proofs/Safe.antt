@@ -23,7 +23,8 @@ use Rattle.vm_world.specs.Worlds.{method_type, subject_at, world_of}
 use Rattle.vm_rows.proofs.Entries.{is_entry}
 use Rattle.vm_rows.specs.Steps as rows
 use Rattle.vm_run.specs.Ends.{End, IsEndIn, end_of, returned_cell}
-use Rattle.vm_run.specs.Steps.{crossed, crossing, gives_ints}
+use Rattle.vm_run.specs.Steps.{crossing}
+use Rattle.vm_replies.specs.Results.{crossed, gives_ints}
 use Rattle.vm_run.specs.Run.{State, Running, Waits, Over, Lost, over, after, answer, fuel_after, code_of, played, step, run, AreDue, IsDue, IsNotLost, IsNeverStuck}
 
 cell-there : (links : Links) (P : Pointee → Type 0) (o : Option Cell) (fuel : ℕ) → There P (option_map (λ cell. OfHeap cell) o)

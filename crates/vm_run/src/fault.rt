@@ -1,5 +1,4 @@
 //! Why a task does not start.
-
 ghost use Rattle.std.specs.Prelude.{◌≡◌, Some};
 ghost use Rattle.vm_run.specs.declared.fault.StartFault.TheVariants.{Memory};
 ghost use Rattle.vm_run.specs.FaultNames.{start_fault_number, start_fault_name};

@@ -1,5 +1,4 @@
 //! Laws of runs, each the contract of a function that does nothing.
-
 ghost use Rattle.std.specs.Prelude.{◌≡◌, ℕ, ◌+◌};
 ghost use Rattle.cls_link.specs.Links.{Links};
 ghost use Rattle.vm_run.specs.Run.{State, run, IsOver};

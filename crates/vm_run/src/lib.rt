@@ -14,7 +14,6 @@ pub use ver_check::{Accepted, Linked, MethodId, Numbered};
 pub use vm_code::{Asked, FieldValue, Reply};
 pub use vm_heap::{ClassId, ObjId, Ref, Row, Uuid, Value};
 
-mod crossing;
 mod fault;
 mod found;
 pub mod laws;

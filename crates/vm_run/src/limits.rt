@@ -1,5 +1,4 @@
 //! The budgets of a task.
-
 ghost use Rattle.std.specs.Prelude.{◌≡◌};
 
 /// How much a task may use. A heap of 2^32 - 2^16 words or more is out of memory.

@@ -214,8 +214,7 @@ impl Task {
     }
 
     /// How the task ended: `None` if it has not. An array is copied; else memory does not run out. One of
-    /// more than 8,000 elements cannot cross, nor can what lies in the heap in place of a remote object: a
-    /// MarshalException is thrown.
+    /// more than 8,000 elements cannot cross: a MarshalException is thrown.
     pub fn outcome(&self, alloc: Global) -> Result<Option<Outcome>, AllocError>
         ensures value { IfOk result (λ told. told ≡ outcome_at self.now.program.classes self.now.state) }
         ensures over { IfOk result (λ told. IsOver self.now.state → IsSome told) }
