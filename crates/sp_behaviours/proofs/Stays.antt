@@ -70,7 +70,6 @@ use Rattle.vm_code.specs.Operators.{binary_result, condition_holds, unary_result
 use Rattle.vm_rows.specs.Steps as rows
 use Rattle.vm_run.specs.Steps as insns
 use Rattle.vm_run.specs.Steps.{crossing}
-use Rattle.vm_replies.specs.Results.{gives_ints}
 use Rattle.sp_rules.specs.References.{is_reference_in, is_same_reference}
 use Rattle.sp_behaviours.specs.Follows.{HoldsAsked}
 
@@ -626,5 +625,5 @@ crossing-stays table ints Stuck stays = stays
 -- an instruction leaves the references of its machine
 pub step-stays : (links : Links) (m : Machine) → Stays m.references (insns.step links m)
 step-stays links m =
-    crossing-stays m.references (gives_ints links.classes m.stack.frame.method) (rows.step links m)
+    crossing-stays m.references _ (rows.step links m)
     (some m.references (λ i. act links i m) (rows.insn_at links m.stack.frame.method m.stack.frame.index) (λ i. act-keeps m.references links i m refl))
