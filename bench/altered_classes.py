@@ -23,8 +23,8 @@ class Layout:
         self.entries = self.number(2)
         self.texts = {}
         self.code, self.frames, self.limits = [], [], []
-        # The code of each method, by its name and descriptor.
-        self.code_of, self.member = {}, b""
+        # The code of each method and its table of frames, by its name and descriptor.
+        self.code_of, self.frames_of, self.member = {}, {}, b""
         self.pass_pool()
         self.at += 6
         self.skip(2 * self.number(2))
@@ -68,6 +68,7 @@ class Layout:
                 self.pass_attributes()
             elif name == b"StackMapTable":
                 self.frames.append((self.at, length))
+                self.frames_of[self.member] = self.frames[-1]
             self.at = end
 
 

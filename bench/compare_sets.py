@@ -23,7 +23,7 @@ LOADS = {ALOAD, 0x2A, 0x2B, 0x2C, 0x2D}
 KNOWN = {
     "kind": "taken by the JDK: a frame names a type out of the profile or the set",
     "new": "taken by the JDK: a new with its older object on the stack",
-    "local": "taken by the JDK: an aload of the older object of a new",
+    "local": "taken by the JDK: an aload of the older object of a new, or a frame that asks for it",
     "return": "taken by the JDK: a return with an uninitialized receiver, in no <init>",
     "put": "taken by the JDK: a putfield of an uninitialized receiver, in no <init>",
     "own": "refused by the JDK: a putfield of an uninitialized receiver, whose field has the name of a subclass",
@@ -46,10 +46,46 @@ def opcode_at(folder, name, method, offset):
     return content[at + 1] if content[at] == WIDE else content[at]
 
 
+def local_frames(table):
+    """The frames of a table, each by its offset and the items of its local variables that were appended or listed: a tag, and the index or offset after it."""
+    at, offset, items = 2, -1, []
+
+    def number(length):
+        nonlocal at
+        at += length
+        return int.from_bytes(table[at - length : at], "big")
+
+    def item():
+        tag = number(1)
+        return tag, number(2) if tag in (7, 8) else 0
+
+    for _ in range(int.from_bytes(table[:2], "big")):
+        tag = number(1)
+        delta = tag % 64 if tag < 128 else number(2)
+        offset += delta + 1
+        if 248 <= tag <= 250:
+            items = items[: tag - 251]
+        elif tag > 251:
+            items = [item() for _ in range(number(2))] if tag == 255 else items + [item() for _ in range(tag - 251)]
+        for _ in range(number(2) if tag == 255 else 64 <= tag < 128 or tag == 247):
+            item()
+        yield offset, items
+
+
+def declares_older(folder, name, method):
+    """Whether a frame of the method has a local variable with what a new that comes after it makes: its older object, once that new is made."""
+    with open(os.path.join(folder, name + ".class"), "rb") as file:
+        content = file.read()
+    start, length = Layout(content).frames_of.get(method.encode(), (0, 0))
+    return bool(length) and any(tag == 8 and new >= offset for offset, items in local_frames(content[start : start + length]) for tag, new in items)
+
+
 def known(folder, name, method, offset, number):
     """The way in which the JDK is known to take what rmispace refuses, or none."""
     if number == 54:
         return "kind"
+    if number == 65:
+        return "local" if declares_older(folder, name, method) else None
     if number not in (63, 67):
         return None
     opcode = opcode_at(folder, name, method, offset)
