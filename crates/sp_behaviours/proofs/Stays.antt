@@ -63,6 +63,7 @@ use Rattle.vm_code.specs.Calls.{call_interface, call_receiver, call_stub, invoke
 use Rattle.vm_code.specs.Calls as calls
 use Rattle.vm_code.specs.Classes.{implements_remotely, is_instance, is_remote, passes}
 use Rattle.vm_code.specs.Fields.{field_kind, kinds_of, slot_of}
+use Rattle.vm_code.specs.Fits.{may_call, may_read, may_return, may_return_value, may_throw, may_write, only_if}
 use Rattle.vm_code.specs.Ints.{binary, if_compare, if_zero, push_result, unary}
 use Rattle.vm_code.specs.Methods.{callee_of, chosen, init_begins_uninit, interface_selected, is_init, object_of, selected_of, special_start}
 use Rattle.vm_code.specs.Parameters.{parameters_of}
@@ -429,6 +430,9 @@ module _ (table : Table) where
       pops_as (is_kind kind) (λ v. pop (λ object m. on_own_or_this (λ r. put_to r slot v m) m object)) (λ v.
       pops (λ object m. on_own_or_this (λ r. put_to r slot v m) m object) (λ object m is. owns_or_this (λ r. put_to r slot v m) m object (λ r held. put_to-stays r slot v m is held)))
 
+  only_ifs : (test : Machine → Bool) (next : Machine → Next) → Keeps table next → Keeps table (only_if test next)
+  only_ifs test next keeps m is = whether (test m) (next m) (keeps m is)
+
   get-keeps : (classes : List Class) (field : MemberIndex) → Keeps table (get_field_of classes field)
   get-keeps classes field m is =
       some (λ slot. read_field slot m) (slot_of classes (field_of field)) (λ slot.
@@ -605,13 +609,14 @@ module _ (table : Table) where
   act-keeps links (insn.IfNull equality target) = if_null-keeps (is_equal equality) target
   act-keeps links (insn.Goto target) = jumps target
   act-keeps links (insn.Switch index) = λ m is. some (λ s. switch_by s m) (switch_at links m.stack.frame.method index) (λ s. switch-keeps s m is)
-  act-keeps links (insn.ReturnValue kind) = return-keeps kind
-  act-keeps links insn.Return = leaves On ending.ReturnedNothing on-keeps
-  act-keeps links insn.Throw = referents 0 throw throw-keeps
-  act-keeps links (insn.GetField class field) = get-keeps links.classes field
-  act-keeps links (insn.PutField class field) = put-keeps links.classes field
-  act-keeps links (insn.Invoke kind class method) = calls-keep links kind class method
-  act-keeps links (insn.InvokeInterface count class method) = interface-keeps links.classes class method
+  act-keeps links (insn.ReturnValue kind) = only_ifs (may_return_value links) (return_value kind) (return-keeps kind)
+  act-keeps links insn.Return = only_ifs (may_return links) (leave On ending.ReturnedNothing) (leaves On ending.ReturnedNothing on-keeps)
+  act-keeps links insn.Throw = only_ifs (may_throw links.classes) (on_referent 0 throw) (referents 0 throw throw-keeps)
+  act-keeps links (insn.GetField class field) = only_ifs (may_read links.classes class) (get_field_of links.classes field) (get-keeps links.classes field)
+  act-keeps links (insn.PutField class field) = only_ifs (may_write links class field) (put_field_of links.classes field) (put-keeps links.classes field)
+  act-keeps links (insn.Invoke how class method) = only_ifs (may_call links how class method) (calls.call links how class method) (calls-keep links how class method)
+  act-keeps links (insn.InvokeInterface count class method) =
+      only_ifs (may_call links kind.Virtual class method) (call_interface links.classes class method) (interface-keeps links.classes class method)
   act-keeps links (insn.New class) = new-keeps links.classes class
   act-keeps links (insn.CheckCast type) = referents 0 (λ r. cast (passes links.classes type r)) (λ r. cast-keeps (passes links.classes type r))
   act-keeps links (insn.InstanceOf type) = referents 0 (λ r. answer (is_instance links.classes type r)) (λ r. answer-keeps (is_instance links.classes type r))

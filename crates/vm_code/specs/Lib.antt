@@ -5,4 +5,5 @@ pub mod Parameters
 pub mod Classes
 pub mod Methods
 pub mod Calls
+pub mod Fits
 pub mod Act

@@ -19,17 +19,17 @@ gives_ints classes number = is_int_array (gives_at classes number)
 
 -- The reference that a method returns. What it refers to in the task's own heap is given by copy if the method gives int[]. In place of a remote
 -- object it cannot cross, be it an object or an array: a MarshalException is thrown (Java RMI specification, appendix A).
-abbrev pub crossed_reference : Bool → Option ℕ → Ending
-crossed_reference ints None = ending.ReturnedReference None
-crossed_reference true (Some address) = ending.ReturnedReference (Some address)
-crossed_reference false (Some address) = ending.Threw thrown.MarshalException
+abbrev pub reference_for_caller : Bool → Option ℕ → Ending
+reference_for_caller ints None = ending.ReturnedReference None
+reference_for_caller true (Some address) = ending.ReturnedReference (Some address)
+reference_for_caller false (Some address) = ending.Threw thrown.MarshalException
 
 -- what the last instruction of a method ends its task with, by whether the method gives int[]
-abbrev pub crossed : Bool → Ending → Ending
-crossed ints ending.ReturnedNothing = ending.ReturnedNothing
-crossed ints (ending.ReturnedInt n) = ending.ReturnedInt n
-crossed ints (ending.ReturnedReference address) = crossed_reference ints address
-crossed ints (ending.ReturnedRemote reference) = ending.ReturnedRemote reference
-crossed ints (ending.Threw thrown) = ending.Threw thrown
-crossed ints (ending.ThrewObject class) = ending.ThrewObject class
-crossed ints ending.Spent = ending.Spent
+abbrev pub end_for_caller : Bool → Ending → Ending
+end_for_caller ints ending.ReturnedNothing = ending.ReturnedNothing
+end_for_caller ints (ending.ReturnedInt n) = ending.ReturnedInt n
+end_for_caller ints (ending.ReturnedReference address) = reference_for_caller ints address
+end_for_caller ints (ending.ReturnedRemote reference) = ending.ReturnedRemote reference
+end_for_caller ints (ending.Threw thrown) = ending.Threw thrown
+end_for_caller ints (ending.ThrewObject class) = ending.ThrewObject class
+end_for_caller ints ending.Spent = ending.Spent

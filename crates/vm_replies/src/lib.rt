@@ -3,7 +3,7 @@
 #![tactic(auto)]
 
 pub use replies::fits;
-pub use results::crossed;
+pub use results::end_for_caller;
 
 mod fields;
 mod replies;

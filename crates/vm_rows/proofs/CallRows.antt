@@ -1,6 +1,6 @@
 -- The rows of calls.
 use Rattle.std.proofs.Common.{◌≡◌, ◌⊎◌, inl, inr, ℕ, suc, ◌==◌, ◌+◌, ◌<◌, ◌≤◌, ◌++◌, Bool, true, false, List, [], ◌∷◌, length, map, reverse, refl, sym, subst, ap, ◌∙◌, Option, Some, None, Ok, arith}
-use Rattle.std.specs.Prelude.{nat_eq, ◌||◌, if◌then◌else◌, option_and_then, option_map, slice_get, IsSomeAnd}
+use Rattle.std.specs.Prelude.{nat_eq, ◌&&◌, ◌||◌, if◌then◌else◌, option_and_then, option_map, slice_get, IsSomeAnd}
 use Rattle.std.specs.Option.{option_map_or}
 use Rattle.std.proofs.lemmas.List.{length-map}
 use Rattle.std.proofs.lemmas.Option.{slice_get_within}
@@ -39,7 +39,7 @@ use Rattle.ver_frames.specs.declared.vtype.VType.TheVariants as vtype
 use Rattle.vm_act.specs.Calls as acts
 use Rattle.vm_act.specs.Next.{Next}
 use Rattle.vm_act.specs.Objects.{on_referent}
-use Rattle.vm_act.specs.Steps.{on_some}
+use Rattle.vm_act.specs.Steps.{on_some, where_true}
 use Rattle.vm_act.specs.declared.calls.Callee.{Callee}
 use Rattle.vm_act.specs.declared.calls.Selected.{Selected}
 use Rattle.vm_act.specs.declared.calls.Selected.TheVariants as selected
@@ -52,23 +52,25 @@ use Rattle.vm_act.specs.declared.objects.Referent.TheVariants as referent
 use Rattle.vm_code.specs.Calls as code
 use Rattle.vm_code.specs.Calls.{id_of}
 use Rattle.vm_code.specs.Classes.{implements_remotely}
+use Rattle.vm_code.specs.Fits.{are_arguments, current_is, is_of_both, is_of_class, is_own_or_direct, is_target, may_call, may_construct, operand_is, refers}
 use Rattle.vm_code.specs.Parameters.{parameters_of}
 use Rattle.vm_code.specs.Methods.{callee_of, chosen, init_begins_uninit, interface_selected, object_of, selected_of, special_start}
-use Rattle.vm_heap.specs.Tagged.{Site}
+use Rattle.vm_heap.specs.Tagged.{Tagged, Site, object_at}
 use Rattle.vm_typing.proofs.Calls as calls
-use Rattle.vm_typing.proofs.Leads.{FitsFrame-assignable, length-AllZip}
+use Rattle.vm_typing.proofs.Leads.{Fits-assignable, FitsFrame-assignable, at_site, length-AllZip}
 use Rattle.vm_typing.proofs.Referents as referents
 use Rattle.vm_typing.proofs.Stubs as stubs
 use Rattle.vm_typing.proofs.Uses.{IsFrameAssignable-itself}
 use Rattle.vm_typing.specs.Asking.{IsForeignObject}
-use Rattle.vm_typing.specs.Fits.{Fits, held_by}
+use Rattle.vm_typing.specs.Fits.{held_by, pointee_at, IsA, IsOf, There, Marks, IsMade, IsReceiver, Fits, AllFit}
 use Rattle.vm_typing.specs.Laws.{Leads}
 use Rattle.vm_typing.specs.Owed.{Owed, Passes, Selects}
 use Rattle.vm_typing.specs.Typed.{HasDepth, HasRoom, IsAt, marks_of, with_result}
 use Rattle.vm_typing.specs.World as world
-use Rattle.vm_typing.specs.World.{World, Enters, IsKnown}
+use Rattle.vm_typing.specs.World.{World, ArePlain, Enters, IsKnown}
 use Rattle.vm_rows.specs.Rows.{CallRows, Constructs, IsRow, NamesInterface, NamesSpecial, NamesStatic, NamesVirtual, RunsAs, SelectsBelow, StandsAt, arguments_in, result_in}
-use Rattle.vm_rows.proofs.ObjectRows.{same_made}
+use Rattle.vm_rows.proofs.Fitting.{and_true, arguments_pass, below_them, made_passes, object_passes}
+use Rattle.vm_rows.proofs.ObjectRows.{let_pass, same_made}
 use Rattle.vm_rows.proofs.Stands.{next_is}
 use Rattle.vm_rows.proofs.Takes.{Checked, demanded, found_is, gives, in_turn, no_error, passes_then, same_ok, take_then, tested}
 use Rattle.vm_rows.proofs.Wants.{assignable_by, fits_wanted}
@@ -331,6 +333,70 @@ module _ (links : Links) (w : World) (owed : Owed w) (set : IsClassSet w.classes
         let here : length ((w.method m.stack.frame.method).frames m.stack.frame.index).stack ≡ length f.stack = ap (λ (g : Frame). length g.stack) s.typed in
         record { index = m.stack.frame.index; inside = omega (arith, inside, count); few = omega (arith, size, here) }
 
+  -- ---- what the tests of calls let pass
+
+  module _ (asked : Option VType) (fresh : ℕ → Site) (receiver : Site) (f : Frame) (m : Machine) (method : Method) (linked : links.classes ≡ w.classes) (at : IsAt w asked fresh receiver f m) where
+    abbrev marks : Marks
+    marks = marks_of w m.stack.frame.method fresh receiver
+
+    typed_as : (types : List VType) → f.stack ≡ types → AllFit w (held_by m) marks types m.stack.frame.operands
+    typed_as types e = subst (λ (ts : List VType). AllFit w (held_by m) marks ts m.stack.frame.operands) e at.frame.operands
+
+    may_be_called : (how : InvokeKind) (class : ClassId) (member : MemberIndex) → method_in w.classes (method_of member) ≡ Some method → ArePlain (arguments_in w method)
+        → (given below : List VType) → f.stack ≡ given ++ below → AreAssignable w.classes given (reverse (arguments_in w method)) → is_target links how class method m ≡ true
+        → may_call links how class member m ≡ true
+    unfolding may_call
+    may_be_called how class member declared plain given below stack to target =
+        let there : method_in links.classes (method_of member) ≡ Some method = subst (λ (classes : List Class). method_in classes (method_of member) ≡ Some method) (sym linked) declared in
+        rw there (and_true (are_arguments links.classes method m) (is_target links how class method m)
+        (subst (λ (classes : List Class). are_arguments classes method m ≡ true) (sym linked)
+        (arguments_pass w owed set m marks method.types.parameters given below plain to (typed_as (given ++ below) stack))) target)
+
+    -- the receiver may stand for a class
+    target_of : (class : ClassId) (given : List VType) (top : VType) (below : List VType) → f.stack ≡ given ++ top ∷ below → AreAssignable w.classes given (reverse (arguments_in w method))
+        → IsAssignable w.classes top (vtype.Object class) → operand_is (length method.types.parameters) (refers (is_of_class links.classes class) m) m ≡ true
+    target_of class given top below stack to may =
+        let v = below_them w owed set m marks method.types.parameters given top below to (typed_as (given ++ top ∷ below) stack) in
+        rw v.1.0 (subst (λ (classes : List Class). refers (is_of_class classes class) m v.0 ≡ true) (sym linked)
+        (object_passes w owed set m marks class v.0 (Fits-assignable w owed (held_by m) marks top (vtype.Object class) v.0 may v.1.1)))
+
+    -- the receiver of an `<init>` is what a `new` of the class made
+    made_target : (class : ClassId) (offset : ℕ) (given below : List VType) → f.stack ≡ given ++ vtype.Uninitialized offset ∷ below → AreAssignable w.classes given (reverse (arguments_in w method))
+        → (w.method m.stack.frame.method).made_at offset ≡ Some class → operand_is (length method.types.parameters) (may_construct links class m) m ≡ true
+    made_target class offset given below stack to made =
+        let v = below_them w owed set m marks method.types.parameters given (vtype.Uninitialized offset) below to (typed_as (given ++ vtype.Uninitialized offset ∷ below) stack) in
+        let is : IsMade w (held_by m) marks offset v.0 = v.1.1 in
+        let there : There (IsOf w class) (pointee_at (held_by m) (fresh offset)) =
+        subst (λ (o : Option ClassId). There (λ c. There (IsOf w c) (pointee_at (held_by m) (fresh offset))) o) made is.there in
+        rw v.1.0 (subst (λ (u : Tagged). may_construct links class m u ≡ true) (sym is.is) (made_passes w owed set m marks class (fresh offset) there))
+
+    -- or that of a running `<init>`
+    own_target : (class current : ClassId) (given below : List VType) → f.stack ≡ given ++ vtype.UninitializedThis ∷ below → AreAssignable w.classes given (reverse (arguments_in w method))
+        → code.current_class links m ≡ Some current → (w.method m.stack.frame.method).owner ≡ current → is_own_or_direct w.classes class current ≡ true
+        → operand_is (length method.types.parameters) (may_construct links class m) m ≡ true
+    own_target class current given below stack to runs owner own =
+        let v = below_them w owed set m marks method.types.parameters given vtype.UninitializedThis below to (typed_as (given ++ vtype.UninitializedThis ∷ below) stack) in
+        let is : IsReceiver w (held_by m) marks v.0 = v.1.1 in
+        let there : There (IsA w current) (pointee_at (held_by m) receiver) = subst (λ (c : ClassId). There (IsA w c) (pointee_at (held_by m) receiver)) owner is.there in
+        let passes = object_passes w owed set m marks current (object_at receiver) (at_site (IsA w current) (held_by m) receiver there) in
+        rw v.1.0 (subst (λ (u : Tagged). may_construct links class m u ≡ true) (sym is.is)
+        (ap (λ (o : Option ClassId). option_map_or (λ current. is_own_or_direct links.classes class current && refers (is_of_class links.classes current) m (object_at receiver)) o false) runs
+        ∙ subst (λ (classes : List Class). (is_own_or_direct classes class current && refers (is_of_class classes current) m (object_at receiver)) ≡ true) (sym linked)
+        (and_true (is_own_or_direct w.classes class current) (refers (is_of_class w.classes current) m (object_at receiver)) own passes)))
+
+    -- the receiver of another method by invokespecial
+    both_target : (class current : ClassId) (given : List VType) (top : VType) (below : List VType) → f.stack ≡ given ++ top ∷ below → AreAssignable w.classes given (reverse (arguments_in w method))
+        → IsAssignable w.classes top (vtype.Object current) → IsAssignable w.classes (vtype.Object current) (vtype.Object class) → code.current_class links m ≡ Some current
+        → operand_is (length method.types.parameters) (is_of_both links class m) m ≡ true
+    both_target class current given top below stack to may above runs =
+        let v = below_them w owed set m marks method.types.parameters given top below to (typed_as (given ++ top ∷ below) stack) in
+        let of_current = Fits-assignable w owed (held_by m) marks top (vtype.Object current) v.0 may v.1.1 in
+        let of_named = Fits-assignable w owed (held_by m) marks (vtype.Object current) (vtype.Object class) v.0 above of_current in
+        rw v.1.0 (and_true (refers (is_of_class links.classes class) m v.0) (current_is links (λ current. refers (is_of_class links.classes current) m v.0) m)
+        (subst (λ (classes : List Class). refers (is_of_class classes class) m v.0 ≡ true) (sym linked) (object_passes w owed set m marks class v.0 of_named))
+        (ap (λ (o : Option ClassId). option_map_or (λ current. refers (is_of_class links.classes current) m v.0) o false) runs
+        ∙ subst (λ (classes : List Class). refers (is_of_class classes current) m v.0 ≡ true) (sym linked) (object_passes w owed set m marks current v.0 of_current)))
+
   static_row : (class : ClassId) (member : MemberIndex) → IsRow links w body (insn.Invoke kind.Static class member)
   unfolding effect checked.call call_static
   static_row class member asked fresh receiver f after m s at =
@@ -338,12 +404,15 @@ module _ (links : Links) (w : World) (owed : Owed w) (set : IsClassSet w.classes
       let e = named_effect (insn.Invoke kind.Static class member) f after m s member names.method names.declared (λ method. checked.call body kind.Static class method f) after s.effect in
       let p = takes_all s.body_of.classes (arguments_of body names.method) f (give_result body names.method) after e in
       let r = result_given (insn.Invoke kind.Static class member) f after m s names.method (record f { stack = p.below }) p.further in
-      subst (λ (classes : List Class). Leads w asked (held_by m) (code.call_static classes member m)) (sym s.body_of.linked)
+      let to = subst (λ (ts : List VType). AreAssignable w.classes p.given ts) (arguments_are s.body_of.classes names.method) p.to in
+      let_pass w asked (held_by m) (may_call links kind.Static class member m) _
+      (may_be_called asked fresh receiver f m names.method s.body_of.linked at kind.Static class member names.declared names.plain p.given p.below p.stack to refl)
+      (subst (λ (classes : List Class). Leads w asked (held_by m) (code.call_static classes member m)) (sym s.body_of.linked)
       (subst (λ (o : Option Method). Leads w asked (held_by m) (on_some (λ (method : Method). acts.invoke (chosen (callee_of w.classes false (id_of w.classes member))) m) o)) (sym names.declared)
       (static_leads asked fresh receiver f m member names p.below
-      (record { given = p.given; whole = p.stack; to = subst (λ (ts : List VType). AreAssignable w.classes p.given ts) (arguments_are s.body_of.classes names.method) p.to }) r.0
+      (record { given = p.given; whole = p.stack; to = to }) r.0
       (next_is links w body (insn.Invoke kind.Static class member) f after m s (with_result (result_in w names.method) (record f { stack = p.below })) r.1 refl) at
-      (callee_of w.classes false (id_of w.classes member)) refl))
+      (callee_of w.classes false (id_of w.classes member)) refl)))
 
   virtual_row : (class : ClassId) (member : MemberIndex) → IsRow links w body (insn.Invoke kind.Virtual class member)
   unfolding effect checked.call call_virtual
@@ -352,14 +421,18 @@ module _ (links : Links) (w : World) (owed : Owed w) (set : IsClassSet w.classes
       let e = named_effect (insn.Invoke kind.Virtual class member) f after m s member names.method names.declared (λ method. checked.call body kind.Virtual class method f) after s.effect in
       let p = receives s.body_of.classes (arguments_of body names.method) class f (give_result body names.method) after e in
       let r = result_given (insn.Invoke kind.Virtual class member) f after m s names.method (record f { stack = p.below }) p.further in
-      subst (λ (classes : List Class). Leads w asked (held_by m) (code.call_virtual classes member m)) (sym s.body_of.linked)
+      let to = subst (λ (ts : List VType). AreAssignable w.classes p.given ts) (arguments_are s.body_of.classes names.method) p.to in
+      let_pass w asked (held_by m) (may_call links kind.Virtual class member m) _
+      (may_be_called asked fresh receiver f m names.method s.body_of.linked at kind.Virtual class member names.declared names.plain p.given (p.top ∷ p.below) p.stack to
+      (target_of asked fresh receiver f m names.method s.body_of.linked at class p.given p.top p.below p.stack to p.may))
+      (subst (λ (classes : List Class). Leads w asked (held_by m) (code.call_virtual classes member m)) (sym s.body_of.linked)
       (subst (λ (o : Option Method). Leads w asked (held_by m) (on_some (λ (method : Method). code.call_receiver w.classes method (λ below. selected_of w.classes below (id_of w.classes member)) m) o)) (sym names.declared)
       (receiver_leads asked fresh receiver f m class names.method (λ below. selected_of w.classes below (id_of w.classes member)) names.selects
       (code.invoke_on w.classes (λ below. selected_of w.classes below (id_of w.classes member))) tt (λ b. refl)
       (arrays_select asked fresh receiver f m (λ below. selected_of w.classes below (id_of w.classes member)) names.selects.object)
       (λ reference foreign. inl (arrays_select asked fresh receiver f m (λ below. selected_of w.classes below (id_of w.classes member)) names.selects.object))
-      p.given p.top p.below p.stack (subst (λ (ts : List VType). AreAssignable w.classes p.given ts) (arguments_are s.body_of.classes names.method) p.to) p.may r.0
-      (next_is links w body (insn.Invoke kind.Virtual class member) f after m s (with_result (result_in w names.method) (record f { stack = p.below })) r.1 refl) at))
+      p.given p.top p.below p.stack to p.may r.0
+      (next_is links w body (insn.Invoke kind.Virtual class member) f after m s (with_result (result_in w names.method) (record f { stack = p.below })) r.1 refl) at)))
 
   interface_row : (count : ℕ) (class : ClassId) (member : MemberIndex) → IsRow links w body (insn.InvokeInterface count class member)
   unfolding effect call_interface
@@ -375,14 +448,17 @@ module _ (links : Links) (w : World) (owed : Owed w) (set : IsClassSet w.classes
       (subst (λ (g : Frame). give_result body names.method g ≡ Ok after) (sym met.1) last.1.1) in
       let enters = next_is links w body (insn.InvokeInterface count class member) f after m s (with_result (result_in w names.method) (record f { stack = p.below })) r.1 refl in
       let to = subst (λ (ts : List VType). AreAssignable w.classes p.given ts) (arguments_are s.body_of.classes names.method) p.to in
-      subst (λ (classes : List Class). Leads w asked (held_by m) (code.call_interface classes class member m)) (sym s.body_of.linked)
+      let_pass w asked (held_by m) (may_call links kind.Virtual class member m) _
+      (may_be_called asked fresh receiver f m names.method s.body_of.linked at kind.Virtual class member names.declared names.plain p.given (p.top ∷ p.below) p.stack to
+      (target_of asked fresh receiver f m names.method s.body_of.linked at class p.given p.top p.below p.stack to p.may))
+      (subst (λ (classes : List Class). Leads w asked (held_by m) (code.call_interface classes class member m)) (sym s.body_of.linked)
       (subst (λ (o : Option Method). Leads w asked (held_by m) (on_some (λ (method : Method). on_referent (length method.types.parameters) (code.invoke_interface w.classes class (id_of w.classes member) method) m) o)) (sym names.declared)
       (receiver_leads asked fresh receiver f m class names.method (λ below. interface_selected w.classes below class (id_of w.classes member)) names.selects
       (code.invoke_interface w.classes class (id_of w.classes member) names.method) tt (λ b. refl)
       (arrays_select asked fresh receiver f m (λ below. interface_selected w.classes below class (id_of w.classes member)) names.selects.object)
       (λ reference foreign. inr (stub_leads asked fresh receiver f m class member names p.given p.top p.below p.stack to p.may
       (depth_at asked fresh receiver f m (insn.InvokeInterface count class member) after s at) r.0 enters at reference foreign))
-      p.given p.top p.below p.stack to p.may r.0 enters at))
+      p.given p.top p.below p.stack to p.may r.0 enters at)))
 
   -- ---- invokespecial
 
@@ -461,6 +537,38 @@ module _ (links : Links) (w : World) (owed : Owed w) (set : IsClassSet w.classes
         (subst (λ (ts : List VType). AreAssignable w.classes p.given ts) (arguments_are s.body_of.classes names.method) p.to)
         (constructed body class (record f { stack = p.below }) after p.further)
 
+    -- the receiver and the arguments of an `<init>`
+    init_target : (names : NamesSpecial w body.class_id class member) (given below : List VType) → f.stack ≡ given ++ below → AreAssignable w.classes given (reverse (arguments_in w names.method))
+        → OnMade body class (record f { stack = below }) after ⊎ OnThis body class (record f { stack = below }) after
+        → operand_is (length names.method.types.parameters) (may_construct links class m) m ≡ true
+    init_target names given below stack to (inl on) =
+        made_target asked fresh receiver f m names.method s.body_of.linked at class on.offset given on.below (subst (λ (ts : List VType). f.stack ≡ given ++ ts) on.stack stack) to
+        (s.body_of.made on.offset ∙ named_by (made_at body.insns body.offsets on.offset) class on.made)
+    init_target names given below stack to (inr on) =
+        own_target asked fresh receiver f m names.method s.body_of.linked at class body.class_id given on.below (subst (λ (ts : List VType). f.stack ≡ given ++ ts) on.stack stack) to
+        s.body_of.declared_by (sym s.body_of.owner) (subst (λ (classes : List Class). is_own_or_direct classes class body.class_id ≡ true) s.body_of.classes on.own)
+
+    special_passes : (names : NamesSpecial w body.class_id class member) (b : Bool) → is_init names.method ≡ b
+        → (if b then take_all body (arguments_of body names.method) f >>= construct body class else call_super body class names.method f) ≡ Ok after
+        → may_call links kind.Special class member m ≡ true
+    unfolding call_super
+    special_passes names true init e =
+        let p = takes_all s.body_of.classes (arguments_of body names.method) f (construct body class) after e in
+        let to = subst (λ (ts : List VType). AreAssignable w.classes p.given ts) (arguments_are s.body_of.classes names.method) p.to in
+        may_be_called asked fresh receiver f m names.method s.body_of.linked at kind.Special class member names.declared names.plain p.given p.below p.stack to
+        (rw init (init_target names p.given p.below p.stack to (constructed body class (record f { stack = p.below }) after p.further)))
+    special_passes names false other e =
+        let test = is_assignable body.classes (vtype.Object body.class_id) (vtype.Object class) in
+        let p = receives s.body_of.classes (arguments_of body names.method) body.class_id f (λ g. demand rule.Mismatch test g >>= give_result body names.method) after
+        (sym (in_turn (take_all body (arguments_of body names.method) f >>= take body (want.Fits (vtype.Object body.class_id))) (demand rule.Mismatch test) (give_result body names.method)) ∙ e) in
+        let to = subst (λ (ts : List VType). AreAssignable w.classes p.given ts) (arguments_are s.body_of.classes names.method) p.to in
+        let last = passes_then (demand rule.Mismatch test (record f { stack = p.below })) (give_result body names.method) after p.further in
+        let met = demanded rule.Mismatch test (record f { stack = p.below }) last.0 last.1.0 in
+        let above = assignable_by w.classes set (vtype.Object body.class_id) (vtype.Object class)
+        (subst (λ (classes : List Class). is_assignable classes (vtype.Object body.class_id) (vtype.Object class) ≡ true) s.body_of.classes met.0) in
+        may_be_called asked fresh receiver f m names.method s.body_of.linked at kind.Special class member names.declared names.plain p.given (p.top ∷ p.below) p.stack to
+        (rw other (both_target asked fresh receiver f m names.method s.body_of.linked at class body.class_id p.given p.top p.below p.stack to p.may above s.body_of.declared_by))
+
     -- what a super call comes to, in a class of the set
     abbrev super_in : List Class → Method → Option ClassId → Next
     super_in classes method current =
@@ -477,14 +585,15 @@ module _ (links : Links) (w : World) (owed : Owed w) (set : IsClassSet w.classes
         subst (λ (current : Option ClassId). Leads_to (super_in links.classes names.method current)) (sym s.body_of.declared_by)
         (subst (λ (classes : List Class). Leads_to (super_in classes names.method (Some body.class_id))) (sym s.body_of.linked) (super_leads names other e))
 
-    special_at : Leads_to (code.call_special links class member m)
+    special_at : Leads_to (where_true (may_call links kind.Special class member m) (code.call_special links class member m))
     unfolding effect checked.call call_special
     special_at =
         let names : NamesSpecial w body.class_id class member = s.names in
         let e = named_effect (insn.Invoke kind.Special class member) f after m s member names.method names.declared (λ method. checked.call body kind.Special class method f) after s.effect in
         let there : method_in links.classes (method_of member) ≡ Some names.method =
         subst (λ (classes : List Class). method_in classes (method_of member) ≡ Some names.method) (sym s.body_of.linked) names.declared in
-        subst (λ (o : Option Method). Leads_to (on_some (λ (method : Method). code.call_special_of links class member method m) o)) (sym there) (special_by names (is_init names.method) refl e)
+        let_pass w asked (held_by m) (may_call links kind.Special class member m) _ (special_passes names (is_init names.method) refl e)
+        (subst (λ (o : Option Method). Leads_to (on_some (λ (method : Method). code.call_special_of links class member method m) o)) (sym there) (special_by names (is_init names.method) refl e))
 
   invoke_row : (how : InvokeKind) (class : ClassId) (member : MemberIndex) → IsRow links w body (insn.Invoke how class member)
   invoke_row kind.Virtual class member = virtual_row class member

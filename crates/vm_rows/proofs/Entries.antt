@@ -1,5 +1,5 @@
 -- Methods with code, among the linked methods and among those that classes declare.
-use Rattle.std.proofs.Common.{◌≡◌, ℕ, Bool, true, false, List, refl, sym, subst, ap, ◌∙◌, Option, Some, None}
+use Rattle.std.proofs.Common.{◌≡◌, ℕ, ◌<◌, Bool, true, false, List, length, refl, sym, subst, ap, ◌∙◌, Option, Some, None}
 use Rattle.std.specs.Prelude.{if◌then◌else◌, nat_le, option_map, slice_get, MatchOption, IsSomeAnd}
 use Rattle.std.proofs.lemmas.Option.{slice_get_within, get_or_from_slice_get}
 use Rattle.cf_reader.specs.declared.class_file.Code.{Code}
@@ -15,7 +15,7 @@ use Rattle.ver_check.specs.Acceptance.{subject_of}
 use Rattle.ver_frames.specs.Method.{Subject}
 use Rattle.vm_act.specs.declared.calls.Callee.{Callee}
 use Rattle.vm_code.specs.Methods.{callee_of, words_passed}
-use Rattle.vm_typing.proofs.Leads.{AllZip-get}
+use Rattle.vm_typing.proofs.Leads.{AllZip-get, length-AllZip}
 use Rattle.vm_world.proofs.Subjects.{passes_both}
 use Rattle.vm_world.specs.Worlds.{subject_at}
 
@@ -52,6 +52,17 @@ declared_is links are number s e d at =
     let method : there.method ≡ s.method = same_some (sym there.method_there ∙ (ap (λ (c : Class). slice_get c.file.methods entry.entry.index) class ∙ entry.method_there)) in
     let declared : d.method ≡ there.method = same_some (ap (option_map (λ (d : Declared). d.method)) (sym at) ∙ there.declared) in
     (sym entry.class ∙ (ap (λ (l : LinkedMethod). l.class) (sym same) ∙ r.1.1.class), sym (declared ∙ method))
+
+-- a method with code is declared under its number
+pub declared_under : (links : Links) → AreLinks links → (number : ℕ) (s : Subject) → subject_at links number ≡ Some s → method_at links.classes (record { 0 = number }) ≡ Some s.method
+declared_under links are number s e =
+    let entry = is_entry links number s e in
+    let long : length links.methods ≡ length (declared_methods links.classes) = length-AllZip (IsLinked links.classes) (declared_methods links.classes) links.methods are.methods in
+    let inside = subst (λ (n : ℕ). number < n) long (slice_get_within links.methods number entry.entry entry.at) in
+    let there = at_number links.classes links.methods number entry.entry are.methods inside (sym (get_or_from_slice_get links.methods number entry.entry entry.entry entry.at)) in
+    let class : there.class ≡ s.class = same_some (sym there.class_at ∙ entry.class_there) in
+    let method : there.method ≡ s.method = same_some (sym there.method_there ∙ (ap (λ (c : Class). slice_get c.file.methods entry.entry.index) class ∙ entry.method_there)) in
+    there.declared ∙ ap (λ (m : Method). Some m) method
 
 -- what a call is given of a method is of its number
 pub callee_number : (classes : List Class) (begins : Bool) (id : MethodId) (callee : Callee) → callee_of classes begins id ≡ Some callee → callee.method ≡ id.0

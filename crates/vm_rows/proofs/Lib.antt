@@ -1,6 +1,8 @@
 pub mod Takes
 pub mod Wants
 pub mod Stands
+pub mod Fitting
+pub mod Stops
 pub mod WordRows
 pub mod IntRows
 pub mod ReturnRows

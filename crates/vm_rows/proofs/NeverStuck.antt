@@ -1,6 +1,6 @@
 -- A machine that runs a linked and checked set stands at a checked instruction at each step, so it is never stuck.
-use Rattle.std.proofs.Common.{◌≡◌, ℕ, zero, suc, ◌+◌, ◌<◌, Bool, true, false, List, [], ◌∷◌, length, get_or, refl, sym, subst, ap, Option, Some, None, Ok, arith}
-use Rattle.std.specs.Prelude.{MatchBool, MatchOption, slice_get}
+use Rattle.std.proofs.Common.{◌≡◌, ℕ, zero, suc, ◌+◌, ◌<◌, Bool, true, false, List, [], ◌∷◌, length, get_or, refl, sym, subst, ap, ◌∙◌, Option, Some, None, Ok, arith}
+use Rattle.std.specs.Prelude.{MatchBool, MatchOption, option_map, slice_get}
 use Rattle.std.specs.List.{AllByRecursion}
 use Rattle.std.specs.Option.{option_map_or}
 use Rattle.std.proofs.lemmas.Option.{slice_get_within}
@@ -19,7 +19,8 @@ use Rattle.ver_check.specs.Typing.{IsFineAt, IsTyping, Lands}
 use Rattle.ver_frames.proofs.Starts.{rise}
 use Rattle.ver_frames.specs.Assignable.{IsFrameAssignable}
 use Rattle.ver_frames.specs.Frames.{Frame}
-use Rattle.ver_frames.specs.Method.{Subject}
+use Rattle.ver_frames.specs.Method.{Subject, result_type}
+use Rattle.ver_frames.specs.Types.{field_vtype}
 use Rattle.ver_frames.specs.declared.vtype.VType.{VType}
 use Rattle.vm_act.specs.Steps.{on_some}
 use Rattle.vm_act.specs.declared.machine.Machine.{Machine}
@@ -36,7 +37,7 @@ use Rattle.vm_world.specs.Files.{AreAsRead}
 use Rattle.vm_world.specs.Worlds.{AreTyped, IsTypedBy, method_type, subject_at, world_of}
 use Rattle.vm_rows.specs.Rows.{IsBodyOf, IsRow, StandsAt}
 use Rattle.vm_rows.specs.Steps.{AreNamed, AreNeverStuck, AreNeverStuckByReplies, insn_at, step}
-use Rattle.vm_rows.proofs.Entries.{is_entry}
+use Rattle.vm_rows.proofs.Entries.{declared_under, is_entry}
 use Rattle.vm_rows.proofs.CallRows as calls
 use Rattle.vm_rows.proofs.IntRows as ints
 use Rattle.vm_rows.proofs.ObjectRows as objects
@@ -60,6 +61,10 @@ unfolding declared_at
 declared_within body index f e =
     let at = passes_both (slice_get body.offsets index) (frame_at_offset body.declared) f e in
     slice_get_within body.offsets index at.0 at.1.0
+
+result_is : (s : Subject) → result_type s ≡ option_map (field_vtype s.classes) s.method.types.result
+unfolding result_type
+result_is s = refl
 
 where_true : (A B : Type 0) (b : Bool) → MatchBool b A B → b ≡ true → A
 where_true A B true holds e = holds
@@ -150,6 +155,10 @@ module _ (links : Links) (frames : ℕ → ℕ → Frame) (are : AreLinks links)
           found = found list;
           declared_by = rw entry.at (ap (λ (c : _). Some c) entry.class);
           switches = λ index. rw (entry.at, entry.code) refl;
+          declaration = s.method;
+          declared = declared_under links are number s e;
+          named = refl;
+          gives = result_is s ∙ ap (λ (classes : List Class). option_map (field_vtype classes) s.method.types.result) (stands links number s e).classes;
         }
       where
         found : IsListed s.linked → (index : ℕ) → index < length s.linked.insns → index_from 0 s.linked.offsets (get_or s.linked.offsets index 0) ≡ Some index

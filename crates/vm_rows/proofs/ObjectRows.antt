@@ -3,9 +3,11 @@ use Rattle.std.proofs.Common.{◌≡◌, ◌⊎◌, inl, inr, ℕ, ◌<◌, Bool
 use Rattle.std.specs.Prelude.{option_map, nat_eq, ◌||◌, ◌&&◌, bytes_eq, codes, if◌then◌else◌, slice_get}
 use Rattle.std.specs.List.{list_all, list_any}
 use Rattle.std.specs.Option.{option_map_or}
+use Rattle.std.proofs.lemmas.Bool.{eq-eqb}
 use Rattle.std.proofs.lemmas.Option.{slice_get_within}
 use Rattle.std.proofs.lemmas.Slice.Eq.{bytes_eq-Decides}
 use Rattle.cf_reader.specs.declared.class_file.Field.{Field}
+use Rattle.cf_reader.specs.declared.class_file.Method.{Method}
 use Rattle.cls_link.specs.Links.{Links}
 use Rattle.cls_link.specs.Targets.{index_from}
 use Rattle.cls_link.specs.declared.linked_code.LinkedInsn.TheVariants as insn
@@ -36,25 +38,33 @@ use Rattle.ver_frames.specs.Types.{field_vtype}
 use Rattle.ver_frames.specs.declared.vtype.VType.{VType}
 use Rattle.ver_frames.specs.declared.vtype.VType.TheVariants as vtype
 use Rattle.vm_act.specs.Objects as acts
-use Rattle.vm_act.specs.Steps.{on_some}
+use Rattle.vm_act.specs.Steps.{on_some, where_true}
+use Rattle.vm_act.specs.declared.machine.Machine.{Machine}
 use Rattle.vm_act.specs.declared.objects.Referent.{Referent}
 use Rattle.vm_act.specs.declared.objects.Referent.TheVariants as referent
 use Rattle.vm_code.proofs.Remotes.{interface_sound, remote_sound}
 use Rattle.cls_search.specs.MethodSearches.{is_interface}
 use Rattle.vm_code.specs.Classes.{implements_remotely, is_below_remote, is_instance, is_object, is_remote, is_remote_interface, is_subtype, passes}
 use Rattle.vm_code.specs.Fields.{field_kind, kind_of, kinds_of, slot_of}
+use Rattle.vm_code.specs.Fits as tests
+use Rattle.vm_code.specs.Fits.{current_is, fits, fits_field, is_in_init, is_of_class, may_read, refers, takes_field}
+use Rattle.vm_code.specs.Methods.{is_init}
+use Rattle.vm_heap.specs.Tagged.{Tagged, Site, Int, Null, Local, Remote, Fresh, This, Unset, Head, object_at}
 use Rattle.vm_heap.specs.declared.heap.WordKind.{WordKind}
 use Rattle.vm_act.specs.Next.{Next}
 use Rattle.vm_act.specs.Remote.{create, read_field, write_field}
 use Rattle.vm_typing.proofs.Asks as asks
 use Rattle.vm_typing.proofs.Objects as objects
 use Rattle.vm_typing.proofs.Referents as referents
-use Rattle.vm_typing.specs.Fits.{Held, held_by}
+use Rattle.vm_typing.proofs.Leads.{Fits-assignable, at_site}
+use Rattle.vm_typing.specs.Fits.{Held, held_by, pointee_at, IsA, There, Points, Marks, IsReceiver, Fits, AllFit}
 use Rattle.vm_typing.specs.Laws.{Leads}
+use Rattle.vm_typing.specs.Typed.{IsAt, marks_of}
 use Rattle.vm_typing.specs.Owed.{CastFits, HasKind, IsOne, MayWrite, Owed, Refers}
 use Rattle.vm_typing.specs.World.{World, IsKnown, cleared, is_made_at}
 use Rattle.vm_world.proofs.LookUps.{has_kind}
-use Rattle.vm_rows.specs.Rows.{CastsTo, MakesObjects, NamesField, IsRow, ObjectRows}
+use Rattle.vm_rows.specs.Rows.{CastsTo, MakesObjects, NamesField, IsBodyOf, IsRow, ObjectRows}
+use Rattle.vm_rows.proofs.Fitting.{and_true, object_passes, value_passes}
 use Rattle.vm_rows.proofs.Stands.{fits_asked, next_is, room_for}
 use Rattle.vm_rows.proofs.Takes.{demanded, found_is, gives, passes_then, same_ok, take_last, take_then}
 use Rattle.vm_rows.proofs.Wants.{initialized_wanted}
@@ -83,6 +93,10 @@ none_made offset (t ∷ ts) e = rw (same_made offset t) (on (changes.is_made_at 
     on : (a b : Bool) → not (a || b) ≡ true → (not b ≡ true → list_all (λ t. not (is_made_at offset t)) ts ≡ true) → (not a && list_all (λ t. not (is_made_at offset t)) ts) ≡ true
     on true b e go = absurd (true_false (sym e))
     on false b e go = go e
+
+-- a test lets pass
+pub let_pass : (w : World) (asked : Option VType) (held : Held) (b : Bool) (next : Next) → b ≡ true → Leads w asked held next → Leads w asked held (where_true b next)
+let_pass w asked held b next e leads = subst (λ (c : Bool). Leads w asked held (where_true c next)) (sym e) leads
 
 -- one of two steps
 one_of : (w : World) (asked : Option VType) (held : Held) (b : Bool) (one other : Next) → (b ≡ true → Leads w asked held one) → Leads w asked held other
@@ -120,6 +134,10 @@ module _ (classes : List Class) where
   either true b e = inl refl
   either false b e = inr e
 
+  first_of : (a b : Bool) → (a && b) ≡ true → a ≡ true
+  first_of true b e = refl
+  first_of false b e = e
+
   second : (a b : Bool) → (a && b) ≡ true → b ≡ true
   second true b e = e
   second false b e = absurd (true_false (sym e))
@@ -134,14 +152,14 @@ module _ (classes : List Class) where
 
   -- the object whose field is written
   written : (body : Body) (class : ClassId) (member : MemberIndex) (t : VType) → is_wanted classes (written_object body class member) t ≡ true
-      → ((t ≡ vtype.UninitializedThis) × (body.class_id ≡ member.class)) ⊎ (is_wanted classes (want.Fits (vtype.Object class)) t ≡ true)
+      → ((t ≡ vtype.UninitializedThis) × ((body.is_init ≡ true) × (body.class_id ≡ member.class))) ⊎ (is_wanted classes (want.Fits (vtype.Object class)) t ≡ true)
   written body class member t e = on (is_own_field body member) refl e
     where
       on : (b : Bool) → is_own_field body member ≡ b → is_wanted classes (if b then want.FitsOrThis class else want.Fits (vtype.Object class)) t ≡ true
-          → ((t ≡ vtype.UninitializedThis) × (body.class_id ≡ member.class)) ⊎ (is_wanted classes (want.Fits (vtype.Object class)) t ≡ true)
+          → ((t ≡ vtype.UninitializedThis) × ((body.is_init ≡ true) × (body.class_id ≡ member.class))) ⊎ (is_wanted classes (want.Fits (vtype.Object class)) t ≡ true)
       on true own e =
           elim (this_or class t e) [
-            | inl is ↦ inl (is, sym (equal member.class body.class_id (second body.is_init (nat_eq member.class.0 body.class_id.0) own)))
+            | inl is ↦ inl (is, (first_of body.is_init (nat_eq member.class.0 body.class_id.0) own, sym (equal member.class body.class_id (second body.is_init (nat_eq member.class.0 body.class_id.0) own))))
             | inr is ↦ inr is
           ]
       on false own e = inr e
@@ -196,6 +214,82 @@ module _ (links : Links) (w : World) (owed : Owed w) (set : IsClassSet w.classes
   kind_there class member names same =
       sym (ap (λ (classes : List Class). field_kind classes (field_of member)) same ∙ ap (λ (o : Option Field). option_map (λ (f : Field). kind_of f.kind) o) names.declared)
 
+  -- what the tests of getfield and putfield let pass
+
+  typed_operands : (asked : Option VType) (fresh : ℕ → Site) (receiver : Site) (f : Frame) (m : Machine) → IsAt w asked fresh receiver f m → (types : List VType) → f.stack ≡ types
+      → AllFit w (held_by m) (marks_of w m.stack.frame.method fresh receiver) types m.stack.frame.operands
+  typed_operands asked fresh receiver f m at types e =
+      subst (λ (ts : List VType). AllFit w (held_by m) (marks_of w m.stack.frame.method fresh receiver) ts m.stack.frame.operands) e at.frame.operands
+
+  reads : (class : ClassId) (k : Marks) (m : Machine) (t : VType) (types : List VType) → IsAssignable w.classes t (vtype.Object class)
+      → AllFit w (held_by m) k (t ∷ types) m.stack.frame.operands → may_read w.classes class m ≡ true
+  unfolding may_read
+  reads class k m t types to fit = by m.stack.frame.operands fit
+    where
+      by : (operands : List Tagged) → AllFit w (held_by m) k (t ∷ types) operands → option_map_or (refers (is_of_class w.classes class) m) (slice_get operands 0) false ≡ true
+      by [] fit = absurd fit
+      by (v ∷ rest) fit = object_passes w owed set m k class v (Fits-assignable w owed (held_by m) k t (vtype.Object class) v to fit.0)
+
+  record TwoOperands (k : Marks) (m : Machine) (s t : VType) : Type 0 where
+    value : Tagged
+    target : Tagged
+    one : slice_get m.stack.frame.operands 0 ≡ Some value
+    other : slice_get m.stack.frame.operands 1 ≡ Some target
+    fits : Fits w (held_by m) k s value
+    rests : Fits w (held_by m) k t target
+
+  two_operands : (k : Marks) (m : Machine) (s t : VType) (types : List VType) → AllFit w (held_by m) k (s ∷ t ∷ types) m.stack.frame.operands → TwoOperands k m s t
+  two_operands k m s t types fit = by m.stack.frame.operands refl fit
+    where
+      by : (operands : List Tagged) → m.stack.frame.operands ≡ operands → AllFit w (held_by m) k (s ∷ t ∷ types) operands → TwoOperands k m s t
+      by [] e fit = absurd fit
+      by (v ∷ []) e fit = absurd fit.1
+      by (v ∷ o ∷ rest) e fit = record { value = v; target = o; one = rw e refl; other = rw e refl; fits = fit.0; rests = fit.1.0 }
+
+  writes : (class : ClassId) (member : MemberIndex) (names : NamesField w class member) (k : Marks) (m : Machine) → links.classes ≡ w.classes → (v o : Tagged)
+      → slice_get m.stack.frame.operands 0 ≡ Some v → slice_get m.stack.frame.operands 1 ≡ Some o
+      → Fits w (held_by m) k (field_vtype w.classes names.field.kind) v → takes_field links class (field_of member) m o ≡ true → tests.may_write links class member m ≡ true
+  unfolding tests.may_write
+  writes class member names k m linked v o one other fit to =
+      let plain = owed.fields class names.slot (field_vtype w.classes names.field.kind) names.typed in
+      let of_field : fits_field w.classes (field_of member) m v ≡ true =
+      ap (λ (f : Option Field). option_map_or (λ (f : Field). fits w.classes f.kind m v) f false) names.declared ∙ value_passes w owed set m k names.field.kind v plain fit in
+      rw (one, other) (and_true (fits_field links.classes (field_of member) m v) (takes_field links class (field_of member) m o)
+      (subst (λ (classes : List Class). fits_field classes (field_of member) m v ≡ true) (sym linked) of_field) to)
+
+  -- an object of the named class
+  takes_named : (class : ClassId) (member : MemberIndex) (k : Marks) (m : Machine) → links.classes ≡ w.classes → (o : Tagged)
+      → Points (IsA w class) (held_by m) o → takes_field links class (field_of member) m o ≡ true
+  takes_named class member k m linked = by
+    where
+      passes_in : (o : Tagged) → Points (IsA w class) (held_by m) o → refers (is_of_class links.classes class) m o ≡ true
+      passes_in o points =
+          subst (λ (classes : List Class). refers (is_of_class classes class) m o ≡ true) (sym linked) (object_passes w owed set m k class o points)
+
+      by : (o : Tagged) → Points (IsA w class) (held_by m) o → takes_field links class (field_of member) m o ≡ true
+      by Null points = passes_in Null points
+      by (Local address) points = passes_in (Local address) points
+      by (Remote row) points = passes_in (Remote row) points
+      by (Int n) points = absurd points
+      by (Fresh index site) points = absurd points
+      by (This site) points = absurd points
+      by Unset points = absurd points
+      by (Head header) points = absurd points
+
+  -- the receiver of a running `<init>`, which declares the field
+  takes_own : (class : ClassId) (member : MemberIndex) (k : Marks) (m : Machine) (of : IsBodyOf links w m.stack.frame.method body) (o : Tagged) → IsReceiver w (held_by m) k o
+      → k.method.owner ≡ body.class_id → body.is_init ≡ true → body.class_id ≡ member.class → takes_field links class (field_of member) m o ≡ true
+  takes_own class member k m of o is owner init own =
+      let there : There (IsA w member.class) (pointee_at (held_by m) k.receiver) = subst (λ (c : ClassId). There (IsA w c) (pointee_at (held_by m) k.receiver)) (owner ∙ own) is.there in
+      let passes_there = object_passes w owed set m k member.class (object_at k.receiver) (at_site (IsA w member.class) (held_by m) k.receiver there) in
+      let in_init : is_in_init links m ≡ true = ap (λ (o : Option Method). option_map_or is_init o false) of.declared ∙ (sym of.named ∙ init) in
+      let current : current_is links (λ current. nat_eq current.0 member.class.0) m ≡ true =
+      ap (λ (o : Option ClassId). option_map_or (λ (c : ClassId). nat_eq c.0 member.class.0) o false) of.declared_by ∙ eq-eqb body.class_id.0 member.class.0 (ap (λ (c : ClassId). c.0) own) in
+      subst (λ (v : Tagged). takes_field links class (field_of member) m v ≡ true) (sym is.is)
+      (and_true (is_in_init links m) _ in_init
+      (and_true (current_is links (λ current. nat_eq current.0 member.class.0) m) (refers (is_of_class links.classes member.class) m (object_at k.receiver)) current
+      (subst (λ (classes : List Class). refers (is_of_class classes member.class) m (object_at k.receiver) ≡ true) (sym of.linked) passes_there)))
+
   get_row : (class : ClassId) (member : MemberIndex) → IsRow links w body (insn.GetField class member)
   unfolding effect get_field
   get_row class member asked fresh receiver f after m s at =
@@ -204,12 +298,15 @@ module _ (links : Links) (w : World) (owed : Owed w) (set : IsClassSet w.classes
       let same = field_named class member names first.0 s.body_of.classes first.1.0 in
       let a = take_then body (want.Fits (vtype.Object class)) f (give body (field_vtype body.classes first.0.kind)) after first.1.1 in
       let given = gives body (field_vtype body.classes first.0.kind) (record f { stack = a.types }) after a.further in
-      subst (λ (o : Option ℕ). Leads w asked (held_by m) (on_some (λ slot. read_field slot m) o)) (slot_there class member names s.body_of.linked)
+      let to = fits_asked links w body (insn.GetField class member) f after m s set (vtype.Object class) a.top a.wanted in
+      let_pass w asked (held_by m) (may_read links.classes class m) _
+      (subst (λ (classes : List Class). may_read classes class m ≡ true) (sym s.body_of.linked)
+      (reads class (marks_of w m.stack.frame.method fresh receiver) m a.top a.types to (typed_operands asked fresh receiver f m at (a.top ∷ a.types) a.stack)))
+      (subst (λ (o : Option ℕ). Leads w asked (held_by m) (on_some (λ slot. read_field slot m) o)) (slot_there class member names s.body_of.linked)
       (asks.read_field-leads w owed asked (held_by m) fresh receiver class names.slot (field_vtype body.classes first.0.kind)
-      (subst (λ (t : VType). slice_get (w.fields class) names.slot ≡ Some t) (sym same) names.typed) a.top a.types f m a.stack
-      (fits_asked links w body (insn.GetField class member) f after m s set (vtype.Object class) a.top a.wanted)
+      (subst (λ (t : VType). slice_get (w.fields class) names.slot ≡ Some t) (sym same) names.typed) a.top a.types f m a.stack to
       (room_for links w body (insn.GetField class member) f after m s (length a.types) given.0)
-      (next_is links w body (insn.GetField class member) f after m s (record f { stack = field_vtype body.classes first.0.kind ∷ a.types }) given.1 refl) at)
+      (next_is links w body (insn.GetField class member) f after m s (record f { stack = field_vtype body.classes first.0.kind ∷ a.types }) given.1 refl) at))
 
   put_row : (class : ClassId) (member : MemberIndex) → IsRow links w body (insn.PutField class member)
   unfolding effect put_field
@@ -224,19 +321,29 @@ module _ (links : Links) (w : World) (owed : Owed w) (set : IsClassSet w.classes
       let fits = fits_asked links w body (insn.PutField class member) f after m s set t a.top a.wanted in
       let next = next_is links w body (insn.PutField class member) f after m s (record f { stack = b.types }) (same_ok b.further) refl in
       let k : WordKind = kind_of names.field.kind in
+      let marks = marks_of w m.stack.frame.method fresh receiver in
+      let two = two_operands marks m a.top b.top b.types (typed_operands asked fresh receiver f m at (a.top ∷ b.top ∷ b.types) stack) in
       let kinds : HasKind t k =
       subst (λ (u : VType). HasKind u k) (sym same) (has_kind w.classes names.field.kind (owed.fields class names.slot (field_vtype w.classes names.field.kind) names.typed)) in
-      subst (λ (o : Option ℕ). Leads w asked (held_by m) (on_some (λ slot. on_some (λ kind. write_field slot kind m) (field_kind links.classes (field_of member))) o))
+      let_pass w asked (held_by m) (tests.may_write links class member m) _
+      (writes class member names marks m s.body_of.linked two.value two.target two.one two.other
+      (Fits-assignable w owed (held_by m) marks a.top (field_vtype w.classes names.field.kind) two.value (subst (λ (u : VType). IsAssignable w.classes a.top u) same fits) two.fits)
+      (elim (written body.classes body class member b.top b.wanted) [
+        | inl own ↦ takes_own class member marks m s.body_of two.target (subst (λ (u : VType). Fits w (held_by m) marks u two.target) own.0 two.rests) (sym s.body_of.owner) own.1.0 own.1.1
+        | inr of_class ↦ takes_named class member marks m s.body_of.linked two.target
+            (Fits-assignable w owed (held_by m) marks b.top (vtype.Object class) two.target (fits_asked links w body (insn.PutField class member) f after m s set (vtype.Object class) b.top of_class) two.rests)
+      ]))
+      (subst (λ (o : Option ℕ). Leads w asked (held_by m) (on_some (λ slot. on_some (λ kind. write_field slot kind m) (field_kind links.classes (field_of member))) o))
       (slot_there class member names s.body_of.linked)
       (subst (λ (o : Option WordKind). Leads w asked (held_by m) (on_some (λ kind. write_field names.slot kind m) o)) (kind_there class member names s.body_of.linked)
       (elim (written body.classes body class member b.top b.wanted) [
         | inl own ↦ asks.write_field-leads w owed asked (held_by m) fresh receiver member.class names.slot t
             (subst (λ (u : VType). slice_get (w.fields member.class) names.slot ≡ Some u) (sym same) names.own) k a.top b.top b.types f m kinds stack fits
-            (subst (λ (u : VType). MayWrite w (w.method m.stack.frame.method).owner member.class u) (sym own.0) (sym s.body_of.owner ∙ own.1)) next at
+            (subst (λ (u : VType). MayWrite w (w.method m.stack.frame.method).owner member.class u) (sym own.0) (sym s.body_of.owner ∙ own.1.1)) next at
         | inr of_class ↦ asks.write_field-leads w owed asked (held_by m) fresh receiver class names.slot t
             (subst (λ (u : VType). slice_get (w.fields class) names.slot ≡ Some u) (sym same) names.typed) k a.top b.top b.types f m kinds stack fits
             (may_write body.classes w (w.method m.stack.frame.method).owner class b.top (fits_asked links w body (insn.PutField class member) f after m s set (vtype.Object class) b.top of_class)) next at
-      ]))
+      ])))
 
   -- ---- casts
 

@@ -22,6 +22,7 @@ use Rattle.space_ids.specs.declared.ids.ClassId.{ClassId}
 use Rattle.ver_frames.specs.Assignable.{IsObjectAssignable}
 use Rattle.vm_code.specs.Classes.{is_subtype, is_under}
 use Rattle.vm_code.specs.Fields.{kinds_of, kinds_up}
+use Rattle.vm_code.specs.Methods.{object_of}
 use Rattle.ver_frames.specs.declared.vtype.VType.{VType}
 use Rattle.vm_typing.specs.Owed.{HasKind, Owed}
 use Rattle.vm_typing.specs.World.{World, IsKnown}
@@ -32,6 +33,15 @@ use Rattle.vm_rows.specs.Rows.{CastsTo, HasThrowable, MakesObjects}
 pub object_stands : (classes : List Class) → IsClassSet classes → IsSome (number_of classes (codes "java/lang/Object"))
 unfolding built_ins
 object_stands classes set = set.built_in 0 (built_in [] []) (lit< tt)
+
+-- it is the one that the world of the set has
+pub object_is : (w : World) → Owed w → IsClassSet w.classes → object_of w.classes ≡ Some w.object
+unfolding object_of
+object_is w owed set = on (number_of w.classes (codes "java/lang/Object")) refl (object_stands w.classes set)
+  where
+    on : (o : Option ClassId) → number_of w.classes (codes "java/lang/Object") ≡ o → IsSome o → o ≡ Some w.object
+    on None e some = absurd (cc)
+    on (Some class) e some = ap (λ (c : ClassId). Some c) (sym (owed.object_named class (name_at_number w.classes (codes "java/lang/Object") class e)))
 
 pub object_named : (classes : List Class) → IsClassSet classes → name_at classes (unwrap_or (number_of classes (codes "java/lang/Object")) (record { 0 = 0 })) ≡ Some (codes "java/lang/Object")
 object_named classes set = on (number_of classes (codes "java/lang/Object")) refl (object_stands classes set)

@@ -26,6 +26,7 @@ use Rattle.cf_insns.specs.declared.insn.Equality.{Equality}
 use Rattle.cf_insns.specs.declared.insn.StackOperation.{StackOperation}
 use Rattle.cf_insns.specs.declared.insn.UnaryOperator.{UnaryOperator}
 use Rattle.cf_insns.specs.declared.insn.ValueKind.{ValueKind}
+use Rattle.cls_link.specs.Links as declarations
 use Rattle.cls_link.specs.Links.{Links}
 use Rattle.cls_link.specs.declared.linked_code.LinkedInsn.{LinkedInsn}
 use Rattle.cls_link.specs.declared.linked_code.LinkedInsn.TheVariants as insn
@@ -38,7 +39,7 @@ use Rattle.vm_act.specs.declared.machine.Machine.{Machine}
 use Rattle.vm_code.specs.Act.{act, switch_at}
 use Rattle.vm_typing.specs.Laws.{Leads}
 use Rattle.vm_typing.specs.Typed.{IsAt}
-use Rattle.vm_typing.specs.World.{World, IsKnown, Enters}
+use Rattle.vm_typing.specs.World.{World, ArePlain, IsKnown, Enters}
 use Rattle.cf_insns.specs.declared.insn.InvokeKind.{InvokeKind}
 use Rattle.cf_insns.specs.declared.insn.InvokeKind.TheVariants as invoke
 use Rattle.cf_reader.specs.declared.class_file.Method.{Method}
@@ -48,6 +49,7 @@ use Rattle.vm_act.specs.declared.calls.Callee.{Callee}
 use Rattle.vm_act.specs.declared.calls.Selected.{Selected}
 use Rattle.vm_code.specs.Calls.{id_of}
 use Rattle.vm_code.specs.Parameters.{parameters_of}
+use Rattle.vm_code.specs.Methods as methods
 use Rattle.vm_code.specs.Methods.{callee_of, init_begins_uninit, interface_selected, is_init, object_of, selected_of, special_start}
 
 -- A field that an instruction names, and its slot in objects of the named class, and of the class that declares it.
@@ -97,6 +99,7 @@ pub record RunsAs (w : World) (callee : Callee) (arguments : List VType) (result
 pub record NamesStatic (w : World) (member : MemberIndex) : Type 0 where
   pub method : Method
   pub declared : method_at w.classes member ≡ Some method
+  pub plain : ArePlain (arguments_in w method)
   pub runs : (callee : Callee) → callee_of w.classes false (id_of w.classes member) ≡ Some callee → RunsAs w callee (arguments_in w method) (result_in w method)
 
 -- what the objects of a class and of those below it select, and arrays, of which java/lang/Object is the class
@@ -108,12 +111,14 @@ pub record SelectsBelow (w : World) (class : ClassId) (method : Method) (select 
 pub record NamesVirtual (w : World) (class : ClassId) (member : MemberIndex) : Type 0 where
   pub method : Method
   pub declared : method_at w.classes member ≡ Some method
+  pub plain : ArePlain (arguments_in w method)
   pub selects : SelectsBelow w class method (λ below. selected_of w.classes below (id_of w.classes member))
 
 -- invokeinterface
 pub record NamesInterface (w : World) (class : ClassId) (member : MemberIndex) : Type 0 where
   pub method : Method
   pub declared : method_at w.classes member ≡ Some method
+  pub plain : ArePlain (arguments_in w method)
   pub selects : SelectsBelow w class method (λ below. interface_selected w.classes below class (id_of w.classes member))
   -- what it takes and gives, if it is called on a stub
   pub takes : w.takes (id_of w.classes member).0 ≡ parameters_of method
@@ -132,6 +137,7 @@ pub record Constructs (w : World) (class : ClassId) (callee : Callee) (arguments
 pub record NamesSpecial (w : World) (current class : ClassId) (member : MemberIndex) : Type 0 where
   pub method : Method
   pub declared : method_at w.classes member ≡ Some method
+  pub plain : ArePlain (arguments_in w method)
   pub init : is_init method ≡ true → (callee : Callee) → callee_of w.classes (init_begins_uninit w.classes member.class) (id_of w.classes member) ≡ Some callee
       → Constructs w class callee (arguments_in w method)
   pub selects : is_init method ≡ false → IsObjectAssignable w.classes current class
@@ -169,6 +175,11 @@ pub record IsBodyOf (links : Links) (w : World) (number : ℕ) (body : Body) : T
   pub found : (index : ℕ) → index < length body.insns → index_from 0 body.offsets (offset_at body index) ≡ Some index
   pub declared_by : option_map (λ (entry : LinkedMethod). entry.class) (slice_get links.methods number) ≡ Some body.class_id
   pub switches : (index : ℕ) → switch_at links number index ≡ slice_get body.switches index
+  -- its name and its result are those of the method which is declared
+  pub declaration : Method
+  pub declared : declarations.method_at links.classes (record { 0 = number }) ≡ Some declaration
+  pub named : body.is_init ≡ methods.is_init declaration
+  pub gives : body.result ≡ option_map (field_vtype w.classes) declaration.types.result
 
 -- A machine stands at an instruction of a method. The instruction's effect on the frame there gives a frame that comes in at each index to
 -- which the instruction leads.

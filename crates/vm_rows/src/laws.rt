@@ -11,12 +11,14 @@ ghost use Rattle.ver_check.specs.Members.{method_at};
 ghost use Rattle.ver_frames.specs.Frames.{Frame};
 ghost use Rattle.ver_frames.specs.Method.{is_static};
 ghost use Rattle.vm_act.specs.declared.calls.Callee.{Callee};
+ghost use Rattle.vm_act.specs.declared.machine.Machine.{Machine};
 ghost use Rattle.vm_code.specs.Calls.{id_of};
 ghost use Rattle.vm_code.specs.Methods.{callee_of, init_begins_uninit, interface_selected, is_init, selected_of};
 ghost use Rattle.vm_typing.specs.Owed.{Owed, Selects};
 ghost use Rattle.vm_typing.specs.World.{World};
 ghost use Rattle.vm_world.specs.Worlds.{AreTyped, world_of};
 ghost use Rattle.vm_rows.specs.Rows.{Constructs, RunsAs, arguments_in, result_in, WordRows, IntRows, ReturnRows, ObjectRows, CallRows};
+ghost use Rattle.vm_rows.specs.Stops.{Stops};
 ghost use Rattle.vm_rows.specs.Steps.{AreNamed, AreMembersNamed, AreNeverStuck, AreNeverStuckByReplies};
 
 /// At a checked instruction on constants, local variables or operands as such, a machine that fits the
@@ -44,6 +46,13 @@ pub fn objects_are_let_through()
 /// waits for its result.
 pub fn calls_are_let_through()
     ensures { (links : Links) (w : World) → Owed w → IsClassSet w.classes → (body : Body) → CallRows links w body }
+{}
+
+/// A machine is stuck at a value that does not fit what is declared, by its kind or by the class of an
+/// object: as the value of a putfield, as the last argument of a call, and as the value that a method
+/// returns; and at the object of a getfield.
+pub fn values_that_do_not_fit_stop()
+    ensures { (links : Links) (m : Machine) → Stops links m }
 {}
 
 /// A set that is linked and checked is never stuck: however many steps a typed machine makes by its

@@ -24,7 +24,7 @@ use Rattle.vm_rows.proofs.Entries.{is_entry}
 use Rattle.vm_rows.specs.Steps as rows
 use Rattle.vm_run.specs.Ends.{End, IsEndIn, end_of, returned_cell}
 use Rattle.vm_run.specs.Steps.{crossing}
-use Rattle.vm_replies.specs.Results.{crossed, gives_ints}
+use Rattle.vm_replies.specs.Results.{end_for_caller, gives_ints}
 use Rattle.vm_run.specs.Run.{State, Running, Waits, Over, Lost, over, after, answer, fuel_after, code_of, played, step, run, AreDue, IsDue, IsNotLost, IsNeverStuck}
 
 cell-there : (links : Links) (P : Pointee → Type 0) (o : Option Cell) (fuel : ℕ) → There P (option_map (λ cell. OfHeap cell) o)
@@ -101,20 +101,20 @@ module _ (links : Links) (frames : ℕ → ℕ → types.Frame) (asked : Option 
   completed-sound m Stuck fuel done = done
 
   -- what crosses of a result is given, as the result is
-  crossed-given : (held : Held) (ints : Bool) (e : Ending) → IsGiven world asked held e → IsGiven world asked held (crossed ints e)
-  crossed-given held ints ending.ReturnedNothing given = given
-  crossed-given held ints (ending.ReturnedInt n) given = given
-  crossed-given held ints (ending.ReturnedReference None) given = given
-  crossed-given held true (ending.ReturnedReference (Some address)) given = given
-  crossed-given held false (ending.ReturnedReference (Some address)) given = tt
-  crossed-given held ints (ending.ReturnedRemote reference) given = given
-  crossed-given held ints (ending.Threw thrown) given = tt
-  crossed-given held ints (ending.ThrewObject class) given = given
-  crossed-given held ints ending.Spent given = tt
+  end-given : (held : Held) (ints : Bool) (e : Ending) → IsGiven world asked held e → IsGiven world asked held (end_for_caller ints e)
+  end-given held ints ending.ReturnedNothing given = given
+  end-given held ints (ending.ReturnedInt n) given = given
+  end-given held ints (ending.ReturnedReference None) given = given
+  end-given held true (ending.ReturnedReference (Some address)) given = given
+  end-given held false (ending.ReturnedReference (Some address)) given = tt
+  end-given held ints (ending.ReturnedRemote reference) given = given
+  end-given held ints (ending.Threw thrown) given = tt
+  end-given held ints (ending.ThrewObject class) given = given
+  end-given held ints ending.Spent given = tt
 
   crossing-leads : (held : Held) (ints : Bool) (n : Next) → LeadsTo world asked held Typed n → LeadsTo world asked held Typed (crossing ints n)
   crossing-leads held ints (On m) leads = leads
-  crossing-leads held ints (Ends e) leads = crossed-given held ints e leads
+  crossing-leads held ints (Ends e) leads = end-given held ints e leads
   crossing-leads held ints (Asks op m) leads = leads
   crossing-leads held ints Stuck leads = leads
 

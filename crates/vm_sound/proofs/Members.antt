@@ -1,7 +1,6 @@
 -- The fields and the methods that the instructions of a linked set name.
 use Rattle.std.proofs.Common.{◌≡◌, ◌≢◌, inr, ℕ, Bool, true, false, List, refl, subst, Option, Some, None}
-use Rattle.std.specs.Prelude.{IfSome, IsSome, codes}
-use Rattle.std.specs.Option.{unwrap_or}
+use Rattle.std.specs.Prelude.{IfSome, slice_get}
 use Rattle.cf_insns.specs.declared.insn.Insn.{Insn}
 use Rattle.cf_insns.specs.declared.insn.InvokeKind.{InvokeKind}
 use Rattle.cf_insns.specs.declared.insn.InvokeKind.TheVariants as invoke
@@ -19,7 +18,6 @@ use Rattle.cls_resolve.specs.References.{asked_of, invoke_operation}
 use Rattle.cls_resolve.specs.declared.named.MemberIndex.{MemberIndex}
 use Rattle.cls_resolve.specs.declared.references.Asked.TheVariants as asked
 use Rattle.cls_resolve.specs.declared.references.MemberOperation.TheVariants as operations
-use Rattle.cls_set.specs.Classes.{number_of}
 use Rattle.cls_set.specs.Subtypes.IsSubclass.{superclass}
 use Rattle.space_ids.specs.declared.ids.ClassId.{ClassId}
 use Rattle.ver_check.specs.Members.{method_at}
@@ -31,14 +29,15 @@ use Rattle.vm_act.specs.declared.calls.Selected.TheVariants as selected
 use Rattle.vm_code.specs.Calls.{id_of}
 use Rattle.vm_code.specs.Methods.{is_init, is_superclass, object_of, selected_of, special_start, start_above, superclass_at}
 use Rattle.vm_typing.specs.Owed.{Selects}
-use Rattle.vm_typing.specs.World.{World, IsKnown}
+use Rattle.vm_typing.specs.World.{World, ArePlain, IsKnown}
 use Rattle.vm_world.proofs.Owing.{owed}
+use Rattle.vm_world.proofs.Subjects.{passes_both}
 use Rattle.vm_world.specs.Files.{AreAsRead}
 use Rattle.vm_world.specs.Worlds.{AreTyped, world_of}
 use Rattle.vm_rows.proofs.Callees as callees
 use Rattle.vm_rows.proofs.Named.{nameless}
 use Rattle.vm_rows.proofs.Readings.{linked_at}
-use Rattle.vm_rows.proofs.Sets.{object_stands}
+use Rattle.vm_rows.proofs.Sets.{object_is}
 use Rattle.vm_rows.specs.Rows.{Constructs, Names, NamesInterface, NamesSpecial, NamesVirtual, arguments_in, result_in}
 use Rattle.vm_rows.specs.Steps.{AreMembersNamed, NamesMember}
 use Rattle.vm_sound.proofs.Fields.{names_field}
@@ -49,12 +48,7 @@ module _ (links : Links) (frames : ℕ → ℕ → Frame) (are : AreLinks links)
   world = world_of links frames
 
   object : object_of links.classes ≡ Some world.object
-  unfolding object_of
-  object = on (number_of links.classes (codes "java/lang/Object")) (object_stands links.classes are.set)
-    where
-      on : (o : Option ClassId) → IsSome o → o ≡ Some (unwrap_or o (record { 0 = 0 }))
-      on None some = absurd (cc)
-      on (Some class) some = refl
+  object = object_is world (owed links frames are typed files) are.set
 
   -- what a class selects may be called on what may stand for the class
   raised : (below class : ClassId) → IsKnown world below → IsObjectAssignable links.classes below class → (arguments : List VType) (result : Option VType) (s : Selected)
@@ -77,10 +71,17 @@ module _ (links : Links) (frames : ℕ → ℕ → Frame) (are : AreLinks links)
       on true (Some up) e = inr (superclass current up (callees.extends links frames are files current up e))
 
   module _ (member : MemberIndex) (m : Method) (there : method_at links.classes member ≡ Some m) where
+    -- its parameters are of types of the profile
+    plain : ArePlain (arguments_in world m)
+    plain =
+        let class = passes_both (slice_get links.classes member.class.0) _ m there in
+        files.parameters m (record { class = member.class; c = class.0; index = member.index; at = class.1.0; is = class.1.1 })
+
     virtual_named : (class : ClassId) → is_init m ≡ false → NamesVirtual world class member
     virtual_named class other = record {
       method = m;
       declared = there;
+      plain = plain;
       selects = record { object = object; runs = λ below known to. callees.selects links frames are files member m there other below };
     }
 
@@ -88,6 +89,7 @@ module _ (links : Links) (frames : ℕ → ℕ → Frame) (are : AreLinks links)
     interface_named class other = record {
       method = m;
       declared = there;
+      plain = plain;
       selects = record { object = object; runs = λ below known to. callees.selects_interface links frames are files member m there other below class };
       takes = (callees.asked_as links frames are files member m there).takes;
       gives = (callees.asked_as links frames are files member m there).gives;
@@ -98,6 +100,7 @@ module _ (links : Links) (frames : ℕ → ℕ → Frame) (are : AreLinks links)
     special_named current class own = record {
       method = m;
       declared = there;
+      plain = plain;
       init = λ init callee is. subst (λ (c : ClassId). Constructs world c callee (arguments_in world m)) (own init) (callees.init_runs links frames are files member m callee there init is);
       selects = λ other to. record {
         object = object;
@@ -129,7 +132,7 @@ module _ (links : Links) (frames : ℕ → ℕ → Frame) (are : AreLinks links)
     invoked invoke.Static index class member m at sound =
         let other = no_init links.classes current method operations.InvokeStatic index kind.Method class member m no_other sound at (λ e. cc) in
         let static = static_named links.classes current method operations.InvokeStatic index kind.Method class member m no_other sound at refl in
-        record { method = m; declared = at.declared; runs = λ callee is. callees.static_runs links frames are files member m callee at.declared other static is }
+        record { method = m; declared = at.declared; plain = plain member m at.declared; runs = λ callee is. callees.static_runs links frames are files member m callee at.declared other static is }
 
     by_name : {insn : Insn} {i : LinkedInsn} → IsLinkedName links.classes current insn i → Sound insn → NamesMember world current i
     by_name (forms.IsLinkedName.load_constant index value is) sound = tt

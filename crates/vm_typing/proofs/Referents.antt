@@ -31,10 +31,10 @@ use Rattle.vm_typing.proofs.Turns.{popped, get_front, more_front}
 use Rattle.vm_typing.proofs.Calls.{reversed, on_left, passed-leads, waits_for}
 
 -- what a value of a type that is asked for stands for
-record Found (w : World) (held : Held) (t : VType) (v : Tagged) : Type 0 where
-  stands : Referent
-  is : referent_of held.references held.cells v ≡ Some stands
-  one : IsOne w t stands
+pub record Found (w : World) (held : Held) (t : VType) (v : Tagged) : Type 0 where
+  pub stands : Referent
+  pub is : referent_of held.references held.cells v ≡ Some stands
+  pub one : IsOne w t stands
   -- and it is of each class that this one may stand for
   above : (c : ClassId) → CastFits w (vtype.Object c) stands → Points (IsA w c) held v
   ints : CastFits w vtype.IntArray stands → Points IsInts held v
@@ -118,7 +118,7 @@ found_null : (w : World) (held : Held) (v : Tagged) → IsNull v → Found w hel
 found_null w held Null fit = record { stands = referent.Null; is = refl; one = tt; above = λ c fits. tt; ints = λ fits. tt; away = λ reference e. absurd (cc) }
 found_null w held v fit = absurd fit
 
-found : (w : World) (held : Held) (k : Marks) (t : VType) (v : Tagged) → Refers t → Fits w held k t v → Found w held t v
+pub found : (w : World) (held : Held) (k : Marks) (t : VType) (v : Tagged) → Refers t → Fits w held k t v → Found w held t v
 found w held k vtype.Null v refers fit = found_null w held v fit
 found w held k (vtype.Object c) v refers fit = found_object w held c v fit
 found w held k vtype.IntArray v refers fit = found_ints w held v fit
