@@ -35,6 +35,7 @@ impl<S: Played + Drop> Player<S> {
                 };
                 self.between(dial, *event)
             }
+            Command::Acknowledge { space, variable } => self.acknowledge(space, variable),
             Command::Settle => self.settle(),
             Command::Step(space) => {
                 let number = self.names.number(space)?;
@@ -106,11 +107,25 @@ impl<S: Played + Drop> Player<S> {
         }
     }
 
+    // Acknowledges the result of a task of this space. Nothing happens if the variable stands for a task of
+    // another one, whose number a task of this space may have too.
+    fn acknowledge(&mut self, space: &str, variable: &str) -> Result<(), PlayFault> {
+        let number = self.names.number(space)?;
+        let key = self.variable(variable)?.key;
+        if key.space == number {
+            let _ = self.happen(WorldEvent::Own {
+                space: number,
+                event: Event::RootAck(key.task),
+            })?;
+        }
+        Ok(())
+    }
+
     // What happens on the connection that a space dialled to a peer: the newest, if there are more.
     fn between(&mut self, dial: Dial, event: Between) -> Result<(), PlayFault> {
         let Dial { dialler, dialled } = dial;
         match event {
-            Between::Open => return self.open(dial),
+            Between::Open => return self.open_accepted(dial),
             Between::Refuse => {
                 let _ = self.happen(WorldEvent::Refuse { dialler, dialled })?;
                 return Ok(());
@@ -145,9 +160,6 @@ impl<S: Played + Drop> Player<S> {
     // The space of a command that is an event of its own, and that event.
     fn event<'a>(&self, command: &Command<'a>) -> Result<(&'a str, Event), PlayFault> {
         match command {
-            Command::Acknowledge { space, variable } => {
-                Ok((*space, Event::RootAck(self.variable(variable)?.key.task)))
-            }
             Command::Bind {
                 space,
                 name,

@@ -10,6 +10,7 @@ use sp_promises::run;
 use sp_world::{CoreFault, Dial, Output, World, WorldEvent};
 use space_ids::{Row, Value};
 use std::alloc::Global;
+use std::collections::VecDeque;
 use std::mem;
 use table_copies::copy_value;
 
@@ -22,6 +23,8 @@ pub(crate) struct Player<S> {
     pub(crate) names: Names,
     pub(crate) connections: Connections,
     pub(crate) variables: Variables,
+    // The connections that `settle` has opened and nobody has accepted, the oldest first.
+    pub(crate) unaccepted: VecDeque<u64>,
     // How many rows of outputs of each space were looked at.
     told: Vec<usize>,
     text: Vec<u8>,
@@ -40,6 +43,7 @@ impl<S: Played + Drop> Player<S> {
             names,
             connections: Connections::new(alloc),
             variables: Variables::new(alloc),
+            unaccepted: VecDeque::new(alloc),
             told,
             text: Vec::new(alloc),
         })
@@ -54,6 +58,7 @@ impl<S: Played + Drop> Player<S> {
             names,
             connections: _,
             variables,
+            unaccepted: _,
             told: _,
             text,
         } = self;
@@ -159,15 +164,26 @@ impl<S: Played + Drop> Player<S> {
         self.world.space(number)?.ready()
     }
 
-    // Opens a connection for a dial that waits, and lets the peer accept it.
-    pub(crate) fn open(&mut self, dial: Dial) -> Result<(), PlayFault> {
+    // Opens a connection for a dial that waits, and lets the peer accept it. Nothing happens if none waits.
+    pub(crate) fn open_accepted(&mut self, dial: Dial) -> Result<(), PlayFault> {
         if !self.is_asked(dial)? {
             return Ok(());
         }
+        let conn = self.open(dial)?;
+        self.accept(conn)
+    }
+
+    // Opens a connection for a dial that waits. Returns its number.
+    pub(crate) fn open(&mut self, dial: Dial) -> Result<u64, PlayFault> {
         let conn = self.connections.len() as u64;
         let Dial { dialler, dialled } = dial;
         let _ = self.happen(WorldEvent::Open { dialler, dialled })?;
         self.connections.add(dial)?;
+        Ok(conn)
+    }
+
+    // Lets the peer that was dialled accept a connection.
+    pub(crate) fn accept(&mut self, conn: u64) -> Result<(), PlayFault> {
         let _ = self.happen(WorldEvent::Accept(conn))?;
         Ok(())
     }

@@ -9,9 +9,9 @@ const MOST_EVENTS: usize = 100_000;
 
 impl<S: Played + Drop> Player<S> {
     // Lets happen what can, at most 100,000 events. Each is the first possible of these: a dial that waits
-    // is opened and accepted, as they were asked; a frame comes to an end of a connection, by connections,
-    // and to the space that was dialled first; the lowest space that can lets its lowest task make an
-    // instruction.
+    // is opened, as they were asked; a connection is accepted; a frame comes to an end of a connection, by
+    // connections, and to the space that was dialled first; the lowest space that can lets its lowest task
+    // make an instruction.
     pub(crate) fn settle(&mut self) -> Result<(), PlayFault> {
         for _ in 0..MOST_EVENTS {
             if !self.settle_one()? {
@@ -24,7 +24,12 @@ impl<S: Played + Drop> Player<S> {
     // Lets the first possible event happen. Returns whether there was one.
     fn settle_one(&mut self) -> Result<bool, PlayFault> {
         if let Some(dial) = self.first_dial()? {
-            self.open(dial)?;
+            let conn = self.open(dial)?;
+            self.unaccepted.push_back(conn)?;
+            return Ok(true);
+        }
+        if let Some(conn) = self.unaccepted.pop_front() {
+            self.accept(conn)?;
             return Ok(true);
         }
         if let Some(event) = self.first_delivery() {
