@@ -3,6 +3,7 @@
 #![tactic(auto)]
 
 use sp_main::{Disk, Status, command};
+use std::io::ErrorKind;
 use std::process::ExitCode;
 use std::rt::Env;
 use std::{env, io};
@@ -18,8 +19,12 @@ fn main(rt: HostRuntime) -> ExitCode {
             &mut io::writer(&rt.stdout()),
             &mut io::writer(&rt.stderr()),
         ),
-        Err(_) => {
-            let _ = eprintln!(rt; "no memory");
+        Err(error) => {
+            let said = match error.kind() {
+                ErrorKind::InvalidData => "a word of the command line is no UTF-8",
+                _ => "no memory",
+            };
+            let _ = eprintln!(rt; "{said}");
             Status::Failed.code()
         }
     };

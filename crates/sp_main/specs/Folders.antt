@@ -7,7 +7,7 @@ use Rattle.sp_runs.specs.declared.running.ClassBytes.{ClassBytes}
 use Rattle.sp_runs.specs.declared.running.Content.{Content}
 use Rattle.sp_runs.specs.declared.running.Content.TheVariants.{Bytes, Unreadable}
 use Rattle.sp_main.specs.declared.folder.FolderFault.{FolderFault}
-use Rattle.sp_main.specs.declared.folder.FolderFault.TheVariants.{CannotRead, NotAFolder, Memory}
+use Rattle.sp_main.specs.declared.folder.FolderFault.TheVariants.{CannotRead, Memory}
 
 -- A name of an entry of a folder: it has a byte and no slash, and is neither of the two names that stand for the folder
 -- itself and for the one above it (POSIX 3.170, 4.13)
@@ -49,7 +49,6 @@ AreBelow folder found = All (λ path. IsClassPath folder (string_bytes path)) fo
 -- a fault names the folder, or one below it
 abbrev pub NamesBelow : List ℕ → FolderFault → Type 0
 NamesBelow folder (CannotRead path) = IsBelow folder (string_bytes path)
-NamesBelow folder (NotAFolder path) = IsBelow folder (string_bytes path)
 NamesBelow folder Memory = Unit {0}
 
 -- the content of a file is what its device gave: all of its bytes, or its first `most`

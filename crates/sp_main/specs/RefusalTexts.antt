@@ -1,6 +1,6 @@
 -- What is printed of a refusal, a line each: `cannot read PATH`, `cannot read PATH: not a folder`, `refused PATH at OFFSET: N NAME`,
 -- `refused CLASS: N NAME`, `refused CLASS.METHODDESCRIPTOR at OFFSET: N NAME` or `refused start: N NAME`. (This project's own.)
-use Rattle.std.specs.Prelude.{◌≡◌, ◌≢◌, ◌⊎◌, ◌<◌, ◌++◌, ℕ, List, codes, length, slice_get}
+use Rattle.std.specs.Prelude.{◌≡◌, ◌≢◌, ◌<◌, ◌++◌, ℕ, List, codes, length, slice_get}
 use Rattle.std.specs.Fmt.{decimal}
 use Rattle.std.specs.Option.{IsSomeAnd}
 use Rattle.std.specs.String.{string_bytes}
@@ -30,9 +30,9 @@ use Rattle.vm_run.specs.declared.fault.StartFault.TheVariants as start
 abbrev pub unreadable_text : (path : List ℕ) → List ℕ
 unreadable_text path = codes "cannot read " ++ path
 
--- a folder that cannot be read, or a path that is no folder
+-- a path that leads to no folder that can be read
 abbrev pub TellsUnreadable : (path text : List ℕ) → Type 0
-TellsUnreadable path text = (text ≡ line_of (unreadable_text path)) ⊎ (text ≡ line_of (unreadable_text path ++ codes ": not a folder"))
+TellsUnreadable path text = text ≡ line_of (unreadable_text path)
 
 -- what is refused, and after it the number of a rule, in decimal, and its name
 abbrev pub rule_text : (refused : List ℕ) → (number : ℕ) → (name : List ℕ) → List ℕ

@@ -7,7 +7,7 @@ ghost use Rattle.sp_main.specs.declared.folder.FolderFault.TheVariants as fault;
 ghost use Rattle.sp_main.specs.Folders.{AreBelow, IsBelow, IsClassPath, IsEntryName, NamesBelow, joined};
 
 use std::alloc::{AllocError, AllocFailed, Global};
-use std::io::{ErrorKind, Read};
+use std::io::Read;
 use std::rt::Files;
 use std::{fs, io};
 use thiserror::Error;
@@ -15,12 +15,9 @@ use thiserror::Error;
 /// Why the files of a folder cannot be listed.
 #[derive(Debug, Drop, Error)]
 pub enum FolderFault {
-    /// This folder cannot be read.
+    /// This folder cannot be read, or is none.
     #[error("cannot read {0}")]
     CannotRead(String),
-    /// This is no folder.
-    #[error("cannot read {0}: not a folder")]
-    NotAFolder(String),
     #[error("no memory")]
     Memory,
 }
@@ -192,9 +189,6 @@ fn list_folder<R: Files + AllocGlobal + Clone + Drop>(
     let path = folder.as_str();
     let entries = match fs::read_dir(runtime, path) {
         Ok(entries) => entries,
-        Err(error) if error.kind() == ErrorKind::NotADirectory => {
-            return Err(FolderFault::NotAFolder(folder));
-        }
         Err(_) => return Err(FolderFault::CannotRead(folder)),
     };
     for entry in entries {

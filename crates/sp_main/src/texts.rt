@@ -141,26 +141,15 @@ pub fn accepted_report(alloc: Global, files: usize) -> Result<Report, AllocError
         .report(Status::Done)
 }
 
-/// Returns the report of a folder whose files cannot be listed.
+/// Returns the report of a folder whose files cannot be listed, or of a path that leads to none.
 pub fn folder_report(alloc: Global, fault: FolderFault) -> Result<Report, AllocError>
     ensures status { IfOk result (λ report. report.status ≡ Status.Failed) }
     ensures text { IfOk result (λ report. (path : List ℕ) × TellsUnreadable path report.text.items) }
 {
     match fault {
         FolderFault::CannotRead(path) => unreadable_report(alloc, &path),
-        FolderFault::NotAFolder(path) => no_folder_report(alloc, &path),
         FolderFault::Memory => Err(AllocError),
     }
-}
-
-// What is reported of a path that leads to no folder.
-fn no_folder_report(alloc: Global, path: &str) -> Result<Report, AllocError>
-    ensures status { IfOk result (λ report. report.status ≡ Status.Failed) }
-    ensures text { IfOk result (λ report. report.text.items ≡ line_of (unreadable_text path.now ++ codes ": not a folder")) }
-{
-    unreadable(alloc, path)?
-        .text(": not a folder")?
-        .report(Status::Failed)
 }
 
 /// Returns the report of a file that cannot be read.
@@ -169,13 +158,10 @@ pub fn unreadable_report(alloc: Global, path: &str) -> Result<Report, AllocError
     ensures text { IfOk result (λ report. report.text.items ≡ line_of (unreadable_text path.now)) }
     ensures line { IfOk result (λ report. IsLine report.text.items) }
 {
-    unreadable(alloc, path)?.report(Status::Failed)
-}
-
-fn unreadable(alloc: Global, path: &str) -> Result<Line, AllocError>
-    ensures { IfOk result (λ line. line ≡ unreadable_text path.now) }
-{
-    Line::new(alloc).text("cannot read ")?.text(path)
+    Line::new(alloc)
+        .text("cannot read ")?
+        .text(path)?
+        .report(Status::Failed)
 }
 
 fn set_report(alloc: Global, fault: &SetFault) -> Result<Report, AllocError>
