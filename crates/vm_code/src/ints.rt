@@ -20,7 +20,7 @@ pub fn unary(machine: &mut Machine, operator: UnaryOperator) -> Flow
     machine.go_on()
 }
 
-/// Executes an instruction from Executes an instruction from iadd to ixor.
+/// Executes an instruction from iadd to ixor.
 #[inline(always)]
 pub fn binary(machine: &mut Machine, operator: BinaryOperator) -> Flow
     requires index { machine.old.stack.frame.index + 1 < 2 ^ 64 }
@@ -52,8 +52,8 @@ pub fn if_zero(machine: &mut Machine, condition: Condition, target: u16) -> Flow
     machine.branch(operators::holds(condition, n, 0), target)
 }
 
-/// Executes an instruction from Executes an instruction from if_icmpeq to if_icmple: the same
-/// between two ints, the one on top on the right.
+/// Executes an instruction from if_icmpeq to if_icmple: the same between two ints, the one on top on the
+/// right.
 #[inline(always)]
 pub fn if_compare(machine: &mut Machine, condition: Condition, target: u16) -> Flow
     requires index { machine.old.stack.frame.index + 1 < 2 ^ 64 }

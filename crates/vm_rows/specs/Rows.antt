@@ -1,4 +1,4 @@
--- "Instructions are type safe" (JVMS 4.10.1.9): if the checker's effect of an instruction takes the type frame of a method, the act of the
+-- Instructions are type safe (JVMS 4.10.1.9): if the checker's effect of an instruction takes the type frame of a method, the act of the
 -- instruction takes a machine that fits the frame.
 use Rattle.std.specs.Prelude.{◌≡◌, ℕ, ◌+◌, ◌<◌, true, ℤ, Option, Some, Ok, List, length, slice_get, IsSome, codes, false, map, option_map}
 use Rattle.std.specs.List.{AllByRecursion, AllZip}

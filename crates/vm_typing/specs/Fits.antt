@@ -1,4 +1,4 @@
--- When a value is of a type, over what its task holds: "each value is of the type in its place" (JVMS 4.10.1.2 for the types).
+-- When a value is of a type, over what its task holds (JVMS 4.10.1.2 for the types).
 use Rattle.std.specs.Prelude.{◌≡◌, ℕ, false, if◌then◌else◌, Option, Some, None, List, [], ◌∷◌, slice_get, option_map}
 use Rattle.std.specs.List.{AllZip}
 use Rattle.space_ids.specs.declared.ids.ClassId.{ClassId}

@@ -22,8 +22,8 @@ abbrev pub reference_to : Option ℕ → Tagged
 reference_to None = Null
 reference_to (Some address) = Local address
 
--- "the type of the value is that of the method's descriptor" (JVMS 2.6.4), over what the task holds at the end; what is thrown is of a
--- class of the set
+-- A value that is returned is of the result type of the method's descriptor (JVMS 2.6.4), over what the task holds at the end; what is thrown is
+-- of a class of the set.
 abbrev pub IsGiven : World → Option VType → Held → Ending → Type 0
 IsGiven w asked held ending.ReturnedNothing = asked ≡ None
 IsGiven w asked held (ending.ReturnedInt n) = asked ≡ Some vtype.Int

@@ -1,4 +1,4 @@
--- Runs of machines: "execution proceeds from one instruction to the next" (JVMS 2.11), from the frame of a method that is started.
+-- Runs of machines: they execute one instruction after the other (JVMS 2.11), from the frame of a method that is started.
 use Rattle.std.specs.Prelude.{◌≡◌, ℕ, zero, suc, ◌-◌, false, Option, List, [], ◌∷◌, ◌++◌, replicate}
 use Rattle.ver_frames.specs.declared.vtype.VType.{VType}
 use Rattle.vm_heap.specs.Tagged.{Tagged, Unset}

@@ -43,7 +43,7 @@ pub record AreAsRead (classes : List Class) : Type 0 where
   -- java/lang/Object is the built-in one: it has no superclass and no field
   pub object : (class : ClassId) (c : Class) → slice_get classes class.0 ≡ Some c → c.file.name ≡ codes "java/lang/Object"
       → (c.superclass ≡ None) × (own_types classes c.file.fields ≡ [])
-  -- "fields of interfaces are static" (JVMS 4.5)
+  -- fields of interfaces are static (JVMS 4.5)
   pub interfaces : (class : ClassId) (c : Class) → slice_get classes class.0 ≡ Some c → IsInterface c → own_types classes c.file.fields ≡ []
   -- the types of fields, parameters and results are those of the profile, and name classes of the set
   pub fields : (class : ClassId) (c : Class) → slice_get classes class.0 ≡ Some c → ArePlain (own_types classes c.file.fields)
