@@ -4,13 +4,16 @@ use super::{Between, Command, LineFault};
 use std::alloc::Global;
 
 /// Returns what a line says, and `None` for an empty one. `LineFault::Bad` for a word that is none of a
-/// script, for too many or too few words, and for a number that is not digits alone, or out of range:
+/// script, as an empty one is, for too many or too few words, and for a number that is not digits alone, or out of range:
 /// fuel and moments are below 2^63 and 2^64.
 pub fn read_line<'a>(alloc: Global, line: &'a str) -> Result<Option<Command<'a>>, LineFault> {
     if line.is_empty() {
         return Ok(None);
     }
     let words: Vec<&'a str> = line.split(' ').collect(alloc)?;
+    if words.iter().any(|word| word.is_empty()) {
+        return Err(LineFault::Bad);
+    }
     match words.as_slice() {
         ["settle"] => Ok(Some(Command::Settle)),
         [verb, space, rest @ ..] => Ok(Some(command_of(alloc, *verb, *space, rest)?)),

@@ -1,6 +1,7 @@
 -- What class files give, if they break no rule, is one.
-use Rattle.std.proofs.Common.{◌≡◌, ◌≢◌, ◌∙◌, ◌+◌, ℕ, zero, suc, ℤ, Bool, true, false, List, [], ◌∷◌, Some, None, arith, ap, refl, subst, sym}
-use Rattle.std.specs.Prelude.{MatchBool, Option, Result, Ok, Err, IsErrAnd, drop, length, nat_le, option_map, slice_get, take}
+use Rattle.std.proofs.Common.{◌≡◌, ◌≢◌, ◌∙◌, ◌+◌, inl, inr, ℕ, zero, suc, ℤ, Bool, true, false, List, [], ◌∷◌, Some, None, arith, ap, refl, subst, sym}
+use Rattle.std.specs.Prelude.{MatchBool, Option, Result, Ok, Err, IsErrAnd, length, nat_le, slice_get}
+use Rattle.std.proofs.lemmas.Option.{slice_get_within}
 use Rattle.cf_reader.proofs.SpellsLaws.{one_class}
 use Rattle.cf_reader.specs.declared.class_file.ClassFile.{ClassFile}
 use Rattle.cf_load.specs.declared.load_fault.LoadFault.TheVariants as load
@@ -10,19 +11,19 @@ use Rattle.cf_text.specs.declared.fault.ReadFault.TheVariants as read
 use Rattle.cls_laws.proofs.Links.{one_linking}
 use Rattle.cls_laws.proofs.Sets.{one_set}
 use Rattle.cls_link.specs.Links.{Links}
-use Rattle.cls_link.specs.Numbers.{number_in}
 use Rattle.cls_link.specs.declared.linked_code.MethodId.{MethodId}
-use Rattle.cls_resolve.proofs.Unique.{one_resolved}
-use Rattle.cls_search.specs.MethodSearches.{Resolves, own_method}
+use Rattle.cls_set.proofs.Walks.{before}
+use Rattle.cls_set.specs.Classes.{number_of}
 use Rattle.cls_set.specs.Sets.{HasClasses, IsClassSet}
 use Rattle.cls_set.specs.declared.class.Class.{Class}
 use Rattle.space_ids.specs.declared.ids.ClassId.{ClassId}
 use Rattle.space_ids.specs.declared.value.Value.{Value}
 use Rattle.space_ids.specs.declared.value.Value.TheVariants as value
+use Rattle.sp_runs.proofs.Named.{named_not_before, one_split}
 use Rattle.sp_runs.specs.InSpace.{RunsInSpace}
 use Rattle.sp_runs.specs.Only.{IsReadOut, OnlyGives}
 use Rattle.sp_runs.specs.Outcomes.{IsTold, ThrewClass}
-use Rattle.sp_runs.specs.Runs.{AreSpelled, IsProgram, IsRun, IsSpelled, NamesMethod, Runs, no_class, no_descriptor, resolved}
+use Rattle.sp_runs.specs.Runs.{AreSpelled, IsParenthesisAt, IsProgram, IsRun, IsSpelled, NamesMethod, NamesNoneBefore, NamesSplit, Runs, first_split, no_class, no_method}
 use Rattle.sp_runs.specs.declared.running.ClassBytes.{ClassBytes}
 use Rattle.sp_runs.specs.declared.running.Content.{Content}
 use Rattle.sp_runs.specs.declared.running.Content.TheVariants.{Bytes, Unreadable}
@@ -145,24 +146,47 @@ pub only_ran : {E : Type 0} (program : Links) (method : MethodId) (arguments : L
     → Runs program method arguments limits o → Runs program method arguments limits p → OnlyGives o P (Ok p)
 only_ran program method arguments limits o p P a b = one_outcome program method arguments limits p o b a
 
+finds_nothing : (program : Links) (class text : List ℕ) (holder : ClassId) (index : ℕ) (method : MethodId) → number_of program.classes class ≡ Some holder
+    → IsParenthesisAt text index → NamesSplit program.classes holder text index (Some method) → (other : ClassId) → number_of program.classes class ≡ Some other
+    → NamesNoneBefore program.classes other text (length text) → ⊥
+finds_nothing program class text holder index method at opens split other also nothing =
+    let holders : Some other ≡ Some holder = sym also ∙ at in
+    let same : other ≡ holder = cc in
+    let none = subst (λ (h : ClassId). NamesNoneBefore program.classes h text (length text)) same nothing in
+    named_not_before program.classes holder text (length text) index method none (slice_get_within text index 40 opens) opens split
+
+one_first : (classes : List Class) (class : ClassId) (text : List ℕ) (i j : ℕ) (m n : MethodId) → IsParenthesisAt text i → NamesSplit classes class text i (Some m)
+    → NamesNoneBefore classes class text i → IsParenthesisAt text j → NamesSplit classes class text j (Some n) → NamesNoneBefore classes class text j → Some m ≡ Some n
+one_first classes class text i j m n opens split none opens2 split2 none2 =
+    elim (before i j) [
+      | inl less ↦ absurd (named_not_before classes class text j i m none2 less opens split)
+      | inr least ↦
+          elim (before j i) [
+            | inl less ↦ absurd (named_not_before classes class text i j n none less opens2 split2)
+            | inr most ↦
+                let same : i ≡ j = omega (arith, least, most) in
+                one_split classes class text j (Some m) (Some n) (subst (λ (k : ℕ). NamesSplit classes class text k (Some m)) same split) split2
+          ]
+    ]
+
 -- a text names one method
 one_named : (program : Links) (class text : List ℕ) (a b : Option MethodId) → NamesMethod program class text a → NamesMethod program class text b → a ≡ b
 one_named program class text a b (no_class none) (no_class too) = refl
-one_named program class text a b (no_class none) (no_descriptor too) = refl
-one_named program class text a b (no_class none) (resolved holder index found at first finds) = absurd (some_none (sym at ∙ none))
-one_named program class text a b (no_descriptor none) (no_class too) = refl
-one_named program class text a b (no_descriptor none) (no_descriptor too) = refl
-one_named program class text a b (no_descriptor none) (resolved holder index found at first finds) = absurd (some_none (sym first ∙ none))
-one_named program class text a b (resolved holder index found at first finds) (no_class none) = absurd (some_none (sym at ∙ none))
-one_named program class text a b (resolved holder index found at first finds) (no_descriptor none) = absurd (some_none (sym first ∙ none))
-one_named program class text a b (resolved holder index found at first finds) (resolved holder2 index2 found2 at2 first2 finds2) =
+one_named program class text a b (no_class none) (no_method holder at nothing) = refl
+one_named program class text a b (no_class none) (first_split holder index method at opens split first) = absurd (some_none (sym at ∙ none))
+one_named program class text a b (no_method holder at nothing) (no_class none) = refl
+one_named program class text a b (no_method holder at nothing) (no_method holder2 at2 nothing2) = refl
+one_named program class text a b (no_method holder at nothing) (first_split holder2 index method at2 opens split first) =
+    absurd (finds_nothing program class text holder2 index method at2 opens split holder at nothing)
+one_named program class text a b (first_split holder index method at opens split first) (no_class none) = absurd (some_none (sym at ∙ none))
+one_named program class text a b (first_split holder index method at opens split first) (no_method holder2 at2 nothing) =
+    absurd (finds_nothing program class text holder index method at opens split holder2 at2 nothing)
+one_named program class text a b (first_split holder index method at opens split first) (first_split holder2 index2 method2 at2 opens2 split2 first2) =
     let holders : Some holder ≡ Some holder2 = sym at ∙ at2 in
     let same : holder ≡ holder2 = cc in
-    let indices : Some index ≡ Some index2 = sym first ∙ first2 in
-    let equal : index ≡ index2 = cc in
-    let here = subst (λ (h : ClassId). Resolves program.classes h (take index2 text) (own_method program.classes (take index2 text) (drop index2 text)) found) same
-    (subst (λ (i : ℕ). Resolves program.classes holder (take i text) (own_method program.classes (take i text) (drop i text)) found) equal finds) in
-    ap (option_map (number_in program.classes)) (one_resolved program.classes holder2 (take index2 text) (own_method program.classes (take index2 text) (drop index2 text)) here finds2)
+    let here = subst (λ (h : ClassId). NamesSplit program.classes h text index (Some method)) same split in
+    let none = subst (λ (h : ClassId). NamesNoneBefore program.classes h text index) same first in
+    one_first program.classes holder2 text index index2 method method2 opens here none opens2 split2 first2
 
 -- the files make one program
 pub one_program : (files : List ClassBytes) (p q : Links) → IsProgram files p → IsProgram files q → p ≡ q

@@ -1,6 +1,6 @@
 -- What it means that class files run: from their bytes to how the method ends, each layer by its own definition.
-use Rattle.std.specs.Prelude.{◌≡◌, ◌≢◌, ◌⊎◌, ◌+◌, ◌==◌, ℕ, Bool, Option, Some, None, Ok, Err, List, [], take, drop, slice_get, option_map}
-use Rattle.std.specs.List.{AllZip, position}
+use Rattle.std.specs.Prelude.{◌≡◌, ◌≢◌, ◌⊎◌, ◌+◌, ◌<◌, ℕ, Option, Some, None, Ok, Err, List, [], length, take, drop, slice_get, option_map}
+use Rattle.std.specs.List.{AllZip}
 use Rattle.cf_reader.specs.declared.class_file.ClassFile.{ClassFile}
 use Rattle.cf_layout.specs.declared.items.Layout.{Layout}
 use Rattle.cf_reader.specs.Spells.{IsAtFault, IsInProfile, Spells}
@@ -92,19 +92,29 @@ pub record IsProgram (files : List ClassBytes) (program : Links) : Type 0 where
   pub linked : AreLinks program
   pub safe : AreSafe program
 
--- an opening parenthesis, with which descriptors of methods begin (JVMS 4.3.3)
-abbrev pub is_parenthesis : ℕ → Bool
-is_parenthesis byte = byte == 40
+-- an opening parenthesis, with which each descriptor of a method begins (JVMS 4.3.3)
+abbrev pub IsParenthesisAt : List ℕ → ℕ → Type 0
+IsParenthesisAt text index = slice_get text index ≡ Some 40
 
--- The method that a text names in a class, or none. The text is a name and then a descriptor, which begins at the first parenthesis
--- (JVMS 4.3.3). Method resolution looks for it (JVMS 5.4.3.3, 5.4.3.4), so the class may inherit it.
+-- What a text names in a class, split before an index: a name is before it, a descriptor from there on. Method resolution looks for them
+-- (JVMS 5.4.3.3, 5.4.3.4), so the class may inherit the method.
+pub record NamesSplit (classes : List Class) (class : ClassId) (text : List ℕ) (index : ℕ) (method : Option MethodId) : Type 0 where
+  pub found : Option MethodIndex
+  pub resolved : Resolves classes class (take index text) (own_method classes (take index text) (drop index text)) found
+  pub is : method ≡ option_map (number_in classes) found
+
+-- no split before this end names a method
+abbrev pub NamesNoneBefore : List Class → ClassId → List ℕ → ℕ → Type 0
+NamesNoneBefore classes class text end = (index : ℕ) → index < end → IsParenthesisAt text index → NamesSplit classes class text index None
+
+-- The method that a text names in a class, or none. The text is a name and a descriptor, joined. A name may have parentheses too (JVMS 4.2.2),
+-- so there may be several ways to split it: the one with the shortest name that finds a method counts.
 pub data NamesMethod (program : Links) (class text : List ℕ) : Option MethodId → Type 0 where
   no_class : sets.number_of program.classes class ≡ None → NamesMethod program class text None
-  no_descriptor : position is_parenthesis text ≡ None → NamesMethod program class text None
-  resolved : (holder : ClassId) (index : ℕ) (found : Option MethodIndex)
-      → sets.number_of program.classes class ≡ Some holder → position is_parenthesis text ≡ Some index
-      → Resolves program.classes holder (take index text) (own_method program.classes (take index text) (drop index text)) found
-      → NamesMethod program class text (option_map (number_in program.classes) found)
+  no_method : (holder : ClassId) → sets.number_of program.classes class ≡ Some holder → NamesNoneBefore program.classes holder text (length text)
+      → NamesMethod program class text None
+  first_split : (holder : ClassId) (index : ℕ) (method : MethodId) → sets.number_of program.classes class ≡ Some holder → IsParenthesisAt text index
+      → NamesSplit program.classes holder text index (Some method) → NamesNoneBefore program.classes holder text index → NamesMethod program class text (Some method)
 
 -- The tagged machine (JVMS 6.5), of all instructions of the profile, runs a method of a program from its opening state to this outcome: it
 -- is never stuck, keeps the running frame and those of all its callers within max_stack and max_locals, and makes no more instructions

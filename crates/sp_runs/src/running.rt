@@ -1,17 +1,17 @@
 //! From the bytes of class files to how a method ends: reading, sets, linking, checking and running,
 //! without any input or output.
 
-ghost use Rattle.std.specs.Prelude.{◌≡◌, ◌⊎◌, ◌≤◌, List, length, IfOk, IfErr, IfSome, IsSome};
-ghost use Rattle.std.specs.List.{position};
+ghost use Rattle.std.specs.Prelude.{◌≡◌, ◌⊎◌, ◌≤◌, ◌<◌, List, length, IfOk, IfErr, IsSome};
 ghost use Rattle.cf_reader.specs.declared.class_file.ClassFile.{ClassFile};
 ghost use Rattle.cls_link.specs.Links.{Links};
 ghost use Rattle.cls_link.specs.Numbers.{number_in};
 ghost use Rattle.cls_search.specs.MethodSearches.{method_in};
+ghost use Rattle.cls_set.specs.Sets.{IsClassSet};
 ghost use Rattle.vm_run.specs.Run.{HasNoRemote};
 ghost use Rattle.vm_run.specs.Task.{IsOfSet};
 ghost use Rattle.sp_runs.specs.Only.{IsOutOfMemory, IsReadOut, OnlyGives};
 ghost use Rattle.sp_runs.specs.Outcomes.{IsNamed};
-ghost use Rattle.sp_runs.specs.Runs.{AreSpelled, IsFileFault, IsNoProgram, IsNotRun, IsProgram, IsRefused, IsRun, IsSpelled, IsUnread, NamesMethod, Runs, is_parenthesis};
+ghost use Rattle.sp_runs.specs.Runs.{AreSpelled, IsFileFault, IsNoProgram, IsNotRun, IsProgram, IsRefused, IsRun, IsSpelled, IsUnread, NamesMethod, NamesSplit, Runs};
 
 use crate::Refusal;
 use crate::in_space::{has_remote, run_in_space};
@@ -20,7 +20,7 @@ use cf_reader::{ReadClass, Text, read_class};
 use cls_link::{Linked, MethodId, link};
 use cls_resolve::MemberIndex;
 use cls_search::{MethodIndex, find_method};
-use cls_set::ClassSet;
+use cls_set::{ClassId, ClassSet};
 use std::alloc::{AllocError, Global};
 use ver_check::{Accepted, accept};
 use vm_heap::{Uuid, Value};
@@ -154,7 +154,8 @@ fn read_file(alloc: Global, file: &ClassBytes) -> Result<ReadClass, LoadFault>
 }
 
 /// Returns the method that a text names, as `f(I)I`, in the class of this name, or in a class or interface above
-/// it, if there is one (JVMS 5.4.3.3).
+/// it, if there is one (JVMS 5.4.3.3). The text is a name and a descriptor, joined. A name may have parentheses too
+/// (JVMS 4.2.2): of several ways to split the text, the one with the shortest name that finds a method counts.
 pub fn find_named(
     alloc: Global,
     program: &Program,
@@ -167,14 +168,35 @@ pub fn find_named(
     let Some(class) = linked.set().number(class) else {
         return Ok(None);
     };
-    let Some(index) = descriptor_index(text) else {
-        return Ok(None);
-    };
-    let (name, descriptor) = text.split_at(index);
     let mut marks = vec![in alloc; false; linked.set().len()]?;
-    match find_method(linked.set(), class, name, descriptor, &mut marks) {
-        Some(found) => Ok(Some(number(linked, found))),
-        None => Ok(None),
+    for (index, byte) in text.iter().enumerate() {
+        if *byte == b'(' {
+            let found = find_split(linked, class, text, index, &mut marks);
+            if found.is_some() {
+                return Ok(found);
+            }
+        }
+    }
+    Ok(None)
+}
+
+// The method whose name ends before an index of the text, and whose descriptor begins there.
+fn find_split(
+    linked: &Linked,
+    class: ClassId,
+    text: &[u8],
+    index: usize,
+    marks: &mut [bool],
+) -> Option<MethodId>
+    requires set { IsClassSet linked.now.classes }
+    requires in_set { class.0 < length linked.now.classes }
+    requires in_text { index ≤ length text.now }
+    ensures { NamesSplit linked.now.classes class text.now index result }
+{
+    let (name, descriptor) = text.split_at(index);
+    match find_method(linked.set(), class, name, descriptor, marks) {
+        Some(found) => Some(number(linked, found)),
+        None => None,
     }
 }
 
@@ -197,14 +219,6 @@ fn index_in_class(set: &ClassSet, method: MethodIndex) -> u16
     let methods = set.class(method.class).file.methods.as_slice();
     let _ = &methods[method.index];
     method.index as u16
-}
-
-// The index of the descriptor's first byte.
-fn descriptor_index(method: &[u8]) -> Option<usize>
-    ensures index { result ≡ position is_parenthesis method.now }
-    ensures within { IfSome result (λ index. index ≤ length method.now) }
-{
-    method.iter().position(|byte| *byte == b'(')
 }
 
 // Starts the method and runs it to its end.

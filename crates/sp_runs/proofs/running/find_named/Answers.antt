@@ -1,40 +1,39 @@
-use Rattle.std.proofs.Common.{◌∙◌, Some, None, sym, subst, ap}
+use Rattle.std.proofs.Common.{◌≡◌, ◌∙◌, List, Some, None, arith, subst, sym}
 use Rattle.cls_link.specs.Links.{Links}
-use Rattle.cls_link.specs.Numbers.{number_in}
-use Rattle.cls_link.specs.declared.linked_code.MethodId.{MethodId}
+use Rattle.cls_set.specs.Classes.{number_of}
+use Rattle.cls_set.specs.declared.class.Class.{Class}
 use Rattle.sp_runs.specs.Runs.{NamesMethod}
-use Rattle.sp_runs.proofs.Named.{names_absent, names_nothing, names_resolved}
+use Rattle.sp_runs.proofs.Named.{names_absent, names_found, names_nothing, no_parenthesis, none_before_first, none_before_next, parenthesis, split_of_none}
 use Rattle.sp_runs.proofs.running.find_named.Goals as goal
+use Rattle.sp_runs.proofs.running.find_named.Goals.{then-byte-eq40+else-is_some, else-byte-eq40}
 
 pub returns-in_default : goal.returns-in_default
 returns-in_default c =
-    let same = c.set.ensures ∙ ap (λ (l : Links). l.classes) c.linked-linked.ensures.linked in
-    names_absent c.args.program.now c.args.class.now c.args.text.now c.set.result.now same (sym c.number.ensures.number ∙ c.in_default.is)
+    subst (λ (l : Links). NamesMethod l c.args.class.now c.args.text.now None) c.linked-linked.ensures.linked
+    (names_absent c.linked-linked.result.now c.args.class.now c.args.text.now c.set.result.now c.set.ensures (sym c.number.ensures.number ∙ c.in_default.is))
 
-pub returns-in_default-descriptor_index : goal.returns-in_default-descriptor_index
-returns-in_default-descriptor_index c =
-    names_nothing c.args.program.now c.args.class.now c.args.text.now (sym c.descriptor_index.ensures.index ∙ c.in_default-descriptor_index.is)
+pub loop-index-init : goal.loop-index-init
+loop-index-init c = none_before_first c.linked-linked.result.now.classes c.in-Some.class c.args.text.now
 
-pub returns-in-Some-find_method : goal.returns-in-Some-find_method
-returns-in-Some-find_method c =
-    let program = c.args.program.now in
-    let linked = c.linked-linked.ensures.linked in
-    let same = c.set.ensures ∙ ap (λ (l : Links). l.classes) linked in
-    let also = c.set-3.ensures ∙ ap (λ (l : Links). l.classes) linked in
-    let named =
-    names_resolved program c.args.class.now c.args.text.now c.set.result.now c.set-3.result.now same also c.in-Some.class (sym c.number.ensures.number ∙ c.in-Some.is)
-    c.in-Some-descriptor_index.index (sym c.descriptor_index.ensures.index ∙ c.in-Some-descriptor_index.is) c.split_at.result.0.now c.split_at.result.1.now c.split_at.ensures.front
-    c.split_at.ensures.back c.find_method.result c.find_method.ensures.found (Some c.in-Some-find_method.found) c.in-Some-find_method.is
-    in
-    subst (λ (id : MethodId). NamesMethod program c.args.class.now c.args.text.now (Some id))
-    (sym (c.number-in-Some-find_method.ensures ∙ ap (λ (l : Links). number_in l.classes c.in-Some-find_method.found) linked)) named
+pub returns-then-is_some : goal.returns-then-is_some
+returns-then-is_some c =
+    subst (λ (l : Links). NamesMethod l c.args.class.now c.args.text.now c.find_split-found.result) c.linked-linked.ensures.linked
+    (names_found c.linked-linked.result.now c.args.class.now c.args.text.now c.in-Some.class (subst (λ (cs : List Class). number_of cs c.args.class.now ≡ Some c.in-Some.class) c.set.ensures (sym c.number.ensures.number ∙ c.in-Some.is)) c.loop-index.index
+    (parenthesis c.args.text.now c.loop-index.index c.loop-index-test.true c.if-byte-eq40.true) c.loop-index.invariant c.find_split-found.result
+    (sym c.is_some.ensures ∙ c.if-is_some.true) c.find_split-found.ensures)
+
+pub loop-index-preserved : goal.loop-index-preserved
+loop-index-preserved c =
+    none_before_next c.linked-linked.result.now.classes c.in-Some.class c.args.text.now c.loop-index.index c.loop-index.invariant
+    (λ opens. elim c.if-byte-eq40.branch [
+      | then-byte-eq40+else-is_some w ↦
+          split_of_none c.linked-linked.result.now.classes c.in-Some.class c.args.text.now c.loop-index.index w.find_split-found.result
+          (sym w.is_some.ensures ∙ w.if-is_some.false) w.find_split-found.ensures
+      | else-byte-eq40 w ↦ absurd (no_parenthesis c.args.text.now c.loop-index.index c.loop-index-test.true w.if-byte-eq40.false opens)
+    ])
 
 pub returns : goal.returns
 returns c =
-    let program = c.args.program.now in
-    let linked = c.linked-linked.ensures.linked in
-    let same = c.set.ensures ∙ ap (λ (l : Links). l.classes) linked in
-    let also = c.set-3.ensures ∙ ap (λ (l : Links). l.classes) linked in
-    names_resolved program c.args.class.now c.args.text.now c.set.result.now c.set-3.result.now same also c.in-Some.class (sym c.number.ensures.number ∙ c.in-Some.is)
-    c.in-Some-descriptor_index.index (sym c.descriptor_index.ensures.index ∙ c.in-Some-descriptor_index.is) c.split_at.result.0.now c.split_at.result.1.now c.split_at.ensures.front
-    c.split_at.ensures.back c.find_method.result c.find_method.ensures.found None c.in-None.is
+    subst (λ (l : Links). NamesMethod l c.args.class.now c.args.text.now None) c.linked-linked.ensures.linked
+    (names_nothing c.linked-linked.result.now c.args.class.now c.args.text.now c.in-Some.class (subst (λ (cs : List Class). number_of cs c.args.class.now ≡ Some c.in-Some.class) c.set.ensures (sym c.number.ensures.number ∙ c.in-Some.is)) c.loop-index.index
+    (omega (arith, c.loop-index-test.false, c.loop-index.auto.index-end)) c.loop-index.invariant)
