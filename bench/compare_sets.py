@@ -33,9 +33,12 @@ OWN_FIELD = re.compile(r".*putfield\n.*Type uninitializedThis \(current frame, s
 
 
 def answer_of(program, folder):
-    """What rmispace says of a class set."""
+    """What rmispace says of a class set: that it is accepted, or why it is refused. Whatever else it does ends the comparison."""
     ended = subprocess.run([program, "check", folder], stdin=subprocess.DEVNULL, capture_output=True, text=True)
-    return (ended.stdout + ended.stderr).strip().replace(folder + "/", "")
+    said = (ended.stdout + ended.stderr).strip().replace(folder + "/", "")
+    if (ended.returncode, said.split(" ")[0]) not in ((0, "accepted"), (2, "refused")):
+        sys.exit(f"{folder} is neither accepted nor refused: status {ended.returncode}, {said}")
+    return said
 
 
 def opcode_at(folder, name, method, offset):
@@ -122,7 +125,7 @@ def main(program, driver, asked):
     with open(asked) as file:
         theirs = subprocess.run(["java", "-cp", driver, "Verification"], stdin=file, capture_output=True, text=True, check=True)
     counts = collections.Counter()
-    for line, refused in zip(lines, theirs.stdout.split("\n")):
+    for line, refused in zip(lines, theirs.stdout.splitlines(), strict=True):
         folder = line.split(" ")[0]
         ours = answer_of(program, folder)
         told = verdict(folder, ours, refused.split())

@@ -12,6 +12,8 @@ import collections
 import subprocess
 import sys
 
+from compare_sets import answer_of
+
 FUEL = 20000
 OWN = {"spent", "threw java/lang/StackOverflowError", "threw java/lang/OutOfMemoryError", "threw java/rmi/MarshalException"}
 
@@ -30,7 +32,7 @@ def driven(driver, word, lines):
 
 def main(program, driver, asked):
     with open(asked) as file:
-        accepted = [line for line in file.read().splitlines() if said([program, "check", line.split(" ")[0]]).startswith("accepted")]
+        accepted = [line for line in file.read().splitlines() if answer_of(program, line.split(" ")[0]).startswith("accepted")]
     ours, compared = [], []
     for call in driven(driver, "calls", accepted):
         folder, of_class, method, *values = call.split(" ")
@@ -39,7 +41,7 @@ def main(program, driver, asked):
             ours.append(ending)
             compared.append(call)
     counts, differ = collections.Counter(), 0
-    for call, mine, theirs in zip(compared, ours, driven(driver, "run", compared)):
+    for call, mine, theirs in zip(compared, ours, driven(driver, "run", compared), strict=True):
         counts[mine.split(" ")[0]] += 1
         if mine != theirs:
             differ += 1

@@ -190,33 +190,41 @@ fn client(number: u64) -> Uuid {
     Uuid::from_u64_pair(1, number)
 }
 
+// `size` clients of one object come and go. Returns how many came, without those that stay.
 fn clients(alloc: Global, size: u64) -> Result<u64, AllocError> {
     let mut list = RefList::new(alloc);
+    let mut came: u64 = 0;
     for number in 0..size {
-        list.dirty(&client(number), &[ObjId(1)], 1, 600_000)?;
+        let granted = list.dirty(&client(number), &[ObjId(1)], 1, 600_000)?;
+        came = came.wrapping_add(u64::from(granted == 600_000));
     }
     for number in 0..size {
         list.clean(&client(number), &[ObjId(1)], 2, false)?;
     }
-    Ok(size)
+    Ok(came.wrapping_sub(list.clients_of(alloc, ObjId(1))?.len() as u64))
 }
 
+// A client renews its lease of one object `size` times, for two periods in turn. Returns how many were granted.
 fn renewals(alloc: Global, size: u64) -> Result<u64, AllocError> {
     let mut list = RefList::new(alloc);
-    for number in 1..size {
+    let mut granted: u64 = 0;
+    for number in 0..size {
         let period = if number % 2 == 0 { 600_000 } else { 1000 };
-        list.dirty(&client(0), &[ObjId(1)], number, period)?;
+        let told = list.dirty(&client(0), &[ObjId(1)], number + 1, period)?;
+        granted = granted.wrapping_add(u64::from(told == period));
     }
-    Ok(size)
+    Ok(granted)
 }
 
+// The leases of `size` objects end at one moment. Returns how many ended.
 fn ends(alloc: Global, size: u64) -> Result<u64, AllocError> {
     let mut list = RefList::new(alloc);
     for id in 0..size {
         list.dirty(&client(0), &[ObjId(id)], 1, 600_000)?;
     }
     list.moment(600_000);
-    Ok(size)
+    let ended = (0..size).filter(|id| list.entry(&client(0), ObjId(*id)).is_none());
+    Ok(ended.count() as u64)
 }
 
 // Binds `size` names, and then unbinds and binds one of them again, rebinds it and looks it up.

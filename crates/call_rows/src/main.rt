@@ -5,7 +5,7 @@
 //! |---|---|
 //! | an empty one, or `# TEXT` | itself |
 //! | `new` | nothing: begins without class files |
-//! | `file FLAGS NAME SUPER INTERFACES METHODS` | nothing: adds the class file of these parts |
+//! | `file FLAGS NAME SUPER INTERFACES FIELDS METHODS` | nothing: adds the class file of these parts |
 //! | `program` | how many classes and methods the program of the class files has |
 //! | `class CLASS` | the number of a class |
 //! | `remote CLASS` | whether objects of the class are remote and can be made, and what their fields hold |
@@ -16,8 +16,8 @@
 //! | `throws CLASS` | whether the class is a Throwable, and the class by which a caller is told of it |
 //! | `thrown` | the classes of the exceptions of calls, and of OutOfMemoryError |
 //!
-//! INTERFACES and METHODS are parted by commas, or `-` for none. A method is `FLAGS:NAME:DESCRIPTOR`, and with code
-//! that returns 0, null or nothing `FLAGS:NAME:DESCRIPTOR:i`, `:a` or `:v`. Flags are four hex digits. CLASS is a
+//! INTERFACES, FIELDS and METHODS are parted by commas, or `-` for none. A field is `FLAGS:NAME:DESCRIPTOR`, a method
+//! too, and one with code that returns 0, null or nothing `FLAGS:NAME:DESCRIPTOR:i`, `:a` or `:v`. Flags are four hex digits. CLASS is a
 //! name or a number, METHOD a number: methods are numbered from 0 by class, classes in the order of their names.
 //! VALUE is `null`, an int, `ints` for an array, or a reference `SPACE:OBJECT:CLASS`. Each row is printed, and below
 //! it the answer; a row that is none of these, or names what is not there, is printed after `bad row: `.

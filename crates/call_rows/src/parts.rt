@@ -1,6 +1,6 @@
 //! Class files of the parts that rows name.
 
-use class_builder::{BuildFault, ClassParts, CodeParts, MethodParts, class_bytes};
+use class_builder::{BuildFault, ClassParts, CodeParts, FieldParts, MethodParts, class_bytes};
 use std::alloc::Global;
 use test_rows::RowFault;
 
@@ -33,17 +33,18 @@ const NOTHING: CodeParts<'static> = CodeParts {
 
 /// Returns the class file of the parts that words name. `RowFault::Bad` if they make none.
 pub fn class_file(alloc: Global, words: &[&str]) -> Result<Vec<u8>, RowFault> {
-    let [flags, name, superclass, interfaces, methods] = words else {
+    let [flags, name, superclass, interfaces, fields, methods] = words else {
         return Err(RowFault::Bad);
     };
     let interfaces = items_of(alloc, interfaces)?;
+    let fields = fields_of(alloc, fields)?;
     let methods = methods_of(alloc, methods)?;
     let class = ClassParts {
         flags: flags_of(flags)?,
         name: *name,
         superclass: *superclass,
         interfaces: interfaces.as_slice(),
-        fields: &[],
+        fields: fields.as_slice(),
         methods: methods.as_slice(),
         attributes: &[],
     };
@@ -72,6 +73,28 @@ fn items_of<'a>(alloc: Global, word: &'a str) -> Result<Vec<&'a str>, RowFault> 
         return Ok(Vec::new(alloc));
     }
     Ok(word.split(',').collect(alloc)?)
+}
+
+fn fields_of<'a>(alloc: Global, word: &'a str) -> Result<Vec<FieldParts<'a>>, RowFault> {
+    let mut fields = Vec::new(alloc);
+    for item in &items_of(alloc, word)? {
+        let parts: Vec<&str> = item.split(':').collect(alloc)?;
+        fields.push(field_of(parts.as_slice())?)?;
+    }
+    Ok(fields)
+}
+
+fn field_of<'a>(parts: &[&'a str]) -> Result<FieldParts<'a>, RowFault> {
+    let [flags, name, descriptor] = parts else {
+        return Err(RowFault::Bad);
+    };
+    Ok(FieldParts {
+        flags: flags_of(flags)?,
+        name: *name,
+        descriptor: *descriptor,
+        constant: None,
+        attributes: &[],
+    })
 }
 
 fn methods_of<'a>(alloc: Global, word: &'a str) -> Result<Vec<MethodParts<'a>>, RowFault> {

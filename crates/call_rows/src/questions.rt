@@ -104,8 +104,12 @@ fn put_throws(
 
 fn put_remote(set: &CallSet<'_>, said: &mut Vec<u8>, of: ClassId) -> Result<(), RowFault> {
     put(said, "remote", &is_remote(set, of))?;
-    put(said, "fields", &field_count(set, of))?;
-    put(said, "first", &field_kind(set, of, 0))
+    let count = field_count(set, of);
+    put(said, "fields", &count)?;
+    for slot in 0..count {
+        put(said, "field", &field_kind(set, of, slot))?;
+    }
+    put(said, "next", &field_kind(set, of, count))
 }
 
 // Each exception with its class.

@@ -94,7 +94,8 @@ fn fits(linked: &Linked, frame: &TypeFrame, declared: &DeclaredFrame<'_>) -> boo
     frame_assignable(linked.set(), frame, declared)
 }
 
-// Prints the offset of each frame, what a frame becomes that copies it, and whether that one may stand for it.
+// Prints the offset of each frame, whether the frame before it may stand for it, what that becomes as it copies it, and
+// whether it may stand for it then. Before the first stands one without local variables, in an <init> that has called none.
 fn put_declared(
     alloc: Global,
     said: &mut Vec<u8>,
@@ -119,6 +120,7 @@ fn put_frame(
 ) -> Result<(), RowFault> {
     put(said, "locals", &declared.local_count())?;
     put(said, "flag", &declared.flag_this_uninit())?;
+    put(said, "stood for", &fits(linked, frame, declared))?;
     copy(frame, declared)?;
     put(said, "copied", frame)?;
     put(said, "fits", &fits(linked, frame, declared))
