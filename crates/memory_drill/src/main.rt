@@ -17,6 +17,7 @@ mod records;
 mod remote;
 mod tally;
 mod wire;
+mod worlds;
 
 fn main(rt: HostRuntime) -> ExitCode {
     spend(rt.alloc(), allocations_before(&rt).unwrap_or(0));
@@ -57,5 +58,6 @@ fn played(alloc: Global) -> Result<Tally, AllocError> {
     path::play(alloc, &mut tally)?;
     wire::play(alloc, &mut tally)?;
     records::play(alloc, &mut tally)?;
+    worlds::play(alloc, &mut tally)?;
     Ok(tally)
 }

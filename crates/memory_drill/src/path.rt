@@ -1,7 +1,7 @@
 //! The path from bytes to an outcome: command lines over folders in memory.
 
 use super::Tally;
-use super::remote::{REMOTE, SCRIPT};
+use super::remote::{ADDER, CELL, SCRIPT};
 use cf_load::LoadFault;
 use cf_reader::ReadFault;
 use class_builder::SUM;
@@ -19,7 +19,7 @@ use vm_run::{Limits, StartFault};
 
 const WANT: (u8, &str) = (3, "no memory\n");
 
-// A folder with one class file: its methods run alone, or its class is remote and a script lies beside it.
+// A folder with one class file, whose methods run alone; or with two of remote classes, and a script beside them.
 #[derive(Drop)]
 struct Shelf {
     alloc: Global,
@@ -30,21 +30,25 @@ impl Folder for Shelf {
     type File = &'static [u8];
 
     fn paths(&self, folder: &str) -> Result<Vec<String>, FolderFault> {
-        let mut path = String::from_str(self.alloc, folder)?;
-        path.push_str(if self.is_remote {
-            "/C.class"
+        let names: &[&str] = if self.is_remote {
+            &["/Adder.class", "/Cell.class"]
         } else {
-            "/T.class"
-        })?;
+            &["/T.class"]
+        };
         let mut paths = Vec::new(self.alloc);
-        paths.push(path)?;
+        for name in names {
+            let mut path = String::from_str(self.alloc, folder)?;
+            path.push_str(name)?;
+            paths.push(path)?;
+        }
         Ok(paths)
     }
 
     fn open(&self, path: &str) -> io::Result<&'static [u8]> {
         match (self.is_remote, path) {
             (false, "box/T.class") => Ok(SUM.as_slice()),
-            (true, "box/C.class") => Ok(REMOTE.as_slice()),
+            (true, "box/Adder.class") => Ok(ADDER.as_slice()),
+            (true, "box/Cell.class") => Ok(CELL.as_slice()),
             (true, "box/script") => Ok(SCRIPT),
             _ => Err(io::Error::from(ErrorKind::NotFound)),
         }
@@ -111,9 +115,9 @@ fn play_line(
 fn play_lines(alloc: Global, tally: &mut Tally) -> Result<(), AllocError> {
     let alone = "run box T f(I)I 4 --fuel 38";
     play_line(alloc, false, alone, "returned 10\n", tally)?;
-    let in_space = "run box C make()Ljava/rmi/Remote;";
+    let in_space = "run box Cell make()LAdder;";
     play_line(alloc, true, in_space, "returned ref 0 1\n", tally)?;
-    let shown = "A 1 C names=1 entries=0\nc returned ref A 1\n";
+    let shown = "A 1 Cell names=1 entries=0\nc returned ref A 1\n";
     play_line(alloc, true, "sim box box/script", shown, tally)
 }
 
@@ -185,19 +189,18 @@ fn arguments(alloc: Global) -> Result<Vec<Value>, AllocError> {
     Ok(arguments)
 }
 
-fn is_want(answer: &Answer) -> bool {
-    match answer {
-        Err(Refusal::Memory)
-        | Err(
-            Refusal::File {
-                fault: LoadFault::Read(ReadFault::Memory),
-                ..
-            },
-        )
-        | Err(Refusal::Set(SetFault::Memory))
-        | Err(Refusal::Link(LinkFault::Memory))
-        | Err(Refusal::Check(CheckFault::Memory))
-        | Err(Refusal::Start(StartFault::Memory)) => true,
+/// Whether a refusal is that of a call that was out of memory.
+pub fn is_want(refusal: &Refusal) -> bool {
+    match refusal {
+        Refusal::Memory
+        | Refusal::File {
+            fault: LoadFault::Read(ReadFault::Memory),
+            ..
+        }
+        | Refusal::Set(SetFault::Memory)
+        | Refusal::Link(LinkFault::Memory)
+        | Refusal::Check(CheckFault::Memory)
+        | Refusal::Start(StartFault::Memory) => true,
         _ => false,
     }
 }
@@ -207,7 +210,9 @@ fn play_run(alloc: Global, run: Run, tally: &mut Tally) -> Result<(), AllocError
     let first = arguments(alloc)?;
     let second = arguments(alloc)?;
     let mut answer = run.answer(alloc, &files, first);
-    if is_want(&answer) {
+    if let Err(refusal) = &answer
+        && is_want(refusal)
+    {
         tally.replace(&mut answer, run.answer(alloc, &files, second));
     }
     tally.answer(run.owes(&answer));
