@@ -14,7 +14,7 @@ sys.dont_write_bytecode = True
 
 from kit import rt
 
-# In bytes. Measured, `sp_scripts` takes 5.5 GB, `sp_main` 4.9, `command_rows` 4.6, and each other 4.1 at most, so that four fit in 24 GB.
+# In bytes. Measured, `sp_scripts` takes 5.5 GB, `sp_main` 4.9, and each other 4.1 at most, so that four fit in 24 GB.
 MOST_MEMORY = 4_500_000_000
 
 

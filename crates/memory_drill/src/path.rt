@@ -19,7 +19,8 @@ use vm_run::{Limits, StartFault};
 
 const WANT: (u8, &str) = (3, "no memory\n");
 
-// A folder with one class file, whose methods run alone; or with two of remote classes, and a script beside them.
+// A folder with one class file, whose methods run alone; or with two of remote classes, and a script beside them. The folder
+// `full` is out of memory whenever it is listed.
 #[derive(Drop)]
 struct Shelf {
     alloc: Global,
@@ -30,6 +31,9 @@ impl Folder for Shelf {
     type File = &'static [u8];
 
     fn paths(&self, folder: &str) -> Result<Vec<String>, FolderFault> {
+        if folder == "full" {
+            return Err(FolderFault::Memory);
+        }
         let names: &[&str] = if self.is_remote {
             &["/Adder.class", "/Cell.class"]
         } else {
@@ -111,6 +115,13 @@ fn play_line(
     Ok(())
 }
 
+// Gives a line to the program of a folder that is out of memory each time.
+fn play_full(alloc: Global, tally: &mut Tally) -> Result<(), AllocError> {
+    let said = say(alloc, false, "run full T f(I)I 4")?;
+    tally.answer(said.is(WANT.0, WANT.1));
+    Ok(())
+}
+
 // A line whose method runs alone, one whose method runs in a space, and a script.
 fn play_lines(alloc: Global, tally: &mut Tally) -> Result<(), AllocError> {
     let alone = "run box T f(I)I 4 --fuel 38";
@@ -118,7 +129,8 @@ fn play_lines(alloc: Global, tally: &mut Tally) -> Result<(), AllocError> {
     let in_space = "run box Cell make()LAdder;";
     play_line(alloc, true, in_space, "returned ref 0 1\n", tally)?;
     let shown = "A 1 Cell names=1 entries=0\nc returned ref A 1\n";
-    play_line(alloc, true, "sim box box/script", shown, tally)
+    play_line(alloc, true, "sim box box/script", shown, tally)?;
+    play_full(alloc, tally)
 }
 
 type Answer = Result<RunOutcome, Refusal>;
