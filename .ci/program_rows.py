@@ -40,6 +40,12 @@ ABSENT, TORN = "absent", "torn"
 OF_A_CLASS = {"flags", "extends", "implements", "field", "abstract", "method", "code", "|"}
 
 
+def are_within(content, begin, end):
+    """Raises ValueError if these are not the offsets of a part of a content."""
+    if not 0 <= begin <= end <= len(content):
+        raise ValueError(f"no bytes from {begin} to {end}")
+
+
 @dataclasses.dataclass
 class Run:
     """A run of the program: where it stands, its words, the files of its folder, if it has one, and what it owes."""
@@ -76,6 +82,7 @@ class Rows:
         self.begin_folder()
 
     def begin_folder(self):
+        """Begins an empty folder."""
         self.files, self.made, self.last, self.is_script = {}, None, None, False
 
     def read(self):
@@ -94,6 +101,7 @@ class Rows:
                 sys.exit(f"{where}: no row: {line}")
 
     def take(self, where, kind, rest):
+        """Does what a line says."""
         if kind in (">", "!", "@"):
             self.add_run(where, kind, rest)
         elif kind in ("out", "err"):
@@ -137,7 +145,7 @@ class Rows:
         self.begin(path, contents[kind]())
 
     def add_line(self, text):
-        # A line of code stands for the reader alone.
+        """Adds a line to a script. A line of code stands for the reader alone."""
         if self.is_script:
             self.files[self.last] += text.encode() + b"\n"
 
@@ -147,12 +155,13 @@ class Rows:
             return content + bytes.fromhex(words[0])
         if kind == "byte":
             at, value = int(words[0]), bytes.fromhex(words[1])
-            content[at]
+            are_within(content, at, at + 1)
             return content[:at] + value + content[at + 1:]
         if kind == "cut":
-            content[int(words[0]) - 1]
+            are_within(content, 0, int(words[0]))
             return content[:int(words[0])]
         if kind == "again":
+            are_within(content, int(words[0]), int(words[1]))
             return content + content[int(words[0]):int(words[1])]
         if kind == "times":
             count, _, line = text.partition(" ")
