@@ -1,5 +1,5 @@
 //! Reads class files and their parts as the rows on the standard input say, and prints what is read; and what
-//! devices give and take. So a further test case is a row.
+//! devices give and take, and digests of files. So a further test case is a row.
 //!
 //! | A row | What it prints |
 //! |---|---|
@@ -13,6 +13,12 @@
 //! | `part FROM LENGTH BYTES` | these bytes as a row and as a text, and the position after them |
 //! | `between FROM TO BYTES` | the bytes that stand there |
 //! | `types TEXT` | the types that a descriptor names |
+//! | `code BYTES` | each instruction of the code after its offset, or the rule that is broken and where |
+//! | `text BYTES` | whether the bytes are modified UTF-8 |
+//! | `name TEXT` | whether the text, or none, is a name, one of a method, and one of a class |
+//! | `descriptor TEXT` | whether the text, or none, is the descriptor of a field or of a method |
+//! | `dimensions N` | the same of an array of ints of N dimensions |
+//! | `digest NAME WORD NAME WORD` | the digest of two class files of these classes |
 //! | `source STEP FAIL LENGTHS WORD` | what a source of the bytes answers to reads of these lengths, whether it has failed, and the buffers |
 //! | `reader LENGTHS WORD` | the same of a source over a reader of the bytes |
 //! | `faulty-reader LENGTHS` | the same over a reader that is interrupted, gives two bytes and then has an error |
@@ -33,11 +39,13 @@ use test_rows::play_rows;
 
 mod classes;
 mod devices;
+mod digests;
 mod faulty;
 mod layouts;
 mod pools;
 mod spelling;
 mod stage;
+mod texts;
 
 fn main(rt: HostRuntime) -> io::Result<()> {
     let alloc = rt.alloc();

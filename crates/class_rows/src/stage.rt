@@ -2,7 +2,7 @@
 
 use super::layouts::{bytes_between, put_text, row_at};
 use super::spelling::bytes_of;
-use super::{classes, devices, layouts, pools};
+use super::{classes, devices, digests, layouts, pools, texts};
 use cf_text::FileBytes;
 use std::alloc::Global;
 use test_rows::{RowFault, Stage, index, number, one_word, put, words_of};
@@ -37,11 +37,14 @@ impl KeptBytes {
             "pool" => pools::play(self.alloc, said, &self.bytes(words)?),
             "layout" => layouts::play(self.alloc, said, &self.bytes(words)?),
             "class" => classes::play(self.alloc, said, &self.bytes(words)?),
+            "code" => texts::put_code(self.alloc, said, &self.bytes(words)?),
+            "text" => texts::put_utf8(said, &self.bytes(words)?),
             "fail" => classes::put_lost(self.alloc, said, &self.bytes(words)?),
             "load" => self.load(said, words),
             "part" => self.part(said, words),
             "between" => self.between(said, words),
             "types" => put_types(self.alloc, said, words),
+            "digest" => digests::put_digest(self.alloc, said, words),
             _ => devices::play(self.alloc, said, kind, words),
         }
     }
@@ -85,10 +88,10 @@ impl KeptBytes {
 
 impl Stage for KeptBytes {
     fn play(&mut self, said: &mut Vec<u8>, kind: &str, text: &str) -> Result<(), RowFault> {
-        let words = words_of(self.alloc, text)?;
         match kind {
-            "keep" => self.keep(&words),
-            _ => self.call(said, kind, &words),
+            "keep" => self.keep(&words_of(self.alloc, text)?),
+            "name" | "descriptor" | "dimensions" => texts::play(self.alloc, said, kind, text),
+            _ => self.call(said, kind, &words_of(self.alloc, text)?),
         }
     }
 }
