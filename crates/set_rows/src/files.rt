@@ -1,6 +1,6 @@
 //! Sets of class files.
 
-use super::parts::{Made, bare_class};
+use super::parts::Made;
 use super::spelling::plain;
 use cf_reader::{Numbered, ReadClass, ReadFault, read_class};
 use class_builder::BuildFault;
@@ -9,6 +9,8 @@ use cls_set::{ClassSet, SetFault};
 use std::alloc::Global;
 use std::io::Write;
 use test_rows::{RowFault, put};
+use ver_check::{Accepted, CheckFault, accept};
+use vm_run::Program;
 
 /// Links the set of class files, and prints how many classes and methods it has, or why there is none.
 pub fn linked_set(
@@ -19,6 +21,19 @@ pub fn linked_set(
     match set_of(alloc, files)? {
         Ok(set) => put_linked(said, linked(alloc, set)),
         Err(fault) => put_refused(said, &fault),
+    }
+}
+
+/// Returns the program of the class files, and prints how many classes and methods it has. `RowFault::Bad` if
+/// they make none.
+pub fn program_of(
+    alloc: Global,
+    said: &mut Vec<u8>,
+    files: &[Vec<u8>],
+) -> Result<Program, RowFault> {
+    match linked_set(alloc, said, files)? {
+        Some(linked) => Ok(Program::of(alloc, accepted(alloc, linked)?)?),
+        None => Err(RowFault::Bad),
     }
 }
 
@@ -66,6 +81,14 @@ fn linked(alloc: Global, set: ClassSet) -> Result<Linked, LinkFault> {
     link(alloc, set)
 }
 
+fn accepted(alloc: Global, linked: Linked) -> Result<Accepted, RowFault> {
+    match accept(alloc, linked) {
+        Ok(accepted) => Ok(accepted),
+        Err(CheckFault::Memory) => Err(RowFault::Memory),
+        Err(_) => Err(RowFault::Bad),
+    }
+}
+
 fn class_count(set: &ClassSet) -> usize {
     set.len()
 }
@@ -81,27 +104,6 @@ fn put_refused(said: &mut Vec<u8>, fault: &SetFault) -> Result<Option<Linked>, R
     };
     writeln!(said, "{} {rule} {}", rule.number(), plain(class))?;
     Ok(None)
-}
-
-/// Prints how many classes the set of the classes T0, T1 and so on has, this many of them.
-pub fn put_many(alloc: Global, said: &mut Vec<u8>, count: u64) -> Result<(), RowFault> {
-    let files = numbered(alloc, count)?;
-    match set_of(alloc, &files)? {
-        Ok(set) => put(said, "classes", &class_count(&set)),
-        Err(fault) => {
-            put_refused(said, &fault)?;
-            Ok(())
-        }
-    }
-}
-
-fn numbered(alloc: Global, count: u64) -> Result<Vec<Vec<u8>>, RowFault> {
-    let mut files = Vec::new(alloc);
-    for index in 0..count {
-        let name = format!(in alloc; "T{index}")?;
-        files.push(file_of(bare_class(alloc, name.as_str()))?)?;
-    }
-    Ok(files)
 }
 
 /// Returns the class file. `RowFault::Bad` if the parts make none.

@@ -10,11 +10,29 @@ use test_rows::RowFault;
 /// The bytes of a class file, or why its parts make none.
 pub type Made = Result<Vec<u8>, BuildFault>;
 
-// Code that returns 0: iconst_0, ireturn.
+// iconst_0, ireturn.
 const ZERO: CodeParts<'static> = CodeParts {
     max_stack: 1,
-    max_locals: 1,
+    max_locals: 4,
     bytes: &[0x03, 0xac],
+    lines: &[],
+    attributes: &[],
+};
+
+// aconst_null, areturn.
+const NULL: CodeParts<'static> = CodeParts {
+    max_stack: 1,
+    max_locals: 4,
+    bytes: &[0x01, 0xb0],
+    lines: &[],
+    attributes: &[],
+};
+
+// return.
+const NOTHING: CodeParts<'static> = CodeParts {
+    max_stack: 0,
+    max_locals: 4,
+    bytes: &[0xb1],
     lines: &[],
     attributes: &[],
 };
@@ -104,17 +122,17 @@ fn fields_of<'a>(alloc: Global, word: &'a str) -> Result<Vec<FieldParts<'a>>, Ro
     Ok(fields)
 }
 
-// A field of an int, with a constant if there is a value.
+// A field, with a constant if there is a value.
 fn field_of<'a>(parts: &[&'a str]) -> Result<FieldParts<'a>, RowFault> {
-    let (flags, name, constant) = match parts {
-        [flags, name] => (flags, name, None),
-        [flags, name, value] => (flags, name, Some(int(value)?)),
+    let (flags, name, descriptor, constant) = match parts {
+        [flags, name, descriptor] => (flags, name, descriptor, None),
+        [flags, name, descriptor, value] => (flags, name, descriptor, Some(int(value)?)),
         _ => return Err(RowFault::Bad),
     };
     Ok(FieldParts {
         flags: flags_of(flags)?,
         name: *name,
-        descriptor: "I",
+        descriptor: *descriptor,
         constant,
         attributes: &[],
     })
@@ -133,17 +151,19 @@ fn methods_of<'a>(alloc: Global, word: &'a str) -> Result<Vec<MethodParts<'a>>, 
     Ok(methods)
 }
 
-// A method that takes nothing and gives an int, with code if it is to return 0.
+// A method, with code if it is to return 0, null or nothing.
 fn method_of<'a>(parts: &[&'a str]) -> Result<MethodParts<'a>, RowFault> {
-    let (flags, name, code) = match parts {
-        [flags, name] => (flags, name, None),
-        [flags, name, "0"] => (flags, name, Some(ZERO)),
+    let (flags, name, descriptor, code) = match parts {
+        [flags, name, descriptor] => (flags, name, descriptor, None),
+        [flags, name, descriptor, "i"] => (flags, name, descriptor, Some(ZERO)),
+        [flags, name, descriptor, "a"] => (flags, name, descriptor, Some(NULL)),
+        [flags, name, descriptor, "v"] => (flags, name, descriptor, Some(NOTHING)),
         _ => return Err(RowFault::Bad),
     };
     Ok(MethodParts {
         flags: flags_of(flags)?,
         name: *name,
-        descriptor: "()I",
+        descriptor: *descriptor,
         code,
         attributes: &[],
     })

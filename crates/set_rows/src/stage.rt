@@ -1,19 +1,21 @@
-//! The class files of rows, and the set that was linked of them.
+//! The class files of rows, and the set or the program that was made of them.
 
-use super::files::{file_of, linked_set, put_many};
+use super::files::{file_of, linked_set, program_of};
 use super::parts::{bare_class, class_file, example};
-use super::{frames, links};
+use super::{frames, links, questions};
 use class_builder::{BuildFault, SUM};
 use cls_link::Linked;
 use std::alloc::Global;
 use test_rows::{RowFault, Stage, one_number, put, replace, words_of};
+use vm_run::Program;
 
-/// The class files of the rows so far, and the last set that was linked.
+/// The class files of the rows so far, the last set that was linked, and the last program that was made.
 #[derive(Drop)]
 pub struct Files {
     alloc: Global,
     files: Vec<Vec<u8>>,
     linked: Option<Linked>,
+    program: Option<Program>,
 }
 
 impl Files {
@@ -23,6 +25,7 @@ impl Files {
             alloc,
             files: Vec::new(alloc),
             linked: None,
+            program: None,
         }
     }
 
@@ -36,17 +39,29 @@ impl Files {
         Ok(())
     }
 
+    fn begin(&mut self, said: &mut Vec<u8>) -> Result<(), RowFault> {
+        let program = program_of(self.alloc, said, &self.files)?;
+        replace(&mut self.program, Some(program));
+        Ok(())
+    }
+
     fn linked(&self) -> Result<&Linked, RowFault> {
         self.linked.as_ref().ok_or(RowFault::Bad)
+    }
+
+    fn program(&self) -> Result<&Program, RowFault> {
+        self.program.as_ref().ok_or(RowFault::Bad)
     }
 
     fn call(&mut self, said: &mut Vec<u8>, kind: &str, words: &[&str]) -> Result<(), RowFault> {
         match kind {
             "file" => self.add(class_file(self.alloc, words)?),
-            "many" => put_many(self.alloc, said, one_number(words)?),
             "long" => put_long(self.alloc, said, one_number(words)?),
             "frames" => frames::play(self.alloc, said, self.linked()?, words),
-            _ => links::play(self.linked()?, said, kind, words),
+            "number" | "at" | "below" | "select" | "method" | "slot" => {
+                links::play(self.linked()?, said, kind, words)
+            }
+            _ => questions::play(self.alloc, self.program()?, said, kind, words),
         }
     }
 
@@ -68,6 +83,7 @@ impl Stage for Files {
             }
             "example" if text.is_empty() => self.add(example(self.alloc)),
             "link" if text.is_empty() => self.link(said),
+            "program" if text.is_empty() => self.begin(said),
             "same" if text.is_empty() => put(said, "same", &self.is_example()),
             _ => self.call(said, kind, &words_of(self.alloc, text)?),
         }

@@ -1,5 +1,6 @@
 //! What a core that takes calls asks of a program.
 
+use super::links::class_named;
 use sp_call_classes::{CallClasses, RemoteException, ResultKind};
 use sp_call_set::CallSet;
 use sp_core::{ClassSet, FieldKind};
@@ -138,7 +139,7 @@ fn method(word: &str) -> Result<u32, RowFault> {
 fn class_of(program: &Program, word: &str) -> Result<ClassId, RowFault> {
     match class(word) {
         Ok(class) => Ok(class),
-        Err(_) => number(program, word).ok_or(RowFault::Bad),
+        Err(_) => class_named(program.linked(), word),
     }
 }
 
@@ -174,10 +175,6 @@ fn put_class(
 
 fn made(alloc: Global, program: &Program) -> Result<CallSet<'_>, AllocError> {
     CallSet::new(alloc, program)
-}
-
-fn number(program: &Program, name: &str) -> Option<ClassId> {
-    program.linked().set().number(name.as_bytes())
 }
 
 // The name of a class: none for a number that no class has.
