@@ -6,12 +6,10 @@
 #![tactic(auto)]
 
 pub use examples::SUM;
-pub use parts::{AttributeParts, ClassParts, CodeParts, FieldParts, Line, MethodParts};
+pub use parts::{AttributeParts, ClassParts, CodeParts, FieldParts, MethodParts};
 pub use write::{BuildFault, class_bytes};
 
 mod examples;
-mod lines;
-mod mnemonics;
 mod parts;
 mod pool;
 mod write;

@@ -9,16 +9,6 @@ enum Entry {
     Utf8(String),
     Integer(i32),
     Class(u16),
-    Member(MemberTag, u16, u16),
-    NameAndType(u16, u16),
-}
-
-/// The tag of an entry that names a member.
-#[derive(Clone, Copy, PartialEq, Eq)]
-pub enum MemberTag {
-    Field = 9,
-    Method = 10,
-    InterfaceMethod = 11,
 }
 
 /// The entries so far, by index from 1 on.
@@ -75,42 +65,6 @@ impl PoolParts {
         self.add(Entry::Integer(value))
     }
 
-    fn name_and_type(&mut self, name: u16, descriptor: u16) -> Result<u16, BuildFault> {
-        for (before, entry) in self.entries.iter().enumerate() {
-            if let Entry::NameAndType(known, of_type) = entry
-                && *known == name
-                && *of_type == descriptor
-            {
-                return index_after(before);
-            }
-        }
-        self.add(Entry::NameAndType(name, descriptor))
-    }
-
-    /// Returns the index of a member by its class, its name and its descriptor. A new member is
-    /// added.
-    pub fn member(
-        &mut self,
-        tag: MemberTag,
-        class: &str,
-        name: &str,
-        descriptor: &str,
-    ) -> Result<u16, BuildFault> {
-        let class = self.class(class)?;
-        let (name, descriptor) = (self.utf8(name)?, self.utf8(descriptor)?);
-        let name_and_type = self.name_and_type(name, descriptor)?;
-        for (before, entry) in self.entries.iter().enumerate() {
-            if let Entry::Member(known, of_class, named) = entry
-                && *known == tag
-                && *of_class == class
-                && *named == name_and_type
-            {
-                return index_after(before);
-            }
-        }
-        self.add(Entry::Member(tag, class, name_and_type))
-    }
-
     fn add(&mut self, entry: Entry) -> Result<u16, BuildFault> {
         let index = index_after(self.entries.len())?;
         self.entries.push(entry)?;
@@ -134,26 +88,14 @@ impl PoolParts {
                     out.push(3)?;
                     out.extend_from_slice(&value.to_be_bytes())?;
                 }
-                Entry::Class(name) => put_entry(&mut out, 7, &[*name])?,
-                Entry::Member(tag, class, named) => {
-                    put_entry(&mut out, *tag as u8, &[*class, *named])?;
-                }
-                Entry::NameAndType(name, descriptor) => {
-                    put_entry(&mut out, 12, &[*name, *descriptor])?;
+                Entry::Class(name) => {
+                    out.push(7)?;
+                    out.extend_from_slice(&name.to_be_bytes())?;
                 }
             }
         }
         Ok(out)
     }
-}
-
-// An entry of a tag and indices.
-fn put_entry(out: &mut Vec<u8>, tag: u8, indices: &[u16]) -> Result<(), BuildFault> {
-    out.push(tag)?;
-    for index in indices {
-        out.extend_from_slice(&index.to_be_bytes())?;
-    }
-    Ok(())
 }
 
 // The index of the entry after `entries` others.

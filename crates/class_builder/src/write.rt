@@ -4,7 +4,6 @@ ghost use Rattle.class_builder.specs.declared.write.BuildFault.TheVariants.{Memo
 ghost use Rattle.std.specs.Prelude.{◌≡◌, IfOk};
 ghost use Rattle.std.specs.Io.{StartsWith};
 
-use super::lines::put_line;
 use super::pool::PoolParts;
 use super::{AttributeParts, ClassParts, CodeParts, FieldParts, MethodParts};
 use std::alloc::{AllocError, AllocFailed, Global};
@@ -15,8 +14,6 @@ use thiserror::Error;
 pub enum BuildFault {
     #[error("a part is too long for its count or length")]
     TooLong,
-    #[error("a line has no mnemonic that is known")]
-    UnknownMnemonic,
     #[error("memory ran out")]
     Memory,
 }
@@ -143,11 +140,7 @@ fn code_bytes(
     let mut out = Vec::new(alloc);
     put_u16(&mut out, code.max_stack)?;
     put_u16(&mut out, code.max_locals)?;
-    let mut bytes = Vec::from_slice(alloc, code.bytes)?;
-    for line in code.lines {
-        put_line(pool, &mut bytes, line)?;
-    }
-    put_sized(&mut out, &bytes)?;
+    put_sized(&mut out, code.bytes)?;
     let no_handlers = 0;
     put_u16(&mut out, no_handlers)?;
     put_attributes(pool, &mut out, code.attributes)?;
@@ -188,7 +181,7 @@ fn put_count(out: &mut Vec<u8>, count: usize) -> Result<(), BuildFault> {
     put_u16(out, count)
 }
 
-pub(crate) fn put_u16(out: &mut Vec<u8>, number: u16) -> Result<(), BuildFault> {
+fn put_u16(out: &mut Vec<u8>, number: u16) -> Result<(), BuildFault> {
     out.extend_from_slice(&number.to_be_bytes())?;
     Ok(())
 }

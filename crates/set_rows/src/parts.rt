@@ -2,7 +2,7 @@
 
 use super::spelling::{flags_of, items_of};
 use class_builder::{
-    AttributeParts, BuildFault, ClassParts, CodeParts, FieldParts, Line, MethodParts, class_bytes,
+    AttributeParts, BuildFault, ClassParts, CodeParts, FieldParts, MethodParts, class_bytes,
 };
 use std::alloc::Global;
 use test_rows::RowFault;
@@ -15,7 +15,6 @@ const ZERO: CodeParts<'static> = CodeParts {
     max_stack: 1,
     max_locals: 4,
     bytes: &[0x03, 0xac],
-    lines: &[],
     attributes: &[],
 };
 
@@ -24,7 +23,6 @@ const NULL: CodeParts<'static> = CodeParts {
     max_stack: 1,
     max_locals: 4,
     bytes: &[0x01, 0xb0],
-    lines: &[],
     attributes: &[],
 };
 
@@ -33,7 +31,6 @@ const NOTHING: CodeParts<'static> = CodeParts {
     max_stack: 0,
     max_locals: 4,
     bytes: &[0xb1],
-    lines: &[],
     attributes: &[],
 };
 
@@ -56,11 +53,6 @@ pub fn bare_class(alloc: Global, name: &str) -> Made {
     made(alloc, &class)
 }
 
-// No lines of code. A function, since an empty slice in the struct below would be of another lifetime.
-fn no_lines<'a>() -> &'a [Line<'a>] {
-    &[]
-}
-
 /// Returns the class file of the parts of the class of examples/sum.
 pub fn example(alloc: Global) -> Made {
     let frames = AttributeParts {
@@ -71,7 +63,6 @@ pub fn example(alloc: Global) -> Made {
         max_stack: 2,
         max_locals: 2,
         bytes: b"\x03\x3c\x1a\x9e\x00\x0d\x1b\x1a\x60\x3c\x84\x00\xff\xa7\xff\xf5\x1b\xac",
-        lines: no_lines(),
         attributes: &[frames],
     };
     let method = MethodParts {

@@ -2,7 +2,7 @@
 
 use super::spelling::count;
 use cf_reader::{ReadClass, ReadFault, read_class};
-use class_builder::{BuildFault, ClassParts, CodeParts, Line, MethodParts, SUM, class_bytes};
+use class_builder::{BuildFault, ClassParts, CodeParts, MethodParts, SUM, class_bytes};
 use cls_link::{LinkFault, Linked, link};
 use cls_set::{ClassId, ClassSet, SetFault};
 use std::alloc::Global;
@@ -30,17 +30,11 @@ pub fn one_method(alloc: Global, flags: u16, words: &[&str]) -> Result<Program, 
             max_stack: count(max_stack)?,
             max_locals: count(max_locals)?,
             bytes: code.as_slice(),
-            lines: no_lines(),
             attributes: &[],
         }),
         attributes: &[],
     };
     program_of(alloc, &class_of(alloc, interface, &method)?)
-}
-
-// No lines of code. A function, since an empty slice in the struct above would be of another lifetime.
-fn no_lines<'a>() -> &'a [Line<'a>] {
-    &[]
 }
 
 fn class_of(alloc: Global, interface: &str, method: &MethodParts<'_>) -> Result<Vec<u8>, RowFault> {
