@@ -1,4 +1,5 @@
 pub mod Blamed
+pub mod BodyParts
 pub mod Skims
 pub mod FileLaws
 pub mod CodeLaws

@@ -7,10 +7,14 @@ use Rattle.cf_text.specs.Reading.{◌>>=◌, many}
 use Rattle.cf_text.specs.Numbers.{number_at, skip_at}
 use Rattle.cf_text.specs.Demands.{verdict}
 use Rattle.cf_pool.specs.Pools.{layout_from}
+use Rattle.cf_pool.specs.declared.layout.PoolLayout.{PoolLayout}
 use Rattle.cf_layout.specs.declared.items.Item.{Item}
 use Rattle.cf_layout.specs.declared.items.Attribute.{Attribute}
 use Rattle.cf_layout.specs.declared.items.Member.{Member}
 use Rattle.cf_layout.specs.declared.items.Layout.{Layout}
+use Rattle.cf_layout.specs.declared.layout.Front.{Front}
+use Rattle.cf_layout.specs.declared.layout.Members.{Members}
+use Rattle.cf_layout.specs.declared.layout.Rest.{Rest}
 
 -- the bytes between two positions
 abbrev pub between : List ℕ → ℕ → ℕ → List ℕ
@@ -90,6 +94,58 @@ body_at bytes at = do
     },
     attributes.1,
   )
+
+-- The same body in three parts, as the code reads it: what stands before the superinterfaces,
+unfoldable pub front_at : List ℕ → ℕ → Result (Front × ℕ) ReadFault
+front_at bytes at = do
+  flags ← item_at bytes at
+  this ← item_at bytes flags.1
+  superclass ← item_at bytes this.1
+  interface_count ← item_at bytes superclass.1
+  Ok (record { flags = flags.0; this = this.0; superclass = superclass.0; interface_count = interface_count.0 }, interface_count.1)
+
+-- what stands after them,
+unfoldable pub members_at : List ℕ → ℕ → Result (Members × ℕ) ReadFault
+members_at bytes at = do
+  field_count ← item_at bytes at
+  fields ← many (member_at bytes) field_count.0.value field_count.1
+  method_count ← item_at bytes fields.1
+  methods ← many (member_at bytes) method_count.0.value method_count.1
+  attributes ← attributes_at bytes methods.1
+  Ok (
+    record {
+      field_count = field_count.0;
+      fields = fields.0;
+      method_count = method_count.0;
+      methods = methods.0;
+      attributes = attributes.0;
+    },
+    attributes.1,
+  )
+
+-- and all that stands after the constant pool.
+unfoldable pub rest_at : List ℕ → ℕ → Result (Rest × ℕ) ReadFault
+rest_at bytes at = do
+  front ← front_at bytes at
+  interfaces ← many (item_at bytes) front.0.interface_count.value front.1
+  members ← members_at bytes interfaces.1
+  Ok (record { front = front.0; interfaces = interfaces.0; members = members.0 }, members.1)
+
+-- the layout of a pool and of what stands after it
+abbrev pub layout_with : PoolLayout → Rest → Layout
+layout_with pool rest = record {
+  pool = pool;
+  flags = rest.front.flags;
+  this = rest.front.this;
+  superclass = rest.front.superclass;
+  interface_count = rest.front.interface_count;
+  interfaces = rest.interfaces;
+  field_count = rest.members.field_count;
+  fields = rest.members.fields;
+  method_count = rest.members.method_count;
+  methods = rest.members.methods;
+  attributes = rest.members.attributes;
+}
 
 -- the most bytes that a class file may have
 abbrev pub max_length : ℕ

@@ -28,7 +28,7 @@ pub struct Member {
 }
 
 /// A class file (JVMS 4.1) after its version.
-#[derive(Debug, Drop)]
+#[derive(Drop)]
 pub struct Layout {
     pub pool: PoolLayout,
     pub flags: Item,

@@ -1,14 +1,16 @@
 //! The layout of a class file: its raw items with their positions, skipped attributes and ignored
 //! indices included. Reading it is the first pass, which enters no attribute.
 
-ghost use Rattle.std.specs.Prelude.{IfErr, IfOk};
+ghost use Rattle.std.specs.Prelude.{◌≡◌, IfErr, IfOk};
 ghost use Rattle.cf_text.specs.Formats.{FailsBy};
 ghost use Rattle.cf_text.specs.Reading.{Gives, many};
 ghost use Rattle.cf_layout.specs.FileFormat.{LaysOut, file_format};
-ghost use Rattle.cf_layout.specs.Layouts.{attribute_at, attributes_at, body_at, header_at, item_at, layout_of, member_at};
+ghost use Rattle.cf_layout.specs.Layouts.{attribute_at, attributes_at, body_at, front_at, header_at, item_at, layout_of, layout_with, member_at, members_at, rest_at};
 
 use super::items::{Attribute, Item, Layout, Member};
-use cf_pool::{ReadFault, Rule, Table, demand, read_u16, read_u32, short_position, skip};
+use cf_pool::{
+    PoolLayout, ReadFault, Rule, Table, demand, read_u16, read_u32, short_position, skip,
+};
 use std::alloc::Global;
 
 /// The most bytes that a class file may have: 1 MiB, a limit of this project.
@@ -137,36 +139,115 @@ fn read_header(bytes: &[u8]) -> Result<(u16, usize), ReadFault>
     Ok((major, to))
 }
 
-// What follows the version.
-#[tactic(auto, unfolding(crate::specs::Layouts::body_at))]
-fn read_body(alloc: Global, bytes: &[u8], at: usize) -> Result<(Layout, usize), ReadFault>
-    ensures { Gives (body_at bytes.now at) result }
+// What stands between the constant pool and the superinterfaces.
+#[derive(Clone, Copy)]
+pub(crate) struct Front {
+    pub(crate) flags: Item,
+    pub(crate) this: Item,
+    pub(crate) superclass: Item,
+    pub(crate) interface_count: Item,
+}
+
+// What stands after the superinterfaces.
+#[derive(Drop)]
+pub(crate) struct Members {
+    pub(crate) field_count: Item,
+    pub(crate) fields: Table<Member>,
+    pub(crate) method_count: Item,
+    pub(crate) methods: Table<Member>,
+    pub(crate) attributes: Table<Attribute>,
+}
+
+// What stands after the constant pool.
+#[derive(Drop)]
+pub(crate) struct Rest {
+    pub(crate) front: Front,
+    pub(crate) interfaces: Table<Item>,
+    pub(crate) members: Members,
+}
+
+#[tactic(auto, unfolding(crate::specs::Layouts::front_at))]
+fn read_front(bytes: &[u8], at: usize) -> Result<(Front, usize), ReadFault>
+    ensures { Gives (front_at bytes.now at) result }
 {
-    let (pool, after) = cf_pool::read_layout(alloc, bytes, at)?;
-    let (flags, after) = read_item(bytes, after)?;
+    let (flags, after) = read_item(bytes, at)?;
     let (this, after) = read_item(bytes, after)?;
     let (superclass, after) = read_item(bytes, after)?;
-    let (interface_count, after) = read_item(bytes, after)?;
-    let (interfaces, after) = read_items(alloc, interface_count.value, bytes, after)?;
-    let (field_count, after) = read_item(bytes, after)?;
-    let (fields, after) = read_members(alloc, field_count.value, bytes, after)?;
-    let (method_count, after) = read_item(bytes, after)?;
-    let (methods, after) = read_members(alloc, method_count.value, bytes, after)?;
-    let (attributes, to) = read_attributes(alloc, bytes, after)?;
-    let layout = Layout {
-        pool,
+    let (interface_count, to) = read_item(bytes, after)?;
+    let front = Front {
         flags,
         this,
         superclass,
         interface_count,
-        interfaces,
+    };
+    Ok((front, to))
+}
+
+#[tactic(auto, unfolding(crate::specs::Layouts::members_at))]
+fn read_class_members(alloc: Global, bytes: &[u8], at: usize) -> Result<(Members, usize), ReadFault>
+    ensures { Gives (members_at bytes.now at) result }
+{
+    let (field_count, after) = read_item(bytes, at)?;
+    let (fields, after) = read_members(alloc, field_count.value, bytes, after)?;
+    let (method_count, after) = read_item(bytes, after)?;
+    let (methods, after) = read_members(alloc, method_count.value, bytes, after)?;
+    let (attributes, to) = read_attributes(alloc, bytes, after)?;
+    let members = Members {
         field_count,
         fields,
         method_count,
         methods,
         attributes,
     };
-    Ok((layout, to))
+    Ok((members, to))
+}
+
+#[tactic(auto, unfolding(crate::specs::Layouts::rest_at))]
+fn read_rest(alloc: Global, bytes: &[u8], at: usize) -> Result<(Rest, usize), ReadFault>
+    ensures { Gives (rest_at bytes.now at) result }
+{
+    let (front, after) = read_front(bytes, at)?;
+    let (interfaces, after) = read_items(alloc, front.interface_count.value, bytes, after)?;
+    let (members, to) = read_class_members(alloc, bytes, after)?;
+    let rest = Rest {
+        front,
+        interfaces,
+        members,
+    };
+    Ok((rest, to))
+}
+
+fn layout_with(pool: PoolLayout, rest: Rest) -> Layout
+    ensures { result ≡ layout_with pool rest }
+{
+    let Rest {
+        front,
+        interfaces,
+        members,
+    } = rest;
+    Layout {
+        pool,
+        flags: front.flags,
+        this: front.this,
+        superclass: front.superclass,
+        interface_count: front.interface_count,
+        interfaces,
+        field_count: members.field_count,
+        fields: members.fields,
+        method_count: members.method_count,
+        methods: members.methods,
+        attributes: members.attributes,
+    }
+}
+
+// What follows the version. The pool stands by at one place alone that may fail: at each such place, all that
+// a pool is made of is let go, and that is proved.
+fn read_body(alloc: Global, bytes: &[u8], at: usize) -> Result<(Layout, usize), ReadFault>
+    ensures { Gives (body_at bytes.now at) result }
+{
+    let (pool, after) = cf_pool::read_layout(alloc, bytes, at)?;
+    let (rest, to) = read_rest(alloc, bytes, after)?;
+    Ok((layout_with(pool, rest), to))
 }
 
 // The reading after `read_layout`, with the first fault.
