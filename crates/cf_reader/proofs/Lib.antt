@@ -1,5 +1,6 @@
 pub mod AttributeSteps
 pub mod Each
+pub mod Parts
 pub mod SaysLaws
 pub mod PlacedLaws
 pub mod ClassOrder

@@ -104,6 +104,28 @@ class_from bytes layout = do
     methods = methods;
   })
 
+-- The same class file in parts, as the code makes it: its supertypes,
+unfoldable pub supertypes_from : Layout → Result (List ℕ × List (List ℕ)) ReadFault
+supertypes_from layout = do
+  superclass ← class_name_of layout.pool.pool layout.superclass
+  interfaces ← each (class_name_of layout.pool.pool) layout.interfaces
+  Ok (superclass, interfaces)
+
+-- its members,
+unfoldable pub members_from : List ℕ → Layout → Result (List Field × List Method) ReadFault
+members_from bytes layout = do
+  fields ← each (field_from bytes layout.pool.pool) layout.fields
+  methods ← each (method_from bytes layout.pool.pool) layout.methods
+  Ok (fields, methods)
+
+-- and all that is made of a layout.
+unfoldable pub parts_from : List ℕ → Layout → Result ((List Field × List Method) × (List ℕ × List (List ℕ)) × List ℕ) ReadFault
+parts_from bytes layout = do
+  name ← class_name_of layout.pool.pool layout.this
+  supertypes ← supertypes_from layout
+  members ← members_from bytes layout
+  Ok (members, supertypes, name)
+
 -- The reading of a class file: its layout, then the first demand that does not hold, then what it says.
 unfoldable pub reading_of : List ℕ → Result ClassFile ReadFault
 reading_of bytes = do

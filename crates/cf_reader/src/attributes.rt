@@ -19,7 +19,7 @@ pub(crate) const CONSTANT_VALUE: &[u8] = b"ConstantValue";
 pub(crate) const STACK_MAP_TABLE: &[u8] = b"StackMapTable";
 
 /// Which attribute is known on an item, apart from Code, which is known on methods.
-#[derive(Clone, Copy, Debug, PartialEq, Eq)]
+#[derive(Clone, Copy, PartialEq, Eq)]
 pub(crate) enum Known {
     /// None: all are skipped by their length.
     Nothing,
@@ -73,11 +73,8 @@ impl Known {
             Known::Nothing => Ok(()),
             Known::ConstantValue => {
                 let index = read_constant(bytes, attribute)?;
-                demand(
-                    pool.integer(index.value).is_some(),
-                    Rule::Index,
-                    index.at as usize,
-                )
+                let at = index.at as usize;
+                demand(pool.integer(index.value).is_some(), Rule::Index, at)
             }
             Known::StackMapTable => check_table(bytes, attribute),
         }
@@ -94,15 +91,13 @@ impl Known {
         ensures { Gives (verdict (one_attribute pool.now (is_known pool.now self)
             (known_demands (insides_of bytes.now) pool.now self) seen attribute)) result }
     {
-        demand(
-            pool.utf8(attribute.name.value).is_some(),
-            Rule::Index,
-            attribute.name.at as usize,
-        )?;
+        let at = attribute.name.at as usize;
+        let name = pool.utf8(attribute.name.value);
+        demand(name.is_some(), Rule::Index, at)?;
         if !self.is(pool, attribute) {
             return Ok(());
         }
-        demand(!seen, Rule::Duplicate, attribute.name.at as usize)?;
+        demand(!seen, Rule::Duplicate, at)?;
         self.check(bytes, pool, attribute)
     }
 
@@ -136,11 +131,8 @@ fn check_code(
 {
     let code = read_code(alloc, bytes, attribute)?;
     let handlers = code.handler_count;
-    demand(
-        handlers_in_profile(handlers.value),
-        Rule::OutOfProfile,
-        handlers.at as usize,
-    )?;
+    let at = handlers.at as usize;
+    demand(handlers_in_profile(handlers.value), Rule::OutOfProfile, at)?;
     Known::StackMapTable.check_all(bytes, pool, code.attributes.as_slice())
 }
 
@@ -155,15 +147,13 @@ fn check_method_attribute(
     ensures { Gives (verdict (one_attribute pool.now (is_named pool.now (codes "Code"))
         (code_demands (insides_of bytes.now) pool.now) seen attribute)) result }
 {
-    demand(
-        pool.utf8(attribute.name.value).is_some(),
-        Rule::Index,
-        attribute.name.at as usize,
-    )?;
+    let at = attribute.name.at as usize;
+    let name = pool.utf8(attribute.name.value);
+    demand(name.is_some(), Rule::Index, at)?;
     if !is_named(pool, CODE, attribute) {
         return Ok(());
     }
-    demand(!seen, Rule::Duplicate, attribute.name.at as usize)?;
+    demand(!seen, Rule::Duplicate, at)?;
     check_code(alloc, bytes, pool, attribute)
 }
 

@@ -4,7 +4,7 @@ ghost use Rattle.std.specs.Prelude.{◌≡◌, ◌≤◌, None, length};
 ghost use Rattle.cf_descriptors.specs.Descriptors.{AreFieldTypes, AreMethodTypes, ArePackedTypes};
 ghost use Rattle.cf_text.specs.Reading.{Gives, GivesSeen};
 ghost use Rattle.cf_layout.specs.CodeLengths.{IsShort};
-ghost use Rattle.cf_reader.specs.Builds.{class_from, class_name_of, code_from, code_in, constant_attribute, constant_from, each, field_from, method_from, table_in, text_of};
+ghost use Rattle.cf_reader.specs.Builds.{class_from, class_name_of, code_from, code_in, constant_attribute, constant_from, each, field_from, members_from, method_from, parts_from, supertypes_from, table_in, text_of};
 
 use super::attributes::{CODE, CONSTANT_VALUE, STACK_MAP_TABLE, first_named};
 use super::{ClassFile, Code, Field, Flags, Method};
@@ -14,7 +14,7 @@ use cf_pool::{Pool, ReadFault, Row, Rule, Table, Text};
 use cf_text::Shared;
 use std::alloc::Global;
 
-fn wrong_index(at: usize) -> ReadFault
+pub(crate) fn wrong_index(at: usize) -> ReadFault
     ensures { result ≡ ReadFault.Broken Rule.Index at }
 {
     ReadFault::Broken {
@@ -219,29 +219,82 @@ fn fields_from(
     Ok(Table::new(fields))
 }
 
-fn methods_from(
+// The methods of a class, with the descriptors that are packed so far.
+fn methods_with<'a>(
     alloc: Global,
     bytes: &[u8],
     pool: &Pool,
-    no_code: &Shared<Option<Code>>,
+    known: &'a MethodTypes<'_>,
+    packed: &mut PackedTypes<'a>,
     items: &[Member],
 ) -> Result<Table<Method>, ReadFault>
-    requires none { no_code.now ≡ None }
+    requires known { AreMethodTypes pool.now known.now }
+    requires packed { ArePackedTypes pool.now packed.old }
     requires few { length items.now ≤ 65535 }
     ensures { Gives (each (method_from bytes.now pool.now) items.now) result }
 {
-    let known = MethodTypes::of(alloc, pool, items)?;
-    let mut packed = PackedTypes::new(alloc, known.table(alloc)?);
+    let no_code = Shared::new(alloc, None)?;
     let mut methods = Vec::with_capacity(alloc, items.len())?;
     for item in items {
-        let method = method_from(alloc, bytes, pool, &known, &mut packed, no_code, item)?;
+        let method = method_from(alloc, bytes, pool, known, packed, &no_code, item)?;
         methods.push(method)?;
     }
     Ok(Table::new(methods))
 }
 
-/// The class file that a layout of these bytes says.
-#[tactic(auto, unfolding(crate::specs::Builds::class_from))]
+fn methods_from(
+    alloc: Global,
+    bytes: &[u8],
+    pool: &Pool,
+    items: &[Member],
+) -> Result<Table<Method>, ReadFault>
+    requires few { length items.now ≤ 65535 }
+    ensures { Gives (each (method_from bytes.now pool.now) items.now) result }
+{
+    let known = MethodTypes::of(alloc, pool, items)?;
+    let mut packed = PackedTypes::new(alloc, known.table(alloc)?);
+    methods_with(alloc, bytes, pool, &known, &mut packed, items)
+}
+
+#[tactic(auto, unfolding(crate::specs::Builds::supertypes_from))]
+fn supertypes_from(alloc: Global, layout: &Layout) -> Result<(Text, Table<Text>), ReadFault>
+    ensures { Gives (supertypes_from layout.now) result }
+{
+    let pool = &layout.pool.pool;
+    let superclass = class_name_of(pool, layout.superclass)?;
+    let interfaces = interfaces_from(alloc, pool, layout.interfaces.as_slice())?;
+    Ok((superclass, interfaces))
+}
+
+#[tactic(auto, unfolding(crate::specs::Builds::members_from))]
+fn members_from(
+    alloc: Global,
+    bytes: &[u8],
+    layout: &Layout,
+) -> Result<(Table<Field>, Table<Method>), ReadFault>
+    ensures { Gives (members_from bytes.now layout.now) result }
+{
+    let pool = &layout.pool.pool;
+    let fields = fields_from(alloc, bytes, pool, layout.fields.as_slice())?;
+    let methods = methods_from(alloc, bytes, pool, layout.methods.as_slice())?;
+    Ok((fields, methods))
+}
+
+// What is made of a layout: the members, the supertypes and the name.
+type Parts = ((Table<Field>, Table<Method>), (Text, Table<Text>), Text);
+
+#[tactic(auto, unfolding(crate::specs::Builds::parts_from))]
+fn parts_from(alloc: Global, bytes: &[u8], layout: &Layout) -> Result<Parts, ReadFault>
+    ensures { Gives (parts_from bytes.now layout.now) result }
+{
+    let name = class_name_of(&layout.pool.pool, layout.this)?;
+    let supertypes = supertypes_from(alloc, layout)?;
+    let members = members_from(alloc, bytes, layout)?;
+    Ok((members, supertypes, name))
+}
+
+/// The class file that a layout of these bytes says. The layout is lent to what may fail, so that it is let go
+/// at one place.
 pub(crate) fn class_from(
     alloc: Global,
     bytes: &[u8],
@@ -249,13 +302,7 @@ pub(crate) fn class_from(
 ) -> Result<ClassFile, ReadFault>
     ensures { Gives (class_from bytes.now layout) result }
 {
-    let pool = &layout.pool.pool;
-    let name = class_name_of(pool, layout.this)?;
-    let superclass = class_name_of(pool, layout.superclass)?;
-    let interfaces = interfaces_from(alloc, pool, layout.interfaces.as_slice())?;
-    let fields = fields_from(alloc, bytes, pool, layout.fields.as_slice())?;
-    let no_code = Shared::new(alloc, None)?;
-    let methods = methods_from(alloc, bytes, pool, &no_code, layout.methods.as_slice())?;
+    let ((fields, methods), (superclass, interfaces), name) = parts_from(alloc, bytes, &layout)?;
     let flags = Flags {
         bits: layout.flags.value,
     };

@@ -6,7 +6,7 @@ use std::marker::Model;
 /// A class file that was read from its bytes, so that it is well formed: flags, types and descriptors of its
 /// members agree (JVMS 4.3, 4.5, 4.6). [`read_class`](super::read_class) alone makes one. A contract sees it as
 /// the class file.
-#[derive(Debug, Drop)]
+#[derive(Drop)]
 pub struct ReadClass {
     file: ClassFile,
 }

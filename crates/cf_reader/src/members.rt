@@ -12,6 +12,7 @@ ghost use Rattle.cf_reader.specs.MemberNames.{AreFieldNames, AreMethodNames};
 
 use super::Flags;
 use super::attributes::{CODE, CONSTANT_VALUE, Known, check_method_attributes, first_named};
+use super::build::wrong_index;
 use super::names::{FieldNames, MethodNames};
 use super::profile::{
     field_flags_in_profile, is_int_type, is_profile_type, method_flags_in_profile,
@@ -113,11 +114,8 @@ fn check_field_type<'a>(
     ensures known { AreFieldTypes pool.now known.new }
 {
     let kind = known.read(alloc, pool, descriptor, text)?;
-    demand(
-        is_profile_type(&kind),
-        Rule::OutOfProfile,
-        descriptor.at as usize,
-    )
+    let at = descriptor.at as usize;
+    demand(is_profile_type(&kind), Rule::OutOfProfile, at)
 }
 
 #[tactic(auto, unfolding(crate::specs::Checks::field_descriptor_demands, cf_text::specs::Demands::verdict, cf_pool::specs::Pools::indexed))]
@@ -132,10 +130,7 @@ fn check_field_descriptor<'a>(
     ensures known { AreFieldTypes pool.now known.new }
 {
     let Some(text) = pool.utf8(descriptor.value) else {
-        return Err(ReadFault::Broken {
-            rule: Rule::Index,
-            at: descriptor.at as usize,
-        });
+        return Err(wrong_index(descriptor.at as usize));
     };
     check_field_type(alloc, pool, known, descriptor, text)
 }
@@ -278,12 +273,9 @@ fn check_method_type<'a>(
     let kind = known.read(alloc, pool, descriptor, text)?;
     let fits = are_few(is_static, kind.parameters.as_slice())
         && (!is_initializer || kind.result.is_none());
-    demand(fits, Rule::Descriptor, descriptor.at as usize)?;
-    demand(
-        method_type_in_profile(&kind),
-        Rule::OutOfProfile,
-        descriptor.at as usize,
-    )
+    let at = descriptor.at as usize;
+    demand(fits, Rule::Descriptor, at)?;
+    demand(method_type_in_profile(&kind), Rule::OutOfProfile, at)
 }
 
 #[tactic(auto, unfolding(crate::specs::Checks::method_descriptor_demands, cf_text::specs::Demands::verdict, cf_pool::specs::Pools::indexed))]
@@ -299,23 +291,14 @@ fn check_method_descriptor<'a>(
 {
     let descriptor = method.descriptor;
     let Some(text) = pool.utf8(descriptor.value) else {
-        return Err(ReadFault::Broken {
-            rule: Rule::Index,
-            at: descriptor.at as usize,
-        });
+        return Err(wrong_index(descriptor.at as usize));
     };
     let flags = Flags {
         bits: method.flags.value,
     };
-    check_method_type(
-        alloc,
-        pool,
-        known,
-        descriptor,
-        flags.has(Flags::STATIC),
-        is_initializer(pool, method.name),
-        text,
-    )
+    let is_static = flags.has(Flags::STATIC);
+    let is_init = is_initializer(pool, method.name);
+    check_method_type(alloc, pool, known, descriptor, is_static, is_init, text)
 }
 
 #[tactic(auto, unfolding(crate::specs::Checks::method_demands_if), using(cf_text::proofs::Verdicts::verdicts))]

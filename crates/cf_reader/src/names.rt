@@ -9,6 +9,7 @@ ghost use Rattle.cf_pool.specs.Pools.{named, utf8_at};
 ghost use Rattle.cf_reader.specs.Checks.{method_name_demands};
 ghost use Rattle.cf_reader.specs.MemberNames.{AreFieldNames, AreMethodNames};
 
+use super::build::wrong_index;
 use super::profile::method_name_in_profile;
 use cf_layout::Item;
 use cf_pool::{Pool, ReadFault, Rule, demand, is_method_name, is_name};
@@ -20,10 +21,7 @@ fn check_field_name(pool: &Pool, name: Item) -> Result<(), ReadFault>
     ensures { result ≡ verdict (named name.at (utf8_at pool.now name.value) is_name) }
 {
     let Some(text) = pool.utf8(name.value) else {
-        return Err(ReadFault::Broken {
-            rule: Rule::Index,
-            at: name.at as usize,
-        });
+        return Err(wrong_index(name.at as usize));
     };
     demand(is_name(text.as_bytes()), Rule::Utf8, name.at as usize)
 }
@@ -63,22 +61,12 @@ impl FieldNames {
 fn check_method_name(pool: &Pool, name: Item) -> Result<(), ReadFault>
     ensures { result ≡ verdict (method_name_demands pool.now name) }
 {
+    let at = name.at as usize;
     let Some(text) = pool.utf8(name.value) else {
-        return Err(ReadFault::Broken {
-            rule: Rule::Index,
-            at: name.at as usize,
-        });
+        return Err(wrong_index(at));
     };
-    demand(
-        is_method_name(text.as_bytes()),
-        Rule::Utf8,
-        name.at as usize,
-    )?;
-    demand(
-        method_name_in_profile(text),
-        Rule::OutOfProfile,
-        name.at as usize,
-    )
+    demand(is_method_name(text.as_bytes()), Rule::Utf8, at)?;
+    demand(method_name_in_profile(text), Rule::OutOfProfile, at)
 }
 
 /// The names of methods that were looked at and keep the rules, by their indices.

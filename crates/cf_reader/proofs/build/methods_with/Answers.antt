@@ -5,7 +5,7 @@ use Rattle.cf_layout.specs.declared.items.Item.{Item}
 use Rattle.cf_reader.specs.declared.class_file.Method.{Method}
 use Rattle.cf_reader.specs.Builds.{method_from}
 use Rattle.cf_reader.proofs.Each.{each-goes_on, each-fails, each-end, each-long}
-use Rattle.cf_reader.proofs.build.methods_from.Goals as goal
+use Rattle.cf_reader.proofs.build.methods_with.Goals as goal
 
 -- what stands past the end of a row of items
 abbrev nowhere : Item
@@ -21,10 +21,10 @@ loop-item-preserved c =
     (rw c.in_ok-push.ensures.items (each-goes_on (method_from c.args.bytes.now c.args.pool.now) c.args.items.now c.loop-item.methods.items c.loop-item.item-index c.item-item.result c.item-item.result (search rules) (sym c.item-item.is) c.loop-item.invariant.0 c.in_ok-method.method (search rules)), c.method_from.ensures.packed)
 
 pub returns : goal.returns
-returns c = rw c.new.ensures (each-end (method_from c.args.bytes.now c.args.pool.now) c.args.items.now c.loop-item.methods.items c.loop-item.item-index (search rules) c.loop-item.invariant.0)
+returns c = rw c.new-2.ensures (each-end (method_from c.args.bytes.now c.args.pool.now) c.args.items.now c.loop-item.methods.items c.loop-item.item-index (search rules) c.loop-item.invariant.0)
 
-pub new-requires : goal.new-requires
-new-requires c =
+pub new-requires-2 : goal.new-requires-2
+new-requires-2 c =
     let read = (method_from c.args.bytes.now c.args.pool.now) in
     let all = each-end read c.args.items.now c.loop-item.methods.items c.loop-item.item-index (search rules) c.loop-item.invariant.0 in
     let long : length c.loop-item.methods.items ≡ length c.args.items.now = subst (λ r. IfOk {T = List Method} r (λ ys. length ys ≡ length c.args.items.now)) all (each-long read c.args.items.now) in

@@ -2,7 +2,7 @@ use Rattle.std.proofs.Common.{◌≡◌, drop}
 use Rattle.cf_descriptors.specs.Descriptors.{ArePackedTypes}
 use Rattle.cf_reader.specs.Builds.{method_from, each}
 use Rattle.cf_reader.proofs.Each.{before}
-use Rattle.cf_reader.proofs.build.methods_from.Given as goal
+use Rattle.cf_reader.proofs.build.methods_with.Given as goal
 
 -- those so far and those that follow are all of them, and the descriptors that are kept are those of the pool
 abbrev pub invariant-loop-item : goal.invariant-loop-item
