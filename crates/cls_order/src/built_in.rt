@@ -8,7 +8,7 @@ use cf_reader::{ClassFile, Code, Flags, Method, MethodDescriptor, Pool, Shared, 
 use std::alloc::{AllocError, Global};
 
 // What a built-in class is.
-#[derive(Clone, Copy, Debug, PartialEq, Eq)]
+#[derive(Clone, Copy, PartialEq, Eq)]
 pub(crate) enum Kind {
     Concrete,
     Abstract,
@@ -60,25 +60,41 @@ fn text(alloc: Global, bytes: &[u8]) -> Result<Text, AllocError>
     Text::new(alloc, Vec::from_slice(alloc, bytes)?)
 }
 
-// The `<init>()V` of a built-in class: the one instruction `return`.
-fn init(alloc: Global) -> Result<Method, AllocError>
-    ensures { IfOk result (λ method. method ≡ built_in_init) }
+// The name and the descriptor of `<init>()V`.
+fn init_texts(alloc: Global) -> Result<(Text, Text), AllocError>
+    ensures { IfOk result (λ texts. texts ≡ (built_in_init.name, built_in_init.descriptor)) }
 {
-    let types = MethodDescriptor::without_types(alloc)?;
+    let name = text(alloc, b"<init>")?;
+    Ok((name, text(alloc, b"()V")?))
+}
+
+// The code of `<init>()V`: the one instruction `return`.
+fn init_code(alloc: Global) -> Result<Shared<Option<Code>>, AllocError>
+    ensures { IfOk result (λ code. code ≡ built_in_init.code) }
+{
     let code = Code {
         max_stack: 0,
         max_locals: 1,
         bytes: Table::new(Vec::from_slice(alloc, &[0xb1])?),
         stack_map_table: None,
     };
+    Shared::new(alloc, Some(code))
+}
+
+// The `<init>()V` of a built-in class.
+fn init(alloc: Global) -> Result<Method, AllocError>
+    ensures { IfOk result (λ method. method ≡ built_in_init) }
+{
+    let (name, descriptor) = init_texts(alloc)?;
+    let types = Shared::new(alloc, MethodDescriptor::without_types(alloc)?)?;
     Ok(Method {
         flags: Flags {
             bits: Flags::PUBLIC,
         },
-        name: text(alloc, b"<init>")?,
-        descriptor: text(alloc, b"()V")?,
-        types: Shared::new(alloc, types)?,
-        code: Shared::new(alloc, Some(code))?,
+        name,
+        descriptor,
+        types,
+        code: init_code(alloc)?,
     })
 }
 
@@ -112,14 +128,16 @@ fn file(
 ) -> Result<ClassFile, AllocError>
     ensures { IfOk result (λ file. file ≡ file_of (record { name = name.now; superclass = superclass; kind = kind })) }
 {
+    let name = text(alloc, name)?;
+    let methods = methods(alloc, kind)?;
     Ok(ClassFile {
         pool: Pool::new(Vec::new(alloc)),
         flags: flags(kind),
-        name: text(alloc, name)?,
+        name,
         superclass,
         interfaces: Table::new(Vec::new(alloc)),
         fields: Table::new(Vec::new(alloc)),
-        methods: methods(alloc, kind)?,
+        methods,
     })
 }
 

@@ -86,23 +86,31 @@ fn end(pass: &Pass) -> Option<usize>
     }
 }
 
-// Ranks the classes, each above its direct supertypes, if none is its own supertype: then all have ranks.
-pub(crate) fn rank_in_one_pass(alloc: Global, entries: &mut Vec<Entry>) -> Result<bool, AllocError>
-    requires { AreWithin (length entries.old.items) (classes_of entries.old.items) }
-    ensures classes { classes_of entries.new.items ≡ classes_of entries.old.items }
-    ensures ranks { IfOk result (λ all. IsTrue all → All (IsRanked entries.new.items) entries.new.items) }
+// A pass that has come to none of these classes yet.
+fn start(alloc: Global, entries: &[Entry]) -> Result<Pass, AllocError>
+    ensures { IfOk result (IsPass entries.now 0) }
 {
     let count = entries.len();
-    let mut pass = Pass {
+    Ok(Pass {
         met: vec![in alloc; false; count]?,
         ranked: vec![in alloc; false; count]?,
         passed: vec![in alloc; 0; count]?,
         path: Vec::new(alloc),
-    };
+    })
+}
+
+// Goes through the classes from the start of a pass on. True says that all have ranks.
+fn go_through(entries: &mut Vec<Entry>, pass: &mut Pass) -> Result<bool, AllocError>
+    requires within { AreWithin (length entries.old.items) (classes_of entries.old.items) }
+    requires pass { IsPass entries.old.items 0 pass.old }
+    ensures classes { classes_of entries.new.items ≡ classes_of entries.old.items }
+    ensures ranks { IfOk result (λ all. IsTrue all → All (IsRanked entries.new.items) entries.new.items) }
+{
+    let count = entries.len();
     let mut next = 0;
     for rank in 0..usize::MAX {
-        if let Some(index) = end(&pass) {
-            if !go_on(entries, &mut pass, index, rank)? {
+        if let Some(index) = end(pass) {
+            if !go_on(entries, pass, index, rank)? {
                 return Ok(false);
             }
         } else if next == count {
@@ -115,4 +123,14 @@ pub(crate) fn rank_in_one_pass(alloc: Global, entries: &mut Vec<Entry>) -> Resul
         }
     }
     Ok(false)
+}
+
+// Ranks the classes, each above its direct supertypes, if none is its own supertype: then all have ranks.
+pub(crate) fn rank_in_one_pass(alloc: Global, entries: &mut Vec<Entry>) -> Result<bool, AllocError>
+    requires { AreWithin (length entries.old.items) (classes_of entries.old.items) }
+    ensures classes { classes_of entries.new.items ≡ classes_of entries.old.items }
+    ensures ranks { IfOk result (λ all. IsTrue all → All (IsRanked entries.new.items) entries.new.items) }
+{
+    let mut pass = start(alloc, entries)?;
+    go_through(entries, &mut pass)
 }

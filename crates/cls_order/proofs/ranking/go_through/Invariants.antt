@@ -2,7 +2,7 @@ use Rattle.std.proofs.Common.{◌≡◌, ◌<◌, ◌≤◌, ℕ, length}
 use Rattle.cls_order.specs.Entries.{classes_of}
 use Rattle.cls_order.specs.Marks.{IsMarked}
 use Rattle.cls_order.specs.Ranking.{IsPass}
-use Rattle.cls_order.proofs.ranking.rank_in_one_pass.Given as goal
+use Rattle.cls_order.proofs.ranking.go_through.Given as goal
 
 -- the classes before next have their ranks
 abbrev pub invariant-loop-rank : goal.invariant-loop-rank

@@ -9,8 +9,8 @@ use Rattle.cls_order.proofs.Heights.{long_classes}
 use Rattle.cls_order.proofs.Hierarchy.{same_read}
 use Rattle.cls_order.proofs.Passes.{all_ranked, moves}
 use Rattle.cls_order.proofs.Walks.{before}
-use Rattle.cls_order.proofs.ranking.rank_in_one_pass.Goals as goal
-use Rattle.cls_order.proofs.ranking.rank_in_one_pass.Goals.{in-Some+in_ok-go_on+else-not-branch, in_default+else-next-count+then-index, in_default+else-next-count+else-index+in_ok-push}
+use Rattle.cls_order.proofs.ranking.go_through.Goals as goal
+use Rattle.cls_order.proofs.ranking.go_through.Goals.{in-Some+in_ok-go_on+else-not-branch, in_default+else-next-count+then-index, in_default+else-next-count+else-index+in_ok-push}
 
 pub returns-then-next-count-clause-ranks : goal.returns-then-next-count-clause-ranks
 returns-then-next-count-clause-ranks c = λ _.
@@ -18,7 +18,7 @@ returns-then-next-count-clause-ranks c = λ _.
     let entries = c.loop-rank.entries.items in
     let inv = c.loop-rank.invariant in
     let long = sym (long_classes entries) ∙ (ap length inv.0 ∙ long_classes start) in
-    let within : AreWithin (length entries) (classes_of entries) = subst (AreWithin (length entries)) (sym inv.0) (subst (λ n. AreWithin n (classes_of start)) (sym long) c.requires) in
+    let within : AreWithin (length entries) (classes_of entries) = subst (AreWithin (length entries)) (sym inv.0) (subst (λ n. AreWithin n (classes_of start)) (sym long) c.requires.within) in
     all_ranked entries c.loop-rank.rank c.loop-rank.pass inv.1 within (λ k h. inv.3 k (omega (arith, h, long, c.if-next-count.true)))
 
 pub loop-rank-preserved : goal.loop-rank-preserved
