@@ -8,8 +8,8 @@ ghost use Rattle.cf_text.specs.Looks.{Exactly};
 ghost use Rattle.cf_text.specs.Types.{begins_with, class_type_of, descriptor_in, descriptor_of, dimensions_of, element_type_of, field_descriptor_of, field_type_of, letter_type, method_descriptor_of, name_length, parameters_of, result_of};
 
 use super::{
-    Descriptor, ElementType, FieldType, KnownTypes, ReadDescriptor, ReadFault, Row, Rule, Shared,
-    Text, is_class_name,
+    Descriptor, ElementType, FieldType, KnownTypes, MethodDescriptor, ReadDescriptor, ReadFault,
+    Row, Rule, Shared, Text, is_class_name,
 };
 use std::alloc::{AllocError, Global};
 
@@ -235,14 +235,32 @@ pub fn read_method_descriptor<'a>(
     Ok(ReadDescriptor { parameters, result })
 }
 
+fn packed_descriptor<'a>(
+    alloc: Global,
+    known: &mut KnownTypes<'a>,
+    text: &'a Text,
+) -> Result<MethodDescriptor, ReadFault>
+    ensures { Gives (method_descriptor_of 0 text.now) result }
+{
+    let read = read_method_descriptor(alloc, known, text, 0)?;
+    Ok(read.packed(alloc)?)
+}
+
+// The method descriptor that a text is. The types that it names are known here alone.
+fn method_descriptor(alloc: Global, text: &Text) -> Result<MethodDescriptor, ReadFault>
+    ensures { Gives (method_descriptor_of 0 text.now) result }
+{
+    let mut known = KnownTypes::new(alloc);
+    packed_descriptor(alloc, &mut known, text)
+}
+
 #[tactic(auto, unfolding(crate::specs::Types::descriptor_of))]
 fn any_descriptor(alloc: Global, text: &Text) -> Result<Descriptor, ReadFault>
     ensures { Gives (descriptor_of text.now) result }
 {
     if begins_with(text.as_bytes(), b'(') {
-        let mut known = KnownTypes::new(alloc);
-        let read = read_method_descriptor(alloc, &mut known, text, 0)?;
-        return Ok(Descriptor::Method(read.packed(alloc)?));
+        let method = method_descriptor(alloc, text)?;
+        return Ok(Descriptor::Method(method));
     }
     let kind = read_field_descriptor(text, 0)?;
     Ok(Descriptor::Field(kind))
