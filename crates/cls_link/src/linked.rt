@@ -1,8 +1,11 @@
 //! Linked class sets: their look-ups.
 
 ghost use Rattle.std.specs.Prelude.{◌≡◌, IfOk, IfErr, OnOk};
+ghost use Rattle.cls_resolve.specs.Entries.{AreKnown};
+ghost use Rattle.cls_link.specs.Fields.{AreFieldCounts};
 ghost use Rattle.cls_link.specs.LinkFaults.{AreSound, IsLinkFault};
 ghost use Rattle.cls_link.specs.Links.{AreLinks};
+ghost use Rattle.cls_link.specs.Numbers.{starts};
 
 use super::fields::{count_all, slot_in};
 use super::linking::link_class;
@@ -16,7 +19,7 @@ use std::marker::Model;
 
 /// A class set whose methods are linked. A contract sees it as its classes and the list of its
 /// methods: the method with number k is item k.
-#[derive(Debug, Drop)]
+#[derive(Drop)]
 pub struct Linked {
     set: ClassSet,
     methods: Vec<LinkedMethod>,
@@ -212,6 +215,85 @@ impl Linked {
     }
 }
 
+// What is made of a class set.
+#[derive(Drop)]
+struct Rows {
+    methods: Vec<LinkedMethod>,
+    first: Vec<usize>,
+    field_counts: Vec<u32>,
+}
+
+// Links the methods of all classes, and notes for each class the number of its first one. Searches write to
+// the marks, one for each class.
+fn link_classes(
+    alloc: Global,
+    set: &ClassSet,
+    known: &mut KnownEntries,
+    marks: &mut [bool],
+) -> Result<(Vec<LinkedMethod>, Vec<usize>), LinkFault>
+    requires known { AreKnown set.now known.old }
+    ensures links { IfOk result (λ rows. AreLinks (record { classes = set.now; methods = rows.0.items })) }
+    ensures first { IfOk result (λ rows. rows.1.items ≡ starts 0 set.now) }
+    ensures found { OnOk result (AreSound set.now) }
+    ensures only { AreSound set.now → IfErr result (λ fault. fault ≡ LinkFault.Memory) }
+    ensures fault { IfErr result (IsLinkFault set.now) }
+{
+    let mut methods = Vec::new(alloc);
+    let mut first = Vec::with_capacity(alloc, set.len())?;
+    for number in 0..set.len() {
+        first.push(methods.len())?;
+        let class = ClassId(number as u16);
+        let file = &set.class(class).file;
+        link_class(alloc, set, class, file, known, marks, &mut methods)?;
+    }
+    Ok((methods, first))
+}
+
+// The same with what is known of the entries of the pools, which is let go here.
+fn link_methods(alloc: Global, set: &ClassSet) -> Result<(Vec<LinkedMethod>, Vec<usize>), LinkFault>
+    ensures links { IfOk result (λ rows. AreLinks (record { classes = set.now; methods = rows.0.items })) }
+    ensures first { IfOk result (λ rows. rows.1.items ≡ starts 0 set.now) }
+    ensures found { OnOk result (AreSound set.now) }
+    ensures only { AreSound set.now → IfErr result (λ fault. fault ≡ LinkFault.Memory) }
+    ensures fault { IfErr result (IsLinkFault set.now) }
+{
+    let mut marks = vec![in alloc; false; set.len()]?;
+    let mut known = KnownEntries::new(alloc);
+    link_classes(alloc, set, &mut known, &mut marks)
+}
+
+// What a linked set has beside its classes.
+fn link_set(alloc: Global, set: &ClassSet) -> Result<Rows, LinkFault>
+    ensures links { IfOk result (λ rows. AreLinks (record { classes = set.now; methods = rows.methods.items })) }
+    ensures first { IfOk result (λ rows. rows.first.items ≡ starts 0 set.now) }
+    ensures counts { IfOk result (λ rows. AreFieldCounts set.now rows.field_counts.items) }
+    ensures found { OnOk result (AreSound set.now) }
+    ensures only { AreSound set.now → IfErr result (λ fault. fault ≡ LinkFault.Memory) }
+    ensures fault { IfErr result (IsLinkFault set.now) }
+{
+    let field_counts = count_all(alloc, set)?;
+    let (methods, first) = link_methods(alloc, set)?;
+    Ok(Rows {
+        methods,
+        first,
+        field_counts,
+    })
+}
+
+fn linked_from(set: ClassSet, rows: Rows) -> Linked
+    requires links { AreLinks (record { classes = set; methods = rows.methods.items }) }
+    requires first { rows.first.items ≡ starts 0 set }
+    requires counts { AreFieldCounts set rows.field_counts.items }
+    ensures { result ≡ record { classes = set; methods = rows.methods.items } }
+{
+    Linked {
+        set,
+        methods: rows.methods,
+        first: rows.first,
+        field_counts: rows.field_counts,
+    }
+}
+
 /// Returns the class set with its methods linked: each code is read once, and each branch becomes
 /// the index of its target. Every class, field and method that code names is looked for here, also
 /// in code that is never reached (JVMS 5.4.3). The member that an entry of a constant pool means is
@@ -229,29 +311,6 @@ pub fn link(alloc: Global, set: ClassSet) -> Result<Linked, LinkFault>
     ensures only { AreSound set → IfErr result (λ fault. fault ≡ LinkFault.Memory) }
     ensures fault { IfErr result (IsLinkFault set) }
 {
-    let field_counts = count_all(alloc, &set)?;
-    let mut methods = Vec::new(alloc);
-    let mut first = Vec::with_capacity(alloc, set.len())?;
-    let mut known = KnownEntries::new(alloc);
-    let mut marks = vec![in alloc; false; set.len()]?;
-    for number in 0..set.len() {
-        first.push(methods.len())?;
-        let class = ClassId(number as u16);
-        let file = &set.class(class).file;
-        link_class(
-            alloc,
-            &set,
-            class,
-            file,
-            &mut known,
-            &mut marks,
-            &mut methods,
-        )?;
-    }
-    Ok(Linked {
-        set,
-        methods,
-        first,
-        field_counts,
-    })
+    let rows = link_set(alloc, &set)?;
+    Ok(linked_from(set, rows))
 }

@@ -5,7 +5,7 @@ use Rattle.cls_resolve.specs.Entries.{AreKnown}
 use Rattle.cls_link.specs.LinkFaults.{IsSoundMethod}
 use Rattle.cls_link.specs.Links.{declared_from, IsLinked}
 use Rattle.cls_link.specs.Numbers.{starts}
-use Rattle.cls_link.proofs.linked.link.Given as goal
+use Rattle.cls_link.proofs.linked.link_classes.Given as goal
 
 -- the methods of the classes so far are linked, 65,535 of a class at most, and the number at which each class's begin is noted; they break
 -- no rule

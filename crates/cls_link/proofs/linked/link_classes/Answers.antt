@@ -11,12 +11,12 @@ use Rattle.cls_link.specs.Links.{declared_from, declared_in, IsLinked}
 use Rattle.cls_link.proofs.Declarations.{class_fault, declared_class}
 use Rattle.cls_link.proofs.MethodNumbers.{length_in, starts_pushed, zip_length}
 use Rattle.cls_link.proofs.Sound.{only_memory}
-use Rattle.cls_link.proofs.linked.link.Goals as goal
+use Rattle.cls_link.proofs.linked.link_classes.Goals as goal
 
 pub returns-in_err-link_class-clause-fault : goal.returns-in_err-link_class-clause-fault
 returns-in_err-link_class-clause-fault c =
     let p = err_from_is_err_and c.from_residual-in_err-link_class.result c.from_residual-in_err-link_class.ensures.1 in
-    let classes = c.args.set in
+    let classes = c.args.set.now in
     let n = c.loop-number.number in
     let here = get_or_from_slice_get classes n c.class.result.now c.class.result.now c.class.ensures in
     let within : n < length classes = omega (arith, c.len-number-end.ensures.count, c.loop-number-test.true) in
@@ -28,7 +28,7 @@ returns-in_err-link_class-clause-fault c =
 pub returns-in_err-link_class-clause-only : goal.returns-in_err-link_class-clause-only
 returns-in_err-link_class-clause-only c =
     let p = err_from_is_err_and c.from_residual-in_err-link_class.result c.from_residual-in_err-link_class.ensures.1 in
-    let classes = c.args.set in
+    let classes = c.args.set.now in
     let n = c.loop-number.number in
     let here = get_or_from_slice_get classes n c.class.result.now c.class.result.now c.class.ensures in
     let within : n < length classes = omega (arith, c.len-number-end.ensures.count, c.loop-number-test.true) in
@@ -40,7 +40,7 @@ returns-in_err-link_class-clause-only c =
 
 pub loop-number-preserved : goal.loop-number-preserved
 loop-number-preserved c =
-    let classes = c.args.set in
+    let classes = c.args.set.now in
     let n = c.loop-number.number in
     let here = get_or_from_slice_get classes n c.class.result.now c.class.result.now c.class.ensures in
     let within : n < length classes = omega (arith, c.len-number-end.ensures.count, c.loop-number-test.true) in
