@@ -7,7 +7,7 @@ use super::{Entry, MemberKind, Pool};
 use cf_text::{ReadFault, Row, short_position};
 
 /// What stands after a tag (JVMS 4.4, table 4.4-A).
-#[derive(Clone, Copy, Debug, PartialEq, Eq)]
+#[derive(Clone, Copy, PartialEq, Eq)]
 pub(crate) enum Shape {
     Utf8,
     Integer,
@@ -21,14 +21,14 @@ pub(crate) enum Shape {
 }
 
 /// The positions of an entry: that after its tag, and that after the first item there.
-#[derive(Clone, Copy, Debug, PartialEq, Eq)]
+#[derive(Clone, Copy, PartialEq, Eq)]
 pub struct Positions {
     pub first: u32,
     pub second: u32,
 }
 
 // An entry as it was read. A wide one takes two indices.
-#[derive(Debug, Drop)]
+#[derive(Drop)]
 pub(crate) struct PlacedEntry {
     pub entry: Entry,
     pub positions: Positions,
@@ -63,7 +63,7 @@ impl PlacedEntry {
 }
 
 /// A constant pool with the positions of its entries, by index.
-#[derive(Debug, Drop)]
+#[derive(Drop)]
 pub struct PoolLayout {
     pub pool: Pool,
     pub positions: Row<Positions>,

@@ -18,7 +18,7 @@ pub enum MemberKind {
 }
 
 /// An entry of the constant pool. Indices are those of the pool.
-#[derive(Debug, Drop)]
+#[derive(Drop)]
 pub enum Entry {
     Utf8(Text),
     Integer(i32),
@@ -42,7 +42,7 @@ pub enum Entry {
 }
 
 /// A constant pool. A contract sees it as the list of its entries by index, from index 0 on.
-#[derive(Debug, Drop)]
+#[derive(Drop)]
 pub struct Pool {
     entries: Vec<Entry>,
 }
@@ -57,14 +57,14 @@ impl Model for Pool {
 }
 
 /// What a NameAndType entry names (JVMS 4.4.6).
-#[derive(Clone, Copy, Debug)]
+#[derive(Clone, Copy)]
 pub struct NameAndTypeRef<'a> {
     pub name: &'a Text,
     pub descriptor: &'a Text,
 }
 
 /// What a Fieldref, Methodref or InterfaceMethodref entry names (JVMS 4.4.2).
-#[derive(Clone, Copy, Debug)]
+#[derive(Clone, Copy)]
 pub struct MemberRef<'a> {
     pub kind: MemberKind,
     /// The index of the Class entry.

@@ -6,7 +6,7 @@ use cf_text::Shared;
 
 /// A class or interface (JVMS 4.1). Texts and types that members share stand once in memory, so that a
 /// class takes a few times as many bytes as its file.
-#[derive(Debug, Drop)]
+#[derive(Drop)]
 pub struct ClassFile {
     pub pool: Pool,
     pub flags: Flags,
@@ -20,7 +20,7 @@ pub struct ClassFile {
 }
 
 /// A field (JVMS 4.5).
-#[derive(Debug, Drop)]
+#[derive(Drop)]
 pub struct Field {
     pub flags: Flags,
     pub name: Text,
@@ -32,7 +32,7 @@ pub struct Field {
 }
 
 /// A method (JVMS 4.6).
-#[derive(Debug, Drop)]
+#[derive(Drop)]
 pub struct Method {
     pub flags: Flags,
     pub name: Text,

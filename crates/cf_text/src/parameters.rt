@@ -10,7 +10,7 @@ use std::ops::Index;
 
 /// The types of a method's parameters, in order (JVMS 4.3.3). A contract sees it as the list of them.
 /// The types stand in a table that all descriptors of a class share, so a parameter takes four bytes.
-#[derive(Debug, Drop)]
+#[derive(Drop)]
 pub struct Parameters {
     types: Shared<Row<FieldType>>,
     indices: Vec<u32>,
@@ -73,7 +73,7 @@ impl Index<usize> for Parameters {
 }
 
 /// The types of parameters that are left.
-#[derive(Clone, Copy, Debug)]
+#[derive(Clone, Copy)]
 pub struct ParameterTypes<'a> {
     types: &'a [FieldType],
     indices: &'a [u32],

@@ -9,7 +9,7 @@ use std::marker::Model;
 
 /// The bytes of a file, which stand once in memory for all texts of the file. A contract sees them as
 /// the list of them.
-#[derive(Debug, Drop)]
+#[derive(Drop)]
 pub struct FileBytes {
     bytes: Shared<Vec<u8>>,
 }

@@ -8,14 +8,14 @@ use std::alloc::{AllocError, Global};
 use std::marker::Model;
 
 /// A field type (JVMS 4.3.2): an element type after 0 to 255 array dimensions.
-#[derive(Debug, Drop)]
+#[derive(Drop)]
 pub struct FieldType {
     pub dimensions: u8,
     pub element: ElementType,
 }
 
 /// A field type that is no array.
-#[derive(Debug, Drop)]
+#[derive(Drop)]
 pub enum ElementType {
     Byte,
     Char,
@@ -31,7 +31,7 @@ pub enum ElementType {
 
 /// A method descriptor (JVMS 4.3.3). `result` is `None` for `V`. A type stands once in memory, also if
 /// it is named again.
-#[derive(Debug, Drop)]
+#[derive(Drop)]
 pub struct MethodDescriptor {
     pub parameters: Parameters,
     pub result: Option<Shared<FieldType>>,
@@ -39,7 +39,7 @@ pub struct MethodDescriptor {
 
 /// A method descriptor as it is read, each of its types by itself. A contract sees it as the method
 /// descriptor.
-#[derive(Debug, Drop)]
+#[derive(Drop)]
 pub struct ReadDescriptor {
     pub parameters: Row<Shared<FieldType>>,
     pub result: Option<Shared<FieldType>>,
@@ -54,7 +54,7 @@ impl Model for ReadDescriptor {
 }
 
 /// What a descriptor's text says.
-#[derive(Debug, Drop)]
+#[derive(Drop)]
 pub enum Descriptor {
     Field(FieldType),
     Method(MethodDescriptor),

@@ -6,7 +6,7 @@ use cf_reader::{ClassFile, Flags, Row};
 use space_ids::ClassId;
 
 /// A class or interface of a class set, with its direct supertypes by number.
-#[derive(Debug, Drop)]
+#[derive(Drop)]
 pub struct Class {
     pub file: ClassFile,
     /// The direct superclass: `None` for java/lang/Object alone.

@@ -9,7 +9,7 @@ use std::marker::Model;
 const BITS: usize = 64;
 
 /// Which classes of a set are marked. A contract sees it as the list of the marks, by number.
-#[derive(Debug, Drop)]
+#[derive(Drop)]
 pub struct ClassMarks {
     words: Vec<u64>,
     count: usize,

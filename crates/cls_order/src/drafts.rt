@@ -5,7 +5,7 @@ use cf_reader::{ClassFile, Flags, Row};
 use std::marker::Model;
 
 /// The index of a class among all that are handed in, in the order of their names.
-#[derive(Clone, Copy, Debug, PartialEq, Eq)]
+#[derive(Clone, Copy, PartialEq, Eq)]
 pub struct Index {
     at: usize,
 }
@@ -39,7 +39,7 @@ impl Index {
 }
 
 /// A class whose supertypes are told by index. A contract sees it as the class of a set.
-#[derive(Debug, Drop)]
+#[derive(Drop)]
 pub struct Draft {
     pub file: ClassFile,
     pub superclass: Option<Index>,

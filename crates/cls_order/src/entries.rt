@@ -9,7 +9,7 @@ ghost use Rattle.cls_order.specs.Entries.{classes_of};
 use super::drafts::{Draft, Index};
 
 /// A class, and a number that is above those of its direct supertypes.
-#[derive(Debug, Drop)]
+#[derive(Drop)]
 pub struct Entry {
     pub class: Draft,
     pub rank: usize,

@@ -11,7 +11,7 @@ use super::ranking::rank_in_one_pass;
 use std::alloc::{AllocError, Global};
 
 // The classes that a walk up has met: whether it has, by number, and in the order in which it has.
-#[derive(Debug, Drop)]
+#[derive(Drop)]
 pub(crate) struct Walk {
     pub(crate) met: Vec<bool>,
     pub(crate) order: Vec<Index>,

@@ -13,7 +13,7 @@ use std::marker::Model;
 
 /// Classes in the order of their names, with the built-in ones. A contract sees it as the list of its
 /// classes: the class with number k is item k.
-#[derive(Debug, Drop)]
+#[derive(Drop)]
 pub struct ClassSet {
     members: Vec<Member>,
     // For each class a table of its supertypes by number.

@@ -29,7 +29,7 @@ fn has_package_access(method: &Method) -> bool
 }
 
 // The packages of the inherited methods with package access.
-#[derive(Clone, Copy, Debug)]
+#[derive(Clone, Copy)]
 pub(crate) enum Packages<'a> {
     Nowhere,
     In(&'a [u8]),
@@ -79,7 +79,7 @@ impl<'a> Packages<'a> {
 
 // The methods that a class inherits under one name and descriptor, as far as they forbid something:
 // private ones do not count.
-#[derive(Clone, Copy, Debug)]
+#[derive(Clone, Copy)]
 pub(crate) struct Inherited<'a> {
     pub(crate) has_instance: bool,
     // One that is static or final.

@@ -14,7 +14,7 @@ use std::alloc::{AllocError, Global};
 use std::cmp::Ordering;
 
 // A method: its class, and its index among the methods of the class.
-#[derive(Clone, Copy, Debug)]
+#[derive(Clone, Copy)]
 pub(crate) struct Declared {
     class: usize,
     method: u16,
@@ -97,7 +97,7 @@ fn numbers_of(
 }
 
 // The numbers of the methods of each class, and in how many bits they differ.
-#[derive(Debug, Drop)]
+#[derive(Drop)]
 pub(crate) struct Keys {
     pub(crate) numbers: Vec<Row<u32>>,
     pub(crate) levels: u32,

@@ -15,7 +15,7 @@ use std::marker::Model;
 
 // A class, and a number that is above those of its direct supertypes. A contract sees it as the entry of
 // which it is made.
-#[derive(Debug, Drop)]
+#[derive(Drop)]
 pub(crate) struct Member {
     pub(crate) class: Class,
     pub(crate) rank: usize,

@@ -131,7 +131,7 @@ fn is_one_method_not_crossing(entries: &[Entry], remote: &[bool], methods: &[Met
 }
 
 // Which members: the fields of classes, or the methods of interfaces.
-#[derive(Clone, Copy, Debug, PartialEq, Eq)]
+#[derive(Clone, Copy, PartialEq, Eq)]
 pub(crate) enum MemberKind {
     Fields,
     Methods,

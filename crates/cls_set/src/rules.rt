@@ -20,7 +20,7 @@ use cls_order::{Draft, Entry, broken, by_rank, is_in};
 use std::alloc::{AllocError, Global};
 
 // A rule that is looked for class by class.
-#[derive(Clone, Copy, Debug, PartialEq, Eq)]
+#[derive(Clone, Copy, PartialEq, Eq)]
 enum ClassRule {
     BadSuper,
     FinalSuper,
@@ -98,7 +98,7 @@ fn has_bad_super(entries: &[Entry], class: &Draft) -> bool
 }
 
 // What the rules ask of each class, by its index.
-#[derive(Debug, Drop)]
+#[derive(Drop)]
 pub(crate) struct Facts {
     // Whether it is java/rmi/Remote or below it.
     pub(crate) remote: Vec<bool>,

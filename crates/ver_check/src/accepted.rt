@@ -12,7 +12,7 @@ use std::marker::Model;
 
 /// A linked class set whose methods are all type safe: `accept` alone makes one. A contract sees it
 /// as the linked class set.
-#[derive(Debug, Drop)]
+#[derive(Drop)]
 pub struct Accepted {
     linked: Linked,
 }

@@ -9,7 +9,7 @@ use super::{CheckRule, LinkedInsn, TypeFrame};
 use std::alloc::{AllocError, Global};
 
 // Why a body is not type safe: the rule is broken at this offset.
-#[derive(Clone, Copy, Debug, PartialEq, Eq)]
+#[derive(Clone, Copy, PartialEq, Eq)]
 pub(crate) enum BodyFault {
     Broken { rule: CheckRule, at: usize },
     Memory,

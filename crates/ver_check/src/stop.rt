@@ -7,7 +7,7 @@ use super::CheckRule;
 use std::alloc::{AllocError, AllocFailed};
 
 // Why the check of an instruction stops.
-#[derive(Clone, Copy, Debug, PartialEq, Eq)]
+#[derive(Clone, Copy, PartialEq, Eq)]
 pub(crate) enum Stop {
     // At the instruction that is checked.
     Broken(CheckRule),
