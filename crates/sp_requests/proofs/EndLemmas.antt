@@ -22,7 +22,7 @@ use Rattle.sp_requests.specs.declared.asked.ResultKind.{ResultKind}
 use Rattle.sp_requests.specs.declared.asked.ResultKind.TheVariants as result
 use Rattle.sp_requests.specs.declared.ended.EndedCall.{EndedCall}
 use Rattle.sp_requests.specs.Asking.{IsOfCall, IsOn, asked_of, asks_by, call_at, call_row, calls_in, group_at, group_in, group_row, groups_in, kind_of, out_row, result_kind, shown}
-use Rattle.sp_requests.specs.Ends.{asker_of, ended_at, ended_call, ended_group, in_turn, out_among, waiting_among}
+use Rattle.sp_requests.specs.Ends.{asker_of, ended_at, ended_call, ended_group, in_turn, out_among, waiting_among, waiting_group}
 use Rattle.sp_requests.proofs.AskingLemmas.{found-call}
 
 -- ---- what waits
@@ -33,11 +33,6 @@ call_by (Some by) = record { asker = by; unsent = false } ∷ []
 
 abbrev pub waiting_call : Asked → List EndedCall
 waiting_call item = call_by (asker_of item)
-
-abbrev pub waiting_group : Asked → List OutGroup
-waiting_group (asked.Call number task lent kind message) = []
-waiting_group (asked.Lookup number task name) = []
-waiting_group (asked.Tell call group) = record { call = call; group = group } ∷ []
 
 kind-again : (k : ResultKind) → result_kind (kind_of k) ≡ k
 kind-again result.Int = refl

@@ -1,5 +1,5 @@
 -- What is told of all that was asked of a peer as it ends together. (This project's own; that calls end with an exception is the Java RMI specification's appendix A.)
-use Rattle.std.specs.Prelude.{◌≡◌, ℕ, ◌+◌, ◌≤◌, ◌==◌, not, false, List, [], ◌++◌, Option, None, Some, filter, map, length, take, vec_len}
+use Rattle.std.specs.Prelude.{◌≡◌, ℕ, ◌+◌, ◌≤◌, ◌==◌, not, false, List, [], ◌∷◌, ◌++◌, Option, None, Some, filter, map, length, take, vec_len}
 use Rattle.std.specs.Vec.{vec_capacity}
 use Rattle.std.specs.List.{flat_map, list_any}
 use Rattle.std.specs.Map.{keys_of, values_of}
@@ -36,6 +36,12 @@ ended_call unsent r = map (ended_at unsent r.stage) (asks_by r.asked)
 
 abbrev pub ended_group : rules.Request → List OutGroup
 ended_group r = values_of (group_in 0 r.asked)
+
+-- the dirty or clean calls that wait, if it is these
+abbrev pub waiting_group : Asked → List OutGroup
+waiting_group (asked.Call number task lent kind message) = []
+waiting_group (asked.Lookup number task name) = []
+waiting_group (asked.Tell call group) = record { call = call; group = group } ∷ []
 
 -- ---- all of them
 

@@ -4,10 +4,10 @@ ghost use Rattle.std.specs.Prelude.{◌≡◌, IfOk};
 
 use crate::{Asked, OutCall, OutGroup};
 use dgc_client::Group;
-use net_message::Message;
+use message_copies::copy_message;
 use space_ids::Row;
 use std::alloc::{AllocError, Global};
-use table_copies::{CopyIn, copy_result, copy_values};
+use table_copies::CopyIn;
 
 impl CopyIn for Asked {
     ghost is_copy = { λ asked copy. copy ≡ asked };
@@ -79,78 +79,4 @@ fn copy_group(alloc: Global, group: &Group) -> Result<Group, AllocError>
         kind: group.kind,
         ids: Row::new(group.ids.as_slice().to_vec(alloc)?),
     })
-}
-
-// A copy of a message.
-fn copy_message(alloc: Global, message: &Message) -> Result<Message, AllocError>
-    ensures { IfOk result (λ copy. copy ≡ message.now) }
-{
-    match message {
-        Message::Hello {
-            version,
-            space,
-            digest,
-        } => Ok(Message::Hello {
-            version: *version,
-            space: *space,
-            digest: *digest,
-        }),
-        Message::Call {
-            number,
-            object,
-            method,
-            fuel,
-            arguments,
-        } => Ok(Message::Call {
-            number: *number,
-            object: *object,
-            method: *method,
-            fuel: *fuel,
-            arguments: Row::new(copy_values(alloc, arguments.as_slice())?),
-        }),
-        Message::Returned {
-            number,
-            fuel,
-            value,
-        } => Ok(Message::Returned {
-            number: *number,
-            fuel: *fuel,
-            value: copy_result(alloc, value)?,
-        }),
-        Message::Threw { number, class } => Ok(Message::Threw {
-            number: *number,
-            class: *class,
-        }),
-        Message::Spent { number } => Ok(Message::Spent { number: *number }),
-        Message::Ack { number } => Ok(Message::Ack { number: *number }),
-        Message::Dirty {
-            sequence,
-            period,
-            objects,
-        } => Ok(Message::Dirty {
-            sequence: *sequence,
-            period: *period,
-            objects: Row::new(objects.as_slice().to_vec(alloc)?),
-        }),
-        Message::Lease { sequence, period } => Ok(Message::Lease {
-            sequence: *sequence,
-            period: *period,
-        }),
-        Message::Clean {
-            sequence,
-            strong,
-            objects,
-        } => Ok(Message::Clean {
-            sequence: *sequence,
-            strong: *strong,
-            objects: Row::new(objects.as_slice().to_vec(alloc)?),
-        }),
-        Message::Cleaned { sequence } => Ok(Message::Cleaned {
-            sequence: *sequence,
-        }),
-        Message::Lookup { number, name } => Ok(Message::Lookup {
-            number: *number,
-            name: Row::new(name.as_slice().to_vec(alloc)?),
-        }),
-    }
 }

@@ -13,7 +13,7 @@ ghost use Rattle.sp_rules.specs.Laws.{AllOf};
 ghost use Rattle.sp_rules.specs.ParkedFrames.{is_asked_on, is_call_on};
 ghost use Rattle.sp_rules.specs.Requests.{group_frame, is_waiting};
 ghost use Rattle.sp_rules.specs.State.{Asked as Question, Out, Request, Tells, Waits};
-ghost use Rattle.sp_requests.specs.Ends.{ended_group, waiting_among};
+ghost use Rattle.sp_requests.specs.Ends.{ended_group, waiting_among, waiting_group};
 ghost use Rattle.sp_requests.specs.Asking.{asked_of};
 
 use crate::copies::copy_waiting;
@@ -32,7 +32,7 @@ use table_copies::CopyIn;
 /// went before it: so memory does not grow with what was sent.
 ///
 /// A contract names the lists of requests and of frames that the value may stand for.
-#[derive(Debug, Drop)]
+#[derive(Drop)]
 pub struct Requests {
     waiting: Vec<Asked>,
     calls: RisingMap<OutCall>,
@@ -381,9 +381,19 @@ fn end_waiting(waiting: Vec<Asked>, groups: &mut Vec<OutGroup>)
     ensures { (rows : List Request) → map asked_of waiting.items ≡ map (λ (r : Request). r.asked) (waiting_among rows) → groups.new.items ≡ groups.old.items ++ flat_map ended_group (waiting_among rows) }
 {
     for asked in waiting {
-        match asked {
-            Asked::Tell { call, group } => groups.push_reserved(OutGroup { call, group }),
-            _ => {}
-        }
+        end_one(asked, groups);
+    }
+}
+
+// The same of one request.
+fn end_one(asked: Asked, groups: &mut Vec<OutGroup>)
+    requires { vec_len groups.old < vec_capacity groups.old }
+    ensures items { groups.new.items ≡ groups.old.items ++ waiting_group asked }
+    ensures length { vec_len groups.new ≤ vec_len groups.old + 1 }
+    ensures capacity { vec_capacity groups.new ≡ vec_capacity groups.old }
+{
+    match asked {
+        Asked::Tell { call, group } => groups.push_reserved(OutGroup { call, group }),
+        _ => {}
     }
 }

@@ -1,7 +1,8 @@
 use Rattle.std.proofs.Common.{◌≡◌, ◌++◌, [], sym, ap, ◌∙◌, append-nil}
 use Rattle.std.specs.List.{flat_map}
 use Rattle.std.proofs.lemmas.List.{nil_from_length}
-use Rattle.sp_requests.proofs.EndLemmas.{waiting-groups, waiting_group}
+use Rattle.sp_requests.specs.Ends.{waiting_group}
+use Rattle.sp_requests.proofs.EndLemmas.{waiting-groups}
 use Rattle.sp_requests.proofs.requests.end_waiting.Goals as goal
 
 pub returns : goal.returns

@@ -1,6 +1,6 @@
 use Rattle.std.proofs.Common.{◌≡◌, ◌+◌, ◌≤◌, ◌++◌, length, vec_len, vec_capacity}
 use Rattle.std.specs.List.{flat_map}
-use Rattle.sp_requests.proofs.EndLemmas.{waiting_group}
+use Rattle.sp_requests.specs.Ends.{waiting_group}
 use Rattle.sp_requests.proofs.requests.end_waiting.Given as goal
 
 abbrev pub invariant-loop-asked : goal.invariant-loop-asked
