@@ -1,7 +1,6 @@
-//! Copies of events of a space and of the frames in them: an event that happens to two equal states is copied
-//! for the second.
+//! Copies of events of a space: an event that happens to two equal states is copied for the second.
 #![tactic(auto)]
 
-pub use copies::{copy_event, copy_message};
+pub use copies::copy_event;
 
 mod copies;
