@@ -5,7 +5,7 @@ use sp_pipes::End;
 use space_ids::{Row, Value};
 
 /// An event of a world. Spaces and connections are given by their numbers, from 0.
-#[derive(Debug, Drop)]
+#[derive(Drop)]
 pub enum WorldEvent {
     /// One of a space's own events, Moment to Lookup. No other kind of event fits.
     Own {

@@ -7,9 +7,9 @@ ghost use Rattle.sp_events.specs.Events.{event_of};
 ghost use Rattle.sp_pipes.specs.Connections.{end_of};
 ghost use Rattle.sp_world.specs.Happenings.{happening_of};
 
-use crate::copies::copy_message;
 use crate::world::Waiting;
 use crate::{Inhabitant, World, WorldEvent};
+use message_copies::copy_message;
 use net_message::Message;
 use sp_events::{CoreFault, Event};
 use sp_pipes::End;
@@ -122,7 +122,7 @@ impl<S: Inhabitant + Drop> World<S> {
             conn: self.wiring.pipes.len(),
             dialled: self.id(dialled),
         };
-        let taken = self.tell(dialler, &event)?;
+        let taken = self.bring(dialler, event)?;
         if taken {
             self.wiring.dials.remove(dialler, dialled);
             self.wiring.pipes.open_reserved(dialler, dialled);
@@ -165,7 +165,7 @@ impl<S: Inhabitant + Drop> World<S> {
         ensures made { OnOk result (Makes S.is_space (refuse_peer dialler dialled peer) self.old self.new) }
         ensures kept { OnErr result (Keeps S.is_space self.old self.new) }
     {
-        let taken = self.tell(dialler, &Event::Refused { peer })?;
+        let taken = self.bring(dialler, Event::Refused { peer })?;
         if taken {
             self.wiring.dials.remove(dialler, dialled);
             return Ok(());
@@ -198,7 +198,7 @@ impl<S: Inhabitant + Drop> World<S> {
             conn,
             dialled: None,
         };
-        let taken = self.tell(space, &event)?;
+        let taken = self.bring(space, event)?;
         if taken {
             self.wiring.pipes.begin(conn);
             return Ok(());
@@ -249,7 +249,7 @@ impl<S: Inhabitant + Drop> World<S> {
         ensures kept { OnErr result (Keeps S.is_space self.old self.new) }
     {
         let event = Event::Received { conn, message };
-        let taken = self.tell(space, &event)?;
+        let taken = self.bring(space, event)?;
         if taken {
             self.wiring.pipes.take_front(conn, to);
             return Ok(());
@@ -276,7 +276,7 @@ impl<S: Inhabitant + Drop> World<S> {
         ensures made { OnOk result (Makes S.is_space (close_end conn (end_of to) space) self.old self.new) }
         ensures kept { OnErr result (Keeps S.is_space self.old self.new) }
     {
-        let taken = self.tell(space, &Event::Closed { conn })?;
+        let taken = self.bring(space, Event::Closed { conn })?;
         if taken {
             self.wiring.pipes.end(conn, to);
             return Ok(());
@@ -305,7 +305,7 @@ impl<S: Inhabitant + Drop> World<S> {
         ensures made { OnOk result (Makes S.is_space (unread_end conn (end_of at) space) self.old self.new) }
         ensures kept { OnErr result (Keeps S.is_space self.old self.new) }
     {
-        let taken = self.tell(space, &Event::ReadFailed { conn })?;
+        let taken = self.bring(space, Event::ReadFailed { conn })?;
         if taken {
             self.wiring.pipes.end(conn, at);
             return Ok(());
@@ -344,13 +344,23 @@ impl<S: Inhabitant + Drop> World<S> {
         ensures kept { OnErr result (Keeps S.is_space self.old self.new) }
     {
         let event = Event::WriteFailed { conn, unsent: lost };
-        let taken = self.tell(space, &event)?;
+        let taken = self.bring(space, event)?;
         if taken {
             self.wiring.pipes.cut_end(conn, at.other(), lost);
             self.wiring.pipes.end(conn, at);
             return Ok(());
         }
         Ok(())
+    }
+
+    // Brings an event to a space, and lets it go. Returns whether there is such a space and it took the event.
+    fn bring(&mut self, space: usize, event: Event) -> Result<bool, AllocError>
+        requires { is_settled self.old ≡ true }
+        ensures heard { IfOk result (λ taken. IsHeard S.is_space space (refused_event (event_of event)) (one_event (event_of event)) taken self.old self.new) }
+        ensures kept { OnErr result (Keeps S.is_space self.old self.new) }
+        ensures wiring { self.new.wiring ≡ self.old.wiring }
+    {
+        self.tell(space, &event)
     }
 
     // Tells a space of an event. Returns whether there is such a space and it took the event.

@@ -14,7 +14,6 @@ pub use sp_outputs::Output;
 pub use sp_pipes::{Dial, End};
 pub use world::World;
 
-mod copies;
 mod event;
 mod happening;
 mod inhabitant;

@@ -6,8 +6,8 @@ ghost use Rattle.sp_rules.specs.Events.{Dial, Send};
 ghost use Rattle.sp_rules.specs.Worlds.{World as Rules, new_world, put};
 ghost use Rattle.sp_outputs.specs.Notes.{output_of};
 
-use crate::copies::copy_message;
 use indexmap::IndexMap;
+use message_copies::copy_message;
 use net_message::Message;
 use sp_outputs::Output;
 use sp_pipes::{Dials, Pipes};

@@ -20,7 +20,7 @@ use space_ids::Uuid;
 use std::alloc::{AllocError, Global};
 
 // Which outputs are still to be put into the queues: those of one row of a space, from one of them on.
-#[derive(Clone, Copy, Debug)]
+#[derive(Clone, Copy)]
 pub(crate) struct Waiting {
     pub(crate) writer: usize,
     pub(crate) row: usize,
