@@ -6,7 +6,7 @@ use space_ids::{Row, Uuid, Value};
 
 /// An event of a space that comes from outside: all but what is done with lent tasks, and
 /// [roots](Root).
-#[derive(Debug, Drop)]
+#[derive(Drop)]
 pub enum Event {
     /// This many milliseconds have passed since the space began to count.
     Moment(u64),
@@ -40,7 +40,7 @@ pub enum Event {
 
 /// A root: a task that starts at a method of the space's own class set. The caller has asked the class
 /// set whether it may, and tells its answer.
-#[derive(Debug, Drop)]
+#[derive(Drop)]
 pub struct Root {
     /// The method's number in the class set.
     pub method: u32,
