@@ -89,3 +89,16 @@ event-space g s e space core is of lent unrefused core-is = record {
 
 pub space-core : (g : Setting) (s : State) (space : Space) → IsSpace g s space → IsCore g s space.core
 space-core g s space is = subst (λ (s : State). IsCore g s space.core) (sym is.leaves) is.stands.core
+
+-- A call that leaves the core in each state in which it was leaves the space in its state.
+pub same-space : (g : Setting) (s : State) (space : Space) (core : SpaceCore) → IsSpace g s space → ((t : State) → IsCore g t space.core → IsCore g t core) → IsSpace g s (record space { core = core })
+same-space g s space core is keeps = record {
+  history = is.history;
+  leaves = is.leaves;
+  stands = record {
+    of = record { classes = is.stands.of.classes; program = is.stands.of.program; plays = is.stands.of.plays; id = is.stands.of.id; limits = is.stands.of.limits };
+    taken = is.stands.taken;
+    core = keeps (state_of g is.history) is.stands.core;
+    played = is.stands.played;
+  };
+}

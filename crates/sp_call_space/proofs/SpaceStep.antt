@@ -1,11 +1,14 @@
 -- A step as the world asks for it: of a space that is in a state.
 use Rattle.std.proofs.Common.{◌≡◌, ℕ, List, [], ◌∷◌, refl, sym, ap, subst, ◌∙◌}
+use Rattle.std.specs.Prelude.{None}
+use Rattle.sp_events.specs.FaultNames.{RefusesOrLacks}
+use Rattle.sp_events.specs.declared.fault.CoreFault.{CoreFault}
 use Rattle.sp_rules.specs.Classes.{Setting}
 use Rattle.sp_rules.specs.Events.{Event, Output}
 use Rattle.sp_rules.specs.Space.{on, state_of}
 use Rattle.sp_rules.specs.State.{State}
-use Rattle.sp_world.specs.Steps.{state_after, step_at}
-use Rattle.sp_call_space.specs.Events.{IsStep, grown}
+use Rattle.sp_world.specs.Steps.{answers_to, state_after, step_at, step_refusal}
+use Rattle.sp_call_space.specs.Events.{IsStep, IsStepRefused, grown}
 use Rattle.sp_call_space.specs.Spaces.{IsSpace, Stands}
 use Rattle.sp_call_space.specs.declared.space.Space.{Space}
 
@@ -20,3 +23,15 @@ step-space g s space after id outputs is step = record {
   leaves = ap (λ (s : State). state_after g s (step_at s id)) is.leaves ∙ after-grown g is.history (step_at (state_of g is.history) id);
   stands = step.stands;
 }
+
+pub step-accepted : (g : Setting) (s : State) (space after : Space) (id : ℕ) (outputs : List Output) → (is : IsSpace g s space) → IsStep g is.history id after outputs → step_refusal g s id ≡ None
+step-accepted g s space after id outputs is step = subst (λ (s : State). step_refusal g s id ≡ None) (sym is.leaves) step.accepted
+
+pub step-answers : (g : Setting) (s : State) (space after : Space) (id : ℕ) (outputs : List Output) → (is : IsSpace g s space) → IsStep g is.history id after outputs → outputs ≡ answers_to g s (step_at s id)
+step-answers g s space after id outputs is step = subst (λ (s : State). outputs ≡ answers_to g s (step_at s id)) (sym is.leaves) step.answers
+
+pub step-refused : (g : Setting) (s : State) (space : Space) (id : ℕ) (fault : CoreFault) → (is : IsSpace g s space) → IsStepRefused g is.history id fault → RefusesOrLacks (step_refusal g s id) fault
+step-refused g s space id fault is refused = subst (λ (s : State). RefusesOrLacks (step_refusal g s id) fault) (sym is.leaves) refused
+
+pub step-same : (g : Setting) (s : State) (space after : Space) → (is : IsSpace g s space) → Stands g is.history after → IsSpace g s after
+step-same g s space after is stands = record { history = is.history; leaves = is.leaves; stands = stands }

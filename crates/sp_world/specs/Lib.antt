@@ -1,3 +1,4 @@
+pub mod Answered
 pub mod Happenings
 pub mod Residents
 pub mod Steps

@@ -1,15 +1,11 @@
 //! What a world asks of its spaces.
 
-ghost use Rattle.std.specs.Prelude.{◌≡◌, [], None, IfOk, IfErr, OnOk, OnErr, map};
+ghost use Rattle.std.specs.Prelude.{◌≡◌};
 ghost use Rattle.sp_rules.specs.Classes.{Setting};
 ghost use Rattle.sp_rules.specs.Events.{Root as Roots};
-ghost use Rattle.sp_rules.specs.Refusals.{refusal};
-ghost use Rattle.sp_rules.specs.Space.{on as after_event};
 ghost use Rattle.sp_rules.specs.State.{State};
 ghost use Rattle.sp_events.specs.Events.{event_of};
-ghost use Rattle.sp_events.specs.FaultNames.{RefusesOrLacks};
-ghost use Rattle.sp_outputs.specs.Notes.{output_of};
-ghost use Rattle.sp_world.specs.Steps.{answers_to, state_after, step_at, step_refusal};
+ghost use Rattle.sp_world.specs.Answered.{Answered, event_made, event_refusal, task_made, task_refusal};
 
 use sp_events::{CoreFault, Event};
 use sp_outputs::Output;
@@ -32,11 +28,7 @@ pub trait Inhabitant {
 
     /// Lets an event happen, and answers its outputs.
     fn on(&mut self, event: &Event) -> Result<Vec<Output>, CoreFault>
-        ensures accepted { OnOk result ((g : Setting) (s : State) → is_space g s self.old → refusal g [] s (event_of event.now) ≡ None) }
-        ensures outputs { IfOk result (λ outputs. (g : Setting) (s : State) → is_space g s self.old → map output_of outputs.items ≡ (after_event g (event_of event.now) s).1) }
-        ensures state { OnOk result ((g : Setting) (s : State) → is_space g s self.old → is_space g (after_event g (event_of event.now) s).0 self.new) }
-        ensures refused { IfErr result (λ fault. (g : Setting) (s : State) → is_space g s self.old → RefusesOrLacks (refusal g [] s (event_of event.now)) fault) }
-        ensures unchanged { OnErr result ((g : Setting) (s : State) → is_space g s self.old → is_space g s self.new) };
+        ensures { Answered (λ g s. is_space g s self.old) (λ g s. is_space g s self.new) (event_refusal (event_of event.now)) (event_made (event_of event.now)) result };
 
     /// Starts a task at a method, and answers the outputs.
     fn root(
@@ -45,20 +37,12 @@ pub trait Inhabitant {
         arguments: &[Value],
         fuel: u64,
     ) -> Result<Vec<Output>, CoreFault>
-        ensures accepted { OnOk result ((g : Setting) (s : State) → is_space g s self.old → refusal g [] s (Roots method arguments.now fuel) ≡ None) }
-        ensures outputs { IfOk result (λ outputs. (g : Setting) (s : State) → is_space g s self.old → map output_of outputs.items ≡ (after_event g (Roots method arguments.now fuel) s).1) }
-        ensures state { OnOk result ((g : Setting) (s : State) → is_space g s self.old → is_space g (after_event g (Roots method arguments.now fuel) s).0 self.new) }
-        ensures refused { IfErr result (λ fault. (g : Setting) (s : State) → is_space g s self.old → RefusesOrLacks (refusal g [] s (Roots method arguments.now fuel)) fault) }
-        ensures unchanged { OnErr result ((g : Setting) (s : State) → is_space g s self.old → is_space g s self.new) };
+        ensures { Answered (λ g s. is_space g s self.old) (λ g s. is_space g s self.new) (event_refusal (Roots method arguments.now fuel)) (event_made (Roots method arguments.now fuel)) result };
 
     /// Lets a task make one instruction, and answers the outputs of the events that it is. The fault is
     /// NotLent if the task does not live or waits for a reply. A machine takes no instruction back: one
     /// whose instruction is refused, or finds no memory, may stand behind it, as long as the space is as
     /// it was and the next step of the task is that instruction.
     fn step(&mut self, task: u64) -> Result<Vec<Output>, CoreFault>
-        ensures accepted { OnOk result ((g : Setting) (s : State) → is_space g s self.old → step_refusal g s task ≡ None) }
-        ensures outputs { IfOk result (λ outputs. (g : Setting) (s : State) → is_space g s self.old → map output_of outputs.items ≡ answers_to g s (step_at s task)) }
-        ensures state { OnOk result ((g : Setting) (s : State) → is_space g s self.old → is_space g (state_after g s (step_at s task)) self.new) }
-        ensures refused { IfErr result (λ fault. (g : Setting) (s : State) → is_space g s self.old → RefusesOrLacks (step_refusal g s task) fault) }
-        ensures unchanged { OnErr result ((g : Setting) (s : State) → is_space g s self.old → is_space g s self.new) };
+        ensures { Answered (λ g s. is_space g s self.old) (λ g s. is_space g s self.new) (task_refusal task) (task_made task) result };
 }
