@@ -13,7 +13,7 @@ use uuid::Uuid;
 
 /// The calls that were due at the last question, in the order in which they are made. An event
 /// makes room for them before it changes anything, and asks once it can fail no more.
-#[derive(Debug, Drop)]
+#[derive(Drop)]
 pub struct DueCalls {
     // In the order of their references.
     pub(crate) found: Vec<DueCall>,

@@ -9,14 +9,14 @@ use std::alloc::{AllocError, Global};
 use uuid::Uuid;
 
 /// A call that is due of one reference.
-#[derive(Clone, Copy, Debug, PartialEq, Eq)]
+#[derive(Clone, Copy, PartialEq, Eq)]
 pub struct DueCall {
     pub reference: ForeignId,
     pub kind: Due,
 }
 
 /// References of one peer of which one call is due. It goes out in [parts](Group::parts), one a frame.
-#[derive(Debug, Drop)]
+#[derive(Drop)]
 pub struct Group {
     /// The space that owns the objects.
     pub peer: Uuid,

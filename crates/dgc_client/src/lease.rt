@@ -11,14 +11,14 @@ pub const LONGEST_LEASE: u64 = 600_000;
 
 /// A call that was made: its number among the space's dirty and clean calls, and the moment at
 /// which it was sent, or made if it is not sent yet.
-#[derive(Clone, Copy, Debug, PartialEq, Eq)]
+#[derive(Clone, Copy, PartialEq, Eq)]
 pub struct Made {
     pub call: u64,
     pub at: u64,
 }
 
 /// The clean call that is owed once there is no holder.
-#[derive(Clone, Copy, Debug, PartialEq, Eq)]
+#[derive(Clone, Copy, PartialEq, Eq)]
 pub enum Owed {
     /// None: no dirty call was made, or a clean call was made after the last one.
     Nothing,
@@ -39,7 +39,7 @@ pub enum Due {
 }
 
 /// What a space keeps of one foreign reference.
-#[derive(Clone, Copy, Debug, PartialEq, Eq)]
+#[derive(Clone, Copy, PartialEq, Eq)]
 pub struct ClientLease {
     /// How many parked frames, tasks, fields and results that nobody has acknowledged hold it.
     pub holders: u64,

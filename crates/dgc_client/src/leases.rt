@@ -15,7 +15,7 @@ use space_ids::ForeignId;
 use std::alloc::{AllocError, Global};
 
 /// A lease as it was at the last event of its reference, and how many moments had come by then.
-#[derive(Clone, Copy, Debug)]
+#[derive(Clone, Copy)]
 pub(crate) struct Kept {
     pub(crate) lease: ClientLease,
     pub(crate) moments: u64,
@@ -23,7 +23,7 @@ pub(crate) struct Kept {
 
 /// The leases of the references, in the order in which these were first held. A moment is counted
 /// into a lease when the lease is looked at, not when the moment comes.
-#[derive(Debug, Drop)]
+#[derive(Drop)]
 pub(crate) struct Leases {
     references: IndexMap<ForeignId, Kept>,
     moment: u64,

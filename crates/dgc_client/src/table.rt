@@ -30,7 +30,7 @@ use uuid::Uuid;
 /// All foreign references of a space, in the order in which they were first held.
 ///
 /// A contract names the histories that the value may stand for: it is what each of them leaves.
-#[derive(Debug, Drop)]
+#[derive(Drop)]
 pub struct Clients {
     leases: Leases,
     // The references that may have a call due now or later.

@@ -9,7 +9,7 @@ use std::alloc::{AllocError, Global};
 use std::collections::BTreeSet;
 
 /// A moment at which something becomes of the lease of the reference at an index.
-#[derive(Clone, Copy, Debug, PartialEq, Eq, PartialOrd, Ord)]
+#[derive(Clone, Copy, PartialEq, Eq, PartialOrd, Ord)]
 pub struct Deadline {
     pub moment: u64,
     pub index: usize,
@@ -17,7 +17,7 @@ pub struct Deadline {
 
 /// Deadlines in the order of their moments. A deadline for which there was no memory is not lost: from
 /// then on there may be one at any moment, until all are [cleared](Deadlines::clear).
-#[derive(Clone, Debug, Drop)]
+#[derive(Clone, Drop)]
 pub struct Deadlines {
     /// The deadlines that are known.
     pub row: BTreeSet<Deadline>,

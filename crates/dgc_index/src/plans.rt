@@ -10,14 +10,14 @@ use crate::{Deadline, Deadlines, over_at};
 use std::alloc::Global;
 
 /// A lease: when its dirty call was sent, and the granted period, in milliseconds.
-#[derive(Clone, Copy, Debug, PartialEq, Eq)]
+#[derive(Clone, Copy, PartialEq, Eq)]
 pub struct Term {
     pub sent: u64,
     pub period: u64,
 }
 
 /// When each lease is half over, and when it ends.
-#[derive(Clone, Debug, Drop)]
+#[derive(Clone, Drop)]
 pub struct Plans {
     pub halves: Deadlines,
     pub ends: Deadlines,

@@ -8,7 +8,7 @@ use std::alloc::{AllocError, Global};
 /// The indexes of the references to which something happened since they were last looked at, and of
 /// those to be looked at again. A reference that is not among them has no call due, so no walk over
 /// all references is needed.
-#[derive(Clone, Debug, Drop)]
+#[derive(Clone, Drop)]
 pub struct Touched {
     /// The known indexes, in the order in which they were added.
     pub indexes: Vec<usize>,

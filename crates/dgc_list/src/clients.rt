@@ -15,7 +15,7 @@ use uuid::Uuid;
 /// entries were first set: a list through the entries of a hash map keeps it, so a client comes and goes
 /// at a cost that does not depend on how many there are. A contract sees the list of the clients with
 /// what is remembered of each.
-#[derive(Debug, Drop)]
+#[derive(Drop)]
 pub(crate) struct Clients {
     remembered: LruCache<Uuid, Remembered>,
 }

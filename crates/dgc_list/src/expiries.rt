@@ -10,7 +10,7 @@ use std::marker::Model;
 use uuid::Uuid;
 
 /// A client's entry for an object is gone from a moment on.
-#[derive(Clone, Copy, Debug, PartialEq, Eq, PartialOrd, Ord)]
+#[derive(Clone, Copy, PartialEq, Eq, PartialOrd, Ord)]
 pub(crate) struct Expiry {
     pub(crate) moment: u64,
     pub(crate) object: ObjId,
@@ -20,7 +20,7 @@ pub(crate) struct Expiry {
 /// Expiries in the order of their moments, one for each entry that stands. One more may be there if
 /// an entry went with its object, or its call was out of memory. It does no harm, since the entry
 /// itself is looked at when the moment comes.
-#[derive(Clone, Debug, Drop)]
+#[derive(Clone, Drop)]
 pub(crate) struct Expiries {
     row: BTreeSet<Expiry>,
 }

@@ -17,7 +17,7 @@ pub const LONGEST_LEASE: u64 = 600_000;
 /// The reference lists of a space: what it remembers of the clients of each of its objects.
 ///
 /// A contract names the histories that the value may stand for: it is what each of them leaves.
-#[derive(Debug, Drop)]
+#[derive(Drop)]
 pub struct RefList {
     objects: Objects,
     expiries: Expiries,

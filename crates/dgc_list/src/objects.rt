@@ -17,7 +17,7 @@ use table_copies::copy_map;
 use uuid::Uuid;
 
 /// The objects of which clients are remembered, with those clients.
-#[derive(Debug, Drop)]
+#[derive(Drop)]
 pub(crate) struct Objects {
     lists: IndexMap<ObjId, Clients>,
 }

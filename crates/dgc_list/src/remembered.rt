@@ -7,7 +7,7 @@ use std::alloc::{AllocError, Global};
 use table_copies::CopyIn;
 
 /// What an owner remembers of a client and an object. Nothing is remembered if each part is `None`.
-#[derive(Clone, Copy, Debug, PartialEq, Eq)]
+#[derive(Clone, Copy, PartialEq, Eq)]
 pub struct Remembered {
     /// The number of the call that counted last, if it is kept: calls up to it are late.
     pub number: Option<u64>,

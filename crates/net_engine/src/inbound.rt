@@ -11,7 +11,7 @@ use std::alloc::{AllocError, Global};
 use std::marker::Model;
 
 /// What comes next from a source.
-#[derive(Debug, Drop)]
+#[derive(Drop)]
 pub enum Inflow {
     /// A frame.
     Frame(Frame),

@@ -10,7 +10,7 @@ use net_message::{Frame, MAX_BODY, WireError, WireFault};
 use std::alloc::Global;
 
 /// What bytes that begin with no fault hold of their first frame.
-#[derive(Debug, Drop)]
+#[derive(Drop)]
 pub enum Front {
     /// A frame, and how many bytes it takes. Bytes may follow it.
     Whole { frame: Frame, length: usize },

@@ -6,7 +6,7 @@ ghost use Rattle.net_frames.specs.Reading.{Gives, kind_at};
 use net_message::{WireError, WireFault};
 
 /// The kind of a frame, by the first byte of its body.
-#[derive(Clone, Copy, Debug)]
+#[derive(Clone, Copy)]
 pub(crate) enum FrameKind {
     Hello = 1,
     Call = 2,

@@ -12,7 +12,7 @@ use std::marker::Model;
 
 /// A frame of the protocol between spaces: a message each of whose fields is in its range. A
 /// contract sees it as the message. Its body may still be too long for the wire (`body_len`).
-#[derive(Debug, Drop)]
+#[derive(Drop)]
 pub struct Frame {
     message: Message,
 }

@@ -6,7 +6,7 @@ ghost use Rattle.sim_script.specs.declared.fault.LineFault.TheVariants.{Memory};
 use std::alloc::{AllocError, AllocFailed};
 
 /// Why a line is not read.
-#[derive(Clone, Copy, Debug, PartialEq, Eq)]
+#[derive(Clone, Copy, PartialEq, Eq)]
 pub enum LineFault {
     /// It is no line of a script.
     Bad,

@@ -5,7 +5,7 @@ use sp_world::Dial;
 use std::alloc::Global;
 
 // Who dialled whom, of each connection by its number.
-#[derive(Debug, Drop)]
+#[derive(Drop)]
 pub(crate) struct Connections {
     rows: Vec<Dial>,
 }

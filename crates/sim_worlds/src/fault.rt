@@ -6,7 +6,7 @@ use std::alloc::{AllocError, AllocFailed};
 use std::io;
 
 /// Why a command is not played.
-#[derive(Clone, Copy, Debug, PartialEq, Eq)]
+#[derive(Clone, Copy, PartialEq, Eq)]
 pub enum PlayFault {
     /// It names what is not there, or the space refuses its root or look-up.
     Bad,
@@ -69,7 +69,7 @@ impl PlayFault {
 }
 
 /// Why a script is not played to its end.
-#[derive(Clone, Copy, Debug, PartialEq, Eq)]
+#[derive(Clone, Copy, PartialEq, Eq)]
 pub enum ScriptFault {
     /// The line of this number, from 1, is bad.
     BadLine(usize),

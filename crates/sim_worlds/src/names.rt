@@ -6,7 +6,7 @@ use space_ids::Uuid;
 use std::alloc::Global;
 
 // The names, in the order of the lines that say them: the number of a space is the index of its name.
-#[derive(Debug, Drop)]
+#[derive(Drop)]
 pub(crate) struct Names {
     alloc: Global,
     rows: IndexMap<String, Uuid>,

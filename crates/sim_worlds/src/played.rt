@@ -6,7 +6,7 @@ use std::alloc::AllocError;
 
 /// A root: a static method, by the name of its class and by its own name and descriptor, as `f(I)I`, with
 /// arguments and fuel.
-#[derive(Debug, Drop)]
+#[derive(Drop)]
 pub struct Start<'a> {
     pub class: &'a str,
     pub method: &'a str,
@@ -16,7 +16,7 @@ pub struct Start<'a> {
 
 /// A standing object as scripts show it: how many names are bound to it, and how many clients have an
 /// entry for it.
-#[derive(Clone, Copy, Debug, PartialEq, Eq)]
+#[derive(Clone, Copy, PartialEq, Eq)]
 pub struct Shown {
     pub id: ObjId,
     pub class: ClassId,

@@ -9,14 +9,14 @@ use std::alloc::Global;
 use table_copies::copy_result;
 
 // A task, by the number of its space and its id.
-#[derive(Clone, Copy, Debug, PartialEq, Eq, Hash)]
+#[derive(Clone, Copy, PartialEq, Eq, Hash)]
 pub(crate) struct TaskKey {
     pub space: usize,
     pub task: u64,
 }
 
 // A root or look-up: its variable, its task, and how that ended, if it has.
-#[derive(Debug, Drop)]
+#[derive(Drop)]
 pub(crate) struct Variable {
     pub name: String,
     pub key: TaskKey,
@@ -34,7 +34,7 @@ impl Variable {
 }
 
 // The variables of a script, in the order in which its lines name them.
-#[derive(Debug, Drop)]
+#[derive(Drop)]
 pub(crate) struct Variables {
     alloc: Global,
     rows: Vec<Variable>,

@@ -11,7 +11,7 @@ use space_ids::{ClassId, Value};
 
 /// What a space throws into a task whose call or lookup fails, or answers a caller with: a class of
 /// java/rmi (Java RMI specification, appendix A).
-#[derive(Clone, Copy, Debug, PartialEq, Eq)]
+#[derive(Clone, Copy, PartialEq, Eq)]
 pub enum RemoteException {
     /// java/rmi/NoSuchObjectException: the target does not stand.
     NoSuchObject,

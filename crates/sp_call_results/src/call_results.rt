@@ -29,7 +29,7 @@ const HELD: u64 = 600_000;
 ///
 /// A contract names the moment that it is, and the list of all results of a space, with those of its own
 /// roots and lookups, that the value may stand for.
-#[derive(Debug, Drop)]
+#[derive(Drop)]
 pub struct CallResults {
     alloc: Global,
     values: RisingMap<Option<Value>>,

@@ -10,7 +10,7 @@ use std::alloc::{AllocError, Global};
 use std::collections::VecDeque;
 
 /// A result that is held until a moment, by its ticket.
-#[derive(Clone, Copy, Debug)]
+#[derive(Clone, Copy)]
 pub(crate) struct Orphan {
     pub(crate) until: u64,
     pub(crate) ticket: u64,
@@ -20,7 +20,7 @@ pub(crate) struct Orphan {
 /// fall, those whose moment comes first stand first, so a moment looks at those alone that go.
 ///
 /// A contract names the list of them.
-#[derive(Clone, Debug, Drop)]
+#[derive(Clone, Drop)]
 pub(crate) struct Orphans {
     queue: VecDeque<Orphan>,
 }

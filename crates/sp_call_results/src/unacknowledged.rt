@@ -8,7 +8,7 @@ use std::alloc::{AllocError, Global};
 use table_copies::{CopyIn, copy_map};
 
 /// The tickets of the results of one connection that wait for an Ack, by the numbers of the calls.
-#[derive(Debug, Drop)]
+#[derive(Drop)]
 pub(crate) struct Numbers {
     pub(crate) tickets: IndexMap<u64, u64>,
 }
@@ -27,7 +27,7 @@ impl CopyIn for Numbers {
 /// goes at a cost that does not depend on how many there are.
 ///
 /// A contract names the numbers and tickets that each connection may have.
-#[derive(Debug, Drop)]
+#[derive(Drop)]
 pub(crate) struct Unacknowledged {
     alloc: Global,
     numbers: IndexMap<u64, Numbers>,

@@ -5,7 +5,7 @@ ghost use Rattle.std.specs.Prelude.{◌≡◌, None};
 use space_ids::Uuid;
 
 /// An open connection.
-#[derive(Clone, Copy, Debug)]
+#[derive(Clone, Copy)]
 pub struct Connection {
     /// The peer that this space dialled, if it did.
     pub dialled: Option<Uuid>,
@@ -16,7 +16,7 @@ pub struct Connection {
 }
 
 /// How far this space is with a peer that it dialled.
-#[derive(Clone, Copy, Debug)]
+#[derive(Clone, Copy)]
 pub enum Link {
     /// It waits to be opened or refused.
     Dialling,

@@ -14,7 +14,7 @@ use std::alloc::{AllocError, Global};
 /// dialled and that neither opened nor refused.
 ///
 /// A contract names the lists of the rules that the value may stand for.
-#[derive(Debug, Drop)]
+#[derive(Drop)]
 pub struct Connections {
     rows: IndexMap<u64, Connection>,
     links: IndexMap<Uuid, Link>,

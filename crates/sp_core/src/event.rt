@@ -6,7 +6,7 @@ use sp_tasks::Outcome;
 use space_ids::{ObjId, Row, Value};
 
 /// An event of a space.
-#[derive(Debug, Drop)]
+#[derive(Drop)]
 pub enum Event {
     /// This many milliseconds have passed since the space began to count.
     Moment(u64),
@@ -24,7 +24,7 @@ pub enum Event {
 
 /// A root: a task that starts at a method of the space's own class set. The caller has asked the class
 /// set whether it may, and tells its answer.
-#[derive(Debug, Drop)]
+#[derive(Drop)]
 pub struct Root {
     /// The method's number in the class set.
     pub method: u32,

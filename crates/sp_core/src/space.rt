@@ -35,7 +35,7 @@ const END: u64 = 1 << 63;
 /// The core of one space.
 ///
 /// A contract names the states of the rules that the value may stand for.
-#[derive(Debug, Drop)]
+#[derive(Drop)]
 pub struct SpaceCore {
     pub(crate) alloc: Global,
     pub(crate) id: Uuid,

@@ -21,14 +21,14 @@ use sp_tasks::Tasks;
 use space_ids::{ObjId, Ref};
 
 /// A call that came, by its connection and its number there.
-#[derive(Clone, Copy, Debug, PartialEq, Eq)]
+#[derive(Clone, Copy, PartialEq, Eq)]
 pub struct CallKey {
     pub conn: u64,
     pub number: u64,
 }
 
 // Who may hold a reference.
-#[derive(Clone, Copy, Debug)]
+#[derive(Clone, Copy)]
 pub(crate) enum Holder {
     // A field of an object.
     Object(ObjId),

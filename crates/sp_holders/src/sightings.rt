@@ -21,14 +21,14 @@ use std::alloc::Global;
 /// It is a memory of what was, and promises nothing: a holder is looked at before it counts
 /// ([has_holder](crate::has_holder)), and what finds no room is not kept. It has at most twice as many rows
 /// as still stood when it was last looked through for room.
-#[derive(Debug, Drop)]
+#[derive(Drop)]
 pub struct Sightings {
     calls: Vec<CallKey>,
     rows: IndexMap<ForeignId, Sighting>,
 }
 
 // Who was seen to hold a reference, under this class.
-#[derive(Clone, Copy, Debug)]
+#[derive(Clone, Copy)]
 struct Sighting {
     class: ClassId,
     holder: Holder,

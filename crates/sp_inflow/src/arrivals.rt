@@ -12,7 +12,7 @@ use std::alloc::{AllocError, Global};
 use std::marker::Model;
 
 /// What comes next from a connection, an event of its space.
-#[derive(Debug, Drop)]
+#[derive(Drop)]
 pub enum Arrival {
     /// A frame that says this.
     Received(Message),

@@ -21,7 +21,7 @@ use std::alloc::{AllocError, Global};
 /// A contract names the states of the rules that the value may stand for. A call that fails may leave it
 /// anywhere between two of them: what has failed is to be let go, and an equal value kept. What the laws of
 /// histories exclude is looked at, and answered like memory that lacks.
-#[derive(Debug, Drop)]
+#[derive(Drop)]
 pub struct Living {
     pub(crate) alloc: Global,
     pub(crate) id: Uuid,

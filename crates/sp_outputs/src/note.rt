@@ -9,7 +9,7 @@ use crate::{Output, Turn};
 use net_message::Message;
 
 // What an event notes: an output, or a frame with its turn among the frames.
-#[derive(Debug, Drop)]
+#[derive(Drop)]
 pub(crate) enum Note {
     Says(Output),
     Sends {

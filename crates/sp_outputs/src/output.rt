@@ -9,7 +9,7 @@ use sp_tasks::Outcome;
 use space_ids::{ObjId, Row, Uuid};
 
 /// What a space answers to an event.
-#[derive(Debug, Drop)]
+#[derive(Drop)]
 pub enum Output {
     /// A task of this id lives.
     Started(u64),
@@ -30,7 +30,7 @@ pub enum Output {
 }
 
 /// The turn of a frame among the frames of one event, in their order.
-#[derive(Clone, Copy, Debug)]
+#[derive(Clone, Copy)]
 pub enum Turn {
     /// A `Hello`.
     Hellos,

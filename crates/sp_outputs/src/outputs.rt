@@ -18,7 +18,7 @@ use std::mem;
 /// which they were noted. Room is made before anything changes, so that a note takes no memory.
 ///
 /// A contract names the list of the notes, and for how many more there is room.
-#[derive(Debug, Drop)]
+#[derive(Drop)]
 pub struct Outputs {
     alloc: Global,
     notes: Vec<Option<Note>>,

@@ -22,7 +22,7 @@ use std::alloc::{AllocError, Global};
 /// clients told of them.
 ///
 /// A contract names the states of the rules that the value may stand for.
-#[derive(Debug, Drop)]
+#[derive(Drop)]
 pub struct Owner {
     pub(crate) alloc: Global,
     pub(crate) id: Uuid,

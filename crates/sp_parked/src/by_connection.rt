@@ -12,7 +12,7 @@ use table_copies::copy_map;
 /// came. A ticket comes and goes at a cost that does not depend on how many there are.
 ///
 /// A contract names the tickets that each connection may have.
-#[derive(Debug, Drop)]
+#[derive(Drop)]
 pub(crate) struct ByConnection {
     alloc: Global,
     tickets: IndexMap<u64, RisingMap<()>>,

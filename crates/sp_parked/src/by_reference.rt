@@ -16,7 +16,7 @@ use table_copies::copy_map;
 /// ticket comes and goes at a cost that does not depend on how many there are.
 ///
 /// A contract names the tickets that each reference may have.
-#[derive(Debug, Drop)]
+#[derive(Drop)]
 pub(crate) struct ByReference {
     alloc: Global,
     tickets: IndexMap<ForeignId, RisingMap<()>>,

@@ -7,7 +7,7 @@ use std::alloc::{AllocError, Global};
 use table_copies::{CopyIn, copy_result, copy_values};
 
 /// A call that came, of a method of one of the space's own objects, and the fuel that it lends.
-#[derive(Debug, Drop)]
+#[derive(Drop)]
 pub struct ParkedCall {
     pub target: ObjId,
     pub method: u32,
@@ -16,7 +16,7 @@ pub struct ParkedCall {
 }
 
 /// A frame that waits for leases.
-#[derive(Debug, Drop)]
+#[derive(Drop)]
 pub enum Frame {
     /// A call that came.
     Call(ParkedCall),
@@ -26,7 +26,7 @@ pub enum Frame {
 
 /// A frame that waits, the connection on which it came and its number there, and the foreign references in
 /// it, each once.
-#[derive(Debug, Drop)]
+#[derive(Drop)]
 pub struct ParkedFrame {
     pub conn: u64,
     pub number: u64,

@@ -21,7 +21,7 @@ const NO_TICKET: u64 = 0;
 /// came on a connection.
 ///
 /// A contract names the list of the tickets and frames that the value may stand for.
-#[derive(Debug, Drop)]
+#[derive(Drop)]
 pub struct Parked {
     frames: RisingMap<ParkedFrame>,
     by_reference: ByReference,

@@ -31,7 +31,7 @@ use table_copies::copy_map;
 ///
 /// A contract names the lists of connections and of requests that the value may stand for. Of the requests
 /// of one peer it keeps the order, and of different peers none.
-#[derive(Debug, Drop)]
+#[derive(Drop)]
 pub struct Peers {
     alloc: Global,
     rows: IndexMap<Uuid, Requests>,

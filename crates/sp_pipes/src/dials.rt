@@ -7,7 +7,7 @@ ghost use Rattle.sp_rules.specs.Worlds.{is_pair, without_pair};
 use std::alloc::{AllocError, Global};
 
 /// A dial that waits: which space dialled which, by their numbers in the world.
-#[derive(Clone, Copy, Debug, PartialEq, Eq)]
+#[derive(Clone, Copy, PartialEq, Eq)]
 pub struct Dial {
     pub dialler: usize,
     pub dialled: usize,
@@ -16,7 +16,7 @@ pub struct Dial {
 /// The dials that wait, oldest first.
 ///
 /// A contract names the list of pairs.
-#[derive(Debug, Drop)]
+#[derive(Drop)]
 pub struct Dials {
     rows: Vec<Dial>,
 }

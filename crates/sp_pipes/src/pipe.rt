@@ -9,7 +9,7 @@ use std::alloc::{AllocError, Global};
 use std::collections::VecDeque;
 
 /// The two ends of a connection.
-#[derive(Clone, Copy, Debug, PartialEq, Eq)]
+#[derive(Clone, Copy, PartialEq, Eq)]
 pub enum End {
     /// At the space that dialled.
     Dialler,
@@ -18,7 +18,7 @@ pub enum End {
 }
 
 // How far an end of a connection is.
-#[derive(Clone, Copy, Debug, PartialEq, Eq)]
+#[derive(Clone, Copy, PartialEq, Eq)]
 pub(crate) enum Phase {
     Unopened,
     Live,
@@ -26,7 +26,7 @@ pub(crate) enum Phase {
 }
 
 // One end of a connection: its space, and the frames that come towards it.
-#[derive(Debug, Drop)]
+#[derive(Drop)]
 pub(crate) struct Side {
     pub(crate) space: usize,
     pub(crate) phase: Phase,
@@ -34,7 +34,7 @@ pub(crate) struct Side {
 }
 
 // A connection: its two ends.
-#[derive(Debug, Drop)]
+#[derive(Drop)]
 pub(crate) struct Pipe {
     pub(crate) dialler: Side,
     pub(crate) accepter: Side,

@@ -14,7 +14,7 @@ use std::alloc::{AllocError, Global};
 /// asked of one connection costs the same however many there are.
 ///
 /// A contract names the list of connections that the value may stand for.
-#[derive(Debug, Drop)]
+#[derive(Drop)]
 pub struct Pipes {
     alloc: Global,
     rows: Vec<Pipe>,

@@ -11,7 +11,7 @@ use std::marker::Model;
 
 /// How many names are bound to each object. A contract sees the list of the objects
 /// with their numbers, and asks for the number of an object, 0 if it is not there.
-#[derive(Clone, Debug, Drop)]
+#[derive(Clone, Drop)]
 pub(crate) struct Counts {
     counts: HashMap<ObjId, usize>,
 }

@@ -8,7 +8,7 @@ use std::marker::Model;
 
 /// A name of the registry: 1 to 255 bytes of ASCII letters, digits, `_` and `.` (a rule of our own).
 /// The bytes are the registry's, which lends them. A contract sees the list of its bytes.
-#[derive(Debug, Drop)]
+#[derive(Drop)]
 pub struct Name<'a> {
     bytes: &'a [u8],
 }

@@ -14,7 +14,7 @@ use std::alloc::{AllocError, Global};
 use std::marker::Model;
 
 /// A name and the own standing object that it is bound to.
-#[derive(Debug, Drop)]
+#[derive(Drop)]
 pub struct Binding<'a> {
     pub name: Name<'a>,
     pub object: ObjId,
@@ -22,7 +22,7 @@ pub struct Binding<'a> {
 
 /// The names of a space. A contract sees the list of its bindings, in the order in which the names
 /// were bound.
-#[derive(Debug, Drop)]
+#[derive(Drop)]
 pub struct Registry {
     table: Table,
     counts: Counts,

@@ -14,7 +14,7 @@ use std::marker::Model;
 /// The bindings in the order in which their names were bound. A list through the entries of a hash map
 /// keeps the order, so a binding is found, comes and goes at a cost that does not depend on how many
 /// there are. A contract sees the list of the bindings.
-#[derive(Debug, Drop)]
+#[derive(Drop)]
 pub(crate) struct Table {
     rows: LruCache<Vec<u8>, ObjId>,
 }

@@ -14,7 +14,7 @@ pub enum ResultKind {
 }
 
 /// Who asks by a call or lookup, and what is to come back.
-#[derive(Clone, Copy, Debug)]
+#[derive(Clone, Copy)]
 pub enum Asker {
     /// A task, which lends this fuel to its call.
     Call {
@@ -29,7 +29,7 @@ pub enum Asker {
 }
 
 /// What waits for the peer's Hello.
-#[derive(Debug, Drop)]
+#[derive(Drop)]
 pub enum Asked {
     Call {
         number: u64,
@@ -52,7 +52,7 @@ pub enum Asked {
 }
 
 /// A call or lookup that went out.
-#[derive(Clone, Copy, Debug)]
+#[derive(Clone, Copy)]
 pub struct OutCall {
     pub asker: Asker,
     /// Its result has come and is parked.
@@ -62,7 +62,7 @@ pub struct OutCall {
 }
 
 /// Dirty or clean calls that went out in one frame, under the number under which they were made.
-#[derive(Debug, Drop)]
+#[derive(Drop)]
 pub struct OutGroup {
     pub call: u64,
     pub group: Group,

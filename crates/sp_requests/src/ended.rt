@@ -7,7 +7,7 @@ use crate::{Asked, Asker, OutGroup};
 use std::alloc::Global;
 
 /// A call or lookup that ends.
-#[derive(Clone, Copy, Debug)]
+#[derive(Clone, Copy)]
 pub struct EndedCall {
     pub asker: Asker,
     /// Its frame is among those that were not sent whole.
@@ -16,7 +16,7 @@ pub struct EndedCall {
 
 /// What the end of all that is asked of a peer needs, and what its calls and lookups come to. It is made
 /// before anything changes, since it takes memory.
-#[derive(Debug, Drop)]
+#[derive(Drop)]
 pub struct Ending {
     pub(crate) calls: Vec<EndedCall>,
     pub(crate) sequences: Vec<u64>,
@@ -25,7 +25,7 @@ pub struct Ending {
 
 /// What was asked of a peer: calls and lookups, and dirty and clean calls, each in the order in which they
 /// were made.
-#[derive(Debug, Drop)]
+#[derive(Drop)]
 pub struct Ended {
     pub calls: Vec<EndedCall>,
     pub groups: Vec<OutGroup>,

@@ -32,7 +32,7 @@ use table_copies::CopyIn;
 /// went before it: so memory does not grow with what was sent.
 ///
 /// A contract names the lists of requests and of frames that the value may stand for.
-#[derive(Debug, Drop)]
+#[derive(Drop)]
 pub struct Requests {
     waiting: Vec<Asked>,
     calls: RisingMap<OutCall>,

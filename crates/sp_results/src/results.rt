@@ -18,7 +18,7 @@ use table_copies::copy_cache;
 /// wait.
 ///
 /// A contract sees the list of the tasks with their results, in the order in which these came.
-#[derive(Debug, Drop)]
+#[derive(Drop)]
 pub struct Results {
     results: LruCache<u64, Option<Value>>,
 }

@@ -11,7 +11,7 @@ use table_copies::{CopyIn, copy_values};
 
 /// A remote object as its store keeps it. A contract sees its class, its fields as the list of what
 /// they hold, and by how many it is held.
-#[derive(Debug, Drop)]
+#[derive(Drop)]
 pub(crate) struct Instance {
     class: ClassId,
     fields: Vec<Value>,

@@ -23,7 +23,7 @@ pub const MOST_OBJECTS: usize = 65_536;
 /// The remote objects of a space, by id. Ids begin at 1, rise, and never come again.
 ///
 /// A contract names the histories that the value may stand for: it is what each of them leaves.
-#[derive(Debug, Drop)]
+#[derive(Drop)]
 pub struct Store {
     own: Uuid,
     objects: IndexMap<ObjId, Instance>,

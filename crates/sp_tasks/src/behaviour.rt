@@ -14,7 +14,7 @@ pub enum Outcome {
 }
 
 /// What a task asks its space for.
-#[derive(Debug, Drop)]
+#[derive(Drop)]
 pub enum Op {
     /// A new remote instance of this class.
     Create(ClassId),
@@ -51,7 +51,7 @@ pub enum Reply {
 }
 
 /// The point at which a task stands, as its machine tells it.
-#[derive(Debug, Drop)]
+#[derive(Drop)]
 pub enum Stand {
     /// Before an instruction of its own.
     Runs,

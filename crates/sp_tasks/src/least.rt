@@ -13,7 +13,7 @@ pub(crate) const NOTHING: u64 = u64::MAX;
 /// it and below it, so a number changes at a cost that grows with the logarithm of how many there are.
 ///
 /// A contract sees the list of the numbers, and for how many more there is room.
-#[derive(Debug, Drop)]
+#[derive(Drop)]
 pub(crate) struct LeastTree {
     numbers: Vec<u64>,
     lows: Vec<u64>,

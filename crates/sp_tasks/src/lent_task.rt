@@ -11,7 +11,7 @@ use std::marker::Model;
 /// A task that a core lends, beside its machine: its id, its record and its own instructions as it was
 /// lent, the instructions that its machine made since, and whether its record has room for the reply to
 /// its next call.
-#[derive(Debug, Drop)]
+#[derive(Drop)]
 pub struct LentTask {
     id: u64,
     past: Record,

@@ -18,7 +18,7 @@ use table_copies::CopyIn;
 /// A living task: how it began, the references that it holds, each once, its record, and its own
 /// instructions since the last reply. While it is not lent, a second record waits to be lent with it. A
 /// task that waits for the reply to a call has room for it in both records and among its references.
-#[derive(Debug, Drop)]
+#[derive(Drop)]
 pub(crate) struct LivingTask {
     origin: Origin,
     waits: bool,

@@ -11,7 +11,7 @@ use std::alloc::{AllocError, Global};
 use std::marker::Model;
 
 /// A task that is about to start, with all memory that it takes of its own. A contract sees its row.
-#[derive(Debug, Drop)]
+#[derive(Drop)]
 pub struct NewTask {
     task: LivingTask,
 }

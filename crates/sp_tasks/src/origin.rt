@@ -1,7 +1,7 @@
 //! How a task began.
 
 /// How a task began: a root started it, or a call of this number that came on this connection.
-#[derive(Clone, Copy, Debug, PartialEq, Eq)]
+#[derive(Clone, Copy, PartialEq, Eq)]
 pub enum Origin {
     /// A root of the space.
     Root,

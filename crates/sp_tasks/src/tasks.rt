@@ -27,7 +27,7 @@ use table_copies::copy_map;
 ///
 /// A contract sees how many started, how many more can start without taking memory, and the list of the
 /// ids and rows of those that live, in the order in which they started.
-#[derive(Debug, Drop)]
+#[derive(Drop)]
 pub struct Tasks {
     made: u64,
     // For how many more tasks there is room in both of the following.

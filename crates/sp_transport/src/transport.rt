@@ -17,7 +17,7 @@ use space_ids::{ForeignId, Uuid};
 use std::alloc::{AllocError, Global};
 
 /// The call or lookup of the event under way, which it asks of the peer as it ends.
-#[derive(Debug, Drop)]
+#[derive(Drop)]
 pub struct Fresh {
     pub peer: Uuid,
     pub asked: Asked,
@@ -30,7 +30,7 @@ pub struct Fresh {
 /// memory: where they need room the caller owes it, and the calls named `reserve` make it. Two make their own:
 /// [`Transport::flush_waiting`] and [`Transport::settle`]. If these fail, a part of their work is done, and the
 /// value stands for no state: the caller drops it.
-#[derive(Debug, Drop)]
+#[derive(Drop)]
 pub struct Transport {
     pub(crate) alloc: Global,
     pub(crate) leases: Clients,

@@ -9,7 +9,7 @@ use sp_tasks::{LentTask as TaskInHand, Record};
 /// and the instructions that its machine made since.
 ///
 /// Both states of the core lend it. If memory ran out in the second, the core is so for it until it comes back.
-#[derive(Debug, Drop)]
+#[derive(Drop)]
 pub struct LentTask {
     pub(crate) task: TaskInHand,
     pub(crate) twin: Option<TaskInHand>,

@@ -30,7 +30,7 @@ use std::mem;
 use table_copies::copy_values;
 
 // A call for which a task asks.
-#[derive(Debug, Drop)]
+#[derive(Drop)]
 struct Call {
     target: Ref,
     method: u32,

@@ -10,7 +10,7 @@ use space_ids::{ClassId, ObjId};
 
 /// What a core shows of a standing object: its id and class, how many names are bound to it, and how many
 /// clients have an entry.
-#[derive(Debug, Drop)]
+#[derive(Drop)]
 pub struct Shown {
     pub id: ObjId,
     pub class: ClassId,

@@ -18,7 +18,7 @@ pub(crate) const END: u64 = 1 << 63;
 ///
 /// It keeps two equal states. An event happens to the second first, then to the first. One that is out of
 /// memory is let go, and copied anew. A contract names the states of the rules that the value may stand for.
-#[derive(Debug, Drop)]
+#[derive(Drop)]
 pub struct SpaceCore {
     pub(crate) alloc: Global,
     pub(crate) id: Uuid,
