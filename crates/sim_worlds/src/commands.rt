@@ -28,23 +28,11 @@ impl<S: Played + Drop> Player<S> {
                 name,
                 variable,
             } => self.look_up(space, peer, name, variable),
-            Command::Between { space, peer, event } => {
-                let dial = Dial {
-                    dialler: self.names.number(space)?,
-                    dialled: self.names.number(peer)?,
-                };
-                self.between(dial, *event)
-            }
+            Command::Between { space, peer, event } => self.between(space, peer, *event),
             Command::Acknowledge { space, variable } => self.acknowledge(space, variable),
             Command::Settle => self.settle(),
-            Command::Step(space) => {
-                let number = self.names.number(space)?;
-                self.step(number)
-            }
-            Command::Show(space) => {
-                let number = self.names.number(space)?;
-                self.show(number, space)
-            }
+            Command::Step(space) => self.step_named(space),
+            Command::Show(space) => self.show(space),
             _ => self.own(command),
         }
     }
@@ -121,8 +109,17 @@ impl<S: Played + Drop> Player<S> {
         Ok(())
     }
 
+    // What happens between two spaces, of which the first dials or has dialled the other.
+    fn between(&mut self, space: &str, peer: &str, event: Between) -> Result<(), PlayFault> {
+        let dial = Dial {
+            dialler: self.names.number(space)?,
+            dialled: self.names.number(peer)?,
+        };
+        self.on_dial(dial, event)
+    }
+
     // What happens on the connection that a space dialled to a peer: the newest, if there are more.
-    fn between(&mut self, dial: Dial, event: Between) -> Result<(), PlayFault> {
+    fn on_dial(&mut self, dial: Dial, event: Between) -> Result<(), PlayFault> {
         let Dial { dialler, dialled } = dial;
         match event {
             Between::Open => return self.open_accepted(dial),
@@ -139,6 +136,12 @@ impl<S: Played + Drop> Player<S> {
             let _ = self.happen(event)?;
         }
         Ok(())
+    }
+
+    // Lets the lowest task that may go on make an instruction, of the space of this name.
+    fn step_named(&mut self, space: &str) -> Result<(), PlayFault> {
+        let number = self.names.number(space)?;
+        self.step(number)
     }
 
     // Lets the lowest task of a space that may go on make an instruction.

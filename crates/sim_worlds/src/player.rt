@@ -62,13 +62,7 @@ impl<S: Played + Drop> Player<S> {
             told: _,
             text,
         } = self;
-        let mut text = text;
-        for variable in variables.rows() {
-            if let Some(space) = world.space(variable.key.space) {
-                put_outcome(&mut text, space, &names, &variable.name, &variable.outcome)?;
-            }
-        }
-        Ok(text)
+        with_outcomes(text, &world, &names, variables.rows())
     }
 
     // Lets an event happen, and notes which tasks it ended. Returns why it was refused, if it was.
@@ -145,8 +139,9 @@ impl<S: Played + Drop> Player<S> {
         Ok(())
     }
 
-    // Shows each standing object of a space, in the order of ids.
-    pub(crate) fn show(&mut self, number: usize, name: &str) -> Result<(), PlayFault> {
+    // Shows each standing object of the space of this name, in the order of ids.
+    pub(crate) fn show(&mut self, name: &str) -> Result<(), PlayFault> {
+        let number = self.names.number(name)?;
         let Some(space) = self.world.space(number) else {
             return Err(PlayFault::Bad);
         };
@@ -235,4 +230,21 @@ impl<S: Played + Drop> Player<S> {
     pub(crate) fn row(&self, name: &str) -> Result<Row<u8>, PlayFault> {
         Ok(Row::new(name.as_bytes().to_vec(self.alloc)?))
     }
+}
+
+// Returns the lines with one more for each variable. The world and the names are lent to it, so that they go
+// out of scope at one place.
+fn with_outcomes<S: Played + Drop>(
+    text: Vec<u8>,
+    world: &World<S>,
+    names: &Names,
+    variables: &[Variable],
+) -> Result<Vec<u8>, PlayFault> {
+    let mut text = text;
+    for variable in variables {
+        if let Some(space) = world.space(variable.key.space) {
+            put_outcome(&mut text, space, names, &variable.name, &variable.outcome)?;
+        }
+    }
+    Ok(text)
 }

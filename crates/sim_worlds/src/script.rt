@@ -96,16 +96,27 @@ fn play_lines<S: Played + Drop>(
     first: usize,
 ) -> Result<Vec<u8>, ScriptFault> {
     let mut player = player;
-    for (before, line) in lines.iter().enumerate().skip(first) {
-        match play_line(alloc, &mut player, line) {
-            Ok(()) => {}
-            Err(fault) => return Err(at_line(fault, before + 1)),
-        }
-    }
+    play_each(alloc, &mut player, lines, first)?;
     match player.finish() {
         Ok(text) => Ok(text),
         Err(_) => Err(ScriptFault::Memory),
     }
+}
+
+// Plays the lines from this index on.
+fn play_each<S: Played + Drop>(
+    alloc: Global,
+    player: &mut Player<S>,
+    lines: &[&[u8]],
+    first: usize,
+) -> Result<(), ScriptFault> {
+    for (before, line) in lines.iter().enumerate().skip(first) {
+        match play_line(alloc, player, line) {
+            Ok(()) => {}
+            Err(fault) => return Err(at_line(fault, before + 1)),
+        }
+    }
+    Ok(())
 }
 
 // What a line says. It is bad if it is no text in UTF-8.
