@@ -7,9 +7,9 @@ use cf_reader::ReadFault;
 use class_builder::SUM;
 use cls_link::LinkFault;
 use cls_set::SetFault;
-use sp_main::{
-    ClassBytes, Content, Folder, FolderFault, Refusal, RunOutcome, command, run_classes,
-};
+use sp_files::{ClassBytes, Content, Refusal, RunOutcome};
+use sp_main::{Folder, FolderFault, command};
+use sp_runs::run_classes;
 use std::alloc::{AllocError, Global};
 use std::io;
 use std::io::ErrorKind;

@@ -8,12 +8,12 @@ use net_message::Message;
 use sim_spaces::Homes;
 use sim_worlds::{Origin, Played};
 use sp_call_set::CallSet;
-use sp_main::{ClassBytes, Content, Refusal};
-use sp_runs::{Program, program_of};
+use sp_files::{ClassBytes, Content, Refusal, program_of};
 use sp_tasks::Outcome;
 use sp_world::{Dial, End, Event, Output, Unfinished, World, WorldEvent, run};
 use space_ids::{Ref, Row, Uuid, Value};
 use std::alloc::{AllocError, Global};
+use vm_run::Program;
 
 // The two spaces, by number.
 const OWNER: usize = 0;

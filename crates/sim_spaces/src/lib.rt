@@ -4,7 +4,6 @@
 pub use digests::class_digest;
 pub use home::Home;
 pub use homes::Homes;
-pub use sim_worlds::{ScriptFault, play_script};
 
 mod digests;
 mod home;

@@ -2,9 +2,9 @@
 use Rattle.std.proofs.Common.{◌≡◌, ◌++◌, ◌∷◌, [], ℕ, List, Option, String, Global, refl, string_bytes, sym, subst}
 use Rattle.std.specs.List.{AllZip}
 use Rattle.sp_main.specs.Folders.{AreRead, AfterFile, IsContent}
-use Rattle.sp_runs.specs.declared.running.ClassBytes.{ClassBytes}
-use Rattle.sp_runs.specs.declared.running.Content.{Content}
-use Rattle.sp_runs.specs.declared.running.Content.TheVariants.{Bytes, Unreadable}
+use Rattle.sp_files.specs.declared.files.ClassBytes.{ClassBytes}
+use Rattle.sp_files.specs.declared.files.Content.{Content}
+use Rattle.sp_files.specs.declared.files.Content.TheVariants.{Bytes, Unreadable}
 
 -- the device of a file gave all of it
 abbrev pub IsWhole : Content → Type 0

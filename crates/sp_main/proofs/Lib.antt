@@ -1,12 +1,3 @@
 pub mod Refused
-pub mod Below
-pub mod Written
-pub mod Spelled
-pub mod Parser
-pub mod Said
-pub mod Asked
-pub mod Commands
-pub mod Requested
 pub mod Contents
 pub mod Replied
-pub mod CommandRows

@@ -1,11 +1,13 @@
 -- A refusal of files is one of these files.
 use Rattle.std.proofs.Common.{◌≡◌, ◌⊎◌, ℕ, List, inl, inr, subst, sym}
 use Rattle.std.proofs.lemmas.Option.{slice_get_within}
-use Rattle.sp_main.specs.RefusalTexts.{IsRefusalOf}
-use Rattle.sp_runs.specs.Runs.{IsNoProgram, IsRefused, IsUnread, at_fault, no_memory_to_read, no_program, no_set, not_linked, not_safe, unread}
-use Rattle.sp_runs.specs.declared.refusal.Refusal.{Refusal}
-use Rattle.sp_runs.specs.declared.refusal.Refusal.TheVariants as refusal
-use Rattle.sp_runs.specs.declared.running.ClassBytes.{ClassBytes}
+use Rattle.sp_texts.specs.RefusalTexts.{IsRefusalOf}
+use Rattle.sp_files.specs.Programs.{IsNoProgram, no_set, not_linked, not_safe, unread}
+use Rattle.sp_runs.specs.Runs.{IsRefused, no_program}
+use Rattle.sp_files.specs.Files.{IsUnread, at_fault, no_memory_to_read}
+use Rattle.sp_files.specs.declared.refusal.Refusal.{Refusal}
+use Rattle.sp_files.specs.declared.refusal.Refusal.TheVariants as refusal
+use Rattle.sp_files.specs.declared.files.ClassBytes.{ClassBytes}
 use Rattle.space_ids.specs.declared.value.Value.{Value}
 use Rattle.vm_run.specs.declared.limits.Limits.{Limits}
 

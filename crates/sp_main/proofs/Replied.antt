@@ -1,25 +1,26 @@
 -- A report is a reply.
 use Rattle.std.proofs.Common.{◌≡◌, ◌<◌, ◌∙◌, ℕ, List, Option, Result, Ok, Err, IfOk, ap, arith, inl, inr, length, refl, subst, sym}
 use Rattle.cls_link.specs.Links.{Links}
-use Rattle.sp_main.specs.CommandLine.{AsksCheck, AsksRun, AsksSim, AsksText, IsUsageFault, RunWords, SimWords}
+use Rattle.sp_words.specs.CommandLine.{AsksCheck, AsksRun, AsksSim, AsksText, IsUsageFault, RunWords, SimWords}
 use Rattle.sp_main.specs.Folders.{AreFilesOf, Telling}
-use Rattle.sp_main.specs.RefusalTexts.{TellsRefusal, TellsUnreadable}
+use Rattle.sp_texts.specs.RefusalTexts.{TellsRefusal, TellsUnreadable}
 use Rattle.sp_main.specs.Replies.{Fails, IsPlayed, IsReply, Replies, accepted, bad_line, limits_of, mistaken, not_played, played, ran, refused, rejected, replied, told, unreadable, unwritten}
-use Rattle.sp_main.specs.Reports.{IsTold, LeavesOther, line_of}
-use Rattle.sp_main.specs.Requests.{IsRequest, run_words, sim_words}
-use Rattle.sp_runs.specs.Runs.{IsNoProgram, IsProgram, IsRefused, IsRun}
-use Rattle.sp_main.specs.Statuses.{code_of, outcome_status, refusal_status}
-use Rattle.sp_main.specs.Texts.{accepted_text, bad_line_text, outcome_text}
-use Rattle.sp_runs.specs.declared.refusal.Refusal.{Refusal}
-use Rattle.sp_main.specs.declared.report.Report.{Report}
-use Rattle.sp_runs.specs.declared.running.ClassBytes.{ClassBytes}
-use Rattle.sp_runs.specs.declared.running.RunOutcome.{RunOutcome}
-use Rattle.sp_main.specs.declared.status.Status.{Status}
-use Rattle.sp_main.specs.declared.status.Status.TheVariants.{Done, Failed}
-use Rattle.sp_main.specs.declared.words.Request.{Request}
-use Rattle.sp_main.specs.declared.words.Request.TheVariants.{Run, Check, Sim, Tell, Refuse}
-use Rattle.sp_main.specs.declared.words.RunRequest.{RunRequest}
-use Rattle.sp_main.specs.declared.words.SimRequest.{SimRequest}
+use Rattle.sp_texts.specs.Reports.{IsTold, LeavesOther, line_of}
+use Rattle.sp_words.specs.Requests.{IsRequest, run_words, sim_words}
+use Rattle.sp_files.specs.Programs.{IsNoProgram, IsProgram}
+use Rattle.sp_runs.specs.Runs.{IsRefused, IsRun}
+use Rattle.sp_texts.specs.Statuses.{code_of, outcome_status, refusal_status}
+use Rattle.sp_texts.specs.Texts.{accepted_text, bad_line_text, outcome_text}
+use Rattle.sp_files.specs.declared.refusal.Refusal.{Refusal}
+use Rattle.sp_texts.specs.declared.report.Report.{Report}
+use Rattle.sp_files.specs.declared.files.ClassBytes.{ClassBytes}
+use Rattle.sp_files.specs.declared.outcome.RunOutcome.{RunOutcome}
+use Rattle.sp_texts.specs.declared.status.Status.{Status}
+use Rattle.sp_texts.specs.declared.status.Status.TheVariants.{Done, Failed}
+use Rattle.sp_words.specs.declared.words.Request.{Request}
+use Rattle.sp_words.specs.declared.words.Request.TheVariants.{Run, Check, Sim, Tell, Refuse}
+use Rattle.sp_words.specs.declared.words.RunRequest.{RunRequest}
+use Rattle.sp_words.specs.declared.words.SimRequest.{SimRequest}
 use Rattle.vm_run.specs.declared.limits.Limits.{Limits}
 
 module _ {E : Type 0} (telling : Telling) (run : RunWords) (answer : Result Report E) where

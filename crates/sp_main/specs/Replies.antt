@@ -1,18 +1,19 @@
 -- What the program answers to its command line. (This project's own.)
 use Rattle.std.specs.Prelude.{◌≡◌, ◌⊎◌, ℕ, List, Option, codes, length, unwrap_or}
 use Rattle.cls_link.specs.Links.{Links}
-use Rattle.sp_main.specs.CommandLine.{AsksCheck, AsksRun, AsksSim, AsksText, IsUsageFault, RunWords, SimWords}
+use Rattle.sp_words.specs.CommandLine.{AsksCheck, AsksRun, AsksSim, AsksText, IsUsageFault, RunWords, SimWords}
 use Rattle.sp_main.specs.Folders.{AreFilesOf, Telling}
-use Rattle.sp_main.specs.RefusalTexts.{TellsRefusal, TellsUnreadable, unreadable_text}
-use Rattle.sp_main.specs.Reports.{CutsOff, IsTold, LeavesOther, Tells, line_of}
-use Rattle.sp_runs.specs.Runs.{IsNoProgram, IsProgram, IsRefused, IsRun}
-use Rattle.sp_main.specs.Statuses.{code_of, outcome_status, refusal_status}
-use Rattle.sp_main.specs.Texts.{accepted_text, bad_line_text, outcome_text}
-use Rattle.sp_runs.specs.declared.refusal.Refusal.{Refusal}
-use Rattle.sp_runs.specs.declared.running.ClassBytes.{ClassBytes}
-use Rattle.sp_runs.specs.declared.running.RunOutcome.{RunOutcome}
-use Rattle.sp_main.specs.declared.status.Status.{Status}
-use Rattle.sp_main.specs.declared.status.Status.TheVariants.{Done, Failed}
+use Rattle.sp_texts.specs.RefusalTexts.{TellsRefusal, TellsUnreadable, unreadable_text}
+use Rattle.sp_texts.specs.Reports.{CutsOff, IsTold, LeavesOther, Tells, line_of}
+use Rattle.sp_files.specs.Programs.{IsNoProgram, IsProgram}
+use Rattle.sp_runs.specs.Runs.{IsRefused, IsRun}
+use Rattle.sp_texts.specs.Statuses.{code_of, outcome_status, refusal_status}
+use Rattle.sp_texts.specs.Texts.{accepted_text, bad_line_text, outcome_text}
+use Rattle.sp_files.specs.declared.refusal.Refusal.{Refusal}
+use Rattle.sp_files.specs.declared.files.ClassBytes.{ClassBytes}
+use Rattle.sp_files.specs.declared.outcome.RunOutcome.{RunOutcome}
+use Rattle.sp_texts.specs.declared.status.Status.{Status}
+use Rattle.sp_texts.specs.declared.status.Status.TheVariants.{Done, Failed}
 use Rattle.vm_run.specs.declared.limits.Limits.{Limits}
 
 -- what a task may use: the fuel that was said, or a million instructions

@@ -1,29 +1,27 @@
 //! The program as a function of its arguments, a folder and its standard streams.
 
 ghost use Rattle.std.specs.Prelude.{◌≡◌, ◌<◌, ◌≤◌, ◌^◌, ℕ, List, map, string_bytes, IfOk, IfSome};
-ghost use Rattle.sp_main.specs.CommandLine.{AsksCheck, AsksRun, AsksSim};
+ghost use Rattle.sp_words.specs.CommandLine.{AsksCheck, AsksRun, AsksSim};
 ghost use Rattle.sp_main.specs.Folders.{AreFilesOf, AreRead, IsContent, told_by};
 ghost use Rattle.sp_main.specs.Replies.{Fails, IsPlayed, IsReply, Replies};
-ghost use Rattle.sp_main.specs.Requests.{run_words, sim_words};
+ghost use Rattle.sp_words.specs.Requests.{run_words, sim_words};
 
-use super::report::write_text;
-use super::texts::{
-    accepted_report, bad_line_report, folder_report, outcome_report, played_report, refusal_report,
-    text_report, unreadable_report,
-};
-use super::words::{Request, RunRequest, SimRequest, request_of};
-use super::{
-    ClassBytes, Content, Folder, FolderFault, Report, Status, check_classes, program_of,
-    run_classes,
-};
 use cf_reader::MAX_LEN;
 use dev_io::{ReadError, StdSource, read_bytes};
 use net_message::Digest;
-use sim_spaces::{Homes, ScriptFault, class_digest, play_script};
+use sim_spaces::{Homes, class_digest};
+use sim_worlds::{ScriptFault, play_script};
 use sp_call_set::CallSet;
-use sp_runs::{Limits, Program};
+use sp_files::{ClassBytes, Content, check_classes, program_of};
+use sp_runs::run_classes;
+use sp_texts::{
+    Report, Status, accepted_report, bad_line_report, folder_report, outcome_report, played_report,
+    refusal_report, text_report, unreadable_report, write_text,
+};
+use sp_words::{Folder, FolderFault, Request, RunRequest, SimRequest, request_of};
 use std::alloc::{AllocError, Global};
 use std::io::{Read, Write};
+use vm_run::{Limits, Program};
 
 /// Does what the command line asks for, and returns the exit status. The first of `words` is the
 /// program's own name. What it prints is complete before its first byte is written.

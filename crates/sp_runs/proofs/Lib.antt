@@ -1,5 +1,3 @@
-pub mod Files
-pub mod Named
 pub mod Only
 pub mod Whole
 pub mod Ended

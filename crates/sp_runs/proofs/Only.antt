@@ -1,38 +1,26 @@
--- What class files give, if they break no rule, is one.
-use Rattle.std.proofs.Common.{◌≡◌, ◌≢◌, ◌∙◌, ◌+◌, inl, inr, ℕ, zero, suc, ℤ, Bool, true, false, List, [], ◌∷◌, Some, None, arith, ap, refl, subst, sym}
-use Rattle.std.specs.Prelude.{MatchBool, Option, Result, Ok, Err, IsErrAnd, length, nat_le, slice_get}
-use Rattle.std.proofs.lemmas.Option.{slice_get_within}
-use Rattle.cf_reader.proofs.SpellsLaws.{one_class}
-use Rattle.cf_reader.specs.declared.class_file.ClassFile.{ClassFile}
-use Rattle.cf_load.specs.declared.load_fault.LoadFault.TheVariants as load
-use Rattle.cf_text.specs.Reading.{Fails}
-use Rattle.cf_text.specs.declared.fault.ReadFault.{ReadFault}
-use Rattle.cf_text.specs.declared.fault.ReadFault.TheVariants as read
-use Rattle.cls_laws.proofs.Links.{one_linking}
-use Rattle.cls_laws.proofs.Sets.{one_set}
+-- A method of class files runs to one outcome.
+use Rattle.std.proofs.Common.{◌≡◌, ◌≢◌, ◌∙◌, ◌+◌, ℕ, ℤ, Bool, true, false, List, Some, None, arith, ap, refl, subst, sym}
+use Rattle.std.specs.Prelude.{IfErr, IfOk, MatchBool, Result, Ok, Err, IsErrAnd, length, nat_le}
 use Rattle.cls_link.specs.Links.{Links}
 use Rattle.cls_link.specs.declared.linked_code.MethodId.{MethodId}
-use Rattle.cls_set.proofs.Walks.{before}
-use Rattle.cls_set.specs.Classes.{number_of}
-use Rattle.cls_set.specs.Sets.{HasClasses, IsClassSet}
 use Rattle.cls_set.specs.declared.class.Class.{Class}
 use Rattle.space_ids.specs.declared.ids.ClassId.{ClassId}
 use Rattle.space_ids.specs.declared.value.Value.{Value}
 use Rattle.space_ids.specs.declared.value.Value.TheVariants as value
-use Rattle.sp_runs.proofs.Named.{named_not_before, one_split}
 use Rattle.sp_runs.specs.InSpace.{RunsInSpace}
-use Rattle.sp_runs.specs.Only.{IsReadOut, OnlyGives}
+use Rattle.sp_files.specs.Only.{IsOutOfMemory}
+use Rattle.sp_runs.specs.OfProgram.{IsNotFound}
+use Rattle.sp_runs.specs.Only.{OnlyGives}
 use Rattle.sp_runs.specs.Outcomes.{IsTold, ThrewClass}
-use Rattle.sp_runs.specs.Runs.{AreSpelled, IsParenthesisAt, IsProgram, IsRun, IsSpelled, NamesMethod, NamesNoneBefore, NamesSplit, Runs, first_split, no_class, no_method}
-use Rattle.sp_runs.specs.declared.running.ClassBytes.{ClassBytes}
-use Rattle.sp_runs.specs.declared.running.Content.{Content}
-use Rattle.sp_runs.specs.declared.running.Content.TheVariants.{Bytes, Unreadable}
-use Rattle.sp_runs.specs.declared.running.RunOutcome.{RunOutcome}
-use Rattle.sp_runs.specs.declared.running.RunOutcome.TheVariants as told
+use Rattle.sp_files.specs.Programs.{IsProgram}
+use Rattle.sp_runs.specs.Runs.{IsNotRun, IsRun, Runs}
+use Rattle.sp_files.specs.Names.{NamesMethod}
+use Rattle.sp_files.specs.declared.files.ClassBytes.{ClassBytes}
+use Rattle.sp_files.specs.declared.outcome.RunOutcome.{RunOutcome}
+use Rattle.sp_files.specs.declared.outcome.RunOutcome.TheVariants as told
+use Rattle.sp_files.specs.declared.refusal.Refusal.{Refusal}
+use Rattle.sp_files.specs.declared.refusal.Refusal.TheVariants as refusal
 use Rattle.uuid.specs.Parts.{zero_bytes}
-use Rattle.ver_check.specs.Refusals.{SettlesSet}
-use Rattle.ver_rules.specs.declared.fault.CheckFault.{CheckFault}
-use Rattle.ver_rules.specs.declared.fault.CheckFault.TheVariants as check
 use Rattle.vm_act.specs.Crossing.{most_elements}
 use Rattle.vm_run.proofs.Runs.{run_ended}
 use Rattle.vm_run.specs.Ends.{End, ReturnedNothing, ReturnedInt, ReturnedNull, ReturnedInts, ReturnedRemote, Threw, ThrewObject, Spent}
@@ -42,38 +30,7 @@ use Rattle.vm_run.specs.Task.{Tasked, unmarshalled}
 use Rattle.vm_run.specs.declared.fault.StartFault.{StartFault}
 use Rattle.vm_run.specs.declared.fault.StartFault.TheVariants as start
 use Rattle.vm_run.specs.declared.limits.Limits.{Limits}
-
--- ---- reading
-
--- what is spelled is refused only if memory ran out
-pub spelled_out : (class : ClassFile) (fault : ReadFault) → Fails (Ok class) fault → IsReadOut (load.Read fault)
-spelled_out class read.Memory fails = refl
-spelled_out class (read.Broken rule at) fails = absurd (cc)
-
-pub one_spelled : (content : Content) (c d : ClassFile) → IsSpelled content c → IsSpelled content d → c ≡ d
-one_spelled (Bytes bytes) c d a b = one_class bytes.items a.0 b.0 c d a.1 b.1
-one_spelled Unreadable c d a b = absurd a
-
-pub one_list : (files : List ClassBytes) (cs ds : List ClassFile) → AreSpelled files cs → AreSpelled files ds → cs ≡ ds
-one_list [] [] [] a b = refl
-one_list [] [] (d ∷ ds) a b = absurd b
-one_list [] (c ∷ cs) ds a b = absurd a
-one_list (f ∷ files) [] ds a b = absurd a
-one_list (f ∷ files) (c ∷ cs) [] a b = absurd b
-one_list (f ∷ files) (c ∷ cs) (d ∷ ds) a b =
-    let first : c ≡ d = one_spelled f.content c d a.0 b.0 in
-    let others : cs ≡ ds = one_list files cs ds a.1 b.1 in
-    cc
-
--- the class file of one of the files
-pub spelled_at : (files : List ClassBytes) (classes : List ClassFile) (index : ℕ) (file : ClassBytes) → slice_get files index ≡ Some file → AreSpelled files classes
-    → (class : ClassFile) × IsSpelled file.content class
-spelled_at [] classes index file is spelled = absurd (cc)
-spelled_at (f ∷ files) [] index file is spelled = absurd spelled
-spelled_at (f ∷ files) (c ∷ classes) zero file is spelled =
-    let same : f ≡ file = cc in
-    (c, subst (λ (g : ClassBytes). IsSpelled g.content c) same spelled.0)
-spelled_at (f ∷ files) (c ∷ classes) (suc index) file is spelled = spelled_at files classes index file is spelled.1
+use Rattle.sp_files.proofs.Only.{one_named, one_program}
 
 -- ---- answers
 
@@ -81,11 +38,6 @@ spelled_at (f ∷ files) (c ∷ classes) (suc index) file is spelled = spelled_a
 pub only_error : {A E : Type 0} (r : Result A E) (known : E) (value : A) (P : E → Type 0) → IsErrAnd r (λ e. e ≡ known) → P known → OnlyGives value P r
 only_error (Ok a) known value P is holds = absurd is
 only_error (Err e) known value P is holds = subst P (sym is) holds
-
--- a type safe set is refused only if memory ran out
-pub safe_out : {X : Type 0} (So : X → Type 0) (Is : Type 0) (fault : CheckFault) → SettlesSet (Err fault) So (¬ Is) → Is → fault ≡ check.Memory
-safe_out So Is check.Memory settles is = refl
-safe_out So Is (check.Broken rule class method descriptor at) settles is = absurd (settles is)
 
 -- ---- runs
 
@@ -142,65 +94,17 @@ one_outcome program method arguments limits o p a b =
     let end : a.end ≡ b.end = one_end program a.task.state a.steps b.steps a.end b.end a.left b.left a.ends ends in
     one_told program.classes a.end o p a.told (subst (λ (e : End). IsTold program.classes e p) (sym end) b.told)
 
-pub only_ran : {E : Type 0} (program : Links) (method : MethodId) (arguments : List Value) (limits : Limits) (o p : RunOutcome) (P : E → Type 0)
-    → Runs program method arguments limits o → Runs program method arguments limits p → OnlyGives o P (Ok p)
-only_ran program method arguments limits o p P a b = one_outcome program method arguments limits p o b a
+-- and gives no other, unless memory runs out
+pub only_ran : (program : Links) (method : MethodId) (arguments : List Value) (limits : Limits) (outcome : RunOutcome) (r : Result RunOutcome Refusal)
+    → IfOk r (Runs program method arguments limits) → IfErr r (λ e. e ≡ refusal.Memory) → Runs program method arguments limits outcome → OnlyGives outcome IsOutOfMemory r
+only_ran program method arguments limits outcome (Ok o) ran out runs = one_outcome program method arguments limits o outcome ran runs
+only_ran program method arguments limits outcome (Err e) ran out runs = subst IsOutOfMemory (sym out) tt
 
-finds_nothing : (program : Links) (class text : List ℕ) (holder : ClassId) (index : ℕ) (method : MethodId) → number_of program.classes class ≡ Some holder
-    → IsParenthesisAt text index → NamesSplit program.classes holder text index (Some method) → (other : ClassId) → number_of program.classes class ≡ Some other
-    → NamesNoneBefore program.classes other text (length text) → ⊥
-finds_nothing program class text holder index method at opens split other also nothing =
-    let holders : Some other ≡ Some holder = sym also ∙ at in
-    let same : other ≡ holder = cc in
-    let none = subst (λ (h : ClassId). NamesNoneBefore program.classes h text (length text)) same nothing in
-    named_not_before program.classes holder text (length text) index method none (slice_get_within text index 40 opens) opens split
-
-one_first : (classes : List Class) (class : ClassId) (text : List ℕ) (i j : ℕ) (m n : MethodId) → IsParenthesisAt text i → NamesSplit classes class text i (Some m)
-    → NamesNoneBefore classes class text i → IsParenthesisAt text j → NamesSplit classes class text j (Some n) → NamesNoneBefore classes class text j → Some m ≡ Some n
-one_first classes class text i j m n opens split none opens2 split2 none2 =
-    elim (before i j) [
-      | inl less ↦ absurd (named_not_before classes class text j i m none2 less opens split)
-      | inr least ↦
-          elim (before j i) [
-            | inl less ↦ absurd (named_not_before classes class text i j n none less opens2 split2)
-            | inr most ↦
-                let same : i ≡ j = omega (arith, least, most) in
-                one_split classes class text j (Some m) (Some n) (subst (λ (k : ℕ). NamesSplit classes class text k (Some m)) same split) split2
-          ]
-    ]
-
--- a text names one method
-one_named : (program : Links) (class text : List ℕ) (a b : Option MethodId) → NamesMethod program class text a → NamesMethod program class text b → a ≡ b
-one_named program class text a b (no_class none) (no_class too) = refl
-one_named program class text a b (no_class none) (no_method holder at nothing) = refl
-one_named program class text a b (no_class none) (first_split holder index method at opens split first) = absurd (some_none (sym at ∙ none))
-one_named program class text a b (no_method holder at nothing) (no_class none) = refl
-one_named program class text a b (no_method holder at nothing) (no_method holder2 at2 nothing2) = refl
-one_named program class text a b (no_method holder at nothing) (first_split holder2 index method at2 opens split first) =
-    absurd (finds_nothing program class text holder2 index method at2 opens split holder at nothing)
-one_named program class text a b (first_split holder index method at opens split first) (no_class none) = absurd (some_none (sym at ∙ none))
-one_named program class text a b (first_split holder index method at opens split first) (no_method holder2 at2 nothing) =
-    absurd (finds_nothing program class text holder index method at opens split holder2 at2 nothing)
-one_named program class text a b (first_split holder index method at opens split first) (first_split holder2 index2 method2 at2 opens2 split2 first2) =
-    let holders : Some holder ≡ Some holder2 = sym at ∙ at2 in
-    let same : holder ≡ holder2 = cc in
-    let here = subst (λ (h : ClassId). NamesSplit program.classes h text index (Some method)) same split in
-    let none = subst (λ (h : ClassId). NamesNoneBefore program.classes h text index) same first in
-    one_first program.classes holder2 text index index2 method method2 opens here none opens2 split2 first2
-
--- the files make one program
-pub one_program : (files : List ClassBytes) (p q : Links) → IsProgram files p → IsProgram files q → p ≡ q
-one_program files p q a b =
-    let same : a.classes ≡ b.classes = one_list files a.classes b.classes a.spelled b.spelled in
-    let has = subst (λ (cs : List ClassFile). HasClasses cs p.classes) same a.set in
-    one_linking p q a.linked b.linked (one_set b.classes p.classes q.classes has b.set a.linked.set b.linked.set)
-
--- class sets of the files are that of their program
-pub same_set : (files : List ClassBytes) (read : List ClassFile) (set : List Class) (program : Links) → AreSpelled files read → HasClasses read set → IsClassSet set
-    → IsProgram files program → set ≡ program.classes
-same_set files read set program spelled has whole is =
-    let same : read ≡ is.classes = one_list files read is.classes spelled is.spelled in
-    one_set is.classes set program.classes (subst (λ (cs : List ClassFile). HasClasses cs set) same has) is.set whole is.linked.set
+-- nor does it run then
+pub out_ran : (program : Links) (method : MethodId) (arguments : List Value) (limits : Limits) (r : Result RunOutcome Refusal)
+    → IfErr r (λ e. e ≡ refusal.Memory) → IfErr r (IsNotRun program method arguments limits)
+out_ran program method arguments limits (Ok o) out = tt
+out_ran program method arguments limits (Err e) out = subst (IsNotRun program method arguments limits) (sym out) tt
 
 -- the method that is looked for is the one that runs
 pub only_run : (files : List ClassBytes) (class text : List ℕ) (arguments : List Value) (limits : Limits) (program : Links) (method : MethodId) (outcome : RunOutcome)
@@ -223,3 +127,10 @@ not_absent files class text arguments limits program outcome is none run =
     let same : run.program ≡ program = one_program files run.program program run.is_program is in
     let found : NamesMethod program class text (Some run.method) = subst (λ (p : Links). NamesMethod p class text (Some run.method)) same run.named in
     some_none (one_named program class text (Some run.method) None found none)
+
+-- so it is found, unless memory runs out
+pub found_out : (files : List ClassBytes) (class text : List ℕ) (arguments : List Value) (limits : Limits) (program : Links) (outcome : RunOutcome) → IsProgram files program
+    → IsRun files class text arguments limits outcome → (r : Refusal) → IsNotFound program class text r → IsOutOfMemory r
+found_out files class text arguments limits program outcome is run (refusal.Start fault) why = absurd (not_absent files class text arguments limits program outcome is why.1 run)
+found_out files class text arguments limits program outcome is run refusal.Memory why = tt
+found_out files class text arguments limits program outcome is run r why = absurd why

@@ -18,7 +18,7 @@ use Rattle.vm_run.specs.declared.outcome.Outcome.TheVariants as outcome
 use Rattle.sp_runs.specs.Going.{Reaches, same, step}
 use Rattle.sp_runs.specs.InSpace.{EndsAs, Grows, begins, steps}
 use Rattle.sp_runs.specs.Outcomes.{IsNamed}
-use Rattle.sp_runs.specs.declared.running.RunOutcome.{RunOutcome}
+use Rattle.sp_files.specs.declared.outcome.RunOutcome.{RunOutcome}
 use Rattle.sp_runs.proofs.Only.{one_thrown}
 use Rattle.sp_runs.proofs.SpaceEnds.{untold, untold-told}
 

@@ -36,24 +36,15 @@ use Rattle.vm_run.specs.declared.fault.StartFault.TheVariants as fault
 use Rattle.vm_run.specs.declared.limits.Limits.{Limits}
 use Rattle.vm_run.specs.declared.outcome.Outcome.{Outcome}
 use Rattle.vm_run.proofs.Refused.{refused, starts}
-use Rattle.sp_runs.specs.Going.{GoesOn, refusal_at}
+use Rattle.sp_runs.specs.Going.{GoesOn, refusal_at, setting_of}
 use Rattle.sp_runs.specs.InSpace.{EndsAs, RunsInSpace, begins}
-use Rattle.sp_runs.specs.Only.{IsOutOfMemory}
+use Rattle.sp_files.specs.Only.{IsOutOfMemory}
 use Rattle.sp_runs.specs.Outcomes.{IsNamed}
 use Rattle.sp_runs.specs.Runs.{IsNotRunInSpace}
-use Rattle.sp_runs.specs.declared.running.RunOutcome.{RunOutcome}
+use Rattle.sp_files.specs.declared.outcome.RunOutcome.{RunOutcome}
 use Rattle.sp_runs.proofs.SpaceOnly.{first-unrefused, grows-reached, one-name}
 
 -- ---- the setting
-
--- a space of a program's classes, with this id and these limits
-abbrev pub setting_of : Links → Uuid → Limits → Setting
-setting_of program id limits = record {
-  classes = classes_of program;
-  id = id;
-  digest = [];
-  limits = record { heap = limits.heap_words; stack = limits.stack_words; references = limits.references; fuel = limits.fuel };
-}
 
 pub its-limits : (program : Links) (id : Uuid) (limits : Limits) → AreLimits (setting_of program id limits) limits
 its-limits program id limits = record { heap = refl; stack = refl; references = refl; fuel = refl }

@@ -1,13 +1,14 @@
 -- A task that was started and run to its end is a whole run of the tagged machine.
 use Rattle.std.proofs.Common.{◌≡◌, ◌∙◌, ℕ, ℤ, Bool, true, false, List, ap, sym, subst, arith, Some}
-use Rattle.std.specs.Prelude.{MatchBool, Ok, length, nat_le}
+use Rattle.std.specs.Prelude.{Err, IfOk, MatchBool, Ok, Result, length, nat_le}
 use Rattle.cls_link.specs.Links.{Links}
 use Rattle.cls_link.specs.declared.linked_code.MethodId.{MethodId}
 use Rattle.cls_set.specs.declared.class.Class.{Class}
+use Rattle.sp_runs.specs.OfProgram.{IsEndOf}
 use Rattle.sp_runs.specs.Outcomes.{IsNamed, IsTold, ThrewClass}
 use Rattle.sp_runs.specs.Runs.{Runs}
-use Rattle.sp_runs.specs.declared.running.RunOutcome.{RunOutcome}
-use Rattle.sp_runs.specs.declared.running.RunOutcome.TheVariants as told
+use Rattle.sp_files.specs.declared.outcome.RunOutcome.{RunOutcome}
+use Rattle.sp_files.specs.declared.outcome.RunOutcome.TheVariants as told
 use Rattle.uuid.specs.Parts.{zero_bytes}
 use Rattle.space_ids.specs.declared.value.Value.{Value}
 use Rattle.space_ids.specs.declared.value.Value.TheVariants as value
@@ -69,3 +70,11 @@ whole_run program method arguments limits task steps o named start never within 
       fuel = omega (arith, made-fuel program steps task.state never, left, fuel);
       told = named-IsTold program.classes o named name is.end is.tells;
     }
+
+-- so it is if the outcome is told of the state where it ended
+pub whole_end : {E : Type 0} (program : Links) (method : MethodId) (arguments : List Value) (limits : Limits) (task : Tasked) (steps : ℕ)
+    → started program zero_bytes method arguments limits ≡ Ok task → IsNeverStuck program task.state → ((k : ℕ) → KeepsWithin program (run program k task.state))
+    → fuel_left task.state ≡ limits.fuel → (r : Result RunOutcome E) → IfOk r (IsEndOf program (run program steps task.state)) → IfOk r (Runs program method arguments limits)
+whole_end program method arguments limits task steps start never within fuel (Ok told) end =
+    whole_run program method arguments limits task steps end.0 told start never within fuel end.1 end.2
+whole_end program method arguments limits task steps start never within fuel (Err e) end = tt

@@ -13,11 +13,13 @@ use Rattle.sp_rules.specs.Space.{state_of}
 use Rattle.sp_rules.specs.State.{Living, task_at}
 use Rattle.sp_rules.specs.Worlds.{step_events}
 use Rattle.sp_runs.specs.InSpace.{EndsAs, Grows}
-use Rattle.sp_runs.specs.declared.refusal.Refusal.{Refusal}
-use Rattle.sp_runs.specs.declared.refusal.Refusal.TheVariants as refusal
+use Rattle.sp_files.specs.declared.refusal.Refusal.{Refusal}
+use Rattle.sp_files.specs.declared.refusal.Refusal.TheVariants as refusal
 use Rattle.sp_space.specs.Spaces.{IsSpace, grown}
 use Rattle.sp_space.specs.declared.space.Space.{Space}
+use Rattle.uuid.specs.declared.Uuid.{Uuid}
 use Rattle.vm_run.specs.declared.fault.StartFault.TheVariants as start
+use Rattle.vm_run.specs.declared.limits.Limits.{Limits}
 use Rattle.vm_run.specs.declared.outcome.Outcome.{Outcome}
 
 -- A history that steps lead to, each of the lowest ready task.
@@ -55,3 +57,12 @@ refusal_at (core.Start core_start.BadSignature) = refusal.Start start.BadSignatu
 refusal_at (core.Start core_start.BadArgument) = refusal.Start start.BadArgument
 refusal_at core.NotHeld = refusal.Start start.BadArgument
 refusal_at _ = refusal.Memory
+
+-- a space of a program's classes, with this id and these limits
+abbrev pub setting_of : Links → Uuid → Limits → Setting
+setting_of program id limits = record {
+  classes = classes_of program;
+  id = id;
+  digest = [];
+  limits = record { heap = limits.heap_words; stack = limits.stack_words; references = limits.references; fuel = limits.fuel };
+}

@@ -14,7 +14,7 @@ use Rattle.sp_rules.specs.Space.{state_of}
 use Rattle.sp_rules.specs.State.{Living, task_at}
 use Rattle.sp_rules.specs.Worlds.{step_events}
 use Rattle.sp_runs.specs.Outcomes.{IsNamed}
-use Rattle.sp_runs.specs.declared.running.RunOutcome.{RunOutcome}
+use Rattle.sp_files.specs.declared.outcome.RunOutcome.{RunOutcome}
 use Rattle.sp_space.specs.Spaces.{AreLimits, answers_to, grown}
 use Rattle.uuid.specs.Parts.{zero_bytes}
 use Rattle.vm_run.specs.declared.limits.Limits.{Limits}

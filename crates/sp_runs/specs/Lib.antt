@@ -3,3 +3,4 @@ pub mod InSpace
 pub mod Runs
 pub mod Only
 pub mod Going
+pub mod OfProgram

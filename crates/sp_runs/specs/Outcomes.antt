@@ -2,8 +2,8 @@
 use Rattle.std.specs.Prelude.{◌≡◌, ℕ, MatchBool, Some, None, List, length, nat_le}
 use Rattle.cls_set.specs.Classes as sets
 use Rattle.cls_set.specs.declared.class.Class.{Class}
-use Rattle.sp_runs.specs.declared.running.RunOutcome.{RunOutcome}
-use Rattle.sp_runs.specs.declared.running.RunOutcome.TheVariants as told
+use Rattle.sp_files.specs.declared.outcome.RunOutcome.{RunOutcome}
+use Rattle.sp_files.specs.declared.outcome.RunOutcome.TheVariants as told
 use Rattle.space_ids.specs.declared.ids.ClassId.{ClassId}
 use Rattle.space_ids.specs.declared.value.Value.TheVariants as value
 use Rattle.vm_act.specs.Crossing.{most_elements}

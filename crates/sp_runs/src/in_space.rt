@@ -1,24 +1,27 @@
 //! A method that runs as the only root of a space.
 
-ghost use Rattle.std.specs.Prelude.{◌≡◌, true, false, List, Option, IfOk, IfErr, map};
+ghost use Rattle.std.specs.Prelude.{◌≡◌, [], true, false, List, Option, IfOk, IfErr, map};
 ghost use Rattle.sp_behaviours.specs.Behaviours.{told as told_to_space};
 ghost use Rattle.sp_classes.specs.Classes.{classes_of};
 ghost use Rattle.sp_core.specs.Events.{output_of};
 ghost use Rattle.sp_rules.specs.Classes.{Setting};
 ghost use Rattle.sp_rules.specs.Events.{Event};
-ghost use Rattle.sp_space.specs.Spaces.{RunsOn};
+ghost use Rattle.sp_space.specs.Spaces.{IsSpace, RunsOn};
 ghost use Rattle.sp_tasks.specs.Behaviours.{outcome_of};
+ghost use Rattle.uuid.specs.Parts.{zero_bytes};
 ghost use Rattle.vm_run.specs.Run.{HasNoRemote};
 ghost use Rattle.vm_run.specs.Task.{IsOfSet};
-ghost use Rattle.sp_runs.specs.Going.{GoesOn, IsGoing, answer_of, refusal_at};
+ghost use Rattle.sp_runs.specs.Going.{GoesOn, IsGoing, answer_of, refusal_at, setting_of};
 ghost use Rattle.sp_runs.specs.InSpace.{EndsAs, RunsInSpace};
-ghost use Rattle.sp_runs.specs.Only.{IsOutOfMemory, OnlyGives};
-ghost use Rattle.sp_runs.specs.Runs.{IsNotRunInSpace, IsProgram};
+ghost use Rattle.sp_files.specs.Only.{IsOutOfMemory};
+ghost use Rattle.sp_runs.specs.Only.{OnlyGives};
+ghost use Rattle.sp_runs.specs.Runs.{IsNotRunInSpace};
+ghost use Rattle.sp_files.specs.Programs.{IsProgram};
 
-use crate::Refusal;
-use crate::running::{ClassBytes, RunOutcome, named};
+use crate::running::named;
 use sp_classes::SpaceClasses;
 use sp_core::{CoreFault, Output};
+use sp_files::{ClassBytes, Refusal, RunOutcome};
 use sp_set_laws::sets::spaces_run_on_sets;
 use sp_space::Space;
 use space_ids::{ClassId, Uuid, Value};
@@ -68,6 +71,25 @@ pub fn run_in_space(
 {
     spaces_run_on(program);
     let mut space = Space::new(alloc, Uuid::nil(), limits)?;
+    run_root(program, &mut space, method, arguments, limits)
+}
+
+// Runs the method as the first root of a space of id 0 with these limits. The space is lent here, so that one function
+// lets it go.
+fn run_root(
+    program: &Program,
+    space: &mut Space,
+    method: MethodId,
+    arguments: Vec<Value>,
+    limits: Limits,
+) -> Result<RunOutcome, Refusal>
+    requires { IsSpace program.now (setting_of program.now zero_bytes limits) [] space.old }
+    ensures run { IfOk result (RunsInSpace program.now method arguments.items limits) }
+    ensures refused { IfErr result (IsNotRunInSpace program.now method arguments.items limits) }
+    ensures only { (outcome : RunOutcome)
+        → RunsInSpace program.now method arguments.items limits outcome
+        → OnlyGives outcome IsOutOfMemory result }
+{
     match space.root(program, method, arguments, limits.fuel) {
         Ok(_) => {}
         Err(fault) => return Err(refusal_of(fault)),
@@ -77,15 +99,14 @@ pub fn run_in_space(
 }
 
 // Lets the only task of a space go on to its end, and returns how it ended. It has this fuel.
-fn play(program: &Program, space: Space, fuel: u64) -> Result<Outcome, Refusal>
-    requires { IsGoing program.now fuel space }
-    ensures ends { IfOk result (λ outcome. (g : Setting) (first : Event) → GoesOn program.now g first fuel space → EndsAs g first outcome) }
-    ensures only { IfOk result (λ outcome. (g : Setting) (first : Event) → GoesOn program.now g first fuel space → (end : Outcome) → EndsAs g first end → end ≡ outcome) }
+fn play(program: &Program, space: &mut Space, fuel: u64) -> Result<Outcome, Refusal>
+    requires { IsGoing program.now fuel space.old }
+    ensures ends { IfOk result (λ outcome. (g : Setting) (first : Event) → GoesOn program.now g first fuel space.old → EndsAs g first outcome) }
+    ensures only { IfOk result (λ outcome. (g : Setting) (first : Event) → GoesOn program.now g first fuel space.old → (end : Outcome) → EndsAs g first end → end ≡ outcome) }
     ensures of_set { IfOk result (IsOfSet program.now.classes) }
     ensures refused { IfErr result (λ refusal. refusal ≡ Refusal.Memory) }
 {
     let classes = SpaceClasses { program };
-    let mut space = space;
     let mut left = fuel;
     loop {
         let Ok(outputs) = space.step(program, &classes) else {

@@ -1,14 +1,8 @@
-//! From the bytes of class files to how methods end: programs, methods that run alone, and methods that run
-//! in a space.
+//! Methods of class files that run: alone, or in a space.
 #![tactic(auto)]
 
 pub use in_space::run_in_space;
-pub use refusal::Refusal;
-pub use running::{
-    ClassBytes, Content, RunOutcome, check_classes, find_named, program_of, run_classes,
-};
-pub use vm_run::{Limits, Program, StartFault};
+pub use running::run_classes;
 
 mod in_space;
-mod refusal;
 mod running;

@@ -1,7 +1,7 @@
 use Rattle.std.proofs.Common.{◌∙◌, subst, sym}
 use Rattle.std.proofs.lemmas.Result.{IfOk-at_ok}
 use Rattle.sp_main.specs.Folders.{AreFilesOf, told_by}
-use Rattle.sp_main.specs.RefusalTexts.{IsRefusalOf}
+use Rattle.sp_texts.specs.RefusalTexts.{IsRefusalOf}
 use Rattle.sp_main.proofs.Refused.{no_program_file}
 use Rattle.sp_main.proofs.Replied.{accepted_checked, refusal_checked, unreadable_checked}
 use Rattle.sp_main.proofs.entry.check_report.Goals as goal

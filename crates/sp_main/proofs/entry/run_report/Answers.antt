@@ -1,9 +1,9 @@
 use Rattle.std.proofs.Common.{◌≡◌, ◌∙◌, rules, subst, sym}
 use Rattle.std.proofs.lemmas.Result.{IfOk-at_ok}
 use Rattle.sp_main.specs.Folders.{AreFilesOf, told_by}
-use Rattle.sp_main.specs.RefusalTexts.{IsRefusalOf}
+use Rattle.sp_texts.specs.RefusalTexts.{IsRefusalOf}
 use Rattle.sp_main.specs.Replies.{limits_of}
-use Rattle.sp_main.specs.Requests.{run_words}
+use Rattle.sp_words.specs.Requests.{run_words}
 use Rattle.sp_main.proofs.Refused.{refused_file}
 use Rattle.sp_main.proofs.Replied.{refusal_replied, run_replied, unreadable_replied}
 use Rattle.sp_main.proofs.entry.run_report.Goals as goal

@@ -1,8 +1,8 @@
 use Rattle.std.proofs.Common.{◌∙◌, subst, sym}
 use Rattle.std.proofs.lemmas.Result.{IfOk-at_ok}
 use Rattle.sp_main.specs.Folders.{AreFilesOf, told_by}
-use Rattle.sp_main.specs.RefusalTexts.{IsRefusalOf}
-use Rattle.sp_main.specs.Requests.{sim_words}
+use Rattle.sp_texts.specs.RefusalTexts.{IsRefusalOf}
+use Rattle.sp_words.specs.Requests.{sim_words}
 use Rattle.sp_main.proofs.Refused.{no_program_file, without_program}
 use Rattle.sp_main.proofs.Replied.{played_simulated, refusal_simulated, unreadable_simulated}
 use Rattle.sp_main.proofs.entry.sim_report.Goals as goal

@@ -1,0 +1,4 @@
+pub mod Files
+pub mod Programs
+pub mod Names
+pub mod Only

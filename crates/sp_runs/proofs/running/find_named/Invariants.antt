@@ -1,6 +1,0 @@
-use Rattle.sp_runs.specs.Runs.{NamesNoneBefore}
-use Rattle.sp_runs.proofs.running.find_named.Given as goal
-
--- no split so far names a method
-abbrev pub invariant-loop-index : goal.invariant-loop-index
-invariant-loop-index l = NamesNoneBefore l.linked.classes l.class l.text l.index

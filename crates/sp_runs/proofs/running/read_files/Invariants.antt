@@ -1,7 +1,0 @@
-use Rattle.std.specs.Prelude.{take}
-use Rattle.sp_runs.specs.Runs.{AreSpelled}
-use Rattle.sp_runs.proofs.running.read_files.Given as goal
-
--- the files so far spell the class files so far
-abbrev pub invariant-loop-index : goal.invariant-loop-index
-invariant-loop-index l = AreSpelled (take l.index l.files) l.classes.items

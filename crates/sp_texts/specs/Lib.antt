@@ -1,0 +1,4 @@
+pub mod Statuses
+pub mod Reports
+pub mod Texts
+pub mod RefusalTexts
