@@ -11,7 +11,7 @@ from edit_text import FOLDERS, public_text
 from kit import rt
 
 OWN = ("src", "specs", "proofs", *FOLDERS)
-TOOLS = ("edits", "edit_text.py", "kit.py", "stamps.py")
+TOOLS = ("edits", "edit_text.py", "kit.py", "only.py", "stamps.py")
 CITED = re.compile(r"\bRattle\.(\w+)\.proofs\.([\w.+]+)")
 
 
@@ -73,8 +73,7 @@ def stamp(crate, root):
 
 
 class Lines:
-    """A file of lines, a crate's name and a word each: .ci/tried with the stamp of the last full trial in which all its edits were refused, and
-    .ci/out/seconds with the time that its proof took."""
+    """A file of lines, a crate's name and a word each: .ci/tried with the stamp of the last full trial in which all its edits were refused."""
 
     def __init__(self, file):
         self.file = file
