@@ -6,7 +6,8 @@
 | `folder` | begins a new, empty folder |
 | `with FILE` | plays the lines of this file, which stands beside the rows |
 | `file PATH sum`, `file PATH empty`, `file PATH zeros N` | adds a file: the class T of examples/sum, no bytes, or N zeros |
-| `file PATH absent`, `file PATH torn` | adds a file that is listed and cannot be opened, or one that is opened and whose device fails: a link to nothing, or to a folder |
+| `file PATH absent` | adds a file that is listed and cannot be opened: a link to nothing |
+| `torn` | the device of the last file fails after its bytes |
 | `class PATH NAME` | adds a class file. The lines below it are what its bytes say, for the reader |
 | `flags`, `extends`, `implements`, `field`, `abstract`, `method`, `code`, `\\| LINE` | the flags of that class, its superclass, its superinterfaces and members, and the code of a method, as `javap` shows it |
 | `bytes HEX` | adds bytes to that file |
@@ -36,7 +37,7 @@ import sys
 TOP = pathlib.Path(__file__).resolve().parent.parent
 SUM = TOP / "examples" / "sum" / "T.class"
 # What a file of a folder can be in place of its bytes.
-ABSENT, TORN = "absent", "torn"
+ABSENT = "absent"
 OF_A_CLASS = {"flags", "extends", "implements", "field", "abstract", "method", "code", "|"}
 
 
@@ -55,6 +56,7 @@ class Run:
     files: dict | None = None
     made: list | None = None
     room: int | None = None
+    torn: str | None = None
     owed: dict = dataclasses.field(default_factory=lambda: {"out": "", "err": "", "status": ""})
 
     def answer(self):
@@ -67,7 +69,7 @@ class Run:
             at = folder / path
             at.parent.mkdir(parents=True, exist_ok=True)
             if isinstance(content, str):
-                at.symlink_to("nothing" if content == ABSENT else folder)
+                at.symlink_to("nothing")
             else:
                 at.write_bytes(content)
         if self.made:
@@ -83,7 +85,7 @@ class Rows:
 
     def begin_folder(self):
         """Begins an empty folder."""
-        self.files, self.made, self.last, self.is_script = {}, None, None, False
+        self.files, self.made, self.last, self.is_script, self.torn = {}, None, None, False, None
 
     def read(self):
         """Returns the runs of all rows. Ends the process at a line that is no row."""
@@ -125,6 +127,8 @@ class Rows:
             self.begin(rest, b"", is_script=True)
         elif kind == "|":
             self.add_line(rest)
+        elif kind == "torn":
+            self.torn = self.last
         elif kind not in OF_A_CLASS:
             self.files[self.last] = self.changed(self.files[self.last], kind, rest.split(" "), rest)
 
@@ -134,14 +138,14 @@ class Rows:
             room, _, rest = rest.partition(" ")
             room = int(room)
         files = None if kind == "@" else dict(self.files)
-        self.runs.append(Run(where, rest.split(" "), files, self.made, room))
+        self.runs.append(Run(where, rest.split(" "), files, self.made, room, self.torn))
 
     def begin(self, path, content, is_script=False):
         self.files[path] = content
         self.last, self.is_script = path, is_script
 
     def begin_file(self, path, kind, *count):
-        contents = {"empty": lambda: b"", "zeros": lambda: bytes(int(count[0])), "sum": SUM.read_bytes, ABSENT: lambda: ABSENT, TORN: lambda: TORN}
+        contents = {"empty": lambda: b"", "zeros": lambda: bytes(int(count[0])), "sum": SUM.read_bytes, ABSENT: lambda: ABSENT}
         self.begin(path, contents[kind]())
 
     def add_line(self, text):
