@@ -29,7 +29,10 @@ pub fn copy_value(alloc: Global, value: &Value) -> Result<Value, AllocError>
     match value {
         Value::Null => Ok(Value::Null),
         Value::Int(number) => Ok(Value::Int(*number)),
-        Value::Ints(elements) => Ok(Value::Ints(Row::new(elements.as_slice().to_vec(alloc)?))),
+        Value::Ints(elements) => {
+            let copy = Vec::from_slice(alloc, elements.as_slice())?;
+            Ok(Value::Ints(Row::new(copy)))
+        }
         Value::Ref(reference) => Ok(Value::Ref(*reference)),
     }
 }
@@ -38,7 +41,7 @@ pub fn copy_value(alloc: Global, value: &Value) -> Result<Value, AllocError>
 pub fn copy_values(alloc: Global, values: &[Value]) -> Result<Vec<Value>, AllocError>
     ensures { IfOk result (λ copies. copies.items ≡ values.now) }
 {
-    let mut copies = Vec::new(alloc);
+    let mut copies = Vec::with_capacity(alloc, values.len())?;
     for value in values {
         copies.push(copy_value(alloc, value)?)?;
     }
