@@ -35,7 +35,7 @@ length-reference : (r : Ref) → length r.space ≡ 16 → length (reference_byt
 unfolding reference_bytes
 length-reference r e = omega (arith, length-append r.space (id_bytes r.id ++ class_bytes r.class), length-append (id_bytes r.id) (class_bytes r.class), length-id r.id, length-class r.class)
 
-length-ints : (ns : List ℤ) → length (flat_map int_bytes ns) ≡ 4 * length ns
+pub length-ints : (ns : List ℤ) → length (flat_map int_bytes ns) ≡ 4 * length ns
 length-ints [] = refl
 length-ints (n ∷ ns) = omega (arith, length-append (int_bytes n) (flat_map int_bytes ns), length-int n, length-ints ns)
 

@@ -45,5 +45,5 @@ pub fn encode(alloc: Global, frame: &Frame) -> Result<Vec<u8>, WireError>
     }
     let mut out = BytesMut::with_capacity(alloc, 4 + length)?;
     frame.append_to(&mut out);
-    Ok(out.into_vec()?)
+    Ok(Vec::from_slice(alloc, out.as_slice())?)
 }

@@ -96,9 +96,9 @@ fn put_each_int(out: &mut BytesMut, ints: &[i32])
     ensures items { out.new.items ≡ out.old.items ++ flat_map int_bytes ints.now }
     ensures spare { out.new.spare + 4 * length ints.now ≡ out.old.spare }
 {
-    for int in ints {
-        put_int(out, *int);
-    }
+    let start = out.len();
+    out.advance_mut(4 * ints.len());
+    BigEndian::write_i32_into(ints, &mut out.as_mut_slice()[start..]);
 }
 
 fn put_ints(out: &mut BytesMut, ints: &[i32])

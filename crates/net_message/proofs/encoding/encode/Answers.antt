@@ -6,5 +6,5 @@ pub returns-clause-ok : goal.returns-clause-ok
 returns-clause-ok c = record {
   in_range = c.append_to.ensures.in_range;
   short = omega arith;
-  spelled = c.in_ok-into_vec.ensures.ok ∙ c.append_to.ensures.items ∙ ap (λ old. old ++ wire.frame c.args.frame.now) c.in_ok-out.ensures.items;
+  spelled = c.in_ok-from_slice.ensures.items ∙ c.as_slice.ensures ∙ c.append_to.ensures.items ∙ ap (λ old. old ++ wire.frame c.args.frame.now) c.in_ok-out.ensures.items;
 }
