@@ -1,4 +1,5 @@
 pub mod Loop
+pub mod Ints
 pub mod FieldLaws
 pub mod ValueLaws
 pub mod MessageLaws

@@ -149,13 +149,14 @@ fn ints_of(alloc: Global, bytes: &[u8]) -> Result<(Row<i32>, &[u8]), WireError>
 fn counted_ints(alloc: Global, count: u32, bytes: &[u8]) -> Result<(Vec<i32>, &[u8]), WireError>
     ensures { Gives (λ x. (x.0.items, x.1.now)) result (items_at int_at count bytes.now) }
 {
-    let mut ints = Vec::new(alloc);
-    let mut rest = bytes;
-    for _ in 0..count {
-        let (int, after) = int_of(rest)?;
-        ints.push(int)?;
-        rest = after;
+    let count = count as usize;
+    if bytes.len() / 4 < count {
+        return Err(WireError::Fault(WireFault::Body));
     }
+    let (front, rest) = bytes.split_at(4 * count);
+    let mut ints = Vec::new(alloc);
+    ints.resize(count, 0)?;
+    BigEndian::read_i32_into(front, ints.as_mut_slice());
     Ok((ints, rest))
 }
 

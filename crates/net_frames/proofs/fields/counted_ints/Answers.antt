@@ -1,19 +1,20 @@
-use Rattle.std.specs.Int.{w32}
-use Rattle.std.proofs.lemmas.Int.{to_z-of_z}
-use Rattle.std.proofs.lemmas.Result.{err_from_is_err_and}
+use Rattle.std.proofs.Common.{◌≡◌, ◌++◌, length, take, drop, Ok, sym, ◌∙◌, arith}
+use Rattle.std.proofs.lemmas.List.{take_at}
 use Rattle.net_frames.specs.Reading.{items_at, int_at}
-use Rattle.net_frames.proofs.Loop.{goes_on, ends, is_done}
+use Rattle.net_frames.proofs.Ints.{too_few, all_read}
 use Rattle.net_frames.proofs.fields.counted_ints.Goals as goal
 
-pub returns-in_err-int : goal.returns-in_err-int
-returns-in_err-int c =
-    let p = err_from_is_err_and c.from_residual.result c.from_residual.ensures.1 in
-    rw (p.1, p.2) (ends int_at c.in_err-int.field-0.0 c.loop.ints.items c.args.count c.loop.counter c.loop.rest.now (items_at int_at c.args.count c.args.bytes.now) c.loop-test.true c.in_err-int.ensures.read c.loop.invariant)
+pub returns-then-bytes-count : goal.returns-then-bytes-count
+returns-then-bytes-count c = too_few c.args.count c.args.bytes.now (omega (arith, c.if-bytes-count.true))
 
 pub returns : goal.returns
-returns c = is_done int_at c.loop.ints.items c.args.count c.loop.counter c.loop.rest.now (items_at int_at c.args.count c.args.bytes.now) c.loop-test.false c.loop.invariant
-
-pub loop-preserved : goal.loop-preserved
-loop-preserved c =
-    rw (c.in_ok-push.ensures.items, to_z-of_z w32 c.in_ok-int.int c.in_ok-int.ensures.range)
-    (goes_on int_at c.loop.ints.items c.args.count c.loop.counter c.loop.rest.now c.in_ok-int.int c.in_ok-int.after.now (items_at int_at c.args.count c.args.bytes.now) c.loop-test.true c.in_ok-int.ensures.read c.loop.invariant)
+returns c =
+    let ints = c.read_i32_into.new.dst in
+    let room : c.resize.new.self.len ≡ c.args.count = c.in_ok-resize.ensures.len in
+    let many : length ints ≡ c.args.count = omega (arith, c.read_i32_into.auto.dst, c.as_mut_slice.ensures.len, room) in
+    let whole : c.args.bytes.now ≡ c.split_at.result.0.now ++ c.split_at.result.1.now = c.split_at.ensures.by_index.0 in
+    let all : take c.resize.new.self.len (ints ++ drop (length ints) c.resize.new.self.items) ≡ ints =
+    take_at ints (drop (length ints) c.resize.new.self.items) c.resize.new.self.len (omega (arith, many, room)) in
+    (λ i. items_at int_at (sym many i) (whole i))
+    ∙ all_read ints c.split_at.result.0.now c.split_at.result.1.now (omega (arith, c.split_at.ensures.front_len, many)) c.read_i32_into.ensures
+    ∙ (λ i. Ok (sym all i, c.split_at.result.1.now))
