@@ -86,12 +86,12 @@ pub fn copy_message(alloc: Global, message: &Message) -> Result<Message, AllocEr
 fn copy_ids(alloc: Global, ids: &[ObjId]) -> Result<Row<ObjId>, AllocError>
     ensures { IfOk result (λ copy. copy ≡ ids.now) }
 {
-    Ok(Row::new(ids.to_vec(alloc)?))
+    Ok(Row::new(Vec::from_slice(alloc, ids)?))
 }
 
 /// Returns a copy of the bytes of a name, or out of memory.
 pub fn copy_name(alloc: Global, name: &[u8]) -> Result<Row<u8>, AllocError>
     ensures { IfOk result (λ copy. copy ≡ name.now) }
 {
-    Ok(Row::new(name.to_vec(alloc)?))
+    Ok(Row::new(Vec::from_slice(alloc, name)?))
 }
