@@ -1,9 +1,10 @@
 -- The indices at which the words of an object or an array lie in the heap's row.
-use Rattle.std.proofs.Common.{◌≡◌, ℕ, zero, suc, ◌+◌, ◌-◌, ◌<◌, ◌≤◌, List, [], ◌∷◌, ◌++◌, length, map, refl, ap, sym, ◌∙◌, arith, append_assoc, length-append, Option, Some, None, slice_get, slice_set, Bool, true, false, nat_eq, nat_lt}
+use Rattle.std.proofs.Common.{◌≡◌, ℕ, zero, suc, ◌+◌, ◌-◌, ◌<◌, ◌≤◌, List, [], ◌∷◌, ◌++◌, length, map, take, drop, refl, ap, sym, ◌∙◌, arith, append_assoc, length-append, Option, Some, None, slice_get, slice_set, Bool, true, false, nat_eq, nat_lt}
 use Rattle.std.specs.Prelude.{ℤ, pos, replicate, if◌then◌else◌, IsSome, option_and_then}
 use Rattle.space_ids.specs.declared.ids.ClassId.{ClassId}
 use Rattle.vm_heap.specs.declared.heap.WordKind.{WordKind}
 use Rattle.std.proofs.lemmas.Bool.{ltb-false, eqb-true}
+use Rattle.std.proofs.lemmas.List.{drop_at, take_at}
 use Rattle.std.proofs.lemmas.Option.{slice_get_within}
 use Rattle.vm_heap.specs.Tagged.{Tagged, Int, Null, Local, Remote, Fresh, This, Unset, Head, OfClass, OfInts, Length, IsInt, int_of, IsFirstHead, class_of_head}
 use Rattle.vm_heap.specs.Heap.{Cell, Object, Ints, cost, cell_at, changed_at, spelling, spelled, class_of, field_of, field_at, length_of, length_at, element_of, element_at, with_field, with_element, cell_with_field, cell_with_element, all_cost, default}
@@ -61,6 +62,74 @@ cell_word (c ∷ cells) address k cell v e is = at_first (λ found. cell_word ce
         let is' : slice_get (spelling c) k ≡ Some v = rw same is in
         rw there (get-before (spelling c) (spelled cells) k (slice_get_within (spelling c) k v is') ∙ is')
     at_first again false eq found = later again (nat_lt address (cost c)) refl found
+
+-- where the words of a cell lie in the row
+record Lies (cells : List Cell) (address : ℕ) (cell : Cell) : Type 0 where
+  before : List Tagged
+  after : List Tagged
+  row : spelled cells ≡ before ++ (spelling cell ++ after)
+  at : length before ≡ address
+
+lies : (cells : List Cell) (address : ℕ) (cell : Cell) → cell_at cells address ≡ Some cell → Lies cells address cell
+unfolding cell_at spelled
+lies [] address cell e = absurd (cc)
+lies (c ∷ cells) address cell e = at_first (λ found. lies cells (address - cost c) cell found) (nat_eq address 0) refl e
+  where
+    later : (cell_at cells (address - cost c) ≡ Some cell → Lies cells (address - cost c) cell)
+        → (b : Bool) → nat_lt address (cost c) ≡ b → (if b then None else cell_at cells (address - cost c)) ≡ Some cell → Lies (c ∷ cells) address cell
+    later again true lt found = absurd (cc)
+    later again false lt found =
+        let past : cost c ≤ address = ltb-false address (cost c) lt in
+        let rest = again found in
+        record {
+          before = spelling c ++ rest.before;
+          after = rest.after;
+          row = ap (λ (zs : List Tagged). spelling c ++ zs) rest.row ∙ sym (append_assoc (spelling c) rest.before (spelling cell ++ rest.after));
+          at = omega (arith, length-append (spelling c) rest.before, length-spelling c, rest.at);
+        }
+
+    at_first : (cell_at cells (address - cost c) ≡ Some cell → Lies cells (address - cost c) cell)
+        → (b : Bool) → nat_eq address 0 ≡ b → (if b then Some c else (if nat_lt address (cost c) then None else cell_at cells (address - cost c))) ≡ Some cell
+        → Lies (c ∷ cells) address cell
+    at_first again true eq found =
+        let same : c ≡ cell = cc in
+        let none : address ≡ 0 = eqb-true address 0 eq in
+        record { before = []; after = spelled cells; row = ap (λ (x : Cell). spelling x ++ spelled cells) same; at = sym none }
+    at_first again false eq found = later again (nat_lt address (cost c)) refl found
+
+-- the elements of an array lie after its two first words
+pub record Array (cells : List Cell) (address count : ℕ) : Type 0 where
+  pub elements : List ℤ
+  pub is : cell_at cells address ≡ Some (Ints elements)
+  pub read : take count (drop (address + 2) (spelled cells)) ≡ map Int elements
+  pub inside : address + 2 + count ≤ length (spelled cells)
+
+array_at : (cells : List Cell) (address : ℕ) (elements : List ℤ) → cell_at cells address ≡ Some (Ints elements) → Array cells address (length elements)
+unfolding spelling
+array_at cells address elements is =
+    let at = lies cells address (Ints elements) is in
+    let heads : List Tagged = at.before ++ Head OfInts ∷ Head (Length (length elements)) ∷ [] in
+    let row : spelled cells ≡ heads ++ (map Int elements ++ at.after) =
+    at.row ∙ sym (append_assoc at.before (Head OfInts ∷ Head (Length (length elements)) ∷ []) (map Int elements ++ at.after)) in
+    let two : length heads ≡ address + 2 = omega (arith, length-append at.before (Head OfInts ∷ Head (Length (length elements)) ∷ []), at.at) in
+    let long : length (spelled cells) ≡ length heads + (length elements + length at.after) =
+    ap length row ∙ omega (arith, length-append heads (map Int elements ++ at.after), length-append (map Int elements) at.after, length-map Int elements) in
+    record {
+      elements = elements;
+      is = is;
+      read =
+          rw (row, drop_at heads (map Int elements ++ at.after) (address + 2) two)
+          (take_at (map Int elements) at.after (length elements) (length-map Int elements));
+      inside = omega (arith, long, two);
+    }
+
+pub array_lies : (cells : List Cell) (address count : ℕ) → length_at address cells ≡ Some count → Array cells address count
+array_lies cells address count e = of (cell_at cells address) refl e
+  where
+    of : (o : Option Cell) → cell_at cells address ≡ o → option_and_then length_of o ≡ Some count → Array cells address count
+    of None is f = absurd (cc)
+    of (Some (Object c fields)) is f = absurd (cc)
+    of (Some (Ints elements)) is f = let same : length elements ≡ count = cc in rw same at (array_at cells address elements is)
 
 -- a cell of which one word changes
 pub cell_set : (change : Cell → Cell) (cells : List Cell) (address k : ℕ) (cell : Cell) (v : Tagged) → cell_at cells address ≡ Some cell

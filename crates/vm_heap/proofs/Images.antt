@@ -1,7 +1,9 @@
 -- Changes of a row of values under which it stands for the same words, or for the words with the same change.
-use Rattle.std.proofs.Common.{◌≡◌, ℕ, zero, suc, ◌+◌, ◌-◌, ◌<◌, ◌≤◌, List, [], ◌∷◌, ◌++◌, length, map, take, drop, refl, ap, sym, ◌∙◌, arith, Some, get_or, slice_get, slice_set, Bool, true, false, ◌&&◌, nat_eq}
-use Rattle.std.specs.Prelude.{replicate, if◌then◌else◌}
+use Rattle.std.proofs.Common.{◌≡◌, ℕ, zero, suc, ◌+◌, ◌-◌, ◌<◌, ◌≤◌, List, [], ◌∷◌, ◌++◌, length, map, take, drop, refl, ap, sym, ◌∙◌, append_assoc, arith, Some, get_or, slice_get, slice_set, Bool, true, false, ◌&&◌, nat_eq}
+use Rattle.std.specs.Prelude.{ℤ, pos, replicate, if◌then◌else◌}
+use Rattle.std.specs.Int.{w32, cast_signed}
 use Rattle.std.specs.List.{AllZip}
+use Rattle.std.proofs.lemmas.List.{map-append, take_more}
 use Rattle.std.proofs.lemmas.Option.{slice_get-get_or}
 use Rattle.vm_heap.specs.Tagged.{Tagged, Site, HeapAddress, ReferenceRow, Int, Null, Local, Remote, Fresh, This, Unset, Head, IsSiteWord, IsWord, site_eq, object_at, after_init, when_fresh, when_this, as_this, as_fresh}
 use Rattle.vm_heap.specs.Words.{AreWords, after_init_from, forgotten}
@@ -58,6 +60,57 @@ are_words-add values words v w are is = record {
   len = omega (arith, are.len, length-add values v, length-add words w);
   each = each-add values words v w are.each is;
 }
+
+-- one int more and its word added at the end
+pub int_added : (values : List Tagged) (ints : List ℤ) (i : ℕ) (d : ℤ) (words : List ℕ) (w : ℕ) → i < length ints → IsWord (Int (get_or ints i d)) w
+    → AreWords (values ++ map Int (take i ints)) words → AreWords (values ++ map Int (take (i + 1) ints)) (words ++ w ∷ [])
+int_added values ints i d words w lt is are =
+    let n : ℤ = get_or ints i d in
+    let more : values ++ map Int (take (i + 1) ints) ≡ (values ++ map Int (take i ints)) ++ Int n ∷ [] =
+    ap (λ (ns : List ℤ). values ++ map Int ns) (take_more ints i d lt)
+    ∙ ap (λ (vs : List Tagged). values ++ vs) (map-append Int (take i ints) (n ∷ []))
+    ∙ sym (append_assoc values (map Int (take i ints)) (Int n ∷ [])) in
+    rw more (are_words-add (values ++ map Int (take i ints)) words (Int n) w are is)
+
+last_zero : (i : ℕ) → map Int (replicate (suc i) (pos 0)) ≡ map Int (replicate i (pos 0)) ++ Int (pos 0) ∷ []
+last_zero zero = refl
+last_zero (suc i) = ap (λ (vs : List Tagged). Int (pos 0) ∷ vs) (last_zero i)
+
+pub zero_added : (values : List Tagged) (i : ℕ) (words : List ℕ) → AreWords (values ++ map Int (replicate i (pos 0))) words
+    → AreWords (values ++ map Int (replicate (i + 1) (pos 0))) (words ++ 0 ∷ [])
+zero_added values i words are =
+    let next : i + 1 ≡ suc i = omega arith in
+    let more : values ++ map Int (replicate (i + 1) (pos 0)) ≡ (values ++ map Int (replicate i (pos 0))) ++ Int (pos 0) ∷ [] =
+    ap (λ (k : ℕ). values ++ map Int (replicate k (pos 0))) next
+    ∙ ap (λ (vs : List Tagged). values ++ vs) (last_zero i)
+    ∙ sym (append_assoc values (map Int (replicate i (pos 0))) (Int (pos 0) ∷ [])) in
+    rw more (are_words-add (values ++ map Int (replicate i (pos 0))) words (Int (pos 0)) 0 are refl)
+
+-- ints are read from their words
+ints_in : (ints : List ℤ) (words : List ℕ) → AllZip IsWord (map Int ints) words → map (λ bits. cast_signed w32 bits) words ≡ ints
+ints_in [] [] each = refl
+ints_in [] (x ∷ words) each = absurd each
+ints_in (n ∷ ints) [] each = absurd each
+ints_in (n ∷ ints) (x ∷ words) each = λ i. sym each.0 i ∷ ints_in ints words each.1 i
+
+each-drop : (n : ℕ) (values : List Tagged) (words : List ℕ) → AllZip IsWord values words → AllZip IsWord (drop n values) (drop n words)
+each-drop zero values words each = each
+each-drop (suc n) [] [] each = tt
+each-drop (suc n) [] (x ∷ words) each = absurd each
+each-drop (suc n) (y ∷ values) [] each = absurd each
+each-drop (suc n) (y ∷ values) (x ∷ words) each = each-drop n values words each.1
+
+each-take : (n : ℕ) (values : List Tagged) (words : List ℕ) → AllZip IsWord values words → AllZip IsWord (take n values) (take n words)
+each-take zero values words each = tt
+each-take (suc n) [] [] each = tt
+each-take (suc n) [] (x ∷ words) each = absurd each
+each-take (suc n) (y ∷ values) [] each = absurd each
+each-take (suc n) (y ∷ values) (x ∷ words) each = (each.0, each-take n values words each.1)
+
+pub ints_read : (values : List Tagged) (words : List ℕ) (start count : ℕ) (ints : List ℤ) → AreWords values words → take count (drop start values) ≡ map Int ints
+    → map (λ bits. cast_signed w32 bits) (take count (drop start words)) ≡ ints
+ints_read values words start count ints are e =
+    ints_in ints (take count (drop start words)) (rw e at (each-take count (drop start values) (drop start words) (each-drop start values words are.each)))
 
 -- if no word changes, the value at an index says of its word what another one said
 each-same : (values : List Tagged) (words : List ℕ) (at : ℕ) (v : Tagged) → AllZip IsWord values words

@@ -2,4 +2,3 @@ mod Images
 mod Cells
 mod OwnWords
 mod Tables
-mod Elements

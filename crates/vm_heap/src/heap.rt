@@ -115,7 +115,7 @@ impl Heap {
         let address = self.words.len();
         self.words.push_reserved(Word::of_ints());
         self.words.push_reserved(Word::length(count));
-        add_zeros(&mut self.words, count as usize);
+        self.words.add_zeros(count as usize);
         self.cells = Ghost::of::<NewInts, WithInts>(&NewInts {
             cells: self.cells.copy(),
             count,
@@ -143,7 +143,7 @@ impl Heap {
         let address = self.words.len();
         self.words.push_reserved(Word::of_ints());
         self.words.push_reserved(Word::length(count as u32));
-        add_ints(&mut self.words, elements);
+        self.words.add_ints(elements);
         self.cells = Ghost::of::<Copied<'_>, WithCopy>(&Copied {
             cells: self.cells.copy(),
             elements,
@@ -211,17 +211,12 @@ impl Heap {
 
     /// Returns a copy of the elements of an array. The caller owes that it is an array; nothing tests
     /// it.
-    #[tactic(auto, using(crate::proofs::Elements::none_yet, crate::proofs::Elements::all_of, crate::proofs::Elements::element_there))]
     pub fn elements(&self, alloc: Global, address: usize) -> Result<Vec<i32>, AllocError>
         requires { IsSome (length_at address self.now.cells) }
         ensures { IfOk result (λ elements. cell_at self.now.cells address ≡ Some (Ints elements.items)) }
     {
         let count = self.length(address) as usize;
-        let mut elements = Vec::with_capacity(alloc, count)?;
-        for index in 0..count {
-            elements.push(self.element(address, index).as_int())?;
-        }
-        Ok(elements)
+        self.words.ints(alloc, address + 2, count)
     }
 
     /// Writes an element of an array. The caller owes that there is such an element; nothing tests
@@ -257,30 +252,6 @@ fn add_defaults(words: &mut Words, fields: &[WordKind])
             WordKind::Int => Word::int(0),
             WordKind::Reference => Word::null(),
         });
-    }
-}
-
-fn add_zeros(words: &mut Words, count: usize)
-    requires { length words.old.values + count ≤ words.old.room }
-    ensures { words.new
-        ≡ record words.old {
-          values = words.old.values ++ map Int (replicate count (pos 0));
-        } }
-{
-    for _ in 0..count {
-        words.push_reserved(Word::int(0));
-    }
-}
-
-fn add_ints(words: &mut Words, elements: &[i32])
-    requires { length words.old.values + length elements.now ≤ words.old.room }
-    ensures { words.new
-        ≡ record words.old {
-          values = words.old.values ++ map Int elements.now;
-        } }
-{
-    for n in elements {
-        words.push_reserved(Word::int(*n));
     }
 }
 

@@ -1,12 +1,14 @@
 //! Rows of words: what a task's stack and heap are made of.
-ghost use Rattle.std.specs.Prelude.{◌≡◌, ◌+◌, ◌-◌, ◌<◌, ◌≤◌, ◌++◌, ◌∷◌, [], length, replicate, Some, IfOk, slice_get, slice_set};
-ghost use Rattle.vm_heap.specs.Tagged.{Tagged, Unset, as_this};
-ghost use Rattle.vm_heap.specs.Words.{after_init_from, forgotten};
+ghost use Rattle.std.specs.Prelude.{◌≡◌, ◌+◌, ◌-◌, ◌<◌, ◌≤◌, ◌++◌, ◌∷◌, [], List, ℤ, pos, length, map, take, drop, replicate, Some, IfOk, slice_get, slice_set, vec_len, vec_capacity};
+ghost use Rattle.std.specs.Int.{w32, cast_signed};
+ghost use Rattle.vm_heap.specs.Tagged.{Tagged, Int, Unset, as_this};
+ghost use Rattle.vm_heap.specs.Words.{AreWords, after_init_from, forgotten};
 
 use crate::word::{Tag, Word};
 use ghost_value::{Ghost, Says};
 use std::alloc::{AllocError, Global};
 use std::marker::Model;
+use std::mem;
 
 /// Words in a row, with room for more. One token says what all of them stand for, so that this can
 /// change although no word does.
@@ -108,6 +110,52 @@ impl Words {
         });
     }
 
+    /// Adds the words of ints. The caller owes room for them.
+    pub(crate) fn add_ints(&mut self, ints: &[i32])
+        requires { length self.old.values + length ints.now ≤ self.old.room }
+        ensures { self.new
+            ≡ record self.old {
+              values = self.old.values ++ map Int ints.now;
+            } }
+    {
+        add_bits(&mut self.bits, ints);
+        self.tags = Ghost::of::<AddedInts<'_>, GrownByInts>(&AddedInts {
+            tags: self.tags.copy(),
+            ints,
+        });
+    }
+
+    /// Adds so many words of the int 0. The caller owes room for them.
+    pub(crate) fn add_zeros(&mut self, count: usize)
+        requires { length self.old.values + count ≤ self.old.room }
+        ensures { self.new
+            ≡ record self.old {
+              values = self.old.values ++ map Int (replicate count (pos 0));
+            } }
+    {
+        add_zero_bits(&mut self.bits, count);
+        self.tags = Ghost::of::<AddedZeros, GrownByZeros>(&AddedZeros {
+            tags: self.tags.copy(),
+            count,
+        });
+    }
+
+    /// Returns a copy of so many ints from an index on. The caller owes that there are so many
+    /// words, and that they stand for ints; nothing tests it.
+    pub(crate) fn ints(
+        &self,
+        alloc: Global,
+        start: usize,
+        count: usize,
+    ) -> Result<Vec<i32>, AllocError>
+        requires { start + count ≤ length self.now.values }
+        ensures { IfOk result (λ copy. (ints : List ℤ) → take count (drop start self.now.values) ≡ map Int ints → copy.items ≡ ints) }
+    {
+        let (_, rest) = self.bits.as_slice().split_at(start);
+        let (bits, _) = rest.split_at(count);
+        ints_of(alloc, bits)
+    }
+
     /// Adds words that stand for nothing, up to `count` words in all. The caller owes room for
     /// them.
     pub fn grow_to(&mut self, count: usize)
@@ -180,6 +228,46 @@ fn add_unset(words: &mut Words, count: usize)
     }
 }
 
+// Adds the bits of ints. Their row is taken out meanwhile, so that each step of the loop writes one
+// element and no length.
+fn add_bits(bits: &mut Vec<u32>, ints: &[i32])
+    requires { vec_len bits.old + length ints.now ≤ vec_capacity bits.old }
+    ensures words { (values : List Tagged) → AreWords values bits.old.items → AreWords (values ++ map Int ints.now) bits.new.items }
+    ensures room { vec_capacity bits.new ≡ vec_capacity bits.old }
+{
+    let alloc = *bits.allocator();
+    let mut row = mem::replace(bits, Vec::new(alloc));
+    for int in ints {
+        row.push_reserved(int.cast_unsigned());
+    }
+    *bits = row;
+}
+
+// Adds so many zeros, as `add_bits` does.
+fn add_zero_bits(bits: &mut Vec<u32>, count: usize)
+    requires { vec_len bits.old + count ≤ vec_capacity bits.old }
+    ensures words { (values : List Tagged) → AreWords values bits.old.items → AreWords (values ++ map Int (replicate count (pos 0))) bits.new.items }
+    ensures room { vec_capacity bits.new ≡ vec_capacity bits.old }
+{
+    let alloc = *bits.allocator();
+    let mut row = mem::replace(bits, Vec::new(alloc));
+    for _ in 0..count {
+        row.push_reserved(0);
+    }
+    *bits = row;
+}
+
+// The ints of these bits.
+fn ints_of(alloc: Global, bits: &[u32]) -> Result<Vec<i32>, AllocError>
+    ensures { IfOk result (λ ints. ints.items ≡ map (λ bits. cast_signed w32 bits) bits.now) }
+{
+    let mut ints = Vec::with_capacity(alloc, bits.len())?;
+    for word in bits {
+        ints.push_reserved(word.cast_signed());
+    }
+    Ok(ints)
+}
+
 struct OfNone;
 
 impl Says<(), Tags> for OfNone {
@@ -233,6 +321,38 @@ impl<'a> Says<Added<'a>, Tags> for Grown {
     ghost use Rattle.std.specs.Prelude.{◌++◌, ◌∷◌, []};
 
     ghost says = { λ a. a.tags.value ++ a.word.now ∷ [] };
+}
+
+// Ints whose words come to the end.
+#[derive(Drop)]
+struct AddedInts<'a> {
+    tags: Ghost<Tags>,
+    ints: &'a [i32],
+}
+
+struct GrownByInts;
+
+impl<'a> Says<AddedInts<'a>, Tags> for GrownByInts {
+    ghost use Rattle.std.specs.Prelude.{◌++◌, map};
+    ghost use Rattle.vm_heap.specs.Tagged.{Int};
+
+    ghost says = { λ a. a.tags.value ++ map Int a.ints.now };
+}
+
+// Words of 0 that come to the end.
+#[derive(Drop)]
+struct AddedZeros {
+    tags: Ghost<Tags>,
+    count: usize,
+}
+
+struct GrownByZeros;
+
+impl Says<AddedZeros, Tags> for GrownByZeros {
+    ghost use Rattle.std.specs.Prelude.{◌++◌, map, replicate, pos};
+    ghost use Rattle.vm_heap.specs.Tagged.{Int};
+
+    ghost says = { λ a. a.tags.value ++ map Int (replicate a.count (pos 0)) };
 }
 
 // A part of a row.

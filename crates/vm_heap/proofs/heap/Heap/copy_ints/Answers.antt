@@ -12,10 +12,10 @@ returns-then-room-len-clause-full c = λ _.
 
 pub invariant_of-self : goal.invariant_of-self
 invariant_of-self c =
-    let row : c.add_ints.new.words.values ≡ spelled (c.self.inside.cells.value ++ Ints c.args.elements.now ∷ []) = rw (c.add_ints.ensures, c.push_reserved-2.ensures, c.length.ensures, c.push_reserved.ensures, c.of_ints.ensures) (copy_added c.self.inside.words.values c.self.inside.cells.value (length c.args.elements.now) c.args.elements.now refl c.self.invariant.row) in
-    let room : c.add_ints.new.words.room ≡ c.self.inside.words.room = ap (λ (r : Row). r.room) c.add_ints.ensures ∙ ap (λ (r : Row). r.room) c.push_reserved-2.ensures ∙ ap (λ (r : Row). r.room) c.push_reserved.ensures in
+    let row : c.add_ints.new.self.values ≡ spelled (c.self.inside.cells.value ++ Ints c.args.elements.now ∷ []) = rw (c.add_ints.ensures, c.push_reserved-2.ensures, c.length.ensures, c.push_reserved.ensures, c.of_ints.ensures) (copy_added c.self.inside.words.values c.self.inside.cells.value (length c.args.elements.now) c.args.elements.now refl c.self.invariant.row) in
+    let room : c.add_ints.new.self.room ≡ c.self.inside.words.room = ap (λ (r : Row). r.room) c.add_ints.ensures ∙ ap (λ (r : Row). r.room) c.push_reserved-2.ensures ∙ ap (λ (r : Row). r.room) c.push_reserved.ensures in
     let old : length c.self.inside.words.values ≡ length (spelled c.self.inside.cells.value) = ap length c.self.invariant.row in
-    let new : length c.add_ints.new.words.values ≡ length (spelled c.self.inside.cells.value) + cost (Ints c.args.elements.now) = ap length row ∙ length-added c.self.inside.cells.value (Ints c.args.elements.now) in
+    let new : length c.add_ints.new.self.values ≡ length (spelled c.self.inside.cells.value) + cost (Ints c.args.elements.now) = ap length row ∙ length-added c.self.inside.cells.value (Ints c.args.elements.now) in
     let fits : cost (Ints c.args.elements.now) ≤ c.self.inside.words.room - length c.self.inside.words.values =
     omega (arith, c.if-room-len.false, c.room.ensures, c.len.ensures, cost-elements c.args.elements.now) in
     rw (c.of.ensures, c.copy.ensures) record {
@@ -26,13 +26,13 @@ invariant_of-self c =
 
 pub returns-clause-made : goal.returns-clause-made
 returns-clause-made c =
-    let row : c.add_ints.new.words.values ≡ spelled (c.self.inside.cells.value ++ Ints c.args.elements.now ∷ []) = rw (c.add_ints.ensures, c.push_reserved-2.ensures, c.length.ensures, c.push_reserved.ensures, c.of_ints.ensures) (copy_added c.self.inside.words.values c.self.inside.cells.value (length c.args.elements.now) c.args.elements.now refl c.self.invariant.row) in
-    let room : c.add_ints.new.words.room ≡ c.self.inside.words.room = ap (λ (r : Row). r.room) c.add_ints.ensures ∙ ap (λ (r : Row). r.room) c.push_reserved-2.ensures ∙ ap (λ (r : Row). r.room) c.push_reserved.ensures in
+    let row : c.add_ints.new.self.values ≡ spelled (c.self.inside.cells.value ++ Ints c.args.elements.now ∷ []) = rw (c.add_ints.ensures, c.push_reserved-2.ensures, c.length.ensures, c.push_reserved.ensures, c.of_ints.ensures) (copy_added c.self.inside.words.values c.self.inside.cells.value (length c.args.elements.now) c.args.elements.now refl c.self.invariant.row) in
+    let room : c.add_ints.new.self.room ≡ c.self.inside.words.room = ap (λ (r : Row). r.room) c.add_ints.ensures ∙ ap (λ (r : Row). r.room) c.push_reserved-2.ensures ∙ ap (λ (r : Row). r.room) c.push_reserved.ensures in
     let old : length c.self.inside.words.values ≡ length (spelled c.self.inside.cells.value) = ap length c.self.invariant.row in
-    let new : length c.add_ints.new.words.values ≡ length (spelled c.self.inside.cells.value) + cost (Ints c.args.elements.now) = ap length row ∙ length-added c.self.inside.cells.value (Ints c.args.elements.now) in
+    let new : length c.add_ints.new.self.values ≡ length (spelled c.self.inside.cells.value) + cost (Ints c.args.elements.now) = ap length row ∙ length-added c.self.inside.cells.value (Ints c.args.elements.now) in
     let fits : cost (Ints c.args.elements.now) ≤ c.self.inside.words.room - length c.self.inside.words.values =
     omega (arith, c.if-room-len.false, c.room.ensures, c.len.ensures, cost-elements c.args.elements.now) in
     let at_end : c.len-address.result ≡ all_cost c.self.inside.cells.value = omega (arith, c.len-address.ensures, old, length-spelled c.self.inside.cells.value) in
-    let left : c.add_ints.new.words.room - length c.add_ints.new.words.values ≡ c.self.inside.words.room - length c.self.inside.words.values - cost (Ints c.args.elements.now) =
+    let left : c.add_ints.new.self.room - length c.add_ints.new.self.values ≡ c.self.inside.words.room - length c.self.inside.words.values - cost (Ints c.args.elements.now) =
     omega (arith, room, old, new, fits) in
     rw (← c.self.view_is) (fits, rw (c.local.ensures, at_end) refl, rw (c.of.ensures, c.copy.ensures, left) refl)

@@ -17,10 +17,10 @@ local-requires c = omega (arith, c.len-address.ensures, c.room.ensures, c.len.en
 
 pub invariant_of-self : goal.invariant_of-self
 invariant_of-self c =
-    let row : c.add_zeros.new.words.values ≡ spelled (c.self.inside.cells.value ++ Ints (replicate c.args.count (pos 0)) ∷ []) = rw (c.add_zeros.ensures, c.push_reserved-2.ensures, c.length.ensures, c.push_reserved.ensures, c.of_ints.ensures) (ints_added c.self.inside.words.values c.self.inside.cells.value c.args.count c.self.invariant.row) in
-    let room : c.add_zeros.new.words.room ≡ c.self.inside.words.room = ap (λ (r : Row). r.room) c.add_zeros.ensures ∙ ap (λ (r : Row). r.room) c.push_reserved-2.ensures ∙ ap (λ (r : Row). r.room) c.push_reserved.ensures in
+    let row : c.add_zeros.new.self.values ≡ spelled (c.self.inside.cells.value ++ Ints (replicate c.args.count (pos 0)) ∷ []) = rw (c.add_zeros.ensures, c.push_reserved-2.ensures, c.length.ensures, c.push_reserved.ensures, c.of_ints.ensures) (ints_added c.self.inside.words.values c.self.inside.cells.value c.args.count c.self.invariant.row) in
+    let room : c.add_zeros.new.self.room ≡ c.self.inside.words.room = ap (λ (r : Row). r.room) c.add_zeros.ensures ∙ ap (λ (r : Row). r.room) c.push_reserved-2.ensures ∙ ap (λ (r : Row). r.room) c.push_reserved.ensures in
     let old : length c.self.inside.words.values ≡ length (spelled c.self.inside.cells.value) = ap length c.self.invariant.row in
-    let new : length c.add_zeros.new.words.values ≡ length (spelled c.self.inside.cells.value) + cost (Ints (replicate c.args.count (pos 0))) = ap length row ∙ length-added c.self.inside.cells.value (Ints (replicate c.args.count (pos 0))) in
+    let new : length c.add_zeros.new.self.values ≡ length (spelled c.self.inside.cells.value) + cost (Ints (replicate c.args.count (pos 0))) = ap length row ∙ length-added c.self.inside.cells.value (Ints (replicate c.args.count (pos 0))) in
     let fits : cost (Ints (replicate c.args.count (pos 0))) ≤ c.self.inside.words.room - length c.self.inside.words.values =
     omega (arith, c.if-room-len.false, c.room.ensures, c.len.ensures, cost-ints c.args.count) in
     rw (c.of.ensures, c.copy.ensures) record {
@@ -31,13 +31,13 @@ invariant_of-self c =
 
 pub returns-clause-made : goal.returns-clause-made
 returns-clause-made c =
-    let row : c.add_zeros.new.words.values ≡ spelled (c.self.inside.cells.value ++ Ints (replicate c.args.count (pos 0)) ∷ []) = rw (c.add_zeros.ensures, c.push_reserved-2.ensures, c.length.ensures, c.push_reserved.ensures, c.of_ints.ensures) (ints_added c.self.inside.words.values c.self.inside.cells.value c.args.count c.self.invariant.row) in
-    let room : c.add_zeros.new.words.room ≡ c.self.inside.words.room = ap (λ (r : Row). r.room) c.add_zeros.ensures ∙ ap (λ (r : Row). r.room) c.push_reserved-2.ensures ∙ ap (λ (r : Row). r.room) c.push_reserved.ensures in
+    let row : c.add_zeros.new.self.values ≡ spelled (c.self.inside.cells.value ++ Ints (replicate c.args.count (pos 0)) ∷ []) = rw (c.add_zeros.ensures, c.push_reserved-2.ensures, c.length.ensures, c.push_reserved.ensures, c.of_ints.ensures) (ints_added c.self.inside.words.values c.self.inside.cells.value c.args.count c.self.invariant.row) in
+    let room : c.add_zeros.new.self.room ≡ c.self.inside.words.room = ap (λ (r : Row). r.room) c.add_zeros.ensures ∙ ap (λ (r : Row). r.room) c.push_reserved-2.ensures ∙ ap (λ (r : Row). r.room) c.push_reserved.ensures in
     let old : length c.self.inside.words.values ≡ length (spelled c.self.inside.cells.value) = ap length c.self.invariant.row in
-    let new : length c.add_zeros.new.words.values ≡ length (spelled c.self.inside.cells.value) + cost (Ints (replicate c.args.count (pos 0))) = ap length row ∙ length-added c.self.inside.cells.value (Ints (replicate c.args.count (pos 0))) in
+    let new : length c.add_zeros.new.self.values ≡ length (spelled c.self.inside.cells.value) + cost (Ints (replicate c.args.count (pos 0))) = ap length row ∙ length-added c.self.inside.cells.value (Ints (replicate c.args.count (pos 0))) in
     let fits : cost (Ints (replicate c.args.count (pos 0))) ≤ c.self.inside.words.room - length c.self.inside.words.values =
     omega (arith, c.if-room-len.false, c.room.ensures, c.len.ensures, cost-ints c.args.count) in
     let at_end : c.len-address.result ≡ all_cost c.self.inside.cells.value = omega (arith, c.len-address.ensures, old, length-spelled c.self.inside.cells.value) in
-    let left : c.add_zeros.new.words.room - length c.add_zeros.new.words.values ≡ c.self.inside.words.room - length c.self.inside.words.values - cost (Ints (replicate c.args.count (pos 0))) =
+    let left : c.add_zeros.new.self.room - length c.add_zeros.new.self.values ≡ c.self.inside.words.room - length c.self.inside.words.values - cost (Ints (replicate c.args.count (pos 0))) =
     omega (arith, room, old, new, fits) in
     rw (← c.self.view_is) (fits, rw (c.local.ensures, at_end) refl, rw (c.of.ensures, c.copy.ensures, left) refl)
