@@ -48,7 +48,7 @@ impl<S: Played + Drop> Player<S> {
         words: &[&str],
     ) -> Result<(), PlayFault> {
         let number = self.names.number(space)?;
-        let arguments = Row::new(self.values(words)?);
+        let arguments = Row::new(self.variables.values(words)?);
         let Some(played) = self.world.space(number) else {
             return Err(PlayFault::Bad);
         };
@@ -169,7 +169,7 @@ impl<S: Played + Drop> Player<S> {
                 variable,
             } => {
                 let name = self.row(name)?;
-                let value = self.reference(variable)?;
+                let value = self.variables.reference(variable)?;
                 Ok((*space, Event::Bind { name, value }))
             }
             Command::Rebind {
@@ -178,7 +178,7 @@ impl<S: Played + Drop> Player<S> {
                 variable,
             } => {
                 let name = self.row(name)?;
-                let value = self.reference(variable)?;
+                let value = self.variables.reference(variable)?;
                 Ok((*space, Event::Rebind { name, value }))
             }
             Command::Unbind { space, name } => {

@@ -7,10 +7,11 @@
 //! nothing.
 #![tactic(auto)]
 
-use fault::PlayFault;
-pub use fault::ScriptFault;
+pub use fault::{PlayFault, ScriptFault};
 pub use played::{Origin, Played, Shown, Start};
 pub use script::play_script;
+pub use texts::{SpaceNames, put_object, put_outcome};
+pub use variables::{TaskKey, Variable, Variables, started};
 
 mod commands;
 mod connections;

@@ -5,14 +5,12 @@ use crate::names::Names;
 use crate::texts::{put_object, put_outcome};
 use crate::variables::{TaskKey, Variable, Variables, started};
 use crate::{PlayFault, Played};
-use sp_arguments::argument_of;
 use sp_promises::run;
 use sp_world::{CoreFault, Dial, Output, World, WorldEvent};
-use space_ids::{Row, Value};
+use space_ids::Row;
 use std::alloc::Global;
 use std::collections::VecDeque;
 use std::mem;
-use table_copies::copy_value;
 
 /// A script as it is played over a world: the names of its spaces, the connections that were opened, the
 /// variables, and the lines that were shown.
@@ -196,33 +194,6 @@ impl<S: Played + Drop> Player<S> {
     pub(crate) fn variable(&self, name: &str) -> Result<&Variable, PlayFault> {
         match self.variables.find(name) {
             Some(variable) => Ok(variable),
-            None => Err(PlayFault::Bad),
-        }
-    }
-
-    // A copy of the reference that the task of this variable returned.
-    pub(crate) fn reference(&self, name: &str) -> Result<Value, PlayFault> {
-        match self.variable(name)?.value() {
-            Some(Value::Ref(reference)) => Ok(Value::Ref(*reference)),
-            _ => Err(PlayFault::Bad),
-        }
-    }
-
-    // The values of the words of a root: each spells one, or is a variable whose task returned one.
-    pub(crate) fn values(&self, words: &[&str]) -> Result<Vec<Value>, PlayFault> {
-        let mut values = Vec::new(self.alloc);
-        for word in words {
-            values.push(self.value(word)?)?;
-        }
-        Ok(values)
-    }
-
-    fn value(&self, word: &str) -> Result<Value, PlayFault> {
-        if let Some(value) = argument_of(self.alloc, word)? {
-            return Ok(value);
-        }
-        match self.variable(word)?.value() {
-            Some(value) => Ok(copy_value(self.alloc, value)?),
             None => Err(PlayFault::Bad),
         }
     }

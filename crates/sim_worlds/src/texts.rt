@@ -1,13 +1,26 @@
-//! The lines that a script shows.
+//! The lines that spaces show.
 
 use crate::names::Names;
 use crate::{PlayFault, Played, Shown};
 use sp_tasks::Outcome;
-use space_ids::Value;
+use space_ids::{Uuid, Value};
 use std::io::Write;
 
-// Adds the line of an object of the space of this name.
-pub(crate) fn put_object<S: Played>(
+/// How texts name spaces.
+pub trait SpaceNames {
+    /// Adds what the space of an id is called. `PlayFault::Memory` alone.
+    fn put_name(&self, text: &mut Vec<u8>, id: &Uuid) -> Result<(), PlayFault>;
+}
+
+impl SpaceNames for Names {
+    fn put_name(&self, text: &mut Vec<u8>, id: &Uuid) -> Result<(), PlayFault> {
+        text.extend_from_slice(self.of(id).as_bytes())?;
+        Ok(())
+    }
+}
+
+/// Adds the line of an object of the space of this name: `S ID CLASS names=N entries=K`.
+pub fn put_object<S: Played>(
     text: &mut Vec<u8>,
     space: &S,
     name: &str,
@@ -19,11 +32,11 @@ pub(crate) fn put_object<S: Played>(
     Ok(())
 }
 
-// Adds the line of a variable, and of how its task ended, if it has.
-pub(crate) fn put_outcome<S: Played>(
+/// Adds the line of a variable, and of how its task ended, if it has: `VAR OUTCOME`, or `VAR waiting`.
+pub fn put_outcome<S: Played, N: SpaceNames>(
     text: &mut Vec<u8>,
     space: &S,
-    names: &Names,
+    names: &N,
     variable: &str,
     outcome: &Option<Outcome>,
 ) -> Result<(), PlayFault> {
@@ -45,14 +58,15 @@ pub(crate) fn put_outcome<S: Played>(
     Ok(())
 }
 
-fn put_value(text: &mut Vec<u8>, names: &Names, value: &Value) -> Result<(), PlayFault> {
+fn put_value<N: SpaceNames>(text: &mut Vec<u8>, names: &N, value: &Value) -> Result<(), PlayFault> {
     match value {
         Value::Null => write!(text, "null")?,
         Value::Int(int) => write!(text, "{int}")?,
         Value::Ints(ints) => put_ints(text, ints.as_slice())?,
         Value::Ref(reference) => {
-            let name = names.of(&reference.space);
-            write!(text, "ref {name} {}", reference.id.0)?;
+            write!(text, "ref ")?;
+            names.put_name(text, &reference.space)?;
+            write!(text, " {}", reference.id.0)?;
         }
     }
     Ok(())

@@ -1,30 +1,31 @@
-//! The variables of a script: its roots and look-ups, and how they ended.
+//! Variables: roots and look-ups by the words that stand for them, and how they ended.
 
 use crate::PlayFault;
 use indexmap::IndexMap;
+use sp_arguments::argument_of;
 use sp_tasks::Outcome;
 use sp_world::Output;
 use space_ids::Value;
 use std::alloc::Global;
-use table_copies::copy_result;
+use table_copies::{copy_result, copy_value};
 
-// A task, by the number of its space and its id.
+/// A task, by the number of its space and its id.
 #[derive(Clone, Copy, PartialEq, Eq, Hash)]
-pub(crate) struct TaskKey {
+pub struct TaskKey {
     pub space: usize,
     pub task: u64,
 }
 
-// A root or look-up: its variable, its task, and how that ended, if it has.
+/// A root or look-up: its variable, its task, and how that ended, if it has.
 #[derive(Drop)]
-pub(crate) struct Variable {
+pub struct Variable {
     pub name: String,
     pub key: TaskKey,
     pub outcome: Option<Outcome>,
 }
 
 impl Variable {
-    // What the task returned.
+    /// What the task returned.
     pub fn value(&self) -> Option<&Value> {
         match &self.outcome {
             Some(Outcome::Returned(Some(value))) => Some(value),
@@ -33,9 +34,9 @@ impl Variable {
     }
 }
 
-// The variables of a script, in the order in which its lines name them.
+/// Variables, in the order in which lines name them.
 #[derive(Drop)]
-pub(crate) struct Variables {
+pub struct Variables {
     alloc: Global,
     rows: Vec<Variable>,
     // The indices of the rows, by name and by task.
@@ -44,6 +45,7 @@ pub(crate) struct Variables {
 }
 
 impl Variables {
+    /// No variable.
     pub fn new(alloc: Global) -> Variables {
         Variables {
             alloc,
@@ -53,11 +55,12 @@ impl Variables {
         }
     }
 
+    /// All of them.
     pub fn rows(&self) -> &[Variable] {
         &self.rows
     }
 
-    // The variable of this name, which a line before has named.
+    /// The variable of this name, which a line before has named.
     pub fn find(&self, name: &str) -> Option<&Variable> {
         match self.names.get(name) {
             Some(index) => self.rows.get(*index),
@@ -65,7 +68,49 @@ impl Variables {
         }
     }
 
-    // A root or look-up of this task has this variable.
+    /// The variable of a task, if it has one.
+    pub fn of_task(&self, key: &TaskKey) -> Option<&Variable> {
+        match self.tasks.get(key) {
+            Some(index) => self.rows.get(*index),
+            None => None,
+        }
+    }
+
+    /// The reference that the task of a variable returned. `PlayFault::Bad` if it returned none.
+    pub fn reference(&self, name: &str) -> Result<Value, PlayFault> {
+        match self.find(name) {
+            Some(variable) => match variable.value() {
+                Some(Value::Ref(reference)) => Ok(Value::Ref(*reference)),
+                _ => Err(PlayFault::Bad),
+            },
+            None => Err(PlayFault::Bad),
+        }
+    }
+
+    /// The values of words: each spells one, or is a variable whose task returned one, else it is
+    /// `PlayFault::Bad`.
+    pub fn values(&self, words: &[&str]) -> Result<Vec<Value>, PlayFault> {
+        let mut values = Vec::new(self.alloc);
+        for word in words {
+            values.push(self.value(word)?)?;
+        }
+        Ok(values)
+    }
+
+    fn value(&self, word: &str) -> Result<Value, PlayFault> {
+        if let Some(value) = argument_of(self.alloc, word)? {
+            return Ok(value);
+        }
+        let Some(variable) = self.find(word) else {
+            return Err(PlayFault::Bad);
+        };
+        match variable.value() {
+            Some(value) => Ok(copy_value(self.alloc, value)?),
+            None => Err(PlayFault::Bad),
+        }
+    }
+
+    /// A root or look-up of this task has this variable, which no other has.
     pub fn add(&mut self, name: &str, key: TaskKey) -> Result<(), PlayFault> {
         let index = self.rows.len();
         self.names
@@ -79,7 +124,7 @@ impl Variables {
         Ok(())
     }
 
-    // Notes how tasks of a space ended.
+    /// Notes how tasks of a space ended.
     pub fn note(&mut self, space: usize, outputs: &[Output]) -> Result<(), PlayFault> {
         for output in outputs {
             if let Output::Ended(task, outcome) = output {
@@ -110,8 +155,8 @@ fn copy_outcome(alloc: Global, outcome: &Outcome) -> Result<Outcome, PlayFault> 
     }
 }
 
-// The task that started.
-pub(crate) fn started(outputs: &[Output]) -> Option<u64> {
+/// The task that started.
+pub fn started(outputs: &[Output]) -> Option<u64> {
     for output in outputs {
         if let Output::Started(task) = output {
             return Some(*task);
