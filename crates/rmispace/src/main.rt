@@ -2,21 +2,26 @@
 //! library, and ends with the status that the library returns.
 #![tactic(auto)]
 
+use sp_links::Host;
 use sp_main::{Disk, Status, command};
-use std::io::ErrorKind;
+use sp_serve_command::space_command;
+use std::io::{BufRead, ErrorKind, Write};
+use std::net::{TcpListener, TcpStream};
 use std::process::ExitCode;
-use std::rt::Env;
+use std::random::RandomSource;
+use std::rt::{Env, Files};
 use std::{env, io};
 
 fn main(rt: HostRuntime) -> ExitCode {
-    let alloc = rt.alloc();
+    // The handle stands for these types too, and the borrow checker knows only those that a function names.
+    let none: Option<(TcpListener, TcpStream)> = None;
+    drop(none);
     let status = match words_of(&rt) {
-        Ok(words) => command(
-            alloc,
+        Ok(words) => obey(
+            &rt,
             &words,
-            &Disk { runtime: &rt },
             &mut rt.reader(),
-            &mut io::writer(&rt.stdout()),
+            io::writer(&rt.stdout()),
             &mut io::writer(&rt.stderr()),
         ),
         Err(error) => {
@@ -29,6 +34,29 @@ fn main(rt: HostRuntime) -> ExitCode {
         }
     };
     ExitCode::from(status)
+}
+
+// Does what the command line asks for, and returns the status.
+fn obey<
+    R: Host + RandomSource + Files + Clone + Drop,
+    I: BufRead,
+    O: Write + Send + Drop,
+    E: Write,
+>(rt: &R, words: &[String], input: &mut I, mut out: O, err: &mut E) -> u8 {
+    let disk = Disk { runtime: rt };
+    match words_of_space(words) {
+        Some(words) => space_command(rt, words, &disk, input, out, err),
+        None => command(rt.alloc(), words, &disk, input, &mut out, err),
+    }
+}
+
+// The words from `serve` or `call` on, if that is the command: these take threads and sockets, which no other does.
+fn words_of_space(words: &[String]) -> Option<&[String]> {
+    let (_, rest) = words.split_first()?;
+    match rest.first() {
+        Some(first) if first.as_str() == "serve" || first.as_str() == "call" => Some(rest),
+        _ => None,
+    }
 }
 
 // The arguments of the command line, the program's own name first.

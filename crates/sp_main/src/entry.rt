@@ -163,8 +163,8 @@ fn script_report<F: Folder>(
     }
 }
 
-// The class files of a folder, or why they cannot be listed.
-fn class_files<F: Folder>(
+/// The class files of a folder, or why they cannot be listed. The last may be one that cannot be read.
+pub fn class_files<F: Folder>(
     alloc: Global,
     folder: &F,
     path: &str,

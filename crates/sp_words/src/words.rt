@@ -192,6 +192,10 @@ fn refuse<'a>(alloc: Global, text: &str) -> Result<Request<'a>, AllocError>
 const AFTER_HELP: &str = "Example:
   rmispace run examples/sum T 'f(I)I' 4 --fuel 38
 
+Spaces over TCP:
+  rmispace serve --help
+  rmispace call --help
+
 Exit status:
   0  the method returned, the classes are accepted, or the script is done
   1  the method threw, or its fuel was spent

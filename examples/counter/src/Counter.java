@@ -12,6 +12,11 @@ public class Counter implements Inc {
         return new Counter();
     }
 
+    /** What `serve --bind NAME=Counter` binds. */
+    public static Inc export() {
+        return make();
+    }
+
     public static int bump(Inc counter) throws RemoteException {
         return counter.inc();
     }

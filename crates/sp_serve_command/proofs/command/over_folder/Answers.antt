@@ -1,0 +1,10 @@
+use Rattle.std.proofs.Common.{◌∙◌, subst, sym}
+use Rattle.sp_texts.specs.RefusalTexts.{IsRefusalOf}
+use Rattle.sp_main.proofs.Refused.{no_program_file, without_program}
+use Rattle.sp_serve_command.proofs.command.over_folder.Goals as goal
+
+pub refusal_report-requires : goal.refusal_report-requires
+refusal_report-requires g c = record {
+  file = subst (λ files. IsRefusalOf files c.in-Err-program_of.refusal) ((c.deref.ensures).value ∙ sym (c.deref-in-Err-program_of.ensures).value)
+      (no_program_file _ c.in-Err-program_of.refusal (without_program _ _ (c.in-Err-program_of.ensures).refused));
+}

@@ -1,0 +1,167 @@
+//! From the words of `serve` and `call` to a space of the classes that they name.
+
+use crate::exports::export_of;
+use crate::serving::run_space;
+use crate::words::{Aim, Invocation, ServeRequest, SpaceRequest, read_words};
+use net_message::Digest;
+use sim_spaces::{Homes, class_digest};
+use sim_worlds::Origin;
+use sp_call_set::CallSet;
+use sp_files::{ClassBytes, program_of};
+use sp_main::class_files;
+use sp_serve::Host;
+use sp_texts::{Report, Status, folder_report, refusal_report, text_report, write_text};
+use sp_words::Folder;
+use space_ids::Uuid;
+use std::alloc::{AllocError, Global};
+use std::io::{BufRead, Write};
+use std::random::RandomSource;
+use vm_run::Program;
+
+/// Does what the words ask for, of which the first is `serve` or `call`: serves a space until the input ends, or makes
+/// one call. Returns the exit status:
+///
+/// - 0 at the end of the input, and of a call that returned;
+/// - 1 for a call that threw or was spent;
+/// - 2 if the class set is refused;
+/// - 3 for a usage fault, a folder that cannot be read, an address that is in use, an object that cannot be made, a
+///   call that cannot start, a bad line, memory, and an output that failed.
+pub fn space_command<
+    R: Host + RandomSource,
+    F: Folder,
+    I: BufRead,
+    O: Write + Send + Drop,
+    E: Write,
+>(rt: &R, words: &[String], folder: &F, input: &mut I, mut out: O, err: &mut E) -> u8 {
+    let alloc = rt.alloc();
+    match read_words(alloc, words) {
+        Ok(Invocation::Run(request)) => over_folder(rt, &request, folder, input, out, err),
+        Ok(Invocation::Tell(text)) => say(text_report(alloc, &text, Status::Done), &mut out, err),
+        Ok(Invocation::Refuse(text)) => say(
+            text_report(alloc, &text, Status::Failed),
+            &mut out,
+            err,
+        ),
+        Err(AllocError) => no_memory(&mut out, err),
+    }
+}
+
+fn say<O: Write, E: Write>(report: Result<Report, AllocError>, out: &mut O, err: &mut E) -> u8 {
+    match report {
+        Ok(report) => report.write(out, err).code(),
+        Err(AllocError) => no_memory(out, err),
+    }
+}
+
+/// Tells that memory ran out.
+pub(crate) fn no_memory<O: Write, E: Write>(out: &mut O, err: &mut E) -> u8 {
+    write_text(Status::Failed, b"no memory\n", out, err).code()
+}
+
+// Does what is asked for, over the class files of its folder.
+fn over_folder<R: Host + RandomSource, F: Folder, I: BufRead, O: Write + Send + Drop, E: Write>(
+    rt: &R,
+    request: &SpaceRequest<'_>,
+    folder: &F,
+    input: &mut I,
+    mut out: O,
+    err: &mut E,
+) -> u8 {
+    let alloc = rt.alloc();
+    let files = match class_files(alloc, folder, request.folder) {
+        Ok(Ok(files)) => files,
+        Ok(Err(fault)) => return say(folder_report(alloc, fault), &mut out, err),
+        Err(AllocError) => return no_memory(&mut out, err),
+    };
+    match program_of(alloc, &files) {
+        Ok(program) => over_program(rt, request, &files, &program, input, out, err),
+        Err(refusal) => say(refusal_report(alloc, &files, &refusal), &mut out, err),
+    }
+}
+
+// Does it with the program that these files make.
+fn over_program<R: Host + RandomSource, I: BufRead, O: Write + Send + Drop, E: Write>(
+    rt: &R,
+    request: &SpaceRequest<'_>,
+    files: &[ClassBytes],
+    program: &Program,
+    input: &mut I,
+    mut out: O,
+    err: &mut E,
+) -> u8 {
+    let alloc = rt.alloc();
+    let Ok(digest) = class_digest(alloc, files) else {
+        return no_memory(&mut out, err);
+    };
+    match exports_of(alloc, program, &request.aim) {
+        Ok(Ok(methods)) => over_classes(rt, request, program, digest, &methods, input, out, err),
+        Ok(Err(class)) => {
+            let _ = writeln!(
+                err,
+                "error: {class} has no method export that makes an object"
+            );
+            Status::Failed.code()
+        }
+        Err(AllocError) => no_memory(&mut out, err),
+    }
+}
+
+// The methods that make the objects that are to be bound, or the first class that has none.
+fn exports_of<'a>(
+    alloc: Global,
+    program: &Program,
+    aim: &Aim<'a>,
+) -> Result<Result<Vec<String>, &'a str>, AllocError> {
+    match aim {
+        Aim::Serve(ServeRequest { bound, .. }) => methods_of(alloc, program, bound),
+        Aim::Call(_) => Ok(Ok(Vec::new(alloc))),
+    }
+}
+
+fn methods_of<'a>(
+    alloc: Global,
+    program: &Program,
+    bound: &[(&'a str, &'a str)],
+) -> Result<Result<Vec<String>, &'a str>, AllocError> {
+    let mut methods = Vec::new(alloc);
+    for (_, class) in bound {
+        match export_of(alloc, program, class)? {
+            Some(method) => methods.push(method)?,
+            None => return Ok(Err(*class)),
+        }
+    }
+    Ok(Ok(methods))
+}
+
+// Does it with a space of a class set.
+fn over_classes<R: Host + RandomSource, I: BufRead, O: Write + Send + Drop, E: Write>(
+    rt: &R,
+    request: &SpaceRequest<'_>,
+    program: &Program,
+    digest: Digest,
+    methods: &[String],
+    input: &mut I,
+    mut out: O,
+    err: &mut E,
+) -> u8 {
+    let Some(id) = id_of(rt, request) else {
+        let _ = writeln!(err, "error: the system has no random bytes");
+        return Status::Failed.code();
+    };
+    let Ok(classes) = CallSet::new(rt.alloc(), program) else {
+        return no_memory(&mut out, err);
+    };
+    let homes = Homes::new(rt.alloc(), program, &classes, digest);
+    match homes.space(id) {
+        Ok(space) => run_space(rt, &request.aim, methods, space, input, out, err),
+        Err(_) => no_memory(&mut out, err),
+    }
+}
+
+// The id that is said, or a random one.
+fn id_of<R: RandomSource>(rt: &R, request: &SpaceRequest<'_>) -> Option<Uuid> {
+    match request.id {
+        Some(id) => Some(id),
+        None => Uuid::try_new_v4(rt).ok(),
+    }
+}
