@@ -43,6 +43,10 @@ enum Scenario {
     Renewals,
     /// One client's leases of `size` objects end at one moment.
     Ends,
+    /// `size` objects have as many clients each as there are events.
+    Entries,
+    /// `size` objects have one client each, and each event copies the lists.
+    Copies,
     /// `size` names are bound, and each event unbinds, binds, rebinds and looks up one of them.
     Names,
     /// Each of these.
@@ -57,6 +61,8 @@ fn scenario_of(word: &str) -> Scenario {
         "clients" => Scenario::Clients,
         "renewals" => Scenario::Renewals,
         "ends" => Scenario::Ends,
+        "entries" => Scenario::Entries,
+        "copies" => Scenario::Copies,
         "names" => Scenario::Names,
         _ => Scenario::All,
     }
@@ -99,6 +105,8 @@ fn answers_of(alloc: Global, words: Words) -> Result<u64, AllocError> {
         Scenario::Clients => clients(alloc, words.size),
         Scenario::Renewals => renewals(alloc, words.size),
         Scenario::Ends => ends(alloc, words.size),
+        Scenario::Entries => entries(alloc, words.size, words.events),
+        Scenario::Copies => copies(alloc, words.size, words.events),
         Scenario::Names => names(alloc, words.size, words.events),
         Scenario::All => all(alloc, words.size),
     }
@@ -111,7 +119,10 @@ fn all(alloc: Global, size: u64) -> Result<u64, AllocError> {
     let lists = clients(alloc, size)?
         .wrapping_add(renewals(alloc, size)?)
         .wrapping_add(names(alloc, size, size)?);
-    Ok(leases.wrapping_add(lists).wrapping_add(ends(alloc, size)?))
+    let entries = ends(alloc, size)?
+        .wrapping_add(entries(alloc, size, size)?)
+        .wrapping_add(copies(alloc, size, size)?);
+    Ok(leases.wrapping_add(lists).wrapping_add(entries))
 }
 
 fn reference(id: u64) -> ForeignId {
@@ -225,6 +236,32 @@ fn ends(alloc: Global, size: u64) -> Result<u64, AllocError> {
     list.moment(600_000);
     let ended = (0..size).filter(|id| list.entry(&client(0), ObjId(*id)).is_none());
     Ok(ended.count() as u64)
+}
+
+// `size` objects get as many clients each. Returns how many entries the last of them has.
+fn entries(alloc: Global, size: u64, clients: u64) -> Result<u64, AllocError> {
+    let mut list = RefList::new(alloc);
+    for number in 0..clients {
+        for id in 0..size {
+            list.dirty(&client(number), &[ObjId(id)], 1, 600_000)?;
+        }
+    }
+    Ok(list.entries_of(ObjId(size.saturating_sub(1))) as u64)
+}
+
+// `size` objects get one client each, and the lists are copied. Returns how many copies have the entry of the
+// first object.
+fn copies(alloc: Global, size: u64, copies: u64) -> Result<u64, AllocError> {
+    let mut list = RefList::new(alloc);
+    for id in 0..size {
+        list.dirty(&client(id), &[ObjId(id)], 1, 600_000)?;
+    }
+    let mut same: u64 = 0;
+    for _ in 0..copies {
+        let copy = list.copy()?;
+        same = same.wrapping_add(copy.entries_of(ObjId(0)) as u64);
+    }
+    Ok(same)
 }
 
 // Binds `size` names, and then unbinds and binds one of them again, rebinds it and looks it up.

@@ -2,7 +2,7 @@
 //! what the call promises.
 
 use super::classes::OneClass;
-use sp_core::{CoreFault, Event, LentTask, Op, Output, Reply, Root, Shown, SpaceCore, Stand};
+use sp_twin_core::{CoreFault, Event, LentTask, Op, Output, Reply, Root, Shown, SpaceCore, Stand};
 use std::alloc::Global;
 
 /// What a core answers.
@@ -11,8 +11,8 @@ pub type Answer = Result<Vec<Output>, CoreFault>;
 /// What a core answers to a task that is given to it, which comes back if it is refused.
 pub type HandAnswer = Result<Vec<Output>, (LentTask, CoreFault)>;
 
-pub fn event(core: &mut SpaceCore, event: &Event) -> Answer {
-    core.on(event)
+pub fn event(core: &mut SpaceCore, classes: &OneClass, event: &Event) -> Answer {
+    core.on(classes, event)
 }
 
 pub fn root(core: &mut SpaceCore, root: &Root) -> Answer {
@@ -23,13 +23,16 @@ pub fn lend(core: &mut SpaceCore, task: u64) -> Option<LentTask> {
     core.lend(task)
 }
 
+/// Does an operation of a task that stands there.
 pub fn commit(
     core: &mut SpaceCore,
     classes: &OneClass,
     task: &mut LentTask,
+    stand: &Stand,
     op: &Op,
 ) -> Result<Reply, CoreFault> {
-    core.commit(classes, task, op)
+    let (reply, _copy) = core.commit(classes, task, stand, op)?;
+    Ok(reply)
 }
 
 pub fn give_back(core: &mut SpaceCore, alloc: Global, task: LentTask) -> HandAnswer {
@@ -39,12 +42,17 @@ pub fn give_back(core: &mut SpaceCore, alloc: Global, task: LentTask) -> HandAns
     }
 }
 
-pub fn park(core: &mut SpaceCore, task: LentTask, stand: &Stand) -> HandAnswer {
-    core.park(task, stand)
+pub fn park(core: &mut SpaceCore, classes: &OneClass, task: LentTask, stand: &Stand) -> HandAnswer {
+    core.park(classes, task, stand, 0)
 }
 
-pub fn finish(core: &mut SpaceCore, task: LentTask, stand: &Stand) -> HandAnswer {
-    core.finish(task, stand)
+pub fn finish(
+    core: &mut SpaceCore,
+    classes: &OneClass,
+    task: LentTask,
+    stand: &Stand,
+) -> HandAnswer {
+    core.finish(classes, task, stand, 0)
 }
 
 pub fn object(core: &SpaceCore, index: usize) -> Option<Shown> {

@@ -1,19 +1,18 @@
 //! A class set of one remote class.
 
-ghost use Rattle.std.specs.Prelude.{◌≡◌, ◌==◌, map};
-ghost use Rattle.space_ids.specs.declared.ids.ClassId.{ClassId};
-ghost use Rattle.sp_call_classes.specs.ClassSets.{kind_of};
+ghost use Rattle.core_rows.specs.Classes.{IsOneClass};
 
-use sp_core::{ClassSet, FieldKind};
-use space_ids::ClassId;
+use sp_call_classes::{CallClasses, ClassSet, FieldKind, RemoteException, ResultKind};
+use space_ids::{ClassId, Value};
 use std::alloc::{AllocError, Global};
 
-/// A class set with one remote class, each of whose instances has these fields.
+/// A class set with one remote class, each of whose instances has these fields, and without methods. What is
+/// thrown is of one class too.
 #[derive(Drop)]
 pub struct OneClass {
     class: ClassId,
     kinds: Vec<FieldKind>,
-    out_of_memory: ClassId,
+    thrown: ClassId,
 }
 
 impl OneClass {
@@ -25,13 +24,13 @@ impl OneClass {
         Ok(OneClass {
             class: ClassId(7),
             kinds,
-            out_of_memory: ClassId(9),
+            thrown: ClassId(9),
         })
     }
 }
 
 impl ClassSet for OneClass {
-    ghost tells = { λ set c. ((class : ClassId) → c.is_remote class ≡ (class.0 == set.class.0)) × ((class : ClassId) → map kind_of set.kinds.items ≡ c.fields class) × (set.out_of_memory ≡ c.out_of_memory) };
+    ghost tells = { λ set c. IsOneClass set.class set.kinds.items set.thrown c };
 
     fn is_remote(&self, class: ClassId) -> bool {
         class == self.class
@@ -46,6 +45,36 @@ impl ClassSet for OneClass {
     }
 
     fn out_of_memory(&self) -> ClassId {
-        self.out_of_memory
+        self.thrown
+    }
+}
+
+impl CallClasses for OneClass {
+    fn may_call(&self, _: ClassId, _: u32) -> bool {
+        false
+    }
+
+    fn takes(&self, _: u32, arguments: &[Value]) -> bool {
+        arguments.is_empty()
+    }
+
+    fn result_kind(&self, _: u32) -> ResultKind {
+        ResultKind::Nothing
+    }
+
+    fn selected(&self, _: ClassId, _: u32) -> Option<u32> {
+        None
+    }
+
+    fn is_throwable(&self, class: ClassId) -> bool {
+        class == self.thrown
+    }
+
+    fn told_class(&self, class: ClassId) -> ClassId {
+        class
+    }
+
+    fn thrown(&self, _: RemoteException) -> ClassId {
+        self.thrown
     }
 }

@@ -14,6 +14,7 @@
 //! | `ran TASK N` | the machine of the task in hand made N instructions |
 //! | `create TASK CLASS`, `get TASK OBJECT SLOT`, `put TASK OBJECT SLOT VALUE` | the task in hand asks for this |
 //! | `creates TASK N CLASS` | it asks N times; the last answer counts |
+//! | `commit TASK ASKED at STOOD` | the core is told to do this for the task in hand, which stands there: each an operation as above without its task, the second may be `runs` |
 //! | `return TASK [VALUE]`, `throw TASK CLASS`, `spend TASK` | the task in hand has ended so |
 //! | `give TASK` | gives back the task in hand |
 //! | `park TASK`, `finish TASK` | parks or finishes the task in hand, which runs |

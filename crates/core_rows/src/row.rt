@@ -1,7 +1,7 @@
 //! The rows of the input.
 
 use super::parts::{method, name, values};
-use sp_core::{Event, Op, Outcome, Root, Stand, StartFault};
+use sp_twin_core::{Event, Op, Outcome, Root, Stand, StartFault};
 use space_ids::{ObjId, Row as Values, Uuid};
 use std::alloc::Global;
 use test_rows::{RowFault, class, index, number, space, value};
@@ -23,8 +23,8 @@ pub enum Row {
     Root(Root, usize),
     Lend(u64),
     Ran(u64, u64),
-    /// An operation that a task in hand asks for, and how often.
-    Commit(u64, Op, usize),
+    /// An operation of a task in hand that stands there, and how often it comes.
+    Commit(u64, Stand, Op, usize),
     Hand(u64, Hand),
     Object(usize),
     Ready,
@@ -36,7 +36,8 @@ pub fn row_of(alloc: Global, kind: &str, parts: &[&str]) -> Result<Row, RowFault
         "core" => core_of(parts),
         "root" | "roots" | "refused" => root_of(alloc, kind, parts),
         "lend" | "ran" | "object" | "ready" => look_of(kind, parts),
-        "create" | "creates" | "get" | "put" => commit_of(alloc, kind, parts),
+        "create" | "creates" | "get" | "put" => asked_of(alloc, kind, parts),
+        "commit" => commit_of(alloc, parts),
         "give" | "park" | "finish" | "return" | "throw" | "spend" => {
             hand_row(alloc, kind, parts)
         }
@@ -62,14 +63,47 @@ fn look_of(kind: &str, parts: &[&str]) -> Result<Row, RowFault> {
     }
 }
 
-fn commit_of(alloc: Global, kind: &str, parts: &[&str]) -> Result<Row, RowFault> {
-    let [task, parts @ ..] = parts else {
+// An operation of a task that asks for it.
+fn asked_of(alloc: Global, kind: &str, parts: &[&str]) -> Result<Row, RowFault> {
+    let [task, words @ ..] = parts else {
         return Err(RowFault::Bad);
     };
     let task = number(task)?;
-    match (kind, parts) {
-        ("creates", [times, of]) => Ok(Row::Commit(task, Op::Create(class(of)?), index(times)?)),
-        _ => Ok(Row::Commit(task, op_of(alloc, kind, parts)?, 1)),
+    match (kind, words) {
+        ("creates", [times, of]) => {
+            let stand = Stand::AsksFor(Op::Create(class(of)?));
+            Ok(Row::Commit(task, stand, Op::Create(class(of)?), index(times)?))
+        }
+        _ => {
+            let stand = Stand::AsksFor(op_of(alloc, kind, words)?);
+            Ok(Row::Commit(task, stand, op_of(alloc, kind, words)?, 1))
+        }
+    }
+}
+
+// An operation of a task that stands at another point.
+fn commit_of(alloc: Global, parts: &[&str]) -> Result<Row, RowFault> {
+    let [task, words @ ..] = parts else {
+        return Err(RowFault::Bad);
+    };
+    let Some(at) = words.iter().position(|word| *word == "at") else {
+        return Err(RowFault::Bad);
+    };
+    if at >= words.len() {
+        return Err(RowFault::Bad);
+    }
+    let stand = stand_of(alloc, &words[at + 1..])?;
+    match &words[..at] {
+        [kind, words @ ..] => Ok(Row::Commit(number(task)?, stand, op_of(alloc, kind, words)?, 1)),
+        [] => Err(RowFault::Bad),
+    }
+}
+
+fn stand_of(alloc: Global, words: &[&str]) -> Result<Stand, RowFault> {
+    match words {
+        [word] if *word == "runs" => Ok(Stand::Runs),
+        [kind, words @ ..] => Ok(Stand::AsksFor(op_of(alloc, kind, words)?)),
+        [] => Err(RowFault::Bad),
     }
 }
 

@@ -4,7 +4,7 @@ use super::calls;
 use super::calls::{Answer, HandAnswer};
 use super::classes::OneClass;
 use super::row::{Hand, Row, row_of};
-use sp_core::{CoreFault, Event, LentTask, Op, Output, Root, SpaceCore};
+use sp_twin_core::{CoreFault, Event, LentTask, Op, Output, Root, Shown, SpaceCore, Stand};
 use space_ids::Uuid;
 use std::alloc::{AllocError, Global};
 use std::io::Write;
@@ -23,7 +23,7 @@ impl CoreStage {
     /// Returns a core to which nothing has happened, and no task in hand.
     pub fn new(alloc: Global) -> Result<CoreStage, AllocError> {
         let classes = OneClass::new(alloc)?;
-        let core = SpaceCore::new(alloc, Uuid::from_u64_pair(0, 1), 1_000)?;
+        let core = SpaceCore::new(alloc, Uuid::from_u64_pair(0, 1), [0; 32], 1_000)?;
         Ok(CoreStage {
             alloc,
             classes,
@@ -33,17 +33,26 @@ impl CoreStage {
     }
 
     fn begin(&mut self, id: Uuid, fuel: u64) -> Result<(), RowFault> {
-        replace(&mut self.core, SpaceCore::new(self.alloc, id, fuel)?);
+        replace(
+            &mut self.core,
+            SpaceCore::new(self.alloc, id, [0; 32], fuel)?,
+        );
         Ok(())
     }
 
     fn happen(&mut self, said: &mut Vec<u8>, event: &Event) -> Result<(), RowFault> {
-        put_answer(said, &calls::event(&mut self.core, event))
+        let answer = calls::event(&mut self.core, &self.classes, event);
+        put_answer(said, &answer)
     }
 
     fn put_object(&self, said: &mut Vec<u8>, index: usize) -> Result<(), RowFault> {
-        writeln!(said, "{:?}", calls::object(&self.core, index))?;
-        Ok(())
+        match calls::object(&self.core, index) {
+            Some(shown) => put_shown(said, &shown),
+            None => {
+                writeln!(said, "None")?;
+                Ok(())
+            }
+        }
     }
 
     fn put_ready(&self, said: &mut Vec<u8>) -> Result<(), RowFault> {
@@ -90,13 +99,14 @@ impl CoreStage {
         &mut self,
         said: &mut Vec<u8>,
         task: u64,
+        stand: &Stand,
         op: &Op,
         times: usize,
     ) -> Result<(), RowFault> {
         let mut lent = self.taken(task)?;
         let mut answer = Err(CoreFault::NotLent);
         for _ in 0..times {
-            answer = calls::commit(&mut self.core, &self.classes, &mut lent, op);
+            answer = calls::commit(&mut self.core, &self.classes, &mut lent, stand, op);
         }
         self.tasks.push(lent)?;
         match answer {
@@ -108,7 +118,7 @@ impl CoreStage {
 
     fn hand(&mut self, said: &mut Vec<u8>, task: u64, hand: &Hand) -> Result<(), RowFault> {
         let lent = self.taken(task)?;
-        match given(&mut self.core, self.alloc, lent, hand) {
+        match given(&mut self.core, &self.classes, self.alloc, lent, hand) {
             Ok(outputs) => put_outputs(said, &outputs),
             Err((lent, fault)) => {
                 self.tasks.push(lent)?;
@@ -126,7 +136,7 @@ impl Stage for CoreStage {
             Row::Root(root, times) => self.start(said, &root, times),
             Row::Lend(task) => self.lend(said, task),
             Row::Ran(task, made) => self.ran(task, made),
-            Row::Commit(task, op, times) => self.commit(said, task, &op, times),
+            Row::Commit(task, stand, op, times) => self.commit(said, task, &stand, &op, times),
             Row::Hand(task, hand) => self.hand(said, task, &hand),
             Row::Object(index) => self.put_object(said, index),
             Row::Ready => self.put_ready(said),
@@ -134,11 +144,17 @@ impl Stage for CoreStage {
     }
 }
 
-fn given(core: &mut SpaceCore, alloc: Global, lent: LentTask, hand: &Hand) -> HandAnswer {
+fn given(
+    core: &mut SpaceCore,
+    classes: &OneClass,
+    alloc: Global,
+    lent: LentTask,
+    hand: &Hand,
+) -> HandAnswer {
     match hand {
         Hand::Give => calls::give_back(core, alloc, lent),
-        Hand::Park(stand) => calls::park(core, lent, stand),
-        Hand::Finish(stand) => calls::finish(core, lent, stand),
+        Hand::Park(stand) => calls::park(core, classes, lent, stand),
+        Hand::Finish(stand) => calls::finish(core, classes, lent, stand),
     }
 }
 
@@ -156,13 +172,37 @@ fn put_outputs(said: &mut Vec<u8>, outputs: &[Output]) -> Result<(), RowFault> {
         writeln!(said, "done")?;
     }
     for output in outputs {
-        match output {
-            Output::Withdrawn(ids) if ids.as_slice().len() > 8 => {
-                writeln!(said, "Withdrawn, {} objects", ids.as_slice().len())?
-            }
-            _ => writeln!(said, "{output:?}")?,
-        }
+        put_output(said, output)?;
     }
+    Ok(())
+}
+
+fn put_output(said: &mut Vec<u8>, output: &Output) -> Result<(), RowFault> {
+    match output {
+        Output::Started(task) => writeln!(said, "Started({task})")?,
+        Output::Ended(task, outcome) => writeln!(said, "Ended({task}, {outcome:?})")?,
+        Output::Withdrawn(ids) if ids.as_slice().len() > 8 => {
+            writeln!(said, "Withdrawn, {} objects", ids.as_slice().len())?
+        }
+        Output::Withdrawn(ids) => writeln!(said, "Withdrawn({ids:?})")?,
+        Output::Denied(fault) => writeln!(said, "Denied({fault:?})")?,
+        Output::Ready(task) => writeln!(said, "Ready({task})")?,
+        _ => writeln!(said, "of a connection")?,
+    }
+    Ok(())
+}
+
+fn put_shown(said: &mut Vec<u8>, shown: &Shown) -> Result<(), RowFault> {
+    let Shown {
+        id,
+        class,
+        names,
+        entries,
+    } = shown;
+    writeln!(
+        said,
+        "Some(Shown {{ id: {id:?}, class: {class:?}, names: {names}, entries: {entries} }})"
+    )?;
     Ok(())
 }
 

@@ -228,24 +228,20 @@ impl Clients {
     }
 
     /// Notes that the group, or a [part](Group::parts) of it, goes out now in one frame. Returns
-    /// its number, one above the last; `None` if that would be 2^63, and then nothing changes.
+    /// its number, one above the last; `None` if that would be 2^64, and then nothing changes.
     pub fn sent(&mut self, group: &Group, call: u64) -> Option<u64>
         ensures number { IfSome result (λ number. (h : List Told) → IsAfter h self.old → number ≡ numbers_of h + 1) }
-        ensures below { IfSome result (λ number. number < 2 ^ 63) }
         ensures some { IfSome result (λ number. (h : List Told) → IsAfter h self.old → IsAfter (sent group.now call h) self.new) }
-        ensures worn { IfNone result ((h : List Told) → IsAfter h self.old → 2 ^ 63 ≤ numbers_of h + 1) }
+        ensures worn { IfNone result ((h : List Told) → IsAfter h self.old → 2 ^ 64 ≤ numbers_of h + 1) }
         ensures none { IfNone result (self.new ≡ self.old) }
         ensures room { room self.new ≡ room self.old }
     {
-        // Numbers are below 2^63.
-        if self.numbers >= (1 << 63) - 1 {
-            return None;
-        }
+        let number = self.numbers.checked_add(1)?;
         if matches!(group.kind, Due::Dirty) {
             self.tell(group, Change::DirtySent(call));
         }
-        self.numbers += 1;
-        Some(self.numbers)
+        self.numbers = number;
+        Some(number)
     }
 
     /// Returns the number that was given last, 0 if none was.

@@ -28,7 +28,7 @@ named-push o (x ∷ xs) id =
 named-last : (o : ObjId) (ids : List ObjId) → is_named o (ids ++ o ∷ []) ≡ true
 named-last o ids = named-push o ids o ∙ elim (is_named o ids) as (λ t. (t || is_same o o) ≡ true) [ true ↦ refl | false ↦ is_same-refl o ]
 
-named-other : (o : ObjId) (ids : List ObjId) (id : ObjId) → is_same id o ≡ false → is_named o (ids ++ id ∷ []) ≡ is_named o ids
+pub named-other : (o : ObjId) (ids : List ObjId) (id : ObjId) → is_same id o ≡ false → is_named o (ids ++ id ∷ []) ≡ is_named o ids
 named-other o ids id apart = named-push o ids id ∙ or-false (is_named o ids) (is_same o id) (flip (is_same o id) refl)
   where
     or-false : (s t : Bool) → t ≡ false → (s || t) ≡ s

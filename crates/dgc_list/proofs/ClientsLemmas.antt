@@ -17,7 +17,7 @@ use Rattle.dgc_list.specs.declared.remembered.Remembered.{Remembered}
 use Rattle.dgc_list.specs.Remembered.{blank}
 use Rattle.dgc_list.specs.Clients.{remembered_in, is_known, leased, leased_after, without, IsSame, Sets}
 
-bytes_eq-laws : IsEquivalence bytes_eq
+pub bytes_eq-laws : IsEquivalence bytes_eq
 bytes_eq-laws = nat_list_eq_equiv
 
 bytes_eq-refl : (c : List ℕ) → bytes_eq c c ≡ true
@@ -75,7 +75,7 @@ rest-absent c e es distinct here =
     absent-same e.0 c (keys_of es) (sym ((bytes_eq-Decides c e.0).0 here)) (IsDistinct-head bytes_eq e.0 (keys_of es) distinct)
 
 -- taking a client out takes its entry out
-pub leased-remove : (c : List ℕ) (es : List (List ℕ × Remembered)) → IsDistinct bytes_eq (keys_of es) → leased (remove_entry (bytes_eq c) es) ≡ without c (leased es)
+leased-remove : (c : List ℕ) (es : List (List ℕ × Remembered)) → IsDistinct bytes_eq (keys_of es) → leased (remove_entry (bytes_eq c) es) ≡ without c (leased es)
 leased-remove c [] distinct = refl
 leased-remove c (e ∷ es) distinct =
     let tail = IsDistinct-tail bytes_eq e.0 (keys_of es) distinct in
@@ -85,7 +85,7 @@ leased-remove c (e ∷ es) distinct =
     ] refl
 
 -- a client without an entry is not among those with one
-pub without-unleased : (c : List ℕ) (es : List (List ℕ × Remembered)) → IsDistinct bytes_eq (keys_of es)
+without-unleased : (c : List ℕ) (es : List (List ℕ × Remembered)) → IsDistinct bytes_eq (keys_of es)
     → is_some (remembered_in es c).expires ≡ false → without c (leased es) ≡ leased es
 without-unleased c [] distinct bare = refl
 without-unleased c (e ∷ es) distinct bare =
@@ -97,7 +97,7 @@ without-unleased c (e ∷ es) distinct bare =
     ] refl bare
 
 -- writing at the same index, if no entry is set anew
-pub leased-put : (c : List ℕ) (r : Remembered) (es : List (List ℕ × Remembered)) → IsDistinct bytes_eq (keys_of es)
+leased-put : (c : List ℕ) (r : Remembered) (es : List (List ℕ × Remembered)) → IsDistinct bytes_eq (keys_of es)
     → IsTrue (is_known es c) → (IsTrue (is_some r.expires) → IsTrue (is_some (remembered_in es c).expires))
     → leased (set_value (bytes_eq c) es r) ≡ leased_after c (is_some (remembered_in es c).expires) (is_some r.expires) (leased es)
 leased-put c r [] distinct known kept = cc
@@ -112,7 +112,7 @@ leased-put c r (e ∷ es) distinct known kept =
     ] refl known kept
 
 -- taking a client out, by whether it had an entry
-pub leased-taken : (c : List ℕ) (es : List (List ℕ × Remembered)) → IsDistinct bytes_eq (keys_of es)
+leased-taken : (c : List ℕ) (es : List (List ℕ × Remembered)) → IsDistinct bytes_eq (keys_of es)
     → leased (remove_entry (bytes_eq c) es) ≡ leased_after c (is_some (remembered_in es c).expires) false (leased es)
 leased-taken c es distinct =
     elim (is_some (remembered_in es c).expires) as (λ had. is_some (remembered_in es c).expires ≡ had → leased (remove_entry (bytes_eq c) es) ≡ leased_after c had false (leased es)) [
@@ -128,7 +128,7 @@ still-known : (t : Bool) (w x : Option Remembered) → t ≡ false → IsTrue (i
 still-known t w x apart there = rw apart there
 
 -- a change of one key, and of the order of the entries
-pub sets-from : (c : List ℕ) (r : Remembered) (w : Option Remembered) (old new : List (List ℕ × Remembered))
+sets-from : (c : List ℕ) (r : Remembered) (w : Option Remembered) (old new : List (List ℕ × Remembered))
     → ((q : List ℕ) → lookup (bytes_eq q) new ≡ cond (bytes_eq c q) w (lookup (bytes_eq q) old)) → unwrap_or w blank ≡ r
     → leased new ≡ leased_after c (is_some (remembered_in old c).expires) (is_some r.expires) (leased old) → Sets c r old new
 sets-from c r w old new at is order = record {
@@ -145,7 +145,7 @@ leased-last c r (e ∷ es) set =
     [ true ↦ ap (λ cs. e.0 ∷ cs) (leased-last c r es set) | false ↦ leased-last c r es set ]
 
 -- an entry that is set anew after all others
-pub leased-put_last : (c : List ℕ) (r : Remembered) (es : List (List ℕ × Remembered)) → IsDistinct bytes_eq (keys_of es)
+leased-put_last : (c : List ℕ) (r : Remembered) (es : List (List ℕ × Remembered)) → IsDistinct bytes_eq (keys_of es)
     → is_some (remembered_in es c).expires ≡ false → is_some r.expires ≡ true
     → leased (remove_entry (bytes_eq c) es ++ (c, r) ∷ []) ≡ leased_after c (is_some (remembered_in es c).expires) (is_some r.expires) (leased es)
 leased-put_last c r es distinct bare set =
@@ -181,15 +181,19 @@ put-new c r cache absent fits =
     let few : length cache.entries ≤ cache.cap - 1 = omega arith in
     rw (entry-none c cache.entries absent) (ap (λ es. (c, r) ∷ es) (take_all (cache.cap - 1) cache.entries few))
 
+-- and goes after them
+pub demoted-new : (c : List ℕ) (r : Remembered) (es : List (List ℕ × Remembered)) → demoted (bytes_eq c) ((c, r) ∷ es) ≡ es ++ (c, r) ∷ []
+demoted-new c r es = rw (bytes_eq-refl c) refl
+
 one-key : (c x y : List ℕ) → bytes_eq c x ≡ true → bytes_eq c y ≡ bytes_eq x y
 one-key c x y here = ap (λ k. bytes_eq k y) ((bytes_eq-Decides c x).0 here)
 
 -- what is found once a client is written, taken out, or set after all others
-pub lookup-written : (c q : List ℕ) (r : Remembered) (es : List (List ℕ × Remembered)) → IsTrue (is_known es c)
+lookup-written : (c q : List ℕ) (r : Remembered) (es : List (List ℕ × Remembered)) → IsTrue (is_known es c)
     → lookup (bytes_eq q) (set_value (bytes_eq c) es r) ≡ cond (bytes_eq c q) (Some r) (lookup (bytes_eq q) es)
 lookup-written c q r es there = lookup-set_value bytes_eq-laws (bytes_eq c) (one-key c) q r es there
 
-pub lookup-taken : (c q : List ℕ) (es : List (List ℕ × Remembered)) → IsDistinct bytes_eq (keys_of es)
+lookup-taken : (c q : List ℕ) (es : List (List ℕ × Remembered)) → IsDistinct bytes_eq (keys_of es)
     → lookup (bytes_eq q) (remove_entry (bytes_eq c) es) ≡ cond (bytes_eq c q) None (lookup (bytes_eq q) es)
 lookup-taken c q es distinct = lookup-remove_entry bytes_eq-laws (bytes_eq c) (one-key c) q es distinct
 
@@ -208,7 +212,7 @@ or-itself (Some r) = refl
 apart-flips : (c q : List ℕ) → bytes_eq c q ≡ false → bytes_eq q c ≡ false
 apart-flips c q apart = bytes_eq-laws.symm q c ∙ apart
 
-pub lookup-put_last : (c q : List ℕ) (r : Remembered) (es : List (List ℕ × Remembered)) → IsDistinct bytes_eq (keys_of es)
+lookup-put_last : (c q : List ℕ) (r : Remembered) (es : List (List ℕ × Remembered)) → IsDistinct bytes_eq (keys_of es)
     → lookup (bytes_eq q) (remove_entry (bytes_eq c) es ++ (c, r) ∷ []) ≡ cond (bytes_eq c q) (Some r) (lookup (bytes_eq q) es)
 lookup-put_last c q r es distinct =
     lookup-push (bytes_eq q) (c, r) (remove_entry (bytes_eq c) es)
@@ -246,40 +250,64 @@ distinct-put_last c r es distinct =
     rw (keys-push (remove_entry (bytes_eq c) es) (c, r)) (IsDistinct-push bytes_eq-laws (keys_of (remove_entry (bytes_eq c) es)) c (distinct-removed c es distinct)
     (sym (is_some-lookup (bytes_eq c) (remove_entry (bytes_eq c) es)) ∙ ap (λ o. is_some o) gone))
 
-pub distinct-added : (c : List ℕ) (r : Remembered) (es : List (List ℕ × Remembered)) → IsDistinct bytes_eq (keys_of es) → lookup (bytes_eq c) es ≡ None
-    → IsDistinct bytes_eq (keys_of ((c, r) ∷ es))
-distinct-added c r es distinct absent = IsDistinct-cons bytes_eq c (keys_of es) (all-apart es absent) distinct
-  where
-    all-apart : (xs : List (List ℕ × Remembered)) → lookup (bytes_eq c) xs ≡ None → AllByRecursion (λ x. bytes_eq c x ≡ false) (keys_of xs)
-    all-apart [] none = tt
-    all-apart (x ∷ xs) none = elim (bytes_eq c x.0) as (λ t. bytes_eq c x.0 ≡ t → cond t (Some x.1) (lookup (bytes_eq c) xs) ≡ None → (bytes_eq c x.0 ≡ false) × AllByRecursion (λ y. bytes_eq c y ≡ false) (keys_of xs)) [
-      | true ↦ λ _ some. cc
-      | false ↦ λ apart rest. (apart, all-apart xs rest)
-    ] refl none
+pub distinct-none : IsDistinct bytes_eq []
+unfolding IsDistinct
+distinct-none = tt
+
+-- a client is set after all others, and each stands once
+pub distinct-pushed : (c : List ℕ) (r : Remembered) (es : List (List ℕ × Remembered)) → IsDistinct bytes_eq (keys_of es) → is_known es c ≡ false
+    → IsDistinct bytes_eq (keys_of (es ++ (c, r) ∷ []))
+distinct-pushed c r es distinct absent =
+    rw (keys-push es (c, r)) (IsDistinct-push bytes_eq-laws (keys_of es) c distinct (sym (is_some-lookup (bytes_eq c) es) ∙ absent))
 
 -- nothing is remembered of a client that gets room
-blank-added : (c q : List ℕ) (es : List (List ℕ × Remembered)) → lookup (bytes_eq c) es ≡ None
-    → unwrap_or (cond (bytes_eq q c) (Some blank) (lookup (bytes_eq q) es)) blank ≡ remembered_in es q
-blank-added c q es absent =
-    elim (bytes_eq q c) as (λ t. bytes_eq q c ≡ t → unwrap_or (cond t (Some blank) (lookup (bytes_eq q) es)) blank ≡ remembered_in es q) [
-      | true ↦ λ same. ap (λ o. unwrap_or o blank) (sym absent) ∙ ap (remembered_in es) (sym ((bytes_eq-Decides q c).0 same))
-      | false ↦ λ _. refl
-    ] refl
+blank-pushed : (o : Option Remembered) (t : Bool) → unwrap_or (cond (is_some o) o (cond t (Some blank) None)) blank ≡ unwrap_or o blank
+blank-pushed (Some r) t = refl
+blank-pushed None true = refl
+blank-pushed None false = refl
 
-known-added : (t : Bool) (w : Remembered) (x : Option Remembered) → IsTrue (is_some x) → IsTrue (is_some (cond t (Some w) x))
-known-added true w x there = refl
-known-added false w x there = there
+still-pushed : (o p : Option Remembered) → IsTrue (is_some o) → IsTrue (is_some (cond (is_some o) o p))
+still-pushed (Some r) p there = refl
+still-pushed None p there = absurd (false≢true there)
+
+or-last : (o : Option Remembered) (r : Remembered) → IsTrue (is_some (cond (is_some o) o (Some r)))
+or-last (Some v) r = refl
+or-last None r = refl
+
+leased-blank : (c : List ℕ) (es : List (List ℕ × Remembered)) → leased (es ++ (c, blank) ∷ []) ≡ leased es
+leased-blank c [] = refl
+leased-blank c (e ∷ es) =
+    elim (is_some e.1.expires) as (λ t. cond t (e.0 ∷ leased (es ++ (c, blank) ∷ [])) (leased (es ++ (c, blank) ∷ [])) ≡ cond t (e.0 ∷ leased es) (leased es))
+    [ true ↦ ap (λ cs. e.0 ∷ cs) (leased-blank c es) | false ↦ leased-blank c es ]
 
 -- room for a client changes nothing that is remembered
-pub same-added : (c : List ℕ) (es : List (List ℕ × Remembered)) → lookup (bytes_eq c) es ≡ None → IsSame es ((c, blank) ∷ es)
-same-added c es absent = record {
-  remembered = λ q. blank-added c q es absent;
-  leased = refl;
-  known = λ q there. known-added (bytes_eq q c) blank (lookup (bytes_eq q) es) there;
+pub same-pushed : (c : List ℕ) (es : List (List ℕ × Remembered)) → IsSame es (es ++ (c, blank) ∷ [])
+same-pushed c es = record {
+  remembered = λ q. ap (λ o. unwrap_or o blank) (lookup-push (bytes_eq q) (c, blank) es) ∙ blank-pushed (lookup (bytes_eq q) es) (bytes_eq q c);
+  leased = leased-blank c es;
+  known = λ q there. rw (lookup-push (bytes_eq q) (c, blank) es) (still-pushed (lookup (bytes_eq q) es) (cond (bytes_eq q c) (Some blank) None) there);
 }
 
-pub known-first : (c : List ℕ) (r : Remembered) (es : List (List ℕ × Remembered)) → IsTrue (is_known ((c, r) ∷ es) c)
-known-first c r es = rw (bytes_eq-refl c) refl
+pub known-pushed : (c : List ℕ) (r : Remembered) (es : List (List ℕ × Remembered)) → IsTrue (is_known (es ++ (c, r) ∷ []) c)
+known-pushed c r es = rw (lookup-push (bytes_eq c) (c, r) es, bytes_eq-refl c) (or-last (lookup (bytes_eq c) es) r)
+
+-- what a client's removal, a change at its index, and a change at the end leave
+pub sets-taken : (c : List ℕ) (es : List (List ℕ × Remembered)) → IsDistinct bytes_eq (keys_of es) → Sets c blank es (remove_entry (bytes_eq c) es)
+sets-taken c es distinct =
+    sets-from c blank None es (remove_entry (bytes_eq c) es) (λ q. lookup-taken c q es distinct) refl (leased-taken c es distinct)
+
+pub gone-taken : (c : List ℕ) (es : List (List ℕ × Remembered)) → IsDistinct bytes_eq (keys_of es) → is_known (remove_entry (bytes_eq c) es) c ≡ false
+gone-taken c es distinct = rw (lookup-taken c c es distinct, bytes_eq-refl c) refl
+
+pub sets-put : (c : List ℕ) (r : Remembered) (es : List (List ℕ × Remembered)) → IsDistinct bytes_eq (keys_of es) → IsTrue (is_known es c)
+    → (IsTrue (is_some r.expires) → IsTrue (is_some (remembered_in es c).expires)) → Sets c r es (set_value (bytes_eq c) es r)
+sets-put c r es distinct known kept =
+    sets-from c r (Some r) es (set_value (bytes_eq c) es r) (λ q. lookup-written c q r es known) refl (leased-put c r es distinct known kept)
+
+pub sets-put_last : (c : List ℕ) (r : Remembered) (es : List (List ℕ × Remembered)) → IsDistinct bytes_eq (keys_of es)
+    → is_some (remembered_in es c).expires ≡ false → is_some r.expires ≡ true → Sets c r es (remove_entry (bytes_eq c) es ++ (c, r) ∷ [])
+sets-put_last c r es distinct none set =
+    sets-from c r (Some r) es (remove_entry (bytes_eq c) es ++ (c, r) ∷ []) (λ q. lookup-put_last c q r es distinct) refl (leased-put_last c r es distinct none set)
 
 pub lookup-none_from : (o : Option Remembered) → is_some o ≡ false → o ≡ None
 lookup-none_from None h = refl

@@ -6,6 +6,7 @@ use Rattle.std.specs.declared.cmp.Ordering.TheVariants.{Less, Equal, Greater}
 use Rattle.std.specs.Ordering.{ordering_then, nat_cmp, eq_by_cmp}
 use Rattle.std.specs.Cmp.{IsTotalOrder, on_total, then_total, nat_cmp_total}
 use Rattle.std.specs.Cmp.Lexicographic.{nat_list_cmp_total}
+use Rattle.std.proofs.lemmas.Bool.{false≢true}
 use Rattle.std.specs.BTreeSet.{BTreeSet, contains, Updates}
 use Rattle.std.proofs.lemmas.Map.Lookups.{CmpEqualImpliesEq, exact_unsigned, exact_bytes}
 use Rattle.std.proofs.lemmas.Map.Views.{btree_set_contains_iff, tells_apart}
@@ -58,3 +59,7 @@ removed s n k updates other was =
       | true ↦ λ same _. inl (sym (tells_apart exact k other same))
       | false ↦ λ _ left. inr (there n other (left ∙ has s other was))
     ] refl (updates.0 other)
+
+-- and is not there any more
+pub gone : (s n : BTreeSet Expiry) (k : Expiry) → Updates order s n k false → Contains n.keys k → ⊥
+gone s n k updates left = false≢true (sym updates.1 ∙ has n k left)

@@ -1,6 +1,7 @@
 pub mod CallsLemmas
 pub mod ClientsLemmas
 pub mod ExpiriesLemmas
+pub mod FewLemmas
 pub mod HistoryLemmas
 pub mod LawsLemmas
 pub mod ListLemmas

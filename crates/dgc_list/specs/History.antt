@@ -5,7 +5,7 @@ use Rattle.space_ids.specs.declared.ids.ObjId.{ObjId}
 use Rattle.dgc_list.specs.declared.list.RefList.{RefList}
 use Rattle.dgc_list.specs.declared.remembered.Remembered.{Remembered}
 use Rattle.dgc_list.specs.Remembered.{blank, after_dirty, after_clean, after_moment}
-use Rattle.dgc_list.specs.Clients.{leased, leased_after}
+use Rattle.dgc_list.specs.Clients.{is_known, leased, leased_after}
 use Rattle.dgc_list.specs.Objects.{is_same, clients_at, remembered_at, is_named, AreKnown, ArePlanned, IsCovered}
 
 -- A call on a reference list. A history is a list of calls, newest first. A client is the sixteen bytes of its space's id; moments and
@@ -61,6 +61,10 @@ clients_of (Forget object ∷ h) o = if is_same object o then [] else clients_of
 -- There is room for what is remembered of the client at each of these objects.
 abbrev pub HasRoomForClean : List ℕ → List ObjId → RefList → Type 0
 HasRoomForClean client objects list = AreKnown client objects list.objects
+
+-- There is no room for what is remembered of the client at this object.
+abbrev pub HasNoRoom : List ℕ → ObjId → RefList → Type 0
+HasNoRoom client object list = is_known (clients_at list.objects object) client ≡ false
 
 -- There is room for a dirty call of the client, of this number and period, that comes now.
 pub record HasRoomForDirty (client : List ℕ) (objects : List ObjId) (number period : ℕ) (list : RefList) : Type 0 where

@@ -1,4 +1,5 @@
 pub mod Clients
+pub mod Forms
 pub mod History
 pub mod Objects
 pub mod Remembered

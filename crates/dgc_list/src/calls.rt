@@ -32,8 +32,11 @@ pub(crate) fn make_room(
 
 // Takes back the room for a client at those of the objects at which nothing is remembered of it.
 pub(crate) fn release(objects: &mut Objects, client: &Uuid, ids: &[ObjId])
-    ensures { (other : ObjId) → IsAlike (clients_at objects.old other)
+    ensures alike { (other : ObjId) → IsAlike (clients_at objects.old other)
         (clients_at objects.new other) }
+    ensures taken { (id : ObjId) → IsTrue (is_named id ids.now)
+        → IsTrue (is_blank (remembered_at objects.old id client.now))
+        → is_known (clients_at objects.new id) client.now ≡ false }
 {
     for id in ids {
         release_at(objects, client, *id);
@@ -42,8 +45,12 @@ pub(crate) fn release(objects: &mut Objects, client: &Uuid, ids: &[ObjId])
 
 // Takes back the room for a client at an object, if nothing is remembered of it there.
 fn release_at(objects: &mut Objects, client: &Uuid, id: ObjId)
-    ensures { (other : ObjId) → IsAlike (clients_at objects.old other)
+    ensures alike { (other : ObjId) → IsAlike (clients_at objects.old other)
         (clients_at objects.new other) }
+    ensures taken { IsTrue (is_blank (remembered_at objects.old id client.now))
+        → is_known (clients_at objects.new id) client.now ≡ false }
+    ensures others { (other : ObjId) → is_same id other ≡ false
+        → clients_at objects.new other ≡ clients_at objects.old other }
 {
     let remembered = objects.get(id, client);
     if remembered.is_blank() {
@@ -83,9 +90,12 @@ fn replace(
     expiries: &mut Expiries,
     object: ObjId,
     client: &Uuid,
+    before: Remembered,
     remembered: Remembered,
 )
-    requires { IsTrue (is_known (clients_at objects.old object) client.now || is_blank remembered) }
+    requires before { before ≡ remembered_at objects.old object client.now }
+    requires room { IsTrue (is_known (clients_at objects.old object) client.now
+        || is_blank remembered) }
     ensures here { Sets client.now remembered (clients_at objects.old object)
         (clients_at objects.new object) }
     ensures others { (other : ObjId) → is_same object other ≡ false
@@ -96,8 +106,11 @@ fn replace(
     ensures kept { (other : Expiry) → Contains expiries.old other
         → ((remembered_at objects.old object client.now).expires ≡ Some other.moment
         → remembered.expires ≡ Some other.moment) → Contains expiries.new other }
+    ensures gone { (moment : ℕ)
+        → (remembered_at objects.old object client.now).expires ≡ Some moment
+        → (remembered.expires ≡ Some moment → ⊥) → Contains expiries.new
+        (record { moment = moment; object = object; client = client.now }) → ⊥ }
 {
-    let before = objects.get(object, client);
     objects.set(object, client, remembered);
     if let Some(moment) = before.expires
         && !remembered.stands_until(moment)
@@ -125,8 +138,9 @@ pub(crate) fn tell_dirty(
     ensures covered { IsCovered objects.old expiries.old → IsCovered objects.new expiries.new }
 {
     for id in ids {
-        let remembered = objects.get(*id, client).after_dirty(number, expires);
-        replace(objects, expiries, *id, client, remembered);
+        let before = objects.get(*id, client);
+        let remembered = before.after_dirty(number, expires);
+        replace(objects, expiries, *id, client, before, remembered);
     }
 }
 
@@ -144,8 +158,9 @@ pub(crate) fn tell_clean(
     ensures covered { IsCovered objects.old expiries.old → IsCovered objects.new expiries.new }
 {
     for id in ids {
-        let remembered = objects.get(*id, client).after_clean(number, strong);
-        replace(objects, expiries, *id, client, remembered);
+        let before = objects.get(*id, client);
+        let remembered = before.after_clean(number, strong);
+        replace(objects, expiries, *id, client, before, remembered);
     }
 }
 

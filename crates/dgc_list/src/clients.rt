@@ -1,23 +1,31 @@
 //! The clients that are remembered of one object.
 
-ghost use Rattle.std.specs.Prelude.{◌≡◌, [], false, IsTrue, IfOk, OnOk, length, map, filter, is_some, ◌||◌};
+ghost use Rattle.std.specs.Prelude.{◌≡◌, ◌∷◌, ◌++◌, [], false, IsTrue, IfOk, OnOk, OnErr, length, map, filter, is_some, ◌||◌};
+ghost use Rattle.std.specs.Map.{lookup};
+ghost use Rattle.std.specs.Str.{bytes_eq};
 ghost use Rattle.dgc_list.specs.Remembered.{blank, is_blank};
 ghost use Rattle.dgc_list.specs.Clients.{remembered_in, is_known, leased, IsSame, Sets};
 
 use crate::Remembered;
-use lru::LruCache;
+use crate::few::Few;
+use crate::many::Many;
 use std::alloc::{AllocError, Global};
 use std::marker::Model;
-use table_copies::{CopyIn, copy_cache};
+use table_copies::CopyIn;
 use uuid::Uuid;
 
 /// The clients that are remembered of one object. Those with an entry are in the order in which the
-/// entries were first set: a list through the entries of a hash map keeps it, so a client comes and goes
-/// at a cost that does not depend on how many there are. A contract sees the list of the clients with
-/// what is remembered of each.
+/// entries were first set. A contract sees the list of the clients with what is remembered of each.
 #[derive(Drop)]
 pub(crate) struct Clients {
-    remembered: LruCache<Uuid, Remembered>,
+    form: Form,
+}
+
+/// Most objects have few clients, and a hash map takes ten times the memory of a row for them.
+#[derive(Drop)]
+pub(crate) enum Form {
+    Few(Few),
+    Many(Box<Many>),
 }
 
 impl Model for Clients {
@@ -26,48 +34,57 @@ impl Model for Clients {
 
     ghost Value = { List (List ℕ × Remembered) };
 
-    ghost use Rattle.std.specs.Prelude.{◌≡◌, ◌-◌, ◌^◌};
-    ghost use Rattle.std.specs.List.{IsDistinct};
-    ghost use Rattle.std.specs.Map.{keys_of};
-    ghost use Rattle.std.specs.Str.{bytes_eq};
+    ghost use Rattle.dgc_list.specs.Forms.{clients_in};
 
-    ghost view = { λ clients. clients.remembered.entries };
-
-    ghost invariant = { λ clients. IsDistinct bytes_eq (keys_of clients.remembered.entries)
-        × (clients.remembered.cap ≡ 2 ^ 64 - 1) };
+    ghost view = { λ clients. clients_in clients.form };
 }
 
 impl Clients {
-    pub(crate) fn new(alloc: Global) -> Result<Clients, AllocError>
-        ensures { IfOk result (λ clients. clients ≡ []) }
+    pub(crate) fn new(alloc: Global) -> Clients
+        ensures { result ≡ [] }
     {
-        Ok(Clients {
-            remembered: LruCache::unbounded(alloc)?,
-        })
+        Clients {
+            form: Form::Few(Few::new(alloc)),
+        }
     }
 
     // The same clients.
-    pub(crate) fn copy(&self) -> Result<Clients, AllocError>
+    pub(crate) fn copy(&self, alloc: Global) -> Result<Clients, AllocError>
         ensures { IfOk result (λ copy. copy ≡ self.now) }
     {
-        Ok(Clients {
-            remembered: copy_cache(&self.remembered)?,
-        })
+        let form = match &self.form {
+            Form::Few(few) => Form::Few(few.copy()?),
+            Form::Many(many) => Form::Many(Box::new(alloc, many.copy()?)?),
+        };
+        Ok(Clients { form })
     }
 
     pub(crate) fn is_empty(&self) -> bool
         ensures { IsTrue result → self.now ≡ [] }
     {
-        self.remembered.is_empty()
+        match &self.form {
+            Form::Few(few) => few.is_empty(),
+            Form::Many(many) => many.is_empty(),
+        }
     }
 
     // What is remembered of the client.
     pub(crate) fn get(&self, client: &Uuid) -> Remembered
         ensures { result ≡ remembered_in self.now client.now }
     {
-        match self.remembered.peek(client) {
-            Some(remembered) => *remembered,
+        match self.find(client) {
+            Some(remembered) => remembered,
             None => Remembered::BLANK,
+        }
+    }
+
+    // What is remembered of the client, if it has room.
+    fn find(&self, client: &Uuid) -> Option<Remembered>
+        ensures { result ≡ lookup (bytes_eq client.now) self.now }
+    {
+        match &self.form {
+            Form::Few(few) => few.find(client),
+            Form::Many(many) => many.find(client),
         }
     }
 
@@ -76,57 +93,81 @@ impl Clients {
         ensures { IfOk result (λ clients. clients.items
             ≡ map (λ entry. entry.0) (filter (λ entry. is_some entry.1.expires) self.now)) }
     {
-        self.remembered
-            .iter()
-            .filter(|entry| entry.1.expires.is_some())
-            .map(|entry| *entry.0)
-            .collect(alloc)
+        match &self.form {
+            Form::Few(few) => few.leased(alloc),
+            Form::Many(many) => many.leased(alloc),
+        }
     }
 
     // How many clients have an entry.
-    #[tactic(auto, using(crate::proofs::ClientsLemmas::leased_count))]
     pub(crate) fn count(&self) -> usize
         ensures { result ≡ length (leased self.now) }
     {
-        self.remembered
-            .iter()
-            .filter(|entry| entry.1.expires.is_some())
-            .count()
+        match &self.form {
+            Form::Few(few) => few.count(),
+            Form::Many(many) => many.count(),
+        }
     }
 
     // Makes room for the client. That nothing is remembered of it stays so.
-    pub(crate) fn add(&mut self, client: &Uuid) -> Result<(), AllocError>
+    pub(crate) fn add(&mut self, client: &Uuid, alloc: Global) -> Result<(), AllocError>
         ensures known { OnOk result (IsTrue (is_known self.new client.now)) }
         ensures same { IsSame self.old self.new }
     {
-        if self.remembered.contains(client) {
+        if self.find(client).is_some() {
             return Ok(());
         }
-        let count = self.remembered.len();
-        prove!(count < usize::MAX);
-        self.remembered.put(*client, Remembered::BLANK)?;
+        self.widen(alloc)?;
+        self.push(client, Remembered::BLANK)?;
         Ok(())
+    }
+
+    // Makes a hash map of a row that is to get no longer.
+    fn widen(&mut self, alloc: Global) -> Result<(), AllocError>
+        ensures { self.new ≡ self.old }
+    {
+        if let Form::Few(few) = &self.form
+            && few.is_full()
+        {
+            let many = Box::new(alloc, few.to_many()?)?;
+            self.form = Form::Many(many);
+        }
+        Ok(())
+    }
+
+    // Adds a client after the others.
+    fn push(&mut self, client: &Uuid, remembered: Remembered) -> Result<(), AllocError>
+        requires { is_known self.old client.now ≡ false }
+        ensures pushed { OnOk result (self.new ≡ self.old ++ (client.now, remembered) ∷ []) }
+        ensures same { OnErr result (self.new ≡ self.old) }
+    {
+        match &mut self.form {
+            Form::Few(few) => few.push(client, remembered),
+            Form::Many(many) => many.push(client, remembered),
+        }
     }
 
     // Sets what is remembered of a client if it has room, or if that is nothing; else nothing
     // changes. A new entry goes after the others, and a client of which nothing is remembered goes.
     pub(crate) fn set(&mut self, client: &Uuid, remembered: Remembered)
-        ensures { IsTrue (is_known self.old client.now || is_blank remembered)
+        ensures sets { IsTrue (is_known self.old client.now || is_blank remembered)
             → Sets client.now remembered self.old self.new }
+        ensures gone { IsTrue (is_blank remembered) → is_known self.new client.now ≡ false }
     {
         if remembered.is_blank() {
             self.take_out(client);
-        } else if self.remembered.contains(client) {
-            self.put_anywhere(client, remembered);
+        } else if let Some(before) = self.find(client) {
+            self.put_anywhere(client, before, remembered);
         }
     }
 
-    // Sets what is remembered of a client: a new entry goes after the others.
-    fn put_anywhere(&mut self, client: &Uuid, remembered: Remembered)
-        requires { IsTrue (is_known self.old client.now) }
+    // Sets what is remembered of a client that has room: a new entry goes after the others.
+    fn put_anywhere(&mut self, client: &Uuid, before: Remembered, remembered: Remembered)
+        requires known { IsTrue (is_known self.old client.now) }
+        requires before { before ≡ remembered_in self.old client.now }
         ensures { Sets client.now remembered self.old self.new }
     {
-        if remembered.expires.is_some() && self.get(client).expires.is_none() {
+        if remembered.expires.is_some() && before.expires.is_none() {
             self.put_last(client, remembered);
         } else {
             self.put(client, remembered);
@@ -135,9 +176,13 @@ impl Clients {
 
     // Takes the client out.
     fn take_out(&mut self, client: &Uuid)
-        ensures { Sets client.now blank self.old self.new }
+        ensures sets { Sets client.now blank self.old self.new }
+        ensures gone { is_known self.new client.now ≡ false }
     {
-        let _ = self.remembered.pop(client);
+        match &mut self.form {
+            Form::Few(few) => few.take_out(client),
+            Form::Many(many) => many.take_out(client),
+        }
     }
 
     // Sets what is remembered of a client, whose index stays: no entry is set anew.
@@ -147,9 +192,9 @@ impl Clients {
             → IsTrue (is_some (remembered_in self.old client.now).expires) }
         ensures { Sets client.now remembered self.old self.new }
     {
-        match self.remembered.peek_mut(client) {
-            Some(before) => *before = remembered,
-            None => unreachable!(),
+        match &mut self.form {
+            Form::Few(few) => few.put(client, remembered),
+            Form::Many(many) => many.put(client, remembered),
         }
     }
 
@@ -160,10 +205,10 @@ impl Clients {
         requires set { IsTrue (is_some remembered.expires) }
         ensures { Sets client.now remembered self.old self.new }
     {
-        let Ok(_) = self.remembered.put(*client, remembered) else {
-            unreachable!();
-        };
-        let _ = self.remembered.demote(client);
+        match &mut self.form {
+            Form::Few(few) => few.put_last(client, remembered),
+            Form::Many(many) => many.put_last(client, remembered),
+        }
     }
 }
 
@@ -172,7 +217,7 @@ impl CopyIn for Clients {
 
     ghost is_copy = { λ clients copy. copy ≡ clients };
 
-    fn copy_in(&self, _alloc: Global) -> Result<Clients, AllocError> {
-        self.copy()
+    fn copy_in(&self, alloc: Global) -> Result<Clients, AllocError> {
+        self.copy(alloc)
     }
 }

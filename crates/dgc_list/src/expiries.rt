@@ -54,8 +54,9 @@ impl Expiries {
 
     // Takes an expiry out.
     pub(crate) fn remove(&mut self, expiry: Expiry)
-        ensures { (other : Expiry) → Contains self.old other
+        ensures others { (other : Expiry) → Contains self.old other
             → (other ≡ expiry) ⊎ Contains self.new other }
+        ensures gone { Contains self.new expiry → ⊥ }
     {
         let _ = self.row.remove(&expiry);
     }

@@ -26,7 +26,9 @@ pub struct RefList {
 }
 
 impl RefList {
-    ghost use Rattle.dgc_list.specs.History.{Call, granted, remembered_of, clients_of, HasRoomForClean, HasRoomForDirty, IsAfter};
+    ghost use Rattle.dgc_list.specs.Remembered.{is_blank};
+    ghost use Rattle.dgc_list.specs.Objects.{is_named};
+    ghost use Rattle.dgc_list.specs.History.{Call, granted, remembered_of, clients_of, HasRoomForClean, HasRoomForDirty, HasNoRoom, IsAfter};
     ghost use Rattle.dgc_list.specs.History.Call.{Dirty, Clean, Moment, Forget};
 
     /// Returns reference lists after no call, at moment 0.
@@ -71,7 +73,11 @@ impl RefList {
     /// Takes back the room that was made for a client at those of these objects at which nothing is
     /// remembered of it: an event that made room and was refused changes nothing.
     pub fn release(&mut self, client: &Uuid, objects: &[ObjId])
-        ensures { (h : List Call) → IsAfter h self.old → IsAfter h self.new }
+        ensures same { (h : List Call) → IsAfter h self.old → IsAfter h self.new }
+        ensures taken { (h : List Call) → IsAfter h self.old → (object : ObjId)
+            → IsTrue (is_named object objects.now)
+            → IsTrue (is_blank (remembered_of h client.now object))
+            → HasNoRoom client.now object self.new }
     {
         release(&mut self.objects, client, objects);
     }

@@ -75,8 +75,9 @@ impl Objects {
             (clients_at self.new other) }
     {
         self.add_object(object)?;
+        let alloc = *self.lists.allocator();
         match self.lists.get_mut(&object) {
-            Some(clients) => clients.add(client),
+            Some(clients) => clients.add(client, alloc),
             None => unreachable!(),
         }
     }
@@ -87,8 +88,8 @@ impl Objects {
         ensures same { (other : ObjId) → clients_at self.new other ≡ clients_at self.old other }
     {
         if !self.lists.contains_key(&object) {
-            let clients = Clients::new(*self.lists.allocator())?;
-            self.lists.insert(object, clients)?;
+            let clients = Clients::new(*self.lists.allocator());
+            drop(self.lists.insert(object, clients)?);
         }
         Ok(())
     }
@@ -98,6 +99,8 @@ impl Objects {
         ensures here { IsTrue (is_known (clients_at self.old object) client.now
             || is_blank remembered) → Sets client.now remembered (clients_at self.old object)
             (clients_at self.new object) }
+        ensures gone { IsTrue (is_blank remembered)
+            → is_known (clients_at self.new object) client.now ≡ false }
         ensures others { (other : ObjId) → is_same object other ≡ false
             → clients_at self.new other ≡ clients_at self.old other }
     {

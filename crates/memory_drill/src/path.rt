@@ -9,7 +9,7 @@ use cls_link::LinkFault;
 use cls_set::SetFault;
 use sp_files::{ClassBytes, Content, Refusal, RunOutcome};
 use sp_main::{Folder, FolderFault, command};
-use sp_runs::run_classes;
+use sp_space_runs::run_classes;
 use std::alloc::{AllocError, Global};
 use std::io;
 use std::io::ErrorKind;

@@ -1,5 +1,7 @@
 //! How calls were answered.
 
+ghost use Rattle.std.specs.Prelude.{◌≡◌};
+
 /// How many answers were right and wrong, and how many calls were out of memory and made again.
 #[derive(Clone, Copy, Debug, Default)]
 pub struct Tally {
@@ -19,7 +21,9 @@ impl Tally {
     }
 
     /// Counts a call that was out of memory, and puts the answer of the same call, made again, in place of its own.
-    pub fn replace<T: Drop>(&mut self, answer: &mut T, again: T) {
+    pub fn replace<T: Drop>(&mut self, answer: &mut T, again: T)
+        ensures { answer.new ≡ again }
+    {
         self.wants = self.wants.saturating_add(1);
         *answer = again;
     }

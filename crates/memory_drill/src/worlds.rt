@@ -1,6 +1,9 @@
 //! Two spaces of a world. An event that was out of memory happens again in the same world, which then owes what it
 //! owed before.
 
+ghost use Rattle.std.specs.Prelude.{IfOk};
+ghost use Rattle.sp_reply_laws.specs.Told.{AreRemoteRules};
+
 use super::Tally;
 use super::path::is_want;
 use super::remote::{ADDER, CELL};
@@ -115,14 +118,23 @@ fn files(alloc: Global) -> Result<Vec<ClassBytes>, AllocError> {
     Ok(files)
 }
 
-fn program(alloc: Global, files: &[ClassBytes], tally: &mut Tally) -> Result<Program, Refusal> {
-    let mut answer = program_of(alloc, files);
+fn program(alloc: Global, files: &[ClassBytes], tally: &mut Tally) -> Result<Program, Refusal>
+    ensures { IfOk result (λ program. AreRemoteRules program.classes) }
+{
+    let mut answer = made_program(alloc, files);
     if let Err(refusal) = &answer
         && is_want(refusal)
     {
-        tally.replace(&mut answer, program_of(alloc, files));
+        tally.replace(&mut answer, made_program(alloc, files));
     }
     answer
+}
+
+// A program that files make keeps the rules on its remote classes.
+fn made_program(alloc: Global, files: &[ClassBytes]) -> Result<Program, Refusal>
+    ensures { IfOk result (λ program. AreRemoteRules program.classes) }
+{
+    program_of(alloc, files)
 }
 
 // The object that the owner has made.
@@ -373,7 +385,9 @@ fn play_spaces<S: Played + Drop>(
     Ok(())
 }
 
-fn play_program(alloc: Global, program: &Program, tally: &mut Tally) -> Result<(), AllocError> {
+fn play_program(alloc: Global, program: &Program, tally: &mut Tally) -> Result<(), AllocError>
+    requires { AreRemoteRules program.now.classes }
+{
     let classes = CallSet::new(alloc, program)?;
     let homes = Homes::new(alloc, program, &classes, [7; 32]);
     let mut spaces = Vec::new(alloc);

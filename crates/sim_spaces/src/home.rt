@@ -1,8 +1,10 @@
 //! A space with the program that its tasks run, as scripts play it.
 
-ghost use Rattle.std.specs.Prelude.{◌≡◌, ◌⊎◌, ℕ, List, None, Some, IfOk, option_map, slice_get};
+ghost use Rattle.std.specs.Prelude.{◌≡◌, ◌⊎◌, [], None, Some, IfOk, map, option_map, slice_get};
 ghost use Rattle.cls_set.specs.Classes.{name_at};
+ghost use Rattle.sp_call_space.specs.Slices.{IsSliceOf};
 ghost use Rattle.sp_call_space.specs.Spaces.{IsSpace};
+ghost use Rattle.sp_outputs.specs.Notes.{output_of};
 ghost use Rattle.sp_rules.specs.Classes.{Setting};
 ghost use Rattle.sp_rules.specs.State.{State, standing};
 ghost use Rattle.sp_files.specs.Names.{NamesMethod};
@@ -64,8 +66,14 @@ impl<'p> Played for Home<'p> {
         }
     }
 
+    fn run(&mut self, task: u64, most: u64) -> Result<Vec<Output>, CoreFault>
+        ensures { IfOk result (λ outputs. (g : Setting) (s : State) → IsSpace g s self.old.space → IsSliceOf g s task most self.new.space (map output_of outputs.items)) }
+    {
+        self.space.run(task, most)
+    }
+
     fn ready(&self) -> Option<u64>
-        ensures { (g : Setting) (s : State) → IsSpace g s self.now.space → (lent : List ℕ) × (result ≡ lowest_ready lent s) }
+        ensures { (g : Setting) (s : State) → IsSpace g s self.now.space → result ≡ lowest_ready [] s }
     {
         self.space.ready()
     }

@@ -3,6 +3,7 @@
 ghost use Rattle.std.specs.Prelude.{◌≡◌, IfOk};
 ghost use Rattle.sp_call_space.specs.Spaces.{AreLimits, IsSpace};
 ghost use Rattle.sp_classes.specs.Classes.{classes_of};
+ghost use Rattle.sp_reply_laws.specs.Told.{AreRemoteRules};
 ghost use Rattle.sp_rules.specs.Classes.{Setting};
 ghost use Rattle.sp_rules.specs.State.{opening};
 ghost use Rattle.sim_spaces.specs.Homes.{played_limits};
@@ -30,24 +31,27 @@ pub struct Homes<'p> {
 
 impl<'p> Model for Homes<'p> {
     ghost use Rattle.std.specs.Prelude.{◌≡◌};
+    ghost use Rattle.sp_reply_laws.specs.Told.{AreRemoteRules};
     ghost use Rattle.sim_spaces.specs.Homes.{Origins};
 
     ghost Value = { Origins };
 
     ghost view = { λ homes. record { links = homes.program.now; digest = homes.digest } };
 
-    ghost invariant = { λ homes. homes.classes.now ≡ homes.program.now };
+    ghost invariant = { λ homes. (homes.classes.now ≡ homes.program.now) × AreRemoteRules homes.program.now.classes };
 }
 
 impl<'p> Homes<'p> {
-    /// Returns what makes spaces of this program. The class set is that of the program.
+    /// Returns what makes spaces of this program. The class set is that of the program, whose remote classes and
+    /// interfaces keep the rules on them.
     pub fn new(
         alloc: Global,
         program: &'p Program,
         classes: &'p CallSet<'p>,
         digest: Digest,
     ) -> Homes<'p>
-        requires { classes.now ≡ program.now }
+        requires classes { classes.now ≡ program.now }
+        requires rules { AreRemoteRules program.now.classes }
         ensures { result ≡ record { links = program.now; digest = digest } }
     {
         Homes {

@@ -38,6 +38,7 @@ row_view g e h = record {
   Known = λ p. Unit {0};
   Fails = λ c. Unit {0};
   Ends = λ a r. Unit {0};
+  Starts = λ o n a. Unit {0};
   Keeps = λ l s. AllOf (Row (e ∷ h)) s.connections;
 }
 
@@ -60,6 +61,7 @@ row_flow g e h = record {
   origins = λ l s k. all-from g e h s.tasks;
   sided = λ p a. tt;
   fails = λ asked class a. tt;
+  starts = λ l s p target method fuel arguments o n going k known is stands finds. tt;
   gives = λ p value fuel asked is a b c. tt;
   refuses = λ c n class is. tt;
   finds = λ c n name r is own. tt;
@@ -67,6 +69,7 @@ row_flow g e h = record {
   says = λ l s output is so k. k;
   sends = λ l s turn c m may held k. k;
   clears = λ s k. k;
+  stores = λ l s store is k. k;
   adds = λ l s q k. k;
   calls_out = λ l s turn c peer number task lent kind m there k. k;
   looks_out = λ l s turn c peer number task name there k. k;
@@ -78,7 +81,7 @@ row_flow g e h = record {
   removes_one = λ l s finds is n q eq passes has k. k;
   removes_told = λ l s dirty c sequence k. k;
   answers = λ l s c n k. k;
-  begins = λ l s origin method arguments fuel going k. k;
+  begins = λ l s origin method arguments fuel going at k. k;
   ends = λ l s id t over is k. k;
   replies = λ l s peer number task lent kind m reply t may is k. k;
   replies_none = λ l s peer number task lent kind m is k. k;
@@ -101,14 +104,15 @@ row-begin g s e h = record {
   opens = λ c dialled is k. all-more (Row (e ∷ h)) s.connections (record { number = c; dialled = dialled; peer = None; last = 0; sent = [] }) k (inl (sym is));
   parks = λ id n t target method arguments is ready stands k. k;
   looks = λ peer name is k. k;
+  roots = λ method arguments fuel is. tt;
   unmarshal = λ is. tt;
   connect = λ is. tt;
   marshal = λ is. tt;
   threw = λ c n class is q found has. tt;
   spent = λ c n is q found has. tt;
   finished = λ id n t outcome c m is ready stands origin. tt;
-  call_came = λ p is there. tt;
-  result_came = λ p value fuel is frame there q found. tt;
+  call_came = λ p target o method passed arguments is there stands may fit names. tt;
+  result_came = λ p value fuel is frame there q found fits names. tt;
 }
 
 pub rows-opened : (g : Setting) (h : List Event) → AllOf (Row h) (Space.state_of g h).connections

@@ -17,7 +17,7 @@ use Rattle.sp_rules.specs.Refusals
 use Rattle.sp_rules.specs.Refusals.{Refusal, refusal, NotLent}
 use Rattle.sp_rules.specs.Space
 use Rattle.sp_rules.specs.State.{State, Connection, connection_at, is_open, task_at}
-use Rattle.sp_rules.specs.Tasks.{Task, Stand, Runs, AsksFor, HasEnded, stand, step}
+use Rattle.sp_rules.specs.Tasks.{Task, Stand, Runs, AsksFor, HasEnded, is_at_end, stand, step}
 use Rattle.sp_rules.specs.Worlds
 use Rattle.sp_rules.specs.Worlds.{World, Space, Pipe, Side, Phase, Unopened, Live, Over, End, Dialler, Accepter, WorldEvent, Own, Step, Open, Refuse, Accept, Deliver, ReadFails, WriteFails, side, other, end_of, id_in, grown, put, take_event, acts, happens, after, run, new_space, new_world}
 use Rattle.sp_rules.proofs.AllLemmas.{some-none, all-weaken, all-more}
@@ -406,7 +406,7 @@ lent-quiet id task = at (stand task)
     of-op (Call target method arguments) = (parked, tt)
 
     at : (stands : Stand) → AllOf Quiet (Worlds.events_at id task stands)
-    at Runs = after-one (Worlds.is_over (stand (step task)))
+    at Runs = after-one (is_at_end (step task).behaviour)
     at (AsksFor op) = of-op op
     at (HasEnded outcome) = (finished 0, tt)
 

@@ -35,7 +35,7 @@ use Rattle.vm_run.specs.declared.outcome.Outcome.{Outcome}
 use Rattle.vm_run.specs.declared.outcome.Outcome.TheVariants as outcome
 use Rattle.vm_run.proofs.Runs.{IsNeverStuck-answer, IsNeverStuck-step, IsQuiet, answered_quiet, at_once}
 use Rattle.sp_behaviours.specs.Behaviours.{after_reply, asking, behaviour_of, by_next, by_reply, completed_by, op_at, reply_to, told, told_end, told_ending, told_some}
-use Rattle.sp_behaviours.specs.Follows.{Follows, HoldsAs, HoldsAsked, PlaysOn, stand_before, stand_of, waiting}
+use Rattle.sp_behaviours.specs.Follows.{Follows, HoldsAs, HoldsAsked, PlaysOn, is_over, stand_before, stand_of, waiting}
 use Rattle.sp_behaviours.proofs.Coming.{Comes, comes, stays-within}
 use Rattle.sp_behaviours.proofs.OwnSteps.{IsGiven, answer-gives, answer-gives-back, answer-runs-out, answer-throws, answer-throws-lent, stand-is, step-asks, step-ended, step-ends, step-plain}
 use Rattle.sp_behaviours.proofs.Stays.{Stays, copy-keeps, goes, pushes, step-stays}
@@ -54,7 +54,7 @@ over-follows : (links : Links) (g : Setting) (t : Task) (o : Option End) (fuel :
     → IsNeverStuck links (over o fuel) → Follows links g t (over o fuel)
 over-follows links g t None fuel b f safe = absurd (at_once links Lost safe)
 over-follows links g t (Some end) fuel b f safe =
-    record { depth = 0; behaviour = stand-is t (rules.Over (told_end links.classes end)) fuel b f; fuel = f; held = tt; never_stuck = safe }
+    record { depth = 0; behaviour = stand-is t (rules.Over (told_end links.classes end)) fuel b f; fuel = f; held = tt; calls = tt; never_stuck = safe }
 
 -- a task with fuel is at an instruction: its tree is deeper than nothing
 at-instruction : (links : Links) (t : Task) (m : Machine) (fuel depth : ℕ) → suc fuel ≤ depth → t.behaviour ≡ behaviour_of links depth m
@@ -79,7 +79,7 @@ spent-stands : (links : Links) (t : Task) (m : Machine) (depth : ℕ) → t.beha
 spent-stands links t m depth b f = stand-is t (behaviour_of links depth m) 0 b f ∙ spent-at links m depth
 
 module _ (links : Links) (g : Setting) (t : Task) (m : Machine) (fuel depth : ℕ) (le : fuel ≤ depth) (f : t.fuel ≡ suc fuel) (holds : HoldsAs g t.held m.references) where
-  next-follows : (n : Next) → t.behaviour ≡ by_next links.classes m.heap.cells (behaviour_of links depth) n → Stays m.references n
+  next-follows : (n : Next) → t.behaviour ≡ by_next links.classes m.heap.cells (behaviour_of links depth) n → Stays links m.references n
       → IsNeverStuck links (after m.heap.cells n fuel) → Follows links g (tasks.step t) (after m.heap.cells n fuel)
   next-follows (On m') b stays safe =
       let e = step-plain t (behaviour_of links depth m') fuel b f in
@@ -88,6 +88,7 @@ module _ (links : Links) (g : Setting) (t : Task) (m : Machine) (fuel depth : �
         behaviour = (le, ap (λ (u : Task). u.behaviour) e);
         fuel = ap (λ (u : Task). u.fuel) e;
         held = hold-on g t.held (tasks.step t).held m.references m'.references (ap (λ (u : Task). u.held) e) stays holds;
+        calls = tt;
         never_stuck = safe;
       }
   next-follows (Ends ending) b stays safe =
@@ -101,6 +102,7 @@ module _ (links : Links) (g : Setting) (t : Task) (m : Machine) (fuel depth : �
         behaviour = (le, ap (λ (u : Task). u.behaviour) e ∙ b);
         fuel = ap (λ (u : Task). u.fuel) e ∙ f;
         held = (held, subst (λ (rows : List Ref). HoldsAsked rows op) held.rows stays.1);
+        calls = stays.2;
         never_stuck = safe;
       }
   next-follows Stuck b stays safe = absurd (at_once links Lost safe)
@@ -133,6 +135,7 @@ step-follows links g t (Running m zero) f =
       behaviour = ap tasks.stand e ∙ ended;
       fuel = ap (λ (u : Task). u.fuel) e ∙ f.fuel;
       held = tt;
+      calls = tt;
       never_stuck = IsNeverStuck-step links (Running m zero) f.never_stuck;
     }
 step-follows links g t (Running m (suc fuel)) f =
@@ -169,6 +172,37 @@ steps-made links g t s (suc k) f =
     let here : (tasks.step t).made ≡ t.made + made_in links s = made-one links g t s f in
     let more : (tasks.steps k (tasks.step t)).made ≡ (tasks.step t).made + made links k (step links s) = steps-made links g (tasks.step t) (step links s) k (step-follows links g t s f) in
     omega (arith, here, more)
+
+-- a machine that may go on has not ended
+not-over : (links : Links) (depth : ℕ) (m : Machine) → tasks.is_at_end (behaviour_of links depth m) ≡ false
+unfolding behaviour_of
+not-over links zero m = refl
+not-over links (suc d) m = by (insns.step links m)
+  where
+    by : (n : Next) → tasks.is_at_end (by_next links.classes m.heap.cells (behaviour_of links d) n) ≡ false
+    by (On m') = refl
+    by (Ends ending) = refl
+    by (Asks op m') = refl
+    by Stuck = refl
+
+-- an instruction of its own ends it where it ends the machine
+pub ends-made : (links : Links) (g : Setting) (t : Task) (m : Machine) (fuel : ℕ) → Follows links g t (Running m (suc fuel)) → tasks.is_at_end (tasks.step t).behaviour ≡ is_over (run links 1 (Running m (suc fuel)))
+unfolding run step
+ends-made links g t m fuel f =
+    let at = at-instruction links t m fuel f.depth f.behaviour.0 f.behaviour.1 in
+    by at.0 (insns.step links m) at.2 (safe-step links m fuel f.never_stuck)
+  where
+    over-ends : (o : Option End) → IsNeverStuck links (over o fuel) → true ≡ is_over (over o fuel)
+    over-ends None safe = absurd (at_once links Lost safe)
+    over-ends (Some end) safe = refl
+
+    by : (d : ℕ) (n : Next) → t.behaviour ≡ by_next links.classes m.heap.cells (behaviour_of links d) n → IsNeverStuck links (after m.heap.cells n fuel)
+        → tasks.is_at_end (tasks.step t).behaviour ≡ is_over (after m.heap.cells n fuel)
+    by d (On m') b safe = ap (λ (u : Task). tasks.is_at_end u.behaviour) (step-plain t (behaviour_of links d m') fuel b f.fuel) ∙ not-over links d m'
+    by d (Ends ending) b safe =
+        ap (λ (u : Task). tasks.is_at_end u.behaviour) (step-ends t (told_ending links.classes (end_of m.heap.cells ending)) fuel b f.fuel) ∙ over-ends (end_of m.heap.cells ending) safe
+    by d (Asks op m') b safe = ap (λ (u : Task). tasks.is_at_end u.behaviour) (waits-still links t op m' fuel d b f.fuel) ∙ ap tasks.is_at_end b
+    by d Stuck b safe = absurd (at_once links Lost safe)
 
 -- what waits for a reply stands where it stood
 pub asks-unchanged : (links : Links) (g : Setting) (t : Task) (s : State) (op : Asked) (m : Machine) (fuel : ℕ) → Follows links g t s → step links s ≡ Waits op m fuel → tasks.step t ≡ t
@@ -207,7 +241,7 @@ stands links g t (Running m (suc fuel)) f =
     by d (On m') b = stand-is t (rules.Plain (behaviour_of links d m')) (suc fuel) b f.fuel
     by d (Ends ending) b = stand-is t (rules.Ends (told_ending links.classes (end_of m.heap.cells ending))) (suc fuel) b f.fuel
     by d (Asks op m') b = stand-is t (asking links.classes (behaviour_of links d) op m') (suc fuel) b f.fuel
-    by d Stuck b = stand-is t (rules.Over rules.Spent) (suc fuel) b f.fuel
+    by d Stuck b = stand-is t (rules.Ends rules.Spent) (suc fuel) b f.fuel
 stands links g t (Waits op m fuel) f = stand-is t (asking links.classes (behaviour_of links f.depth) op m) (suc fuel) f.behaviour.1 f.fuel
 stands links g t (Over end fuel) f = f.behaviour
 stands links g t Lost f = absurd (at_once links Lost f.never_stuck)
@@ -234,16 +268,16 @@ GoesOn g held Stuck = Unit {0}
 
 reply-follows : (links : Links) (g : Setting) (u : Task) (cells : List Cell) (fuel depth : ℕ) (n : Next) → fuel ≤ depth
     → u.behaviour ≡ after_reply links.classes cells (behaviour_of links depth) n → u.fuel ≡ fuel → GoesOn g u.held n → IsNeverStuck links (after cells n fuel) → Follows links g u (after cells n fuel)
-reply-follows links g u cells fuel depth (On m) le b f holds safe = record { depth = depth; behaviour = (le, b); fuel = f; held = holds; never_stuck = safe }
+reply-follows links g u cells fuel depth (On m) le b f holds safe = record { depth = depth; behaviour = (le, b); fuel = f; held = holds; calls = tt; never_stuck = safe }
 reply-follows links g u cells fuel depth (Ends ending) le b f holds safe = over-follows links g u (end_of cells ending) fuel b f safe
 reply-follows links g u cells fuel depth (Asks op m) le b f holds safe = absurd holds
 reply-follows links g u cells fuel depth Stuck le b f holds safe = absurd (at_once links Lost safe)
 
-from-stays : (g : Setting) (held : List Ref) (table : Table) (n : Next) → HoldsAs g held table → IsQuiet n → Stays table n → GoesOn g held n
-from-stays g held table (On m) holds quiet stays = hold-on g held held table m.references refl stays holds
-from-stays g held table (Ends ending) holds quiet stays = tt
-from-stays g held table (Asks op m) holds quiet stays = quiet
-from-stays g held table Stuck holds quiet stays = tt
+from-stays : (links : Links) (g : Setting) (held : List Ref) (table : Table) (n : Next) → HoldsAs g held table → IsQuiet n → Stays links table n → GoesOn g held n
+from-stays links g held table (On m) holds quiet stays = hold-on g held held table m.references refl stays holds
+from-stays links g held table (Ends ending) holds quiet stays = tt
+from-stays links g held table (Asks op m) holds quiet stays = quiet
+from-stays links g held table Stuck holds quiet stays = tt
 
 -- a task t whose machine m waits for a value, and the task w that is given it, with the fuel that is left
 module _ (links : Links) (g : Setting) (t w : Task) (m : Machine) (left depth : ℕ) (plays : PlaysOn links g) (le : left ≤ depth) (holds : HoldsAs g t.held m.references) where
@@ -261,18 +295,18 @@ module _ (links : Links) (g : Setting) (t w : Task) (m : Machine) (left depth : 
   Goes v n = IsGiven g v t left w → Leads v n → IsQuiet n → IsNeverStuck links (after cells n left) → Follows links g w (after cells n left)
 
   -- a reply that brings no reference
-  plain-reply : (v : Option Value) (n : Next) → references_in v ≡ [] → Stays m.references n → Goes v n
+  plain-reply : (v : Option Value) (n : Next) → references_in v ≡ [] → Stays links m.references n → Goes v n
   plain-reply v n none stays is leads quiet safe =
       let same : with_references t.held (references_in v) ≡ t.held = ap (with_references t.held) none in
       let fits = stays-within g t.held m.references holds in
       let b : w.behaviour ≡ after_reply links.classes cells go n =
       is.behaviour ∙ (λ j. tasks.within_limit g (same j) (leads j)) ∙ ap (λ b. if b then after_reply links.classes cells go n else rules.Over (rules.Threw g.classes.out_of_memory)) fits in
       reply-follows links g w cells left depth n le b is.fuel
-      (subst (λ held. GoesOn g held n) (sym (is.held ∙ same)) (from-stays g t.held m.references n holds quiet stays)) safe
+      (subst (λ held. GoesOn g held n) (sym (is.held ∙ same)) (from-stays links g t.held m.references n holds quiet stays)) safe
 
   -- one that brings a reference, to a machine with the same ones
   module _ (v : Option Value) (r : Ref) (next : ℕ → Machine → Next) (x : Machine) (one : references_in v ≡ r ∷ []) (same : x.references ≡ m.references)
-      (keeps : (table : Table) (row : ℕ) (y : Machine) → y.references ≡ table → Stays table (next row y)) where
+      (keeps : (table : Table) (row : ℕ) (y : Machine) → y.references ≡ table → Stays links table (next row y)) where
     abbrev came : List Ref
     came = with_reference t.held r
 
@@ -295,7 +329,7 @@ module _ (links : Links) (g : Setting) (t w : Task) (m : Machine) (left depth : 
         let same-held : w.held ≡ came = is.held ∙ ap (with_references t.held) one in
         reply-follows links g w cells left depth (next row arrived) le (b ∙ ap (λ b. decided b (next row arrived)) arrives.fits) is.fuel
         (subst (λ held. GoesOn g held (next row arrived)) (sym same-held)
-        (from-stays g came arrived.references (next row arrived) arrives.holds quiet (keeps arrived.references row arrived refl))) safe
+        (from-stays links g came arrived.references (next row arrived) arrives.holds quiet (keeps arrived.references row arrived refl))) safe
 
     held-reply : Goes v (on_held r next x)
     held-reply is leads quiet safe =
@@ -304,14 +338,14 @@ module _ (links : Links) (g : Setting) (t w : Task) (m : Machine) (left depth : 
 
   remote-reply : (v : Option Value) (r : Ref) (x : Machine) → references_in v ≡ r ∷ [] → x.references ≡ m.references → Goes v (on_held r (λ row. push (Remote row) go_on) x)
   remote-reply v r x one same =
-      held-reply v r (λ row y. push (Remote row) go_on y) x one same (λ table row y is. pushes table (Remote row) go_on (goes table) y is)
+      held-reply v r (λ row y. push (Remote row) go_on y) x one same (λ table row y is. pushes links table (Remote row) go_on (goes links table) y is)
 
   -- what a call gives
   result-reply : (v : Option Value) (x : Machine) → x.references ≡ m.references → Goes v (push_result v x)
-  result-reply None x same = plain-reply None (go_on x) refl (goes m.references x same)
-  result-reply (Some value.Null) x same = plain-reply (Some value.Null) (push Null go_on x) refl (pushes m.references Null go_on (goes m.references) x same)
-  result-reply (Some (value.Int n)) x same = plain-reply (Some (value.Int n)) (push (Int n) go_on x) refl (pushes m.references (Int n) go_on (goes m.references) x same)
-  result-reply (Some (value.Ints ns)) x same = plain-reply (Some (value.Ints ns)) (push_result (Some (value.Ints ns)) x) refl (copy-keeps m.references ns x same)
+  result-reply None x same = plain-reply None (go_on x) refl (goes links m.references x same)
+  result-reply (Some value.Null) x same = plain-reply (Some value.Null) (push Null go_on x) refl (pushes links m.references Null go_on (goes links m.references) x same)
+  result-reply (Some (value.Int n)) x same = plain-reply (Some (value.Int n)) (push (Int n) go_on x) refl (pushes links m.references (Int n) go_on (goes links m.references) x same)
+  result-reply (Some (value.Ints ns)) x same = plain-reply (Some (value.Ints ns)) (push_result (Some (value.Ints ns)) x) refl (copy-keeps links m.references ns x same)
   result-reply (Some (value.Ref r)) x same = remote-reply (Some (value.Ref r)) r x refl same
 
   call-reply : (count : ℕ) (v : Option Value) → Goes v (leave_call count v m)
@@ -344,21 +378,21 @@ module _ (links : Links) (g : Setting) (t : Task) (m : Machine) (fuel : ℕ) (pl
       let v : Option Value = Some (value.Ref r) in
       held-reply links g t (tasks.answer g (rules.Gives v) t) m fuel f.depth plays f.behaviour.0 f.held.0 v r
       (λ row x. push (Fresh m.stack.frame.index (ReferenceRow row)) go_on x) m refl refl
-      (λ table row x is. pushes table (Fresh m.stack.frame.index (ReferenceRow row)) go_on (goes table) x is)
+      (λ table row x is. pushes links table (Fresh m.stack.frame.index (ReferenceRow row)) go_on (goes links table) x is)
       (answer-gives g v t fuel f.fuel) (leads (asked.Create class) f v) (answered_quiet (asked.Create class) (reply.Made r) m) safe
 
   null-reply : (object : Ref) (slot : ℕ) → Replied (asked.Get object slot) (rules.Gives (Some value.Null)) (reply.Holds field.Null)
   null-reply object slot f fits safe =
       let v : Option Value = Some value.Null in
       plain-reply links g t (tasks.answer g (rules.Gives v) t) m fuel f.depth plays f.behaviour.0 f.held.0 v (push Null go_on m) refl
-      (pushes m.references Null go_on (goes m.references) m refl)
+      (pushes links m.references Null go_on (goes links m.references) m refl)
       (answer-gives g v t fuel f.fuel) (leads (asked.Get object slot) f v) (answered_quiet (asked.Get object slot) (reply.Holds field.Null) m) safe
 
   int-reply : (object : Ref) (slot : ℕ) (n : ℤ) → Replied (asked.Get object slot) (rules.Gives (Some (value.Int n))) (reply.Holds (field.Int n))
   int-reply object slot n f fits safe =
       let v : Option Value = Some (value.Int n) in
       plain-reply links g t (tasks.answer g (rules.Gives v) t) m fuel f.depth plays f.behaviour.0 f.held.0 v (push (Int n) go_on m) refl
-      (pushes m.references (Int n) go_on (goes m.references) m refl)
+      (pushes links m.references (Int n) go_on (goes links m.references) m refl)
       (answer-gives g v t fuel f.fuel) (leads (asked.Get object slot) f v) (answered_quiet (asked.Get object slot) (reply.Holds (field.Int n)) m) safe
 
   holds-reply : (object : Ref) (slot : ℕ) (r : Ref) → Replied (asked.Get object slot) (rules.Gives (Some (value.Ref r))) (reply.Holds (field.Reference r))
@@ -370,7 +404,7 @@ module _ (links : Links) (g : Setting) (t : Task) (m : Machine) (fuel : ℕ) (pl
   written-reply : (object : Ref) (slot : ℕ) (written : FieldValue) → Replied (asked.Put object slot written) (rules.Gives None) reply.Written
   written-reply object slot written f fits safe =
       plain-reply links g t (tasks.answer g (rules.Gives None) t) m fuel f.depth plays f.behaviour.0 f.held.0 None (go_on m) refl
-      (goes m.references m refl)
+      (goes links m.references m refl)
       (answer-gives g None t fuel f.fuel) (leads (asked.Put object slot written) f None) (answered_quiet (asked.Put object slot written) reply.Written m) safe
 
   returned-reply : (target : Ref) (method count : ℕ) (v : Option Value) (back : ℕ) → Replied (asked.Call target method count) (rules.GivesBack v back) (reply.Returned v back)

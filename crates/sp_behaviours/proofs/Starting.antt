@@ -28,7 +28,7 @@ use Rattle.vm_run.specs.declared.outcome.Outcome.TheVariants as outcome
 use Rattle.vm_stack.specs.Frames.{frame_cost}
 use Rattle.sp_behaviours.specs.Behaviours.{behaviour, behaviour_at, limits_of, of_begun, told_end, told_some}
 use Rattle.sp_behaviours.proofs.OwnSteps.{stand-is}
-use Rattle.sp_behaviours.specs.Follows.{Does, Follows, HoldsAs, HoldsIn, PlaysOn}
+use Rattle.sp_behaviours.specs.Follows.{CallsRemotely, Does, Follows, HoldsAs, HoldsIn, PlaysOn}
 use Rattle.sp_behaviours.proofs.Coming.{Arrives, Comes, Overflows, comes, over-more, stays-within}
 
 -- ---- the references of arguments
@@ -98,15 +98,15 @@ module _ (links : Links) (g : Setting) (arguments : List Value) (fuel : ℕ) (pl
     thrown-is = ap (λ o. rules.Over (told_some (option_map (λ class. outcome.Threw class) o))) (sym plays.out_of_memory)
 
     opens : (room rows frame : Bool) → AllCome g came (with_arguments arguments none) rows
-        → (within_limit g came (behaviour_at links (opened room rows frame)) ≡ behaviour_at links (opened room rows frame)) × (fuel ≡ fuel_left (opened room rows frame)) × HoldsIn g came (opened room rows frame)
-    opens true true true all = (ap (λ b. limited b (behaviour_at links (opened true true true))) all.fits, refl, all.holds)
-    opens true true false all = (ap (λ b. limited b (behaviour_at links (opened true true false))) all.fits, refl, tt)
-    opens false true frame all = (ap (λ b. limited b (behaviour_at links (opened false true frame))) all.fits, refl, tt)
-    opens true false frame all = (ap (λ b. limited b (behaviour_at links (opened true false frame))) all.over ∙ thrown-is, refl, tt)
-    opens false false frame all = (ap (λ b. limited b (behaviour_at links (opened false false frame))) all.over ∙ thrown-is, refl, tt)
+        → (within_limit g came (behaviour_at links (opened room rows frame)) ≡ behaviour_at links (opened room rows frame)) × (fuel ≡ fuel_left (opened room rows frame)) × HoldsIn g came (opened room rows frame) × CallsRemotely links (opened room rows frame)
+    opens true true true all = (ap (λ b. limited b (behaviour_at links (opened true true true))) all.fits, refl, all.holds, tt)
+    opens true true false all = (ap (λ b. limited b (behaviour_at links (opened true true false))) all.fits, refl, tt, tt)
+    opens false true frame all = (ap (λ b. limited b (behaviour_at links (opened false true frame))) all.fits, refl, tt, tt)
+    opens true false frame all = (ap (λ b. limited b (behaviour_at links (opened true false frame))) all.over ∙ thrown-is, refl, tt, tt)
+    opens false false frame all = (ap (λ b. limited b (behaviour_at links (opened false false frame))) all.over ∙ thrown-is, refl, tt, tt)
 
     pub opening-follows : (within_limit g came (behaviour_at links (opening_state g.id id code arguments limits)) ≡ behaviour_at links (opening_state g.id id code arguments limits))
-        × (fuel ≡ fuel_left (opening_state g.id id code arguments limits)) × HoldsIn g came (opening_state g.id id code arguments limits)
+        × (fuel ≡ fuel_left (opening_state g.id id code arguments limits)) × HoldsIn g came (opening_state g.id id code arguments limits) × CallsRemotely links (opening_state g.id id code arguments limits)
     opening-follows =
         opens (have_room arguments limits.heap_words) (have_rows arguments none) (nat_le (frame_cost code.max_locals code.max_stack) limits.stack_words) (all-come g arguments [] none nothing)
 
@@ -164,5 +164,6 @@ starts-follow links g method arguments fuel task plays e safe =
           (ap (within_limit g came) does ∙ subst (λ (s : State). within_limit g came (behaviour_at links s) ≡ behaviour_at links s) (sym opened.1) is.0);
       fuel = is.1 ∙ ap fuel_left (sym opened.1);
       held = subst (HoldsIn g came) (sym opened.1) is.2;
+      calls = subst (CallsRemotely links) (sym opened.1) is.3;
       never_stuck = safe;
     }

@@ -152,11 +152,11 @@ abbrev pub by_next : List Class → List Cell → (Machine → rules.Behaviour) 
 by_next classes cells go_on (On m) = rules.Plain (go_on m)
 by_next classes cells go_on (Ends ending) = rules.Ends (told_ending classes (end_of cells ending))
 by_next classes cells go_on (Asks op m) = asking classes go_on op m
-by_next classes cells go_on Stuck = rules.Over rules.Spent
+by_next classes cells go_on Stuck = rules.Ends rules.Spent
 
--- what a machine does with so much fuel
+-- What a machine does with so much fuel. With none left it has not ended yet: it is found to be spent as its next instruction would be made.
 unfoldable pub behaviour_of : Links → ℕ → Machine → rules.Behaviour
-behaviour_of links zero m = rules.Over rules.Spent
+behaviour_of links zero m = rules.Ends rules.Spent
 behaviour_of links (suc fuel) m = by_next links.classes m.heap.cells (behaviour_of links fuel) (step links m)
 
 -- what a task does from its state on

@@ -1,8 +1,11 @@
 -- A task of the rules of spaces stands where a machine stands: it does from there on what the machine does, with its fuel, and holds the
 -- references by which the machine has come. (This project's own rule.)
-use Rattle.std.specs.Prelude.{◌≡◌, ◌≤◌, ℕ, true, zero, suc, List, length, Some, codes}
+use Rattle.std.specs.Prelude.{◌≡◌, ◌≤◌, ℕ, Bool, true, false, zero, suc, List, length, Some, codes}
 use Rattle.cls_link.specs.Links.{Links}
 use Rattle.cls_set.specs.Classes.{number_of}
+use Rattle.cls_link.specs.declared.linked_code.LinkedInsn.TheVariants as insn
+use Rattle.cls_resolve.specs.declared.named.MemberIndex.{MemberIndex}
+use Rattle.space_ids.specs.declared.ids.ClassId.{ClassId}
 use Rattle.space_ids.specs.declared.ids.Ref.{Ref}
 use Rattle.space_ids.specs.declared.value.Value.{Value}
 use Rattle.uuid.specs.declared.Uuid.{Uuid}
@@ -10,10 +13,13 @@ use Rattle.sp_rules.specs.Behaviours as rules
 use Rattle.sp_rules.specs.Classes.{Limits, Setting}
 use Rattle.sp_rules.specs.References.{is_reference_in}
 use Rattle.sp_rules.specs.Tasks.{Task, Stand, Runs, AsksFor, HasEnded, lend_fuel, stand}
+use Rattle.vm_code.specs.Calls.{id_of}
+use Rattle.vm_code.specs.Classes.{is_remote_interface}
 use Rattle.vm_act.specs.Next.{Next, On, Ends, Asks, Stuck}
 use Rattle.vm_act.specs.declared.asked.Asked.{Asked}
 use Rattle.vm_act.specs.declared.asked.Asked.TheVariants as asked
 use Rattle.vm_heap.specs.References.{Table}
+use Rattle.vm_rows.specs.Steps.{insn_at}
 use Rattle.vm_run.specs.Steps as insns
 use Rattle.vm_run.specs.Run.{State, Running, Waits, Over, Lost, IsNeverStuck}
 use Rattle.vm_run.specs.Task.{fuel_left}
@@ -46,6 +52,30 @@ HoldsIn g held (Waits op m fuel) = HoldsAs g held m.references × HoldsAsked hel
 HoldsIn g held (Over end fuel) = Unit {0}
 HoldsIn g held Lost = Unit {0}
 
+-- An instruction of the set calls the method of this number through a remote interface.
+pub record IsCalledRemotely (links : Links) (method : ℕ) : Type 0 where
+  pub running : ℕ
+  pub index : ℕ
+  pub count : ℕ
+  pub interface : ClassId
+  pub member : MemberIndex
+  pub at : insn_at links running index ≡ Some (insn.InvokeInterface count interface member)
+  pub remote : is_remote_interface links.classes interface ≡ true
+  pub names : method ≡ (id_of links.classes member).0
+
+abbrev pub IsAskedRemotely : Links → Asked → Type 0
+IsAskedRemotely links (asked.Create class) = Unit {0}
+IsAskedRemotely links (asked.Get object slot) = Unit {0}
+IsAskedRemotely links (asked.Put object slot value) = Unit {0}
+IsAskedRemotely links (asked.Call target method count) = IsCalledRemotely links method
+
+-- what a machine waits for, if it called, is the method of a remote interface (Java RMI specification, 2.4)
+abbrev pub CallsRemotely : Links → State → Type 0
+CallsRemotely links (Running m fuel) = Unit {0}
+CallsRemotely links (Waits op m fuel) = IsAskedRemotely links op
+CallsRemotely links (Over end fuel) = Unit {0}
+CallsRemotely links Lost = Unit {0}
+
 -- The task does what the machine does. Its tree is as deep as its fuel, or deeper: a call may give back less than the task had.
 abbrev pub Does : Links → ℕ → Task → State → Type 0
 Does links depth t (Running m fuel) = (fuel ≤ depth) × (t.behaviour ≡ behaviour_of links depth m)
@@ -59,6 +89,7 @@ pub record Follows (links : Links) (g : Setting) (t : Task) (s : State) : Type 0
   pub behaviour : Does links depth t s
   pub fuel : t.fuel ≡ fuel_left s
   pub held : HoldsIn g t.held s
+  pub calls : CallsRemotely links s
   pub never_stuck : IsNeverStuck links s
 
 -- A task that waits for the reply to a call has lent its fuel.
@@ -74,7 +105,7 @@ abbrev pub stand_before : Links → Next → Stand
 stand_before links (On m) = Runs
 stand_before links (Ends ending) = Runs
 stand_before links (Asks op m) = AsksFor (op_at links.classes op m)
-stand_before links Stuck = HasEnded rules.Spent
+stand_before links Stuck = Runs
 
 -- before an instruction of its own, at one that asks, or at its end
 abbrev pub stand_of : Links → State → Stand
@@ -83,3 +114,10 @@ stand_of links (Running m (suc fuel)) = stand_before links (insns.step links m)
 stand_of links (Waits op m fuel) = AsksFor (op_at links.classes op m)
 stand_of links (Over end fuel) = HasEnded (told_end links.classes end)
 stand_of links Lost = HasEnded rules.Spent
+
+-- whether a machine in this state has ended its task, whatever fuel is left
+abbrev pub is_over : State → Bool
+is_over (Running m fuel) = false
+is_over (Waits op m fuel) = false
+is_over (Over end fuel) = true
+is_over Lost = false

@@ -1,5 +1,5 @@
 -- The laws of tasks that follow machines, each the contract of a function of this crate. (This project's own.)
-use Rattle.std.specs.Prelude.{◌≡◌, ◌+◌, ℕ, List, Some, Ok}
+use Rattle.std.specs.Prelude.{◌≡◌, ◌+◌, ℕ, suc, List, Some, Ok}
 use Rattle.cls_link.specs.Links.{Links}
 use Rattle.space_ids.specs.declared.value.Value.{Value}
 use Rattle.sp_rules.specs.Behaviours as rules
@@ -8,12 +8,12 @@ use Rattle.sp_rules.specs.Tasks as tasks
 use Rattle.vm_act.specs.declared.asked.Asked.{Asked}
 use Rattle.vm_act.specs.declared.asked.Reply.{Reply}
 use Rattle.vm_act.specs.declared.machine.Machine.{Machine}
-use Rattle.vm_run.specs.Run.{State, Waits, answer, made, run, IsDue, IsNeverStuck}
+use Rattle.vm_run.specs.Run.{State, Running, Waits, answer, made, run, IsDue, IsNeverStuck}
 use Rattle.vm_run.specs.Begin.{begun}
 use Rattle.vm_run.specs.Task.{Tasked, outcome_at}
 use Rattle.vm_run.specs.declared.outcome.Outcome.{Outcome}
 use Rattle.sp_behaviours.specs.Behaviours.{limits_of, reply_to, told}
-use Rattle.sp_behaviours.specs.Follows.{Follows, HoldsAsked, PlaysOn, stand_of, waiting}
+use Rattle.sp_behaviours.specs.Follows.{Follows, HoldsAsked, PlaysOn, is_over, stand_of, waiting}
 
 -- A task stands where the machine that it follows stands.
 abbrev pub StandsAreThose : Type 0
@@ -27,6 +27,11 @@ EndsAreTold = (links : Links) (g : Setting) (t : tasks.Task) (s : State) (outcom
 -- It follows its machine through instructions of its own, up to one that asks or that ends it.
 abbrev pub StepsFollow : Type 0
 StepsFollow = (links : Links) (g : Setting) (t : tasks.Task) (s : State) (k : ℕ) → Follows links g t s → Follows links g (tasks.steps k t) (run links k s)
+
+-- An instruction of its own ends it where it ends the machine.
+abbrev pub EndsAreMade : Type 0
+EndsAreMade = (links : Links) (g : Setting) (t : tasks.Task) (m : Machine) (fuel : ℕ) → Follows links g t (Running m (suc fuel))
+    → tasks.is_at_end (tasks.step t).behaviour ≡ is_over (run links 1 (Running m (suc fuel)))
 
 -- An instruction that asks is not made before the reply comes: the task stands at it as it stood.
 abbrev pub AsksStay : Type 0

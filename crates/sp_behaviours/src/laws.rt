@@ -1,6 +1,6 @@
 //! The laws of tasks that follow machines.
 
-ghost use Rattle.sp_behaviours.specs.Laws.{AskedIsHeld, AsksStay, EndsAreTold, LentIsLeft, RepliesFollow, StandsAreThose, StartsFollow, StepsAreCounted, StepsFollow};
+ghost use Rattle.sp_behaviours.specs.Laws.{AskedIsHeld, AsksStay, EndsAreMade, EndsAreTold, LentIsLeft, RepliesFollow, StandsAreThose, StartsFollow, StepsAreCounted, StepsFollow};
 
 /// A task of a space that follows a machine stands where the machine stands: before an instruction of
 /// its own, at one that asks the space, or at its end, which is what the machine tells.
@@ -10,9 +10,11 @@ pub fn tasks_stand_where_machines_stand()
 {}
 
 /// It follows the machine through any number of its own instructions, and makes as many of them. One that
-/// asks the space is not made before the reply comes, and asks of an object that the task holds.
+/// ends the machine ends the task, and no other one. One that asks the space is not made before the reply
+/// comes, and asks of an object that the task holds.
 pub fn instructions_are_followed()
     ensures follows { StepsFollow }
+    ensures ends { EndsAreMade }
     ensures asks { AsksStay }
     ensures held { AskedIsHeld }
     ensures counted { StepsAreCounted }

@@ -14,6 +14,9 @@ use std::mem;
 use std::net::TcpStream;
 use std::sync::Arc;
 
+/// How many instructions of its own a task makes at most as one event.
+const MOST_OWN: u64 = 1_024;
+
 /// Why serving ends before its input does.
 #[derive(Clone, Copy, PartialEq, Eq)]
 pub enum Fault {
@@ -134,10 +137,11 @@ impl<S: Played + Drop> Board<S> {
         self.hand_on(rt, answered)
     }
 
-    /// Lets a task that may go on make instructions, so many at most. Returns whether it made all: then it may go on.
-    pub fn run<R: Host>(&mut self, rt: &R, task: u64, instructions: usize) -> bool {
-        for _ in 0..instructions {
-            let answered = self.space.step(task);
+    /// Lets a task that may go on have turns, so many at most: each is a step, or a row of instructions of its own.
+    /// Returns whether it had all: then it may go on.
+    pub fn run<R: Host>(&mut self, rt: &R, task: u64, turns: usize) -> bool {
+        for _ in 0..turns {
+            let answered = self.space.run(task, MOST_OWN);
             if self.hand_on(rt, answered).is_err() {
                 return false;
             }

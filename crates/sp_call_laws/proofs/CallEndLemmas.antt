@@ -217,6 +217,7 @@ view g before e number task t = record {
   Known = IsKnown g before e;
   Fails = IsFailure g e;
   Ends = λ asked reply. (is_ending e ≡ true) × ((n : ℕ) → ParkedFrames.has_number n asked ≡ true → MayEndWith g before e n reply);
+  Starts = λ o n a. Unit {0};
   Keeps = λ l s. Waits l s × Goes g before e number task t l (event_parts s);
 }
 
@@ -242,6 +243,7 @@ ends_flow g before e number task t = record {
   origins = λ l s k. all-from g before e number task t s.tasks;
   sided = λ p a. tt;
   fails = λ asked class a. (failing-ends g e class a, λ n has. inr a);
+  starts = λ l s p target method fuel arguments o n going k known is stands finds. tt;
   gives = λ p value fuel asked is known eq has. (is, λ n also. subst (λ x. MayEndWith g before e x (GivesBack value fuel)) (same-number p.number n asked has also) (known value fuel eq));
   refuses = λ c n class is. tt;
   finds = λ c n name r is own. tt;
@@ -249,6 +251,7 @@ ends_flow g before e number task t = record {
   says = λ l s output is so k. (W.quiet l s _ refl k.0, same _ refl refl refl refl k.1);
   sends = λ l s turn c m may held k. (W.quiet l s _ refl k.0, same _ refl refl refl refl k.1);
   clears = λ s k. (W.quiet [] s _ refl k.0, same _ refl refl refl refl k.1);
+  stores = λ l s store is k. (W.quiet l s _ refl k.0, same _ refl refl refl refl k.1);
   adds = λ l s q k. (W.adds l s q k.0, goes k.1.owed.1 (requests-are s _ (all-more (Matches number task) s.requests q k.1.requests k.1.owed.0) k.1));
   calls_out = λ l s turn c peer n id lent kind m there k.
       let q : Request = record { peer = peer; asked = Calls n id lent kind m; stage = Out c 0 } in
@@ -266,7 +269,7 @@ ends_flow g before e number task t = record {
   removes_one = λ l s finds is n q eq passes has k. (W.removes_one l s finds is n q eq passes has k.0, goes (all-found (Matches number task) finds s.requests q eq k.1.requests, k.1.owed) (requests-are s _ (all-filter (Matches number task) (λ p. not (is p)) s.requests k.1.requests) k.1));
   removes_told = λ l s dirty c sequence k. (W.removes_told l s dirty c sequence k.0, requests-are s _ (all-filter (Matches number task) (λ q. not (Frames.tells_on dirty c sequence q)) s.requests k.1.requests) k.1);
   answers = λ l s c n k. (W.answers l s c n k.0, requests-are s _ (all-map (Matches number task) (Matches number task) (Frames.answered_on c n) s.requests (λ q a. answered c q a (ParkedFrames.is_call_on c n q)) k.1.requests) k.1);
-  begins = λ l s origin method arguments fuel going k. (
+  begins = λ l s origin method arguments fuel going at k. (
     W.begins l s origin method arguments fuel k.0,
     record {
       requests = k.1.requests;
@@ -342,6 +345,7 @@ ends-begin g s e number task t none given = record {
         },
       );
   looks = λ peer name is k. (B.looks peer name is k.0, record { requests = k.1.requests; fresh = (sym (other-number s.calls_made number given), tt); owed = tt; frames = k.1.frames; row = k.1.row });
+  roots = λ method arguments fuel is. tt;
   unmarshal = λ is. fails-unmarshal g e is;
   connect = λ is. fails-connect g e is;
   marshal = λ is. fails-marshal g e is;
@@ -352,8 +356,8 @@ ends-begin g s e number task t none given = record {
   );
   spent = λ c n is q found has. (ap is_ending is, λ k also. spends c n is q.asked k (same-number n k q.asked has also) (asked-on c n k s.requests q found (same-number n k q.asked has also)) also);
   finished = λ id n v outcome c m is ready stands origin. tt;
-  call_came = λ p is there. λ value fuel eq. absurd (true≢false (sym is ∙ ap Frames.is_call_frame eq));
-  result_came = λ p value fuel is frame there q found. λ v f eq.
+  call_came = λ p target o method passed arguments is there stands may fit names. λ value fuel eq. absurd (true≢false (sym (ap Frames.is_call_frame is) ∙ ap Frames.is_call_frame eq));
+  result_came = λ p value fuel is frame there q found fits names. λ v f eq.
       let x : (value, fuel) ≡ (v, f) = ap answer-of (sym frame ∙ eq) in
       inl (p.conn, (asked-on p.conn p.number p.number s.requests q found refl, subst (λ (y : Option Value × ℕ). e ≡ Received p.conn (message.Returned p.number y.1 y.0)) x is));
 }

@@ -86,6 +86,7 @@ view g e h Is = record {
   Known = Frames-in (e ∷ h);
   Fails = λ c. Unit {0};
   Ends = λ a r. Unit {0};
+  Starts = λ o n a. Unit {0};
   Keeps = λ l s. Directed (e ∷ h) l (event_parts s);
 }
 
@@ -185,6 +186,7 @@ directed_flow g e h Is refuses finds = record {
   origins = λ l s k. all-weaken (λ (t : Living). CameFromPeer (e ∷ h) t.origin) (λ (t : Living). IsFrom (view g e h Is) t.origin) s.tasks (λ t a. from-is g e h Is t.origin a) k.tasks;
   sided = λ p a. a;
   fails = λ asked class a. tt;
+  starts = λ l s p target method fuel arguments o n going k known is stands finds. tt;
   gives = λ p value fuel asked is a b c. tt;
   refuses = refuses;
   finds = finds;
@@ -192,6 +194,7 @@ directed_flow g e h Is refuses finds = record {
   says = λ l s output is so k. notes-more s (Says output) (said (e ∷ h) output is) k;
   sends = λ l s turn c m may held k. notes-more s (Sends turn c m) (can-may g e h Is c m may) k;
   clears = λ s k. record { rows = k.rows; frames = k.frames; tasks = k.tasks; requests = k.requests; fresh = k.fresh; owed = k.owed; notes = tt };
+  stores = λ l s store is k. record { rows = k.rows; frames = k.frames; tasks = k.tasks; requests = k.requests; fresh = k.fresh; owed = k.owed; notes = k.notes };
   adds = λ l s q k. owes k.owed.1 (requests-are s _ (all-more (λ (p : Request). AsksByCall p.asked) s.requests q k.requests k.owed.0) k);
   calls_out = λ l s turn c peer number task lent kind m there k. notes-more (record s { requests = s.requests ++ record { peer = peer; asked = Calls number task lent kind m; stage = Rattle.sp_rules.specs.State.Out c 0 } ∷ [] }) (Sends turn c m) (asks-by (e ∷ h) c m k.owed.0 there)
       (owes k.owed.1 (requests-are s _ (all-more (λ (p : Request). AsksByCall p.asked) s.requests (record { peer = peer; asked = Calls number task lent kind m; stage = Rattle.sp_rules.specs.State.Out c 0 }) k.requests k.owed.0) k));
@@ -208,7 +211,7 @@ directed_flow g e h Is refuses finds = record {
   removes_one = λ l s finds is n q eq passes has k. owes (all-found (λ (p : Request). AsksByCall p.asked) finds s.requests q eq k.requests, k.owed) (requests-are s _ (all-filter (λ (p : Request). AsksByCall p.asked) (λ p. not (is p)) s.requests k.requests) k);
   removes_told = λ l s dirty c sequence k. requests-are s _ (all-filter (λ (p : Request). AsksByCall p.asked) (λ q. not (Frames.tells_on dirty c sequence q)) s.requests k.requests) k;
   answers = λ l s c n k. requests-are s _ (all-map (λ (p : Request). AsksByCall p.asked) (λ (p : Request). AsksByCall p.asked) (Frames.answered_on c n) s.requests (λ q a. answered c n q a (ParkedFrames.is_call_on c n q)) k.requests) k;
-  begins = λ l s origin method arguments fuel going k.
+  begins = λ l s origin method arguments fuel going at k.
       let x = from-owed (e ∷ h) origin l k.owed in
       record { rows = k.rows; frames = k.frames; tasks = all-more (λ (t : Living). CameFromPeer (e ∷ h) t.origin) s.tasks _ k.tasks x.0; requests = k.requests; fresh = k.fresh; owed = x.1; notes = k.notes };
   ends = λ l s id t over is k. owes (to-owed (e ∷ h) t.origin l (all-found (λ (u : Living). CameFromPeer (e ∷ h) u.origin) (λ (u : Living). u.id == id) s.tasks t (Rattle.sp_rules.proofs.ReadyLemmas.ready-is (Rattle.sp_rules.specs.State.task_at s id) t is).0 k.tasks) k.owed)
@@ -244,14 +247,15 @@ directed-begin g s e h Is finished = record {
   opens = λ c dialled is k. rows-are s _ (all-more (Row (e ∷ h)) s.connections (record { number = c; dialled = dialled; peer = None; last = 0; sent = [] }) k.rows (subst (λ d. HasOpened (d ∷ h) c (is_some dialled)) (sym is) (opens-now h c dialled))) k;
   parks = λ id n t target method arguments is ready stands k. record { rows = k.rows; frames = k.frames; tasks = set-tasks (e ∷ h) id (LivingTasks.waiting n) (λ u. refl) s.tasks k.tasks; requests = k.requests; fresh = (tt, tt); owed = k.owed; notes = k.notes };
   looks = λ peer name is k. record { rows = k.rows; frames = k.frames; tasks = k.tasks; requests = k.requests; fresh = (tt, tt); owed = k.owed; notes = k.notes };
+  roots = λ method arguments fuel is. tt;
   unmarshal = λ is. tt;
   connect = λ is. tt;
   marshal = λ is. tt;
   threw = λ c n class is q found has. tt;
   spent = λ c n is q found has. tt;
   finished = finished;
-  call_came = λ p is there. subst (λ b. HasOpened (e ∷ h) p.conn (not b)) (sym is) there;
-  result_came = λ p value fuel is frame there q found. subst (λ f. HasOpened (e ∷ h) p.conn (not (Frames.is_call_frame f))) (sym frame) there;
+  call_came = λ p target o method passed arguments is there stands may fit names. subst (λ f. HasOpened (e ∷ h) p.conn (not (Frames.is_call_frame f))) (sym is) there;
+  result_came = λ p value fuel is frame there q found fits names. subst (λ f. HasOpened (e ∷ h) p.conn (not (Frames.is_call_frame f))) (sym frame) there;
 }
 
 -- ---- histories grow

@@ -109,6 +109,7 @@ view g before e = record {
   Known = IsKnown g before e;
   Fails = IsFailure g e;
   Ends = λ asked reply. (is_ending e ≡ true) × ((n : ℕ) → ParkedFrames.has_number n asked ≡ true → EndsLookup g before e asked n reply);
+  Starts = λ o n a. Unit {0};
   Keeps = λ l s. Looks g before e l (event_parts s);
 }
 
@@ -167,6 +168,7 @@ lookups_flow g before e = record {
   origins = λ l s k. all-from g before e s.tasks;
   sided = λ p a. tt;
   fails = λ asked class a. (failing-ends g e class a, λ n has. failing g before e asked class a n);
+  starts = λ l s p target method fuel arguments o n going k known is stands finds. tt;
   gives = λ p value fuel asked is known eq has. (is, λ n also. giving g before e asked value fuel n (subst (λ x. MayEndWith g before e x (GivesBack value fuel)) (same-number p.number n asked has also) (known value fuel eq)));
   refuses = λ c n class is. tt;
   finds = λ c n name r is own. tt;
@@ -174,6 +176,7 @@ lookups_flow g before e = record {
   says = λ l s output is so k. notes-more s (Says output) (said g before e output so) k;
   sends = λ l s turn c m may held k. notes-more s (Sends turn c m) tt k;
   clears = λ s k. record { requests = k.requests; fresh = k.fresh; owed = k.owed; frames = k.frames; notes = tt };
+  stores = λ l s store is k. still _ refl refl refl refl k;
   adds = λ l s q k. owes k.owed.1 (requests-are s _ (all-more (StoodBefore before e) s.requests q k.requests k.owed.0) k);
   calls_out = λ l s turn c peer n id lent kind m there k.
       let q : Request = record { peer = peer; asked = Calls n id lent kind m; stage = Rattle.sp_rules.specs.State.Out c 0 } in
@@ -191,7 +194,7 @@ lookups_flow g before e = record {
   removes_one = λ l s finds is n q eq passes has k. owes (all-found (StoodBefore before e) finds s.requests q eq k.requests, k.owed) (requests-are s _ (all-filter (StoodBefore before e) (λ p. not (is p)) s.requests k.requests) k);
   removes_told = λ l s dirty c sequence k. requests-are s _ (all-filter (StoodBefore before e) (λ q. not (Frames.tells_on dirty c sequence q)) s.requests k.requests) k;
   answers = λ l s c n k. requests-are s _ (all-map (StoodBefore before e) (StoodBefore before e) (Frames.answered_on c n) s.requests (λ q a. answered c q a (ParkedFrames.is_call_on c n q)) k.requests) k;
-  begins = λ l s origin method arguments fuel going k. still _ refl refl refl refl (owes (from-owed before e origin l k.owed) k);
+  begins = λ l s origin method arguments fuel going at k. still _ refl refl refl refl (owes (from-owed before e origin l k.owed) k);
   ends = λ l s id v over is k. still _ refl refl refl refl (owes (to-owed before e v.origin l k.owed) k);
   replies = λ l s peer n id lent kind m reply v may is k. still _ refl refl refl refl (owes k.owed.1 k);
   replies_none = λ l s peer n id lent kind m is k. owes k.owed.1 k;
@@ -218,6 +221,7 @@ lookups-begin g s e = record {
   opens = λ c dialled is k. still _ refl refl refl refl k;
   parks = λ id n v target method arguments is ready stands k. record { requests = k.requests; fresh = (tt, tt); owed = tt; frames = k.frames; notes = k.notes };
   looks = λ peer name is k. record { requests = k.requests; fresh = ((λ ends. absurd (true≢false (sym ends ∙ ap is_ending is))), tt); owed = tt; frames = k.frames; notes = k.notes };
+  roots = λ method arguments fuel is. tt;
   unmarshal = λ is. fails-unmarshal g e is;
   connect = λ is. fails-connect g e is;
   marshal = λ is. fails-marshal g e is;
@@ -228,8 +232,8 @@ lookups-begin g s e = record {
   );
   spent = λ c n is q found has. (ap is_ending is, λ k also. spends q.asked k (ap is_ending is));
   finished = λ id n v outcome c m is ready stands origin. tt;
-  call_came = λ p is there. λ value fuel eq. absurd (true≢false (sym is ∙ ap Frames.is_call_frame eq));
-  result_came = λ p value fuel is frame there q found. λ v f eq.
+  call_came = λ p target o method passed arguments is there stands may fit names. λ value fuel eq. absurd (true≢false (sym (ap Frames.is_call_frame is) ∙ ap Frames.is_call_frame eq));
+  result_came = λ p value fuel is frame there q found fits names. λ v f eq.
       let x : (value, fuel) ≡ (v, f) = ap answer-of (sym frame ∙ eq) in
       inl (p.conn, (asked-on p.conn p.number p.number s.requests q found refl, subst (λ (y : Option Value × ℕ). e ≡ Received p.conn (message.Returned p.number y.1 y.0)) x is));
 }

@@ -190,6 +190,7 @@ view g e conn k i = record {
   Known = λ p. Unit {0};
   Fails = λ c. Unit {0};
   Ends = λ a r. Unit {0};
+  Starts = λ o n a. Unit {0};
   Keeps = λ l s. Started conn k i (is_finish e) (owed_of conn k l) s.tasks s.parked s.connections;
 }
 
@@ -212,6 +213,7 @@ started_flow g e conn k i = record {
   origins = λ l s h. all-from g e conn k i s.tasks;
   sided = λ p a. tt;
   fails = λ asked class a. tt;
+  starts = λ l s p target method fuel arguments o n going k known is stands finds. tt;
   gives = λ p value fuel asked is a b c. tt;
   refuses = λ c n class is. tt;
   finds = λ c n name r is own. tt;
@@ -219,6 +221,7 @@ started_flow g e conn k i = record {
   says = λ l s output is so h. h;
   sends = λ l s turn c m may held h. h;
   clears = λ s h. h;
+  stores = λ l s store is k. k;
   adds = λ l s q h. lower (omega arith) h;
   calls_out = λ l s turn c peer number task lent kind m there h. lower (omega arith) h;
   looks_out = λ l s turn c peer number task name there h. lower (omega arith) h;
@@ -233,7 +236,7 @@ started_flow g e conn k i = record {
   removes_one = λ l s finds is n q eq passes has h. lower (omega arith) h;
   removes_told = λ l s dirty c sequence h. h;
   answers = λ l s c n h. h;
-  begins = λ l s origin method arguments fuel going h.
+  begins = λ l s origin method arguments fuel going at h.
       let a : owed_of conn k (of_origin origin ++ l) ≡ from_origin conn k origin + owed_of conn k l = origin-owed conn k origin l in
       let b : owed_of conn k (of_origin origin ++ l) ≡ 0 = h.owed going in
       tasks-more (new_row g origin method arguments fuel s) (omega (arith, a, b)) (lower (omega (arith, a)) h);
@@ -266,14 +269,15 @@ started-begin g s conn k i e old = record {
   opens = λ c dialled is h. rows _ (ap (limit 1 k) (more-row conn (record { number = c; dialled = dialled; peer = None; last = 0; sent = [] }) (sym (ap (opens conn) is) ∙ old) s.connections) ∙ h.passed) h;
   parks = λ id n t target method arguments is ready stands h. tasks-set id (LivingTasks.waiting n) (record { id = λ u. refl; origin = λ u. refl }) h;
   looks = λ peer name is h. h;
+  roots = λ method arguments fuel is. tt;
   unmarshal = λ is. tt;
   connect = λ is. tt;
   marshal = λ is. tt;
   threw = λ c n class is q found has. tt;
   spent = λ c n is q found has. tt;
   finished = λ id n t outcome c m is ready stands origin. tt;
-  call_came = λ p is there. tt;
-  result_came = λ p value fuel is frame there q found. tt;
+  call_came = λ p target o method passed arguments is there stands may fit names. tt;
+  result_came = λ p value fuel is frame there q found fits names. tt;
 }
 
 -- ---- through histories

@@ -15,7 +15,7 @@ use Rattle.uuid.specs.declared.Uuid.{Uuid}
 use Rattle.rising_map.specs.Rows.{AreAbove, Rises}
 use Rattle.rising_map.proofs.RowLemmas.{sorted-numbers}
 use Rattle.sp_rules.specs.OwnEvents.{is_over_at}
-use Rattle.sp_rules.specs.References.{is_id_in, own_ids, own_id, references_in}
+use Rattle.sp_rules.specs.References.{is_id_in, is_reference_in, own_ids, own_id, references_in}
 use Rattle.sp_rules.specs.State.{KeptResult, Until, RootAcked, Acked, Passed}
 use Rattle.sp_call_results.specs.Ended.{AreFrom, over}
 use Rattle.sp_call_results.specs.Held.{AreCallResults, AreTicketed, of_calls, orphan_in, orphans_in, references_found, references_of_results, valued}
@@ -256,3 +256,11 @@ own-of-results own id (r ∷ rs) =
     ap (λ (l : List ObjId). is_id_in l id) (flat_map-append (own_id own) (references_in r.value) (references_of_results rs))
     ∙ list_any-append _ (own_ids own (references_in r.value)) (own_ids own (references_of_results rs))
     ∙ ap (λ t. is_id_in (own_ids own (references_in r.value)) id || t) (own-of-results own id rs)
+
+-- ---- a reference in results
+
+pub any-of-results : (r : Ref) (results : List KeptResult) → is_reference_in (references_of_results results) r ≡ list_any (λ (k : KeptResult). is_reference_in (references_in k.value) r) results
+any-of-results r [] = refl
+any-of-results r (k ∷ ks) =
+    list_any-append _ (references_in k.value) (references_of_results ks)
+    ∙ ap (λ t. is_reference_in (references_in k.value) r || t) (any-of-results r ks)

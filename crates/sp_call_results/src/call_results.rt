@@ -9,7 +9,7 @@ ghost use Rattle.rising_map.specs.Rows.{AreRows};
 ghost use Rattle.sp_rules.specs.Endings.{orphan};
 ghost use Rattle.sp_rules.specs.Frames.{is_acked_by};
 ghost use Rattle.sp_rules.specs.OwnEvents.{is_over_at};
-ghost use Rattle.sp_rules.specs.References.{is_id_in};
+ghost use Rattle.sp_rules.specs.References.{is_id_in, is_reference_in, references_in};
 ghost use Rattle.sp_rules.specs.State.{KeptResult as Kept};
 
 use crate::orphans::Orphans;
@@ -160,9 +160,24 @@ impl CallResults {
     pub fn insert_own(&self, own: &Uuid, ids: &mut IdSet) -> Result<(), AllocError>
         ensures { OnOk result ((moment : ℕ) (results : List Kept) → AreCallResults moment results self.now → (id : ObjId) → is_id_in ids.new id ≡ (is_id_in ids.old id || is_named_in own.now (of_calls results) id)) }
     {
-        let tickets = self.values.numbers(self.alloc)?;
-        let references = self.references(self.alloc, tickets.as_slice())?;
+        let references = self.all_references()?;
         ids.insert_references(own, references.as_slice())
+    }
+
+    /// Whether a result is the reference, under its class. It looks at each.
+    pub fn has_reference(&self, reference: &Ref) -> Result<bool, AllocError>
+        ensures { IfOk result (λ has. (moment : ℕ) (results : List Kept) → AreCallResults moment results self.now → has ≡ list_any (λ kept. is_reference_in (references_in kept.value) reference.now) (of_calls results)) }
+    {
+        let references = self.all_references()?;
+        Ok(is_among(references.as_slice(), reference))
+    }
+
+    // The references in all results, in the order in which these came.
+    fn all_references(&self) -> Result<Vec<Ref>, AllocError>
+        ensures { IfOk result (λ references. (moment : ℕ) (results : List Kept) → AreCallResults moment results self.now → references.items ≡ references_of_results (of_calls results)) }
+    {
+        let tickets = self.values.numbers(self.alloc)?;
+        self.references(self.alloc, tickets.as_slice())
     }
 
     // The references in the results of these tickets.
@@ -194,4 +209,14 @@ impl CallResults {
         tickets.sort_unstable();
         Ok(tickets)
     }
+}
+
+// Whether the reference is among these: one of the same space, id and class.
+fn is_among(references: &[Ref], reference: &Ref) -> bool
+    ensures { result ≡ is_reference_in references.now reference.now }
+{
+    references.iter().any(|other| {
+        reference.space == other.space
+            && (reference.id == other.id && reference.class == other.class)
+    })
 }

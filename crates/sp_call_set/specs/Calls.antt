@@ -7,12 +7,16 @@ use Rattle.cls_set.specs.declared.class.Class.{Class}
 use Rattle.space_ids.specs.declared.ids.ClassId.{ClassId}
 use Rattle.sp_rules.specs.Lists.{numbers_below}
 use Rattle.vm_code.specs.Classes.{is_subtype}
-use Rattle.vm_code.specs.Methods.{is_public}
+use Rattle.vm_code.specs.Methods.{is_init, is_public}
 use Rattle.vm_code.specs.Classes.{is_remote_interface}
 
--- whether interfaces inherit a method of a superinterface: neither static ones nor private ones (JVMS 5.4.3.4)
+-- whether a method is one of objects: neither static, nor an `<init>`
+abbrev pub is_of_objects : Method → Bool
+is_of_objects method = not (is_static method) && not (is_init method)
+
+-- whether interfaces inherit a method of a superinterface: neither static ones nor private ones (JVMS 5.4.3.4), nor an `<init>` (JVMS 2.9)
 abbrev pub is_inherited : Method → Bool
-is_inherited method = is_public method && not (is_static method)
+is_inherited method = is_public method && is_of_objects method
 
 -- whether an interface is a supertype of a class, and another one or a subtype of it
 abbrev pub leads_to : List Class → ClassId → ClassId → ClassId → Bool

@@ -6,8 +6,9 @@ ghost use Rattle.cls_search.specs.MethodSearches.{is_interface};
 ghost use Rattle.cls_set.specs.Classes.{number_of};
 ghost use Rattle.sp_classes.specs.Remote.{may_call};
 ghost use Rattle.vm_code.specs.Classes.{is_remote_interface};
-ghost use Rattle.sp_call_set.specs.Calls.{is_given, is_inherited, leads_to, remote_interfaces};
+ghost use Rattle.sp_call_set.specs.Calls.{is_given, is_inherited, is_of_objects, leads_to, remote_interfaces};
 
+use cf_text::INITIALIZER;
 use cls_link::{ClassSet, Flags, Method, MethodId};
 use space_ids::ClassId;
 use std::alloc::{AllocError, Global};
@@ -42,11 +43,18 @@ pub(crate) fn may_call(
     is_given(linked.set(), remote, interfaces, class, declaring)
 }
 
-// Whether interfaces inherit the method: it is public, and not static.
+// Whether interfaces inherit the method: it is public, and one of objects.
 fn is_inherited(method: &Method) -> bool
     ensures { result ≡ is_inherited method.now }
 {
-    method.flags.has(Flags::PUBLIC) && !method.flags.has(Flags::STATIC)
+    method.flags.has(Flags::PUBLIC) && is_of_objects(method)
+}
+
+// Whether the method is neither static nor an `<init>`, which no interface has.
+fn is_of_objects(method: &Method) -> bool
+    ensures { result ≡ is_of_objects method.now }
+{
+    !method.flags.has(Flags::STATIC) && method.name.as_bytes() != INITIALIZER
 }
 
 // Whether a remote interface that a class implements is another interface, or extends it. Each remote

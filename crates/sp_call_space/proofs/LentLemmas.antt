@@ -2,16 +2,17 @@
 use Rattle.std.proofs.Common.{◌≡◌, ℕ, Bool, true, false, cond, nat_eq, List, [], ◌∷◌, ◌++◌, Option, None, Some, refl, sym, ap, subst, ◌∙◌}
 use Rattle.std.specs.Prelude.{not, is_some, ◌==◌, ◌&&◌, ◌||◌, option_map, unwrap_or}
 use Rattle.std.specs.List.{list_any}
-use Rattle.std.proofs.lemmas.Bool.{eq-eqb, eqb-true}
+use Rattle.std.proofs.lemmas.Bool.{eq-eqb, eqb-true, false≢true}
 use Rattle.sp_living.specs.Hands.{task_of}
 use Rattle.sp_living.specs.Views.{Seen, recorded_in}
 use Rattle.sp_living.proofs.HandLemmas as living
 use Rattle.sp_rules.specs.Behaviours.{Op}
 use Rattle.sp_rules.specs.Classes.{Setting}
 use Rattle.sp_rules.specs.Events.{Committed, Parked, GivenBack, Finished}
-use Rattle.sp_rules.specs.Refusals.{NotHeld, NotLent, WornOut, WrongKind, check_finished, check_parked, first_refusal, fits_store, holds_op, is_worn, refusal, refuse_if, stand_after}
+use Rattle.sp_rules.specs.Refusals.{NotHeld, NotLent, WornOut, check_committed, check_finished, check_parked, first_refusal, holds_op, is_worn, refusal, refuse_if, stand_after}
 use Rattle.sp_rules.specs.State.{State, Living, ready_at, task_at}
 use Rattle.sp_rules.specs.Tasks.{steps}
+use Rattle.sp_tasks.specs.Behaviours.{op_of}
 use Rattle.sp_tasks.specs.Rows.{Hand, TaskRow, row_of}
 use Rattle.sp_tasks.specs.Same.{is_recorded}
 use Rattle.sp_tasks.specs.declared.behaviour.Op.{Op as Asked}
@@ -123,9 +124,29 @@ back-alone g s core hand l =
     ap (λ (lent : List ℕ). refusal g lent s (given_back hand)) l.lent
     ∙ ap (λ b. cond (is_worn s && false) (Some WornOut) (first_refusal (refuse_if (not (b && is_some (ready_at s hand.id))) NotLent))) (alone hand.id (lent_ids core) l.here)
 
+-- one that comes back without an instruction is not refused
+unrefused : (worn here ready : Bool) → here ≡ true → ready ≡ true → cond (worn && false) (Some WornOut) (first_refusal (refuse_if (not (here && ready)) NotLent)) ≡ None
+unrefused true true true here ready = refl
+unrefused false true true here ready = refl
+unrefused worn false ready here some = absurd (false≢true here)
+unrefused worn true false here some = absurd (false≢true some)
+
+-- how many instructions it has made since, does not matter to that
+historys-same : (o : Option Living) (hand after : Hand) → after.steps ≡ hand.steps → after.past ≡ hand.past → is_historys o after ≡ is_historys o hand
+historys-same None hand after counted past = refl
+historys-same (Some t) hand after counted past = λ j. (t.steps == counted j) && is_recorded (recorded_in t) (past j)
+
+pub back-taken : (g : Setting) (s : State) (core : SpaceCore) (hand after : Hand) → Lent g s core hand → after ≡ record hand { made = 0 } → refusal g (lent_as s after (lent_ids core)) s (given_back after) ≡ None
+unfolding refusal
+back-taken g s core hand after l same =
+    ap (λ (x : Hand). refusal g (lent_as s x (lent_ids core)) s (given_back x)) same
+    ∙ ap (λ b. refusal g (cond b (lent_ids core) []) s (given_back (record hand { made = 0 }))) (historys-same (ready_at s hand.id) hand (record hand { made = 0 }) refl refl)
+    ∙ ap (λ (lent : List ℕ). refusal g lent s (given_back (record hand { made = 0 }))) l.lent
+    ∙ unrefused (is_worn s) (list_any (◌==◌ hand.id) (lent_ids core)) (is_some (ready_at s hand.id)) l.here (ap is_some l.ready)
+
 pub commit-alone : (g : Setting) (s : State) (core : SpaceCore) (hand : Hand) (op : Asked) → Lent g s core hand → refusal g (lent_as s hand (lent_ids core)) s (committed hand op) ≡ refusal g (hand.id ∷ []) s (committed hand op)
 unfolding refusal
 commit-alone g s core hand op l =
     ap (λ (lent : List ℕ). refusal g lent s (committed hand op)) l.lent
     ∙ ap (λ b. cond (is_worn s && true) (Some WornOut) (first_refusal (refuse_if (not (b && is_some (ready_at s hand.id))) NotLent
-    ++ (refuse_if (not (holds_op g (task_at s hand.id) (Rattle.sp_tasks.specs.Behaviours.op_of op))) NotHeld ++ refuse_if (not (fits_store g s (Rattle.sp_tasks.specs.Behaviours.op_of op))) WrongKind)))) (alone hand.id (lent_ids core) l.here)
+    ++ (refuse_if (not (holds_op g (task_at s hand.id) (op_of op))) NotHeld ++ check_committed g s (op_of op) (stand_after hand.made (task_at s hand.id)))))) (alone hand.id (lent_ids core) l.here)

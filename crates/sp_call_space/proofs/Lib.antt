@@ -1,5 +1,6 @@
 pub mod ResultLemmas
 pub mod LentLemmas
+pub mod FreeLemmas
 pub mod EndLemmas
 pub mod PlayedLemmas
 pub mod EventLemmas
@@ -9,3 +10,4 @@ pub mod BeginLemmas
 pub mod HandLemmas
 pub mod NextLemmas
 pub mod SpaceStep
+pub mod SliceLemmas

@@ -21,7 +21,7 @@ use Rattle.sp_call_space.specs.Machines.{machine_at}
 use Rattle.sp_call_space.specs.Players.{IsPlayed, Played}
 use Rattle.sp_call_space.specs.Spaces.{IsOf, Stands}
 use Rattle.sp_call_space.specs.declared.machines.Machines.{Machines}
-use Rattle.sp_call_space.specs.declared.space.Space.{Space}
+use Rattle.sp_call_space.specs.declared.parts.Parts.{Parts}
 
 pub only : {A : Type 0} (x y : A) → Some x ≡ Some y → x ≡ y
 only x y h = ap (λ o. unwrap_or o x) h
@@ -32,10 +32,10 @@ itself n = eq-eqb n n refl
 not-same : (id other : ℕ) → (id == other) ≡ false → id ≡ other → ⊥
 not-same id other apart same = true≢false (sym (itself id) ∙ ap (λ n. id == n) same ∙ apart)
 
-same-of : (g : Setting) (space : Space) (core : SpaceCore) (machines : Machines) → IsOf g space → IsOf g (record space { core = core; machines = machines })
-same-of g space core machines is = record { classes = is.classes; program = is.program; plays = is.plays; id = is.id; limits = is.limits }
+same-of : (g : Setting) (space : Parts) (core : SpaceCore) (machines : Machines) → IsOf g space → IsOf g (record space { core = core; machines = machines })
+same-of g space core machines is = record { classes = is.classes; program = is.program; plays = is.plays; set = is.set; id = is.id; limits = is.limits }
 
-pub lent-event : (g : Setting) (h : List Event) (space : Space) (core : SpaceCore) (machines : Machines) (e : Event) (id : ℕ) → Stands g h space → lent_task e ≡ Some id → (lent : List ℕ)
+pub lent-event : (g : Setting) (h : List Event) (space : Parts) (core : SpaceCore) (machines : Machines) (e : Event) (id : ℕ) → Stands g h space → lent_task e ≡ Some id → (lent : List ℕ)
     → refusal g lent (state_of g h) e ≡ None → IsCore g (on g e (state_of g h)).0 core → IsPlayed space.program.now g (task_at (state_of g (e ∷ h)) id) (machine_at id machines)
     → ((other : ℕ) → (id == other) ≡ false → machine_at other machines ≡ machine_at other space.machines) → Stands g (e ∷ h) (record space { core = core; machines = machines })
 unfolding state_of
@@ -52,7 +52,7 @@ lent-event g h space core machines e id is of lent unrefused core-is mine others
 }
 
 -- the machine of one task has changed
-pub machine-change : (g : Setting) (h : List Event) (space : Space) (machines : Machines) (id : ℕ) → Stands g h space → IsPlayed space.program.now g (task_at (state_of g h) id) (machine_at id machines)
+pub machine-change : (g : Setting) (h : List Event) (space : Parts) (machines : Machines) (id : ℕ) → Stands g h space → IsPlayed space.program.now g (task_at (state_of g h) id) (machine_at id machines)
     → ((other : ℕ) → (id == other) ≡ false → machine_at other machines ≡ machine_at other space.machines) → Stands g h (record space { machines = machines })
 machine-change g h space machines id is mine others = record {
   of = same-of g space space.core machines is.of;
@@ -65,12 +65,12 @@ machine-change g h space machines id is mine others = record {
       ] refl;
 }
 
-pub core-change : (g : Setting) (h : List Event) (space : Space) (core : SpaceCore) → Stands g h space → IsCore g (state_of g h) core → Stands g h (record space { core = core })
+pub core-change : (g : Setting) (h : List Event) (space : Parts) (core : SpaceCore) → Stands g h space → IsCore g (state_of g h) core → Stands g h (record space { core = core })
 core-change g h space core is core-is = record { of = same-of g space core space.machines is.of; taken = is.taken; core = core-is; played = is.played }
 
 -- ---- no instruction
 
-after-none : (t : Living) → after_steps 0 t ≡ t
+pub after-none : (t : Living) → after_steps 0 t ≡ t
 unfolding steps
 after-none t = let e : t.steps + 0 ≡ t.steps = omega arith in λ j. record t { steps = e j }
 
@@ -90,6 +90,6 @@ back-nothing g s id = by (ready_at s id)
 pub given-nothing : (g : Setting) (s : State) (hand : Hand) → hand.made ≡ 0 → (on g (given_back hand) s).0 ≡ s
 given-nothing g s hand none = ap (λ k. (on g (GivenBack hand.id k) s).0) none ∙ back-nothing g s hand.id
 
-pub fail-stands : (g : Setting) (h : List Event) (space : Space) (core : SpaceCore) (hand : Hand) → Stands g h space → hand.made ≡ 0 → IsCore g (on g (given_back hand) (state_of g h)).0 core
+pub fail-stands : (g : Setting) (h : List Event) (space : Parts) (core : SpaceCore) (hand : Hand) → Stands g h space → hand.made ≡ 0 → IsCore g (on g (given_back hand) (state_of g h)).0 core
     → Stands g h (record space { core = core })
 fail-stands g h space core hand is none core-is = core-change g h space core is (subst (λ (s : State). IsCore g s core) (given-nothing g (state_of g h) hand none) core-is)

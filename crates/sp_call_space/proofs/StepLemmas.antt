@@ -11,14 +11,13 @@ use Rattle.sp_rules.specs.Lists.{with_some}
 use Rattle.sp_rules.specs.Refusals.{Refusal, NotLent, refusal}
 use Rattle.sp_rules.specs.Space.{on, outputs_of, state_of}
 use Rattle.sp_rules.specs.State.{State, Living, ready_at, task_at, that_is_ready}
-use Rattle.sp_rules.specs.Tasks.{Task, Stand, Runs, AsksFor, HasEnded, stand, step}
-use Rattle.sp_rules.specs.Worlds.{events_after, events_at, events_of_op, is_over, lent_for, step_events}
+use Rattle.sp_rules.specs.Tasks.{Task, Runs, AsksFor, HasEnded, is_at_end, stand, step}
+use Rattle.sp_rules.specs.Worlds.{events_after, events_at, events_of_op, lent_for, step_events}
 use Rattle.sp_twin_core.specs.Hands.{is_on_store}
 use Rattle.sp_world.specs.Steps.{answers_to, events_of_step, refusal_of, step_at, step_refusal}
 use Rattle.sp_call_space.specs.Events.{Happened, IsRefused, IsStep, IsStepRefused, grown}
-use Rattle.sp_call_space.specs.Players.{end_at}
 use Rattle.sp_call_space.specs.Spaces.{Stands}
-use Rattle.sp_call_space.specs.declared.space.Space.{Space}
+use Rattle.sp_call_space.specs.declared.parts.Parts.{Parts}
 
 -- ---- refusals
 
@@ -60,7 +59,7 @@ nothing-more (x ∷ xs) = ap (λ ys. x ∷ ys) (nothing-more xs)
 its-events : (g : Setting) (h : List Event) (id : ℕ) (t : Living) (es : List Event) → task_at (state_of g h) id ≡ Some t → step_events id t.task ≡ es → step_at (state_of g h) id ≡ es
 its-events g h id t es lives events = ap (λ (o : Option Living). events_of_step o id) lives ∙ events
 
-stepped : (g : Setting) (h : List Event) (id : ℕ) (t : Living) (es : List Event) (after : Space) (outputs : List Output) → task_at (state_of g h) id ≡ Some t → t.waits ≡ false → step_events id t.task ≡ es
+stepped : (g : Setting) (h : List Event) (id : ℕ) (t : Living) (es : List Event) (after : Parts) (outputs : List Output) → task_at (state_of g h) id ≡ Some t → t.waits ≡ false → step_events id t.task ≡ es
     → refusal_of g (state_of g h) es ≡ None → outputs ≡ answers_to g (state_of g h) es → Stands g (grown h es) after → IsStep g h id after outputs
 stepped g h id t es after outputs lives idle events unrefused answers stands = record {
   accepted = step-refused g (state_of g h) id t es lives idle events ∙ unrefused;
@@ -69,7 +68,7 @@ stepped g h id t es after outputs lives idle events unrefused answers stands = r
 }
 
 -- a step of one event
-pub one-event : (g : Setting) (h : List Event) (id : ℕ) (t : Living) (e : Event) (after : Space) (outputs : List Output) → task_at (state_of g h) id ≡ Some t → t.waits ≡ false → step_events id t.task ≡ e ∷ []
+pub one-event : (g : Setting) (h : List Event) (id : ℕ) (t : Living) (e : Event) (after : Parts) (outputs : List Output) → task_at (state_of g h) id ≡ Some t → t.waits ≡ false → step_events id t.task ≡ e ∷ []
     → Happened g h e after outputs → IsStep g h id after outputs
 unfolding outputs_of
 one-event g h id t e after outputs lives idle events happened =
@@ -77,7 +76,7 @@ one-event g h id t e after outputs lives idle events happened =
     (happened.answers ∙ sym (nothing-more (on g e (state_of g h)).1)) happened.stands
 
 -- a step of two events that answer nothing
-pub two-events : (g : Setting) (h : List Event) (id : ℕ) (t : Living) (e f : Event) (after : Space) (outputs : List Output) → task_at (state_of g h) id ≡ Some t → t.waits ≡ false → step_events id t.task ≡ e ∷ f ∷ []
+pub two-events : (g : Setting) (h : List Event) (id : ℕ) (t : Living) (e f : Event) (after : Parts) (outputs : List Output) → task_at (state_of g h) id ≡ Some t → t.waits ≡ false → step_events id t.task ≡ e ∷ f ∷ []
     → refusal g (lent_for e) (state_of g h) e ≡ None → refusal g (lent_for f) (state_of g (e ∷ h)) f ≡ None → (on g e (state_of g h)).1 ≡ [] → (on g f (state_of g (e ∷ h))).1 ≡ [] → outputs ≡ []
     → Stands g (f ∷ e ∷ h) after → IsStep g h id after outputs
 unfolding state_of
@@ -91,21 +90,11 @@ two-events g h id t e f after outputs lives idle events first second silent more
 pub ended-events : (id : ℕ) (t : Task) (outcome : Outcome) → stand t ≡ HasEnded outcome → step_events id t ≡ Finished id 0 ∷ []
 ended-events id t outcome ends = ap (events_at id t) ends
 
-over-some : (at : Stand) (outcome : Outcome) → end_at at ≡ Some outcome → is_over at ≡ true
-over-some Runs outcome e = cc
-over-some (AsksFor op) outcome e = cc
-over-some (HasEnded other) outcome e = refl
+pub last-events : (id : ℕ) (t : Task) → stand t ≡ Runs → is_at_end (step t).behaviour ≡ true → step_events id t ≡ Finished id 1 ∷ []
+last-events id t runs ends = ap (events_at id t) runs ∙ ap (events_after id) ends
 
-over-none : (at : Stand) → end_at at ≡ None → is_over at ≡ false
-over-none Runs e = refl
-over-none (AsksFor op) e = refl
-over-none (HasEnded other) e = cc
-
-pub last-events : (id : ℕ) (t : Task) (outcome : Outcome) → stand t ≡ Runs → end_at (stand (step t)) ≡ Some outcome → step_events id t ≡ Finished id 1 ∷ []
-last-events id t outcome runs ends = ap (events_at id t) runs ∙ ap (events_after id) (over-some (stand (step t)) outcome ends)
-
-pub own-events : (id : ℕ) (t : Task) → stand t ≡ Runs → end_at (stand (step t)) ≡ None → step_events id t ≡ GivenBack id 1 ∷ []
-own-events id t runs goes = ap (events_at id t) runs ∙ ap (events_after id) (over-none (stand (step t)) goes)
+pub own-events : (id : ℕ) (t : Task) → stand t ≡ Runs → is_at_end (step t).behaviour ≡ false → step_events id t ≡ GivenBack id 1 ∷ []
+own-events id t runs goes = ap (events_at id t) runs ∙ ap (events_after id) goes
 
 store-events : (id : ℕ) (op : Op) → is_on_store op ≡ true → events_of_op id op ≡ Committed id 0 op ∷ GivenBack id 0 ∷ []
 store-events id (Create class) on = refl
@@ -127,7 +116,7 @@ park-events id t op asks off = ap (events_at id t) asks ∙ call-events id op of
 
 -- ---- an event that happened
 
-pub happened : (g : Setting) (h : List Event) (e : Event) (after : Space) (outputs : List Output) → refusal g (lent_for e) (state_of g h) e ≡ None → outputs ≡ (on g e (state_of g h)).1 → Stands g (e ∷ h) after
+pub happened : (g : Setting) (h : List Event) (e : Event) (after : Parts) (outputs : List Output) → refusal g (lent_for e) (state_of g h) e ≡ None → outputs ≡ (on g e (state_of g h)).1 → Stands g (e ∷ h) after
     → Happened g h e after outputs
 unfolding outputs_of
 happened g h e after outputs unrefused answers stands = record { accepted = unrefused; answers = answers; stands = stands }

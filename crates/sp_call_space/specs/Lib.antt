@@ -3,3 +3,4 @@ pub mod Machines
 pub mod Spaces
 pub mod Events
 pub mod Hands
+pub mod Slices

@@ -13,11 +13,12 @@ impl<'p> Inhabitant for Space<'p> {
     ghost is_space = { λ g s space. IsSpace g s space };
 
     fn id(&self) -> Uuid {
-        self.id
+        self.parts.id
     }
 
     fn on(&mut self, event: &Event) -> Result<Vec<Output>, CoreFault> {
-        self.core.on(self.classes, event)
+        let classes = self.parts.classes;
+        self.parts.core.on(classes, event)
     }
 
     fn root(
@@ -26,16 +27,17 @@ impl<'p> Inhabitant for Space<'p> {
         arguments: &[Value],
         fuel: u64,
     ) -> Result<Vec<Output>, CoreFault> {
-        let refused = telling::refusal(self.program, method, arguments)?;
-        self.core.root(&Root {
+        let refused = telling::refusal(self.parts.program, method, arguments)?;
+        let arguments = Row::new(copy_values(self.parts.alloc, arguments)?);
+        self.parts.core.root(&Root {
             method,
-            arguments: Row::new(copy_values(self.alloc, arguments)?),
+            arguments,
             fuel,
             refused,
         })
     }
 
     fn step(&mut self, task: u64) -> Result<Vec<Output>, CoreFault> {
-        self.step_task(task)
+        self.parts.step_task(task)
     }
 }

@@ -1,18 +1,19 @@
 //! The machines of the living tasks.
 
-ghost use Rattle.std.specs.Prelude.{◌≡◌, ◌==◌, ◌<◌, ℕ, false, None, Some, IfOk, OnErr, OnOk, if◌then◌else◌, is_some};
+ghost use Rattle.std.specs.Prelude.{◌≡◌, ◌==◌, ◌<◌, ◌≤◌, ℕ, true, false, None, Some, IfOk, IsSomeAnd, OnErr, OnOk, if◌then◌else◌, is_some};
 ghost use Rattle.indexmap.specs.IndexMap.{spare};
 ghost use Rattle.cls_link.specs.Links.{Links};
 ghost use Rattle.sp_behaviours.specs.Behaviours.{op_at};
 ghost use Rattle.sp_behaviours.specs.Follows.{PlaysOn};
 ghost use Rattle.sp_living.specs.Views.{recorded_in};
 ghost use Rattle.sp_rules.specs.Classes.{Setting};
+ghost use Rattle.sp_rules.specs.LivingTasks.{after_steps};
 ghost use Rattle.sp_rules.specs.State.{Living};
 ghost use Rattle.sp_tasks.specs.Behaviours.{op_of};
 ghost use Rattle.vm_act.specs.declared.machine.Machine.{Machine};
 ghost use Rattle.vm_run.specs.Run.{Waits};
-ghost use Rattle.sp_call_space.specs.Machines.{IsNextAt, fuel_at, machine_at};
-ghost use Rattle.sp_call_space.specs.Players.{IsLevelAt, IsPlayed, Played};
+ghost use Rattle.sp_call_space.specs.Machines.{IsAskedBy, IsNextAt, fuel_at, machine_at};
+ghost use Rattle.sp_call_space.specs.Players.{AsksIn, CanCatchUp, IsLevelAt, IsPlayed, Played};
 
 use crate::player::{Next, Player};
 use indexmap::IndexMap;
@@ -77,26 +78,44 @@ impl<'p> Machines<'p> {
         id: u64,
         record: &Record,
     ) -> Result<(), AllocError>
+        requires { IsSomeAnd (machine_at id self.old) (λ player. CanCatchUp player record.now.past) }
         ensures level { OnOk result ((links : Links) (g : Setting) (t : Living) → PlaysOn links g → IsPlayed links g (Some t) (machine_at id self.old) → t.waits ≡ false → recorded_in t ≡ record.now.past → IsLevelAt links g t (machine_at id self.new)) }
         ensures same { OnErr result (machine_at id self.new ≡ machine_at id self.old) }
         ensures others { (other : ℕ) → (id == other) ≡ false → machine_at other self.new ≡ machine_at other self.old }
     {
         match self.rows.get_mut(&id) {
             Some(player) => Ok(player.catch_up(alloc, record)?),
-            None => Err(AllocError),
+            None => unreachable!(),
         }
     }
 
     /// Lets the machine of a task, which is level with it, make an instruction, if it has not ended and does not ask,
     /// and is not ahead. Returns what comes next of the task.
     pub(crate) fn next(&mut self, alloc: Global, id: u64) -> Result<Next, AllocError>
+        requires { is_some (machine_at id self.old) ≡ true }
         ensures level { (links : Links) (g : Setting) (t : Living) → IsLevelAt links g t (machine_at id self.old) → IsLevelAt links g t (machine_at id self.new) }
         ensures next { IfOk result (λ next. (links : Links) (g : Setting) (t : Living) → IsLevelAt links g t (machine_at id self.old) → IsNextAt t (machine_at id self.new) next) }
+        ensures asked { IfOk result (λ next. IsAskedBy next (machine_at id self.new)) }
         ensures others { (other : ℕ) → (id == other) ≡ false → machine_at other self.new ≡ machine_at other self.old }
     {
         match self.rows.get_mut(&id) {
             Some(player) => Ok(player.next(alloc)?),
-            None => Err(AllocError),
+            None => unreachable!(),
+        }
+    }
+
+    /// Lets the machine of a task, which is level with it, make instructions of its own, so many at most. Returns how
+    /// many it made.
+    pub(crate) fn run(&mut self, id: u64, most: u64) -> u64
+        requires { is_some (machine_at id self.old) ≡ true }
+        ensures level { (links : Links) (g : Setting) (t : Living) → IsLevelAt links g t (machine_at id self.old) → IsLevelAt links g (after_steps result t) (machine_at id self.new) }
+        ensures most { result ≤ most }
+        ensures within { (links : Links) (g : Setting) (t : Living) → IsLevelAt links g t (machine_at id self.old) → result ≤ t.task.fuel }
+        ensures others { (other : ℕ) → (id == other) ≡ false → machine_at other self.new ≡ machine_at other self.old }
+    {
+        match self.rows.get_mut(&id) {
+            Some(player) => player.run(most),
+            None => unreachable!(),
         }
     }
 
@@ -123,11 +142,12 @@ impl<'p> Machines<'p> {
 
     /// What the machine of a task asks for as an operation.
     pub(crate) fn op(&self, alloc: Global, id: u64, asked: &Asked) -> Result<Op, AllocError>
+        requires { IsSomeAnd (machine_at id self.now) (λ player. AsksIn asked.now player.task.state) }
         ensures { IfOk result (λ op. (p : Played) (m : Machine) (fuel : ℕ) → machine_at id self.now ≡ Some p → p.task.state ≡ Waits asked.now m fuel → op_of op ≡ op_at p.task.program.classes asked.now m) }
     {
         match self.rows.get(&id) {
             Some(player) => player.op(alloc, asked),
-            None => Err(AllocError),
+            None => unreachable!(),
         }
     }
 }

@@ -8,6 +8,7 @@ ghost use Rattle.sp_tasks.specs.Behaviours.{op_of, outcome_of, reply_of};
 ghost use Rattle.uuid.specs.declared.Uuid.{Uuid};
 ghost use Rattle.vm_act.specs.declared.machine.Machine.{Machine};
 ghost use Rattle.vm_run.specs.Run.{Waits};
+ghost use Rattle.sp_call_space.specs.Players.{AsksIn};
 
 use sp_events::{CoreFault, StartFault};
 use sp_tasks::{Op, Outcome, Reply};
@@ -35,7 +36,8 @@ pub(crate) fn op(
     task: &Task,
     asked: &Asked,
 ) -> Result<Op, AllocError>
-    requires { task.now.program ≡ program.now }
+    requires program { task.now.program ≡ program.now }
+    requires asked { AsksIn asked.now task.now.state }
     ensures { IfOk result (λ op. (m : Machine) (fuel : ℕ) → task.now.state ≡ Waits asked.now m fuel → op_of op ≡ behaviours.op_at program.now.classes asked.now m) }
 {
     match *asked {
@@ -63,7 +65,7 @@ pub(crate) fn op(
                 method,
                 arguments: Row::new(arguments),
             }),
-            None => Err(AllocError),
+            None => unreachable!(),
         },
     }
 }

@@ -12,7 +12,7 @@ use Rattle.sp_rules.specs.Lists.{numbers_below}
 use Rattle.vm_act.specs.declared.calls.Selected.{Selected}
 use Rattle.vm_act.specs.declared.calls.Selected.TheVariants as selected
 use Rattle.vm_code.specs.Classes.{is_remote, is_subtype}
-use Rattle.vm_code.specs.Methods.{interface_selected, is_public}
+use Rattle.vm_code.specs.Methods.{interface_selected, is_init, is_public}
 use Rattle.vm_code.specs.Classes.{is_remote_interface}
 
 -- whether a class is declared abstract (JVMS 4.1)
@@ -26,10 +26,10 @@ has_instances classes class = is_remote classes class && not (is_abstract classe
 -- ---- calls
 
 -- whether an interface declares a method, or inherits it from one of its superinterfaces: neither static ones nor private ones are (JVMS
--- 5.4.3.4)
+-- 5.4.3.4), and no `<init>` is one of an interface (JVMS 2.9)
 abbrev pub has_method : List Class → Declared → ClassId → Bool
 has_method classes d interface =
-    is_interface classes d.class && (is_subtype classes interface d.class && (is_public d.method && not (is_static d.method)))
+    is_interface classes d.class && (is_subtype classes interface d.class && (is_public d.method && (not (is_static d.method) && not (is_init d.method))))
 
 -- whether it is a remote interface that a class implements, and has the method
 abbrev pub gives_method : List Class → ClassId → Declared → ClassId → Bool

@@ -5,7 +5,7 @@ ghost use Rattle.sp_classes.specs.Classes.{classes_of};
 
 use crate::fields::{count_fields, kind_at};
 use crate::remote::has_instances;
-use sp_core::{ClassSet, FieldKind};
+use sp_call_classes::{ClassSet, FieldKind};
 use space_ids::ClassId;
 use vm_run::Program;
 

@@ -4,7 +4,7 @@ ghost use Rattle.std.specs.Prelude.{◌≡◌, [], IfNone, IfSome, length, map, 
 ghost use Rattle.sp_call_classes.specs.ClassSets.{kind_of};
 ghost use Rattle.sp_classes.specs.Fields.{fields_of, kind_of_word};
 
-use sp_core::FieldKind;
+use sp_call_classes::FieldKind;
 use space_ids::ClassId;
 use vm_heap::WordKind;
 use vm_run::Program;

@@ -4,10 +4,8 @@
 #![tactic(auto)]
 
 pub use classes::SpaceClasses;
-pub use starting::start_refusal;
 
 mod classes;
 mod fields;
 pub mod receiving;
 mod remote;
-mod starting;

@@ -8,3 +8,4 @@ pub mod EndLemmas
 pub mod ToldLemmas
 pub mod TaskLemmas
 pub mod NeedLemmas
+pub mod ForeignLemmas

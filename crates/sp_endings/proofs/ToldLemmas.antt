@@ -1,7 +1,9 @@
 -- Answers to dirty and clean calls, and connections that are open, as the calls on what lives tell them.
 use Rattle.std.proofs.Common.{◌≡◌, ℕ, Bool, true, false, Option, None, Some, refl, sym, ◌∙◌, true≢false}
-use Rattle.std.specs.Prelude.{find, is_some}
+use Rattle.std.specs.Prelude.{find, is_some, option_map}
 use Rattle.dgc_client.specs.History as lease_events
+use Rattle.sp_connections.specs.Tables.{seen}
+use Rattle.sp_connections.specs.declared.connection.Connection.{Connection as Shown}
 use Rattle.sp_rules.specs.Classes.{Setting}
 use Rattle.sp_rules.specs.Endings.{close}
 use Rattle.sp_rules.specs.Frames.{group_told, tells_on, told_by}
@@ -62,7 +64,11 @@ answered-store s dirty conn sequence event = by (find (tells_on dirty conn seque
     by None = refl
     by (Some r) = told r.asked
 
--- what is there
-pub is-there : {A : Type 0} (o : Option A) → is_some o ≡ true → (x : A) × (o ≡ Some x)
-is-there None e = absurd (true≢false (sym e))
-is-there (Some x) e = (x, refl)
+-- a connection that is shown is there, and one that is not is not
+pub shown-there : (shown : Shown) (o : Option Connection) → Some shown ≡ option_map seen o → (c : Connection) × (o ≡ Some c)
+shown-there shown None is = cc
+shown-there shown (Some c) is = (c, refl)
+
+pub not-there : (o : Option Connection) → ◌≡◌ {A = Option Shown} None (option_map seen o) → o ≡ None
+not-there None is = refl
+not-there (Some c) is = cc

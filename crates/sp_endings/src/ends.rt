@@ -1,6 +1,6 @@
 //! Connections that end, peers that refuse, and what was asked on them.
 
-ghost use Rattle.std.specs.Prelude.{◌≡◌, ◌==◌, ℕ, List, [], OnOk, filter};
+ghost use Rattle.std.specs.Prelude.{◌≡◌, ◌==◌, ℕ, List, [], OnOk, filter, true};
 ghost use Rattle.sp_call_classes.specs.Thrown.{thrown_class};
 ghost use Rattle.sp_endings.specs.Ends.{AreThrown, end_call, end_each, fail_out};
 ghost use Rattle.sp_living.specs.Livings.{IsLiving};
@@ -8,7 +8,8 @@ ghost use Rattle.sp_rules.specs.Classes.{Setting};
 ghost use Rattle.sp_rules.specs.Endings.{by_unmarshal, close, end_connection, fail_write, unpark, unsent_calls};
 ghost use Rattle.sp_rules.specs.Lists.{each};
 ghost use Rattle.sp_rules.specs.OwnEvents.{on_refused};
-ghost use Rattle.sp_rules.specs.State.{Asked as Question, ParkedFrame as Row, Request, State};
+ghost use Rattle.sp_rules.specs.State.{Asked as Question, ParkedFrame as Row, Request, State, is_dialling};
+ghost use Rattle.sp_tasks.specs.Lent.{KeepsLent};
 ghost use Rattle.sp_transport.specs.Answers.{AreEnded};
 ghost use Rattle.space_ids.specs.declared.ids.ClassId.{ClassId as Class};
 
@@ -30,7 +31,8 @@ pub fn end_connection<C: CallClasses>(
     classes: &C,
     conn: u64,
 ) -> Result<(), AllocError>
-    ensures { OnOk result ((g : Setting) (s : State) → IsLiving g s living.old → s.notes ≡ [] → C.tells classes.now g.classes → IsLiving g (end_connection g (by_unmarshal g) conn s) living.new) }
+    ensures ended { OnOk result ((g : Setting) (s : State) → IsLiving g s living.old → s.notes ≡ [] → C.tells classes.now g.classes → IsLiving g (end_connection g (by_unmarshal g) conn s) living.new) }
+    ensures lent { OnOk result (KeepsLent living.old.tasks living.new.tasks) }
 {
     let class = classes.thrown(RemoteException::Unmarshal);
     end_as(living, classes, conn, 0, Thrown::all(class))
@@ -43,7 +45,8 @@ pub fn close<C: CallClasses>(
     exception: RemoteException,
     conn: u64,
 ) -> Result<(), AllocError>
-    ensures { OnOk result ((g : Setting) (s : State) → IsLiving g s living.old → s.notes ≡ [] → C.tells classes.now g.classes → IsLiving g (close g (thrown_class g.classes exception) conn s) living.new) }
+    ensures closed { OnOk result ((g : Setting) (s : State) → IsLiving g s living.old → s.notes ≡ [] → C.tells classes.now g.classes → IsLiving g (close g (thrown_class g.classes exception) conn s) living.new) }
+    ensures lent { OnOk result (KeepsLent living.old.tasks living.new.tasks) }
 {
     let class = classes.thrown(exception);
     end_as(living, classes, conn, 0, Thrown::all(class))?;
@@ -58,7 +61,8 @@ pub fn fail_write<C: CallClasses>(
     conn: u64,
     unsent: u64,
 ) -> Result<(), AllocError>
-    ensures { OnOk result ((g : Setting) (s : State) → IsLiving g s living.old → s.notes ≡ [] → C.tells classes.now g.classes → IsLiving g (fail_write g conn unsent s) living.new) }
+    ensures failed { OnOk result ((g : Setting) (s : State) → IsLiving g s living.old → s.notes ≡ [] → C.tells classes.now g.classes → IsLiving g (fail_write g conn unsent s) living.new) }
+    ensures lent { OnOk result (KeepsLent living.old.tasks living.new.tasks) }
 {
     let thrown = Thrown {
         unsent: classes.thrown(RemoteException::Marshal),
@@ -74,7 +78,8 @@ pub fn refuse<C: CallClasses>(
     classes: &C,
     peer: &Uuid,
 ) -> Result<(), AllocError>
-    ensures { OnOk result ((g : Setting) (s : State) → IsLiving g s living.old → s.notes ≡ [] → C.tells classes.now g.classes → IsLiving g (on_refused g peer.now s) living.new) }
+    ensures refused { OnOk result ((g : Setting) (s : State) → IsLiving g s living.old → s.notes ≡ [] → C.tells classes.now g.classes → is_dialling s peer.now ≡ true → IsLiving g (on_refused g peer.now s) living.new) }
+    ensures lent { OnOk result (KeepsLent living.old.tasks living.new.tasks) }
 {
     let ended = living.take_refused(peer)?;
     let class = classes.thrown(RemoteException::Connect);
@@ -89,19 +94,21 @@ fn end_as<C: CallClasses>(
     unsent: u64,
     thrown: Thrown,
 ) -> Result<(), AllocError>
-    ensures { OnOk result ((g : Setting) (s : State) (why : Question → Class) → IsLiving g s living.old → s.notes ≡ [] → C.tells classes.now g.classes → AreThrown why (unsent_calls s conn unsent) thrown → IsLiving g (end_connection g why conn s) living.new) }
+    ensures ended { OnOk result ((g : Setting) (s : State) (why : Question → Class) → IsLiving g s living.old → s.notes ≡ [] → C.tells classes.now g.classes → AreThrown why (unsent_calls s conn unsent) thrown → IsLiving g (end_connection g why conn s) living.new) }
+    ensures lent { OnOk result (KeepsLent living.old.tasks living.new.tasks) }
 {
-    if living.transport().connection(conn).is_none() {
+    let Some(connection) = living.transport().connection(conn) else {
         return Ok(());
-    }
-    let ended = living.take_connection(conn, unsent)?;
+    };
+    let ended = living.take_connection(conn, connection.dialled, unsent)?;
     unpark(living, conn)?;
     end_all(living, classes, &ended, thrown)
 }
 
 // Drops the frames that are parked on a connection.
 fn unpark(living: &mut Living, conn: u64) -> Result<(), AllocError>
-    ensures { OnOk result ((g : Setting) (s : State) → IsLiving g s living.old → IsLiving g (each unpark (filter (λ (p : Row). p.conn == conn) s.parked) s) living.new) }
+    ensures dropped { OnOk result ((g : Setting) (s : State) → IsLiving g s living.old → IsLiving g (each unpark (filter (λ (p : Row). p.conn == conn) s.parked) s) living.new) }
+    ensures lent { OnOk result (KeepsLent living.old.tasks living.new.tasks) }
 {
     for frame in &living.take_frames_on(conn)? {
         living.drop_ids(frame.references.as_slice());
@@ -116,7 +123,8 @@ fn end_all<C: CallClasses>(
     ended: &Ended,
     thrown: Thrown,
 ) -> Result<(), AllocError>
-    ensures { OnOk result ((g : Setting) (s : State) (why : Question → Class) (unsent : List ℕ) (requests : List Request) → IsLiving g s living.old → C.tells classes.now g.classes → AreEnded unsent requests ended.now → AreThrown why unsent thrown → IsLiving g (end_each g why requests s) living.new) }
+    ensures ended { OnOk result ((g : Setting) (s : State) (why : Question → Class) (unsent : List ℕ) (requests : List Request) → IsLiving g s living.old → C.tells classes.now g.classes → AreEnded unsent requests ended.now → AreThrown why unsent thrown → IsLiving g (end_each g why requests s) living.new) }
+    ensures lent { OnOk result (KeepsLent living.old.tasks living.new.tasks) }
 {
     end_calls(living, &ended.calls, thrown)?;
     fail_groups(living, classes, &ended.groups)
@@ -124,7 +132,8 @@ fn end_all<C: CallClasses>(
 
 // Ends calls and lookups, one after the other.
 fn end_calls(living: &mut Living, calls: &[EndedCall], thrown: Thrown) -> Result<(), AllocError>
-    ensures { OnOk result ((g : Setting) (s : State) → IsLiving g s living.old → IsLiving g (each (end_call g thrown) calls.now s) living.new) }
+    ensures ended { OnOk result ((g : Setting) (s : State) → IsLiving g s living.old → IsLiving g (each (end_call g thrown) calls.now s) living.new) }
+    ensures lent { OnOk result (KeepsLent living.old.tasks living.new.tasks) }
 {
     for call in calls {
         living.reply_to(call.asker, Reply::Throws(thrown.class(call.unsent)))?;
@@ -138,7 +147,8 @@ fn fail_groups<C: CallClasses>(
     classes: &C,
     groups: &[OutGroup],
 ) -> Result<(), AllocError>
-    ensures { OnOk result ((g : Setting) (s : State) → IsLiving g s living.old → C.tells classes.now g.classes → IsLiving g (each (fail_out g) groups.now s) living.new) }
+    ensures failed { OnOk result ((g : Setting) (s : State) → IsLiving g s living.old → C.tells classes.now g.classes → IsLiving g (each (fail_out g) groups.now s) living.new) }
+    ensures lent { OnOk result (KeepsLent living.old.tasks living.new.tasks) }
 {
     for told in groups {
         fail_group(living, classes, &told.group, told.call)?;

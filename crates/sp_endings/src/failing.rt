@@ -8,6 +8,7 @@ ghost use Rattle.sp_rules.specs.Endings.{fail_dirty, fail_group};
 ghost use Rattle.sp_rules.specs.Lists.{each};
 ghost use Rattle.sp_rules.specs.ParkedFrames.{fail_parked, names};
 ghost use Rattle.sp_rules.specs.State.{State};
+ghost use Rattle.sp_tasks.specs.Lent.{KeepsLent};
 
 use crate::passing::give_up;
 use dgc_client::{Due, Group};
@@ -24,7 +25,8 @@ pub fn fail_group<C: CallClasses>(
     group: &Group,
     call: u64,
 ) -> Result<(), AllocError>
-    ensures { OnOk result ((g : Setting) (s : State) → IsLiving g s living.old → C.tells classes.now g.classes → IsLiving g (fail_group g group.now.kind group.now call s) living.new) }
+    ensures failed { OnOk result ((g : Setting) (s : State) → IsLiving g s living.old → C.tells classes.now g.classes → IsLiving g (fail_group g group.now.kind group.now call s) living.new) }
+    ensures lent { OnOk result (KeepsLent living.old.tasks living.new.tasks) }
 {
     match group.kind {
         Due::Dirty => fail_dirty_calls(living, classes, group, call),
@@ -42,7 +44,8 @@ fn fail_dirty_calls<C: CallClasses>(
     group: &Group,
     call: u64,
 ) -> Result<(), AllocError>
-    ensures { OnOk result ((g : Setting) (s : State) → IsLiving g s living.old → C.tells classes.now g.classes → IsLiving g (fail_group g due.Dirty group.now call s) living.new) }
+    ensures failed { OnOk result ((g : Setting) (s : State) → IsLiving g s living.old → C.tells classes.now g.classes → IsLiving g (fail_group g due.Dirty group.now call s) living.new) }
+    ensures lent { OnOk result (KeepsLent living.old.tasks living.new.tasks) }
 {
     for id in group.ids.as_slice() {
         let reference = ForeignId {
@@ -62,7 +65,8 @@ fn fail_dirty<C: CallClasses>(
     reference: &ForeignId,
     call: u64,
 ) -> Result<(), AllocError>
-    ensures { OnOk result ((g : Setting) (s : State) → IsLiving g s living.old → C.tells classes.now g.classes → IsLiving g (fail_dirty g call s reference.now) living.new) }
+    ensures failed { OnOk result ((g : Setting) (s : State) → IsLiving g s living.old → C.tells classes.now g.classes → IsLiving g (fail_dirty g call s reference.now) living.new) }
+    ensures lent { OnOk result (KeepsLent living.old.tasks living.new.tasks) }
 {
     let lacks = living.dirty_failed(reference, call)?;
     if lacks {
@@ -78,7 +82,8 @@ fn fail_named<C: CallClasses>(
     classes: &C,
     reference: &ForeignId,
 ) -> Result<(), AllocError>
-    ensures { OnOk result ((g : Setting) (s : State) → IsLiving g s living.old → C.tells classes.now g.classes → IsLiving g (each (fail_parked g) (filter (names reference.now) s.parked) s) living.new) }
+    ensures failed { OnOk result ((g : Setting) (s : State) → IsLiving g s living.old → C.tells classes.now g.classes → IsLiving g (each (fail_parked g) (filter (names reference.now) s.parked) s) living.new) }
+    ensures lent { OnOk result (KeepsLent living.old.tasks living.new.tasks) }
 {
     for frame in &living.take_frames_naming(reference)? {
         give_up(living, classes, frame)?;

@@ -11,6 +11,7 @@ ghost use Rattle.sp_rules.specs.Lists.{each};
 ghost use Rattle.sp_rules.specs.ParkedFrames.{go_all, park_frame};
 ghost use Rattle.sp_rules.specs.State.{State};
 ghost use Rattle.sp_store.specs.Stores.{IsAfter};
+ghost use Rattle.sp_tasks.specs.Lent.{KeepsLent};
 
 use crate::passing::pass_on;
 use sp_call_classes::CallClasses;
@@ -28,7 +29,8 @@ pub fn park<C: CallClasses>(
     frame: ParkedFrame,
 ) -> Result<(), AllocError>
     requires { IsDistinct is_same frame.references }
-    ensures { OnOk result ((g : Setting) (s : State) → IsLiving g s living.old → C.tells classes.now g.classes → IsAfter g s.store store.now → IsLiving g (park_frame g frame.conn frame.number (parked_of frame).frame frame.references s) living.new) }
+    ensures parked { OnOk result ((g : Setting) (s : State) → IsLiving g s living.old → C.tells classes.now g.classes → IsAfter g s.store store.now → IsLiving g (park_frame g frame.conn frame.number (parked_of frame).frame frame.references s) living.new) }
+    ensures lent { OnOk result (KeepsLent living.old.tasks living.new.tasks) }
 {
     living.hold_ids(frame.references.as_slice())?;
     living.put_frame(frame)?;
@@ -42,7 +44,8 @@ pub fn go_all<C: CallClasses>(
     store: &Store,
     classes: &C,
 ) -> Result<(), AllocError>
-    ensures { OnOk result ((g : Setting) (s : State) → IsLiving g s living.old → C.tells classes.now g.classes → IsAfter g s.store store.now → IsLiving g (go_all g s) living.new) }
+    ensures gone { OnOk result ((g : Setting) (s : State) → IsLiving g s living.old → C.tells classes.now g.classes → IsAfter g s.store store.now → IsLiving g (go_all g s) living.new) }
+    ensures lent { OnOk result (KeepsLent living.old.tasks living.new.tasks) }
 {
     let frames = living.take_free_frames()?;
     pass_all_on(living, store, classes, frames)
@@ -55,7 +58,8 @@ fn pass_all_on<C: CallClasses>(
     classes: &C,
     frames: Vec<ParkedFrame>,
 ) -> Result<(), AllocError>
-    ensures { OnOk result ((g : Setting) (s : State) → IsLiving g s living.old → C.tells classes.now g.classes → IsAfter g s.store store.now → IsLiving g (each (pass_on g) (map parked_of frames.items) s) living.new) }
+    ensures passed { OnOk result ((g : Setting) (s : State) → IsLiving g s living.old → C.tells classes.now g.classes → IsAfter g s.store store.now → IsLiving g (each (pass_on g) (map parked_of frames.items) s) living.new) }
+    ensures lent { OnOk result (KeepsLent living.old.tasks living.new.tasks) }
 {
     for frame in frames {
         pass_on(living, store, classes, frame)?;

@@ -7,6 +7,7 @@
 
 pub use ends::{close, end_connection, fail_write, refuse};
 pub use failing::fail_group;
+pub use foreign::{foreign_among, foreign_in};
 pub use frames::{go_all, park};
 pub use needing::{insert_own, is_busy};
 pub use tasks::{end_task, finish_task, report};
@@ -14,6 +15,7 @@ pub use telling::{cleaned, lease};
 
 mod ends;
 mod failing;
+mod foreign;
 mod frames;
 mod needing;
 mod passing;

@@ -12,6 +12,7 @@ ghost use Rattle.sp_rules.specs.Classes.{Setting};
 ghost use Rattle.sp_rules.specs.ParkedFrames.{answer_threw, go_frame, start_call, start_selected};
 ghost use Rattle.sp_rules.specs.State.{Object, ParkedFrame as Row, State, object_at};
 ghost use Rattle.sp_store.specs.Stores.{IsAfter};
+ghost use Rattle.sp_tasks.specs.Lent.{KeepsLent};
 
 use net_message::Message;
 use sp_call_classes::{CallClasses, RemoteException};
@@ -31,7 +32,8 @@ pub(crate) fn pass_on<C: CallClasses>(
     classes: &C,
     frame: ParkedFrame,
 ) -> Result<(), AllocError>
-    ensures { OnOk result ((g : Setting) (s : State) → IsLiving g s living.old → C.tells classes.now g.classes → IsAfter g s.store store.now → IsLiving g (pass_on g s (parked_of frame)) living.new) }
+    ensures passed { OnOk result ((g : Setting) (s : State) → IsLiving g s living.old → C.tells classes.now g.classes → IsAfter g s.store store.now → IsLiving g (pass_on g s (parked_of frame)) living.new) }
+    ensures lent { OnOk result (KeepsLent living.old.tasks living.new.tasks) }
 {
     let ParkedFrame {
         conn,
@@ -53,7 +55,8 @@ fn go_frame<C: CallClasses>(
     number: u64,
     frame: Frame,
 ) -> Result<(), AllocError>
-    ensures { OnOk result ((g : Setting) (s : State) (p : Row) → IsLiving g s living.old → C.tells classes.now g.classes → IsAfter g s.store store.now → p.conn ≡ conn → p.number ≡ number → IsLiving g (go_frame g p (frame_of frame) s) living.new) }
+    ensures gone { OnOk result ((g : Setting) (s : State) (p : Row) → IsLiving g s living.old → C.tells classes.now g.classes → IsAfter g s.store store.now → p.conn ≡ conn → p.number ≡ number → IsLiving g (go_frame g p (frame_of frame) s) living.new) }
+    ensures lent { OnOk result (KeepsLent living.old.tasks living.new.tasks) }
 {
     match frame {
         Frame::Call(call) => start_call(living, store, classes, conn, number, call),
@@ -73,7 +76,8 @@ fn start_call<C: CallClasses>(
     number: u64,
     call: ParkedCall,
 ) -> Result<(), AllocError>
-    ensures { OnOk result ((g : Setting) (s : State) (p : Row) → IsLiving g s living.old → C.tells classes.now g.classes → IsAfter g s.store store.now → p.conn ≡ conn → p.number ≡ number → IsLiving g (start_call g p call.target call.method call.fuel call.arguments s) living.new) }
+    ensures started { OnOk result ((g : Setting) (s : State) (p : Row) → IsLiving g s living.old → C.tells classes.now g.classes → IsAfter g s.store store.now → p.conn ≡ conn → p.number ≡ number → IsLiving g (start_call g p call.target call.method call.fuel call.arguments s) living.new) }
+    ensures lent { OnOk result (KeepsLent living.old.tasks living.new.tasks) }
 {
     let Some(receiver) = receiver_of(living, store, call.target) else {
         return Ok(());
@@ -111,7 +115,8 @@ fn start_selected<C: CallClasses>(
     arguments: &[Value],
     fuel: u64,
 ) -> Result<(), AllocError>
-    ensures { OnOk result ((g : Setting) (s : State) (receiver : Reference) (others : List Carried) → IsLiving g s living.old → C.tells classes.now g.classes → arguments.now ≡ values.Ref receiver ∷ others → IsLiving g (start_selected g conn number receiver selected fuel others s) living.new) }
+    ensures started { OnOk result ((g : Setting) (s : State) (receiver : Reference) (others : List Carried) → IsLiving g s living.old → C.tells classes.now g.classes → arguments.now ≡ values.Ref receiver ∷ others → IsLiving g (start_selected g conn number receiver selected fuel others s) living.new) }
+    ensures lent { OnOk result (KeepsLent living.old.tasks living.new.tasks) }
 {
     match selected {
         Some(method) => {
@@ -135,7 +140,8 @@ fn answer_threw(
     number: u64,
     class: ClassId,
 ) -> Result<(), AllocError>
-    ensures { OnOk result ((g : Setting) (s : State) → IsLiving g s living.old → IsLiving g (answer_threw conn number class s) living.new) }
+    ensures answered { OnOk result ((g : Setting) (s : State) → IsLiving g s living.old → IsLiving g (answer_threw conn number class s) living.new) }
+    ensures lent { OnOk result (KeepsLent living.old.tasks living.new.tasks) }
 {
     living.reply(Turn::Replies, conn, Message::Threw { number, class })
 }
@@ -147,7 +153,8 @@ pub(crate) fn give_up<C: CallClasses>(
     classes: &C,
     frame: &ParkedFrame,
 ) -> Result<(), AllocError>
-    ensures { OnOk result ((g : Setting) (s : State) → IsLiving g s living.old → C.tells classes.now g.classes → IsLiving g (give_up g s (parked_of frame.now)) living.new) }
+    ensures failed { OnOk result ((g : Setting) (s : State) → IsLiving g s living.old → C.tells classes.now g.classes → IsLiving g (give_up g s (parked_of frame.now)) living.new) }
+    ensures lent { OnOk result (KeepsLent living.old.tasks living.new.tasks) }
 {
     living.drop_ids(frame.references.as_slice());
     let class = classes.thrown(RemoteException::Unmarshal);

@@ -8,6 +8,7 @@ ghost use Rattle.sp_rules.specs.LivingTasks.{after_steps, end_with, finish_task,
 ghost use Rattle.sp_rules.specs.State.{Acked, Living as Task, OfCall, State, task_at};
 ghost use Rattle.sp_rules.specs.Tasks.{HasEnded, stand, steps};
 ghost use Rattle.sp_tasks.specs.Behaviours.{origin_of, outcome_of};
+ghost use Rattle.sp_tasks.specs.Lent.{KeepsLent, LendsNoMore};
 
 use net_message::Message;
 use sp_call_classes::CallClasses;
@@ -26,7 +27,8 @@ pub fn finish_task<C: CallClasses>(
     outcome: Outcome,
 ) -> Result<(), AllocError>
     requires { has_lent living.old task.now ≡ true }
-    ensures { OnOk result ((g : Setting) (s : State) → IsLiving g s living.old → C.tells classes.now g.classes → stand (task_of g task.now) ≡ HasEnded (outcome_of outcome) → fuel ≡ (task_of g task.now).fuel → IsLiving g (finish_task g task.now.id task.now.made s) living.new) }
+    ensures finished { OnOk result ((g : Setting) (s : State) → IsLiving g s living.old → C.tells classes.now g.classes → stand (task_of g task.now) ≡ HasEnded (outcome_of outcome) → fuel ≡ (task_of g task.now).fuel → IsLiving g (finish_task g task.now.id task.now.made s) living.new) }
+    ensures lent { OnOk result (LendsNoMore task.now.id living.old.tasks living.new.tasks) }
 {
     end_task(alloc, living, classes, task.id(), fuel, outcome)
 }
@@ -42,7 +44,8 @@ pub fn end_task<C: CallClasses>(
     fuel: u64,
     outcome: Outcome,
 ) -> Result<(), AllocError>
-    ensures { OnOk result ((g : Setting) (s : State) (t : Task) (k : ℕ) → IsLiving g s living.old → C.tells classes.now g.classes → task_at s id ≡ Some t → fuel ≡ (steps k t.task).fuel → IsLiving g (end_with g id (after_steps k t) (outcome_of outcome) s) living.new) }
+    ensures ended { OnOk result ((g : Setting) (s : State) (t : Task) (k : ℕ) → IsLiving g s living.old → C.tells classes.now g.classes → task_at s id ≡ Some t → fuel ≡ (steps k t.task).fuel → IsLiving g (end_with g id (after_steps k t) (outcome_of outcome) s) living.new) }
+    ensures lent { OnOk result (LendsNoMore id living.old.tasks living.new.tasks) }
 {
     let held = living.held(id)?;
     let Some(origin) = living.take_task(id) else {
@@ -65,7 +68,8 @@ pub fn report<C: CallClasses>(
     fuel: u64,
     outcome: Outcome,
 ) -> Result<(), AllocError>
-    ensures { OnOk result ((g : Setting) (s : State) → IsLiving g s living.old → C.tells classes.now g.classes → IsLiving g (report g (origin_of origin) id fuel (outcome_of outcome) s) living.new) }
+    ensures reported { OnOk result ((g : Setting) (s : State) → IsLiving g s living.old → C.tells classes.now g.classes → IsLiving g (report g (origin_of origin) id fuel (outcome_of outcome) s) living.new) }
+    ensures lent { OnOk result (KeepsLent living.old.tasks living.new.tasks) }
 {
     match origin {
         Origin::Root => living.keep_root_outcome(id, outcome),
@@ -85,7 +89,8 @@ fn answer_call<C: CallClasses>(
     fuel: u64,
     outcome: Outcome,
 ) -> Result<(), AllocError>
-    ensures { OnOk result ((g : Setting) (s : State) (id : ℕ) → IsLiving g s living.old → C.tells classes.now g.classes → IsLiving g (report g (OfCall conn number) id fuel (outcome_of outcome) s) living.new) }
+    ensures answered { OnOk result ((g : Setting) (s : State) (id : ℕ) → IsLiving g s living.old → C.tells classes.now g.classes → IsLiving g (report g (OfCall conn number) id fuel (outcome_of outcome) s) living.new) }
+    ensures lent { OnOk result (KeepsLent living.old.tasks living.new.tasks) }
 {
     if living.transport().connection(conn).is_none() {
         return Ok(());
@@ -102,7 +107,8 @@ fn keep_outcome(
     number: u64,
     outcome: Outcome,
 ) -> Result<(), AllocError>
-    ensures { OnOk result ((g : Setting) (s : State) → IsLiving g s living.old → IsLiving g (keep_result g (Acked conn number) (outcome_of outcome) s) living.new) }
+    ensures kept { OnOk result ((g : Setting) (s : State) → IsLiving g s living.old → IsLiving g (keep_result g (Acked conn number) (outcome_of outcome) s) living.new) }
+    ensures lent { OnOk result (KeepsLent living.old.tasks living.new.tasks) }
 {
     match outcome {
         Outcome::Returned(value) => living.keep(conn, number, value),

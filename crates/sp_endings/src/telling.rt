@@ -7,6 +7,8 @@ ghost use Rattle.sp_rules.specs.Classes.{Setting};
 ghost use Rattle.sp_rules.specs.Frames.{told_by};
 ghost use Rattle.sp_rules.specs.State.{Connection as Line, State, connection_at};
 ghost use Rattle.sp_store.specs.Stores.{IsAfter};
+ghost use Rattle.sp_tasks.specs.Lent.{KeepsLent};
+ghost use Rattle.uuid.specs.declared.Uuid.{Uuid as Peer};
 
 use crate::ends::close;
 use crate::frames::go_all;
@@ -26,9 +28,10 @@ pub fn lease<C: CallClasses>(
     sequence: u64,
     period: u64,
 ) -> Result<(), AllocError>
-    ensures { OnOk result ((g : Setting) (s : State) (c : Line) → IsLiving g s living.old → s.notes ≡ [] → C.tells classes.now g.classes → IsAfter g s.store store.now → connection_at s conn ≡ Some c → IsLiving g (told_by g c true sequence (λ call. DirtyAnswered call period) s) living.new) }
+    ensures told { OnOk result ((g : Setting) (s : State) (c : Line) (peer : Peer) → IsLiving g s living.old → s.notes ≡ [] → C.tells classes.now g.classes → IsAfter g s.store store.now → connection_at s conn ≡ Some c → c.dialled ≡ Some peer → IsLiving g (told_by g c true sequence (λ call. DirtyAnswered call period) s) living.new) }
+    ensures lent { OnOk result (KeepsLent living.old.tasks living.new.tasks) }
 {
-    let some = living.dirty_answered(conn, sequence, period)?;
+    let some = living.dirty_answered(conn, sequence, period);
     if some {
         go_all(living, store, classes)
     } else {
@@ -45,9 +48,10 @@ pub fn cleaned<C: CallClasses>(
     conn: u64,
     sequence: u64,
 ) -> Result<(), AllocError>
-    ensures { OnOk result ((g : Setting) (s : State) (c : Line) → IsLiving g s living.old → s.notes ≡ [] → C.tells classes.now g.classes → IsAfter g s.store store.now → connection_at s conn ≡ Some c → IsLiving g (told_by g c false sequence CleanAnswered s) living.new) }
+    ensures told { OnOk result ((g : Setting) (s : State) (c : Line) (peer : Peer) → IsLiving g s living.old → s.notes ≡ [] → C.tells classes.now g.classes → IsAfter g s.store store.now → connection_at s conn ≡ Some c → c.dialled ≡ Some peer → IsLiving g (told_by g c false sequence CleanAnswered s) living.new) }
+    ensures lent { OnOk result (KeepsLent living.old.tasks living.new.tasks) }
 {
-    let some = living.clean_answered(conn, sequence)?;
+    let some = living.clean_answered(conn, sequence);
     if some {
         go_all(living, store, classes)
     } else {

@@ -4,8 +4,9 @@ use Rattle.std.proofs.Common.{inl, inr}
 use Rattle.std.proofs.lemmas.Bool.{true≢false, eqb-true}
 use Rattle.std.specs.List.{list_any}
 use Rattle.std.specs.Str.{bytes_eq}
-use Rattle.std.specs.Prelude.{◌≡◌, refl, ℕ, ◌==◌, ◌&&◌, ◌||◌, not, nat_le, nat_lt, is_some, is_none, Bool, true, false, List, [], ◌∷◌, Option, None, Some, Result, Ok, Err, find, if◌then◌else◌}
+use Rattle.std.specs.Prelude.{◌≡◌, refl, ℕ, ◌==◌, ◌&&◌, ◌||◌, not, nat_le, nat_lt, is_some, is_none, Bool, true, false, List, [], ◌∷◌, Option, None, Some, Result, Ok, Err, find, fold, map, if◌then◌else◌}
 use Rattle.dgc_client.specs.History as lease_events
+use Rattle.dgc_client.specs.Table as client
 use Rattle.space_ids.specs.declared.ids.ForeignId.{ForeignId}
 use Rattle.net_message.specs.declared.message.Message.TheVariants as message
 use Rattle.net_message.specs.declared.message.Message.{Message}
@@ -25,6 +26,7 @@ use Rattle.sp_rules.specs.Frames
 use Rattle.sp_rules.specs.Holders
 use Rattle.sp_rules.specs.Holders.{hold_ids, drop_ids}
 use Rattle.sp_rules.specs.Lists.{with_some}
+use Rattle.sp_rules.specs.LivingTasks.{reply_to}
 use Rattle.sp_rules.specs.OwnEvents
 use Rattle.sp_rules.specs.ParkedFrames
 use Rattle.sp_rules.specs.References.{references_of, references_in, foreign_ids}
@@ -35,7 +37,7 @@ use Rattle.sp_rules.specs.State.{State, Object, Living, Origin, OfRoot, OfCall, 
 use Rattle.sp_rules.proofs.AllLemmas.{found-is, all-found}
 use Rattle.sp_rules.proofs.OwnLemmas.{some-same, and-left}
 use Rattle.sp_laws.proofs.FlowRules.{Owed, Removed, Inbound}
-use Rattle.sp_frame_laws.proofs.FrameFlows.{HasComeOn, View, IsReleased, is_finish, is_ending, is_unreached, is_unwritten, Flows, IsWhoWasDialled, Begins, if_flow, some_flow, each_flow, send_flow, drop_flow}
+use Rattle.sp_frame_laws.proofs.FrameFlows.{HasComeOn, View, IsReleased, is_finish, is_ending, is_storing, is_unreached, is_unwritten, Flows, IsWhoWasDialled, Begins, if_flow, some_flow, each_flow, send_flow, drop_flow}
 use Rattle.sp_frame_laws.proofs.FrameSteps.{flush_flow, settle_flow, add_task_flow, keep_flow, keep-held, reply_to_flow, commit_flow, give_back_flow, park_flow, finish_flow, both-right, go_all_flow, park_call_flow, park_result_flow, end_requests_flow, end_connection_flow, close_flow}
 
 -- ---- frames that come
@@ -67,27 +69,44 @@ first_flow {V} F {s} c (message.Hello version space digest) same B row none h = 
         pick false d = close_flow F _ c.number (message.Hello version space digest, same) may (B.connect (ap is_unreached same)) h
 first_flow F c m same B row none h = close_flow F _ c.number (m, same) (B.unmarshal (ap is_ending same)) (B.unmarshal (ap is_ending same)) h
 
-pub call_of_flow : {V : View} (F : Flows V) {l : List Owed} {s : State} (conn number : ℕ) (o : Object) (method fuel : ℕ) (arguments : List Value) → is_ending V.event ≡ true → ((p : ParkedFrame) → Frames.is_call_frame p.frame ≡ true → V.Dialled p.conn false → V.Known p) → V.Dialled conn false → V.Keeps (Inbound conn number ∷ l) s → V.Keeps l (Frames.call_of V.setting conn number o method fuel arguments s)
-call_of_flow {V} F {l} {s} conn number o method fuel arguments going comes there h =
-    if_flow F (not (V.setting.classes.may_call o.class method) || (not (fit_kinds (V.setting.classes.parameters method) arguments) || list_any (Holders.is_refused V.setting s) (references_of arguments))) (send_flow F _ conn _ (there, F.refuses conn number _ (inr (inl refl))) tt (F.falls l s conn number h))
-    (if_flow F (Frames.is_busy s) (send_flow F _ conn _ (there, F.refuses conn number _ (inr (inr (inl refl)))) tt (F.falls l s conn number h)) (park_call_flow F conn number o.id method fuel arguments _ going (comes _ refl there) h))
+-- what is known of a call that passes the tests of its method, its arguments and the references among them
+abbrev pub CallComes : View → State → ObjId → Type 0
+CallComes V s target = (p : ParkedFrame) (o : Object) (method fuel : ℕ) (arguments : List Value) → p.frame ≡ CallFrame o.id method fuel arguments → V.Dialled p.conn false → object_at s target ≡ Some o → V.setting.classes.may_call o.class method ≡ true → fit_kinds (V.setting.classes.parameters method) arguments ≡ true
+    → list_any (Holders.is_refused V.setting s) (references_of arguments) ≡ false → V.Known p
+
+pub call_of_flow : {V : View} (F : Flows V) {l : List Owed} {s : State} (conn number : ℕ) (target : ObjId) (o : Object) (method fuel : ℕ) (arguments : List Value) → is_ending V.event ≡ true → CallComes V s target → V.Dialled conn false → object_at s target ≡ Some o → V.Keeps (Inbound conn number ∷ l) s → V.Keeps l (Frames.call_of V.setting conn number o method fuel arguments s)
+call_of_flow {V} F {l} {s} conn number target o method fuel arguments going comes there is h =
+    by (V.setting.classes.may_call o.class method) refl (fit_kinds (V.setting.classes.parameters method) arguments) refl (list_any (Holders.is_refused V.setting s) (references_of arguments)) refl
+  where
+    threw : V.Keeps l (ParkedFrames.answer_threw conn number V.setting.classes.unmarshal s)
+    threw = send_flow F _ conn _ (there, F.refuses conn number _ (inr (inl refl))) tt (F.falls l s conn number h)
+
+    by : (a : Bool) → V.setting.classes.may_call o.class method ≡ a → (b : Bool) → fit_kinds (V.setting.classes.parameters method) arguments ≡ b → (c : Bool) → list_any (Holders.is_refused V.setting s) (references_of arguments) ≡ c
+        → V.Keeps l (if not a || (not b || c) then ParkedFrames.answer_threw conn number V.setting.classes.unmarshal s
+        else (if Frames.is_busy s then ParkedFrames.answer_threw conn number V.setting.classes.server_error s
+        else ParkedFrames.park_frame V.setting conn number (CallFrame o.id method fuel arguments) (fold client.with_reference [] (foreign_ids V.setting.id (references_of arguments))) s))
+    by true a true b false c = if_flow F (Frames.is_busy s) (send_flow F _ conn _ (there, F.refuses conn number _ (inr (inr (inl refl)))) tt (F.falls l s conn number h))
+        (park_call_flow F conn number o.id method fuel arguments _ going (comes _ o method fuel arguments refl there is a b c) h)
+    by true a true b true c = threw
+    by true a false b c d = threw
+    by false a b c d e = threw
 
 pub found_flow : {V : View} (F : Flows V) {l : List Owed} {s : State} (conn number : ℕ) (name : List ℕ) (o : Option Object) → V.event ≡ Received conn (message.Lookup number name) → V.Dialled conn false → V.Keeps (Inbound conn number ∷ l) s → V.Keeps l (Frames.found V.setting conn number o s)
 found_flow F {l} {s} conn number name None same there h = send_flow F _ conn _ (there, F.refuses conn number _ (inr (inr (inr refl)))) tt (F.falls l s conn number h)
 found_flow {V} F {l} {s} conn number name (Some o) same there h = send_flow F _ conn _ (there, F.finds conn number name (record { space = V.setting.id; id = o.id; class = o.class }) same refl)
     (keep-held V.setting conn number (Some (values.Ref (record { space = V.setting.id; id = o.id; class = o.class }))) s) (keep_flow F (state.Acked conn number) (Some (values.Ref (record { space = V.setting.id; id = o.id; class = o.class }))) h)
 
-pub got_call_flow : {V : View} (F : Flows V) {l : List Owed} {s : State} (c : Connection) (number : ℕ) (target : ObjId) (method fuel : ℕ) (arguments : List Value) → HasComeOn V c.number → is_ending V.event ≡ true → ((p : ParkedFrame) → Frames.is_call_frame p.frame ≡ true → V.Dialled p.conn false → V.Known p) → V.Fails V.setting.classes.unmarshal → V.Dialled c.number false → connection_at s c.number ≡ Some c → V.Keeps l s → V.Keeps l (Frames.got_call V.setting c number target method fuel arguments s)
+pub got_call_flow : {V : View} (F : Flows V) {l : List Owed} {s : State} (c : Connection) (number : ℕ) (target : ObjId) (method fuel : ℕ) (arguments : List Value) → HasComeOn V c.number → is_ending V.event ≡ true → CallComes V s target → V.Fails V.setting.classes.unmarshal → V.Dialled c.number false → connection_at s c.number ≡ Some c → V.Keeps l s → V.Keeps l (Frames.got_call V.setting c number target method fuel arguments s)
 unfolding Frames.got_call
 got_call_flow {V} F {l} {s} c number target method fuel arguments came going comes may there is h = pick (nat_le number c.last) refl
   where
-    on : nat_le number c.last ≡ false → (o : Option Object) → V.Keeps l (Frames.call_on V.setting c.number number o method fuel arguments (Frames.counted c.number number s))
-    on e None = send_flow F Replies c.number (message.Threw number V.setting.classes.no_such_object) (there, F.refuses c.number number _ (inl refl)) tt (F.falls l _ c.number number (F.counts l s c.number number c there is e h))
-    on e (Some o) = call_of_flow F c.number number o method fuel arguments going comes there (F.counts l s c.number number c there is e h)
+    on : nat_le number c.last ≡ false → (o : Option Object) → object_at s target ≡ o → V.Keeps l (Frames.call_on V.setting c.number number o method fuel arguments (Frames.counted c.number number s))
+    on e None stands = send_flow F Replies c.number (message.Threw number V.setting.classes.no_such_object) (there, F.refuses c.number number _ (inl refl)) tt (F.falls l _ c.number number (F.counts l s c.number number c there is e h))
+    on e (Some o) stands = call_of_flow F c.number number target o method fuel arguments going comes there stands (F.counts l s c.number number c there is e h)
 
     pick : (b : Bool) → nat_le number c.last ≡ b → V.Keeps l (if b then Endings.close V.setting V.setting.classes.unmarshal c.number s else Frames.call_on V.setting c.number number (object_at s target) method fuel arguments (Frames.counted c.number number s))
     pick true e = close_flow F _ c.number came may may h
-    pick false e = on e (object_at s target)
+    pick false e = on e (object_at s target) refl
 
 pub got_lookup_flow : {V : View} (F : Flows V) {l : List Owed} {s : State} (c : Connection) (number : ℕ) (name : List ℕ) → V.event ≡ Received c.number (message.Lookup number name) → V.Fails V.setting.classes.unmarshal → V.Dialled c.number false → connection_at s c.number ≡ Some c → V.Keeps l s → V.Keeps l (Frames.got_lookup V.setting c number name s)
 unfolding Frames.got_lookup
@@ -139,9 +158,22 @@ pub answered_flow : {V : View} (F : Flows V) {l : List Owed} {s : State} (conn n
     → V.Keeps (Removed q.peer q.asked ∷ l) (ParkedFrames.remove_requests (ParkedFrames.is_call_on conn number) s)
 answered_flow F {l} {s} conn number q is h = F.removes_one l s (ParkedFrames.is_asked_on conn number) (ParkedFrames.is_call_on conn number) number q is (asked-out conn number) (λ x e. both-right (ParkedFrames.is_out_on conn x.stage) _ e) h
 
-pub returned_flow : {V : View} (F : Flows V) {l : List Owed} {s : State} (c : Connection) (number fuel : ℕ) (value : Option Value) (q : Request) → is_ending V.event ≡ true → V.Fails V.setting.classes.unmarshal → V.Dialled c.number true → ((references : List ForeignId) → V.Known (record { conn = c.number; number = number; frame = ReturnedFrame value fuel; references = references })) → find (ParkedFrames.is_asked_on c.number number) s.requests ≡ Some q → V.Keeps l s → V.Keeps l (Frames.returned_for V.setting c number fuel value q.asked s)
-returned_flow {V} F {l} {s} c number fuel value q going may there known is h = if_flow F _ (reply_to_flow F q.asked (Throws V.setting.classes.unmarshal) (F.fails q.asked V.setting.classes.unmarshal may) (send_flow F Acks c.number (message.Ack number) there tt (answered_flow F c.number number q is h)))
-    (park_result_flow F c.number number value fuel (foreign_ids V.setting.id (references_in value)) going (known (foreign_ids V.setting.id (references_in value))) (F.answers l s c.number number h))
+pub returned_flow : {V : View} (F : Flows V) {l : List Owed} {s : State} (c : Connection) (number fuel : ℕ) (value : Option Value) (q : Request) → is_ending V.event ≡ true → V.Fails V.setting.classes.unmarshal → V.Dialled c.number true
+    → ((references : List ForeignId) → Frames.fits_asked q.asked value fuel ≡ true → list_any (Holders.is_refused V.setting s) (references_in value) ≡ false → V.Known (record { conn = c.number; number = number; frame = ReturnedFrame value fuel; references = references }))
+    → find (ParkedFrames.is_asked_on c.number number) s.requests ≡ Some q → V.Keeps l s → V.Keeps l (Frames.returned_for V.setting c number fuel value q.asked s)
+returned_flow {V} F {l} {s} c number fuel value q going may there known is h = by (Frames.fits_asked q.asked value fuel) refl (list_any (Holders.is_refused V.setting s) (references_in value)) refl
+  where
+    threw : V.Keeps l (reply_to V.setting q.asked (Throws V.setting.classes.unmarshal) (send Acks c.number (message.Ack number) (ParkedFrames.remove_requests (ParkedFrames.is_call_on c.number number) s)))
+    threw = reply_to_flow F q.asked (Throws V.setting.classes.unmarshal) (F.fails q.asked V.setting.classes.unmarshal may) (send_flow F Acks c.number (message.Ack number) there tt (answered_flow F c.number number q is h))
+
+    by : (a : Bool) → Frames.fits_asked q.asked value fuel ≡ a → (b : Bool) → list_any (Holders.is_refused V.setting s) (references_in value) ≡ b
+        → V.Keeps l (if not a || b then reply_to V.setting q.asked (Throws V.setting.classes.unmarshal) (send Acks c.number (message.Ack number) (ParkedFrames.remove_requests (ParkedFrames.is_call_on c.number number) s))
+        else ParkedFrames.park_frame V.setting c.number number (ReturnedFrame value fuel) (foreign_ids V.setting.id (references_in value)) (record s {
+          requests = map (Frames.answered_on c.number number) s.requests;
+        }))
+    by true a false b = park_result_flow F c.number number value fuel (foreign_ids V.setting.id (references_in value)) going (known (foreign_ids V.setting.id (references_in value)) a b) (F.answers l s c.number number h)
+    by true a true b = threw
+    by false a b c = threw
 
 pub answered_by_flow : {V : View} (F : Flows V) {l : List Owed} {s : State} (c : Connection) (number : ℕ) (next : Asked → State → State) → HasComeOn V c.number → ((q : Request) → find (ParkedFrames.is_asked_on c.number number) s.requests ≡ Some q → V.Keeps l (next q.asked s)) → V.Fails V.setting.classes.unmarshal → V.Keeps l s → V.Keeps l (Frames.answered_by V.setting c number next s)
 unfolding Frames.answered_by
@@ -184,7 +216,7 @@ got_flow {V} F {s} c m same B is hello way h = by m same way
 
     by : (m : Message) → V.event ≡ Received c.number m → Frames.is_wrong_way (Frames.is_asking m) (is_some c.dialled) ≡ false → V.Keeps [] (Frames.got V.setting c m s)
     by (message.Hello version space digest) e w = close_flow F _ c.number (message.Hello version space digest, e) may may h
-    by (message.Call number object method fuel arguments) e w = got_call_flow F c number object method fuel arguments (message.Call number object method fuel arguments, e) going B.call_came may (asks w) is h
+    by (message.Call number object method fuel arguments) e w = got_call_flow F c number object method fuel arguments (message.Call number object method fuel arguments, e) going (λ p. B.call_came p object) may (asks w) is h
     by (message.Returned number fuel value) e w = answered_by_flow F c number _ (message.Returned number fuel value, e) (λ q asked. returned_flow F c number fuel value q going may (answers w) (λ references. B.result_came (record { conn = c.number; number = number; frame = ReturnedFrame value fuel; references = references }) value fuel e refl (answers w) q asked) asked h) may h
     by (message.Threw number class) e w = answered_by_flow F c number _ (message.Threw number class, e) (λ q asked. ends_as_flow F c number (λ a. Frames.thrown_reply V.setting class) q (B.threw c.number number class e q asked) asked h) may h
     by (message.Spent number) e w = answered_by_flow F c number _ (message.Spent number, e) (λ q asked. ends_as_flow F c number (Frames.spent_reply V.setting) q (B.spent c.number number e q asked) asked h) may h
@@ -227,13 +259,13 @@ pub moment_flow : {V : View} (F : Flows V) {l : List Owed} {s : State} (moment :
 unfolding OwnEvents.on_moment
 moment_flow {V} F {l} {s} moment same h = if_flow F (nat_lt moment s.moment) h (release_flow F _ (λ k f. moment-goes V.event moment same k.until k.value f) (F.quiet l s _ refl h))
 
-pub sweep_flow : {V : View} (F : Flows V) {l : List Owed} {s : State} → V.Keeps l s → V.Keeps l (OwnEvents.on_sweep V.setting s)
+pub sweep_flow : {V : View} (F : Flows V) {l : List Owed} {s : State} → V.event ≡ Sweep → V.Keeps l s → V.Keeps l (OwnEvents.on_sweep V.setting s)
 unfolding OwnEvents.on_sweep
-sweep_flow {V} F {l} {s} h = sweeps (OwnEvents.without_reason V.setting s)
+sweep_flow {V} F {l} {s} same h = sweeps (OwnEvents.without_reason V.setting s)
   where
     sweeps : (gone : List Object) → V.Keeps l (OwnEvents.sweep_of V.setting s gone)
     sweeps [] = h
-    sweeps (o ∷ os) = F.says l _ _ refl tt (each_flow F _ (o ∷ os) (λ t p k. drop_flow F _ k) (each_flow F _ _ (λ t id k. F.quiet l t _ refl k) (F.quiet l s _ refl h)))
+    sweeps (o ∷ os) = F.says l _ _ refl tt (each_flow F _ (o ∷ os) (λ t p k. drop_flow F _ k) (each_flow F _ _ (λ t id k. F.quiet l t _ refl k) (F.stores l s _ (ap is_storing same) h)))
 
 pub names_flow : {V : View} (F : Flows V) {l : List Owed} {s : State} (x : Result (List Binding) RegistryFault) → V.Keeps l s → V.Keeps l (OwnEvents.set_names x s)
 unfolding OwnEvents.set_names
@@ -277,8 +309,8 @@ happen_flow {V} F {s} B h = by V.event refl
 
     by : (e : Event) → V.event ≡ e → V.Keeps [] (Space.happen V.setting e s)
     by (Moment moment) same = moment_flow F moment same h
-    by Sweep same = sweep_flow F h
-    by (Root method arguments fuel) same = add_task_flow F OfRoot method arguments fuel (ap is_finish same) h
+    by Sweep same = sweep_flow F same h
+    by (Root method arguments fuel) same = add_task_flow F OfRoot method arguments fuel (ap is_finish same) (B.roots method arguments fuel same) h
     by (RootAck task) same = release_flow F _ (λ k f. root-goes V.event task same k.until k.value f) h
     by (Bind name value) same = names_flow F _ h
     by (Rebind name value) same = names_flow F _ h
@@ -291,7 +323,7 @@ happen_flow {V} F {s} B h = by V.event refl
     by (ReadFailed conn) same = end_connection_flow F _ conn (ends (ReadFailed conn) same refl) (λ asked. ends (ReadFailed conn) same refl) h
     by (Bad conn) same = end_connection_flow F _ conn (ends (Bad conn) same refl) (λ asked. ends (Bad conn) same refl) h
     by (WriteFailed conn lost) same = end_connection_flow F _ conn (ends (WriteFailed conn lost) same refl) (unsent (ends (WriteFailed conn lost) same refl) (B.marshal (ap is_unwritten same)) (Endings.unsent_calls s conn lost)) h
-    by (Committed task k op) same = commit_flow F task k op (ap Space.answers_outputs same) h
+    by (Committed task k op) same = commit_flow F task k op (ap Space.answers_outputs same) (ap is_storing same) h
     by (Parked task k) same = park_flow F task k same B h
     by (GivenBack task k) same = give_back_flow F task k (ap Space.answers_outputs same) h
     by (Finished task k) same = finish_flow F task k same B h

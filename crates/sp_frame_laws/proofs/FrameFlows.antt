@@ -2,6 +2,7 @@
 -- what is known as each is made. A frame is sent on a connection that is open, and any but a Hello on one on which a Hello has come.
 use mathlib.Core.Path.{sym}
 use Rattle.std.proofs.lemmas.Bool.{true≢false}
+use Rattle.std.specs.List.{list_any}
 use Rattle.std.specs.Str.{bytes_eq}
 use Rattle.std.specs.Prelude.{◌≡◌, ◌⊎◌, refl, ℕ, ◌+◌, ◌==◌, not, nat_le, is_some, is_none, Bool, true, false, List, [], ◌∷◌, ◌++◌, Option, None, Some, filter, find, map, if◌then◌else◌}
 use Rattle.space_ids.specs.declared.ids.ClassId.{ClassId}
@@ -10,13 +11,14 @@ use Rattle.space_ids.specs.declared.ids.ForeignId.{ForeignId}
 use Rattle.net_message.specs.declared.message.Message.TheVariants as message
 use Rattle.net_message.specs.declared.message.Message.{Message}
 use Rattle.uuid.specs.declared.Uuid.{Uuid}
+use Rattle.space_ids.specs.declared.ids.ObjId.{ObjId}
 use Rattle.space_ids.specs.declared.ids.Ref.{Ref}
 use Rattle.space_ids.specs.declared.value.Value.TheVariants as values
 use Rattle.space_ids.specs.declared.value.Value.{Value}
 use Rattle.sp_rules.specs.Behaviours.{Outcome, Call, Reply, GivesBack, Throws}
-use Rattle.sp_rules.specs.Classes.{Setting, Kind}
+use Rattle.sp_rules.specs.Classes.{Setting, Kind, fit_kinds}
 use Rattle.sp_rules.specs.Endings
-use Rattle.sp_rules.specs.Events.{Started, Ended, Turn, Sends, Note, Event, Moment, RootAck, Lookup, Opened, Refused, Received, Closed, ReadFailed, Bad, WriteFailed, Parked, Finished, Output, Withdrawn, Denied, Send, Dial, Close, Ready}
+use Rattle.sp_rules.specs.Events.{Started, Ended, Turn, Sends, Note, Event, Moment, Sweep, Root, RootAck, Lookup, Opened, Refused, Received, Closed, ReadFailed, Bad, WriteFailed, Committed, Parked, Finished, Output, Withdrawn, Denied, Send, Dial, Close, Ready}
 use Rattle.sp_rules.specs.Frames
 use Rattle.sp_rules.specs.Holders
 use Rattle.sp_rules.specs.Holders.{hold_ids, drop_ids}
@@ -25,10 +27,11 @@ use Rattle.sp_rules.specs.Lists.{each, with_some}
 use Rattle.sp_rules.specs.LivingTasks
 use Rattle.sp_rules.specs.OwnEvents
 use Rattle.sp_rules.specs.ParkedFrames
+use Rattle.sp_rules.specs.References.{references_in, references_of}
 use Rattle.sp_rules.specs.Requests
 use Rattle.sp_rules.specs.Space
 use Rattle.sp_rules.specs.State as state
-use Rattle.sp_rules.specs.State.{State, Object, Living, Origin, OfRoot, OfCall, Until, Request, Asked, Calls, LooksUp, Tells, Connection, KeptResult, Frame, CallFrame, ReturnedFrame, ParkedFrame, task_at, ready_at, object_at, connection_at, connection_to, is_open, set_task, say, send}
+use Rattle.sp_rules.specs.State.{State, Object, Stored, Living, Origin, OfRoot, OfCall, Until, Request, Asked, Calls, LooksUp, Tells, Connection, KeptResult, Frame, CallFrame, ReturnedFrame, ParkedFrame, task_at, ready_at, object_at, connection_at, connection_to, is_open, set_task, say, send}
 use Rattle.sp_rules.specs.Tasks.{AsksFor, HasEnded, stand, steps}
 use Rattle.sp_rules.proofs.Stable.{new_row}
 use Rattle.sp_laws.proofs.FlowRules.{Owed, Removed, Inbound, removed, of_origin, of_until, IsSameRow}
@@ -46,12 +49,14 @@ pub record EventParts : Type 0 where
   pub connections : List Connection
   pub parked : List ParkedFrame
   pub notes : List Note
+  pub store : List Stored
 
 abbrev pub event_parts : State → EventParts
-event_parts s = record { calls_made = s.calls_made; tasks_made = s.tasks_made; tasks = s.tasks; requests = s.requests; fresh = s.fresh; results = s.results; connections = s.connections; parked = s.parked; notes = s.notes }
+event_parts s = record { calls_made = s.calls_made; tasks_made = s.tasks_made; tasks = s.tasks; requests = s.requests; fresh = s.fresh; results = s.results; connections = s.connections; parked = s.parked; notes = s.notes; store = s.store }
 
 -- An event of a space; what is known of a connection on which a Hello came, by its number and whether this space dialled it, of the answers to calls that are
--- sent there, and of parked frames; the classes with which failed calls end, and what calls and lookups end with; and what is kept.
+-- sent there, and of parked frames; the classes with which failed calls end, and what calls and lookups end with; at what tasks start, with these values; and
+-- what is kept.
 pub record View : Type 1 where
   pub setting : Setting
   pub event : Event
@@ -60,6 +65,7 @@ pub record View : Type 1 where
   pub Known : ParkedFrame → Type 0
   pub Fails : ClassId → Type 0
   pub Ends : Asked → Reply → Type 0
+  pub Starts : Origin → ℕ → List Value → Type 0
   pub Keeps : List Owed → State → Type 0
 
 abbrev pub IsFrom : View → Origin → Type 0
@@ -145,6 +151,12 @@ abbrev pub is_unwritten : Event → Bool
 is_unwritten (WriteFailed conn unsent) = true
 is_unwritten _ = false
 
+-- the events with which the store of a space changes
+abbrev pub is_storing : Event → Bool
+is_storing Sweep = true
+is_storing (Committed task k op) = true
+is_storing _ = false
+
 -- a call or lookup goes out as a frame
 abbrev pub out : Turn → ℕ → Message → Request → State → State
 out turn conn m q s = record s { requests = s.requests ++ q ∷ []; notes = s.notes ++ Sends turn conn m ∷ [] }
@@ -157,6 +169,8 @@ pub record Flows (V : View) : Type 0 where
   pub origins : (l : List Owed) (s : State) → V.Keeps l s → AllOf (λ (t : Living). IsFrom V t.origin) s.tasks
   pub sided : (p : ParkedFrame) → V.Known p → V.Dialled p.conn (not (Frames.is_call_frame p.frame))
   pub fails : (asked : Asked) (class : ClassId) → V.Fails class → V.Ends asked (Throws class)
+  pub starts : (l : List Owed) (s : State) (p : ParkedFrame) (target : ObjId) (method fuel : ℕ) (arguments : List Value) (o : Object) (selected : ℕ) → is_ending V.event ≡ true → V.Keeps l s → V.Known p → p.frame ≡ CallFrame target method fuel arguments → object_at s target ≡ Some o → V.setting.classes.selected o.class method ≡ Some selected
+      → V.Starts (OfCall p.conn p.number) selected (values.Ref (record { space = V.setting.id; id = target; class = o.class }) ∷ arguments)
   pub gives : (p : ParkedFrame) (value : Option Value) (fuel : ℕ) (asked : Asked) → is_ending V.event ≡ true → V.Known p → p.frame ≡ ReturnedFrame value fuel → ParkedFrames.has_number p.number asked ≡ true → V.Ends asked (GivesBack value fuel)
   pub refuses : (conn number : ℕ) (class : ClassId) → IsRefusal V.setting class → V.Answers conn (message.Threw number class)
   pub finds : (conn number : ℕ) (name : List ℕ) (r : Ref) → V.event ≡ Received conn (message.Lookup number name) → r.space ≡ V.setting.id → V.Answers conn (message.Returned number 0 (Some (values.Ref r)))
@@ -165,6 +179,8 @@ pub record Flows (V : View) : Type 0 where
   pub says : (l : List Owed) (s : State) (output : Output) → is_send output ≡ false → MaySay V s output → V.Keeps l s → V.Keeps l (say output s)
   pub sends : (l : List Owed) (s : State) (turn : Turn) (conn : ℕ) (m : Message) → CanSend V conn m → is_open s conn ≡ true → IsHeldFor s.results conn m → V.Keeps l s → V.Keeps l (record s { notes = s.notes ++ Sends turn conn m ∷ [] })
   pub clears : (s : State) → V.Keeps [] s → V.Keeps [] (record s { notes = [] })
+  -- the store
+  pub stores : (l : List Owed) (s : State) (store : List Stored) → is_storing V.event ≡ true → V.Keeps l s → V.Keeps l (record s { store = store })
   -- requests
   pub adds : (l : List Owed) (s : State) (q : Request) → V.Keeps (Removed q.peer q.asked ∷ l) s → V.Keeps l (Requests.add_request q s)
   pub calls_out : (l : List Owed) (s : State) (turn : Turn) (conn : ℕ) (peer : Uuid) (number task lent : ℕ) (kind : Kind) (m : Message) → V.Dialled conn true → is_open s conn ≡ true → V.Keeps (Removed peer (Calls number task lent kind m) ∷ l) s
@@ -181,7 +197,7 @@ pub record Flows (V : View) : Type 0 where
   pub removes_told : (l : List Owed) (s : State) (dirty : Bool) (conn sequence : ℕ) → V.Keeps l s → V.Keeps l (record s { requests = filter (λ q. not (Frames.tells_on dirty conn sequence q)) s.requests })
   pub answers : (l : List Owed) (s : State) (conn number : ℕ) → V.Keeps l s → V.Keeps l (record s { requests = map (Frames.answered_on conn number) s.requests })
   -- tasks
-  pub begins : (l : List Owed) (s : State) (origin : Origin) (method : ℕ) (arguments : List Value) (fuel : ℕ) → is_finish V.event ≡ false → V.Keeps (of_origin origin ++ l) s
+  pub begins : (l : List Owed) (s : State) (origin : Origin) (method : ℕ) (arguments : List Value) (fuel : ℕ) → is_finish V.event ≡ false → V.Starts origin method arguments → V.Keeps (of_origin origin ++ l) s
       → V.Keeps l (record s { tasks_made = s.tasks_made + 1; tasks = s.tasks ++ new_row V.setting origin method arguments fuel s ∷ [] })
   pub ends : (l : List Owed) (s : State) (id : ℕ) (t : Living) → is_finish V.event ≡ true → ready_at s id ≡ Some t → V.Keeps l s → V.Keeps (of_origin t.origin ++ l) (record s { tasks = filter (λ (u : Living). not (u.id == id)) s.tasks })
   pub replies : (l : List Owed) (s : State) (peer : Uuid) (number task lent : ℕ) (kind : Kind) (m : Message) (reply : Reply) (t : Living) → V.Ends (Calls number task lent kind m) reply → task_at s task ≡ Some t → V.Keeps (Removed peer (Calls number task lent kind m) ∷ l) s
@@ -217,6 +233,7 @@ pub record Begins (V : View) (s : State) : Type 0 where
       → V.Keeps [] s → V.Keeps [] (record s { tasks_made = s.tasks_made + 1; calls_made = s.calls_made + 1; fresh = record { peer = peer; asked = LooksUp (s.calls_made + 1) (s.tasks_made + 1) name; stage = state.Waits } ∷ [] })
   pub greets : (c : Connection) (version : ℕ) (space : Uuid) (digest : List ℕ) → V.event ≡ Received c.number (message.Hello version space digest) → connection_at s c.number ≡ Some c → is_none c.peer ≡ true → bytes_eq digest V.setting.digest ≡ true → IsWhoWasDialled c.dialled space
       → V.Keeps [] s → V.Keeps [] (Frames.greeted space c.number s) × V.Dialled c.number (is_some c.dialled)
+  pub roots : (method : ℕ) (arguments : List Value) (fuel : ℕ) → V.event ≡ Root method arguments fuel → V.Starts OfRoot method arguments
   pub unmarshal : is_ending V.event ≡ true → V.Fails V.setting.classes.unmarshal
   pub connect : is_unreached V.event ≡ true → V.Fails V.setting.classes.connect
   pub marshal : is_unwritten V.event ≡ true → V.Fails V.setting.classes.marshal
@@ -224,8 +241,10 @@ pub record Begins (V : View) (s : State) : Type 0 where
   pub spent : (conn number : ℕ) → V.event ≡ Received conn (message.Spent number) → (q : Request) → find (ParkedFrames.is_asked_on conn number) s.requests ≡ Some q → ParkedFrames.has_number number q.asked ≡ true → V.Ends q.asked (Frames.spent_reply V.setting q.asked)
   pub finished : (id k : ℕ) (t : Living) (outcome : Outcome) (conn number : ℕ) → V.event ≡ Finished id k → ready_at s id ≡ Some t → stand (steps k t.task) ≡ HasEnded outcome → t.origin ≡ OfCall conn number
       → V.Answers conn (LivingTasks.reply_frame V.setting number (steps k t.task).fuel outcome)
-  pub call_came : (p : ParkedFrame) → Frames.is_call_frame p.frame ≡ true → V.Dialled p.conn false → V.Known p
-  pub result_came : (p : ParkedFrame) (value : Option Value) (fuel : ℕ) → V.event ≡ Received p.conn (message.Returned p.number fuel value) → p.frame ≡ ReturnedFrame value fuel → V.Dialled p.conn true → (q : Request) → find (ParkedFrames.is_asked_on p.conn p.number) s.requests ≡ Some q → V.Known p
+  pub call_came : (p : ParkedFrame) (target : ObjId) (o : Object) (method fuel : ℕ) (arguments : List Value) → p.frame ≡ CallFrame o.id method fuel arguments → V.Dialled p.conn false → object_at s target ≡ Some o → V.setting.classes.may_call o.class method ≡ true → fit_kinds (V.setting.classes.parameters method) arguments ≡ true
+      → list_any (Holders.is_refused V.setting s) (references_of arguments) ≡ false → V.Known p
+  pub result_came : (p : ParkedFrame) (value : Option Value) (fuel : ℕ) → V.event ≡ Received p.conn (message.Returned p.number fuel value) → p.frame ≡ ReturnedFrame value fuel → V.Dialled p.conn true → (q : Request) → find (ParkedFrames.is_asked_on p.conn p.number) s.requests ≡ Some q → Frames.fits_asked q.asked value fuel ≡ true
+      → list_any (Holders.is_refused V.setting s) (references_in value) ≡ false → V.Known p
 
 -- ---- small steps
 

@@ -14,7 +14,6 @@ use Rattle.space_ids.specs.declared.ids.ForeignId.{ForeignId}
 use Rattle.net_message.specs.declared.message.Message.TheVariants as message
 use Rattle.uuid.specs.declared.Uuid.{Uuid}
 use Rattle.space_ids.specs.declared.ids.ObjId.{ObjId}
-use Rattle.space_ids.specs.declared.ids.Ref.{Ref}
 use Rattle.space_ids.specs.declared.value.Value.{Value}
 use Rattle.sp_rules.specs.Behaviours.{Outcome, Returned, Threw, Spent, Op, Create, Get, Put, Call, Reply, Throws}
 use Rattle.sp_rules.specs.Classes.{Setting}
@@ -31,14 +30,14 @@ use Rattle.sp_rules.specs.References.{references_in, foreign_ids}
 use Rattle.sp_rules.specs.Requests
 use Rattle.sp_rules.specs.Space
 use Rattle.sp_rules.specs.State as state
-use Rattle.sp_rules.specs.State.{State, Object, Living, Origin, OfRoot, OfCall, Until, Request, Asked, Calls, LooksUp, Tells, Connection, KeptResult, Frame, CallFrame, ReturnedFrame, ParkedFrame, task_at, ready_at, object_at, connection_at, connection_to, is_open, set_task, say, send}
+use Rattle.sp_rules.specs.State.{State, Object, Made, Written, Living, Origin, OfRoot, OfCall, Until, Request, Asked, Calls, LooksUp, Tells, Connection, KeptResult, Frame, CallFrame, ReturnedFrame, ParkedFrame, task_at, ready_at, object_at, connection_at, connection_to, is_open, set_task, say, send}
 use Rattle.sp_rules.specs.Tasks.{Stand, Runs, AsksFor, HasEnded, stand, steps, answer, gained}
 use Rattle.sp_rules.proofs.AllLemmas.{found-is, all-found, all-filter}
 use Rattle.sp_rules.proofs.OwnLemmas.{some-same}
 use Rattle.sp_rules.proofs.ReadyLemmas.{ready-is}
 use Rattle.sp_laws.proofs.FlowRules.{Owed, Removed, Inbound, of_origin, of_until}
 use Rattle.sp_frame_laws.proofs.ShutLemmas.{connection-ends}
-use Rattle.sp_frame_laws.proofs.FrameFlows.{HasComeOn, View, IsFrom, CanSend, IsKeptIn, IsHeldFor, is_finish, is_ending, ending-goes, out, Flows, Begins, if_flow, some_flow, each_flow, each_removed, send_flow, hold_flow, drop_flow, let_go_flow}
+use Rattle.sp_frame_laws.proofs.FrameFlows.{HasComeOn, View, IsFrom, CanSend, IsKeptIn, IsHeldFor, is_finish, is_ending, is_storing, ending-goes, out, Flows, Begins, if_flow, some_flow, each_flow, each_removed, send_flow, hold_flow, drop_flow, let_go_flow}
 
 -- ---- requests
 
@@ -127,9 +126,9 @@ settle_flow {V} F {s} h = asks (Requests.make_due s) (each_flow F _ _ (λ t b k.
 
 -- ---- tasks
 
-pub add_task_flow : {V : View} (F : Flows V) {l : List Owed} {s : State} (origin : Origin) (method : ℕ) (arguments : List Value) (fuel : ℕ) → is_finish V.event ≡ false → V.Keeps (of_origin origin ++ l) s → V.Keeps l (LivingTasks.add_task V.setting origin method arguments fuel s)
+pub add_task_flow : {V : View} (F : Flows V) {l : List Owed} {s : State} (origin : Origin) (method : ℕ) (arguments : List Value) (fuel : ℕ) → is_finish V.event ≡ false → V.Starts origin method arguments → V.Keeps (of_origin origin ++ l) s → V.Keeps l (LivingTasks.add_task V.setting origin method arguments fuel s)
 unfolding LivingTasks.add_task
-add_task_flow {V} F {l} {s} origin method arguments fuel going h = F.says l _ _ refl tt (hold_flow F _ (F.says l _ _ refl tt (F.begins l s origin method arguments fuel going h)))
+add_task_flow {V} F {l} {s} origin method arguments fuel going at h = F.says l _ _ refl tt (hold_flow F _ (F.says l _ _ refl tt (F.begins l s origin method arguments fuel going at h)))
 
 pub keep_flow : {V : View} (F : Flows V) {l : List Owed} {s : State} (until : Until) (value : Option Value) → V.Keeps (of_until until ++ l) s → V.Keeps l (LivingTasks.keep V.setting until value s)
 keep_flow F {l} {s} until value h = hold_flow F _ (F.keeps l s until value h)
@@ -194,16 +193,16 @@ reply_to_flow {V} F {l} {s} {peer} (Calls number task lent kind m) reply may h =
 reply_to_flow F {l} {s} {peer} (LooksUp number task name) reply may h = keep_result_flow F (state.RootAcked task) (LivingTasks.outcome_of reply) (F.looked_up l s peer number task name reply may h)
 reply_to_flow F {l} {s} {peer} (Tells call group) reply may h = F.told l s peer call group h
 
-pub after_op_flow : {V : View} (F : Flows V) {l : List Owed} {s : State} (op : Op) → V.Keeps l s → V.Keeps l (LivingTasks.after_op V.setting op s)
+pub after_op_flow : {V : View} (F : Flows V) {l : List Owed} {s : State} (op : Op) → is_storing V.event ≡ true → V.Keeps l s → V.Keeps l (LivingTasks.after_op V.setting op s)
 unfolding LivingTasks.after_op
-after_op_flow {V} F {l} {s} (Create class) h = if_flow F (LivingTasks.is_full s) h (F.quiet l s _ refl h)
-after_op_flow F (Get id slot) h = h
-after_op_flow F {l} {s} (Put id slot value) h = drop_flow F _ (hold_flow F _ (F.quiet l s _ refl h))
-after_op_flow F (Call target method arguments) h = h
+after_op_flow {V} F {l} {s} (Create class) storing h = if_flow F (LivingTasks.is_full s) h (F.quiet l (record s { store = Made (LivingTasks.next_object s) class ∷ s.store }) _ refl (F.stores l s (Made (LivingTasks.next_object s) class ∷ s.store) storing h))
+after_op_flow F (Get id slot) storing h = h
+after_op_flow F {l} {s} (Put id slot value) storing h = drop_flow F _ (hold_flow F _ (F.stores l s (Written id slot value ∷ s.store) storing h))
+after_op_flow F (Call target method arguments) storing h = h
 
-pub commit_flow : {V : View} (F : Flows V) {l : List Owed} {s : State} (id k : ℕ) (op : Op) → Space.answers_outputs V.event ≡ false → V.Keeps l s → V.Keeps l (LivingTasks.commit V.setting id k op s)
+pub commit_flow : {V : View} (F : Flows V) {l : List Owed} {s : State} (id k : ℕ) (op : Op) → Space.answers_outputs V.event ≡ false → is_storing V.event ≡ true → V.Keeps l s → V.Keeps l (LivingTasks.commit V.setting id k op s)
 unfolding LivingTasks.commit
-commit_flow {V} F {l} {s} id k op lent h = some_flow F (ready_at s id) _ h (λ t is. after_op_flow F op (hold_flow F _
+commit_flow {V} F {l} {s} id k op lent storing h = some_flow F (ready_at s id) _ h (λ t is. after_op_flow F op storing (hold_flow F _
     (F.works l s id t (λ (u : Living). LivingTasks.after_reply V.setting (LivingTasks.op_reply V.setting op s) (LivingTasks.after_steps k u)) lent (record { id = λ u. refl; origin = λ u. refl }) refl is h)))
 
 pub give_back_flow : {V : View} (F : Flows V) {l : List Owed} {s : State} (id k : ℕ) → Space.answers_outputs V.event ≡ false → V.Keeps l s → V.Keeps l (LivingTasks.give_back id k s)
@@ -236,13 +235,15 @@ finish_flow {V} F {s} id k same B h = some_flow F (ready_at s id) _ h (λ t is. 
 
 -- ---- parked frames
 
-pub start_call_flow : {V : View} (F : Flows V) {l : List Owed} {s : State} (p : ParkedFrame) (target : ObjId) (method fuel : ℕ) (arguments : List Value) → is_ending V.event ≡ true → V.Dialled p.conn false → V.Keeps (Inbound p.conn p.number ∷ l) s → V.Keeps l (ParkedFrames.start_call V.setting p target method fuel arguments s)
+pub start_call_flow : {V : View} (F : Flows V) {l : List Owed} {s : State} (p : ParkedFrame) (target : ObjId) (method fuel : ℕ) (arguments : List Value) → is_ending V.event ≡ true → V.Dialled p.conn false → V.Known p → p.frame ≡ CallFrame target method fuel arguments → V.Keeps (Inbound p.conn p.number ∷ l) s
+    → V.Keeps l (ParkedFrames.start_call V.setting p target method fuel arguments s)
 unfolding ParkedFrames.start_call
-start_call_flow {V} F {l} {s} p target method fuel arguments going there h = some_flow F (object_at s target) _ (F.falls l s p.conn p.number h) (λ o is. selected (record { space = V.setting.id; id = target; class = o.class }) (V.setting.classes.selected o.class method))
+start_call_flow {V} F {l} {s} p target method fuel arguments going there known e h = some_flow F (object_at s target) _ (F.falls l s p.conn p.number h) (λ o is. selected o is (V.setting.classes.selected o.class method) refl)
   where
-    selected : (receiver : Ref) (found : Option ℕ) → V.Keeps l (ParkedFrames.start_selected V.setting p.conn p.number receiver found fuel arguments s)
-    selected receiver None = send_flow F _ p.conn _ (there, F.refuses p.conn p.number _ (inr (inr (inl refl)))) tt (F.falls l s p.conn p.number h)
-    selected receiver (Some m) = add_task_flow F (OfCall p.conn p.number) m _ fuel (ending-goes V.event going) h
+    selected : (o : Object) → object_at s target ≡ Some o → (found : Option ℕ) → V.setting.classes.selected o.class method ≡ found
+        → V.Keeps l (ParkedFrames.start_selected V.setting p.conn p.number (record { space = V.setting.id; id = target; class = o.class }) found fuel arguments s)
+    selected o is None x = send_flow F _ p.conn _ (there, F.refuses p.conn p.number _ (inr (inr (inl refl)))) tt (F.falls l s p.conn p.number h)
+    selected o is (Some m) x = add_task_flow F (OfCall p.conn p.number) m _ fuel (ending-goes V.event going) (F.starts (Inbound p.conn p.number ∷ l) s p target method fuel arguments o m going h known e is x) h
 
 pub both-right : (a b : Bool) → a && b ≡ true → b ≡ true
 both-right true b e = e
@@ -264,7 +265,7 @@ go_flow {V} F {l} {s} p going h = some_flow F (find (ParkedFrames.is_parked_at p
     sided q e k = subst (λ f. V.Dialled q.conn (not (Frames.is_call_frame f))) e (F.sided q k)
 
     frame : (q : ParkedFrame) (f : Frame) → q.frame ≡ f → find (ParkedFrames.is_parked_at p.conn p.number) s.parked ≡ Some q → V.Keeps l (ParkedFrames.go_frame V.setting q f (ParkedFrames.take_parked p s))
-    frame q (CallFrame target method fuel arguments) e is = start_call_flow F q target method fuel arguments going (sided q e (known q is)) (F.takes_call l s p q is (ap Frames.is_call_frame e) h)
+    frame q (CallFrame target method fuel arguments) e is = start_call_flow F q target method fuel arguments going (sided q e (known q is)) (known q is) e (F.takes_call l s p q is (ap Frames.is_call_frame e) h)
     frame q (ReturnedFrame value fuel) e is = answer_parked_flow F q _ (sided q e (known q is)) (λ asked has. F.gives q value fuel asked going (known q is) e has) (F.takes l s p h)
 
 pub go_all_flow : {V : View} (F : Flows V) {l : List Owed} {s : State} → is_ending V.event ≡ true → V.Keeps l s → V.Keeps l (ParkedFrames.go_all V.setting s)

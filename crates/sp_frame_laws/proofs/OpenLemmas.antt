@@ -152,6 +152,7 @@ view g e s = record {
   Known = λ p. Unit {0};
   Fails = λ c. Unit {0};
   Ends = λ a r. Unit {0};
+  Starts = λ o n a. Unit {0};
   Keeps = λ l t. Placed s e (event_parts t);
 }
 
@@ -191,6 +192,7 @@ placed_flow g e s = record {
   origins = λ l t k. all-from g e s t.tasks;
   sided = λ p a. tt;
   fails = λ asked class a. tt;
+  starts = λ l s p target method fuel arguments o n going k known is stands finds. tt;
   gives = λ p value fuel asked is a b c. tt;
   refuses = λ c n class is. tt;
   finds = λ c n name r is own. tt;
@@ -198,6 +200,7 @@ placed_flow g e s = record {
   says = λ l t output is so k. noted (Says output) (said g e s t output is so) k;
   sends = λ l t turn c m may there held k. noted (Sends turn c m) (row-open s e t.connections c k.rows there) k;
   clears = λ t k. record { rows = k.rows; notes = tt };
+  stores = λ l s store is k. others _ refl refl k;
   adds = λ l t q k. others _ refl refl k;
   calls_out = λ l t turn c peer number task lent kind m known there k. others _ refl refl (noted (Sends turn c m) (row-open s e t.connections c k.rows there) k);
   looks_out = λ l t turn c peer number task name known there k. others _ refl refl (noted (Sends turn c (Rattle.net_message.specs.declared.message.Message.TheVariants.Lookup number name)) (row-open s e t.connections c k.rows there) k);
@@ -209,7 +212,7 @@ placed_flow g e s = record {
   removes_one = λ l t finds is n q eq passes has k. others _ refl refl k;
   removes_told = λ l t dirty c sequence k. others _ refl refl k;
   answers = λ l t c n k. others _ refl refl k;
-  begins = λ l t origin method arguments fuel going k. others _ refl refl k;
+  begins = λ l t origin method arguments fuel going at k. others _ refl refl k;
   ends = λ l t id u over is k. others _ refl refl k;
   replies = λ l t peer number task lent kind m reply u may is k. others _ refl refl k;
   replies_none = λ l t peer number task lent kind m is k. k;
@@ -236,14 +239,15 @@ placed-begin g e s none = record {
   parks = λ id n t target method arguments is ready stands k. others _ refl refl k;
   looks = λ peer name is k. others _ refl refl k;
   greets = λ c version space digest is row ungreeted same who k. (row-set c.number (λ (d : Connection). record d { peer = Some space }) (λ d. refl) k, tt);
+  roots = λ method arguments fuel is. tt;
   unmarshal = λ is. tt;
   connect = λ is. tt;
   marshal = λ is. tt;
   threw = λ c n class is q found has. tt;
   spent = λ c n is q found has. tt;
   finished = λ id k t outcome c n is ready stands origin. tt;
-  call_came = λ p is there. tt;
-  result_came = λ p value fuel is frame there q found. tt;
+  call_came = λ p target o method passed arguments is there stands may fit names. tt;
+  result_came = λ p value fuel is frame there q found fits names. tt;
 }
 
 -- ---- an event

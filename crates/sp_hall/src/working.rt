@@ -5,8 +5,8 @@ use crate::hall::Hall;
 use sim_worlds::Played;
 use sp_links::Host;
 
-/// How many instructions a task makes before others come to their turn.
-pub(crate) const SLICE: usize = 256;
+/// How many events a task makes before others come to their turn.
+pub(crate) const SLICE: usize = 64;
 
 /// Runs tasks that may go on, a slice each in turn, until serving stops.
 pub(crate) fn work<R: Host, S: Played + Drop, G: Gate>(rt: &R, hall: &Hall<S, G>) {

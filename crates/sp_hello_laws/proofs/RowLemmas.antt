@@ -117,6 +117,7 @@ view g e conn dialled peer = record {
   Known = λ p. Unit {0};
   Fails = λ c. Unit {0};
   Ends = λ a r. Unit {0};
+  Starts = λ o n a. Unit {0};
   Keeps = λ l t. IsRowOf conn dialled peer t.connections;
 }
 
@@ -135,6 +136,7 @@ row_flow g e conn dialled peer = record {
   origins = λ l t k. all-from g e conn dialled peer t.tasks;
   sided = λ p a. tt;
   fails = λ asked class a. tt;
+  starts = λ l s p target method fuel arguments o n going k known is stands finds. tt;
   gives = λ p value fuel asked is a b c. tt;
   refuses = λ c n class is. tt;
   finds = λ c n name r is own. tt;
@@ -142,6 +144,7 @@ row_flow g e conn dialled peer = record {
   says = λ l t output is so k. k;
   sends = λ l t turn c m may there held k. k;
   clears = λ t k. k;
+  stores = λ l s store is k. k;
   adds = λ l t q k. k;
   calls_out = λ l t turn c p number task lent kind m known there k. k;
   looks_out = λ l t turn c p number task name known there k. k;
@@ -153,7 +156,7 @@ row_flow g e conn dialled peer = record {
   removes_one = λ l t finds is n q eq passes has k. k;
   removes_told = λ l t dirty c sequence k. k;
   answers = λ l t c n k. k;
-  begins = λ l t origin method arguments fuel going k. k;
+  begins = λ l t origin method arguments fuel going at k. k;
   ends = λ l t id u over is k. k;
   replies = λ l t p number task lent kind m reply u may is k. k;
   replies_none = λ l t p number task lent kind m is k. k;
@@ -185,14 +188,15 @@ row-begin g e conn dialled peer s apart finds = record {
         (λ d at here eq. absurd (never c (message.Hello version space digest) is row none (sym (eqb-true d.number c.number at) ∙ eqb-true d.number conn here) k)) (λ a. refl) s.connections k,
     tt,
   );
+  roots = λ method arguments fuel is. tt;
   unmarshal = λ is. tt;
   connect = λ is. tt;
   marshal = λ is. tt;
   threw = λ c n class is q found has. tt;
   spent = λ c n is q found has. tt;
   finished = λ id k t outcome c n is ready stands origin. tt;
-  call_came = λ p is there. tt;
-  result_came = λ p value fuel is frame there q found. tt;
+  call_came = λ p target o method passed arguments is there stands may fit names. tt;
+  result_came = λ p value fuel is frame there q found fits names. tt;
 }
   where
     both : (o : Option Uuid) → is_none o ≡ true → is_some o ≡ true → ⊥

@@ -84,6 +84,7 @@ view g e h = record {
   Known = Frames-in (e ∷ h);
   Fails = λ c. Unit {0};
   Ends = λ a r. Unit {0};
+  Starts = λ o n a. Unit {0};
   Keeps = λ l s. InTurn (e ∷ h) l (event_parts s);
 }
 
@@ -178,6 +179,7 @@ turn_flow g e h = record {
   origins = λ l s k. all-weaken (λ (t : Living). HeardFrom (e ∷ h) t.origin) (λ (t : Living). IsFrom (view g e h) t.origin) s.tasks (λ t a. from-is g e h t.origin a) k.tasks;
   sided = λ p a. a;
   fails = λ asked class a. tt;
+  starts = λ l s p target method fuel arguments o n going k known is stands finds. tt;
   gives = λ p value fuel asked is a b c. tt;
   refuses = λ c n class is. tt;
   finds = λ c n name r is own. tt;
@@ -185,6 +187,7 @@ turn_flow g e h = record {
   says = λ l s output is so k. notes-more s (Says output) (said e h output is) k;
   sends = λ l s turn c m may there held k. notes-more s (Sends turn c m) (can-may g e h c m may) k;
   clears = λ s k. record { rows = k.rows; frames = k.frames; tasks = k.tasks; requests = k.requests; fresh = k.fresh; owed = k.owed; notes = tt };
+  stores = λ l s store is k. record { rows = k.rows; frames = k.frames; tasks = k.tasks; requests = k.requests; fresh = k.fresh; owed = k.owed; notes = k.notes };
   adds = λ l s q k. owes k.owed.1 (requests-are s _ (all-more (λ (p : Request). AsksByCall p.asked) s.requests q k.requests k.owed.0) k);
   calls_out = λ l s turn c peer number task lent kind m there opened k. notes-more (record s { requests = s.requests ++ record { peer = peer; asked = Calls number task lent kind m; stage = Rattle.sp_rules.specs.State.Out c 0 } ∷ [] }) (Sends turn c m) (asks-by e h c m k.owed.0 there)
       (owes k.owed.1 (requests-are s _ (all-more (λ (p : Request). AsksByCall p.asked) s.requests (record { peer = peer; asked = Calls number task lent kind m; stage = Rattle.sp_rules.specs.State.Out c 0 }) k.requests k.owed.0) k));
@@ -201,7 +204,7 @@ turn_flow g e h = record {
   removes_one = λ l s finds is n q eq passes has k. owes (all-found (λ (p : Request). AsksByCall p.asked) finds s.requests q eq k.requests, k.owed) (requests-are s _ (all-filter (λ (p : Request). AsksByCall p.asked) (λ p. not (is p)) s.requests k.requests) k);
   removes_told = λ l s dirty c sequence k. requests-are s _ (all-filter (λ (p : Request). AsksByCall p.asked) (λ q. not (Frames.tells_on dirty c sequence q)) s.requests k.requests) k;
   answers = λ l s c n k. requests-are s _ (all-map (λ (p : Request). AsksByCall p.asked) (λ (p : Request). AsksByCall p.asked) (Frames.answered_on c n) s.requests (λ q a. answered c n q a (ParkedFrames.is_call_on c n q)) k.requests) k;
-  begins = λ l s origin method arguments fuel going k.
+  begins = λ l s origin method arguments fuel going at k.
       let x = from-owed (e ∷ h) origin l k.owed in
       record { rows = k.rows; frames = k.frames; tasks = all-more (λ (t : Living). HeardFrom (e ∷ h) t.origin) s.tasks _ k.tasks x.0; requests = k.requests; fresh = k.fresh; owed = x.1; notes = k.notes };
   ends = λ l s id t over is k. owes (to-owed (e ∷ h) t.origin l (all-found (λ (u : Living). HeardFrom (e ∷ h) u.origin) (λ (u : Living). u.id == id) s.tasks t (Rattle.sp_rules.proofs.ReadyLemmas.ready-is (Rattle.sp_rules.specs.State.task_at s id) t is).0 k.tasks) k.owed)
@@ -237,14 +240,15 @@ turn-begin g s e h = record {
     rows-are s _ (set-rows (e ∷ h) c.number (λ (d : Connection). record d { peer = Some space }) (λ d at a p. subst (HasCome (e ∷ h)) (sym (eqb-true d.number c.number at)) (comes c.number (message.Hello version space digest) is)) s.connections k.rows) k,
     comes c.number (message.Hello version space digest) is,
   );
+  roots = λ method arguments fuel is. tt;
   unmarshal = λ is. tt;
   connect = λ is. tt;
   marshal = λ is. tt;
   threw = λ c n class is q found has. tt;
   spent = λ c n is q found has. tt;
   finished = λ id k t outcome c n is ready stands origin. tt;
-  call_came = λ p is there. there;
-  result_came = λ p value fuel is frame there q found. there;
+  call_came = λ p target o method passed arguments is there stands may fit names. there;
+  result_came = λ p value fuel is frame there q found fits names. there;
 }
   where
     comes : (conn : ℕ) (m : Message) → e ≡ Received conn m → HasCome (e ∷ h) conn

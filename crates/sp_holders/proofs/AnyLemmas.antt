@@ -1,5 +1,5 @@
 -- One of many.
-use Rattle.std.proofs.Common.{◌≡◌, ℕ, zero, suc, ◌+◌, ◌<◌, ◌≤◌, ◌⊎◌, inl, inr, Bool, true, false, cond, List, [], ◌∷◌, ◌++◌, Option, Some, refl, sym, ap, ◌∙◌, map, length, get_or, take, true≢false, arith}
+use Rattle.std.proofs.Common.{◌≡◌, ℕ, zero, suc, ◌+◌, ◌<◌, ◌≤◌, ◌⊎◌, inl, inr, Bool, true, false, cond, List, [], ◌∷◌, ◌++◌, Option, Some, refl, sym, ap, ◌∙◌, map, length, get_or, take, arith}
 use Rattle.std.specs.Prelude.{◌||◌, filter, slice_get}
 use Rattle.std.specs.List.{flat_map, list_any}
 use Rattle.std.proofs.lemmas.List.{take_more}
@@ -55,18 +55,6 @@ none-at {A = A} p q xs i within same none here = by (slice_get_cases xs i).1
     by (inr w) = let past = w.0 in absurd (omega (arith, within, past))
 
 -- ---- others of which it is true
-
-pub none-implied : {A : Type 0} (p q : A → Bool) (xs : List A) → ((x : A) → q x ≡ false → p x ≡ false) → list_any q xs ≡ false → list_any p xs ≡ false
-none-implied p q [] each none = refl
-none-implied p q (x ∷ xs) each none = λ j. each x (first (q x) (list_any q xs) none) j || none-implied p q xs each (second (q x) (list_any q xs) none) j
-  where
-    first : (a b : Bool) → (a || b) ≡ false → a ≡ false
-    first true b h = h
-    first false b h = refl
-
-    second : (a b : Bool) → (a || b) ≡ false → b ≡ false
-    second true b h = absurd (true≢false h)
-    second false b h = h
 
 pub any-filter : {A : Type 0} (p q : A → Bool) (xs : List A) → list_any p (filter q xs) ≡ true → list_any p xs ≡ true
 any-filter p q [] one = one

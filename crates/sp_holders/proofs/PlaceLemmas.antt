@@ -1,31 +1,28 @@
 -- Where a reference is held.
-use Rattle.std.proofs.Common.{◌≡◌, ℕ, ◌<◌, Bool, true, false, cond, List, [], ◌∷◌, Option, None, Some, refl, sym, ap, ◌∙◌, map, nat_eq, true≢false, arith, zero, suc}
-use Rattle.std.specs.Prelude.{◌&&◌, ◌||◌, ◌==◌, Result, Ok, Err, IfOk, filter, find, option_map, slice_get, unwrap_or}
+use Rattle.std.proofs.Common.{◌≡◌, ℕ, ◌<◌, Bool, true, false, cond, List, [], ◌∷◌, Option, None, Some, refl, sym, ap, ◌∙◌, map, nat_eq, arith, zero, suc}
+use Rattle.std.specs.Prelude.{◌||◌, Result, Ok, Err, IfOk, OnErr, filter, find, option_map, slice_get, unwrap_or}
 use Rattle.std.specs.List.{list_any}
-use Rattle.std.specs.Str.{bytes_eq}
 use Rattle.std.proofs.lemmas.Bool.{eq-eqb, eqb-true}
 use Rattle.space_ids.specs.declared.ids.ClassId.{ClassId}
 use Rattle.space_ids.specs.declared.ids.ObjId.{ObjId}
 use Rattle.space_ids.specs.declared.ids.Ref.{Ref}
 use Rattle.space_ids.specs.declared.value.Value.{Value}
-use Rattle.sp_call_results.specs.Held.{acked_row, of_calls, of_roots, references_of_results}
+use Rattle.sp_call_results.specs.Held.{acked_row, of_calls, of_roots}
 use Rattle.sp_call_results.proofs.RootLemmas.{any-of-both}
 use Rattle.sp_living.specs.Views.{Seen, kept, seen, seen_row}
 use Rattle.sp_owner.specs.Owners.{owner_parts, told}
-use Rattle.sp_peers.proofs.RowLemmas.{peer-laws}
 use Rattle.sp_results.specs.Waiting as waiting
 use Rattle.sp_rules.specs.Classes.{Setting}
 use Rattle.sp_rules.specs.Frames.{is_acked_by}
-use Rattle.sp_rules.specs.Holders.{fields_of, references_of_frame}
+use Rattle.sp_rules.specs.Holders.{fields_of, has_holder, references_of_frame}
 use Rattle.sp_rules.specs.Laws.{AllOf, RisesWithin}
-use Rattle.sp_rules.specs.References.{is_id, is_id_in, is_reference_in, is_same_reference, own_ids, reference_of, references_in, references_of}
+use Rattle.sp_rules.specs.References.{is_id, is_reference_in, is_same_reference, reference_of, references_in, references_of}
 use Rattle.sp_rules.specs.State as rules
 use Rattle.sp_rules.specs.State.{State, KeptResult, Living, Object, object_at, standing}
 use Rattle.sp_state.specs.Spaces.{AreNumbered}
-use Rattle.sp_tasks.proofs.HeldLemmas.{any_own}
 use Rattle.sp_tasks.specs.Rows.{TaskRow, row_of}
-use Rattle.sp_holders.specs.Places.{fields_have}
-use Rattle.sp_holders.proofs.AnyLemmas.{any-filter, any-flat, any-map, none-implied, or-left, or-right}
+use Rattle.sp_holders.specs.Places.{fields_have, is_at_hand, is_away}
+use Rattle.sp_holders.proofs.AnyLemmas.{any-filter, any-flat, any-map, or-left, or-right}
 
 -- ---- values
 
@@ -151,54 +148,6 @@ acked-has r conn number value results acked has =
     any-filter (λ (k : KeptResult). is_reference_in (references_in k.value) r) (is_acked_by conn number) results
     (ap (list_any (λ (k : KeptResult). is_reference_in (references_in k.value) r)) acked ∙ ap (λ b. b || false) has)
 
--- the references in some of the results
-pub over-has : (r : Ref) (is : KeptResult → Bool) (results : List KeptResult) (references : List Ref) → references ≡ references_of_results (filter is results) → is_reference_in references r ≡ true
-    → list_any (λ (k : KeptResult). is_reference_in (references_in k.value) r) results ≡ true
-over-has r is results references are has =
-    any-filter (λ (k : KeptResult). is_reference_in (references_in k.value) r) is results
-    (sym (any-flat (is_same_reference r) (λ (k : KeptResult). references_in k.value) (filter is results)) ∙ sym (ap (λ (rs : List Ref). is_reference_in rs r) are) ∙ has)
-
--- ---- none by ids
-
-not-three : (x y z : Bool) → (x && y) ≡ false → (x && (y && z)) ≡ false
-not-three false y z h = refl
-not-three true false z h = refl
-not-three true true z h = absurd (true≢false h)
-
--- references of which none has a space and id
-none-named : (r : Ref) (refs : List Ref) → is_id_in (own_ids r.space refs) r.id ≡ false → is_reference_in refs r ≡ false
-none-named r refs none =
-    none-implied (is_same_reference r) (λ (a : Ref). bytes_eq a.space r.space && is_id r.id a.id) refs
-    (λ a other. not-three (bytes_eq r.space a.space) (r.id.0 == a.id.0) (r.class.0 == a.class.0) (ap (λ b. b && (r.id.0 == a.id.0)) (peer-laws.symm r.space a.space) ∙ other))
-    (any_own r.space r.id refs ∙ none)
-
-pub no-task : (r : Ref) (ts : List Living) → list_any (λ (t : Living). is_id_in (own_ids r.space t.task.held) r.id) ts ≡ false → list_any (λ (t : Living). is_reference_in t.task.held r) ts ≡ false
-no-task r ts none = none-implied (λ (t : Living). is_reference_in t.task.held r) (λ (t : Living). is_id_in (own_ids r.space t.task.held) r.id) ts (λ t other. none-named r t.task.held other) none
-
-pub no-result : (r : Ref) (ks : List KeptResult) → list_any (λ (k : KeptResult). is_id_in (own_ids r.space (references_in k.value)) r.id) ks ≡ false → list_any (λ (k : KeptResult). is_reference_in (references_in k.value) r) ks ≡ false
-no-result r ks none =
-    none-implied (λ (k : KeptResult). is_reference_in (references_in k.value) r) (λ (k : KeptResult). is_id_in (own_ids r.space (references_in k.value)) r.id) ks (λ k other. none-named r (references_in k.value) other) none
-
--- what three tables gave
-pub record AreNone (t r c : Bool) : Type 0 where
-  pub tasks : t ≡ false
-  pub roots : r ≡ false
-  pub calls : c ≡ false
-
-pub gathered-none : (n three two one t r c : Bool) → n ≡ three → one ≡ (false || t) → two ≡ (one || r) → three ≡ (two || c) → n ≡ false → AreNone t r c
-gathered-none n three two one t r c is a b d none =
-    let last : (two || c) ≡ false = sym d ∙ sym is ∙ none in
-    let before : (one || r) ≡ false = sym b ∙ first two c last in
-    record { tasks = sym a ∙ first one r before; roots = second one r before; calls = second two c last }
-  where
-    first : (a b : Bool) → (a || b) ≡ false → a ≡ false
-    first true b h = h
-    first false b h = refl
-
-    second : (a b : Bool) → (a || b) ≡ false → b ≡ false
-    second true b h = absurd (true≢false h)
-    second false b h = h
-
 -- ---- all places
 
 abbrev pub tasks : State → Ref → Bool
@@ -213,28 +162,33 @@ results s r = list_any (λ (k : KeptResult). is_reference_in (references_in k.va
 abbrev pub frames : State → Ref → Bool
 frames s r = list_any (λ (p : rules.ParkedFrame). is_reference_in (references_of_frame p.frame) r) s.parked
 
-pub in-fields : (t f r p : Bool) → f ≡ true → true ≡ (t || (f || (r || p)))
-in-fields true f r p h = refl
-in-fields false f r p h = sym (ap (λ b. b || (r || p)) h)
-
-pub in-frames : (t f r p : Bool) → p ≡ true → true ≡ (t || (f || (r || p)))
-in-frames true f r p h = refl
-in-frames false true r p h = refl
-in-frames false false true p h = refl
-in-frames false false false p h = sym h
-
+-- what a living task holds, or a held result has, has a holder
 pub in-tables : (t f r p : Bool) → (t || r) ≡ true → (t || (f || (r || p))) ≡ true
 in-tables true f r p h = refl
 in-tables false true r p h = refl
 in-tables false false r p h = ap (λ b. b || p) h
 
-pub elsewhere : (t f r p n : Bool) → f ≡ false → p ≡ false → n ≡ (t || r) → n ≡ (t || (f || (r || p)))
-elsewhere t f r p n no-field no-frame is = is ∙ ap (λ b. t || b) (sym (or-none r)) ∙ (λ j. t || (sym no-field j || (r || sym no-frame j)))
-  where
-    or-none : (b : Bool) → (b || false) ≡ b
-    or-none true = refl
-    or-none false = refl
+pub in-fields : (t f r p : Bool) → f ≡ true → true ≡ (t || (f || (r || p)))
+in-fields true f r p h = refl
+in-fields false f r p h = sym (ap (λ b. b || (r || p)) h)
+
+split : (t f r p a b : Bool) → r ≡ (a || b) → (t || (f || (r || p))) ≡ (((t || a) || f) || (b || p))
+split true f r p a b is = refl
+split false true r p true b is = refl
+split false true r p false b is = refl
+split false false r p true b is = ap (λ x. x || p) is
+split false false r p false b is = ap (λ x. x || p) is
+
+-- each holder is at hand or is not
+pub near-or-far : (g : Setting) (s : State) (r : Ref) → has_holder g s r ≡ (is_at_hand g s r || is_away s r)
+near-or-far g s r =
+    let has = λ (k : KeptResult). is_reference_in (references_in k.value) r in
+    split (tasks s r) (fields g s r) (results s r) (frames s r) (list_any has (of_roots s.results)) (list_any has (of_calls s.results)) (any-of-both has s.results)
 
 pub if-ok : {A E : Type 0} (o : Result A E) (P Q : A → Type 0) → ((x : A) → P x → Q x) → IfOk o P → IfOk o Q
 if-ok (Ok x) P Q each h = each x h
 if-ok (Err e) P Q each h = h
+
+pub if-err : {A E : Type 0} (o : Result A E) (P : Type 0) → P → OnErr o P
+if-err (Ok x) P p = tt
+if-err (Err e) P p = p

@@ -3,6 +3,7 @@
 use crate::CallKey;
 use crate::fields::is_in_object;
 use crate::holder::{Holder, call_has, result_has, task_has};
+use crate::tables::is_in_own_tables;
 use sp_call_results::CallResults;
 use sp_living::Living;
 use sp_owner::Owner;
@@ -22,11 +23,7 @@ pub(crate) fn find_holder(
 }
 
 // A task or a result that has the reference.
-pub(crate) fn find_in_tables(
-    living: &Living,
-    calls: &[CallKey],
-    reference: &Ref,
-) -> Option<Holder> {
+fn find_in_tables(living: &Living, calls: &[CallKey], reference: &Ref) -> Option<Holder> {
     match find_task(living, reference) {
         Some(holder) => Some(holder),
         None => find_call(living.call_results(), calls, reference),
@@ -45,8 +42,12 @@ fn find_object(owner: &Owner, reference: &Ref) -> Option<Holder> {
     None
 }
 
-// A task that holds the reference, or one whose result it is, the latest first.
+// A task that holds the reference, or one whose result it is, the latest first. Ids are looked at only if
+// there is one.
 fn find_task(living: &Living, reference: &Ref) -> Option<Holder> {
+    if !is_in_own_tables(living, reference) {
+        return None;
+    }
     let made = living.tasks().made();
     for before in 0..made {
         let id = made - before;

@@ -74,11 +74,6 @@ impl Sightings {
         }
     }
 
-    // The calls whose results may wait for their Ack and be references.
-    pub(crate) fn calls(&self) -> &[CallKey] {
-        self.calls.as_slice()
-    }
-
     // Whether the reference is still held where it was seen.
     pub(crate) fn is_held(&self, space: &SpaceState, reference: &Ref) -> bool
         ensures { result ≡ true → (g : Setting) (s : State) → IsSpace g s space.now → has_holder g s reference.now ≡ true }

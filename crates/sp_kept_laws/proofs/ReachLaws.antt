@@ -12,7 +12,7 @@ use Rattle.sp_rules.specs.Lists.{each, with_some, at_index}
 use Rattle.sp_rules.specs.Refusals.{Refusal, refusal}
 use Rattle.sp_rules.specs.Space as rules
 use Rattle.sp_rules.specs.State.{task_at}
-use Rattle.sp_rules.specs.Tasks.{Task, Stand, Runs, AsksFor, HasEnded, stand, step}
+use Rattle.sp_rules.specs.Tasks.{Task, Stand, Runs, AsksFor, HasEnded, is_at_end, stand, step}
 use Rattle.sp_rules.specs.Worlds
 use Rattle.sp_rules.specs.Worlds.{World, Space, Pipe, End, Phase, Unopened, Live, Over, WorldEvent, Own, Step, Open, Refuse, Accept, Deliver, ReadFails, WriteFails, side, grown, lent_for, is_own, put, acts, act, take_event, after}
 use Rattle.sp_kept_laws.specs.Reaches.{grown_by, AreTakenBy, ComesBy, AreAlone, ReachesOne, EventsReachOneSpace}
@@ -177,7 +177,7 @@ step-reached w i id = some-reached w (Step i id) (Cleared w) (slice_get w.spaces
     ends false = one (GivenBack id 1) none-own
 
     does : (task : Task) (stands : Stand) → Reached w (Step i id) (acts (Cleared w) i (Worlds.events_at id task stands) (Cleared w))
-    does task Runs = ends (Worlds.is_over (stand (step task)))
+    does task Runs = ends (is_at_end (step task).behaviour)
     does task (AsksFor (Create class)) = stored (Create class)
     does task (AsksFor (Get object slot)) = stored (Get object slot)
     does task (AsksFor (Put object slot value)) = stored (Put object slot value)

@@ -41,8 +41,8 @@ pub tasks_ask_of_what_they_hold : TasksAskOfWhatTheyHold
 tasks_ask_of_what_they_hold g lent s e t = by e (unrefused g lent s e t)
   where
     by : (e : Event) → first_refusal (checks g lent s e) ≡ None → AsksOfHeld g s e
-    by (Committed task k op) r = not-false (Refusals.holds_op g (task_at s task) op) (first-of (not (Refusals.holds_op g (task_at s task) op)) Refusals.NotHeld (Refusals.refuse_if (not (Refusals.fits_store g s op)) Refusals.WrongKind)
-        (in-hand lent s task (Refusals.refuse_if (not (Refusals.holds_op g (task_at s task) op)) Refusals.NotHeld ++ Refusals.refuse_if (not (Refusals.fits_store g s op)) Refusals.WrongKind) r)).0
+    by (Committed task k op) r = not-false (Refusals.holds_op g (task_at s task) op) (first-of (not (Refusals.holds_op g (task_at s task) op)) Refusals.NotHeld (Refusals.check_committed g s op (Refusals.stand_after k (task_at s task)))
+        (in-hand lent s task (Refusals.refuse_if (not (Refusals.holds_op g (task_at s task) op)) Refusals.NotHeld ++ Refusals.check_committed g s op (Refusals.stand_after k (task_at s task))) r)).0
     by (Parked task k) r = parked-held g s task (Refusals.stand_after k (task_at s task)) (in-hand lent s task (Refusals.check_parked g (task_at s task) (Refusals.stand_after k (task_at s task))) r)
     by (Finished task k) r = finished-held g s task (Refusals.stand_after k (task_at s task)) (in-hand lent s task (Refusals.check_finished (task_at s task) (Refusals.stand_after k (task_at s task))) r)
     by (Moment moment) r = tt

@@ -566,9 +566,10 @@ op-fits g s (Put id slot value) fresh unwritten e = (fresh.0, there (object_at s
 
 fits-of : (g : Setting) (lent : List ℕ) (s : State) (task k : ℕ) (op : Op) → first_refusal (checks g lent s (Committed task k op)) ≡ None → Refusals.fits_store g s op ≡ true
 fits-of g lent s task k op e =
-    not-false (Refusals.fits_store g s op) (first-of (not (Refusals.fits_store g s op)) Refusals.WrongKind [] (subst (λ cs. first_refusal cs ≡ None) (sym (Rattle.std.proofs.lemmas.List.append-nil (Refusals.refuse_if (not (Refusals.fits_store g s op)) Refusals.WrongKind)))
-    (later (Refusals.refuse_if (not (Refusals.holds_op g (task_at s task) op)) Refusals.NotHeld) (Refusals.refuse_if (not (Refusals.fits_store g s op)) Refusals.WrongKind)
-    (later (Refusals.refuse_if (not (Refusals.is_in_hand lent s task)) Refusals.NotLent) (Refusals.refuse_if (not (Refusals.holds_op g (task_at s task) op)) Refusals.NotHeld ++ Refusals.refuse_if (not (Refusals.fits_store g s op)) Refusals.WrongKind) e)))).0
+    let kind : List Check = Refusals.check_committed g s op (Refusals.stand_after k (task_at s task)) in
+    not-false (Refusals.fits_store g s op) (first-of (not (Refusals.fits_store g s op)) Refusals.WrongKind (Refusals.refuse_if (not (Refusals.stands_at op (Refusals.stand_after k (task_at s task)))) Refusals.WrongKind)
+    (later (Refusals.refuse_if (not (Refusals.holds_op g (task_at s task) op)) Refusals.NotHeld) kind
+    (later (Refusals.refuse_if (not (Refusals.is_in_hand lent s task)) Refusals.NotLent) (Refusals.refuse_if (not (Refusals.holds_op g (task_at s task) op)) Refusals.NotHeld ++ kind) e))).0
 
 fits : (g : Setting) (lent : List ℕ) (s : State) (e : Event) → first_refusal (checks g lent s e) ≡ None → Fresh s → ((id : ObjId) (slot : ℕ) → s.objects_made + 1 ≤ id.0 → last_written s.store id slot ≡ None) → Fits g s e
 fits g lent s (Committed task k op) t f u = op-fits g s op f u (fits-of g lent s task k op t)

@@ -24,7 +24,7 @@ use Rattle.sp_rules.specs.Refusals
 use Rattle.sp_rules.specs.Refusals.{Refusal, refusal, first_refusal, checks}
 use Rattle.sp_rules.specs.Space
 use Rattle.sp_rules.specs.State.{State, Object, Frame, CallFrame, ReturnedFrame, ParkedFrame, standing, opening, task_at}
-use Rattle.sp_rules.specs.Tasks.{Task, Stand, Runs, AsksFor, HasEnded, stand, step}
+use Rattle.sp_rules.specs.Tasks.{Task, Stand, Runs, AsksFor, HasEnded, is_at_end, stand, step}
 use Rattle.sp_rules.specs.Worlds
 use Rattle.sp_rules.specs.Worlds.{World, Space, End, Dialler, Accepter, Side, Pipe, grown, put, acts, act, take_event, after, happens, run, new_space, new_world, WorldEvent, Own, Step, Open, Refuse, Accept, Deliver, ReadFails, WriteFails}
 use Rattle.sp_rules.proofs.AllLemmas.{all-weaken, all-more}
@@ -277,7 +277,7 @@ lent-silent id task = at (stand task)
     of-op (Call target method arguments) = (tt, tt)
 
     at : (stands : Stand) → AllOf Silent (Worlds.events_at id task stands)
-    at Runs = after-one (Worlds.is_over (stand (step task)))
+    at Runs = after-one (is_at_end (step task).behaviour)
     at (AsksFor op) = of-op op
     at (HasEnded outcome) = (tt, tt)
 

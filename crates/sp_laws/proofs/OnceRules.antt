@@ -15,7 +15,7 @@ use Rattle.sp_rules.specs.Lists.{each, with_some, at_index}
 use Rattle.sp_rules.specs.Refusals.{Refusal, refusal}
 use Rattle.sp_rules.specs.Space
 use Rattle.sp_rules.specs.State.{task_at}
-use Rattle.sp_rules.specs.Tasks.{Task, Stand, Runs, AsksFor, HasEnded, stand, step}
+use Rattle.sp_rules.specs.Tasks.{Task, Stand, Runs, AsksFor, HasEnded, is_at_end, stand, step}
 use Rattle.sp_rules.specs.Worlds
 use Rattle.sp_rules.specs.Worlds.{World, Space, End, Dialler, Accepter, Side, Pipe, Phase, Unopened, Live, Over, grown, put, acts, take_event, after, happens, run, new_space, new_world, WorldEvent, Own, Step, Open, Refuse, Accept, Deliver, ReadFails, WriteFails}
 use Rattle.sp_rules.proofs.AllLemmas.{some-none, all-weaken, all-more, all-with}
@@ -302,7 +302,7 @@ lent-silent id task = at (stand task)
     of-op (Call target method arguments) = ((λ n. refl), tt)
 
     at : (stands : Stand) → AllOf Silent (Worlds.events_at id task stands)
-    at Runs = after-one (Worlds.is_over (stand (step task)))
+    at Runs = after-one (is_at_end (step task).behaviour)
     at (AsksFor op) = of-op op
     at (HasEnded outcome) = ((λ n. refl), tt)
 

@@ -1,21 +1,25 @@
 -- What lives in a space, as its parts change one by one.
-use Rattle.std.proofs.Common.{◌≡◌, ℕ, true, false, cond, List, [], ◌∷◌, ◌++◌, Option, None, Some, refl, sym, ap, subst, ◌∙◌}
+use Rattle.std.proofs.Common.{◌≡◌, ℕ, true, false, cond, List, [], ◌∷◌, ◌++◌, Option, None, Some, refl, sym, subst, ◌∙◌}
+use Rattle.std.specs.Prelude.{find}
 use Rattle.space_ids.specs.declared.ids.ForeignId.{ForeignId}
 use Rattle.net_message.specs.declared.message.Message.{Message}
+use Rattle.net_message.specs.declared.message.Message.TheVariants as message
 use Rattle.sp_rules.specs.Classes.{Setting}
 use Rattle.uuid.specs.declared.Uuid.{Uuid}
-use Rattle.sp_rules.specs.Events.{Hellos, Output, Started, Ended, Withdrawn, Denied, Send, Dial, Close, Ready, Sends, Turn}
+use Rattle.sp_rules.specs.Events.{Acks, Hellos, Output, Started, Ended, Withdrawn, Denied, Send, Dial, Close, Ready, Sends, Turn}
 use Rattle.sp_rules.specs.OwnEvents.{add_connection, dialled_no_more}
 use Rattle.sp_rules.specs.Space.{conclude, record_sent}
 use Rattle.sp_living.specs.Opening.{opened_with}
 use Rattle.sp_rules.specs.Holders.{drop_ids, hold_ids, holder_comes, holder_goes}
-use Rattle.sp_rules.specs.Lists.{each}
-use Rattle.sp_rules.specs.State.{State, KeptResult, is_open, send}
+use Rattle.sp_rules.specs.Lists.{each, with_some}
+use Rattle.sp_rules.specs.ParkedFrames.{is_call_on, remove_requests}
+use Rattle.sp_rules.specs.State.{State, KeptResult, Request, is_open, send}
 use Rattle.sp_rules.specs.State as rules
+use Rattle.sp_transport.specs.Answers.{acknowledge}
 use Rattle.sp_transport.specs.Transports.{IsTransport}
 use Rattle.sp_transport.specs.declared.transport.Transport.{Transport}
 use Rattle.sp_living.specs.Livings.{IsLiving}
-use Rattle.sp_living.specs.Parts.{AreParkedIn, AreResults, AreTasks}
+use Rattle.sp_living.specs.Parts.{AreParkedIn, AreResults, AreTasks, IsMoment}
 use Rattle.sp_living.specs.declared.living.Living.{Living}
 
 -- ---- parts
@@ -35,7 +39,7 @@ own_of s = record { moment = s.moment; tasks_made = s.tasks_made; tasks = s.task
 pub moved : (g : Setting) (s u : State) (l : Living) (t : Transport) → own_of u ≡ own_of s → (IsTransport s l.transport → IsTransport u t) → IsLiving g s l → IsLiving g u (record l { transport = t })
 moved g s u l t same now is = record {
   id = is.id;
-  moment = is.moment ∙ ap (λ (o : Own). o.moment) (sym same);
+  moment = subst (λ (o : Own). IsMoment l.moment o.moment) (sym same) is.moment;
   transport = now is.transport;
   tasks = subst (λ (o : Own). AreTasks g o.tasks_made o.tasks l.tasks) (sym same) is.tasks;
   results = subst (λ (o : Own). AreResults o.moment o.results l.results l.call_results) (sym same) is.results;
@@ -102,6 +106,13 @@ dropped-one r s = refl
 pub sent-own : (turn : Turn) (conn : ℕ) (m : Message) (s : State) → own_of (send turn conn m s) ≡ own_of s
 unfolding send
 sent-own turn conn m s = elim (is_open s conn) as (λ b. own_of (cond b (record s { notes = s.notes ++ Sends turn conn m ∷ [] }) s) ≡ own_of s) [ true ↦ refl | false ↦ refl ]
+
+pub acked-own : (conn number : ℕ) (s : State) → own_of (acknowledge conn number s) ≡ own_of s
+acked-own conn number s =
+    elim (find (is_call_on conn number) s.requests) as (λ (o : Option Request). own_of (with_some o s (λ r. send Acks conn (message.Ack number) (remove_requests (is_call_on conn number) s))) ≡ own_of s) [
+      | None ↦ refl
+      | Some r ↦ sent-own Acks conn (message.Ack number) (remove_requests (is_call_on conn number) s)
+    ]
 
 -- ---- connections, and what was sent on them
 

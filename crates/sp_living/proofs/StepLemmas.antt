@@ -1,6 +1,6 @@
 -- What single changes of the tasks and results make of what lives in a space.
-use Rattle.std.proofs.Common.{◌≡◌, ℕ, ◌+◌, ◌≤◌, ◌<◌, nat_lt, true, false, cond, List, [], ◌∷◌, ◌++◌, Option, None, Some, refl, sym, ap, ◌∙◌, filter, length, drop, arith}
-use Rattle.std.specs.Prelude.{not, find, ◌==◌, is_some, option_and_then, option_map, unwrap_or}
+use Rattle.std.proofs.Common.{◌≡◌, ℕ, ◌+◌, ◌^◌, ◌≤◌, ◌<◌, nat_lt, true, false, cond, List, [], ◌∷◌, ◌++◌, Option, None, Some, refl, sym, ap, ◌∙◌, filter, length, drop, arith}
+use Rattle.std.specs.Prelude.{not, find, ◌==◌, is_some, option_map, unwrap_or}
 use Rattle.std.proofs.lemmas.Bool.Decides.{nat_tests}
 use Rattle.std.proofs.lemmas.Bool.{eq-eqb, eqb-true, false≢true}
 use Rattle.space_ids.specs.declared.ids.ForeignId.{ForeignId}
@@ -24,11 +24,7 @@ use Rattle.sp_rules.specs.Tasks.{Task, Stand, AsksFor, HasEnded, answer, gained,
 use Rattle.net_message.specs.declared.message.Message.TheVariants as message
 use Rattle.sp_call_results.specs.Held.{AreCallResults, left_at, references_of_results}
 use Rattle.sp_call_results.specs.declared.call_results.CallResults.{CallResults}
-use Rattle.sp_connections.specs.Tables.{is_dialled, link_of, seen as shown, to_peer}
-use Rattle.sp_connections.specs.declared.connection.Link.TheVariants as link
-use Rattle.sp_requests.specs.declared.asked.Asker.{Asker}
-use Rattle.sp_transport.specs.Answers.{asker_in}
-use Rattle.uuid.specs.declared.Uuid.{Uuid}
+use Rattle.sp_connections.specs.Tables.{seen as shown}
 use Rattle.sp_connections.specs.declared.connection.Connection.{Connection as Shown}
 use Rattle.sp_requests.specs.Asking.{asks_by, first_of}
 use Rattle.sp_requests.specs.declared.asked.Asker.TheVariants as asker
@@ -267,30 +263,13 @@ in-time g moment s refs h goes =
     let early : nat_lt moment s.moment ≡ false = grind (arith, nat_tests) in
     ap (λ b. cond b s (release g (is_over_at moment) after)) early ∙ released-as g after (is_over_at moment) refs goes
 
-pub now-passed : (g : Setting) (s : State) (l : Living) (moment : ℕ) (calls : CallResults) (t : Transport) → s.moment ≤ moment → AreCallResults moment (left_at moment s.results) calls → IsTransport (pass_moment moment s) t → IsLiving g s l
+pub now-passed : (g : Setting) (s : State) (l : Living) (moment : ℕ) (fits : moment < 2 ^ 63) (calls : CallResults) (t : Transport) → s.moment ≤ moment → AreCallResults moment (left_at moment s.results) calls → IsTransport (pass_moment moment s) t → IsLiving g s l
     → IsLiving g (left_by_moment moment s) (record l { moment = moment; call_results = calls; transport = t })
-now-passed g s l moment calls t h results now is = record {
+now-passed g s l moment fits calls t h results now is = record {
   id = is.id;
-  moment = refl;
+  moment = record { same = refl; fits = fits };
   transport = record { leases = now.leases; connections = now.connections; asked = now.asked; calls_made = now.calls_made; groups_made = now.groups_made; fresh = now.fresh; notes = now.notes; lines = now.lines };
   tasks = is.tasks;
   results = results-passed s.moment moment s.results l.results l.call_results calls results is.results;
   parked = is.parked;
 }
-
--- what is done if something that asked is found
-pub asked-there : (o : Option rules.Request) (who : Asker) (s u : State) → Some who ≡ option_and_then asker_in o → with_some o s (λ r. u) ≡ u
-asked-there None who s u e = cc
-asked-there (Some r) who s u e = refl
-
--- a peer is being dialled
-pub dialling : (peer : Uuid) (rows : List rules.Connection) (peers : List Uuid) → Some link.Dialling ≡ link_of peer rows peers → is_dialled peer peers ≡ true
-dialling peer rows peers e =
-    elim (is_dialled peer peers) as (λ b. Some link.Dialling ≡ cond b (Some link.Dialling) (option_map (λ (c : rules.Connection). link.Open c.number) (to_peer peer rows)) → b ≡ true) [
-      | true ↦ λ e. refl
-      | false ↦ λ e. by (to_peer peer rows) e
-    ] e
-  where
-    by : (o : Option rules.Connection) → Some link.Dialling ≡ option_map (λ (c : rules.Connection). link.Open c.number) o → false ≡ true
-    by None e = cc
-    by (Some c) e = cc

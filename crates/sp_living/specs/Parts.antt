@@ -1,5 +1,5 @@
 -- When the tables of tasks, results and parked frames stand for those of a state of the rules: one line a part. (This project's own.)
-use Rattle.std.specs.Prelude.{◌≡◌, ◌≤◌, ℕ, true, false, List, Option, map}
+use Rattle.std.specs.Prelude.{◌≡◌, ◌<◌, ◌≤◌, ◌^◌, ℕ, true, false, List, Option, map}
 use Rattle.space_ids.specs.declared.value.Value.{Value}
 use Rattle.sp_rules.specs.Classes.{Setting}
 use Rattle.sp_rules.specs.Laws.{AllOf}
@@ -14,6 +14,11 @@ use Rattle.sp_parked.specs.declared.frame.ParkedFrame.{ParkedFrame}
 use Rattle.sp_parked.specs.declared.parked.Parked.{Parked}
 use Rattle.sp_living.specs.Frames.{AreOnce}
 use Rattle.sp_living.specs.Views.{kept, seen, seen_row}
+
+-- The moment is that of the state, and below 2^63.
+pub record IsMoment (now moment : ℕ) : Type 0 where
+  pub same : now ≡ moment
+  pub fits : moment < 2 ^ 63
 
 -- A task that waits is not lent.
 abbrev pub IsIdle : ℕ × TaskRow → Type 0

@@ -19,7 +19,8 @@ impl Living {
     /// Makes the dirty and clean calls that are due, and then asks the call or lookup of the event, if it
     /// made one.
     pub fn settle(&mut self) -> Result<(), AllocError>
-        ensures { OnOk result ((g : Setting) (s : State) → IsLiving g s self.old → MaySettle s → IsLiving g (settle s) self.new) }
+        ensures settled { OnOk result ((g : Setting) (s : State) → IsLiving g s self.old → MaySettle s → IsLiving g (settle s) self.new) }
+        ensures tasks { self.new.tasks ≡ self.old.tasks }
     {
         self.transport.settle()
     }
@@ -28,6 +29,7 @@ impl Living {
     /// on it. It takes no memory.
     pub fn conclude(&mut self) -> Vec<Output>
         ensures outputs { (g : Setting) (s : State) → IsLiving g s self.old → map output_of result.items ≡ in_order s.notes }
+        ensures tasks { self.new.tasks ≡ self.old.tasks }
         ensures concluded { (g : Setting) (s : State) → IsLiving g s self.old → IsLiving g (conclude s (in_order s.notes)).0 self.new }
     {
         self.transport.conclude()

@@ -19,7 +19,8 @@ impl Living {
 
     /// Notes that the clean calls of a group failed, made under this number. It takes no memory.
     pub fn clean_failed(&mut self, group: &Group, call: u64)
-        ensures { (g : Setting) (s : State) → IsLiving g s self.old → IsLiving g (tell_leases group.now (CleanFailed call) s) self.new }
+        ensures failed { (g : Setting) (s : State) → IsLiving g s self.old → IsLiving g (tell_leases group.now (CleanFailed call) s) self.new }
+        ensures tasks { self.new.tasks ≡ self.old.tasks }
     {
         self.transport.clean_failed(group, call);
     }
@@ -27,6 +28,7 @@ impl Living {
     /// Notes that the dirty call of a reference failed, made under this number. Returns whether frames that
     /// wait for the reference fail with it: it was not overtaken, and there is no lease yet.
     pub fn dirty_failed(&mut self, reference: &ForeignId, call: u64) -> Result<bool, AllocError>
+        ensures tasks { self.new.tasks ≡ self.old.tasks }
         ensures lacks { IfOk result (λ lacks. (g : Setting) (s : State) → IsLiving g s self.old → lacks ≡ lacks_lease call s reference.now) }
         ensures failed { OnOk result ((g : Setting) (s : State) → IsLiving g s self.old → IsLiving g (dirty_failed call s reference.now) self.new) }
     {

@@ -24,7 +24,8 @@ impl Living {
     /// connection and number one is parked (laws `calls_that_come_are_once` and `answers_are_parked`).
     pub fn put_frame(&mut self, frame: ParkedFrame) -> Result<(), AllocError>
         requires { IsDistinct is_same frame.references }
-        ensures { OnOk result ((g : Setting) (s : State) → IsLiving g s self.old → IsLiving g (with_parked (s.parked ++ parked_of frame ∷ []) s) self.new) }
+        ensures parked { OnOk result ((g : Setting) (s : State) → IsLiving g s self.old → IsLiving g (with_parked (s.parked ++ parked_of frame ∷ []) s) self.new) }
+        ensures tasks { self.new.tasks ≡ self.old.tasks }
     {
         if self.is_parked(frame.conn, frame.number)? {
             return Err(AllocError);
@@ -60,6 +61,7 @@ impl Living {
     /// Takes the frames out that are parked on a connection, in the order in which they came. Their references
     /// stay held.
     pub fn take_frames_on(&mut self, conn: u64) -> Result<Vec<ParkedFrame>, AllocError>
+        ensures tasks { self.new.tasks ≡ self.old.tasks }
         ensures frames { IfOk result (λ taken. (g : Setting) (s : State) → IsLiving g s self.old → map parked_of taken.items ≡ filter (λ (p : Row). p.conn == conn) s.parked) }
         ensures left { OnOk result ((g : Setting) (s : State) → IsLiving g s self.old → IsLiving g (with_parked (filter (λ (p : Row). not (p.conn == conn)) s.parked) s) self.new) }
     {
@@ -73,6 +75,7 @@ impl Living {
         &mut self,
         reference: &ForeignId,
     ) -> Result<Vec<ParkedFrame>, AllocError>
+        ensures tasks { self.new.tasks ≡ self.old.tasks }
         ensures frames { IfOk result (λ taken. (g : Setting) (s : State) → IsLiving g s self.old → map parked_of taken.items ≡ filter (names reference.now) s.parked) }
         ensures left { OnOk result ((g : Setting) (s : State) → IsLiving g s self.old → IsLiving g (with_parked (filter (λ (p : Row). not (names reference.now p)) s.parked) s) self.new) }
     {
@@ -83,6 +86,7 @@ impl Living {
     /// Takes the frames out of whose references each has a lease, in the order in which they came. Their
     /// references stay held.
     pub fn take_free_frames(&mut self) -> Result<Vec<ParkedFrame>, AllocError>
+        ensures tasks { self.new.tasks ≡ self.old.tasks }
         ensures frames { IfOk result (λ taken. (g : Setting) (s : State) → IsLiving g s self.old → map parked_of taken.items ≡ filter (is_free s) s.parked) }
         ensures left { OnOk result ((g : Setting) (s : State) → IsLiving g s self.old → IsLiving g (with_parked (filter (λ (p : Row). not (is_free s p)) s.parked) s) self.new) }
     {
@@ -128,6 +132,7 @@ impl Living {
 
     // Takes the frames of these tickets out, in this order.
     fn take_frames(&mut self, tickets: &[u64]) -> Result<Vec<ParkedFrame>, AllocError>
+        ensures tasks { self.new.tasks ≡ self.old.tasks }
         ensures frames { IfOk result (λ taken. (g : Setting) (s : State) (is : Row → Bool) → IsLiving g s self.old → AreTicketsOf is tickets.now self.old.parked → map parked_of taken.items ≡ filter is s.parked) }
         ensures left { OnOk result ((g : Setting) (s : State) (is : Row → Bool) → IsLiving g s self.old → AreTicketsOf is tickets.now self.old.parked → IsLiving g (with_parked (filter (λ p. not (is p)) s.parked) s) self.new) }
     {

@@ -38,7 +38,8 @@ impl Living {
 
     /// Adds a holder of each of these foreign references.
     pub fn hold_ids(&mut self, references: &[ForeignId]) -> Result<(), AllocError>
-        ensures { OnOk result ((g : Setting) (s : State) → IsLiving g s self.old → IsLiving g (hold_ids references.now s) self.new) }
+        ensures held { OnOk result ((g : Setting) (s : State) → IsLiving g s self.old → IsLiving g (hold_ids references.now s) self.new) }
+        ensures tasks { self.new.tasks ≡ self.old.tasks }
     {
         self.transport.reserve_holders(references.len())?;
         self.transport.hold_ids_reserved(references);
@@ -47,7 +48,8 @@ impl Living {
 
     /// Takes a holder of each of these foreign references away, if it has one. It takes no memory.
     pub fn drop_ids(&mut self, references: &[ForeignId])
-        ensures { (g : Setting) (s : State) → IsLiving g s self.old → IsLiving g (drop_ids references.now s) self.new }
+        ensures dropped { (g : Setting) (s : State) → IsLiving g s self.old → IsLiving g (drop_ids references.now s) self.new }
+        ensures tasks { self.new.tasks ≡ self.old.tasks }
     {
         self.transport.drop_ids(references);
     }
@@ -65,7 +67,8 @@ impl Living {
 
     // Takes a holder of a reference away, if there is one and it is foreign.
     pub(crate) fn drop_found(&mut self, found: Option<Ref>)
-        ensures { (g : Setting) (s : State) → IsLiving g s self.old → IsLiving g (drop g (listed found) s) self.new }
+        ensures dropped { (g : Setting) (s : State) → IsLiving g s self.old → IsLiving g (drop g (listed found) s) self.new }
+        ensures tasks { self.new.tasks ≡ self.old.tasks }
     {
         match found {
             Some(reference) => self.drop_one(&reference),

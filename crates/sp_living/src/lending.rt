@@ -1,12 +1,13 @@
 //! Tasks that are lent: while one is, its instructions are made outside the space.
 
-ghost use Rattle.std.specs.Prelude.{◌≡◌, ℕ, Some, IfErr, IfSome, OnErr, OnOk, true};
+ghost use Rattle.std.specs.Prelude.{◌≡◌, ℕ, Some, IfErr, IfNone, IfSome, OnErr, OnOk, true};
 ghost use Rattle.sp_rules.specs.Classes.{Classes, Setting};
 ghost use Rattle.sp_rules.specs.LivingTasks.{give_back, park_call};
 ghost use Rattle.sp_rules.specs.State.{State};
 ghost use Rattle.sp_rules.specs.Behaviours.{Call as Calls};
 ghost use Rattle.sp_rules.specs.Tasks.{AsksFor, lent, stand};
 ghost use Rattle.sp_tasks.specs.Behaviours.{reply_of};
+ghost use Rattle.sp_tasks.specs.Lent.{KeepsLent, LendsNoMore, LendsToo};
 ghost use Rattle.sp_tasks.specs.Rows.{at_row, back_row, hand_of, lent_row, replied_hand, row_of};
 ghost use Rattle.sp_living.specs.Steps.{give_reply};
 
@@ -30,6 +31,8 @@ impl Living {
     pub fn lend(&mut self, id: u64) -> Option<LentTask>
         ensures task { result ≡ hand_of id (row_of id self.old.tasks.rows) }
         ensures rows { self.new.tasks.rows ≡ at_row id lent_row self.old.tasks.rows }
+        ensures lent { IfSome result (λ _. LendsToo id self.old.tasks self.new.tasks) }
+        ensures unlent { IfNone result (KeepsLent self.old.tasks self.new.tasks) }
         ensures own { IfSome result (λ hand. has_lent self.new hand ≡ true) }
         ensures same { (g : Setting) (s : State) → IsLiving g s self.old → IsLiving g s self.new }
     {
@@ -40,6 +43,7 @@ impl Living {
     pub fn give_back(&mut self, task: LentTask)
         requires { has_lent self.old task ≡ true }
         ensures rows { self.new.tasks.rows ≡ at_row task.id (back_row task.made) self.old.tasks.rows }
+        ensures lent { LendsNoMore task.id self.old.tasks self.new.tasks }
         ensures back { (g : Setting) (s : State) → IsLiving g s self.old → IsLiving g (give_back task.id task.made s) self.new }
     {
         self.tasks.give_back(task);
@@ -50,6 +54,7 @@ impl Living {
     pub fn give_reply(&mut self, task: &mut LentTask, reply: &Reply) -> Result<(), AllocError>
         requires { has_lent self.old task.old ≡ true }
         ensures given { OnOk result ((g : Setting) (s : State) → IsLiving g s self.old → IsLiving g (give_reply g task.old.id task.old.made (reply_of reply.now) s) self.new) }
+        ensures lent { OnOk result (KeepsLent self.old.tasks self.new.tasks) }
         ensures task { OnOk result (task.new ≡ replied_hand (reply_of reply.now) task.old) }
         ensures own { OnOk result (has_lent self.new task.new ≡ true) }
         ensures kept { OnErr result (task.new ≡ task.old) }
@@ -74,6 +79,7 @@ impl Living {
     ) -> Result<(), LentTask>
         requires { has_lent self.old task ≡ true }
         ensures parked { OnOk result ((g : Setting) (s : State) → IsLiving g s self.old → C.tells classes.now g.classes → stand (task_of g task) ≡ AsksFor (Calls target method arguments) → fuel ≡ lent (task_of g task) → IsLiving g (park_call g task.id task.made s) self.new) }
+        ensures lent { OnOk result (LendsNoMore task.id self.old.tasks self.new.tasks) }
         ensures back { IfErr result (λ back. back ≡ task) }
     {
         let mut task = task;

@@ -57,6 +57,7 @@ impl Living {
     /// too. It costs a step for each row and each value in it.
     pub fn copy(&self) -> Result<Living, AllocError>
         ensures copied { IfOk result (λ copy. (g : Setting) (s : State) → IsLiving g s self.now → s.fresh ≡ [] → s.notes ≡ [] → IsLiving g s copy) }
+        ensures rows { IfOk result (λ copy. copy.tasks.rows ≡ self.now.tasks.rows) }
     {
         let ended = both(self.results.copy(), self.call_results.copy());
         let carried = both(self.parked.copy(), self.transport.copy());

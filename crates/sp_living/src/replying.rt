@@ -9,6 +9,7 @@ ghost use Rattle.sp_rules.specs.ParkedFrames.{answer_parked};
 ghost use Rattle.sp_rules.specs.State.{Asked as Question, ParkedFrame as Row, RootAcked, State, say};
 ghost use Rattle.sp_rules.specs.Events.{Ended};
 ghost use Rattle.sp_tasks.specs.Behaviours.{outcome_of, reply_of};
+ghost use Rattle.sp_tasks.specs.Lent.{KeepsLent};
 ghost use Rattle.sp_tasks.specs.Rows.{value_given};
 ghost use Rattle.sp_living.specs.Holding.{listed};
 
@@ -25,7 +26,8 @@ impl Living {
 
     /// Gives who asked by a call or lookup its reply: the call's task goes on with it, and the lookup ends.
     pub fn reply_to(&mut self, asker: Asker, reply: Reply) -> Result<(), AllocError>
-        ensures { OnOk result ((g : Setting) (s : State) (question : Question) → IsLiving g s self.old → first_of (asks_by question) ≡ Some asker → IsLiving g (reply_to g question (reply_of reply) s) self.new) }
+        ensures replied { OnOk result ((g : Setting) (s : State) (question : Question) → IsLiving g s self.old → first_of (asks_by question) ≡ Some asker → IsLiving g (reply_to g question (reply_of reply) s) self.new) }
+        ensures lent { OnOk result (KeepsLent self.old.tasks self.new.tasks) }
     {
         match asker {
             Asker::Call {
@@ -40,7 +42,8 @@ impl Living {
     /// Gives a task the reply to its call: it holds the reference in it too, and may go on. Nothing happens
     /// if no such task lives. A task that asked waits (law `waiting_tasks_have_one_call`).
     pub fn reply_task(&mut self, id: u64, reply: Reply) -> Result<(), AllocError>
-        ensures { OnOk result ((g : Setting) (s : State) → IsLiving g s self.old → IsLiving g (reply_task g id (reply_of reply) s) self.new) }
+        ensures replied { OnOk result ((g : Setting) (s : State) → IsLiving g s self.old → IsLiving g (reply_task g id (reply_of reply) s) self.new) }
+        ensures lent { OnOk result (KeepsLent self.old.tasks self.new.tasks) }
     {
         if self.tasks.origin(id).is_none() {
             return Ok(());
@@ -57,7 +60,8 @@ impl Living {
 
     // Ends a lookup of the space's own so: its result, if it has one, is held until it is acknowledged.
     fn end_lookup(&mut self, task: u64, outcome: Outcome) -> Result<(), AllocError>
-        ensures { OnOk result ((g : Setting) (s : State) → IsLiving g s self.old → IsLiving g (keep_result g (RootAcked task) (outcome_of outcome) (say (Ended task (outcome_of outcome)) s)) self.new) }
+        ensures ended { OnOk result ((g : Setting) (s : State) → IsLiving g s self.old → IsLiving g (keep_result g (RootAcked task) (outcome_of outcome) (say (Ended task (outcome_of outcome)) s)) self.new) }
+        ensures tasks { self.new.tasks ≡ self.old.tasks }
     {
         let told = copy_outcome(self.alloc, &outcome)?;
         self.say(Output::Ended(task, told))?;
@@ -67,7 +71,8 @@ impl Living {
     /// Holds the result with which a root or lookup of the space's own ends, if it returned, until it is
     /// acknowledged.
     pub fn keep_root_outcome(&mut self, task: u64, outcome: Outcome) -> Result<(), AllocError>
-        ensures { OnOk result ((g : Setting) (s : State) → IsLiving g s self.old → IsLiving g (keep_result g (RootAcked task) (outcome_of outcome) s) self.new) }
+        ensures kept { OnOk result ((g : Setting) (s : State) → IsLiving g s self.old → IsLiving g (keep_result g (RootAcked task) (outcome_of outcome) s) self.new) }
+        ensures tasks { self.new.tasks ≡ self.old.tasks }
     {
         match outcome {
             Outcome::Returned(value) => self.keep_root(task, value),
@@ -80,7 +85,8 @@ impl Living {
     /// Nothing happens if nobody asks by it. It came on a connection that this space dialled (law
     /// `answers_are_parked`).
     pub fn answer_parked(&mut self, conn: u64, number: u64, reply: Reply) -> Result<(), AllocError>
-        ensures { OnOk result ((g : Setting) (s : State) (p : Row) → IsLiving g s self.old → p.conn ≡ conn → p.number ≡ number → IsLiving g (answer_parked g p (reply_of reply) s) self.new) }
+        ensures answered { OnOk result ((g : Setting) (s : State) (p : Row) → IsLiving g s self.old → p.conn ≡ conn → p.number ≡ number → IsLiving g (answer_parked g p (reply_of reply) s) self.new) }
+        ensures lent { OnOk result (KeepsLent self.old.tasks self.new.tasks) }
     {
         if !self.is_dialled(conn) {
             return Err(AllocError);

@@ -19,7 +19,8 @@ impl Living {
     /// Answers an output that is no frame.
     pub fn say(&mut self, output: Output) -> Result<(), AllocError>
         requires { is_said output ≡ true }
-        ensures { OnOk result ((g : Setting) (s : State) → IsLiving g s self.old → IsLiving g (say (output_of output) s) self.new) }
+        ensures said { OnOk result ((g : Setting) (s : State) → IsLiving g s self.old → IsLiving g (say (output_of output) s) self.new) }
+        ensures tasks { self.new.tasks ≡ self.old.tasks }
     {
         self.transport.reserve_notes(1)?;
         self.transport.say_reserved(output);
@@ -31,7 +32,8 @@ impl Living {
     /// and is not answered.
     pub fn reply(&mut self, turn: Turn, conn: u64, message: Message) -> Result<(), AllocError>
         requires { is_acks (turn_of turn) ≡ false }
-        ensures { OnOk result ((g : Setting) (s : State) → IsLiving g s self.old → IsLiving g (send (turn_of turn) conn message s) self.new) }
+        ensures sent { OnOk result ((g : Setting) (s : State) → IsLiving g s self.old → IsLiving g (send (turn_of turn) conn message s) self.new) }
+        ensures tasks { self.new.tasks ≡ self.old.tasks }
     {
         if self.is_dialled(conn) {
             return Err(AllocError);

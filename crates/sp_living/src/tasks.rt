@@ -5,6 +5,7 @@ ghost use Rattle.sp_rules.specs.Classes.{Setting};
 ghost use Rattle.sp_rules.specs.LivingTasks.{add_task};
 ghost use Rattle.sp_rules.specs.State.{Living as Task, State, task_at};
 ghost use Rattle.sp_tasks.specs.Behaviours.{origin_of};
+ghost use Rattle.sp_tasks.specs.Lent.{KeepsLent, LendsNoMore};
 ghost use Rattle.sp_living.specs.Steps.{with_task, without_task};
 
 use crate::Living;
@@ -30,6 +31,7 @@ impl Living {
         fuel: u64,
     ) -> Result<u64, AllocError>
         ensures id { IfOk result (λ id. (g : Setting) (s : State) → IsLiving g s self.old → id ≡ s.tasks_made + 1) }
+        ensures lent { OnOk result (KeepsLent self.old.tasks self.new.tasks) }
         ensures started { OnOk result ((g : Setting) (s : State) → IsLiving g s self.old → IsLiving g (add_task g (origin_of origin) method arguments.now fuel s) self.new) }
     {
         let id = self.enter(origin, method, arguments, fuel)?;
@@ -49,6 +51,7 @@ impl Living {
         fuel: u64,
     ) -> Result<u64, AllocError>
         ensures id { IfOk result (λ id. (g : Setting) (s : State) → IsLiving g s self.old → id ≡ s.tasks_made + 1) }
+        ensures lent { OnOk result (KeepsLent self.old.tasks self.new.tasks) }
         ensures entered { OnOk result ((g : Setting) (s : State) → IsLiving g s self.old → IsLiving g (with_task g (origin_of origin) method arguments.now fuel s) self.new) }
     {
         if self.tasks.made() >= LAST_ID {
@@ -63,6 +66,7 @@ impl Living {
     /// nothing is answered. It takes no memory.
     pub fn take_task(&mut self, id: u64) -> Option<Origin>
         ensures origin { (g : Setting) (s : State) → IsLiving g s self.old → option_map origin_of result ≡ option_map (λ (t : Task). t.origin) (task_at s id) }
+        ensures lent { LendsNoMore id self.old.tasks self.new.tasks }
         ensures left { (g : Setting) (s : State) (retired : ℕ) → IsLiving g s self.old → IsLiving g (without_task id retired s) self.new }
     {
         let origin = self.tasks.origin(id);

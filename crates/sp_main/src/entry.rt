@@ -1,6 +1,7 @@
 //! The program as a function of its arguments, a folder and its standard streams.
 
 ghost use Rattle.std.specs.Prelude.{◌≡◌, ◌<◌, ◌≤◌, ◌^◌, ℕ, List, map, string_bytes, IfOk, IfSome};
+ghost use Rattle.sp_reply_laws.specs.Told.{AreRemoteRules};
 ghost use Rattle.sp_words.specs.CommandLine.{AsksCheck, AsksRun, AsksSim};
 ghost use Rattle.sp_main.specs.Folders.{AreFilesOf, AreRead, IsContent, told_by};
 ghost use Rattle.sp_main.specs.Replies.{Fails, IsPlayed, IsReply, Replies};
@@ -13,7 +14,7 @@ use sim_spaces::{Homes, class_digest};
 use sim_worlds::{ScriptFault, play_script};
 use sp_call_set::CallSet;
 use sp_files::{ClassBytes, Content, check_classes, program_of};
-use sp_runs::run_classes;
+use sp_space_runs::run_classes;
 use sp_texts::{
     Report, Status, accepted_report, bad_line_report, folder_report, outcome_report, played_report,
     refusal_report, text_report, unreadable_report, write_text,
@@ -132,6 +133,7 @@ fn program_report<F: Folder>(
     path: &str,
     folder: &F,
 ) -> Result<Report, AllocError>
+    requires { AreRemoteRules program.classes }
     ensures { IfOk result (λ report. IsPlayed path.now report.status report.text.items) }
 {
     match class_digest(alloc, files) {
@@ -148,6 +150,7 @@ fn script_report<F: Folder>(
     path: &str,
     folder: &F,
 ) -> Result<Report, AllocError>
+    requires { AreRemoteRules program.now.classes }
     ensures { IfOk result (λ report. IsPlayed path.now report.status report.text.items) }
 {
     let script = match read_content(alloc, folder, path, usize::MAX)? {

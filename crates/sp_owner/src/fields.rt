@@ -1,6 +1,6 @@
 //! Objects that tasks make, and their fields.
 
-ghost use Rattle.std.specs.Prelude.{◌≡◌, ◌∷◌, IfOk, IfSome, OnOk, None, Some, if◌then◌else◌, option_copied, option_map};
+ghost use Rattle.std.specs.Prelude.{◌≡◌, ◌<◌, ◌^◌, ◌∷◌, IfOk, IfSome, OnOk, None, Some, if◌then◌else◌, option_copied, option_map};
 ghost use Rattle.sp_rules.specs.Behaviours.{Create, Put};
 ghost use Rattle.sp_rules.specs.Classes.{Classes, Setting, blank};
 ghost use Rattle.sp_rules.specs.LivingTasks.{after_op, is_full, next_object};
@@ -24,19 +24,18 @@ impl Owner {
     }
 
     /// Makes an object of a class under the next id, with fields that hold 0 or null. None, and nothing
-    /// happens, if no more objects may stand. An id would be 2^63 only after as many objects: it then is
-    /// out of memory.
+    /// happens, if no more objects may stand, or no id is left, as after 2^63 objects.
     pub fn create<C: ClassSet>(
         &mut self,
         classes: &C,
         class: ClassId,
     ) -> Result<Option<ObjId>, AllocError>
-        ensures id { IfOk result (λ id. (g : Setting) (s : State) → IsOwner g s self.old → id ≡ (if is_full s then None else Some (next_object s))) }
-        ensures made { OnOk result ((g : Setting) (s : State) → IsOwner g s self.old → C.tells classes.now g.classes → IsOwner g (after_op g (Create class) s) self.new) }
+        ensures id { IfOk result (λ id. (g : Setting) (s : State) → IsOwner g s self.old → s.objects_made < 2 ^ 63 → id ≡ (if is_full s then None else Some (next_object s))) }
+        ensures made { OnOk result ((g : Setting) (s : State) → IsOwner g s self.old → C.tells classes.now g.classes → s.objects_made < 2 ^ 63 → IsOwner g (after_op g (Create class) s) self.new) }
     {
         let fields = blanks_of(self.alloc, classes, class)?;
         if self.store.made() >= 1 << 63 {
-            return Err(AllocError);
+            return Ok(None);
         }
         self.store.create(class, fields)
     }

@@ -1,9 +1,10 @@
 -- An event of a lent task makes of it what it says, and leaves the others.
-use mathlib.Core.Path.{sym, subst, ◌∙◌}
-use Rattle.std.specs.Prelude.{◌≡◌, refl, ℕ, Option, None, Some}
+use mathlib.Core.Path.{sym, ap, subst, ◌∙◌}
+use Rattle.std.specs.Prelude.{◌≡◌, refl, ℕ, List, ◌∷◌, Option, None, Some}
 use Rattle.sp_rules.specs.Behaviours.{Op, Create, Get, Put, Call}
 use Rattle.sp_rules.specs.Classes.{Setting}
 use Rattle.sp_rules.specs.Events.{Event, Committed, Parked, GivenBack, Finished}
+use Rattle.sp_rules.specs.Lists.{with_some}
 use Rattle.sp_rules.specs.LivingTasks
 use Rattle.sp_rules.specs.Space
 use Rattle.sp_rules.specs.State.{State, Living, task_at, ready_at}
@@ -74,6 +75,23 @@ concluded g s e id found h = finish_event_keeps (framed (finds id found)) (Space
 pub lent_tasks_go_on : LentTasksGoOn
 unfolding Space.state_of
 lent_tasks_go_on g h e id t of is = concluded g (Space.state_of g h) e id (lent_after g (Space.state_of g h) e t) (happens g (Space.state_of g h) e id t of is)
+
+-- one that is not ready stays as it was
+unready : (P : State → Type 0) (o : Option Living) (s : State) (f : Living → State) → o ≡ None → P s → P (with_some o s f)
+unready P None s f is h = h
+unready P (Some t) s f is h = absurd (some-none t is)
+
+idle-stays : (g : Setting) (s : State) (e : Event) (id : ℕ) → lent_task e ≡ Some id → ready_at s id ≡ None → task_at (Space.happen g e s) id ≡ task_at s id
+unfolding Space.happen LivingTasks.commit LivingTasks.park_call LivingTasks.give_back LivingTasks.finish_task
+idle-stays g s (Committed task k op) id of is = unready (λ u. task_at u id ≡ task_at s id) (ready_at s task) s _ (ap (ready_at s) (some-same of) ∙ is) refl
+idle-stays g s (Parked task k) id of is = unready (λ u. task_at u id ≡ task_at s id) (ready_at s task) s _ (ap (ready_at s) (some-same of) ∙ is) refl
+idle-stays g s (GivenBack task k) id of is = unready (λ u. task_at u id ≡ task_at s id) (ready_at s task) s _ (ap (ready_at s) (some-same of) ∙ is) refl
+idle-stays g s (Finished task k) id of is = unready (λ u. task_at u id ≡ task_at s id) (ready_at s task) s _ (ap (ready_at s) (some-same of) ∙ is) refl
+idle-stays g s _ id of is = absurd (some-none id (sym of))
+
+pub idle_task_stays : (g : Setting) (h : List Event) (e : Event) (id : ℕ) → lent_task e ≡ Some id → ready_at (Space.state_of g h) id ≡ None → task_at (Space.state_of g (e ∷ h)) id ≡ task_at (Space.state_of g h) id
+unfolding Space.state_of
+idle_task_stays g h e id of is = concluded g (Space.state_of g h) e id (task_at (Space.state_of g h) id) (idle-stays g (Space.state_of g h) e id of is)
 
 -- ---- the others
 

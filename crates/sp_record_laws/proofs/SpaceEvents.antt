@@ -1,4 +1,4 @@
--- An event of the space leaves each task as it is, gives it one reply, or begins it.
+-- An event of the space leaves each task as it is, gives it one reply that fits, or begins it.
 use mathlib.Core.Path.{sym, ap, subst, ◌∙◌}
 use Rattle.std.proofs.Common.{arith, inl, inr}
 use Rattle.std.proofs.lemmas.Bool.{true≢false, eqb-true, eq-eqb}
@@ -13,58 +13,76 @@ use Rattle.sp_rules.specs.Laws.{AllOf}
 use Rattle.sp_rules.specs.Lists.{at_first}
 use Rattle.sp_rules.specs.LivingTasks
 use Rattle.sp_rules.specs.Space
-use Rattle.sp_rules.specs.State.{State, Living, Origin, OfRoot, OfCall, Request, Calls, LooksUp, Out, task_at}
+use Rattle.sp_rules.specs.State.{State, Living, Origin, Request, Asked, Calls, LooksUp, Tells, task_at}
 use Rattle.sp_rules.proofs.AllLemmas.{some-none}
+use Rattle.sp_rules.proofs.NumberLemmas.{Fresh}
 use Rattle.sp_rules.proofs.Stable.{new_row}
 use Rattle.sp_laws.specs.Waiting.{count, call_of}
 use Rattle.sp_laws.proofs.FlowRules.{Owed, Removed}
-use Rattle.sp_laws.proofs.WaitHistories.{no-fresh, waits-begin, waits-of}
-use Rattle.sp_laws.proofs.WaitLemmas.{asked_sum, owed_sum, waits_in, Waits, waits_flow, changed-at, changed-other, different}
-use Rattle.sp_call_laws.proofs.EventRules.{View, Flows, Begins, EventParts, IsFrom, is_finish, on_flow}
+use Rattle.sp_laws.proofs.WaitLemmas.{asked_sum, owed_sum, waits_in, Waits, changed-at, changed-other, different}
+use Rattle.sp_call_laws.proofs.EventRules.{View, Flows, Begins, EventParts, event_parts, is_ending, is_finish, on_flow}
 use Rattle.sp_call_laws.proofs.StartedLemmas.{find-more}
-use Rattle.sp_record_laws.specs.Changes.{lent_task, IsOfSpace, HasBegun, GoesOn, TasksGoOn}
+use Rattle.sp_record_laws.specs.Calls.{IsAtCall, IsFitting, StartsBy, point}
+use Rattle.sp_record_laws.specs.Changes.{lent_task, IsOfSpace, HasBegun, GoesOn}
+use Rattle.sp_record_laws.proofs.CallEvents.{EndsWith, Goes, IsAsked, IsKnown, Was, call_view, call_flow, call-begin, call-start, was-all}
 use Rattle.sp_record_laws.proofs.RowLemmas.{more-found}
+
+-- ---- what is known before
+
+-- A call among what is asked is the one at which its task stands, if that waits.
+abbrev pub AskedAs : Setting → List Living → Asked → Type 0
+AskedAs g ts (Calls number task fuel kind m) = (t : Living) → find (λ (u : Living). u.id == task) ts ≡ Some t → t.waits ≡ true → IsAtCall g (point g t) fuel kind
+AskedAs g ts (LooksUp number task name) = Unit {0}
+AskedAs g ts (Tells call group) = Unit {0}
+
+-- Each call that is asked is its task's, and what is parked fits what was asked and what was called.
+pub record Fitted (g : Setting) (s : State) : Type 0 where
+  pub asked : AllOf (λ (q : Request). AskedAs g s.tasks q.asked) s.requests
+  pub parked : AllOf (IsKnown g s) s.parked
 
 -- ---- what is kept
 
 -- the task of an id goes on from what it was before, and ids rise
-record Kept (g : Setting) (last id : ℕ) (before : Option Living) (made : ℕ) (ts : List Living) : Type 0 where
-  rises : last ≤ made
-  task : GoesOn g last before (find (λ (u : Living). u.id == id) ts)
+record Kept (g : Setting) (s : State) (e : Event) (id made : ℕ) (ts : List Living) : Type 0 where
+  rises : s.tasks_made ≤ made
+  task : GoesOn g s e (task_at s id) (find (λ (u : Living). u.id == id) ts)
 
 -- ---- the moves that change tasks
 
 -- a task begins
-begun : {g : Setting} {last id : ℕ} {before : Option Living} (s : State) (origin : Origin) (method : ℕ) (arguments : List Value) (fuel : ℕ) → Kept g last id before s.tasks_made s.tasks
-    → Kept g last id before (s.tasks_made + 1) (s.tasks ++ new_row g origin method arguments fuel s ∷ [])
-begun {g} {last} {id} {before} s origin method arguments fuel k = record { rises = let a : last ≤ s.tasks_made = k.rises in omega arith; task = by (find (λ (u : Living). u.id == id) s.tasks) refl k.task }
+begun : {g : Setting} {before : State} {e : Event} {id : ℕ} (s : State) (origin : Origin) (method : ℕ) (arguments : List Value) (fuel : ℕ) → StartsBy g before e origin method arguments → Kept g before e id s.tasks_made s.tasks
+    → Kept g before e id (s.tasks_made + 1) (s.tasks ++ new_row g origin method arguments fuel s ∷ [])
+begun {g} {before} {e} {id} s origin method arguments fuel at k =
+    record { rises = let a : before.tasks_made ≤ s.tasks_made = k.rises in omega arith; task = by (find (λ (u : Living). u.id == id) s.tasks) refl k.task }
   where
     row : Living
     row = new_row g origin method arguments fuel s
 
-    first : HasBegun g last row
-    first = record { above = let a : last ≤ s.tasks_made = k.rises in omega arith; ready = refl; given = refl; steps = refl; stands = refl }
+    first : HasBegun g before e row
+    first = record { above = let a : before.tasks_made ≤ s.tasks_made = k.rises in omega arith; starts = at; ready = refl; given = refl; steps = refl; stands = refl }
 
-    new : (o : Option Living) (b : Bool) → GoesOn g last o None → GoesOn g last o (cond b (Some row) None)
+    new : (o : Option Living) (b : Bool) → GoesOn g before e o None → GoesOn g before e o (cond b (Some row) None)
     new None true x = first
     new None false x = x
     new (Some t) b x = absurd x
 
-    by : (o : Option Living) → find (λ (u : Living). u.id == id) s.tasks ≡ o → GoesOn g last before o → GoesOn g last before (find (λ (u : Living). u.id == id) (s.tasks ++ row ∷ []))
-    by None e x = subst (GoesOn g last before) (sym (more-found (λ (u : Living). u.id == id) s.tasks row e)) (new before (row.id == id) x)
-    by (Some t) e x = subst (GoesOn g last before) (sym (find-more (λ (u : Living). u.id == id) s.tasks row t e)) x
+    by : (o : Option Living) → find (λ (u : Living). u.id == id) s.tasks ≡ o → GoesOn g before e (task_at before id) o → GoesOn g before e (task_at before id) (find (λ (u : Living). u.id == id) (s.tasks ++ row ∷ []))
+    by None f x = subst (GoesOn g before e (task_at before id)) (sym (more-found (λ (u : Living). u.id == id) s.tasks row f)) (new (task_at before id) (row.id == id) x)
+    by (Some t) f x = subst (GoesOn g before e (task_at before id)) (sym (find-more (λ (u : Living). u.id == id) s.tasks row t f)) x
 
--- a task that waits goes on with a reply
-answers : (g : Setting) (last : ℕ) (reply : Reply) (before : Option Living) (now : Living) → now.waits ≡ true → GoesOn g last before (Some now) → GoesOn g last before (Some (LivingTasks.after_reply g reply now))
-answers g last reply None now waits x = absurd (true≢false (sym waits ∙ x.ready))
-answers g last reply (Some t) now waits (inl same) = inr (record { waited = sym (ap (λ (u : Living). u.waits) same) ∙ waits; reply = reply; goes_on = ap (LivingTasks.after_reply g reply) same })
-answers g last reply (Some t) now waits (inr x) = absurd (true≢false (sym waits ∙ ap (λ (u : Living). u.waits) x.goes_on))
+-- a task that waits goes on with a reply that fits
+answers : (g : Setting) (s : State) (e : Event) (reply : Reply) (before : Option Living) (now : Living) → now.waits ≡ true → ((t : Living) → before ≡ Some t → t ≡ now → IsFitting g t reply) → GoesOn g s e before (Some now)
+    → GoesOn g s e before (Some (LivingTasks.after_reply g reply now))
+answers g s e reply None now waits fits x = absurd (true≢false (sym waits ∙ x.ready))
+answers g s e reply (Some t) now waits fits (inl same) =
+    inr (record { waited = sym (ap (λ (u : Living). u.waits) same) ∙ waits; reply = reply; fits = fits t refl (sym same); goes_on = ap (LivingTasks.after_reply g reply) same })
+answers g s e reply (Some t) now waits fits (inr x) = absurd (true≢false (sym waits ∙ ap (λ (u : Living). u.waits) x.goes_on))
 
--- A call that is under way is of a task that waits.
-replied : {g : Setting} {last id : ℕ} {before : Option Living} {l : List Owed} {s : State} (peer : Uuid) (number task lent : ℕ) (kind : Kind) (m : Message) (reply : Reply) (now : Living)
-    → task_at s task ≡ Some now → Waits (Removed peer (Calls number task lent kind m) ∷ l) s → Kept g last id before s.tasks_made s.tasks
-    → Kept g last id before s.tasks_made (at_first (λ (u : Living). u.id == task) (LivingTasks.after_reply g reply) s.tasks)
-replied {g} {last} {id} {before} {l} {s} peer number task lent kind m reply now is w k = record { rises = k.rises; task = by (task == id) refl }
+-- A call that is under way is of a task that waits, and was asked before.
+replied : {g : Setting} {before : State} {e : Event} {id : ℕ} {l : List Owed} {s : State} (peer : Uuid) (number task fuel : ℕ) (kind : Kind) (m : Message) (reply : Reply) (now : Living) → Fitted g before → EndsWith g before e (Calls number task fuel kind m) reply
+    → IsAsked g before e (Calls number task fuel kind m) → task_at s task ≡ Some now → Waits (Removed peer (Calls number task fuel kind m) ∷ l) s → Kept g before e id s.tasks_made s.tasks
+    → Kept g before e id s.tasks_made (at_first (λ (u : Living). u.id == task) (LivingTasks.after_reply g reply) s.tasks)
+replied {g} {before} {e} {id} {l} {s} peer number task fuel kind m reply now fitted may asked is w k = record { rises = k.rises; task = by (task == id) refl }
   where
     is-one : (b : Bool) → 1 ≤ count b → b ≡ true
     is-one true le = refl
@@ -76,14 +94,26 @@ replied {g} {last} {id} {before} {l} {s} peer number task lent kind m reply now 
         let b : waits_in (task_at s task) ≡ count now.waits = ap waits_in is in
         let c : count (task == task) ≡ 1 = ap count (eq-eqb task task refl) in is-one now.waits (omega arith)
 
-    by : (b : Bool) → (task == id) ≡ b → GoesOn g last before (find (λ (u : Living). u.id == id) (at_first (λ (u : Living). u.id == task) (LivingTasks.after_reply g reply) s.tasks))
-    by true e =
-        let here : task ≡ id = eqb-true task id e in
+    was : IsAsked g before e (Calls number task fuel kind m) → Was before.requests (Calls number task fuel kind m)
+    was (inl x) = x
+    was (inr x) = absurd (true≢false (sym may.0 ∙ ap is_ending x.1.is))
+
+    fits : task ≡ id → (t : Living) → task_at before id ≡ Some t → t ≡ now → IsFitting g t reply
+    fits here t there same = record {
+      fuel = fuel;
+      kind = kind;
+      at = was-all (AskedAs g before.tasks) before.requests (Calls number task fuel kind m) fitted.asked (was asked) t (ap (task_at before) here ∙ there) (ap (λ (u : Living). u.waits) same ∙ waits);
+      fits = may.1 (was asked);
+    }
+
+    by : (b : Bool) → (task == id) ≡ b → GoesOn g before e (task_at before id) (find (λ (u : Living). u.id == id) (at_first (λ (u : Living). u.id == task) (LivingTasks.after_reply g reply) s.tasks))
+    by true x =
+        let here : task ≡ id = eqb-true task id x in
         let found : find (λ (u : Living). u.id == id) s.tasks ≡ Some now = subst (λ n. find (λ (u : Living). u.id == n) s.tasks ≡ Some now) here is in
         let set : find (λ (u : Living). u.id == id) (at_first (λ (u : Living). u.id == task) (LivingTasks.after_reply g reply) s.tasks) ≡ Some (LivingTasks.after_reply g reply now) =
         subst (λ n. find (λ (u : Living). u.id == n) (at_first (λ (u : Living). u.id == task) (LivingTasks.after_reply g reply) s.tasks) ≡ Some (LivingTasks.after_reply g reply now)) here (changed-at (LivingTasks.after_reply g reply) (λ u. refl) task s.tasks now is) in
-        subst (GoesOn g last before) (sym set) (answers g last reply before now waits (subst (GoesOn g last before) found k.task))
-    by false e = subst (GoesOn g last before) (sym (changed-other (LivingTasks.after_reply g reply) (λ u. refl) task id (different task id e) s.tasks)) k.task
+        subst (GoesOn g before e (task_at before id)) (sym set) (answers g before e reply (task_at before id) now waits (fits here) (subst (GoesOn g before e (task_at before id)) found k.task))
+    by false x = subst (GoesOn g before e (task_at before id)) (sym (changed-other (LivingTasks.after_reply g reply) (λ u. refl) task id (different task id x) s.tasks)) k.task
 
 -- ---- events of the space
 
@@ -98,109 +128,92 @@ never-works (Committed task k op) of lent = some-none task of
 never-works (GivenBack task k) of lent = some-none task of
 never-works _ of lent = true≢false lent
 
-abbrev view : Setting → Event → ℕ → ℕ → Option Living → View
-view g e last id before = record {
+abbrev view : Setting → State → Event → ℕ → View
+view g before e id = record {
   setting = g;
   event = e;
   Dialled = λ c d. Unit {0};
   Answers = λ c m. Unit {0};
-  Known = λ p. Unit {0};
-  Fails = λ c. Unit {0};
-  Ends = λ asked reply. Unit {0};
-  Keeps = λ l s. Waits l s × Kept g last id before s.tasks_made s.tasks;
+  Known = IsKnown g before;
+  Fails = (call_view g before e).Fails;
+  Ends = EndsWith g before e;
+  Starts = StartsBy g before e;
+  Keeps = λ l s. (Waits l s × Goes g before e l (event_parts s)) × Kept g before e id s.tasks_made s.tasks;
 }
 
-all-unit : {A : Type 0} (xs : List A) → AllOf (λ (x : A). Unit {0}) xs
-all-unit [] = tt
-all-unit (x ∷ xs) = (tt, all-unit xs)
-
-all-from : (g : Setting) (e : Event) (last id : ℕ) (before : Option Living) (ts : List Living) → AllOf (λ (u : Living). IsFrom (view g e last id before) u.origin) ts
-all-from g e last id before [] = tt
-all-from g e last id before (u ∷ ts) = (one u.origin, all-from g e last id before ts)
-  where
-    one : (o : Origin) → IsFrom (view g e last id before) o
-    one OfRoot = tt
-    one (OfCall c n) = tt
-
-goes_flow : (g : Setting) (e : Event) → IsOfSpace e → (last id : ℕ) (before : Option Living) → Flows (view g e last id before)
-goes_flow g e of last id before = record {
-  known = λ l s k. all-unit s.parked;
-  dialled = λ l s k. all-unit s.connections;
-  origins = λ l s k. all-from g e last id before s.tasks;
-  sided = λ p a. tt;
-  fails = λ asked class a. tt;
-  gives = λ p value fuel asked is a b c. tt;
-  refuses = λ c n class is. tt;
-  finds = λ c n name r is own. tt;
-  quiet = λ l s u eq k. (
-    W.quiet l s u (ap (λ (c : EventParts). record { calls_made = c.calls_made; tasks_made = c.tasks_made; tasks = c.tasks; requests = c.requests; fresh = c.fresh; results = c.results; connections = c.connections; parked = c.parked }) eq) k.0,
-    subst (λ (c : EventParts). Kept g last id before c.tasks_made c.tasks) (sym eq) k.1,
-  );
-  says = λ l s output is so k. (W.quiet l s _ refl k.0, k.1);
-  sends = λ l s turn c m may held k. (W.quiet l s _ refl k.0, k.1);
-  clears = λ s k. (W.quiet [] s _ refl k.0, k.1);
-  adds = λ l s q k. (W.adds l s q k.0, k.1);
-  calls_out = λ l s turn c peer n task lent kind m there k.
-      let q : Request = record { peer = peer; asked = Calls n task lent kind m; stage = Out c 0 } in (W.quiet l (record s { requests = s.requests ++ q ∷ [] }) _ refl (W.adds l s q k.0), k.1);
-  looks_out = λ l s turn c peer n task name there k.
-      let q : Request = record { peer = peer; asked = LooksUp n task name; stage = Out c 0 } in (W.quiet l (record s { requests = s.requests ++ q ∷ [] }) _ refl (W.adds l s q k.0), k.1);
-  tells = λ l s q call group eq k. (W.tells l s q call group eq k.0, k.1);
-  told = λ l s peer call group k. (W.told l s peer call group k.0, k.1);
-  unfresh = λ l s k. (W.unfresh l s k.0, k.1);
-  removes = λ l s is k. (W.removes l s is k.0, k.1);
-  sorts = λ l s is rs k. (W.sorts l s is rs k.0, k.1);
-  removes_one = λ l s finds is n q eq passes has k. (W.removes_one l s finds is n q eq passes has k.0, k.1);
-  removes_told = λ l s dirty c sequence k. (W.removes_told l s dirty c sequence k.0, k.1);
-  answers = λ l s c n k. (W.answers l s c n k.0, k.1);
-  begins = λ l s origin method arguments fuel going k. (W.begins l s origin method arguments fuel k.0, begun s origin method arguments fuel k.1);
+goes_flow : (g : Setting) (before : State) (e : Event) → IsOfSpace e → Fitted g before → (id : ℕ) → Flows (view g before e id)
+goes_flow g before e of fitted id = record {
+  known = λ l s k. F.known l s k.0;
+  dialled = λ l s k. F.dialled l s k.0;
+  origins = λ l s k. F.origins l s k.0;
+  sided = F.sided;
+  fails = F.fails;
+  starts = λ l s p target method fuel arguments o n going k known is stands finds. F.starts l s p target method fuel arguments o n going k.0 known is stands finds;
+  gives = F.gives;
+  refuses = F.refuses;
+  finds = F.finds;
+  quiet = λ l s u eq k. (F.quiet l s u eq k.0, subst (λ (c : EventParts). Kept g before e id c.tasks_made c.tasks) (sym eq) k.1);
+  says = λ l s output is so k. (F.says l s output is so k.0, k.1);
+  sends = λ l s turn c m may held k. (F.sends l s turn c m may held k.0, k.1);
+  clears = λ s k. (F.clears s k.0, k.1);
+  stores = λ l s store is k. (F.stores l s store is k.0, k.1);
+  adds = λ l s q k. (F.adds l s q k.0, k.1);
+  calls_out = λ l s turn c peer n task fuel kind m there k. (F.calls_out l s turn c peer n task fuel kind m there k.0, k.1);
+  looks_out = λ l s turn c peer n task name there k. (F.looks_out l s turn c peer n task name there k.0, k.1);
+  tells = λ l s q call group eq k. (F.tells l s q call group eq k.0, k.1);
+  told = λ l s peer call group k. (F.told l s peer call group k.0, k.1);
+  unfresh = λ l s k. (F.unfresh l s k.0, k.1);
+  removes = λ l s is k. (F.removes l s is k.0, k.1);
+  sorts = λ l s is rs k. (F.sorts l s is rs k.0, k.1);
+  removes_one = λ l s finds is n q eq passes has k. (F.removes_one l s finds is n q eq passes has k.0, k.1);
+  removes_told = λ l s dirty c sequence k. (F.removes_told l s dirty c sequence k.0, k.1);
+  answers = λ l s c n k. (F.answers l s c n k.0, k.1);
+  begins = λ l s origin method arguments fuel going at k. (F.begins l s origin method arguments fuel going at k.0, begun s origin method arguments fuel at k.1);
   ends = λ l s task t over is k. absurd (never-finishes e of over);
-  replies = λ l s peer n task lent kind m reply t may is k. (W.replies l s peer n task lent kind m reply t is k.0, replied peer n task lent kind m reply t is k.0 k.1);
-  replies_none = λ l s peer n task lent kind m is k. (W.replies_none l s peer n task lent kind m is k.0, k.1);
-  looked_up = λ l s peer n task name reply may k. (W.quiet l s _ refl (W.looked_up l s peer n task name k.0), k.1);
+  replies = λ l s peer n task fuel kind m reply t may is k. (F.replies l s peer n task fuel kind m reply t may is k.0, replied peer n task fuel kind m reply t fitted may k.0.1.owed.0 is k.0.0 k.1);
+  replies_none = λ l s peer n task fuel kind m is k. (F.replies_none l s peer n task fuel kind m is k.0, k.1);
+  looked_up = λ l s peer n task name reply may k. (F.looked_up l s peer n task name reply may k.0, k.1);
   works = λ l s task t f lent row ready is k. absurd (never-works e of lent);
-  keeps = λ l s until value k. (W.keeps l s until value k.0, k.1);
-  results_go = λ l s is goes k. (W.results_go l s is k.0, k.1);
-  falls = λ l s c n k. (W.falls l s c n k.0, k.1);
-  row = λ l s c f a b d k. (W.row l s c f a b d k.0, k.1);
-  counts = λ l s c n d there is low k. (W.counts l s c n d is low k.0, k.1);
-  parks_call = λ l s p going known is k. (W.parks_call l s p is k.0, k.1);
-  parks_result = λ l s p known is k. (W.parks_result l s p is k.0, k.1);
-  takes = λ l s p k. (W.takes l s p k.0, k.1);
-  takes_call = λ l s p q is call k. (W.takes_call l s p q is call k.0, k.1);
-  closes = λ l s c why k. (W.closes l s c k.0, k.1);
+  keeps = λ l s until value k. (F.keeps l s until value k.0, k.1);
+  results_go = λ l s is goes k. (F.results_go l s is goes k.0, k.1);
+  falls = λ l s c n k. (F.falls l s c n k.0, k.1);
+  row = λ l s c f a b d k. (F.row l s c f a b d k.0, k.1);
+  counts = λ l s c n d there is low k. (F.counts l s c n d there is low k.0, k.1);
+  parks_call = λ l s p going known is k. (F.parks_call l s p going known is k.0, k.1);
+  parks_result = λ l s p known is k. (F.parks_result l s p known is k.0, k.1);
+  takes = λ l s p k. (F.takes l s p k.0, k.1);
+  takes_call = λ l s p q is call k. (F.takes_call l s p q is call k.0, k.1);
+  closes = λ l s c why k. (F.closes l s c why k.0, k.1);
 }
   where
-    W : Rattle.sp_laws.proofs.FlowRules.Flows g Waits
-    W = waits_flow g
+    F : Flows (call_view g before e)
+    F = call_flow g before e
 
-goes-begin : (g : Setting) (s : State) (e : Event) → IsOfSpace e → (last id : ℕ) (before : Option Living) → s.fresh ≡ [] → Begins (view g e last id before) s
-goes-begin g s e of last id before none = record {
+goes-begin : (g : Setting) (s : State) (e : Event) → IsOfSpace e → (id : ℕ) → s.fresh ≡ [] → Waits [] s → Fresh s → Begins (view g s e id) s
+goes-begin g s e of id none waits numbers = record {
   opens = λ c dialled is k. (B.opens c dialled is k.0, k.1);
   parks = λ task n t target method arguments is ready stands k. absurd (some-none task (sym (ap lent_task is) ∙ of));
-  looks = λ peer name is k. (B.looks peer name is k.0, record { rises = let a : last ≤ s.tasks_made = k.1.rises in omega arith; task = k.1.task });
-  unmarshal = λ is. tt;
-  connect = λ is. tt;
-  marshal = λ is. tt;
-  threw = λ c n class is q found has. tt;
-  spent = λ c n is q found has. tt;
-  finished = λ task n t outcome c m is ready stands origin. tt;
-  call_came = λ p is there. tt;
-  result_came = λ p value fuel is frame there q found. tt;
+  looks = λ peer name is k. (B.looks peer name is k.0, record { rises = let a : s.tasks_made ≤ s.tasks_made = k.1.rises in omega arith; task = k.1.task });
+  roots = B.roots;
+  unmarshal = B.unmarshal;
+  connect = B.connect;
+  marshal = B.marshal;
+  threw = B.threw;
+  spent = B.spent;
+  finished = B.finished;
+  call_came = B.call_came;
+  result_came = B.result_came;
 }
   where
-    B : Rattle.sp_laws.proofs.FlowRules.Begins g Waits s e
-    B = waits-begin g s e none
+    B : Begins (call_view g s e) s
+    B = call-begin g s e none waits numbers
 
--- ---- as the law says it
+stays : (g : Setting) (s : State) (e : Event) (o : Option Living) → GoesOn g s e o o
+stays g s e None = tt
+stays g s e (Some t) = inl refl
 
-stays : (g : Setting) (last : ℕ) (o : Option Living) → GoesOn g last o o
-stays g last None = tt
-stays g last (Some t) = inl refl
-
-after-event : (g : Setting) (s : State) (e : Event) (id : ℕ) → IsOfSpace e → s.fresh ≡ [] → Waits [] s → GoesOn g s.tasks_made (task_at s id) (task_at (Space.on g e s).0 id)
-after-event g s e id of none waits =
-    (on_flow (goes_flow g e of s.tasks_made id (task_at s id)) s (goes-begin g s e of s.tasks_made id (task_at s id) none) (waits, record { rises = omega arith; task = stays g s.tasks_made (task_at s id) })).1.task
-
-pub tasks_go_on : TasksGoOn
-unfolding Space.state_of
-tasks_go_on g h e id of = after-event g (Space.state_of g h) e id of (no-fresh g h) (waits-of g h)
+-- in a state of which that is known
+pub goes-after : (g : Setting) (s : State) (e : Event) (id : ℕ) → IsOfSpace e → s.fresh ≡ [] → Waits [] s → Fresh s → Fitted g s → GoesOn g s e (task_at s id) (task_at (Space.on g e s).0 id)
+goes-after g s e id of none waits numbers fitted =
+    (on_flow (goes_flow g s e of fitted id) s (goes-begin g s e of id none waits numbers)
+    (call-start g s e none waits fitted.parked, record { rises = omega arith; task = stays g s e (task_at s id) })).1.task

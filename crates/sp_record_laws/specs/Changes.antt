@@ -7,6 +7,7 @@ use Rattle.sp_rules.specs.LivingTasks.{after_steps, after_reply, op_reply, waiti
 use Rattle.sp_rules.specs.Space.{state_of}
 use Rattle.sp_rules.specs.State.{State, Living, task_at, ready_at}
 use Rattle.sp_rules.specs.Tasks.{Stand, Runs, AsksFor, HasEnded, start, stand, steps}
+use Rattle.sp_record_laws.specs.Calls.{IsFitting, StartsBy}
 
 -- ---- events of lent tasks, and of the space
 
@@ -23,31 +24,33 @@ IsOfSpace e = lent_task e ≡ None
 
 -- ---- what an event of the space makes of tasks
 
--- a task that waited goes on with one reply
+-- a task that waited goes on with one reply, which fits the call at which it stands
 pub record IsAnswered (g : Setting) (before after : Living) : Type 0 where
   pub waited : before.waits ≡ true
   pub reply : Reply
+  pub fits : IsFitting g before reply
   pub goes_on : after ≡ after_reply g reply before
 
--- a task has just begun, and its id is above the last that was given
-pub record HasBegun (g : Setting) (last : ℕ) (task : Living) : Type 0 where
-  pub above : last + 1 ≤ task.id
+-- An event begins a task in a state, and its id is above the last that was given.
+pub record HasBegun (g : Setting) (s : State) (e : Event) (task : Living) : Type 0 where
+  pub above : s.tasks_made + 1 ≤ task.id
+  pub starts : StartsBy g s e task.origin task.began.method task.began.arguments
   pub ready : task.waits ≡ false
   pub given : task.given ≡ []
   pub steps : task.steps ≡ 0
   pub stands : task.task ≡ start g task.began.method task.began.arguments task.began.fuel
 
--- What became of the task of an id, if the last id that was given is this one. None ends.
-abbrev pub GoesOn : Setting → ℕ → Option Living → Option Living → Type 0
-GoesOn g last None None = Unit {0}
-GoesOn g last None (Some after) = HasBegun g last after
-GoesOn g last (Some before) None = ⊥
-GoesOn g last (Some before) (Some after) = (after ≡ before) ⊎ IsAnswered g before after
+-- What an event makes in a state of the task of an id. None ends.
+abbrev pub GoesOn : Setting → State → Event → Option Living → Option Living → Type 0
+GoesOn g s e None None = Unit {0}
+GoesOn g s e None (Some after) = HasBegun g s e after
+GoesOn g s e (Some before) None = ⊥
+GoesOn g s e (Some before) (Some after) = (after ≡ before) ⊎ IsAnswered g before after
 
 -- This holds of each event of the space, after every history.
 abbrev pub TasksGoOn : Type 0
 TasksGoOn = (g : Setting) (h : List Event) (e : Event) (id : ℕ) → IsOfSpace e
-    → GoesOn g (state_of g h).tasks_made (task_at (state_of g h) id) (task_at (state_of g (e ∷ h)) id)
+    → GoesOn g (state_of g h) e (task_at (state_of g h) id) (task_at (state_of g (e ∷ h)) id)
 
 -- ---- what an event of a lent task makes of it
 

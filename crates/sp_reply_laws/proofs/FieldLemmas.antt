@@ -1,6 +1,6 @@
--- What a field of a standing object is: a value of its kind, and if it is a reference, one to a standing object of a remote class.
+-- What a field of a standing object is: a value of its kind, and if it is a reference, one of a remote class.
 use mathlib.Core.Path.{sym, ap, subst, ◌∙◌}
-use Rattle.std.specs.Prelude.{◌≡◌, refl, ℕ, zero, suc, ◌<◌, ◌==◌, ◌||◌, Bool, true, false, length, List, [], ◌∷◌, ◌++◌, Option, None, Some, map, unwrap_or, if◌then◌else◌}
+use Rattle.std.specs.Prelude.{◌≡◌, refl, ℕ, zero, suc, ◌<◌, ◌==◌, ◌||◌, Bool, true, false, length, List, [], ◌∷◌, ◌++◌, Option, None, Some, map, unwrap_or}
 use Rattle.std.specs.List.{list_any}
 use Rattle.std.specs.Str.{bytes_eq}
 use Rattle.std.proofs.Common.{arith}
@@ -15,14 +15,14 @@ use Rattle.sp_rules.specs.Classes.{Setting, Kind, blank, fits_kind, fits_field, 
 use Rattle.sp_rules.specs.Holders.{class_is, field, fields_of}
 use Rattle.sp_rules.specs.Laws.{AllOf}
 use Rattle.sp_rules.specs.Lists.{numbers_below}
-use Rattle.sp_rules.specs.Origins.{IsRight, OwnStand}
-use Rattle.sp_rules.specs.References.{references_of, reference_of, foreign_ids, is_id, is_same_reference, is_reference_in}
+use Rattle.sp_rules.specs.Origins.{IsRight}
+use Rattle.sp_rules.specs.References.{references_of, reference_of, is_id, is_same_reference, is_reference_in}
 use Rattle.sp_rules.specs.Space.{state_of}
 use Rattle.sp_rules.specs.State.{State, Living, Object, object_at, standing, last_written}
 use Rattle.sp_rules.proofs.AllLemmas.{all-found, found-is}
 use Rattle.sp_rules.proofs.OwnLemmas.{and-left, and-right, own_references_stand}
 use Rattle.sp_rules.proofs.SweepLemmas.{one-id}
-use Rattle.sp_reply_laws.specs.Stores.{StoreFits, HeldObjectsStand}
+use Rattle.sp_reply_laws.specs.Stores.{StoreFits, HeldObjectsStand, AreOfRemote, IsOfRemote}
 
 -- ---- references in lists
 
@@ -30,7 +30,7 @@ all-join : (P : Ref → Type 0) (xs ys : List Ref) → AllOf P xs → AllOf P ys
 all-join P [] ys a b = b
 all-join P (x ∷ xs) ys a b = (a.0, all-join P xs ys a.1 b)
 
-all-split : (P : Ref → Type 0) (xs ys : List Ref) → AllOf P (xs ++ ys) → AllOf P xs × AllOf P ys
+pub all-split : (P : Ref → Type 0) (xs ys : List Ref) → AllOf P (xs ++ ys) → AllOf P xs × AllOf P ys
 all-split P [] ys a = (tt, a)
 all-split P (x ∷ xs) ys a = let b : AllOf P xs × AllOf P ys = all-split P xs ys a.1 in ((a.0, b.0), b.1)
 
@@ -53,19 +53,6 @@ slot-in P f (suc n) slot lt a = pick (slot == n) refl (slot-in P f n slot) (slot
         → AllOf P (references_of (map f (numbers_below n))) × AllOf P (reference_of (f n)) → AllOf P (reference_of (f slot))
     pick true is rest parts = subst (λ k. AllOf P (reference_of (f k))) (sym (eqb-true slot n is)) parts.1
     pick false is rest parts = rest (less (λ e. true≢false (sym (eq-eqb slot n e) ∙ is))) parts.0
-
-no-cons : {A : Type 0} (x : A) (xs : List A) → x ∷ xs ≡ [] → ⊥
-no-cons x xs e = cc
-
--- references among which there is none of another space are own
-own-all : (own : Uuid) (refs : List Ref) → foreign_ids own refs ≡ [] → AllOf (λ (r : Ref). bytes_eq r.space own ≡ true) refs
-own-all own [] e = tt
-own-all own (r ∷ refs) e = pick (bytes_eq r.space own) refl e (own-all own refs)
-  where
-    pick : (b : Bool) → bytes_eq r.space own ≡ b → (if b then [] else record { space = r.space; id = r.id } ∷ []) ++ foreign_ids own refs ≡ []
-        → (foreign_ids own refs ≡ [] → AllOf (λ (x : Ref). bytes_eq x.space own ≡ true) refs) → (bytes_eq r.space own ≡ true) × AllOf (λ (x : Ref). bytes_eq x.space own ≡ true) refs
-    pick true is f rest = (is, rest f)
-    pick false is f rest = absurd (no-cons (record { space = r.space; id = r.id }) (foreign_ids own refs) f)
 
 same-reference : (a b : Ref) → is_same_reference a b ≡ true → a ≡ b
 same-reference a b e =
@@ -102,19 +89,11 @@ held_objects_stand g h id t r taken is among own =
 
 -- ---- fields
 
--- an own reference of a class whose objects may be made
-abbrev pub IsKept : Setting → Ref → Type 0
-IsKept g r = (bytes_eq r.space g.id ≡ true) × (g.classes.is_remote r.class ≡ true)
-
--- no field holds a reference to another space's object
-abbrev pub AreAlone : Setting → State → Type 0
-AreAlone g s = AllOf (λ (o : Object). foreign_ids g.id (references_of (fields_of g s o)) ≡ []) (standing s.store)
-
 -- what a Get gives
 abbrev pub value-of : Setting → State → ObjId → ℕ → Object → Value
 value-of g s id slot o = unwrap_or (last_written s.store id slot) (blank (field_kind g.classes o.class slot))
 
-module _ (g : Setting) (s : State) (fits : StoreFits g s) (own : OwnStand g s) (alone : AreAlone g s) (id : ObjId) (o : Object) (there : object_at s id ≡ Some o) (slot : ℕ) (kind : Kind) (is : field_kind g.classes o.class slot ≡ Some kind) where
+module _ (g : Setting) (s : State) (fits : StoreFits g s) (remote : AreOfRemote g s) (id : ObjId) (o : Object) (there : object_at s id ≡ Some o) (slot : ℕ) (kind : Kind) (is : field_kind g.classes o.class slot ≡ Some kind) where
   -- it is of the field's kind
   pub of-kind : fits_kind kind (blank (Some kind)) ≡ true → fits_kind kind (value-of g s id slot o) ≡ true
   of-kind begins = by (last_written s.store id slot) refl
@@ -132,18 +111,6 @@ module _ (g : Setting) (s : State) (fits : StoreFits g s) (own : OwnStand g s) (
   in-field : (P : Ref → Type 0) → AllOf P (references_of (fields_of g s o)) → AllOf P (reference_of (value-of g s id slot o))
   in-field P a = subst (λ i. AllOf P (reference_of (value-of g s i slot o))) same (slot-in P (field g s o) (length (g.classes.fields o.class)) slot inside a)
 
-  owned : AllOf (λ (r : Ref). bytes_eq r.space g.id ≡ true) (reference_of (value-of g s id slot o))
-  owned = in-field (λ (r : Ref). bytes_eq r.space g.id ≡ true) (own-all g.id (references_of (fields_of g s o))
-      (all-found (λ (q : Object). foreign_ids g.id (references_of (fields_of g s q)) ≡ []) (λ (q : Object). is_id q.id id) (standing s.store) o there alone))
-
-  right : AllOf (IsRight g s) (reference_of (value-of g s id slot o))
-  right = in-field (IsRight g s) (all-found (λ (q : Object). AllOf (IsRight g s) (references_of (fields_of g s q))) (λ (q : Object). is_id q.id id) (standing s.store) o there own.fields)
-
-  -- a reference in it is own, and of a remote class
-  pub kept : AllOf (IsKept g) (reference_of (value-of g s id slot o))
-  kept = Rattle.sp_rules.proofs.AllLemmas.all-with (λ (r : Ref). bytes_eq r.space g.id ≡ true) (IsRight g s) (IsKept g) (reference_of (value-of g s id slot o)) (λ r mine names. (mine, class r (names mine))) owned right
-    where
-      class : (r : Ref) → class_is r.class (object_at s r.id) ≡ true → g.classes.is_remote r.class ≡ true
-      class r names =
-          let x : (p : Object) × (object_at s r.id ≡ Some p) × (p.class ≡ r.class) = found s r.id r.class names in
-          subst (λ c. g.classes.is_remote c ≡ true) x.2 (fits.remote r.id x.0 x.1)
+  -- a reference in it is of a remote class
+  pub kept : AllOf (IsOfRemote g) (reference_of (value-of g s id slot o))
+  kept = in-field (IsOfRemote g) (all-found (λ (q : Object). AllOf (IsOfRemote g) (references_of (fields_of g s q))) (λ (q : Object). is_id q.id id) (standing s.store) o there remote.fields)

@@ -1,5 +1,11 @@
 mod StoreRules
 mod StoreLemmas
 mod FieldLemmas
-mod RemoteLemmas
-mod ReplyLemmas
+pub mod RemoteLemmas
+mod ReferenceLemmas
+pub mod ReplyLemmas
+pub mod SetLemmas
+pub mod CrossingLemmas
+mod NamedLemmas
+pub mod TakenLemmas
+pub mod StartLemmas

@@ -35,7 +35,7 @@ use Rattle.ver_frames.specs.declared.vtype.VType.TheVariants as vtype
 use Rattle.vm_world.specs.Files.{own_types, types_of, types_up}
 use Rattle.sp_reply_laws.specs.Told.{CanBeHeld, RemoteFieldsAreHeld}
 
-abbrev remote_name : List ℕ
+abbrev pub remote_name : List ℕ
 remote_name = codes "java/rmi/Remote"
 
 all-at : {A : Type 0} (P : A → Type 0) (xs : List A) (i : ℕ) (x : A) → AllOf P xs → slice_get xs i ≡ Some x → P x
@@ -64,7 +64,7 @@ module _ (classes : List Class) where
   stable (vtype.Uninitialized offset) never = absurd (never (λ x. x))
   stable vtype.UninitializedThis never = absurd (never (λ x. x))
 
-  plain : (type : FieldType) → type.dimensions ≡ 0 → field_vtype classes type ≡ element_type classes type.element
+  pub plain : (type : FieldType) → type.dimensions ≡ 0 → field_vtype classes type ≡ element_type classes type.element
   unfolding field_vtype
   plain type e = ap (λ (n : ℕ). if n == 0 then element_type classes type.element else (if (n == 1) && is_int type.element then vtype.IntArray else vtype.Top)) e
 
@@ -87,49 +87,73 @@ module _ (classes : List Class) where
       on true e others = (held f (0, omega arith, refl) e, others)
       on false e others = others
 
--- ---- sets of files that keep the rule on the fields of remote classes
+-- ---- sets of files: what files name is the class of that name
 
-module _ (files : List ClassFile) (classes : List Class) (has : HasClasses files classes) (set : IsClassSet classes) (kept : IsKept files RemoteField) where
+-- the class itself, or one of its supertypes
+abbrev pub Above : List Class → ClassId → ClassId → Type 0
+Above classes class u = (class ≡ u) ⊎ IsProperSubtype classes class u
+
+module _ (files : List ClassFile) (classes : List Class) (has : HasClasses files classes) (set : IsClassSet classes) where
   back : (o : Origin) → Contains (map origin classes) o → Contains (origins files) o
   back o among = Contains-permutation (map origin classes) (origins files) o (IsPermutation-sym (origins files) (map origin classes) has) among
 
-  forth : (o : Origin) → Contains (origins files) o → Contains (map origin classes) o
+  pub forth : (o : Origin) → Contains (origins files) o → Contains (map origin classes) o
   forth o among = Contains-permutation (origins files) (map origin classes) o has among
 
-  stands : (i : ℕ) (c : Class) → slice_get classes i ≡ Some c → Contains (origins files) (origin c)
+  pub stands : (i : ℕ) (c : Class) → slice_get classes i ≡ Some c → Contains (origins files) (origin c)
   stands i c e =
       let h = slice_get_within classes i c e in
       back (origin c) (i, subst (λ n. i < n) (sym (length-map classes origin)) h, get_or-map origin classes i c (origin c) h ∙ ap origin (same_some (sym (slice_get-get_or classes i c h) ∙ e)))
 
-  -- a class that is remote is below java/rmi/Remote
-  below : (class : ClassId) (c : Class) → slice_get classes class.0 ≡ Some c → (is : IsRemote classes class) → IsBelowRemote (origins files) c.file.name
-  below class c e is =
+  -- a class that is java/rmi/Remote by number, or below it, is so by name
+  pub below : (class : ClassId) (c : Class) (remote : ClassId) → slice_get classes class.0 ≡ Some c → number_of classes remote_name ≡ Some remote → types.IsSubtype classes class remote → IsBelowRemote (origins files) c.file.name
+  below class c remote e found sub =
       let here : slice_get (names classes) class.0 ≡ Some c.file.name = class_named classes set.ordered set.resolved class.0 c e in
-      let named : slice_get (names classes) is.remote.0 ≡ Some remote_name = name_at_number classes remote_name is.remote is.named in
-      elim (proper_of_subtype classes class is.remote is.implements) [
+      let named : slice_get (names classes) remote.0 ≡ Some remote_name = name_at_number classes remote_name remote found in
+      elim (proper_of_subtype classes class remote sub) [
         | inl same ↦ inl (same_some (sym here ∙ (ap (λ (x : ClassId). slice_get (names classes) x.0) same ∙ named)))
         | inr under ↦
-            let y = by_name classes set.ordered set.resolved class is.remote c.file.name here under in
+            let y = by_name classes set.ordered set.resolved class remote c.file.name here under in
             let same : y.0 ≡ remote_name = same_some (sym y.1 ∙ named) in
             inr (more_named (map origin classes) (origins files) back c.file.name remote_name (subst (λ name. IsSupertypeByName (map origin classes) c.file.name name) same y.2))
       ]
 
+  pub upper : (class : ClassId) (k : Class) → slice_get classes class.0 ≡ Some k → (u : ClassId) (c : Class) → slice_get classes u.0 ≡ Some c → Above classes class u → IsItOrAbove (origins files) k.file c.file
+  upper class k found u c at (inl same) = inl (ap (λ (x : Class). x.file) (same_some (sym at ∙ (ap (λ (x : ClassId). slice_get classes x.0) (sym same) ∙ found))))
+  upper class k found u c at (inr p) =
+      let here : slice_get (names classes) class.0 ≡ Some k.file.name = class_named classes set.ordered set.resolved class.0 k found in
+      let y = by_name classes set.ordered set.resolved class u k.file.name here p in
+      let same : y.0 ≡ c.file.name = same_some (sym y.1 ∙ class_named classes set.ordered set.resolved u.0 c at) in
+      inr ((c.is_built_in, stands u.0 c at, refl), subst (λ name. IsSupertypeByName (origins files) k.file.name name) same (more_named (map origin classes) (origins files) back k.file.name y.0 y.2))
+
+  -- an interface of the set has this name
+  pub record IsNumbered (name : List ℕ) : Type 0 where
+    pub id : ClassId
+    pub number : number_of classes name ≡ Some id
+    pub c : Class
+    pub at : slice_get classes id.0 ≡ Some c
+    pub is : IsInterface c
+
   -- the class of a name that a remote interface has is that interface
-  interface_held : (name : List ℕ) → NamesRemoteInterface (origins files) name → CanBeHeld classes (element_type classes (elements.Class name))
-  unfolding element_type
-  interface_held name n =
+  pub numbered : (name : List ℕ) → NamesRemoteInterface (origins files) name → IsNumbered name
+  numbered name n =
       let b = n.named in
       let at = standing classes set.ordered set.resolved (n.interface, b.0) (forth (n.interface, b.0) b.1) in
       let file : at.1.file ≡ n.interface = ap (λ (o : Origin). o.0) at.3 in
       let here : slice_get (names classes) at.0 ≡ Some name = class_named classes set.ordered set.resolved at.0 at.1 at.2 ∙ ap (λ x. Some x) (ap (λ (f : ClassFile). f.name) file ∙ b.2) in
-      held (number_of classes name) refl at.0 at.1 at.2 here (subst (λ (f : ClassFile). Has f.flags.bits INTERFACE) (sym file) n.remote.0)
+      by (number_of classes name) refl at.0 at.1 at.2 here (subst (λ (f : ClassFile). Has f.flags.bits INTERFACE) (sym file) n.remote.0)
     where
-      held : (found : Option ClassId) → number_of classes name ≡ found → (i : ℕ) (c : Class) → slice_get classes i ≡ Some c → slice_get (names classes) i ≡ Some name → IsInterface c
-          → CanBeHeld classes (option_map_or vtype.Object found vtype.Top)
-      held None e i c at here is = absurd (name_absent classes name e (named_among (names classes) i name here))
-      held (Some id) e i c at here is =
+      by : (found : Option ClassId) → number_of classes name ≡ found → (i : ℕ) (c : Class) → slice_get classes i ≡ Some c → slice_get (names classes) i ≡ Some name → IsInterface c → IsNumbered name
+      by None e i c at here is = absurd (name_absent classes name e (named_among (names classes) i name here))
+      by (Some id) e i c at here is =
           let same : id.0 ≡ i = one_index (names classes) id.0 i name set.ordered (name_at_number classes name id e) here in
-          some_and (slice_get classes id.0) IsInterface c (ap (slice_get classes) same ∙ at) is
+          record { id = id; number = e; c = c; at = ap (slice_get classes) same ∙ at; is = is }
+
+  interface_held : (name : List ℕ) → NamesRemoteInterface (origins files) name → CanBeHeld classes (element_type classes (elements.Class name))
+  unfolding element_type
+  interface_held name n =
+      let x = numbered name n in
+      subst (λ (found : Option ClassId). CanBeHeld classes (option_map_or vtype.Object found vtype.Top)) (sym x.number) (some_and (slice_get classes x.id.0) IsInterface x.c x.at x.is)
 
   type_held : (type : FieldType) → CanBeKept (origins files) type → CanBeHeld classes (field_vtype classes type)
   type_held type (CanBeKept.int d e) = subst (CanBeHeld classes) (sym (plain classes type d)) (subst (λ x. CanBeHeld classes (element_type classes x)) (sym e) (int_held classes))
@@ -137,46 +161,37 @@ module _ (files : List ClassFile) (classes : List Class) (has : HasClasses files
   type_held type (CanBeKept.remote name d e named) =
       subst (CanBeHeld classes) (sym (plain classes type d)) (subst (λ x. CanBeHeld classes (element_type classes x)) (sym e) (interface_held name named))
 
-  module _ (class : ClassId) (is : IsRemote classes class) (k : Class) (found : slice_get classes class.0 ≡ Some k) (none : ¬ IsInterface k) where
-    -- the class itself, or one of its supertypes
-    abbrev Above : ClassId → Type 0
-    Above u = (class ≡ u) ⊎ IsProperSubtype classes class u
+-- ---- sets of files that keep the rule on the fields of remote classes
 
-    upper : (u : ClassId) (c : Class) → slice_get classes u.0 ≡ Some c → Above u → IsItOrAbove (origins files) k.file c.file
-    upper u c at (inl same) = inl (ap (λ (x : Class). x.file) (same_some (sym at ∙ (ap (λ (x : ClassId). slice_get classes x.0) (sym same) ∙ found))))
-    upper u c at (inr p) =
-        let here : slice_get (names classes) class.0 ≡ Some k.file.name = class_named classes set.ordered set.resolved class.0 k found in
-        let y = by_name classes set.ordered set.resolved class u k.file.name here p in
-        let same : y.0 ≡ c.file.name = same_some (sym y.1 ∙ class_named classes set.ordered set.resolved u.0 c at) in
-        inr ((c.is_built_in, stands u.0 c at, refl), subst (λ name. IsSupertypeByName (origins files) k.file.name name) same (more_named (map origin classes) (origins files) back k.file.name y.0 y.2))
+module _ (files : List ClassFile) (classes : List Class) (has : HasClasses files classes) (set : IsClassSet classes) (kept : IsKept files RemoteField)
+    (class : ClassId) (is : IsRemote classes class) (k : Class) (found : slice_get classes class.0 ≡ Some k) (none : ¬ IsInterface k) where
+  field_held : (u : ClassId) (c : Class) → slice_get classes u.0 ≡ Some c → Above classes class u → (f : Field) → Contains c.file.fields f → is_instance f ≡ true → CanBeHeld classes (field_vtype classes f.kind)
+  field_held u c at above f among instance =
+      stable classes (field_vtype classes f.kind) (λ never. kept (origin k) (stands files classes has set class.0 k found)
+      (Breaks.remote_field c.file (none, below files classes has set class k is.remote found is.named is.implements) (upper files classes has set class k found u c at above) (record { field = f; declared = among; of_instances = not_static f instance; not_kept = λ may. never (type_held files classes has set f.kind may) })))
 
-    field_held : (u : ClassId) (c : Class) → slice_get classes u.0 ≡ Some c → Above u → (f : Field) → Contains c.file.fields f → is_instance f ≡ true → CanBeHeld classes (field_vtype classes f.kind)
-    field_held u c at above f among instance =
-        stable classes (field_vtype classes f.kind) (λ never. kept (origin k) (stands class.0 k found)
-        (Breaks.remote_field c.file (none, below class k found is) (upper u c at above) (record { field = f; declared = among; of_instances = not_static f instance; not_kept = λ may. never (type_held f.kind may) })))
+  up_held : (n : ℕ) (u : ClassId) → Above classes class u → AllOf (CanBeHeld classes) (types_up n classes u)
+  unfolding types_up
+  up_held zero u above = tt
+  up_held (suc n) u above = on (up_held n) (slice_get classes u.0) refl
+    where
+      next : (s : ClassId) → Extends classes u s → Above classes class s
+      next s e = elim above [
+        | inl same ↦ inr (types.IsProperSubtype.direct class s (inl (subst (λ (x : ClassId). Extends classes x s) (sym same) e)))
+        | inr p ↦ inr (types.IsProperSubtype.through class u s p (types.IsProperSubtype.direct u s (inl e)))
+      ]
 
-    up_held : (n : ℕ) (u : ClassId) → Above u → AllOf (CanBeHeld classes) (types_up n classes u)
-    unfolding types_up
-    up_held zero u above = tt
-    up_held (suc n) u above = on (up_held n) (slice_get classes u.0) refl
-      where
-        next : (s : ClassId) → Extends classes u s → Above s
-        next s e = elim above [
-          | inl same ↦ inr (types.IsProperSubtype.direct class s (inl (subst (λ (x : ClassId). Extends classes x s) (sym same) e)))
-          | inr p ↦ inr (types.IsProperSubtype.through class u s p (types.IsProperSubtype.direct u s (inl e)))
-        ]
+      over : ((s : ClassId) → Above classes class s → AllOf (CanBeHeld classes) (types_up n classes s)) → (o : Option ClassId) → ((s : ClassId) → o ≡ Some s → Above classes class s) → AllOf (CanBeHeld classes) (option_map_or (types_up n classes) o [])
+      over go None up = tt
+      over go (Some s) up = go s (up s refl)
 
-        over : ((s : ClassId) → Above s → AllOf (CanBeHeld classes) (types_up n classes s)) → (o : Option ClassId) → ((s : ClassId) → o ≡ Some s → Above s) → AllOf (CanBeHeld classes) (option_map_or (types_up n classes) o [])
-        over go None up = tt
-        over go (Some s) up = go s (up s refl)
-
-        on : ((s : ClassId) → Above s → AllOf (CanBeHeld classes) (types_up n classes s)) → (o : Option Class) → slice_get classes u.0 ≡ o
-            → AllOf (CanBeHeld classes) (option_map_or (λ (c : Class). option_map_or (types_up n classes) c.superclass [] ++ own_types classes c.file.fields) o [])
-        on go None at = tt
-        on go (Some c) at =
-            all-append (CanBeHeld classes) (option_map_or (types_up n classes) c.superclass []) (own_types classes c.file.fields)
-            (over go c.superclass (λ s e. next s (some_and (slice_get classes u.0) (λ x. x.superclass ≡ Some s) c at e)))
-            (own_held classes c.file.fields (field_held u c at above))
+      on : ((s : ClassId) → Above classes class s → AllOf (CanBeHeld classes) (types_up n classes s)) → (o : Option Class) → slice_get classes u.0 ≡ o
+          → AllOf (CanBeHeld classes) (option_map_or (λ (c : Class). option_map_or (types_up n classes) c.superclass [] ++ own_types classes c.file.fields) o [])
+      on go None at = tt
+      on go (Some c) at =
+          all-append (CanBeHeld classes) (option_map_or (types_up n classes) c.superclass []) (own_types classes c.file.fields)
+          (over go c.superclass (λ s e. next s (some_and (slice_get classes u.0) (λ x. x.superclass ≡ Some s) c at e)))
+          (own_held classes c.file.fields (field_held u c at above))
 
 pub remote_fields_are_held : RemoteFieldsAreHeld
 remote_fields_are_held files classes has set kept class slot t is e =

@@ -1,6 +1,6 @@
 -- The replies of the rules fit what a machine asks.
 use mathlib.Core.Path.{sym, subst}
-use Rattle.std.specs.Prelude.{◌≡◌, refl, ℕ, ◌<◌, Bool, true, false, length, IsSome, List, Option, None, Some, slice_get, if◌then◌else◌}
+use Rattle.std.specs.Prelude.{◌≡◌, refl, ℕ, ◌<◌, Bool, true, false, length, IsSome, List, Option, None, Some, slice_get, IsSomeAnd, if◌then◌else◌}
 use Rattle.std.specs.Str.{bytes_eq}
 use Rattle.std.proofs.Common.{inl}
 use Rattle.std.proofs.lemmas.Bool.{true≢false}
@@ -16,15 +16,13 @@ use Rattle.space_ids.specs.declared.value.Value.{Value}
 use Rattle.space_ids.specs.declared.value.Value.TheVariants as values
 use Rattle.sp_behaviours.specs.Behaviours.{held_of, value_of}
 use Rattle.sp_rules.specs.Behaviours as rules
-use Rattle.sp_rules.specs.Classes.{Setting, IntKind, ReferenceKind, fits_kind, field_kind}
+use Rattle.sp_rules.specs.Classes.{Classes, Setting, IntKind, ReferenceKind, fits_kind, field_kind}
 use Rattle.sp_rules.specs.Events.{Event}
 use Rattle.sp_rules.specs.Laws.{AllOf}
 use Rattle.sp_rules.specs.LivingTasks
-use Rattle.sp_rules.specs.Origins.{OwnStand}
 use Rattle.sp_rules.specs.References.{reference_of}
 use Rattle.sp_rules.specs.Space.{state_of}
 use Rattle.sp_rules.specs.State.{State, Object, object_at}
-use Rattle.sp_rules.proofs.OwnLemmas.{own_references_stand}
 use Rattle.ver_frames.specs.declared.vtype.VType.{VType}
 use Rattle.ver_frames.specs.declared.vtype.VType.TheVariants as vtype
 use Rattle.vm_act.specs.declared.asked.Asked.TheVariants as asked
@@ -37,10 +35,11 @@ use Rattle.vm_typing.specs.Asking.{ValueFits}
 use Rattle.vm_typing.specs.Fits.{IsA, OfSpace, OfStub, There}
 use Rattle.vm_world.specs.Files.{types_of}
 use Rattle.sp_reply_laws.specs.Replies.{AskedObjectsStand, FitsAsked, IsAskedOf, RepliesFit}
-use Rattle.sp_reply_laws.specs.Stores.{StoreFits}
+use Rattle.sp_reply_laws.specs.Stores.{AreOfRemote, IsOfRemote, StoreFits}
 use Rattle.sp_reply_laws.specs.Told.{AreTold, AreRemoteFields, CanBeHeld, IsKindOf}
 use Rattle.sp_reply_laws.proofs.FieldLemmas
-use Rattle.sp_reply_laws.proofs.FieldLemmas.{AreAlone, IsKept, found, held_objects_stand, value-of}
+use Rattle.sp_reply_laws.proofs.FieldLemmas.{found, held_objects_stand, value-of}
+use Rattle.sp_reply_laws.proofs.ReferenceLemmas.{references_are_remote}
 use Rattle.sp_reply_laws.proofs.StoreLemmas.{stores_fit}
 
 -- a remote class is one of the set
@@ -49,9 +48,15 @@ remote-known classes class is =
     let c = some_of (slice_get classes class.0) (λ (c : Class). ¬ IsInterface c) is.is_class in
     slice_get_within classes class.0 c.0 c.1
 
+-- A reference of a remote class stands for an object of an interface: one of the space's own objects, or a stub.
+pub remote-is : (classes : List Class) (rules : Classes) → AreTold classes rules → (given class : ClassId) → IsSomeAnd (slice_get classes class.0) IsInterface → rules.is_remote given ≡ true → (own : Bool)
+    → IsA (fields_world classes) class (if own then OfSpace given else OfStub given)
+remote-is classes rules told given class interface is true = (remote-known classes given (told.remote given is), inl interface, told.remote given is)
+remote-is classes rules told given class interface is false = (told.object, inl interface, (remote-known classes given (told.remote given is), told.remote given is))
+
 -- ---- what a field holds, as the reply to a Get
 
-module _ (g : Setting) (classes : List Class) (table : Table) (own : table.own ≡ g.id) (told : AreTold classes g.classes) (object : Ref) (slot : ℕ) where
+module _ (g : Setting) (classes : List Class) (table : Table) (told : AreTold classes g.classes) (object : Ref) (slot : ℕ) where
   -- the value is the reply that is asked for
   abbrev Held : Value → Type 0
   Held v = There (IsReply classes table (asked.Get object slot)) (held_of (Some v))
@@ -65,23 +70,19 @@ module _ (g : Setting) (classes : List Class) (table : Table) (own : table.own �
   int-held (values.Ints ns) fits e = absurd (true≢false (sym fits))
   int-held (values.Ref r) fits e = absurd (true≢false (sym fits))
 
-  reference-held : (class : ClassId) → CanBeHeld classes (vtype.Object class) → (v : Value) → fits_kind ReferenceKind v ≡ true → AllOf (IsKept g) (reference_of v) → HasType (vtype.Object class) → Held v
+  reference-held : (class : ClassId) → CanBeHeld classes (vtype.Object class) → (v : Value) → fits_kind ReferenceKind v ≡ true → AllOf (IsOfRemote g) (reference_of v) → HasType (vtype.Object class) → Held v
   reference-held class interface values.Null fits kept e = subst (There (λ (t : VType). ValueFits (fields_world classes) table t field.Null)) (sym e) tt
   reference-held class interface (values.Ref r) fits kept e =
-      let remote : IsRemote classes r.class = told.remote r.class kept.0.1 in
-      let mine : is_own table r ≡ true = subst (λ own. bytes_eq r.space own ≡ true) (sym own) kept.0.0 in
-      let is : IsA (fields_world classes) class (OfSpace r.class) = (remote-known classes r.class remote, inl interface, remote) in
-      subst (There (λ (t : VType). ValueFits (fields_world classes) table t (field.Reference r))) (sym e)
-      (subst (λ b. IsA (fields_world classes) class (if b then OfSpace r.class else OfStub r.class)) (sym mine) is)
+      subst (There (λ (t : VType). ValueFits (fields_world classes) table t (field.Reference r))) (sym e) (remote-is classes g.classes told r.class class interface kept.0 (is_own table r))
   reference-held class interface (values.Int n) fits kept e = absurd (true≢false (sym fits))
   reference-held class interface (values.Ints ns) fits kept e = absurd (true≢false (sym fits))
 
-  module _ (s : State) (stored : StoreFits g s) (right : OwnStand g s) (alone : AreAlone g s) (o : Object) (there : object_at s object.id ≡ Some o) where
+  module _ (s : State) (stored : StoreFits g s) (remote : AreOfRemote g s) (o : Object) (there : object_at s object.id ≡ Some o) where
     by-type : (t : VType) → HasType t → IsKindOf t (field_kind g.classes o.class slot) → CanBeHeld classes t → Held (value-of g s object.id slot o)
-    by-type vtype.Int e kind can = int-held (value-of g s object.id slot o) (FieldLemmas.of-kind g s stored right alone object.id o there slot IntKind kind refl) e
+    by-type vtype.Int e kind can = int-held (value-of g s object.id slot o) (FieldLemmas.of-kind g s stored remote object.id o there slot IntKind kind refl) e
     by-type (vtype.Object class) e kind can =
-        reference-held class can (value-of g s object.id slot o) (FieldLemmas.of-kind g s stored right alone object.id o there slot ReferenceKind kind refl)
-        (FieldLemmas.kept g s stored right alone object.id o there slot ReferenceKind kind) e
+        reference-held class can (value-of g s object.id slot o) (FieldLemmas.of-kind g s stored remote object.id o there slot ReferenceKind kind refl)
+        (FieldLemmas.kept g s stored remote object.id o there slot ReferenceKind kind) e
     by-type vtype.Top e kind can = absurd can
     by-type vtype.Null e kind can = absurd can
     by-type vtype.IntArray e kind can = absurd can
@@ -104,7 +105,7 @@ module _ (g : Setting) (h : List Event) (classes : List Class) (table : Table) (
       → (t : Option VType) → slice_get (types_of classes object.class) slot ≡ t → There (IsReply classes table (asked.Get object slot)) (held_of (Some (value-of g (state_of g h) object.id slot o)))
   typed object slot a o there same None e = absurd (true≢false (sym (subst IsSome e a.fits.1)))
   typed object slot a o there same (Some t) e =
-      by-type g classes table a.own told object slot (state_of g h) (stores_fit g h a.taken) (own_references_stand g h a.taken) a.alone o there t e
+      by-type g classes table told object slot (state_of g h) (stores_fit g h a.taken) (references_are_remote g h a.taken) o there t e
       (subst (λ (class : ClassId). IsKindOf t (field_kind g.classes class slot)) (sym same) (told.fields object.class slot t a.fits.0.2 e)) (kept object.class slot t a.fits.0.2 e)
 
   get : (object : Ref) (slot : ℕ) → IsAskedOf g h classes table (asked.Get object slot) → FitsAsked classes table (asked.Get object slot) (LivingTasks.op_reply g (rules.Get object.id slot) (state_of g h))

@@ -133,10 +133,10 @@ pub op-fits : (g : Setting) (lent : List ℕ) (s : State) (task k : ℕ) (op : O
     → (Refusals.holds_op g (task_at s task) op ≡ true) × (Refusals.fits_store g s op ≡ true)
 op-fits g lent s task k op e =
     let held : List Refusals.Check = Refusals.refuse_if (not (Refusals.holds_op g (task_at s task) op)) Refusals.NotHeld in
-    let kind : List Refusals.Check = Refusals.refuse_if (not (Refusals.fits_store g s op)) Refusals.WrongKind in
+    let kind : List Refusals.Check = Refusals.check_committed g s op (Refusals.stand_after k (task_at s task)) in
     let a = first-of (not (Refusals.is_in_hand lent s task)) Refusals.NotLent (held ++ kind) (unrefused g lent s (Committed task k op) e) in
     let b = first-of (not (Refusals.holds_op g (task_at s task) op)) Refusals.NotHeld kind a.1 in
-    let c = first-of (not (Refusals.fits_store g s op)) Refusals.WrongKind [] b.1 in
+    let c = first-of (not (Refusals.fits_store g s op)) Refusals.WrongKind (Refusals.refuse_if (not (Refusals.stands_at op (Refusals.stand_after k (task_at s task)))) Refusals.WrongKind) b.1 in
     (not-false (Refusals.holds_op g (task_at s task) op) b.0, not-false (Refusals.fits_store g s op) c.0)
 
 done-fits : (g : Setting) (s : State) (op : Op) → Refusals.fits_store g s op ≡ true → Unwritten s.store s.objects_made → Fits g s.store → Fits g (stored_by op s.store s.objects_made)

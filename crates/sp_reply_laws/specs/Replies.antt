@@ -1,5 +1,5 @@
 -- The replies that the rules of spaces give to operations are ones that the machines of their tasks take (JVMS 6.5: new, getfield, putfield).
-use Rattle.std.specs.Prelude.{◌≡◌, ℕ, true, List, [], Some}
+use Rattle.std.specs.Prelude.{◌≡◌, ℕ, true, List, Some}
 use Rattle.cls_set.specs.declared.class.Class.{Class}
 use Rattle.space_ids.specs.declared.ids.Ref.{Ref}
 use Rattle.space_ids.specs.declared.value.Value.{Value}
@@ -8,13 +8,12 @@ use Rattle.sp_reply_laws.specs.Told.{AreTold, AreRemoteFields}
 use Rattle.sp_rules.specs.Behaviours as rules
 use Rattle.sp_rules.specs.Classes.{Setting}
 use Rattle.sp_rules.specs.Events.{Event}
-use Rattle.sp_rules.specs.Holders.{class_is, fields_of}
-use Rattle.sp_rules.specs.Laws.{AllOf}
+use Rattle.sp_rules.specs.Holders.{class_is}
 use Rattle.sp_rules.specs.LivingTasks.{op_reply}
 use Rattle.sp_rules.specs.Origins.{IsTaken}
-use Rattle.sp_rules.specs.References.{foreign_ids, is_reference_in, references_of}
+use Rattle.sp_rules.specs.References.{is_reference_in}
 use Rattle.sp_rules.specs.Space.{state_of}
-use Rattle.sp_rules.specs.State.{State, Living, Object, object_at, standing, task_at}
+use Rattle.sp_rules.specs.State.{State, Living, object_at, task_at}
 use Rattle.vm_act.specs.declared.asked.Asked.{Asked}
 use Rattle.vm_act.specs.declared.asked.Asked.TheVariants as asked
 use Rattle.vm_act.specs.declared.asked.Reply.TheVariants as reply
@@ -42,14 +41,13 @@ AskedObjectsStand =
     → table.own ≡ g.id → IsAsked classes table op → HoldsObject t.task.held op → AsksOfStanding (state_of g h) op
 
 -- What a machine with this table of references asks the store of a space, after a history that the space took, is of typed words. Its task is one of the
--- space; the object of which it asks stands; and the fields of standing objects hold no references to objects of other spaces.
+-- space, and the object of which it asks stands.
 pub record IsAskedOf (g : Setting) (h : List Event) (classes : List Class) (table : Table) (op : Asked) : Type 0 where
   pub store : IsOfStore op
   pub taken : IsTaken g h
   pub own : table.own ≡ g.id
   pub fits : IsAsked classes table op
   pub stands : AsksOfStanding (state_of g h) op
-  pub alone : AllOf (λ (o : Object). foreign_ids g.id (references_of (fields_of g (state_of g h) o)) ≡ []) (standing (state_of g h).store)
 
 -- A reply of the rules fits what was asked, as the reply that the machine is given: a value that is of the kind, or an exception.
 abbrev pub FitsAsked : List Class → Table → Asked → rules.Reply → Type 0

@@ -6,11 +6,12 @@ use Rattle.space_ids.specs.declared.ids.Ref.{Ref}
 use Rattle.space_ids.specs.declared.value.Value.{Value}
 use Rattle.sp_rules.specs.Classes.{Setting, field_kind, fits_field}
 use Rattle.sp_rules.specs.Events.{Event}
-use Rattle.sp_rules.specs.Holders.{class_is}
+use Rattle.sp_rules.specs.Holders.{class_is, fields_of, references_of_frame}
+use Rattle.sp_rules.specs.Laws.{AllOf}
 use Rattle.sp_rules.specs.Origins.{IsTaken}
-use Rattle.sp_rules.specs.References.{is_reference_in}
+use Rattle.sp_rules.specs.References.{is_reference_in, references_in, references_of}
 use Rattle.sp_rules.specs.Space.{state_of}
-use Rattle.sp_rules.specs.State.{State, Living, Object, object_at, last_written, task_at}
+use Rattle.sp_rules.specs.State.{State, Living, Object, KeptResult, ParkedFrame, object_at, last_written, standing, task_at}
 
 pub record StoreFits (g : Setting) (s : State) : Type 0 where
   -- each standing object is of a remote class that is not abstract
@@ -28,3 +29,20 @@ abbrev pub HeldObjectsStand : Type 0
 HeldObjectsStand =
     (g : Setting) (h : List Event) (id : ℕ) (t : Living) (r : Ref) → IsTaken g h → task_at (state_of g h) id ≡ Some t → is_reference_in t.task.held r ≡ true
     → bytes_eq r.space g.id ≡ true → class_is r.class (object_at (state_of g h) r.id) ≡ true
+
+-- ---- references
+
+-- a reference of a remote class that is not abstract
+abbrev pub IsOfRemote : Setting → Ref → Type 0
+IsOfRemote g r = g.classes.is_remote r.class ≡ true
+
+-- The references in a space are of such classes: those that tasks hold, those in the fields of standing objects, in held results, and in parked frames.
+pub record AreOfRemote (g : Setting) (s : State) : Type 0 where
+  pub tasks : AllOf (λ (t : Living). AllOf (IsOfRemote g) t.task.held) s.tasks
+  pub fields : AllOf (λ (o : Object). AllOf (IsOfRemote g) (references_of (fields_of g s o))) (standing s.store)
+  pub results : AllOf (λ (k : KeptResult). AllOf (IsOfRemote g) (references_in k.value)) s.results
+  pub parked : AllOf (λ (p : ParkedFrame). AllOf (IsOfRemote g) (references_of_frame p.frame)) s.parked
+
+-- So they are after every history that a space took.
+abbrev pub ReferencesAreRemote : Type 0
+ReferencesAreRemote = (g : Setting) (h : List Event) → IsTaken g h → AreOfRemote g (state_of g h)

@@ -2,5 +2,8 @@
 //! a function. There is no other code here.
 #![tactic(auto)]
 
+pub mod calls;
 pub mod replies;
+pub mod sets;
+pub mod starts;
 pub mod stores;

@@ -1,6 +1,6 @@
 //! Laws of what stands in a space.
 
-ghost use Rattle.sp_reply_laws.specs.Stores.{HeldObjectsStand, StoresFit};
+ghost use Rattle.sp_reply_laws.specs.Stores.{HeldObjectsStand, ReferencesAreRemote, StoresFit};
 
 /// After every history that a space took, each standing object is of a remote class that is not
 /// abstract, and what was put last into a field of it is a value of the field's kind.
@@ -12,4 +12,10 @@ pub fn stores_fit()
 /// object, of the reference's class.
 pub fn held_objects_stand()
     ensures { HeldObjectsStand }
+{}
+
+/// After every history that a space took, the references in it are of remote classes that are not
+/// abstract, those to objects of other spaces too.
+pub fn references_are_remote()
+    ensures { ReferencesAreRemote }
 {}

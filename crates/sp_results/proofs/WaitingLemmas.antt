@@ -149,3 +149,14 @@ pub order-more : (ys : List (Bor ℕ × Bor (Option Value))) (y : Bor ℕ × Bor
 order-more ys y it next all first whole =
     ap (λ rows. rows ++ next) (map-append deref_pair ys (y ∷ [])) ∙ append_assoc (map deref_pair ys) (deref_pair y ∷ []) next
     ∙ ap (λ rows. map deref_pair ys ++ rows) (sym first) ∙ whole
+
+-- the next of them is one
+pub found-here : (p : ℕ × Option Value → Bool) (ys : List (Bor ℕ × Bor (Option Value))) (y : Bor ℕ × Bor (Option Value)) (it next all : List (ℕ × Option Value))
+    → it ≡ deref_pair y ∷ next → map deref_pair ys ++ it ≡ all → p (deref_pair y) ≡ true → true ≡ list_any p all
+found-here p ys y it next all first whole here =
+    sym (or-true (list_any p (map deref_pair ys))) ∙ (λ j. list_any p (map deref_pair ys) || (sym here j || list_any p next))
+    ∙ sym (list_any-append p (map deref_pair ys) (deref_pair y ∷ next)) ∙ ap (λ rows. list_any p (map deref_pair ys ++ rows)) (sym first) ∙ ap (list_any p) whole
+  where
+    or-true : (b : Bool) → (b || true) ≡ true
+    or-true true = refl
+    or-true false = refl

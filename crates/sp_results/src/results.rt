@@ -3,12 +3,12 @@
 ghost use Rattle.std.specs.Prelude.{◌≡◌, ◌++◌, ◌||◌, [], ◌∷◌, false, filter, IfOk, OnOk, OnErr, option_copied};
 ghost use Rattle.std.specs.List.{list_any};
 ghost use Rattle.space_ids.specs.declared.ids.ObjId.{ObjId};
-ghost use Rattle.sp_rules.specs.References.{is_id_in, own_ids, references_in};
+ghost use Rattle.sp_rules.specs.References.{is_id_in, is_reference_in, own_ids, references_in};
 ghost use Rattle.sp_results.specs.Waiting.{is_waiting, of_task, row_of, without};
 
 use lru::LruCache;
 use sp_store::IdSet;
-use space_ids::{Uuid, Value};
+use space_ids::{Ref, Uuid, Value};
 use std::alloc::{AllocError, Global};
 use std::marker::Model;
 use table_copies::copy_cache;
@@ -69,6 +69,18 @@ impl Results {
         self.results.peek(&task)
     }
 
+    /// Whether a result is the reference, under its class. It looks at each.
+    pub fn has_reference(&self, reference: &Ref) -> bool
+        ensures { result ≡ list_any (λ row. is_reference_in (references_in row.1) reference.now) self.now }
+    {
+        for (_, value) in self.results.iter() {
+            if is_result(value, reference) {
+                return true;
+            }
+        }
+        false
+    }
+
     /// Holds the result of a task of which none waits, after all others. At out of memory nothing
     /// happens.
     pub fn hold(&mut self, task: u64, value: Option<Value>) -> Result<(), AllocError>
@@ -116,5 +128,18 @@ fn insert_result(own: &Uuid, value: &Option<Value>, ids: &mut IdSet) -> Result<(
     match value {
         Some(value) => ids.insert_value(own, value),
         None => Ok(()),
+    }
+}
+
+// Whether the result is the reference.
+fn is_result(value: &Option<Value>, reference: &Ref) -> bool
+    ensures { result ≡ is_reference_in (references_in value.now) reference.now }
+{
+    match value {
+        Some(Value::Ref(other)) => {
+            reference.space == other.space
+                && (reference.id == other.id && reference.class == other.class)
+        }
+        _ => false,
     }
 }

@@ -1,4 +1,5 @@
 pub mod AllLemmas
+pub mod AskedLemmas
 pub mod BookLemmas
 pub mod FailureLemmas
 pub mod FuelOfFrames

@@ -187,7 +187,7 @@ checks_rise g lent s (Closed conn) = (omega arith, tt)
 checks_rise g lent s (ReadFailed conn) = (omega arith, tt)
 checks_rise g lent s (Bad conn) = (omega arith, tt)
 checks_rise g lent s (WriteFailed conn unsent) = (omega arith, tt)
-checks_rise g lent s (Committed task k op) = (omega arith, (omega arith, (omega arith, tt)))
+checks_rise g lent s (Committed task k op) = (omega arith, (omega arith, (omega arith, (omega arith, tt))))
 checks_rise g lent s (Parked task k) = (omega arith, parked (Rattle.sp_rules.specs.State.task_at s task) (Refusals.stand_after k (Rattle.sp_rules.specs.State.task_at s task)))
   where
     parked : (t : Option Living) (at : Option Stand) → RisesFrom 91 (map check_number (Refusals.check_parked g t at))

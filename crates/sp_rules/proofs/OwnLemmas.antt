@@ -127,10 +127,14 @@ in-hand lent s task rest e = (first-of (not (Refusals.is_in_hand lent s task)) R
 committed : (g : Setting) (lent : List ℕ) (s : State) (task k : ℕ) (op : Op) → first_refusal (checks g lent s (Committed task k op)) ≡ None
     → (Refusals.holds_op g (task_at s task) op ≡ true) × (Refusals.fits_store g s op ≡ true)
 committed g lent s task k op e =
-    let f : (not (Refusals.holds_op g (task_at s task) op) ≡ false) × (first_refusal (Refusals.refuse_if (not (Refusals.fits_store g s op)) Refusals.WrongKind) ≡ None) =
-    first-of (not (Refusals.holds_op g (task_at s task) op)) Refusals.NotHeld (Refusals.refuse_if (not (Refusals.fits_store g s op)) Refusals.WrongKind)
-    (in-hand lent s task (Refusals.refuse_if (not (Refusals.holds_op g (task_at s task) op)) Refusals.NotHeld ++ Refusals.refuse_if (not (Refusals.fits_store g s op)) Refusals.WrongKind) e) in
-    (not-false (Refusals.holds_op g (task_at s task) op) f.0, not-false (Refusals.fits_store g s op) (first-of (not (Refusals.fits_store g s op)) Refusals.WrongKind [] f.1).0)
+    let rest : List Check = Refusals.check_committed g s op (Refusals.stand_after k (task_at s task)) in
+    let f : (not (Refusals.holds_op g (task_at s task) op) ≡ false) × (first_refusal rest ≡ None) =
+    first-of (not (Refusals.holds_op g (task_at s task) op)) Refusals.NotHeld rest
+    (in-hand lent s task (Refusals.refuse_if (not (Refusals.holds_op g (task_at s task) op)) Refusals.NotHeld ++ rest) e) in (
+      not-false (Refusals.holds_op g (task_at s task) op) f.0,
+      not-false (Refusals.fits_store g s op)
+          (first-of (not (Refusals.fits_store g s op)) Refusals.WrongKind (Refusals.refuse_if (not (Refusals.stands_at op (Refusals.stand_after k (task_at s task)))) Refusals.WrongKind) f.1).0,
+    )
 
 put-brings : {g : Setting} {Is Out : Ref → Type 0} {s : State} (lent : List ℕ) (task k : ℕ) (id : ObjId) (slot : ℕ) (value : Value)
     → first_refusal (checks g lent s (Committed task k (Put id slot value))) ≡ None → Only g Is Out (Waits g) s → OpBrings g Is s.objects_made s.store (Put id slot value)
@@ -302,7 +306,7 @@ made-store g task k class s t ready full = by (ready_at s task) ready
 pub create-stores : (g : Setting) (lent : List ℕ) (s : State) (task k : ℕ) (class : ClassId) → first_refusal (checks g lent s (Committed task k (Create class))) ≡ None → LivingTasks.is_full s ≡ false
     → (Space.on g (Committed task k (Create class)) s).0.store ≡ Made (LivingTasks.next_object s) class ∷ s.store
 create-stores g lent s task k class e full =
-    let hand : not (Refusals.is_in_hand lent s task) ≡ false = (first-of (not (Refusals.is_in_hand lent s task)) Refusals.NotLent (Refusals.refuse_if (not (Refusals.holds_op g (task_at s task) (Create class))) Refusals.NotHeld ++ Refusals.refuse_if (not (Refusals.fits_store g s (Create class))) Refusals.WrongKind) e).0 in
+    let hand : not (Refusals.is_in_hand lent s task) ≡ false = (first-of (not (Refusals.is_in_hand lent s task)) Refusals.NotLent (Refusals.refuse_if (not (Refusals.holds_op g (task_at s task) (Create class))) Refusals.NotHeld ++ Refusals.check_committed g s (Create class) (Refusals.stand_after k (task_at s task))) e).0 in
     let there : (t : Living) × (ready_at s task ≡ Some t) = has-some (ready_at s task) (and-right (list_any (◌==◌ task) lent) (is_some (ready_at s task)) (not-false (Refusals.is_in_hand lent s task) hand)) in
     made-store g task k class s there.0 there.1 full
 

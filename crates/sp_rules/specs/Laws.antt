@@ -9,18 +9,20 @@ use Rattle.sp_registry.specs.declared.fault.RegistryFault.{RegistryFault}
 use Rattle.sp_registry.specs.declared.registry.Binding.{Binding}
 use Rattle.uuid.specs.declared.Uuid.{Uuid}
 use Rattle.space_ids.specs.declared.ids.ObjId.{ObjId}
+use Rattle.sp_rules.specs.Behaviours.{Op}
 use Rattle.sp_rules.specs.Books.{Entry, event_of, book_run}
 use Rattle.sp_rules.specs.Classes.{Setting}
-use Rattle.sp_rules.specs.Events.{Output, Started, Ended, Withdrawn, Denied, Send, Dial, Close, Ready, Event, Moment, Sweep, Bind, Rebind, Unbind, Received}
+use Rattle.sp_rules.specs.Events.{Output, Started, Ended, Withdrawn, Denied, Send, Dial, Close, Ready, Event, Moment, Sweep, Bind, Rebind, Unbind, Received, Committed}
 use Rattle.sp_rules.specs.Fuel.{world_units, world_roots}
 use Rattle.sp_rules.specs.Frames.{that_stand}
 use Rattle.sp_rules.specs.Holders.{has_reason, own_object}
 use Rattle.sp_rules.specs.OwnEvents.{without_reason}
 use Rattle.sp_rules.specs.References.{is_id_in}
-use Rattle.sp_rules.specs.Refusals.{Refusal, Check, refusal_number, checks}
+use Rattle.sp_rules.specs.Refusals.{Refusal, Check, refusal, refusal_number, checks}
 use Rattle.sp_rules.specs.Runs.{AreRecorded}
 use Rattle.sp_rules.specs.Space.{state_of, on}
-use Rattle.sp_rules.specs.State.{State, Object, Living, Connection, connection_at, Owner, standing}
+use Rattle.sp_rules.specs.State.{State, Object, Living, Connection, connection_at, Owner, standing, task_at}
+use Rattle.sp_rules.specs.Tasks.{Task, AsksFor, stand, steps}
 use Rattle.sp_rules.specs.Worlds.{World, Space, End, WorldEvent, Refuse, ReadFails, WriteFails, after, run, new_world}
 
 -- each of these holds
@@ -202,6 +204,11 @@ check_number c = refusal_number c.refusal
 abbrev pub ChecksRise : Type 0
 ChecksRise = (g : Setting) (lent : List ℕ) (s : State) (e : Event) → RisesFrom 0 (map check_number (checks g lent s e))
 
+-- An operation on the store that a space takes is the one at which the task stands.
+abbrev pub CommitsAreAsked : Type 0
+CommitsAreAsked = (g : Setting) (lent : List ℕ) (s : State) (task k : ℕ) (op : Op) (t : Living) → refusal g lent s (Committed task k op) ≡ None → task_at s task ≡ Some t
+    → stand (steps k t.task) ≡ AsksFor op
+
 -- An event of a world that is refused changes nothing but the note of what was refused.
 abbrev pub RefusedChangesNothing : Type 0
 RefusedChangesNothing = (w : World) (e : WorldEvent) (why : Refusal) → (after w e).refused ≡ Some why → after w e ≡ record w { refused = Some why }
@@ -214,6 +221,10 @@ HasRuns s = AreRecorded s.setting s.state.tasks
 -- In every run of every world each living task stands at the point to which its start and its own record bring it.
 abbrev pub TasksAreRuns : Type 0
 TasksAreRuns = (settings : List Setting) (events : List WorldEvent) → AllOf HasRuns (run (new_world settings) events).spaces
+
+-- Of some instructions those that were made bring a task to where all of them bring it.
+abbrev pub StepsAreMade : Type 0
+StepsAreMade = (t : Task) (k j : ℕ) → (steps k t).made ≡ t.made + j → steps k t ≡ steps j t
 
 -- ---- numbers
 

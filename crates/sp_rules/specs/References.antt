@@ -1,6 +1,8 @@
 -- Remote objects are passed by reference, arrays by copy (Java RMI specification, 2.6): the references that a value is, and whether they are own or foreign.
-use Rattle.std.specs.Prelude.{Bool, List, [], ◌∷◌, ◌++◌, Option, None, Some, ◌==◌, ◌&&◌, fold, if◌then◌else◌}
+use Rattle.std.specs.Prelude.{Bool, true, false, List, [], ◌∷◌, ◌++◌, Option, None, Some, ◌==◌, ◌&&◌, fold, if◌then◌else◌}
+use Rattle.std.specs.Cmp.Lexicographic.{pointwise}
 use Rattle.std.specs.List.{list_any, flat_map}
+use Rattle.std.specs.Ordering.{int_eq}
 use Rattle.std.specs.Str.{bytes_eq}
 use Rattle.space_ids.specs.declared.ids.ForeignId.{ForeignId}
 use Rattle.uuid.specs.declared.Uuid.{Uuid}
@@ -26,6 +28,14 @@ references_of values = flat_map reference_of values
 -- Two references are the same if their space, id and class are.
 abbrev pub is_same_reference : Ref → Ref → Bool
 is_same_reference a b = bytes_eq a.space b.space && (a.id.0 == b.id.0 && a.class.0 == b.class.0)
+
+-- Two values are the same if both are null, or the same int, array or reference.
+abbrev pub is_same_value : Value → Value → Bool
+is_same_value values.Null values.Null = true
+is_same_value (values.Int m) (values.Int n) = int_eq m n
+is_same_value (values.Ints ms) (values.Ints ns) = pointwise int_eq ms ns
+is_same_value (values.Ref r) (values.Ref q) = is_same_reference r q
+is_same_value v w = false
 
 abbrev pub is_reference_in : List Ref → Ref → Bool
 is_reference_in references r = list_any (is_same_reference r) references

@@ -1,6 +1,6 @@
 -- Why an event is refused. A refused event changes nothing and is not in the history; of several reasons the one with the lowest number
 -- counts, but a space that is worn out says so first. (This project's own rules and numbers.)
-use Rattle.std.specs.Prelude.{ℕ, ◌+◌, ◌^◌, ◌==◌, ◌&&◌, ◌||◌, not, nat_lt, nat_le, Bool, true, false, List, [], ◌∷◌, ◌++◌, Option, None, Some, is_some, if◌then◌else◌}
+use Rattle.std.specs.Prelude.{ℕ, ◌^◌, ◌==◌, ◌&&◌, ◌||◌, not, nat_lt, nat_le, Bool, true, false, List, [], ◌∷◌, ◌++◌, Option, None, Some, is_some, if◌then◌else◌}
 use Rattle.std.specs.List.{list_any, list_all}
 use Rattle.std.specs.Str.{bytes_eq}
 use Rattle.dgc_client.specs.Table as client
@@ -14,7 +14,7 @@ use Rattle.sp_rules.specs.Events.{Event, Moment, Sweep, Root, RootAck, Bind, Reb
 use Rattle.sp_rules.specs.Frames.{is_busy}
 use Rattle.sp_rules.specs.Holders.{is_own_standing, lease_now, has_holder}
 use Rattle.sp_rules.specs.OwnEvents.{is_of_root}
-use Rattle.sp_rules.specs.References.{references_of, references_in, reference_of, is_reference_in, own_ids, is_id_in}
+use Rattle.sp_rules.specs.References.{references_of, references_in, reference_of, is_reference_in, is_same_value, own_ids, is_id, is_id_in}
 use Rattle.sp_rules.specs.State.{State, Living, Object, is_open, is_dialling, task_at, ready_at, object_at}
 use Rattle.sp_rules.specs.Tasks.{Stand, Runs, AsksFor, HasEnded, steps, stand}
 
@@ -65,9 +65,9 @@ first_refusal (c ∷ more) = if c.fails then Some c.refusal else first_refusal m
 
 -- ---- worn out
 
--- whether the next object, task, call or sequence number would be 2^63
+-- whether an object, task, call or sequence number has come to 2^63
 abbrev pub is_worn : State → Bool
-is_worn s = list_any (nat_le (2 ^ 63)) ((s.objects_made + 1) ∷ (s.tasks_made + 1) ∷ (s.calls_made + 1) ∷ (client.numbers_of s.leases + 1) ∷ [])
+is_worn s = list_any (nat_le (2 ^ 63)) (s.objects_made ∷ s.tasks_made ∷ s.calls_made ∷ client.numbers_of s.leases ∷ [])
 
 abbrev pub is_give_back : Event → Bool
 is_give_back (GivenBack task k) = true
@@ -135,6 +135,23 @@ abbrev pub stand_after : ℕ → Option Living → Option Stand
 stand_after k None = None
 stand_after k (Some t) = Some (stand (steps k t.task))
 
+-- whether two operations on the store are the same
+abbrev pub is_same_op : Op → Op → Bool
+is_same_op (Create class) (Create other) = class.0 == other.0
+is_same_op (Get object slot) (Get other place) = is_id object other && slot == place
+is_same_op (Put object slot value) (Put other place another) = is_id object other && (slot == place && is_same_value value another)
+is_same_op op other = false
+
+-- whether a task stands at this operation on the store
+abbrev pub stands_at : Op → Option Stand → Bool
+stands_at op None = false
+stands_at op (Some Runs) = false
+stands_at op (Some (AsksFor asked)) = is_same_op asked op
+stands_at op (Some (HasEnded outcome)) = false
+
+abbrev pub check_committed : Setting → State → Op → Option Stand → List Check
+check_committed g s op at = refuse_if (not (fits_store g s op)) WrongKind ++ refuse_if (not (stands_at op at)) WrongKind
+
 abbrev pub check_parked : Setting → Option Living → Option Stand → List Check
 check_parked g t None = refuse_if true WrongKind
 check_parked g t (Some Runs) = refuse_if true WrongKind
@@ -185,7 +202,7 @@ checks g lent s (WriteFailed conn unsent) = check_open s conn
 checks g lent s (Committed task k op) =
     refuse_if (not (is_in_hand lent s task)) NotLent
     ++ (refuse_if (not (holds_op g (task_at s task) op)) NotHeld
-    ++ refuse_if (not (fits_store g s op)) WrongKind)
+    ++ check_committed g s op (stand_after k (task_at s task)))
 checks g lent s (Parked task k) = refuse_if (not (is_in_hand lent s task)) NotLent ++ check_parked g (task_at s task) (stand_after k (task_at s task))
 checks g lent s (GivenBack task k) = refuse_if (not (is_in_hand lent s task)) NotLent
 checks g lent s (Finished task k) = refuse_if (not (is_in_hand lent s task)) NotLent ++ check_finished (task_at s task) (stand_after k (task_at s task))

@@ -1,5 +1,5 @@
 -- A task: what it does from here on, its fuel, and the references that it holds. (This project's own rules of fuel and of what a task may use.)
-use Rattle.std.specs.Prelude.{ℕ, zero, suc, ◌+◌, ◌-◌, min, nat_le, List, [], length, drop, Option, if◌then◌else◌}
+use Rattle.std.specs.Prelude.{ℕ, zero, suc, Bool, true, false, ◌+◌, ◌-◌, min, nat_le, List, [], length, drop, Option, if◌then◌else◌}
 use Rattle.space_ids.specs.declared.ids.Ref.{Ref}
 use Rattle.space_ids.specs.declared.value.Value.{Value}
 use Rattle.sp_rules.specs.Behaviours.{Outcome, Threw, Spent, Op, Reply, Gives, GivesBack, Throws, RunsOut, Behaviour, Plain, Asks, Ends, Over}
@@ -49,6 +49,13 @@ step_at (HasEnded outcome) t = t
 -- An instruction takes one unit of fuel.
 unfoldable pub step : Task → Task
 step t = step_at (stand t) t
+
+-- whether a task is at its end, whatever fuel it has left
+abbrev pub is_at_end : Behaviour → Bool
+is_at_end (Plain next) = false
+is_at_end (Asks op next) = false
+is_at_end (Ends outcome) = false
+is_at_end (Over outcome) = true
 
 -- n instructions of its own
 unfoldable pub steps : ℕ → Task → Task

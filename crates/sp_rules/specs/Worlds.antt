@@ -11,7 +11,7 @@ use Rattle.sp_rules.specs.Lists.{each, with_some, at_index}
 use Rattle.sp_rules.specs.Refusals.{Refusal, NotLent, refusal}
 use Rattle.sp_rules.specs.Space.{on}
 use Rattle.sp_rules.specs.State.{State, opening, task_at}
-use Rattle.sp_rules.specs.Tasks.{Task, Stand, Runs, AsksFor, HasEnded, stand, step}
+use Rattle.sp_rules.specs.Tasks.{Task, Stand, Runs, AsksFor, HasEnded, is_at_end, stand, step}
 
 -- the two ends of a connection
 pub data End : Type 0 where
@@ -175,12 +175,8 @@ new_pipe a b = record {
   accepter = record { space = b; phase = Unopened; queue = [] };
 }
 
-abbrev pub is_over : Stand → Bool
-is_over Runs = false
-is_over (AsksFor op) = false
-is_over (HasEnded outcome) = true
-
--- A step that ends its task finishes it, also one that takes its last unit of fuel; else the task is given back.
+-- A step whose instruction ends its task finishes it, else the task is given back. One whose fuel the instruction used up is found Spent at its
+-- next step, as the next instruction would be made.
 abbrev pub events_after : ℕ → Bool → List Event
 events_after id true = Finished id 1 ∷ []
 events_after id false = GivenBack id 1 ∷ []
@@ -193,7 +189,7 @@ events_of_op id (Call target method arguments) = Parked id 0 ∷ []
 
 -- A task whose end came by a reply, or by its own start, ends at its next step.
 abbrev pub events_at : ℕ → Task → Stand → List Event
-events_at id task Runs = events_after id (is_over (stand (step task)))
+events_at id task Runs = events_after id (is_at_end (step task).behaviour)
 events_at id task (AsksFor op) = events_of_op id op
 events_at id task (HasEnded outcome) = Finished id 0 ∷ []
 

@@ -2,7 +2,7 @@
 
 ghost use Rattle.sp_rules.specs.Lines.{LinesWaitForHellos};
 ghost use Rattle.sp_rules.specs.Origins.{HistoriesAreTaken, OwnReferencesStand};
-ghost use Rattle.sp_rules.specs.Laws.{EventsLeaveOwners, FailuresRemoveNothing, FuelIsBounded, SweepIsExact, OnlySweepsWithdraw, TasksAreRuns, StatesAreHistories, BooksGrow, NamesAreBound, EntriesAreTold, NamesStand, EntriesStand, OutputsAreInOrder, ChecksRise, RefusedChangesNothing, NumbersAreFresh};
+ghost use Rattle.sp_rules.specs.Laws.{CommitsAreAsked, StepsAreMade, EventsLeaveOwners, FailuresRemoveNothing, FuelIsBounded, SweepIsExact, OnlySweepsWithdraw, TasksAreRuns, StatesAreHistories, BooksGrow, NamesAreBound, EntriesAreTold, NamesStand, EntriesStand, OutputsAreInOrder, ChecksRise, RefusedChangesNothing, NumbersAreFresh};
 
 /// A failure removes no name and no entry. All events of a space but moments, sweeps, changes of
 /// names, and dirty and clean calls that come leave its names and its clients' entries as they
@@ -72,6 +72,17 @@ pub fn outputs_are_in_order()
 /// lowest counts; but a space that is worn out says so first.
 pub fn checks_rise()
     ensures { ChecksRise }
+{}
+
+/// A space takes an operation on the store from a task that stands at it, and from no other.
+pub fn commits_are_asked()
+    ensures { CommitsAreAsked }
+{}
+
+/// A task that stands at its end, or at an instruction that asks, makes no more of its own: of some
+/// instructions those that were made bring it to where all of them bring it.
+pub fn steps_are_made()
+    ensures { StepsAreMade }
 {}
 
 /// An event of a world that is refused changes nothing but the note of what was refused.

@@ -2,9 +2,13 @@ pub mod Only
 pub mod Whole
 pub mod Ended
 pub mod Refused
-pub mod Remote
-pub mod SpaceEnds
+pub mod RemoteClasses
+pub mod OwnValues
+pub mod Alone
+pub mod Sets
+pub mod Moved
+pub mod OnMachine
 pub mod SpaceSteps
-pub mod SpaceRoots
 pub mod SpaceOnly
 pub mod SpaceGoes
+pub mod SpaceRoots

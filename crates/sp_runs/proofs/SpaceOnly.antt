@@ -10,17 +10,15 @@ use Rattle.sp_rules.specs.Refusals.{refusal}
 use Rattle.sp_rules.specs.Space.{state_of}
 use Rattle.sp_rules.specs.State.{Living, task_at}
 use Rattle.sp_rules.specs.Worlds.{step_events}
-use Rattle.sp_core.specs.Shown.{lowest_ready}
 use Rattle.sp_behaviours.specs.Behaviours.{told}
-use Rattle.sp_space.specs.Spaces.{answers_to, grown}
 use Rattle.vm_run.specs.declared.outcome.Outcome.{Outcome}
 use Rattle.vm_run.specs.declared.outcome.Outcome.TheVariants as outcome
 use Rattle.sp_runs.specs.Going.{Reaches, same, step}
-use Rattle.sp_runs.specs.InSpace.{EndsAs, Grows, begins, steps}
+use Rattle.sp_runs.specs.InSpace.{EndsAs, Grows, answers_to, begins, grown, lowest_ready, steps}
 use Rattle.sp_runs.specs.Outcomes.{IsNamed}
 use Rattle.sp_files.specs.declared.outcome.RunOutcome.{RunOutcome}
 use Rattle.sp_runs.proofs.Only.{one_thrown}
-use Rattle.sp_runs.proofs.SpaceEnds.{untold, untold-told}
+use Rattle.sp_runs.proofs.Moved.{untold, untold-told}
 
 some-none : {A : Type 0} {x : A} → Some x ≡ None → ⊥
 some-none e = cc
@@ -30,10 +28,10 @@ only x y e = ap (λ o. unwrap_or o x) e
 
 -- ---- the steps to a history
 
-reach-more : (g : Setting) (a b c : List Event) (id : ℕ) (task : Living) → Reaches g a b → lowest_ready [] (state_of g b) ≡ Some id → task_at (state_of g b) id ≡ Some task
+reach-more : (g : Setting) (a b c : List Event) (id : ℕ) (task : Living) → Reaches g a b → lowest_ready (state_of g b) ≡ Some id → task_at (state_of g b) id ≡ Some task
     → grown b (step_events id task.task) ≡ c → Reaches g a c
 reach-more g a b c id task (same x y is) ready lives next =
-    step a c id task (ap (λ h. lowest_ready [] (state_of g h)) is ∙ ready) (ap (λ h. task_at (state_of g h) id) is ∙ lives)
+    step a c id task (ap (λ h. lowest_ready (state_of g h)) is ∙ ready) (ap (λ h. task_at (state_of g h) id) is ∙ lives)
     (same (grown a (step_events id task.task)) c (ap (λ h. grown h (step_events id task.task)) is ∙ next))
 reach-more g a b c id task (step x y other living at there more) ready lives next =
     step a c other living at there (reach-more g (grown a (step_events other living.task)) b c id task more ready lives next)
@@ -43,7 +41,7 @@ grows-reached g first h begins = same (first ∷ []) (first ∷ []) refl
 grows-reached g first h (steps before id task grows ready lives) =
     reach-more g (first ∷ []) before (grown before (step_events id task.task)) id task (grows-reached g first before grows) ready lives refl
 
-module _ (g : Setting) (h : List Event) (t : Living) (ready : lowest_ready [] (state_of g h) ≡ Some 1) (lives : task_at (state_of g h) 1 ≡ Some t) where
+module _ (g : Setting) (h : List Event) (t : Living) (ready : lowest_ready (state_of g h) ≡ Some 1) (lives : task_at (state_of g h) 1 ≡ Some t) where
   -- what a history that ends the task answers
   answered : (first : Event) (end : Outcome) (e : EndsAs g first end) → h ≡ e.before → answers_to g h (step_events 1 t.task) ≡ Ended 1 (told end) ∷ []
   answered first end e is =
@@ -52,7 +50,7 @@ module _ (g : Setting) (h : List Event) (t : Living) (ready : lowest_ready [] (s
       (λ j. answers_to g (is j) (step_events 1 (one j).task)) ∙ e.ended
 
   -- the steps after this one
-  after-step : (later : List Event) (id : ℕ) (task : Living) → lowest_ready [] (state_of g h) ≡ Some id → task_at (state_of g h) id ≡ Some task
+  after-step : (later : List Event) (id : ℕ) (task : Living) → lowest_ready (state_of g h) ≡ Some id → task_at (state_of g h) id ≡ Some task
       → Reaches g (grown h (step_events id task.task)) later → Reaches g (grown h (step_events 1 t.task)) later
   after-step later id task at there more =
       let one : id ≡ 1 = only id 1 (sym at ∙ ready) in
@@ -72,7 +70,7 @@ module _ (g : Setting) (h : List Event) (t : Living) (ready : lowest_ready [] (s
       by later at (step x y id task lowest there more) = after-step later id task lowest there more
 
   -- one that ends the task is the last
-  pub one-way : (first : Event) (end : Outcome) → answers_to g h (step_events 1 t.task) ≡ Ended 1 (told end) ∷ [] → lowest_ready [] (state_of g (grown h (step_events 1 t.task))) ≡ None
+  pub one-way : (first : Event) (end : Outcome) → answers_to g h (step_events 1 t.task) ≡ Ended 1 (told end) ∷ [] → lowest_ready (state_of g (grown h (step_events 1 t.task))) ≡ None
       → ((other : Outcome) (e : EndsAs g first other) → Reaches g h e.before) → (other : Outcome) → EndsAs g first other → other ≡ end
   one-way first end is last awaits other e = by e.before refl (awaits other e)
     where
@@ -80,7 +78,7 @@ module _ (g : Setting) (h : List Event) (t : Living) (ready : lowest_ready [] (s
       same-end a b e = cc
 
       no-more : (later : List Event) → later ≡ e.before → Reaches g (grown h (step_events 1 t.task)) later → ⊥
-      no-more later at (same x y is) = some-none (sym e.ready ∙ ap (λ h. lowest_ready [] (state_of g h)) (sym (is ∙ at)) ∙ last)
+      no-more later at (same x y is) = some-none (sym e.ready ∙ ap (λ h. lowest_ready (state_of g h)) (sym (is ∙ at)) ∙ last)
       no-more later at (step x y id task lowest there more) = some-none (sym lowest ∙ last)
 
       by : (later : List Event) → later ≡ e.before → Reaches g h later → other ≡ end

@@ -42,7 +42,7 @@ module _ (classes : List Class) (o : Outcome) (named : RunOutcome) (is : IsNamed
   ints_told elements false tells = thrown_told unmarshalled tells
 
   -- so each end is told
-  named-IsTold : (end : End) → tasks.Tells classes end o → IsTold classes end named
+  pub named-IsTold : (end : End) → tasks.Tells classes end o → IsTold classes end named
   named-IsTold ReturnedNothing tells = renamed _ tells
   named-IsTold (ReturnedInt n) tells = renamed _ tells
   named-IsTold ReturnedNull tells = renamed _ tells

@@ -1,4 +1,5 @@
 pub mod Outcomes
+pub mod OverReplies
 pub mod InSpace
 pub mod Runs
 pub mod Only

@@ -1,8 +1,9 @@
-//! Methods of class files that run: alone, or in a space.
+//! Methods of class files that run: what that means, of one that runs alone and of one that runs in a space;
+//! and one that runs alone.
 #![tactic(auto)]
 
-pub use in_space::run_in_space;
-pub use running::run_classes;
+pub use remote::has_remote;
+pub use running::{method_named, named, run_method};
 
-mod in_space;
+mod remote;
 mod running;

@@ -197,13 +197,13 @@ Refusals = heard space (RootAck 1 ∷ Opened 0 (Some peer) ∷ Refused peer ∷ 
     ∷ Answers (Denied BadName ∷ []) ∷ Answers (Denied NotOwn ∷ []) ∷ Answers (Denied NotBound ∷ []) ∷ Answers (Denied BadName ∷ []) ∷ []
 
 -- Of a lent task: an object that it does not hold, a class that is not remote, a slot that the class has not, a value not of the field's
--- kind, a task that does not stand at the operation of the call.
+-- kind, a task that does not stand at the operation of the call: a call, its end, or another operation on the store.
 abbrev pub RefusalsOfLentTasks : Type 0
 RefusalsOfLentTasks = heard space (Root counter_make [] 100 ∷ Committed 1 0 (Get (object 5) 0) ∷ Committed 1 0 (Create (class_of remote_exception)) ∷ Parked 1 0 ∷ Finished 1 0
     ∷ Committed 1 0 (Create (class_of counter_class)) ∷ Committed 1 0 (Get (object 1) 1) ∷ Committed 1 0 (Put (object 1) 0 values.Null)
     ∷ Committed 1 0 (Put (object 1) 0 (counter_of peer 1)) ∷ Committed 1 0 (Get (object 1) 0) ∷ []) ≡
     Answers (Started 1 ∷ Ready 1 ∷ []) ∷ Refuses NotHeld ∷ Refuses WrongKind ∷ Refuses WrongKind ∷ Refuses WrongKind
-    ∷ Answers [] ∷ Refuses WrongKind ∷ Refuses WrongKind ∷ Refuses NotHeld ∷ Answers [] ∷ []
+    ∷ Answers [] ∷ Refuses WrongKind ∷ Refuses WrongKind ∷ Refuses NotHeld ∷ Refuses WrongKind ∷ []
 
 -- ---- what holds an object
 

@@ -16,7 +16,9 @@ use Rattle.sp_call_set.specs.contracts.call_set.CallSet as CallSet
 use Rattle.sp_call_space.specs.contracts.player.Player as Player
 use Rattle.sp_call_space.specs.contracts.machines.Machines as Machines
 use Rattle.sim_spaces.specs.contracts.home.Home as Home
+use Rattle.sp_call_space.specs.contracts.parts.Parts as Parts
 use Rattle.sp_call_space.specs.contracts.space.Space as Space
+use Rattle.sp_call_space.specs.contracts.space.Space.TheInside as Inside
 use Rattle.vm_run.proofs.limits.Limits.TheSendSync as limits
 use Rattle.uuid.proofs.Uuid.TheSendSync as uuid
 use Rattle.sp_twin_core.proofs.space_core.SpaceCore.TheSendSync as core
@@ -42,8 +44,8 @@ machines_send κ = search (player_send, map.the_send, sendable, crosses) depth 6
 pub classes_sync : (κ : NamedLft) → IsSync (CallSet.the_row κ)
 classes_sync κ = search (program_sync, sendable, crosses, ghost_sync) depth 60 fits 30000
 
-pub space_send : (κ : NamedLft) → IsSend (Space.the_row κ)
-space_send κ = declared_send (declared (Space.struct κ) Space.the_propositions) (
+pub parts_send : (κ : NamedLft) → IsSend (Parts.the_row κ)
+parts_send κ = declared_send (declared (Parts.struct κ) Parts.the_propositions) (
   search (sendable, crosses) depth 20,
   (
     search (uuid.the_send, sendable, crosses) depth 20,
@@ -65,6 +67,12 @@ space_send κ = declared_send (declared (Space.struct κ) Space.the_propositions
     ),
   ),
 )
+
+pub inside_send : (κ : NamedLft) → IsSend (Inside.the_row κ)
+inside_send κ = declared_send (declared (Inside.struct κ) Inside.the_propositions) (parts_send κ, tt)
+
+pub space_send : (κ : NamedLft) → IsSend (Space.the_row κ)
+space_send κ = search (inside_send κ, sendable)
 
 pub home_send : (κ : NamedLft) → IsSend (Home.the_row κ)
 home_send κ = declared_send (declared (Home.struct κ) Home.the_propositions) (

@@ -1,8 +1,9 @@
 //! From the words of `serve` and `call` to a space of the classes that they name.
 
+ghost use Rattle.sp_reply_laws.specs.Told.{AreRemoteRules};
+
 use crate::exports::export_of;
 use crate::serving::run_space;
-use crate::words::{Aim, Invocation, ServeRequest, SpaceRequest, read_words};
 use net_message::Digest;
 use sim_spaces::{Homes, class_digest};
 use sim_worlds::Origin;
@@ -10,6 +11,7 @@ use sp_call_set::CallSet;
 use sp_files::{ClassBytes, program_of};
 use sp_main::class_files;
 use sp_serve::Host;
+use sp_serve_words::{Aim, Invocation, ServeRequest, SpaceRequest, read_words};
 use sp_texts::{Report, Status, folder_report, refusal_report, text_report, write_text};
 use sp_words::Folder;
 use space_ids::Uuid;
@@ -88,7 +90,9 @@ fn over_program<R: Host + RandomSource, I: BufRead, O: Write + Send + Drop, E: W
     input: &mut I,
     mut out: O,
     err: &mut E,
-) -> u8 {
+) -> u8
+    requires rules { AreRemoteRules program.now.classes }
+{
     let alloc = rt.alloc();
     let Ok(digest) = class_digest(alloc, files) else {
         return no_memory(&mut out, err);
@@ -143,7 +147,9 @@ fn over_classes<R: Host + RandomSource, I: BufRead, O: Write + Send + Drop, E: W
     input: &mut I,
     mut out: O,
     err: &mut E,
-) -> u8 {
+) -> u8
+    requires rules { AreRemoteRules program.now.classes }
+{
     let Some(id) = id_of(rt, request) else {
         let _ = writeln!(err, "error: the system has no random bytes");
         return Status::Failed.code();

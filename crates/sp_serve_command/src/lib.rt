@@ -1,4 +1,4 @@
-//! The commands that run a space over TCP, `serve` and `call`: their words, the files that they read, and the space.
+//! The commands that run a space over TCP, `serve` and `call`: the files that they read, and the space.
 #![tactic(auto)]
 
 pub use command::space_command;
@@ -6,4 +6,3 @@ pub use command::space_command;
 mod command;
 mod exports;
 mod serving;
-mod words;

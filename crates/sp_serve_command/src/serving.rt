@@ -1,11 +1,11 @@
 //! What a space does: it is served, or makes one call.
 
 use crate::command::no_memory;
-use crate::words::{Aim, CallRequest, ServeRequest};
 use sim_worlds::Played;
 use sp_serve::{
     Bound, Called, Caller, Host, OneCall, OpenGate, Plan, Station, call_on, open, serve_on,
 };
+use sp_serve_words::{Aim, CallRequest, ServeRequest};
 use sp_texts::{Status, write_text};
 use sp_world::CoreFault;
 use std::alloc::{AllocError, Global};

@@ -18,9 +18,9 @@ use Rattle.sp_rules.specs.Frames.{answered_by, answered_on, ends_as, fits_asked,
 use Rattle.sp_rules.specs.Holders.{is_refused}
 use Rattle.sp_rules.specs.Lists.{with_some}
 use Rattle.sp_rules.specs.LivingTasks.{reply_to}
-use Rattle.sp_rules.specs.ParkedFrames.{has_number, is_asked_on, is_call_on, is_unanswered_on, park_frame, remove_requests}
+use Rattle.sp_rules.specs.ParkedFrames.{has_number, is_asked_on, is_call_on, is_out_on, is_unanswered_on, park_frame, remove_requests}
 use Rattle.sp_rules.specs.References.{foreign_ids, references_in}
-use Rattle.sp_rules.specs.State.{State, Asked, Calls, LooksUp, Tells, Connection, Request, ReturnedFrame}
+use Rattle.sp_rules.specs.State.{State, Asked, Calls, LooksUp, Tells, Connection, Request, ReturnedFrame, Stage, Waits, Out, Answered}
 use Rattle.sp_rules.proofs.AllLemmas.{found-is}
 use Rattle.sp_transport.specs.Answers.{asker_in}
 use Rattle.sp_living.proofs.FoundLemmas.{IsAskedBy}
@@ -42,6 +42,25 @@ nobody-asks conn number rs none = by (find (is_asked_on conn number) rs) refl no
     by : (o : Option Request) → find (is_asked_on conn number) rs ≡ o → None ≡ option_and_then asker_in o → o ≡ None
     by None there n = refl
     by (Some r) there n = absurd (no-call number r.asked (second (is_unanswered_on conn r.stage) (has_number number r.asked) (found-is (is_asked_on conn number) rs r there)) (sym n))
+
+-- what is asked is out
+out-too : (conn number : ℕ) (r : Request) → is_asked_on conn number r ≡ true → is_call_on conn number r ≡ true
+out-too conn number r asked = by r.stage asked
+  where
+    by : (stage : Stage) → (is_unanswered_on conn stage && has_number number r.asked) ≡ true → (is_out_on conn stage && has_number number r.asked) ≡ true
+    by Waits asked = asked
+    by (Out c sequence) asked = asked
+    by (Answered c) asked = absurd (true≢false (sym asked))
+
+pub asked-called : (conn number : ℕ) (rs : List Request) (r : Request) → find (is_asked_on conn number) rs ≡ Some r → (q : Request) × (find (is_call_on conn number) rs ≡ Some q)
+asked-called conn number [] r found = cc
+asked-called conn number (x ∷ xs) r found = by (is_asked_on conn number x) (is_call_on conn number x) refl refl found (λ later. asked-called conn number xs r later)
+  where
+    by : (a b : Bool) → is_asked_on conn number x ≡ a → is_call_on conn number x ≡ b → cond a (Some x) (find (is_asked_on conn number) xs) ≡ Some r
+        → (find (is_asked_on conn number) xs ≡ Some r → (q : Request) × (find (is_call_on conn number) xs ≡ Some q)) → (q : Request) × (cond b (Some x) (find (is_call_on conn number) xs) ≡ Some q)
+    by a true asked called found go = (x, refl)
+    by true false asked called found go = absurd (true≢false (sym (out-too conn number x asked) ∙ called))
+    by false false asked called found go = go found
 
 -- ---- an answer, to something or to nothing
 

@@ -8,3 +8,4 @@ pub mod SweepLemmas
 pub mod HappenLemmas
 pub mod OpLemmas
 pub mod LoopLemmas
+pub mod LetInLemmas

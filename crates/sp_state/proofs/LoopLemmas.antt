@@ -1,19 +1,16 @@
 -- Loops over values and over ids: what is so of the first ones, and of one more.
-use Rattle.std.proofs.Common.{◌≡◌, ℕ, zero, suc, ◌+◌, ◌<◌, arith, Bool, true, false, List, [], ◌∷◌, ◌++◌, Option, None, Some, refl, sym, ap, ◌∙◌, fold, length, get_or, take, unwrap_or}
+use Rattle.std.proofs.Common.{◌≡◌, ℕ, zero, suc, ◌+◌, ◌<◌, arith, Bool, true, false, List, [], ◌∷◌, ◌++◌, Option, None, Some, refl, sym, ap, ◌∙◌, length, get_or, take, unwrap_or}
 use Rattle.std.specs.Prelude.{◌||◌, option_map}
-use Rattle.std.specs.List.{IsDistinct, flat_map, list_any}
+use Rattle.std.specs.List.{flat_map, list_any}
 use Rattle.std.proofs.lemmas.Grind.{flat_map-append, take_at_read}
 use Rattle.std.proofs.lemmas.List.{append-nil}
 use Rattle.std.proofs.lemmas.List.Folds.{list_any-append}
-use Rattle.std.proofs.lemmas.List.Sums.{fold-append}
-use Rattle.dgc_client.specs.Table.{is_same, with_reference}
 use Rattle.space_ids.specs.declared.ids.ObjId.{ObjId}
 use Rattle.space_ids.specs.declared.ids.Ref.{Ref}
 use Rattle.space_ids.specs.declared.value.Value.{Value}
-use Rattle.uuid.specs.declared.Uuid.{Uuid}
 use Rattle.sp_rules.specs.Classes.{Setting}
 use Rattle.sp_rules.specs.Holders.{fields_of}
-use Rattle.sp_rules.specs.References.{foreign_id, foreign_ids, reference_of, references_of}
+use Rattle.sp_rules.specs.References.{reference_of, references_of}
 use Rattle.sp_rules.specs.State.{State, Object, object_at}
 use Rattle.sp_state.specs.Sweeping.{fields_at}
 
@@ -27,19 +24,6 @@ flat-next f xs i x lt is =
 pub flat-read : {A B : Type 0} (f : A → List B) (xs : List A) (i : ℕ) (d : A) → i < length xs → flat_map f (take (i + 1) xs) ≡ flat_map f (take i xs) ++ f (get_or xs i d)
 flat-read f xs i d lt =
     ap (flat_map f) (take_at_read xs i d lt).1 ∙ flat_map-append f (take i xs) (get_or xs i d ∷ []) ∙ ap (λ ys. flat_map f (take i xs) ++ ys) (append-nil (f (get_or xs i d)))
-
--- ---- foreign references
-
-pub none-distinct : IsDistinct is_same []
-unfolding IsDistinct
-none-distinct = tt
-
-pub foreign-next : (own : Uuid) (values : List Value) (i : ℕ) (v : Value) → i < length values → v ≡ get_or values i v
-    → fold with_reference [] (foreign_ids own (references_of (take (i + 1) values))) ≡ fold with_reference (fold with_reference [] (foreign_ids own (references_of (take i values)))) (foreign_ids own (reference_of v))
-foreign-next own values i v lt is =
-    ap (λ rs. fold with_reference [] (foreign_ids own rs)) (flat-next reference_of values i v lt is)
-    ∙ ap (fold with_reference []) (flat_map-append (foreign_id own) (references_of (take i values)) (reference_of v))
-    ∙ fold-append with_reference [] (foreign_ids own (references_of (take i values))) (foreign_ids own (reference_of v))
 
 -- ---- whether one is refused
 

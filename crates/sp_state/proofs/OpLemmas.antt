@@ -1,6 +1,6 @@
 -- Operations on the store: what they make of a state, and of the record of the task that asks.
-use Rattle.std.proofs.Common.{◌≡◌, ℕ, zero, suc, ◌+◌, ◌≤◌, arith, Bool, true, false, cond, List, [], ◌∷◌, ◌++◌, Option, None, Some, refl, sym, ap, subst, ◌∙◌, map, length, unwrap_or}
-use Rattle.std.specs.Prelude.{◌⊎◌, option_and_then, slice_get}
+use Rattle.std.proofs.Common.{◌≡◌, ℕ, zero, suc, ◌+◌, ◌≤◌, ◌<◌, arith, Bool, true, false, cond, List, [], ◌∷◌, ◌++◌, Option, None, Some, refl, sym, ap, subst, ◌∙◌, map, length, unwrap_or}
+use Rattle.std.specs.Prelude.{◌⊎◌, is_some, option_and_then, slice_get}
 use Rattle.std.specs.Prelude as prelude
 use Rattle.std.proofs.Common.{inl, inr}
 use Rattle.std.proofs.lemmas.List.{length-append, map-append}
@@ -12,13 +12,14 @@ use Rattle.space_ids.specs.declared.ids.ObjId.{ObjId}
 use Rattle.space_ids.specs.declared.ids.Ref.{Ref}
 use Rattle.space_ids.specs.declared.value.Value.{Value}
 use Rattle.space_ids.specs.declared.value.Value.TheVariants as values
-use Rattle.sp_rules.specs.Behaviours.{Op, Create, Get, Put, Call, Reply, Gives, Throws}
-use Rattle.sp_rules.specs.Classes.{Setting, blank, field_kind}
+use Rattle.sp_rules.specs.Behaviours.{Op, Create, Get, Put, Call, Reply, Gives, Throws, RunsOut}
+use Rattle.sp_rules.specs.Classes.{Kind, Setting, blank, field_kind, fits_field}
 use Rattle.sp_rules.specs.Holders.{drop, drop_ids, hold, hold_ids, holder_comes, holder_goes}
 use Rattle.sp_rules.specs.Laws.{RisesWithin}
 use Rattle.sp_rules.specs.Lists.{each, numbers_below, with_some}
 use Rattle.sp_rules.specs.LivingTasks.{after_op, after_reply, after_steps, commit, is_full, next_object, op_reply, value_at}
 use Rattle.sp_rules.specs.References.{foreign_ids, reference_of, references_in}
+use Rattle.sp_rules.specs.Refusals.{has_field, takes_value}
 use Rattle.sp_rules.specs.State.{State, Living, Made, Object, Written, last_written, object_at, ready_at, set_task, standing}
 use Rattle.sp_rules.specs.Tasks.{Task, Stand, Runs, AsksFor, HasEnded, answer, gained, pay_with, stand, step, step_at, steps}
 use Rattle.sp_store.specs.Stores.{field_after, fields_after}
@@ -63,11 +64,48 @@ field-value g s id slot v e = of (object_at s id) refl e
         ap Some (slot-value (λ k. unwrap_or (last_written s.store o.id k) (blank (field_kind g.classes o.class k))) (length (g.classes.fields o.class)) slot v e)
         ∙ ap (λ (q : ObjId). Some (unwrap_or (last_written s.store q slot) (blank (field_kind g.classes o.class slot)))) (object-id s id o there)
 
+-- a list that has nothing at an index is no longer than that
+none-past : (xs : List Value) (i : ℕ) → ◌≡◌ {A = Option Value} None (slice_get xs i) → length xs ≤ i
+none-past [] i none = omega arith
+none-past (x ∷ xs) zero none = absurd (cc)
+none-past (x ∷ xs) (suc i) none = let rest = none-past xs i none in omega (arith, rest)
+
+some-within : (ks : List Kind) (i : ℕ) → is_some (slice_get ks i) ≡ true → i < length ks
+some-within [] i some = absurd (cc)
+some-within (k ∷ ks) zero some = omega arith
+some-within (k ∷ ks) (suc i) some = let rest = some-within ks i some in omega (arith, rest)
+
+-- a field that a standing object has holds something
+pub field-there : (g : Setting) (s : State) (id : ObjId) (slot : ℕ) → ◌≡◌ {A = Option Value} None (field_after g s.store id slot) → has_field g (object_at s id) slot ≡ true → ⊥
+field-there g s id slot none has = of (object_at s id) none has
+  where
+    of : (o : Option Object) → ◌≡◌ {A = Option Value} None (option_and_then (λ (p : Object). slice_get (fields_after g s.store p) slot) o) → has_field g o slot ≡ true → ⊥
+    of None none has = cc
+    of (Some o) none has =
+        let f : ℕ → Value = λ k. unwrap_or (last_written s.store o.id k) (blank (field_kind g.classes o.class k)) in
+        let fields = g.classes.fields o.class in
+        let within : slot < length fields = some-within fields slot has in
+        let past : length (map f (numbers_below (length fields))) ≤ slot = none-past (map f (numbers_below (length fields))) slot none in
+        absurd (omega (arith, within, past, length-slots f (length fields)))
+
+-- what may be put into a field is put into one that is there
+pub takes-there : (g : Setting) (o : Option Object) (slot : ℕ) (value : Value) → takes_value g o slot value ≡ true → has_field g o slot ≡ true
+takes-there g None slot value takes = takes
+takes-there g (Some o) slot value takes = of (field_kind g.classes o.class slot) takes
+  where
+    of : (k : Option Kind) → fits_field k value ≡ true → is_some k ≡ true
+    of None takes = takes
+    of (Some k) takes = refl
+
 -- ---- replies
 
-pub get-reply : (g : Setting) (s : State) (id : ObjId) (slot : ℕ) (v : Value) → Some v ≡ value_at g s id slot (object_at s id) → Gives (Some v) ≡ op_reply g (Get id slot) s
+pub get-reply : (g : Setting) (s : State) (id : ObjId) (slot : ℕ) (v : Option Value) → v ≡ value_at g s id slot (object_at s id) → Gives v ≡ op_reply g (Get id slot) s
 unfolding op_reply
 get-reply g s id slot v e = ap Gives e
+
+pub call-reply : (g : Setting) (s : State) (target : Ref) (method : ℕ) (arguments : List Value) → RunsOut ≡ op_reply g (Call target method arguments) s
+unfolding op_reply
+call-reply g s target method arguments = refl
 
 pub put-reply : (g : Setting) (s : State) (id : ObjId) (slot : ℕ) (v : Value) → Gives None ≡ op_reply g (Put id slot v) s
 unfolding op_reply
@@ -307,6 +345,9 @@ pub committed-space : (g : Setting) (id k : ℕ) (op : Op) (reply : Reply) (t : 
 committed-space g id k op reply t s x l ready same is now =
     subst (λ (u : State). IsSpace g u (record x { living = l })) (ap (λ (r : Reply). give_reply g id k r (after_op g op s)) same ∙ sym (committed g s id k op t ready))
     (quiet g (after_op g op s) (give_reply g id k reply (after_op g op s)) x l (give-parts g id k reply (after_op g op s)) now is)
+
+pub called-space : (g : Setting) (target : Ref) (method : ℕ) (arguments : List Value) (s : State) (x : SpaceState) → IsSpace g s x → IsSpace g (after_op g (Call target method arguments) s) x
+called-space g target method arguments s x is = subst (λ (u : State). IsSpace g u x) (sym (call-is g target method arguments s)) is
 
 pub got-space : (g : Setting) (id : ObjId) (slot : ℕ) (s : State) (x : SpaceState) → IsSpace g s x → IsSpace g (after_op g (Get id slot) s) x
 got-space g id slot s x is = subst (λ (u : State). IsSpace g u x) (sym (get-is g id slot s)) is

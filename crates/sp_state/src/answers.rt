@@ -1,20 +1,23 @@
 //! Answers that come on connections that this space dialled.
 
-ghost use Rattle.std.specs.Prelude.{◌≡◌, ◌||◌, [], Some, OnOk, not, true, false, if◌then◌else◌};
+ghost use Rattle.std.specs.Prelude.{◌≡◌, ◌||◌, [], Some, OnOk, find, not, true, false, if◌then◌else◌};
 ghost use Rattle.std.specs.List.{list_any};
 ghost use Rattle.dgc_client.specs.History.Event.{CleanAnswered, DirtyAnswered};
 ghost use Rattle.sp_rules.specs.Classes.{Classes, Setting};
 ghost use Rattle.sp_rules.specs.Frames.{answered_by, ends_as, fits_asked, returned_for, spent_reply, thrown_reply, told_by};
 ghost use Rattle.sp_rules.specs.Holders.{is_refused};
+ghost use Rattle.sp_rules.specs.ParkedFrames.{is_call_on};
 ghost use Rattle.sp_rules.specs.References.{references_in};
-ghost use Rattle.sp_rules.specs.State.{Asked as Question, Connection as Line, State};
+ghost use Rattle.sp_rules.specs.State.{Asked as Question, Connection as Line, Request, State};
 ghost use Rattle.sp_tasks.specs.Behaviours.{reply_of};
 ghost use Rattle.sp_state.specs.Receiving.{IsAskedBy};
 ghost use Rattle.uuid.specs.declared.Uuid.{Uuid as Peer};
+ghost use Rattle.sp_tasks.specs.Lent.{KeepsLent};
 
 use crate::SpaceState;
-use crate::refusing::{fits, foreign_in};
+use crate::refusing::fits;
 use sp_call_classes::{CallClasses, RemoteException};
+use sp_endings::foreign_in;
 use sp_parked::{Frame, ParkedFrame};
 use sp_requests::Asker;
 use sp_tasks::Reply;
@@ -35,7 +38,8 @@ impl SpaceState {
         fuel: u64,
         value: Option<Value>,
     ) -> Result<(), AllocError>
-        ensures { OnOk result ((g : Setting) (s : State) (c : Line) (peer : Peer) → IsSpace g s self.old → s.notes ≡ [] → C.tells classes.now g.classes → ComesOn conn s c → c.dialled ≡ Some peer → IsSpace g (answered_by g c number (returned_for g c number fuel value) s) self.new) }
+        ensures got { OnOk result ((g : Setting) (s : State) (c : Line) (peer : Peer) → IsSpace g s self.old → s.notes ≡ [] → C.tells classes.now g.classes → ComesOn conn s c → c.dialled ≡ Some peer → IsSpace g (answered_by g c number (returned_for g c number fuel value) s) self.new) }
+        ensures lent { OnOk result (KeepsLent self.old.living.tasks self.new.living.tasks) }
     {
         let Some(asker) = self.living.asked(conn, number) else {
             return self.close(classes, RemoteException::Unmarshal, conn);
@@ -67,7 +71,8 @@ impl SpaceState {
         number: u64,
         asker: Asker,
     ) -> Result<(), AllocError>
-        ensures { OnOk result ((g : Setting) (s : State) (c : Line) (peer : Peer) (question : Question) → IsSpace g s self.old → C.tells classes.now g.classes → ComesOn conn s c → c.dialled ≡ Some peer → IsAskedBy asker question → IsSpace g (refuse_returned g conn number question s) self.new) }
+        ensures refused { OnOk result ((g : Setting) (s : State) (c : Line) (peer : Peer) (question : Question) (row : Request) → IsSpace g s self.old → C.tells classes.now g.classes → ComesOn conn s c → c.dialled ≡ Some peer → find (is_call_on conn number) s.requests ≡ Some row → IsAskedBy asker question → IsSpace g (refuse_returned g conn number question s) self.new) }
+        ensures lent { OnOk result (KeepsLent self.old.living.tasks self.new.living.tasks) }
     {
         self.living.acknowledge(conn, number)?;
         let class = classes.thrown(RemoteException::Unmarshal);
@@ -83,7 +88,8 @@ impl SpaceState {
         fuel: u64,
         value: Option<Value>,
     ) -> Result<(), AllocError>
-        ensures { OnOk result ((g : Setting) (s : State) (c : Line) (peer : Peer) → IsSpace g s self.old → C.tells classes.now g.classes → ComesOn conn s c → c.dialled ≡ Some peer → IsSpace g (park_returned g conn number fuel value s) self.new) }
+        ensures parked { OnOk result ((g : Setting) (s : State) (c : Line) (peer : Peer) → IsSpace g s self.old → C.tells classes.now g.classes → ComesOn conn s c → c.dialled ≡ Some peer → IsSpace g (park_returned g conn number fuel value s) self.new) }
+        ensures lent { OnOk result (KeepsLent self.old.living.tasks self.new.living.tasks) }
     {
         let references = foreign_in(self.alloc, &self.id, &value)?;
         self.living.answer(conn, number);
@@ -104,7 +110,8 @@ impl SpaceState {
         number: u64,
         class: ClassId,
     ) -> Result<(), AllocError>
-        ensures { OnOk result ((g : Setting) (s : State) (c : Line) (peer : Peer) → IsSpace g s self.old → s.notes ≡ [] → C.tells classes.now g.classes → ComesOn conn s c → c.dialled ≡ Some peer → IsSpace g (answered_by g c number (ends_as g c number (λ asked. thrown_reply g class)) s) self.new) }
+        ensures got { OnOk result ((g : Setting) (s : State) (c : Line) (peer : Peer) → IsSpace g s self.old → s.notes ≡ [] → C.tells classes.now g.classes → ComesOn conn s c → c.dialled ≡ Some peer → IsSpace g (answered_by g c number (ends_as g c number (λ asked. thrown_reply g class)) s) self.new) }
+        ensures lent { OnOk result (KeepsLent self.old.living.tasks self.new.living.tasks) }
     {
         let Some(asker) = self.living.asked(conn, number) else {
             return self.close(classes, RemoteException::Unmarshal, conn);
@@ -121,7 +128,8 @@ impl SpaceState {
         conn: u64,
         number: u64,
     ) -> Result<(), AllocError>
-        ensures { OnOk result ((g : Setting) (s : State) (c : Line) (peer : Peer) → IsSpace g s self.old → s.notes ≡ [] → C.tells classes.now g.classes → ComesOn conn s c → c.dialled ≡ Some peer → IsSpace g (answered_by g c number (ends_as g c number (spent_reply g)) s) self.new) }
+        ensures got { OnOk result ((g : Setting) (s : State) (c : Line) (peer : Peer) → IsSpace g s self.old → s.notes ≡ [] → C.tells classes.now g.classes → ComesOn conn s c → c.dialled ≡ Some peer → IsSpace g (answered_by g c number (ends_as g c number (spent_reply g)) s) self.new) }
+        ensures lent { OnOk result (KeepsLent self.old.living.tasks self.new.living.tasks) }
     {
         let Some(asker) = self.living.asked(conn, number) else {
             return self.close(classes, RemoteException::Unmarshal, conn);
@@ -139,7 +147,8 @@ impl SpaceState {
         sequence: u64,
         period: u64,
     ) -> Result<(), AllocError>
-        ensures { OnOk result ((g : Setting) (s : State) (c : Line) → IsSpace g s self.old → s.notes ≡ [] → C.tells classes.now g.classes → ComesOn conn s c → IsSpace g (told_by g c true sequence (λ call. DirtyAnswered call period) s) self.new) }
+        ensures got { OnOk result ((g : Setting) (s : State) (c : Line) (peer : Peer) → IsSpace g s self.old → s.notes ≡ [] → C.tells classes.now g.classes → ComesOn conn s c → c.dialled ≡ Some peer → IsSpace g (told_by g c true sequence (λ call. DirtyAnswered call period) s) self.new) }
+        ensures lent { OnOk result (KeepsLent self.old.living.tasks self.new.living.tasks) }
     {
         let store = self.owner.store();
         sp_endings::lease(&mut self.living, store, classes, conn, sequence, period)
@@ -152,7 +161,8 @@ impl SpaceState {
         conn: u64,
         sequence: u64,
     ) -> Result<(), AllocError>
-        ensures { OnOk result ((g : Setting) (s : State) (c : Line) → IsSpace g s self.old → s.notes ≡ [] → C.tells classes.now g.classes → ComesOn conn s c → IsSpace g (told_by g c false sequence CleanAnswered s) self.new) }
+        ensures got { OnOk result ((g : Setting) (s : State) (c : Line) (peer : Peer) → IsSpace g s self.old → s.notes ≡ [] → C.tells classes.now g.classes → ComesOn conn s c → c.dialled ≡ Some peer → IsSpace g (told_by g c false sequence CleanAnswered s) self.new) }
+        ensures lent { OnOk result (KeepsLent self.old.living.tasks self.new.living.tasks) }
     {
         let store = self.owner.store();
         sp_endings::cleaned(&mut self.living, store, classes, conn, sequence)

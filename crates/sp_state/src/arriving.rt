@@ -1,12 +1,13 @@
 //! Frames as they come: the space that dialled asks, and the other end answers. (This project's own protocol.)
 
-ghost use Rattle.std.specs.Prelude.{◌≡◌, [], None, Some, OnOk};
+ghost use Rattle.std.specs.Prelude.{◌≡◌, [], None, Some, OnOk, true, false};
 ghost use Rattle.sp_connections.specs.Tables.{seen};
 ghost use Rattle.sp_rules.specs.Classes.{Setting};
 ghost use Rattle.sp_rules.specs.Frames.{got, is_asking, is_wrong_way, receive};
 ghost use Rattle.sp_rules.specs.OwnEvents.{received_on};
 ghost use Rattle.uuid.specs.declared.Uuid.{Uuid as Peer};
 ghost use Rattle.sp_rules.specs.State.{Connection as Line, State, connection_at};
+ghost use Rattle.sp_tasks.specs.Lent.{KeepsLent};
 
 use crate::SpaceState;
 use net_message::Message;
@@ -26,7 +27,8 @@ impl SpaceState {
         conn: u64,
         message: Message,
     ) -> Result<(), AllocError>
-        ensures { OnOk result ((g : Setting) (s : State) → IsSpace g s self.old → s.notes ≡ [] → C.tells classes.now g.classes → IsSpace g (received_on g (connection_at s conn) message s) self.new) }
+        ensures received { OnOk result ((g : Setting) (s : State) → IsSpace g s self.old → s.notes ≡ [] → C.tells classes.now g.classes → IsSpace g (received_on g (connection_at s conn) message s) self.new) }
+        ensures lent { OnOk result (KeepsLent self.old.living.tasks self.new.living.tasks) }
     {
         match self.living.transport().connection(conn) {
             Some(connection) => self.receive(classes, conn, connection, message),
@@ -42,7 +44,8 @@ impl SpaceState {
         connection: Connection,
         message: Message,
     ) -> Result<(), AllocError>
-        ensures { OnOk result ((g : Setting) (s : State) (c : Line) → IsSpace g s self.old → s.notes ≡ [] → C.tells classes.now g.classes → ComesOn conn s c → connection ≡ seen c → IsSpace g (receive g c message s) self.new) }
+        ensures received { OnOk result ((g : Setting) (s : State) (c : Line) → IsSpace g s self.old → s.notes ≡ [] → C.tells classes.now g.classes → ComesOn conn s c → connection ≡ seen c → IsSpace g (receive g c message s) self.new) }
+        ensures lent { OnOk result (KeepsLent self.old.living.tasks self.new.living.tasks) }
     {
         let is_first = connection.peer.is_none();
         if is_first {
@@ -60,7 +63,7 @@ impl SpaceState {
         }
     }
 
-    // Takes a frame that asks. Others do not come here.
+    // Takes a frame that asks.
     fn got_asking<C: CallClasses>(
         &mut self,
         classes: &C,
@@ -68,7 +71,9 @@ impl SpaceState {
         connection: Connection,
         message: Message,
     ) -> Result<(), AllocError>
-        ensures { OnOk result ((g : Setting) (s : State) (c : Line) → IsSpace g s self.old → s.notes ≡ [] → C.tells classes.now g.classes → ComesOn conn s c → connection ≡ seen c → c.dialled ≡ None → IsSpace g (got g c message s) self.new) }
+        requires { is_asking message ≡ true }
+        ensures got { OnOk result ((g : Setting) (s : State) (c : Line) → IsSpace g s self.old → s.notes ≡ [] → C.tells classes.now g.classes → ComesOn conn s c → connection ≡ seen c → c.dialled ≡ None → IsSpace g (got g c message s) self.new) }
+        ensures lent { OnOk result (KeepsLent self.old.living.tasks self.new.living.tasks) }
     {
         match message {
             Message::Call {
@@ -100,7 +105,7 @@ impl SpaceState {
                 strong,
                 objects,
             } => self.got_clean(conn, connection.peer, sequence, strong, objects.as_slice()),
-            _ => Err(AllocError),
+            _ => unreachable!(),
         }
     }
 
@@ -111,7 +116,9 @@ impl SpaceState {
         conn: u64,
         message: Message,
     ) -> Result<(), AllocError>
-        ensures { OnOk result ((g : Setting) (s : State) (c : Line) (peer : Peer) → IsSpace g s self.old → s.notes ≡ [] → C.tells classes.now g.classes → ComesOn conn s c → c.dialled ≡ Some peer → IsSpace g (got g c message s) self.new) }
+        requires { is_asking message ≡ false }
+        ensures got { OnOk result ((g : Setting) (s : State) (c : Line) (peer : Peer) → IsSpace g s self.old → s.notes ≡ [] → C.tells classes.now g.classes → ComesOn conn s c → c.dialled ≡ Some peer → IsSpace g (got g c message s) self.new) }
+        ensures lent { OnOk result (KeepsLent self.old.living.tasks self.new.living.tasks) }
     {
         match message {
             Message::Hello { .. } => self.close(classes, RemoteException::Unmarshal, conn),
@@ -126,7 +133,7 @@ impl SpaceState {
                 self.got_lease(classes, conn, sequence, period)
             }
             Message::Cleaned { sequence } => self.got_cleaned(classes, conn, sequence),
-            _ => Err(AllocError),
+            _ => unreachable!(),
         }
     }
 }

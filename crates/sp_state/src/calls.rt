@@ -9,11 +9,12 @@ ghost use Rattle.sp_rules.specs.Holders.{is_refused};
 ghost use Rattle.sp_rules.specs.ParkedFrames.{answer_threw};
 ghost use Rattle.sp_rules.specs.References.{references_of};
 ghost use Rattle.sp_rules.specs.State.{Connection as Line, State, object_at};
+ghost use Rattle.sp_tasks.specs.Lent.{KeepsLent};
 
 use crate::SpaceState;
-use crate::refusing::foreign_among;
 use net_message::Message;
 use sp_call_classes::{CallClasses, RemoteException};
+use sp_endings::foreign_among;
 use sp_outputs::Turn;
 use sp_parked::{Frame, ParkedCall, ParkedFrame};
 use space_ids::{ClassId, Row};
@@ -32,7 +33,8 @@ impl SpaceState {
         number: u64,
         call: ParkedCall,
     ) -> Result<(), AllocError>
-        ensures { OnOk result ((g : Setting) (s : State) (c : Line) → IsSpace g s self.old → s.notes ≡ [] → C.tells classes.now g.classes → ComesOn conn s c → c.last ≡ last → IsSpace g (got_call g c number call.target call.method call.fuel call.arguments s) self.new) }
+        ensures got { OnOk result ((g : Setting) (s : State) (c : Line) → IsSpace g s self.old → s.notes ≡ [] → C.tells classes.now g.classes → ComesOn conn s c → c.last ≡ last → IsSpace g (got_call g c number call.target call.method call.fuel call.arguments s) self.new) }
+        ensures lent { OnOk result (KeepsLent self.old.living.tasks self.new.living.tasks) }
     {
         if number <= last {
             return self.close(classes, RemoteException::Unmarshal, conn);
@@ -84,7 +86,8 @@ impl SpaceState {
         number: u64,
         exception: RemoteException,
     ) -> Result<(), AllocError>
-        ensures { OnOk result ((g : Setting) (s : State) → IsSpace g s self.old → C.tells classes.now g.classes → IsSpace g (answer_threw conn number (thrown_class g.classes exception) s) self.new) }
+        ensures answered { OnOk result ((g : Setting) (s : State) → IsSpace g s self.old → C.tells classes.now g.classes → IsSpace g (answer_threw conn number (thrown_class g.classes exception) s) self.new) }
+        ensures lent { OnOk result (KeepsLent self.old.living.tasks self.new.living.tasks) }
     {
         let class = classes.thrown(exception);
         self.living
@@ -99,7 +102,8 @@ impl SpaceState {
         number: u64,
         call: ParkedCall,
     ) -> Result<(), AllocError>
-        ensures { OnOk result ((g : Setting) (s : State) → IsSpace g s self.old → C.tells classes.now g.classes → IsSpace g (take_call g conn number None call.target call.method call.fuel call.arguments s) self.new) }
+        ensures parked { OnOk result ((g : Setting) (s : State) → IsSpace g s self.old → C.tells classes.now g.classes → IsSpace g (take_call g conn number None call.target call.method call.fuel call.arguments s) self.new) }
+        ensures lent { OnOk result (KeepsLent self.old.living.tasks self.new.living.tasks) }
     {
         let references = foreign_among(self.alloc, &self.id, call.arguments.as_slice())?;
         let frame = ParkedFrame {

@@ -1,11 +1,13 @@
 //! Connections that open, fail and end, and peers that refuse.
 
-ghost use Rattle.std.specs.Prelude.{◌≡◌, [], OnOk};
+ghost use Rattle.std.specs.Prelude.{◌≡◌, [], None, OnOk, true};
 ghost use Rattle.sp_call_classes.specs.Thrown.{thrown_class};
 ghost use Rattle.sp_rules.specs.Classes.{Setting};
 ghost use Rattle.sp_rules.specs.Endings.{by_unmarshal, close, end_connection, fail_write};
 ghost use Rattle.sp_rules.specs.OwnEvents.{on_opened, on_refused};
-ghost use Rattle.sp_rules.specs.State.{State};
+ghost use Rattle.sp_rules.specs.Refusals.{was_asked};
+ghost use Rattle.sp_rules.specs.State.{State, connection_at, is_dialling};
+ghost use Rattle.sp_tasks.specs.Lent.{KeepsLent};
 
 use crate::SpaceState;
 use sp_call_classes::{CallClasses, RemoteException};
@@ -18,14 +20,16 @@ impl SpaceState {
     /// Opens a connection, to a peer that is being dialled or from one that dialled this space, and says
     /// Hello.
     pub fn opened(&mut self, conn: u64, dialled: Option<Uuid>) -> Result<(), AllocError>
-        ensures { OnOk result ((g : Setting) (s : State) → IsSpace g s self.old → s.notes ≡ [] → IsSpace g (on_opened g conn dialled s) self.new) }
+        ensures opened { OnOk result ((g : Setting) (s : State) → IsSpace g s self.old → s.notes ≡ [] → connection_at s conn ≡ None → was_asked s dialled ≡ true → IsSpace g (on_opened g conn dialled s) self.new) }
+        ensures lent { OnOk result (KeepsLent self.old.living.tasks self.new.living.tasks) }
     {
         self.living.open(conn, dialled, self.digest)
     }
 
     /// Ends what waits for a peer that was dialled and refused, calls and lookups with ConnectException.
     pub fn refused<C: CallClasses>(&mut self, classes: &C, peer: &Uuid) -> Result<(), AllocError>
-        ensures { OnOk result ((g : Setting) (s : State) → IsSpace g s self.old → s.notes ≡ [] → C.tells classes.now g.classes → IsSpace g (on_refused g peer.now s) self.new) }
+        ensures refused { OnOk result ((g : Setting) (s : State) → IsSpace g s self.old → s.notes ≡ [] → C.tells classes.now g.classes → is_dialling s peer.now ≡ true → IsSpace g (on_refused g peer.now s) self.new) }
+        ensures lent { OnOk result (KeepsLent self.old.living.tasks self.new.living.tasks) }
     {
         sp_endings::refuse(&mut self.living, classes, peer)
     }
@@ -37,7 +41,8 @@ impl SpaceState {
         classes: &C,
         conn: u64,
     ) -> Result<(), AllocError>
-        ensures { OnOk result ((g : Setting) (s : State) → IsSpace g s self.old → s.notes ≡ [] → C.tells classes.now g.classes → IsSpace g (end_connection g (by_unmarshal g) conn s) self.new) }
+        ensures ended { OnOk result ((g : Setting) (s : State) → IsSpace g s self.old → s.notes ≡ [] → C.tells classes.now g.classes → IsSpace g (end_connection g (by_unmarshal g) conn s) self.new) }
+        ensures lent { OnOk result (KeepsLent self.old.living.tasks self.new.living.tasks) }
     {
         sp_endings::end_connection(&mut self.living, classes, conn)
     }
@@ -49,7 +54,8 @@ impl SpaceState {
         conn: u64,
         unsent: u64,
     ) -> Result<(), AllocError>
-        ensures { OnOk result ((g : Setting) (s : State) → IsSpace g s self.old → s.notes ≡ [] → C.tells classes.now g.classes → IsSpace g (fail_write g conn unsent s) self.new) }
+        ensures failed { OnOk result ((g : Setting) (s : State) → IsSpace g s self.old → s.notes ≡ [] → C.tells classes.now g.classes → IsSpace g (fail_write g conn unsent s) self.new) }
+        ensures lent { OnOk result (KeepsLent self.old.living.tasks self.new.living.tasks) }
     {
         sp_endings::fail_write(&mut self.living, classes, conn, unsent)
     }
@@ -61,7 +67,8 @@ impl SpaceState {
         exception: RemoteException,
         conn: u64,
     ) -> Result<(), AllocError>
-        ensures { OnOk result ((g : Setting) (s : State) → IsSpace g s self.old → s.notes ≡ [] → C.tells classes.now g.classes → IsSpace g (close g (thrown_class g.classes exception) conn s) self.new) }
+        ensures closed { OnOk result ((g : Setting) (s : State) → IsSpace g s self.old → s.notes ≡ [] → C.tells classes.now g.classes → IsSpace g (close g (thrown_class g.classes exception) conn s) self.new) }
+        ensures lent { OnOk result (KeepsLent self.old.living.tasks self.new.living.tasks) }
     {
         sp_endings::close(&mut self.living, classes, exception, conn)
     }

@@ -6,6 +6,7 @@ ghost use Rattle.sp_outputs.specs.Notes.{output_of};
 ghost use Rattle.sp_rules.specs.Classes.{Setting};
 ghost use Rattle.sp_rules.specs.Space.{happen, on};
 ghost use Rattle.sp_rules.specs.State.{State};
+ghost use Rattle.sp_tasks.specs.Lent.{KeepsLent};
 
 use crate::SpaceState;
 use sp_call_classes::CallClasses;
@@ -14,16 +15,19 @@ use sp_outputs::Output;
 use std::alloc::AllocError;
 
 impl SpaceState {
+    ghost use Rattle.sp_state.specs.LetIn.{IsLetIn};
     ghost use Rattle.sp_state.specs.Spaces.{IsAtRest, IsSpace};
 
-    /// Takes an event that comes from outside. Returns what it answers, in its order.
+    /// Takes an event that comes from outside, which the rules do not refuse. Returns what it answers, in its
+    /// order.
     pub fn on<C: CallClasses>(
         &mut self,
         classes: &C,
         event: Event,
     ) -> Result<Vec<Output>, AllocError>
-        ensures outputs { IfOk result (λ outputs. (g : Setting) (s : State) → IsSpace g s self.old → IsAtRest s → C.tells classes.now g.classes → map output_of outputs.items ≡ (on g (event_of event) s).1) }
-        ensures happened { OnOk result ((g : Setting) (s : State) → IsSpace g s self.old → IsAtRest s → C.tells classes.now g.classes → IsSpace g (on g (event_of event) s).0 self.new) }
+        ensures lent { OnOk result (KeepsLent self.old.living.tasks self.new.living.tasks) }
+        ensures outputs { IfOk result (λ outputs. (g : Setting) (s : State) → IsSpace g s self.old → IsAtRest s → C.tells classes.now g.classes → IsLetIn g s (event_of event) → map output_of outputs.items ≡ (on g (event_of event) s).1) }
+        ensures happened { OnOk result ((g : Setting) (s : State) → IsSpace g s self.old → IsAtRest s → C.tells classes.now g.classes → IsLetIn g s (event_of event) → IsSpace g (on g (event_of event) s).0 self.new) }
     {
         self.happen(classes, event)?;
         let outputs = self.conclude()?;
@@ -32,6 +36,7 @@ impl SpaceState {
 
     /// Starts a root. Returns what the event answers, in its order.
     pub fn on_root(&mut self, root: &Root) -> Result<Vec<Output>, AllocError>
+        ensures lent { OnOk result (KeepsLent self.old.living.tasks self.new.living.tasks) }
         ensures outputs { IfOk result (λ outputs. (g : Setting) (s : State) → IsSpace g s self.old → IsAtRest s → map output_of outputs.items ≡ (on g (event_of_root root.now) s).1) }
         ensures happened { OnOk result ((g : Setting) (s : State) → IsSpace g s self.old → IsAtRest s → IsSpace g (on g (event_of_root root.now) s).0 self.new) }
     {
@@ -42,7 +47,8 @@ impl SpaceState {
 
     // What an event makes of the state, before its end.
     fn happen<C: CallClasses>(&mut self, classes: &C, event: Event) -> Result<(), AllocError>
-        ensures { OnOk result ((g : Setting) (s : State) → IsSpace g s self.old → IsAtRest s → C.tells classes.now g.classes → IsSpace g (happen g (event_of event) s) self.new) }
+        ensures happened { OnOk result ((g : Setting) (s : State) → IsSpace g s self.old → IsAtRest s → C.tells classes.now g.classes → IsLetIn g s (event_of event) → IsSpace g (happen g (event_of event) s) self.new) }
+        ensures lent { OnOk result (KeepsLent self.old.living.tasks self.new.living.tasks) }
     {
         match event {
             Event::Moment(moment) => self.moment(moment),

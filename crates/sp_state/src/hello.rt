@@ -6,6 +6,7 @@ ghost use Rattle.sp_rules.specs.Classes.{Setting};
 ghost use Rattle.sp_rules.specs.Frames.{first_frame};
 ghost use Rattle.sp_rules.specs.State.{Connection as Line, State};
 ghost use Rattle.sp_state.specs.Hellos.{hello_in};
+ghost use Rattle.sp_tasks.specs.Lent.{KeepsLent};
 
 use crate::SpaceState;
 use net_message::{Digest, Message};
@@ -34,7 +35,8 @@ impl SpaceState {
         dialled: Option<Uuid>,
         message: Message,
     ) -> Result<(), AllocError>
-        ensures { OnOk result ((g : Setting) (s : State) (c : Line) → IsSpace g s self.old → s.notes ≡ [] → C.tells classes.now g.classes → ComesOn conn s c → c.dialled ≡ dialled → c.peer ≡ None → IsSpace g (first_frame g c message s) self.new) }
+        ensures got { OnOk result ((g : Setting) (s : State) (c : Line) → IsSpace g s self.old → s.notes ≡ [] → C.tells classes.now g.classes → ComesOn conn s c → c.dialled ≡ dialled → c.peer ≡ None → IsSpace g (first_frame g c message s) self.new) }
+        ensures lent { OnOk result (KeepsLent self.old.living.tasks self.new.living.tasks) }
     {
         let Some(hello) = hello_in(&message) else {
             return self.close(classes, RemoteException::Unmarshal, conn);
@@ -52,7 +54,8 @@ impl SpaceState {
         conn: u64,
         hello: Hello,
     ) -> Result<(), AllocError>
-        ensures { OnOk result ((g : Setting) (s : State) (c : Line) → IsSpace g s self.old → s.notes ≡ [] → C.tells classes.now g.classes → ComesOn conn s c → c.dialled ≡ None → IsSpace g (take_hello g c hello s) self.new) }
+        ensures got { OnOk result ((g : Setting) (s : State) (c : Line) → IsSpace g s self.old → s.notes ≡ [] → C.tells classes.now g.classes → ComesOn conn s c → c.dialled ≡ None → IsSpace g (take_hello g c hello s) self.new) }
+        ensures lent { OnOk result (KeepsLent self.old.living.tasks self.new.living.tasks) }
     {
         if self.has_digest(&hello) {
             self.living.greet(conn, hello.space);
@@ -69,7 +72,8 @@ impl SpaceState {
         peer: &Uuid,
         hello: Hello,
     ) -> Result<(), AllocError>
-        ensures { OnOk result ((g : Setting) (s : State) (c : Line) → IsSpace g s self.old → s.notes ≡ [] → C.tells classes.now g.classes → ComesOn conn s c → c.dialled ≡ Some peer.now → c.peer ≡ None → IsSpace g (take_hello g c hello s) self.new) }
+        ensures got { OnOk result ((g : Setting) (s : State) (c : Line) → IsSpace g s self.old → s.notes ≡ [] → C.tells classes.now g.classes → ComesOn conn s c → c.dialled ≡ Some peer.now → c.peer ≡ None → IsSpace g (take_hello g c hello s) self.new) }
+        ensures lent { OnOk result (KeepsLent self.old.living.tasks self.new.living.tasks) }
     {
         if self.is_of(&hello, peer) {
             return self.living.flush_waiting(peer, conn);

@@ -1,6 +1,6 @@
 //! Tasks that are lent: while one is, its instructions are made outside the space.
 
-ghost use Rattle.std.specs.Prelude.{◌≡◌, IfErr, IfSome, OnOk, true};
+ghost use Rattle.std.specs.Prelude.{◌≡◌, IfErr, IfNone, IfSome, OnOk, true};
 ghost use Rattle.sp_rules.specs.Behaviours.{Call as Calls};
 ghost use Rattle.sp_rules.specs.Classes.{Setting};
 ghost use Rattle.sp_rules.specs.LivingTasks.{finish_task, give_back, park_call};
@@ -9,6 +9,7 @@ ghost use Rattle.sp_rules.specs.Tasks.{AsksFor, HasEnded, lent, stand};
 ghost use Rattle.sp_tasks.specs.Behaviours.{outcome_of};
 ghost use Rattle.sp_tasks.specs.Rows.{at_row, back_row, lent_row};
 ghost use Rattle.sp_living.specs.Hands.{task_of};
+ghost use Rattle.sp_tasks.specs.Lent.{KeepsLent, LendsNoMore, LendsToo};
 
 use crate::SpaceState;
 use sp_call_classes::CallClasses;
@@ -24,6 +25,8 @@ impl SpaceState {
     pub fn lend(&mut self, id: u64) -> Option<LentTask>
         ensures task { result ≡ hand_at id self.old }
         ensures rows { self.new.living.tasks.rows ≡ at_row id lent_row self.old.living.tasks.rows }
+        ensures lent { IfSome result (λ _. LendsToo id self.old.living.tasks self.new.living.tasks) }
+        ensures unlent { IfNone result (KeepsLent self.old.living.tasks self.new.living.tasks) }
         ensures own { IfSome result (λ hand. has_lent self.new hand ≡ true) }
         ensures same { (g : Setting) (s : State) → IsSpace g s self.old → IsSpace g s self.new }
     {
@@ -34,6 +37,7 @@ impl SpaceState {
     pub fn give_back(&mut self, task: LentTask)
         requires { has_lent self.old task ≡ true }
         ensures rows { self.new.living.tasks.rows ≡ at_row task.id (back_row task.made) self.old.living.tasks.rows }
+        ensures lent { LendsNoMore task.id self.old.living.tasks self.new.living.tasks }
         ensures back { (g : Setting) (s : State) → IsSpace g s self.old → IsSpace g (give_back task.id task.made s) self.new }
     {
         self.living.give_back(task);
@@ -52,6 +56,7 @@ impl SpaceState {
     ) -> Result<(), LentTask>
         requires { has_lent self.old task ≡ true }
         ensures parked { OnOk result ((g : Setting) (s : State) → IsSpace g s self.old → C.tells classes.now g.classes → stand (task_of g task) ≡ AsksFor (Calls target method arguments) → fuel ≡ lent (task_of g task) → IsSpace g (park_call g task.id task.made s) self.new) }
+        ensures lent { OnOk result (LendsNoMore task.id self.old.living.tasks self.new.living.tasks) }
         ensures back { IfErr result (λ back. back ≡ task) }
     {
         self.living
@@ -67,7 +72,8 @@ impl SpaceState {
         outcome: Outcome,
     ) -> Result<(), AllocError>
         requires { has_lent self.old task.now ≡ true }
-        ensures { OnOk result ((g : Setting) (s : State) → IsSpace g s self.old → C.tells classes.now g.classes → stand (task_of g task.now) ≡ HasEnded (outcome_of outcome) → fuel ≡ (task_of g task.now).fuel → IsSpace g (finish_task g task.now.id task.now.made s) self.new) }
+        ensures finished { OnOk result ((g : Setting) (s : State) → IsSpace g s self.old → C.tells classes.now g.classes → stand (task_of g task.now) ≡ HasEnded (outcome_of outcome) → fuel ≡ (task_of g task.now).fuel → IsSpace g (finish_task g task.now.id task.now.made s) self.new) }
+        ensures lent { OnOk result (LendsNoMore task.now.id self.old.living.tasks self.new.living.tasks) }
     {
         sp_endings::finish_task(self.alloc, &mut self.living, classes, task, fuel, outcome)
     }

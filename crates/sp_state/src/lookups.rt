@@ -5,6 +5,7 @@ ghost use Rattle.space_ids.specs.declared.value.Value.TheVariants as values;
 ghost use Rattle.sp_rules.specs.Classes.{Setting};
 ghost use Rattle.sp_rules.specs.Frames.{got_ack, got_clean, got_dirty, got_lookup};
 ghost use Rattle.sp_rules.specs.State.{Connection as Line, State};
+ghost use Rattle.sp_tasks.specs.Lent.{KeepsLent};
 
 use crate::SpaceState;
 use net_message::Message;
@@ -26,7 +27,8 @@ impl SpaceState {
         number: u64,
         name: &[u8],
     ) -> Result<(), AllocError>
-        ensures { OnOk result ((g : Setting) (s : State) (c : Line) → IsSpace g s self.old → s.notes ≡ [] → C.tells classes.now g.classes → ComesOn conn s c → c.last ≡ last → IsSpace g (got_lookup g c number name.now s) self.new) }
+        ensures got { OnOk result ((g : Setting) (s : State) (c : Line) → IsSpace g s self.old → s.notes ≡ [] → C.tells classes.now g.classes → ComesOn conn s c → c.last ≡ last → IsSpace g (got_lookup g c number name.now s) self.new) }
+        ensures lent { OnOk result (KeepsLent self.old.living.tasks self.new.living.tasks) }
     {
         if number <= last {
             return self.close(classes, RemoteException::Unmarshal, conn);
@@ -46,7 +48,8 @@ impl SpaceState {
         id: ObjId,
         class: ClassId,
     ) -> Result<(), AllocError>
-        ensures { OnOk result ((g : Setting) (s : State) → IsSpace g s self.old → IsSpace g (give_found g conn number id class s) self.new) }
+        ensures given { OnOk result ((g : Setting) (s : State) → IsSpace g s self.old → IsSpace g (give_found g conn number id class s) self.new) }
+        ensures lent { OnOk result (KeepsLent self.old.living.tasks self.new.living.tasks) }
     {
         let kept = reference(self.id, id, class);
         self.living.keep(conn, number, Some(kept))?;
@@ -69,7 +72,8 @@ impl SpaceState {
         conn: u64,
         number: u64,
     ) -> Result<(), AllocError>
-        ensures { OnOk result ((g : Setting) (s : State) (c : Line) → IsSpace g s self.old → s.notes ≡ [] → C.tells classes.now g.classes → ComesOn conn s c → IsSpace g (got_ack g c number s) self.new) }
+        ensures got { OnOk result ((g : Setting) (s : State) (c : Line) → IsSpace g s self.old → s.notes ≡ [] → C.tells classes.now g.classes → ComesOn conn s c → IsSpace g (got_ack g c number s) self.new) }
+        ensures lent { OnOk result (KeepsLent self.old.living.tasks self.new.living.tasks) }
     {
         if self.living.release_acked(conn, number) {
             return Ok(());
@@ -86,7 +90,8 @@ impl SpaceState {
         period: u64,
         ids: &[ObjId],
     ) -> Result<(), AllocError>
-        ensures { OnOk result ((g : Setting) (s : State) (c : Line) → IsSpace g s self.old → ComesOn conn s c → c.peer ≡ peer → IsSpace g (got_dirty g c sequence period ids.now s) self.new) }
+        ensures got { OnOk result ((g : Setting) (s : State) (c : Line) → IsSpace g s self.old → ComesOn conn s c → c.peer ≡ peer → IsSpace g (got_dirty g c sequence period ids.now s) self.new) }
+        ensures lent { OnOk result (KeepsLent self.old.living.tasks self.new.living.tasks) }
     {
         let client = peer.unwrap_or(self.id);
         let granted = self.owner.dirty(&client, ids, sequence, period)?;
@@ -109,7 +114,8 @@ impl SpaceState {
         strong: bool,
         ids: &[ObjId],
     ) -> Result<(), AllocError>
-        ensures { OnOk result ((g : Setting) (s : State) (c : Line) → IsSpace g s self.old → ComesOn conn s c → c.peer ≡ peer → IsSpace g (got_clean g c sequence strong ids.now s) self.new) }
+        ensures got { OnOk result ((g : Setting) (s : State) (c : Line) → IsSpace g s self.old → ComesOn conn s c → c.peer ≡ peer → IsSpace g (got_clean g c sequence strong ids.now s) self.new) }
+        ensures lent { OnOk result (KeepsLent self.old.living.tasks self.new.living.tasks) }
     {
         let client = peer.unwrap_or(self.id);
         self.owner.clean(&client, ids, sequence, strong)?;

@@ -50,7 +50,8 @@ impl SpaceState {
     /// The same, between events. What is lent is lent in the copy too. It costs a step for each row and each
     /// value in it.
     pub fn copy(&self) -> Result<SpaceState, AllocError>
-        ensures { IfOk result (λ copy. (g : Setting) (s : State) → IsSpace g s self.now → IsAtRest s → IsSpace g s copy) }
+        ensures stands { IfOk result (λ copy. (g : Setting) (s : State) → IsSpace g s self.now → IsAtRest s → IsSpace g s copy) }
+        ensures rows { IfOk result (λ copy. copy.living.tasks.rows ≡ self.now.living.tasks.rows) }
     {
         Ok(SpaceState {
             alloc: self.alloc,
@@ -80,6 +81,7 @@ impl SpaceState {
     /// the event is asked. Returns what the event answers, in its order.
     pub fn conclude(&mut self) -> Result<Vec<Output>, AllocError>
         ensures outputs { IfOk result (λ outputs. (g : Setting) (s : State) → IsSpace g s self.old → MaySettle s → map output_of outputs.items ≡ (finish_event true s).1) }
+        ensures tasks { self.new.living.tasks ≡ self.old.living.tasks }
         ensures concluded { OnOk result ((g : Setting) (s : State) → IsSpace g s self.old → MaySettle s → IsSpace g (finish_event true s).0 self.new) }
     {
         self.living.settle()?;

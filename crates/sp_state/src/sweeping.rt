@@ -7,6 +7,7 @@ ghost use Rattle.sp_rules.specs.Holders.{fields_of};
 ghost use Rattle.sp_rules.specs.OwnEvents.{on_sweep};
 ghost use Rattle.sp_rules.specs.References.{reference_of, references_of};
 ghost use Rattle.sp_rules.specs.State.{State, object_at};
+ghost use Rattle.sp_tasks.specs.Lent.{KeepsLent};
 
 use crate::SpaceState;
 use sp_outputs::Output;
@@ -21,7 +22,8 @@ impl SpaceState {
     /// Withdraws the objects that have no reason to stay, and lets the references in their fields go. Answers
     /// them, if there are any.
     pub fn sweep(&mut self) -> Result<(), AllocError>
-        ensures { OnOk result ((g : Setting) (s : State) → IsSpace g s self.old → IsSpace g (on_sweep g s) self.new) }
+        ensures swept { OnOk result ((g : Setting) (s : State) → IsSpace g s self.old → IsSpace g (on_sweep g s) self.new) }
+        ensures lent { OnOk result (KeepsLent self.old.living.tasks self.new.living.tasks) }
     {
         let ids = self.idle()?;
         let count = ids.len();
@@ -43,7 +45,8 @@ impl SpaceState {
 
     // Withdraws these objects.
     fn withdraw(&mut self, ids: Vec<ObjId>) -> Result<(), AllocError>
-        ensures { OnOk result ((g : Setting) (s : State) → IsSpace g s self.old → IsSpace g (withdrawn g ids.items s) self.new) }
+        ensures withdrawn { OnOk result ((g : Setting) (s : State) → IsSpace g s self.old → IsSpace g (withdrawn g ids.items s) self.new) }
+        ensures lent { OnOk result (KeepsLent self.old.living.tasks self.new.living.tasks) }
     {
         let gone = ids.as_slice();
         let references = self.references_of(gone)?;

@@ -1,5 +1,6 @@
 pub mod HeldLemmas
-pub mod LeastLemmas
+pub mod HoldingLemmas
+pub mod LentLemmas
 pub mod OrderLemmas
 pub mod RowLemmas
 pub mod SameLemmas

@@ -8,7 +8,7 @@ use Rattle.std.proofs.lemmas.Map.Keys.{IsDistinct-head, IsDistinct-tail}
 use Rattle.std.proofs.lemmas.Map.Made.{is_some-lookup}
 use Rattle.rising_map.specs.Rows.{AreAbove, AreBelow, Rises}
 use Rattle.rising_map.proofs.RowLemmas.{same-numbers}
-use Rattle.sp_tasks.specs.Least.{least, nothing}
+use Rattle.least_tree.specs.Least.{least, nothing}
 use Rattle.sp_tasks.specs.Rows.{TaskRow, by_id, first_ready, is_ready, row_of, with_row}
 use Rattle.sp_tasks.specs.Tables.{ready_number, some_id_of}
 

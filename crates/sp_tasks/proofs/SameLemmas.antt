@@ -8,14 +8,14 @@ use Rattle.std.proofs.lemmas.Bool.{eq-eqb, eqb-true, false≢true}
 use Rattle.std.proofs.lemmas.Bool.Decides.{Decides-int_eq}
 use Rattle.std.proofs.lemmas.Slice.Eq.{bytes_eq-Decides}
 use Rattle.space_ids.specs.declared.ids.ClassId.{ClassId}
-use Rattle.space_ids.specs.declared.ids.Ref.{Ref}
 use Rattle.space_ids.specs.declared.value.Value.{Value}
 use Rattle.space_ids.specs.declared.value.Value.TheVariants as values
 use Rattle.sp_rules.specs.Behaviours.{Reply, Gives, GivesBack, Throws, RunsOut}
-use Rattle.sp_rules.specs.References.{is_same_reference}
+use Rattle.sp_rules.specs.References.{is_same_value}
 use Rattle.sp_rules.specs.State.{Beginning, Given}
+use Rattle.sp_rules.proofs.AskedLemmas.{pointwise-same, value-same}
 use Rattle.sp_tasks.specs.Recorded.{Recorded}
-use Rattle.sp_tasks.specs.Same.{is_beginning, is_given, is_recorded, is_reply, is_result, is_value}
+use Rattle.sp_tasks.specs.Same.{is_beginning, is_given, is_recorded, is_reply, is_result}
 
 -- what is left to compare at an index is what stands there, and what is left after it
 pub compare-at : {A : Type 0} (f : A → A → Bool) (xs ys : List A) (i : ℕ) (d e : A) → i < length xs → i < length ys
@@ -45,42 +45,6 @@ and-left false b h = h
 pub and-right : (a b : Bool) → (a && b) ≡ true → b ≡ true
 and-right true b h = h
 and-right false b h = absurd (false≢true h)
-
-pointwise-same : {A : Type 0} (f : A → A → Bool) → ((x y : A) → f x y ≡ true → x ≡ y) → (xs ys : List A) → pointwise f xs ys ≡ true → xs ≡ ys
-pointwise-same f sound [] [] h = refl
-pointwise-same f sound [] (y ∷ ys) h = absurd (false≢true h)
-pointwise-same f sound (x ∷ xs) [] h = absurd (false≢true h)
-pointwise-same f sound (x ∷ xs) (y ∷ ys) h =
-    λ j. sound x y (and-left (f x y) (pointwise f xs ys) h) j ∷ pointwise-same f sound xs ys (and-right (f x y) (pointwise f xs ys) h) j
-
-int-same : (m n : ℤ) → int_eq m n ≡ true → m ≡ n
-int-same m n h = (Decides-int_eq m n).0 h
-
-reference-same : (r q : Ref) → is_same_reference r q ≡ true → r ≡ q
-reference-same r q h =
-    let space = (bytes_eq-Decides r.space q.space).0 (and-left (bytes_eq r.space q.space) _ h) in
-    let rest = and-right (bytes_eq r.space q.space) _ h in
-    let id = eqb-true r.id.0 q.id.0 (and-left (r.id.0 == q.id.0) _ rest) in
-    let class = eqb-true r.class.0 q.class.0 (and-right (r.id.0 == q.id.0) _ rest) in
-    λ j. record { space = space j; id = record { 0 = id j }; class = record { 0 = class j } }
-
-value-same : (v w : Value) → is_value v w ≡ true → v ≡ w
-value-same values.Null values.Null h = refl
-value-same values.Null (values.Int n) h = absurd (false≢true h)
-value-same values.Null (values.Ints ns) h = absurd (false≢true h)
-value-same values.Null (values.Ref q) h = absurd (false≢true h)
-value-same (values.Int m) values.Null h = absurd (false≢true h)
-value-same (values.Int m) (values.Int n) h = ap values.Int (int-same m n h)
-value-same (values.Int m) (values.Ints ns) h = absurd (false≢true h)
-value-same (values.Int m) (values.Ref q) h = absurd (false≢true h)
-value-same (values.Ints ms) values.Null h = absurd (false≢true h)
-value-same (values.Ints ms) (values.Int n) h = absurd (false≢true h)
-value-same (values.Ints ms) (values.Ints ns) h = ap values.Ints (pointwise-same int_eq int-same ms ns h)
-value-same (values.Ints ms) (values.Ref q) h = absurd (false≢true h)
-value-same (values.Ref r) values.Null h = absurd (false≢true h)
-value-same (values.Ref r) (values.Int n) h = absurd (false≢true h)
-value-same (values.Ref r) (values.Ints ns) h = absurd (false≢true h)
-value-same (values.Ref r) (values.Ref q) h = ap values.Ref (reference-same r q h)
 
 result-same : (v w : Option Value) → is_result v w ≡ true → v ≡ w
 result-same None None h = refl
@@ -131,7 +95,7 @@ beginning-same a b h =
     let method = eqb-true a.method b.method (and-left (a.method == b.method) _ h) in
     let rest = and-right (a.method == b.method) _ h in
     let fuel = eqb-true a.fuel b.fuel (and-left (a.fuel == b.fuel) _ rest) in
-    let arguments = pointwise-same is_value value-same a.arguments b.arguments (and-right (a.fuel == b.fuel) _ rest) in
+    let arguments = pointwise-same is_same_value value-same a.arguments b.arguments (and-right (a.fuel == b.fuel) _ rest) in
     λ j. record { method = method j; arguments = arguments j; fuel = fuel j }
 
 -- records that are found the same are equal
@@ -156,7 +120,7 @@ eqb-itself n = eq-eqb n n refl
 int-itself : (n : ℤ) → int_eq n n ≡ true
 int-itself n = (Decides-int_eq n n).1 refl
 
-value-itself : (v : Value) → is_value v v ≡ true
+value-itself : (v : Value) → is_same_value v v ≡ true
 value-itself values.Null = refl
 value-itself (values.Int n) = int-itself n
 value-itself (values.Ints ns) = pointwise-itself int_eq int-itself ns
@@ -183,5 +147,5 @@ given-itself a = both (a.steps == a.steps) _ (eqb-itself a.steps) (both (beq a.l
 pub record-itself : (a : Recorded) → is_recorded a a ≡ true
 record-itself a =
     both (is_beginning a.began a.began) _
-    (both (a.began.method == a.began.method) _ (eqb-itself a.began.method) (both (a.began.fuel == a.began.fuel) _ (eqb-itself a.began.fuel) (pointwise-itself is_value value-itself a.began.arguments)))
+    (both (a.began.method == a.began.method) _ (eqb-itself a.began.method) (both (a.began.fuel == a.began.fuel) _ (eqb-itself a.began.fuel) (pointwise-itself is_same_value value-itself a.began.arguments)))
     (pointwise-itself is_given given-itself a.given)

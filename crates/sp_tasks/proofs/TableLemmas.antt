@@ -8,7 +8,7 @@ use Rattle.indexmap.specs.IndexMap.{IndexMap, set_value_at}
 use Rattle.indexmap.proofs.CallerLemmas.{updates-with_value_at}
 use Rattle.indexmap.proofs.SetLemmas.{map-swap_remove}
 use Rattle.rising_map.proofs.RowLemmas.{entry-at, pushed, replaced, rises-distinct, taken}
-use Rattle.sp_tasks.specs.Least.{Least, nothing}
+use Rattle.least_tree.specs.Least.{Least, nothing}
 use Rattle.sp_tasks.specs.Rows.{TaskRow, at_row, by_id, is_ready, lent_row, row_of, without}
 use Rattle.sp_tasks.specs.Tables.{IsTable, ready_number}
 use Rattle.sp_tasks.proofs.OrderLemmas.{below-by, lookup-by, rises-by, shown}

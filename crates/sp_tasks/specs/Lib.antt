@@ -1,5 +1,5 @@
 pub mod Behaviours
-pub mod Least
+pub mod Lent
 pub mod Recorded
 pub mod Records
 pub mod Rows

@@ -1,25 +1,16 @@
--- Whether two values, two replies, or two records are the same. (This project's own.)
+-- Whether two replies, or two records are the same. (This project's own.)
 use Rattle.std.specs.Prelude.{◌==◌, ◌&&◌, Bool, true, false, Option, None, Some}
 use mathlib.Core.Bool.{beq}
 use Rattle.std.specs.Cmp.Lexicographic.{pointwise}
-use Rattle.std.specs.Ordering.{int_eq}
 use Rattle.space_ids.specs.declared.value.Value.{Value}
-use Rattle.space_ids.specs.declared.value.Value.TheVariants as values
 use Rattle.sp_rules.specs.Behaviours.{Reply, Gives, GivesBack, Throws, RunsOut}
-use Rattle.sp_rules.specs.References.{is_same_reference}
+use Rattle.sp_rules.specs.References.{is_same_value}
 use Rattle.sp_rules.specs.State.{Beginning, Given}
 use Rattle.sp_tasks.specs.Recorded.{Recorded}
 
-abbrev pub is_value : Value → Value → Bool
-is_value values.Null values.Null = true
-is_value (values.Int m) (values.Int n) = int_eq m n
-is_value (values.Ints ms) (values.Ints ns) = pointwise int_eq ms ns
-is_value (values.Ref r) (values.Ref q) = is_same_reference r q
-is_value v w = false
-
 abbrev pub is_result : Option Value → Option Value → Bool
 is_result None None = true
-is_result (Some v) (Some w) = is_value v w
+is_result (Some v) (Some w) = is_same_value v w
 is_result v w = false
 
 abbrev pub is_reply : Reply → Reply → Bool
@@ -33,7 +24,7 @@ abbrev pub is_given : Given → Given → Bool
 is_given a b = a.steps == b.steps && (beq a.lent b.lent && is_reply a.reply b.reply)
 
 abbrev pub is_beginning : Beginning → Beginning → Bool
-is_beginning a b = a.method == b.method && (a.fuel == b.fuel && pointwise is_value a.arguments b.arguments)
+is_beginning a b = a.method == b.method && (a.fuel == b.fuel && pointwise is_same_value a.arguments b.arguments)
 
 abbrev pub is_recorded : Recorded → Recorded → Bool
 is_recorded a b = is_beginning a.began b.began && pointwise is_given a.given b.given

@@ -2,7 +2,7 @@
 use Rattle.std.specs.Prelude.{◌≡◌, ◌≤◌, ◌^◌, ◌==◌, ℕ, List, nat_eq, map, Option, None, Some, if◌then◌else◌}
 use Rattle.std.specs.List.{AllByRecursion, IsDistinct}
 use Rattle.std.specs.Map.{keys_of}
-use Rattle.sp_tasks.specs.Least.{Least, nothing}
+use Rattle.least_tree.specs.Least.{Least, nothing}
 use Rattle.sp_tasks.specs.Rows.{TaskRow, is_ready}
 
 -- the number of a row in the tree: its id, if the task may go on

@@ -1,5 +1,10 @@
 //! What a task and its space tell one another.
 
+ghost use Rattle.std.specs.Prelude.{◌≡◌, Some};
+ghost use Rattle.sp_rules.specs.Refusals.{stands_at};
+ghost use Rattle.sp_tasks.specs.Behaviours.{op_of, stand_of};
+
+use crate::same::same_op;
 use space_ids::{ClassId, ObjId, Ref, Row, Value};
 
 /// How a task ends.
@@ -59,4 +64,16 @@ pub enum Stand {
     AsksFor(Op),
     /// At its end.
     HasEnded(Outcome),
+}
+
+impl Stand {
+    /// Whether the task stands at this operation on the store.
+    pub fn is_at(&self, op: &Op) -> bool
+        ensures { result ≡ stands_at (op_of op.now) (Some (stand_of self.now)) }
+    {
+        match self {
+            Stand::AsksFor(asked) => same_op(asked, op),
+            Stand::Runs | Stand::HasEnded(_) => false,
+        }
+    }
 }

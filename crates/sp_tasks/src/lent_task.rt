@@ -1,11 +1,11 @@
 //! A task in hand.
 
-ghost use Rattle.std.specs.Prelude.{◌≡◌, ◌+◌, ◌^◌, ◌<◌, ◌≤◌, true, false, OnOk, OnErr};
+ghost use Rattle.std.specs.Prelude.{◌≡◌, ◌+◌, ◌^◌, ◌<◌, ◌≤◌, true, false, IfOk, OnOk, OnErr};
 ghost use Rattle.sp_tasks.specs.Behaviours.{reply_of};
 ghost use Rattle.sp_tasks.specs.Rows.{replied_hand, roomy_hand};
 
 use crate::{Record, Reply};
-use std::alloc::AllocError;
+use std::alloc::{AllocError, Global};
 use std::marker::Model;
 
 /// A task that a core lends, beside its machine: its id, its record and its own instructions as it was
@@ -43,6 +43,19 @@ impl LentTask {
             made: 0,
             room: false,
         }
+    }
+
+    /// The same task in hand. It costs a step for each entry of its record.
+    pub fn copy(&self, alloc: Global) -> Result<LentTask, AllocError>
+        ensures { IfOk result (λ copy. copy ≡ self.now) }
+    {
+        Ok(LentTask {
+            id: self.id,
+            past: self.past.copy(alloc)?,
+            steps: self.steps,
+            made: self.made,
+            room: self.room,
+        })
     }
 
     /// Its id.

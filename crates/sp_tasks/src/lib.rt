@@ -15,7 +15,7 @@ pub use tasks::Tasks;
 
 mod behaviour;
 mod copies;
-mod least;
+mod holding;
 mod lent_task;
 mod living;
 mod new_task;

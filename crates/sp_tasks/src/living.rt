@@ -335,7 +335,7 @@ fn has_object(held: &[Ref], own: &Uuid, id: ObjId) -> bool
 }
 
 // Whether the reference is among these.
-fn is_among(references: &[Ref], reference: &Ref) -> bool
+pub(crate) fn is_among(references: &[Ref], reference: &Ref) -> bool
     ensures { result ≡ is_reference_in references.now reference.now }
 {
     references.iter().any(|other| {

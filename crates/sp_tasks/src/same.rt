@@ -1,17 +1,19 @@
-//! Whether values and replies are the same.
+//! Whether values, operations and replies are the same.
 
 ghost use Rattle.std.specs.Prelude.{◌≡◌, map};
 ghost use Rattle.std.specs.Cmp.Lexicographic.{pointwise};
-ghost use Rattle.sp_tasks.specs.Behaviours.{reply_of};
+ghost use Rattle.sp_rules.specs.References.{is_same_value};
+ghost use Rattle.sp_rules.specs.Refusals.{is_same_op};
+ghost use Rattle.sp_tasks.specs.Behaviours.{op_of, reply_of};
 ghost use Rattle.sp_tasks.specs.Records.{given_of};
-ghost use Rattle.sp_tasks.specs.Same.{is_given, is_reply, is_result, is_value};
+ghost use Rattle.sp_tasks.specs.Same.{is_given, is_reply, is_result};
 
-use crate::Reply;
 use crate::record::Given;
+use crate::{Op, Reply};
 use space_ids::Value;
 
 fn same_value(value: &Value, other: &Value) -> bool
-    ensures { result ≡ is_value value.now other.now }
+    ensures { result ≡ is_same_value value.now other.now }
 {
     match (value, other) {
         (Value::Null, Value::Null) => true,
@@ -21,6 +23,35 @@ fn same_value(value: &Value, other: &Value) -> bool
             reference.space == another.space
                 && (reference.id == another.id && reference.class == another.class)
         }
+        _ => false,
+    }
+}
+
+// Whether both are the same operation on the store.
+pub(crate) fn same_op(op: &Op, other: &Op) -> bool
+    ensures { result ≡ is_same_op (op_of op.now) (op_of other.now) }
+{
+    match (op, other) {
+        (Op::Create(class), Op::Create(another)) => class == another,
+        (
+            Op::Get { object, slot },
+            Op::Get {
+                object: another,
+                slot: place,
+            },
+        ) => object == another && slot == place,
+        (
+            Op::Put {
+                object,
+                slot,
+                value,
+            },
+            Op::Put {
+                object: another,
+                slot: place,
+                value: written,
+            },
+        ) => object == another && (slot == place && same_value(value, written)),
         _ => false,
     }
 }
@@ -62,7 +93,7 @@ fn same_given(given: &Given, other: &Given) -> bool
 
 // Whether the values are the same, one by one.
 pub(crate) fn same_values(values: &[Value], others: &[Value]) -> bool
-    ensures { result ≡ pointwise is_value values.now others.now }
+    ensures { result ≡ pointwise is_same_value values.now others.now }
 {
     if values.len() != others.len() {
         return false;

@@ -1,20 +1,22 @@
 //! The living tasks of a space.
 
-ghost use Rattle.std.specs.Prelude.{◌≡◌, ℕ, ◌+◌, ◌^◌, ◌<◌, ◌≤◌, ◌++◌, ◌||◌, not, max, [], ◌∷◌, true, false, None, Some, IfOk, IfSome, OnOk, OnErr, length, map, nat_eq, option_copied, option_map};
+ghost use Rattle.std.specs.Prelude.{◌≡◌, ℕ, ◌+◌, ◌^◌, ◌<◌, ◌≤◌, ◌++◌, ◌||◌, not, max, [], ◌∷◌, true, false, None, Some, IfNone, IfOk, IfSome, OnOk, OnErr, length, map, nat_eq, option_copied, option_map};
 ghost use Rattle.std.specs.List.{IsDistinct, list_any};
 ghost use Rattle.std.specs.Map.{keys_of};
 ghost use Rattle.space_ids.specs.declared.ids.ObjId.{ObjId};
-ghost use Rattle.sp_rules.specs.References.{is_id_in, own_ids, references_in};
+ghost use Rattle.sp_rules.specs.References.{is_id_in, is_reference_in, own_ids, references_in};
 ghost use Rattle.sp_rules.specs.Refusals.{result_of};
 ghost use Rattle.sp_rules.specs.State.{OfRoot};
 ghost use Rattle.sp_tasks.specs.Behaviours.{op_of, origin_of, outcome_of, reply_of};
+ghost use Rattle.sp_tasks.specs.Lent.{KeepsLent, LendsNoMore, LendsToo};
 ghost use Rattle.sp_tasks.specs.Rows.{TaskRow, answered_row, at_row, back_row, first_ready, hand_of, has_room, is_in_hand, is_parked, lent_row, parked_row, replied_hand, replied_row, roomy_hand, roomy_row, row_holds, row_holds_op, row_of, started_row, with_started, without};
 ghost use Rattle.sp_tasks.specs.Tables.{ready_number, some_id_of};
 
-use crate::least::{LeastTree, NOTHING};
+use crate::holding::is_held;
 use crate::living::LivingTask;
 use crate::{LentTask, NewTask, Op, Origin, Outcome, Reply};
 use indexmap::IndexMap;
+use least_tree::{LeastTree, NOTHING};
 use sp_store::IdSet;
 use space_ids::{Ref, Uuid, Value};
 use std::alloc::{AllocError, Global};
@@ -93,6 +95,7 @@ impl Tasks {
     /// nothing happens.
     pub fn reserve(&mut self, tasks: usize) -> Result<(), AllocError>
         ensures ok { OnOk result (self.new ≡ record self.old { room = max self.old.room tasks }) }
+        ensures lent { OnOk result (KeepsLent self.old self.new) }
         ensures err { OnErr result (self.new ≡ self.old) }
     {
         self.rows.reserve(tasks)?;
@@ -108,6 +111,7 @@ impl Tasks {
         requires room { 0 < self.old.room }
         ensures id { result ≡ self.old.made + 1 }
         ensures started { self.new ≡ with_started new self.old }
+        ensures lent { KeepsLent self.old self.new }
     {
         let id = self.made + 1;
         let Ok(_) = self.rows.insert(id, new.into_row()) else {
@@ -134,6 +138,7 @@ impl Tasks {
         ensures made { OnOk result (self.new.made ≡ self.old.made + 1) }
         ensures rows { OnOk result (self.new.rows ≡ self.old.rows ++ (self.old.made + 1, started_row OfRoot method arguments.now fuel) ∷ []) }
         ensures room { OnOk result (self.new.room ≡ self.old.room) }
+        ensures lent { OnOk result (KeepsLent self.old self.new) }
         ensures err { OnErr result (self.new ≡ self.old) }
     {
         let new = NewTask::new(alloc, Origin::Root, method, arguments, fuel)?;
@@ -149,6 +154,7 @@ impl Tasks {
         requires { self.old.made < 2 ^ 63 }
         ensures id { result ≡ self.old.made + 1 }
         ensures taken { self.new ≡ record self.old { made = self.old.made + 1 } }
+        ensures lent { KeepsLent self.old self.new }
     {
         self.made += 1;
         self.made
@@ -208,6 +214,8 @@ impl Tasks {
     pub fn lend(&mut self, id: u64) -> Option<LentTask>
         ensures task { result ≡ hand_of id (row_of id self.old.rows) }
         ensures rows { self.new ≡ record self.old { rows = at_row id lent_row self.old.rows } }
+        ensures lent { IfSome result (λ _. LendsToo id self.old self.new) }
+        ensures unlent { IfNone result (KeepsLent self.old self.new) }
     {
         let index = self.rows.get_index_of(&id)?;
         let task = self.rows[index].lend(id);
@@ -229,7 +237,8 @@ impl Tasks {
     /// Takes a lent task back, which can be lent again. It takes no memory.
     pub fn give_back(&mut self, task: LentTask)
         requires { is_in_hand (row_of task.id self.old.rows) task ≡ true }
-        ensures { self.new ≡ record self.old { rows = at_row task.id (back_row task.made) self.old.rows } }
+        ensures back { self.new ≡ record self.old { rows = at_row task.id (back_row task.made) self.old.rows } }
+        ensures lent { LendsNoMore task.id self.old self.new }
     {
         let id = task.id();
         match self.rows.get_index_of(&id) {
@@ -248,6 +257,7 @@ impl Tasks {
     pub fn reserve_answer(&mut self, task: &mut LentTask) -> Result<(), AllocError>
         requires { is_in_hand (row_of task.old.id self.old.rows) task.old ≡ true }
         ensures rows { OnOk result (self.new ≡ record self.old { rows = at_row task.old.id roomy_row self.old.rows }) }
+        ensures lent { OnOk result (KeepsLent self.old self.new) }
         ensures task { OnOk result (task.new ≡ roomy_hand task.old) }
         ensures err { OnErr result (self.new ≡ self.old) }
         ensures kept { OnErr result (task.new ≡ task.old) }
@@ -264,7 +274,8 @@ impl Tasks {
         requires lent { is_in_hand (row_of task.id self.old.rows) task ≡ true }
         requires row { has_room (row_of task.id self.old.rows) ≡ true }
         requires task { task.room ≡ true }
-        ensures { self.new ≡ record self.old { rows = at_row task.id (parked_row task.made) self.old.rows } }
+        ensures parked { self.new ≡ record self.old { rows = at_row task.id (parked_row task.made) self.old.rows } }
+        ensures lent { LendsNoMore task.id self.old self.new }
     {
         match self.rows.get_index_of(&task.id()) {
             Some(index) => {
@@ -286,6 +297,7 @@ impl Tasks {
         requires lent { is_in_hand (row_of task.old.id self.old.rows) task.old ≡ true }
         requires same { copy ≡ reply }
         ensures rows { OnOk result (self.new ≡ record self.old { rows = at_row task.old.id (replied_row task.old.made (reply_of reply)) self.old.rows }) }
+        ensures lent { OnOk result (KeepsLent self.old self.new) }
         ensures task { OnOk result (task.new ≡ replied_hand (reply_of reply) task.old) }
         ensures err { OnErr result (self.new ≡ self.old) }
         ensures kept { OnErr result (task.new ≡ task.old) }
@@ -301,7 +313,8 @@ impl Tasks {
     pub fn answer_reserved(&mut self, id: u64, reply: Reply, copy: Reply)
         requires waits { is_parked (row_of id self.old.rows) ≡ true }
         requires same { copy ≡ reply }
-        ensures { self.new ≡ record self.old { rows = at_row id (answered_row (reply_of reply)) self.old.rows } }
+        ensures answered { self.new ≡ record self.old { rows = at_row id (answered_row (reply_of reply)) self.old.rows } }
+        ensures lent { KeepsLent self.old self.new }
     {
         match self.rows.get_index_of(&id) {
             Some(index) => {
@@ -316,7 +329,8 @@ impl Tasks {
 
     /// Lets a task go. The order of the others stays.
     pub fn end(&mut self, id: u64)
-        ensures { self.new ≡ record self.old { rows = without id self.old.rows } }
+        ensures ended { self.new ≡ record self.old { rows = without id self.old.rows } }
+        ensures lent { LendsNoMore id self.old self.new }
     {
         let _ = self.let_go(id);
     }
@@ -334,6 +348,13 @@ impl Tasks {
         ensures { OnOk result ((id : ObjId) → is_id_in ids.new id ≡ (is_id_in ids.old id || list_any (λ row. is_id_in (own_ids own.now row.1.held) id) self.now.rows)) }
     {
         insert_held(&self.rows, own, ids)
+    }
+
+    /// Whether a task that lives holds the reference, under its class. It looks at each.
+    pub fn has_reference(&self, reference: &Ref) -> bool
+        ensures { result ≡ list_any (λ row. is_reference_in row.1.held reference.now) self.now.rows }
+    {
+        is_held(&self.rows, reference)
     }
 
     // The row of a task, if it lives.

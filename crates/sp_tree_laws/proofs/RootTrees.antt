@@ -215,7 +215,7 @@ step-goes tree has i task w law h = at-space (slice_get w.spaces i) refl
 
     at-stand : (s : Space) → slice_get w.spaces i ≡ Some s → (t : Living) → task_at s.state task ≡ Some t → t.waits ≡ false → (stands : Stand) → stand t.task ≡ stands
         → Goes tree (if stands_at_call stands then with_call i (s.state.calls_made + 1) (has_task (part_of (with_calls tree has) i) t) has else has) (acts w i (Worlds.events_at task t.task stands) w)
-    at-stand s is t there quiet Runs e = quiet-goes (Worlds.events_after task (Worlds.is_over (stand (Tasks.step t.task)))) (after-quiet (Worlds.is_over (stand (Tasks.step t.task))))
+    at-stand s is t there quiet Runs e = quiet-goes (Worlds.events_after task (Tasks.is_at_end (Tasks.step t.task).behaviour)) (after-quiet (Tasks.is_at_end (Tasks.step t.task).behaviour))
     at-stand s is t there quiet (AsksFor (Behaviours.Create class)) e = quiet-goes _ (tt, (tt, tt))
     at-stand s is t there quiet (AsksFor (Behaviours.Get object slot)) e = quiet-goes _ (tt, (tt, tt))
     at-stand s is t there quiet (AsksFor (Behaviours.Put object slot value)) e = quiet-goes _ (tt, (tt, tt))

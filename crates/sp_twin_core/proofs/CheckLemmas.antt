@@ -1,5 +1,5 @@
 -- Why events that come from outside are refused.
-use Rattle.std.proofs.Common.{◌≡◌, ℕ, ◌+◌, Bool, true, false, cond, List, [], ◌∷◌, ◌++◌, Option, None, Some, refl, sym, ap, ◌∙◌, map}
+use Rattle.std.proofs.Common.{◌≡◌, ℕ, Bool, true, false, cond, List, [], ◌∷◌, ◌++◌, Option, None, Some, refl, sym, ap, ◌∙◌, map}
 use Rattle.std.specs.Prelude.{not, nat_le, ◌^◌, ◌&&◌, ◌||◌, option_and_then, option_map, is_some, ◌==◌}
 use Rattle.std.specs.List.{list_any}
 use Rattle.sp_connections.specs.declared.connection.Link.{Link}
@@ -134,6 +134,6 @@ or-false : (b : Bool) → (b || false) ≡ b
 or-false true = refl
 or-false false = refl
 
-pub worn-is : (s : State) (o t c q : Bool) → o ≡ nat_le (2 ^ 63) (s.objects_made + 1) → t ≡ nat_le (2 ^ 63) (s.tasks_made + 1) → c ≡ nat_le (2 ^ 63) (s.calls_made + 1) → q ≡ nat_le (2 ^ 63) (client.numbers_of s.leases + 1)
+pub worn-is : (s : State) (o t c q : Bool) → o ≡ nat_le (2 ^ 63) s.objects_made → t ≡ nat_le (2 ^ 63) s.tasks_made → c ≡ nat_le (2 ^ 63) s.calls_made → q ≡ nat_le (2 ^ 63) (client.numbers_of s.leases)
     → (o || (t || (c || q))) ≡ is_worn s
-worn-is s o t c q a b d e = λ j. a j || (b j || (d j || (e ∙ sym (or-false (nat_le (2 ^ 63) (client.numbers_of s.leases + 1)))) j))
+worn-is s o t c q a b d e = λ j. a j || (b j || (d j || (e ∙ sym (or-false (nat_le (2 ^ 63) (client.numbers_of s.leases)))) j))

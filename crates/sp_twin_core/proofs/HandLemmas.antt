@@ -6,14 +6,15 @@ use Rattle.std.proofs.lemmas.Bool.{eq-eqb, false≢true}
 use Rattle.space_ids.specs.declared.ids.ObjId.{ObjId}
 use Rattle.space_ids.specs.declared.ids.Ref.{Ref}
 use Rattle.space_ids.specs.declared.value.Value.{Value}
-use Rattle.sp_events.specs.FaultNames.{Refuses}
+use Rattle.sp_events.specs.FaultNames.{Refuses, core_fault_number}
+use Rattle.sp_events.specs.declared.fault.CoreFault.{CoreFault}
 use Rattle.sp_events.specs.declared.fault.CoreFault.TheVariants as fault
 use Rattle.sp_rules.specs.Behaviours.{Op, Create, Get, Put, Call, Outcome}
 use Rattle.sp_rules.specs.Classes.{Setting}
-use Rattle.sp_rules.specs.Events.{Event, GivenBack}
+use Rattle.sp_rules.specs.Events.{Event, Committed, Finished, GivenBack, Parked}
 use Rattle.sp_rules.specs.References.{is_id_in, is_reference_in, own_ids, reference_of, references_in, references_of}
 use Rattle.sp_rules.specs.Refusals as Refusals
-use Rattle.sp_rules.specs.Refusals.{Check, NotHeld, NotLent, WornOut, WrongKind, checks, check_finished, check_parked, first_refusal, fits_call, holds_op, is_give_back, is_worn, refusal, refusal_number, refuse_if, result_of, stand_after}
+use Rattle.sp_rules.specs.Refusals.{Check, NotHeld, NotLent, WornOut, WrongKind, checks, check_committed, check_finished, check_parked, first_refusal, fits_call, holds_op, is_give_back, is_worn, refusal, refusal_number, refuse_if, result_of, stand_after, stands_at}
 use Rattle.sp_rules.specs.State.{State, Living, ready_at, task_at, that_is_ready}
 use Rattle.sp_rules.specs.Tasks.{Stand, Runs, AsksFor, HasEnded, stand, steps}
 use Rattle.sp_tasks.specs.Behaviours.{stand_of}
@@ -33,7 +34,7 @@ use Rattle.sp_living.proofs.TaskLemmas.{matched}
 use Rattle.sp_twin_core.specs.Cores.{IsCore, Lends, is_historys, is_lent, lends, lent_as}
 use Rattle.sp_twin_core.specs.Hands.{finished, parked}
 use Rattle.sp_twin_core.specs.declared.space_core.SpaceCore.{SpaceCore}
-use Rattle.sp_twin_core.proofs.CheckLemmas.{refusal-is}
+use Rattle.sp_twin_core.proofs.CheckLemmas.{refusal-is, refused-some}
 
 only : {A : Type 0} (x y : A) → Some x ≡ Some y → x ≡ y
 only x y h = ap (λ o. unwrap_or o x) h
@@ -115,6 +116,29 @@ pub hand-number : (g : Setting) (s : State) (core : SpaceCore) (hand : Hand) (le
 hand-number g s core hand lent e rest worn here is lending other check w h =
     ap (option_map refusal_number) (hand-refusal g s core hand lent e rest worn here is lending other check w h) ∙ numbers worn here (first_refusal rest)
 
+-- ---- a task that is not lent: 98, else 91
+
+unlent-refused : (g : Setting) (s : State) (core : SpaceCore) (hand : Hand) (lent : List ℕ) (e : Event) (rest : List Check) (worn : Bool) (f : CoreFault) → IsCore g s core → Lends core lent → is_give_back e ≡ false
+    → checks g (lent_as s hand lent) s e ≡ refuse_if (not (Refusals.is_in_hand (lent_as s hand lent) s hand.id)) NotLent ++ rest
+    → worn ≡ is_worn s → lends core hand ≡ false → core_fault_number f ≡ cond worn (Some 98) (Some 91) → Refuses (refusal g (lent_as s hand lent) s e) f
+unlent-refused g s core hand lent e rest worn f is lending other check w apart number =
+    refused-some _ f (hand-number g s core hand lent e rest worn false is lending other check w (sym apart) ∙ sym number)
+
+pub unlent-commit : (g : Setting) (s : State) (core : SpaceCore) (hand : Hand) (lent : List ℕ) (op : Op) (worn : Bool) (f : CoreFault) → IsCore g s core → Lends core lent → worn ≡ is_worn s → lends core hand ≡ false
+    → core_fault_number f ≡ cond worn (Some 98) (Some 91) → Refuses (refusal g (lent_as s hand lent) s (Committed hand.id hand.made op)) f
+unlent-commit g s core hand lent op worn f is lending w apart number =
+    unlent-refused g s core hand lent (Committed hand.id hand.made op) (refuse_if (not (holds_op g (task_at s hand.id) op)) NotHeld ++ check_committed g s op (stand_after hand.made (task_at s hand.id))) worn f is lending refl refl w apart number
+
+pub unlent-park : (g : Setting) (s : State) (core : SpaceCore) (hand : Hand) (lent : List ℕ) (worn : Bool) (f : CoreFault) → IsCore g s core → Lends core lent → worn ≡ is_worn s → lends core hand ≡ false
+    → core_fault_number f ≡ cond worn (Some 98) (Some 91) → Refuses (refusal g (lent_as s hand lent) s (Parked hand.id hand.made)) f
+unlent-park g s core hand lent worn f is lending w apart number =
+    unlent-refused g s core hand lent (Parked hand.id hand.made) (check_parked g (task_at s hand.id) (stand_after hand.made (task_at s hand.id))) worn f is lending refl refl w apart number
+
+pub unlent-end : (g : Setting) (s : State) (core : SpaceCore) (hand : Hand) (lent : List ℕ) (worn : Bool) (f : CoreFault) → IsCore g s core → Lends core lent → worn ≡ is_worn s → lends core hand ≡ false
+    → core_fault_number f ≡ cond worn (Some 98) (Some 91) → Refuses (refusal g (lent_as s hand lent) s (Finished hand.id hand.made)) f
+unlent-end g s core hand lent worn f is lending w apart number =
+    unlent-refused g s core hand lent (Finished hand.id hand.made) (check_finished (task_at s hand.id) (stand_after hand.made (task_at s hand.id))) worn f is lending refl refl w apart number
+
 -- ---- given back
 
 not-worn : (worn : Bool) (r : Option Refusals.Refusal) → cond (worn && false) (Some WornOut) r ≡ r
@@ -137,6 +161,12 @@ not-lent r is = subst (λ (r : Option Refusals.Refusal). Refuses r fault.NotLent
 pub stands : (g : Setting) (s : State) (core : SpaceCore) (hand : Hand) (at : Told) → IsCore g s core → (h : InHand g s core.state.living hand) → StandsAt g hand at
     → stand (steps hand.made h.living.task) ≡ stand_of at
 stands g s core hand at is h stood = ap stand (task-is g s core.state.living hand is.state.living h) ∙ stood
+
+-- whether it is at an operation on the store
+pub op-stands : (g : Setting) (s : State) (core : SpaceCore) (hand : Hand) (at : Told) (op : Op) → IsCore g s core → (h : InHand g s core.state.living hand) → StandsAt g hand at
+    → stands_at op (stand_after hand.made (task_at s hand.id)) ≡ stands_at op (Some (stand_of at))
+op-stands g s core hand at op is h stood =
+    ap (λ (o : Option Living). stands_at op (stand_after hand.made o)) h.there ∙ ap (λ (x : Stand). stands_at op (Some x)) (stands g s core hand at is h stood)
 
 -- ---- an end
 
@@ -219,11 +249,8 @@ not-called g s core hand at is h stood never = ap first_refusal (park-checked g 
 
 -- ---- which number counts
 
-pub first-worn : (worn here : Bool) (n : Option ℕ) → worn ≡ true → cond worn (Some 98) (cond here n (Some 91)) ≡ Some 98
-first-worn worn here n w = λ j. cond (w j) (Some 98) (cond here n (Some 91))
+pub first-worn : (worn : Bool) (n : Option ℕ) → worn ≡ true → cond worn (Some 98) n ≡ Some 98
+first-worn worn n w = ap (λ b. cond b (Some 98) n) w
 
-pub first-lent : (worn here : Bool) (n : Option ℕ) → worn ≡ false → here ≡ false → cond worn (Some 98) (cond here n (Some 91)) ≡ Some 91
-first-lent worn here n w h = λ j. cond (w j) (Some 98) (cond (h j) n (Some 91))
-
-pub first-other : (worn here : Bool) (n : Option ℕ) → worn ≡ false → here ≡ true → cond worn (Some 98) (cond here n (Some 91)) ≡ n
-first-other worn here n w h = λ j. cond (w j) (Some 98) (cond (h j) n (Some 91))
+pub first-other : (worn : Bool) (n : Option ℕ) → worn ≡ false → cond worn (Some 98) n ≡ n
+first-other worn n w = ap (λ b. cond b (Some 98) n) w

@@ -11,10 +11,16 @@ use Rattle.sp_tasks.specs.Same.{is_recorded}
 use Rattle.sp_tasks.proofs.SameLemmas.{record-itself}
 use Rattle.std.proofs.lemmas.Bool.{eq-eqb}
 use Rattle.sp_living.specs.Views.{Seen, seen, seen_row}
+use Rattle.sp_tasks.specs.Lent.{LendsToo, is_lent_in}
+use Rattle.sp_living.proofs.TaskLemmas.{matched}
+use Rattle.sp_state.specs.Hands as state
+use Rattle.sp_state.specs.Spaces.{IsSpace}
 use Rattle.sp_state.specs.declared.space_state.SpaceState.{SpaceState}
-use Rattle.sp_twin_core.specs.Cores.{IsCore, Lends, is_historys, is_lent}
+use Rattle.sp_twin_core.specs.Cores.{IsCore, Lends, is_historys}
+use Rattle.sp_twin_core.specs.Hands.{IsLentToo, IsSecond}
 use Rattle.sp_twin_core.specs.declared.space_core.SpaceCore.{SpaceCore}
 use Rattle.sp_twin_core.proofs.HandLemmas.{at-row}
+use Rattle.sp_twin_core.proofs.TwinLemmas.{with-states}
 
 only : {A : Type 0} (x y : A) → Some x ≡ Some y → x ≡ y
 only x y h = ap (λ o. unwrap_or o x) h
@@ -22,44 +28,6 @@ only x y h = ap (λ o. unwrap_or o x) h
 -- a task as it is lent
 abbrev itself : (id : ℕ) (row : TaskRow) → Hand
 itself id row = record { id = id; past = row.past; steps = row.steps; made = 0; room = false }
-
--- what is found after a change
-row-at : (id q : ℕ) (f : TaskRow → TaskRow) (es : List (ℕ × TaskRow)) → row_of q (rows.at_row id f es) ≡ cond (q == id) (option_map f (row_of q es)) (row_of q es)
-row-at id q f [] = let none : Option TaskRow = None in elim (q == id) as (λ b. none ≡ cond b none none) [ true ↦ refl | false ↦ refl ]
-row-at id q f (e ∷ es) =
-    elim (e.0 == id) as (λ b. (e.0 == id) ≡ b → row_of q (cond b ((e.0, f e.1) ∷ es) (e ∷ rows.at_row id f es)) ≡ cond (q == id) (option_map f (cond (nat_eq q e.0) (Some e.1) (row_of q es))) (cond (nat_eq q e.0) (Some e.1) (row_of q es))) [
-      | true ↦ λ here. elim (nat_eq q e.0) as (λ b. nat_eq q e.0 ≡ b → cond b (Some (f e.1)) (row_of q es) ≡ cond (q == id) (option_map f (cond b (Some e.1) (row_of q es))) (cond b (Some e.1) (row_of q es))) [
-        | true ↦ λ mine. sym (ap (λ b. cond b (Some (f e.1)) (Some e.1)) (ap (λ k. k == id) (eqb-true q e.0 mine) ∙ here))
-        | false ↦ λ other. sym (ap (λ b. cond b (option_map f (row_of q es)) (row_of q es)) (ap (λ k. q == k) (sym (eqb-true e.0 id here)) ∙ other))
-      ] refl
-      | false ↦ λ apart. elim (nat_eq q e.0) as (λ b. nat_eq q e.0 ≡ b → cond b (Some e.1) (row_of q (rows.at_row id f es)) ≡ cond (q == id) (option_map f (cond b (Some e.1) (row_of q es))) (cond b (Some e.1) (row_of q es))) [
-        | true ↦ λ mine. sym (ap (λ b. cond b (Some (f e.1)) (Some e.1)) (ap (λ k. k == id) (eqb-true q e.0 mine) ∙ apart))
-        | false ↦ λ other. row-at id q f es
-      ] refl
-    ] refl
-
-lent-at : (core new : SpaceCore) (id : ℕ) (f : TaskRow → TaskRow) (row : TaskRow) → row_of id core.state.living.tasks.rows ≡ Some row → new.state.living.tasks.rows ≡ rows.at_row id f core.state.living.tasks.rows
-    → (other : ℕ) → is_lent new other ≡ cond (other == id) (f row).lent (is_lent core other)
-lent-at core new id f row found same other =
-    ap (λ (es : List (ℕ × TaskRow)). unwrap_or (option_map (λ (r : TaskRow). r.lent) (row_of other es)) false) same
-    ∙ ap (λ (o : Option TaskRow). unwrap_or (option_map (λ (r : TaskRow). r.lent) o) false) (row-at id other f core.state.living.tasks.rows)
-    ∙ elim (other == id) as (λ b. (other == id) ≡ b → unwrap_or (option_map (λ (r : TaskRow). r.lent) (cond b (option_map f (row_of other core.state.living.tasks.rows)) (row_of other core.state.living.tasks.rows))) false ≡ cond b (f row).lent (is_lent core other)) [
-      | true ↦ λ here. ap (λ (o : Option TaskRow). unwrap_or (option_map (λ (r : TaskRow). r.lent) (option_map f o)) false) (ap (λ k. row_of k core.state.living.tasks.rows) (eqb-true other id here) ∙ found)
-      | false ↦ λ apart. refl
-    ] refl
-
-lent-or : (b flag rest : Bool) → flag ≡ true → cond b flag rest ≡ (b || rest)
-lent-or true flag rest h = h
-lent-or false flag rest h = refl
-
-back-and : (b flag rest : Bool) → flag ≡ false → cond b flag rest ≡ (not b && rest)
-back-and true flag rest h = h
-back-and false flag rest h = refl
-
--- a task in hand has a row
-row-taken : (o : Option TaskRow) (hand : Hand) → rows.is_in_hand o hand ≡ true → (row : TaskRow) × (o ≡ Some row)
-row-taken None hand here = absurd (false≢true here)
-row-taken (Some row) hand here = (row, refl)
 
 or-left : (a b : Bool) → (a || b) ≡ false → a ≡ false
 or-left true b h = h
@@ -75,40 +43,8 @@ idle-then id row hand at =
       | false ↦ λ free some. or-left row.waits row.lent free
     ] refl at
 
-lent-then : (id : ℕ) (row : TaskRow) (hand : Hand) → Some hand ≡ rows.hand_of id (Some row) → (rows.lent_row row).lent ≡ true
-lent-then id row hand at = ap (λ b. (cond b row (record row { lent = true })).lent) (idle-then id row hand at)
-
-pub lend-others : (core new : SpaceCore) (id : ℕ) (r : Option Hand) → r ≡ rows.hand_of id (row_of id core.state.living.tasks.rows) → new.state.living.tasks.rows ≡ rows.at_row id rows.lent_row core.state.living.tasks.rows
-    → IfSome r (λ hand. (other : ℕ) → is_lent new other ≡ (other == id || is_lent core other))
-lend-others core new id None at same = tt
-lend-others core new id (Some hand) at same = λ other. by (row_of id core.state.living.tasks.rows) refl at other
-  where
-    by : (o : Option TaskRow) → row_of id core.state.living.tasks.rows ≡ o → Some hand ≡ rows.hand_of id o → (other : ℕ) → is_lent new other ≡ (other == id || is_lent core other)
-    by None found at other = cc
-    by (Some row) found at other = lent-at core new id rows.lent_row row found same other ∙ lent-or (other == id) (rows.lent_row row).lent (is_lent core other) (lent-then id row hand at)
-
 abbrev flag : Option TaskRow → Bool
 flag o = unwrap_or (option_map (λ (r : TaskRow). r.lent) o) false
-
-pub lend-none : (core new : SpaceCore) (id : ℕ) (r : Option Hand) → r ≡ rows.hand_of id (row_of id core.state.living.tasks.rows) → new.state.living.tasks.rows ≡ rows.at_row id rows.lent_row core.state.living.tasks.rows
-    → IfNone r ((other : ℕ) → is_lent new other ≡ is_lent core other)
-lend-none core new id (Some hand) at same = tt
-lend-none core new id None at same = λ other.
-    ap (λ (es : List (ℕ × TaskRow)). flag (row_of other es)) same ∙ ap flag (row-at id other rows.lent_row core.state.living.tasks.rows)
-    ∙ elim (other == id) as (λ b. (other == id) ≡ b → flag (cond b (option_map rows.lent_row (row_of other core.state.living.tasks.rows)) (row_of other core.state.living.tasks.rows)) ≡ is_lent core other) [
-      | true ↦ λ here. by (row_of other core.state.living.tasks.rows) (at ∙ ap (λ k. rows.hand_of id (row_of k core.state.living.tasks.rows)) (sym (eqb-true other id here)))
-      | false ↦ λ apart. refl
-    ] refl
-  where
-    by : (o : Option TaskRow) → None ≡ rows.hand_of id o → flag (option_map rows.lent_row o) ≡ flag o
-    by None none = refl
-    by (Some row) none =
-        let nil : Option Hand = None in
-        let one : Hand = itself id row in
-        elim row.waits as (λ w. nil ≡ cond (w || row.lent) nil (Some one) → (cond w row (record row { lent = true })).lent ≡ row.lent) [
-          | true ↦ λ n. refl
-          | false ↦ elim row.lent as (λ b. nil ≡ cond b nil (Some one) → true ≡ b) [ true ↦ λ n. refl | false ↦ λ n. absurd (no-one one n) ]
-        ] none
 
 -- a task may go on and is not lent
 lends-one : (id : ℕ) (o : Option TaskRow) (p : Option Living) (lent : Bool) → option_map (λ (row : TaskRow). seen_row (id, row)) o ≡ option_map seen p → lent ≡ flag o
@@ -160,21 +96,35 @@ lend-new id (Some row) hand at =
       | false ↦ λ some. (ap (λ (o : Option Hand). (unwrap_or o hand).id) some, ap (λ (o : Option Hand). (unwrap_or o hand).made) some)
     ] at
 
--- a task that comes back is not lent, and the others are lent as before
-pub back-others : (core new : SpaceCore) (hand : Hand) → rows.is_in_hand (row_of hand.id core.state.living.tasks.rows) hand ≡ true
-    → new.state.living.tasks.rows ≡ rows.at_row hand.id (rows.back_row hand.made) core.state.living.tasks.rows → (other : ℕ) → is_lent new other ≡ (not (other == hand.id) && is_lent core other)
-back-others core new hand here same other =
-    let (row, found) = row-taken _ hand here in
-    lent-at core new hand.id (rows.back_row hand.made) row found same other ∙ back-and (other == hand.id) _ (is_lent core other) refl
-
 -- the same of what may be lent
 pub twin-new : (id : ℕ) (o : Option TaskRow) (r : Option Hand) → r ≡ rows.hand_of id o → IfSome r (λ hand. (hand.id ≡ id) × (hand.made ≡ 0))
 twin-new id o None at = tt
 twin-new id o (Some hand) at = lend-new id o hand at
 
--- what the first state tells is all that is told of lent tasks
-pub lent-same : (core new : SpaceCore) → new.state ≡ core.state → (other : ℕ) → is_lent new other ≡ is_lent core other
-lent-same core new same other = ap (λ (x : SpaceState). unwrap_or (option_map (λ (row : TaskRow). row.lent) (row_of other x.living.tasks.rows)) false) same
+-- ---- both states lend it
+
+hand-some : (g : Setting) (s : State) (space : SpaceState) (id : ℕ) → IsSpace g s space → is_some (state.hand_at id space) ≡ (is_some (ready_at s id) && not (is_lent_in id space.living.tasks))
+hand-some g s space id is = lends-one id (row_of id space.living.tasks.rows) (task_at s id) (is_lent_in id space.living.tasks) (matched g s.tasks_made s.tasks space.living.tasks id is.living.tasks) refl
+
+some-lent : (o : Option Hand) (P : Type 0) → is_some o ≡ true → IfSome o (λ _. P) → P
+some-lent None P none h = absurd (false≢true none)
+some-lent (Some hand) P some h = h
+
+pub lent-both : (g : Setting) (s : State) (id : ℕ) (hand : Hand) (core : SpaceCore) (now : SpaceState) (spare : Option SpaceState) (twin : Option Hand) → IsCore g s core → Some hand ≡ state.hand_at id core.state → IsSpace g s now
+    → LendsToo id core.state.living.tasks now.living.tasks → IsLentToo id core.spare spare twin → IsCore g s (record core { state = now; spare = spare })
+lent-both g s id hand core now spare twin is at here lent too = with-states g s s core now spare is here (by core.spare spare is.spare too) is.rest
+  where
+    by : (o n : Option SpaceState) → IfSome o (IsSecond g s core.state) → IsLentToo id o n twin → IfSome n (IsSecond g s now)
+    by None None second too = tt
+    by None (Some new) second too = absurd too
+    by (Some old) None second too = absurd too
+    by (Some old) (Some new) second too =
+        let some : is_some twin ≡ true =
+        ap is_some too.twin ∙ hand-some g s old id second.state ∙ ap (λ b. is_some (ready_at s id) && not b) (second.lent.lent id) ∙ sym (hand-some g s core.state id is.state) ∙ sym (ap is_some at) in
+        let all : LendsToo id old.living.tasks new.living.tasks = some-lent twin _ some too.lent in record {
+          state = too.same g s second.state;
+          lent = record { lent = λ q. all.lent q ∙ ap (λ b. q == id || b) (second.lent.lent q) ∙ sym (lent.lent q) };
+        }
 
 -- whether a task lives that does not wait
 abbrev has_row : Option TaskRow → Bool

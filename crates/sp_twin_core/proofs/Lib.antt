@@ -2,6 +2,7 @@ pub mod CheckLemmas
 pub mod EventLemmas
 pub mod HandLemmas
 pub mod LendLemmas
+pub mod LentLemmas
 pub mod OpLemmas
 pub mod RestLemmas
 pub mod RootLemmas

@@ -1,12 +1,12 @@
 -- Operations on the store: what fits, and why they are refused.
 use Rattle.std.proofs.Common.{◌≡◌, ℕ, Bool, true, false, cond, List, [], ◌++◌, Option, None, Some, refl, sym, ap, ◌∙◌}
-use Rattle.std.specs.Prelude.{not, is_some, option_and_then, option_map, slice_get, unwrap_or}
+use Rattle.std.specs.Prelude.{◌&&◌, not, is_some, option_and_then, option_map, slice_get, unwrap_or}
 use Rattle.space_ids.specs.declared.ids.ClassId.{ClassId}
 use Rattle.space_ids.specs.declared.value.Value.{Value}
 use Rattle.sp_rules.specs.Behaviours.{Op}
 use Rattle.sp_rules.specs.Classes.{Setting, field_kind, fits_field, fits_kind}
 use Rattle.sp_rules.specs.Events.{Committed}
-use Rattle.sp_rules.specs.Refusals.{NotHeld, WrongKind, fits_store, has_field, holds_op, is_worn, takes_value, refusal, refusal_number, first_refusal, refuse_if}
+use Rattle.sp_rules.specs.Refusals.{NotHeld, WrongKind, check_committed, fits_store, has_field, holds_op, is_worn, stand_after, stands_at, takes_value, refusal, refusal_number, first_refusal, refuse_if}
 use Rattle.sp_rules.specs.Space.{happen, on}
 use Rattle.sp_rules.specs.LivingTasks.{commit, give_back}
 use Rattle.sp_rules.specs.State.{State, Object, task_at}
@@ -35,18 +35,24 @@ kind-none g (Some o) slot v e = ap (λ x. fits_field x v) e
 
 -- ---- refusals
 
-first-of : (held fits : Bool) → option_map refusal_number (first_refusal (refuse_if (not held) NotHeld ++ refuse_if (not fits) WrongKind)) ≡ cond held (cond fits None (Some 93)) (Some 92)
-first-of true true = refl
-first-of true false = refl
-first-of false fits = refl
+first-of : (held fits at : Bool) → option_map refusal_number (first_refusal (refuse_if (not held) NotHeld ++ (refuse_if (not fits) WrongKind ++ refuse_if (not at) WrongKind))) ≡ cond held (cond (fits && at) None (Some 93)) (Some 92)
+first-of true true true = refl
+first-of true true false = refl
+first-of true false at = refl
+first-of false fits at = refl
 
-pub commit-number : (g : Setting) (s : State) (core : SpaceCore) (hand : Hand) (lent : List ℕ) (op : Op) (worn here : Bool) → IsCore g s core → Lends core lent
-    → worn ≡ is_worn s → here ≡ lends core hand
+-- of a lent task
+pub commit-number : (g : Setting) (s : State) (core : SpaceCore) (hand : Hand) (lent : List ℕ) (op : Op) (worn : Bool) → IsCore g s core → Lends core lent → worn ≡ is_worn s → lends core hand ≡ true
     → option_map refusal_number (refusal g (lent_as s hand lent) s (Committed hand.id hand.made op))
-    ≡ cond worn (Some 98) (cond here (cond (holds_op g (task_at s hand.id) op) (cond (fits_store g s op) None (Some 93)) (Some 92)) (Some 91))
-commit-number g s core hand lent op worn here is lending w h =
-    hand-number g s core hand lent (Committed hand.id hand.made op) (refuse_if (not (holds_op g (task_at s hand.id) op)) NotHeld ++ refuse_if (not (fits_store g s op)) WrongKind) worn here is lending refl refl w h
-    ∙ ap (λ n. cond worn (Some 98) (cond here n (Some 91))) (first-of (holds_op g (task_at s hand.id) op) (fits_store g s op))
+    ≡ cond worn (Some 98) (cond (holds_op g (task_at s hand.id) op) (cond (fits_store g s op && stands_at op (stand_after hand.made (task_at s hand.id))) None (Some 93)) (Some 92))
+commit-number g s core hand lent op worn is lending w here =
+    let held = holds_op g (task_at s hand.id) op in
+    let at = stand_after hand.made (task_at s hand.id) in
+    hand-number g s core hand lent (Committed hand.id hand.made op) (refuse_if (not held) NotHeld ++ check_committed g s op at) worn true is lending refl refl w (sym here)
+    ∙ ap (λ n. cond worn (Some 98) n) (first-of held (fits_store g s op) (stands_at op at))
+
+pub unheld : (held : Bool) (n : Option ℕ) → held ≡ false → cond held n (Some 92) ≡ Some 92
+unheld held n apart = ap (λ b. cond b n (Some 92)) apart
 
 pub kind-of-class : (g : Setting) (class : ClassId) (o : Option Object) (slot : ℕ) → Some class ≡ option_map (λ (o : Object). o.class) o
     → slice_get (g.classes.fields class) slot ≡ option_and_then (λ (o : Object). field_kind g.classes o.class slot) o

@@ -1,7 +1,7 @@
 -- Two tasks in hand that two equal states lend under one id are the same.
 use Rattle.std.proofs.Common.{◌≡◌, ℕ, ◌+◌, Bool, true, false, cond, List, Option, None, Some, refl, sym, ap, subst, ◌∙◌}
 use Rattle.std.specs.Prelude.{◌==◌, ◌&&◌, unwrap_or, Result, Ok, Err, IfOk, OnOk, OnErr, IfSome, option_map}
-use Rattle.std.specs.Result.{result_ok}
+use Rattle.std.specs.Option.{option_zip}
 use Rattle.std.proofs.lemmas.Bool.{eq-eqb, eqb-true}
 use Rattle.sp_rules.specs.Behaviours.{Reply}
 use Rattle.sp_rules.specs.Classes.{Setting}
@@ -18,7 +18,7 @@ use Rattle.sp_state.specs.Hands as state
 use Rattle.sp_state.specs.Spaces.{IsAtRest, IsSpace}
 use Rattle.sp_state.specs.declared.space_state.SpaceState.{SpaceState}
 use Rattle.sp_twin_core.specs.Cores.{IsCore, has_lent, lends}
-use Rattle.sp_twin_core.specs.Hands.{fits}
+use Rattle.sp_twin_core.specs.Hands.{IsSecond, fits}
 use Rattle.sp_twin_core.specs.declared.lent_task.LentTask.{LentTask}
 use Rattle.sp_twin_core.specs.declared.space_core.SpaceCore.{SpaceCore}
 use Rattle.sp_holders.specs.declared.sightings.Sightings.{Sightings}
@@ -90,11 +90,22 @@ replied-same reply twin hand is = λ j. record { id = is.id j; past = with_given
 pub task-same : (g : Setting) (twin hand : Hand) → IsSame twin hand → task_of g twin ≡ task_of g hand
 task-same g twin hand is = λ j. steps (is.made j) (steps (is.steps j) (replayed g (is.past j).began (turned (is.past j).given)))
 
+-- ---- both of two
+
+pub zipped : {A B : Type 0} (a : Option A) (b : Option B) (p : A × B) → Some p ≡ option_zip a b → (a ≡ Some p.0) × (b ≡ Some p.1)
+zipped None b p is = cc
+zipped (Some x) None p is = cc
+zipped (Some x) (Some y) p is = let same : p ≡ (x, y) = ap (λ o. unwrap_or o p) is in (λ j. Some ((sym same j).0), λ j. Some ((sym same j).1))
+
 -- ---- results
 
 pub if-ok : {A E : Type 0} (r : Result A E) (P Q : A → Type 0) → ((x : A) → P x → Q x) → IfOk r P → IfOk r Q
 if-ok (Ok x) P Q each h = each x h
 if-ok (Err e) P Q each h = h
+
+pub ok-both : {A E : Type 0} (r : Result A E) (P Q R : A → Type 0) → ((x : A) → P x → Q x → R x) → IfOk r P → IfOk r Q → IfOk r R
+ok-both (Ok x) P Q R each p q = each x p q
+ok-both (Err e) P Q R each p q = p
 
 -- ---- cores
 
@@ -112,8 +123,15 @@ with-sightings g s core new same is = core-is g s (record core { sightings = new
 pub without-spare : (g : Setting) (s : State) (core : SpaceCore) → IsCore g s core → IsCore g s (record core { spare = None })
 without-spare g s core is = record { id = is.id; fuel = is.fuel; state = is.state; spare = tt; rest = is.rest }
 
+pub spare-gone : (g : Setting) (s : State) (core : SpaceCore) (spare : Option SpaceState) → spare ≡ None → IsCore g s core → IsCore g s (record core { spare = spare })
+spare-gone g s core spare gone is = subst (λ (o : Option SpaceState). IsCore g s (record core { spare = o })) (sym gone) (without-spare g s core is)
+
+-- a second state after an equation between states
+pub second-is : (g : Setting) (s t : State) (first second : SpaceState) → t ≡ s → IsSecond g s first second → IsSecond g t first second
+second-is g s t first second same is = subst (λ (u : State). IsSecond g u first second) (sym same) is
+
 -- with other states
-pub with-states : (g : Setting) (s t : State) (core : SpaceCore) (now : SpaceState) (spare : Option SpaceState) → IsCore g s core → IsSpace g t now → IfSome spare (IsSpace g t) → IsAtRest t
+pub with-states : (g : Setting) (s t : State) (core : SpaceCore) (now : SpaceState) (spare : Option SpaceState) → IsCore g s core → IsSpace g t now → IfSome spare (IsSecond g t now) → IsAtRest t
     → IsCore g t (record core { state = now; spare = spare })
 with-states g s t core now spare is state other rest = record { id = is.id; fuel = is.fuel; state = state; spare = other; rest = rest }
 
@@ -127,6 +145,10 @@ pub if-some : {A : Type 0} (o : Option A) (P Q : A → Type 0) → ((x : A) → 
 if-some (Some x) P Q each h = each x h
 if-some None P Q each h = h
 
+pub some-both : {A : Type 0} (o : Option A) (P Q R : A → Type 0) → ((x : A) → P x → Q x → R x) → IfSome o P → IfSome o Q → IfSome o R
+some-both (Some x) P Q R each p q = each x p q
+some-both None P Q R each p q = tt
+
 -- after the second state was taken out
 pub taken-out : (g : Setting) (s : State) (core new : SpaceCore) → new ≡ record core { spare = None } → IsCore g s core → IsCore g s new
 taken-out g s core new same is = core-is g s (record core { spare = None }) new same (without-spare g s core is)
@@ -136,12 +158,6 @@ pub own-alone : (core new : SpaceCore) (old task : LentTask) → new ≡ record 
 own-alone core new old task out same own =
     (λ j. lends (out j) (same j) && fits ((out j).spare) (same j) task.twin)
     ∙ both (lends core old.task) true (own-main core old own) refl
-
--- ---- a second state that is made if there is memory
-
-pub ok-some : {A E : Type 0} (r : Result A E) (P : A → Type 0) → IfOk r P → IfSome (result_ok r) P
-ok-some (Ok x) P h = h
-ok-some (Err e) P h = tt
 
 -- ---- as a task is lent
 

@@ -1,14 +1,15 @@
 -- When a core is in a state of the rules, and which tasks it lends. (This project's own.)
-use Rattle.std.specs.Prelude.{◌≡◌, ℕ, ◌==◌, ◌&&◌, Bool, false, List, [], Option, None, Some, IfSome, if◌then◌else◌, option_map, unwrap_or}
+use Rattle.std.specs.Prelude.{◌≡◌, ℕ, ◌==◌, ◌&&◌, Bool, false, List, [], Option, None, Some, IfSome, if◌then◌else◌}
 use Rattle.std.specs.List.{list_any}
 use Rattle.sp_rules.specs.Classes.{Setting}
 use Rattle.sp_rules.specs.State.{State, Living, ready_at}
-use Rattle.sp_tasks.specs.Rows.{Hand, TaskRow, row_of}
+use Rattle.sp_tasks.specs.Lent.{is_lent_in}
+use Rattle.sp_tasks.specs.Rows.{Hand}
 use Rattle.sp_tasks.specs.Same.{is_recorded}
 use Rattle.sp_living.specs.Views.{recorded_in}
 use Rattle.sp_state.specs.Hands as state
 use Rattle.sp_state.specs.Spaces.{IsAtRest, IsSpace}
-use Rattle.sp_twin_core.specs.Hands.{fits}
+use Rattle.sp_twin_core.specs.Hands.{IsSecond, fits}
 use Rattle.sp_twin_core.specs.declared.space_core.SpaceCore.{SpaceCore}
 use Rattle.sp_twin_core.specs.declared.lent_task.LentTask.{LentTask}
 
@@ -17,14 +18,14 @@ pub record IsCore (g : Setting) (s : State) (core : SpaceCore) : Type 0 where
   pub id : core.id ≡ g.id
   pub fuel : core.fuel ≡ g.limits.fuel
   pub state : IsSpace g s core.state
-  pub spare : IfSome core.spare (IsSpace g s)
+  pub spare : IfSome core.spare (IsSecond g s core.state)
   pub rest : IsAtRest s
 
 -- ---- lent tasks
 
 -- whether a core lends a task
 abbrev pub is_lent : SpaceCore → ℕ → Bool
-is_lent core id = unwrap_or (option_map (λ (row : TaskRow). row.lent) (row_of id core.state.living.tasks.rows)) false
+is_lent core id = is_lent_in id core.state.living.tasks
 
 -- whether a task in hand is the one that a core lends under its id: its record is what the core keeps of it
 abbrev pub lends : SpaceCore → Hand → Bool

@@ -1,17 +1,20 @@
 //! Why events of lent tasks are refused.
 
-ghost use Rattle.std.specs.Prelude.{◌≡◌, ℕ, List, None, Some, true, IfErr, IfOk, OnOk, option_and_then, option_map};
+ghost use Rattle.std.specs.Prelude.{◌≡◌, ◌&&◌, ℕ, List, None, Some, false, true, IfErr, IfOk, OnOk, option_and_then, option_map};
 ghost use Rattle.sp_call_classes.specs.ClassSets.{kind_of};
-ghost use Rattle.sp_events.specs.FaultNames.{core_fault_number};
+ghost use Rattle.sp_events.specs.FaultNames.{Refuses, core_fault_number};
 ghost use Rattle.sp_living.specs.Hands.{StandsAt};
+ghost use Rattle.sp_rules.specs.Behaviours.{Op as Asked};
 ghost use Rattle.sp_rules.specs.Classes.{Setting, field_kind, fits_kind};
+ghost use Rattle.sp_rules.specs.Events.{Committed};
 ghost use Rattle.sp_rules.specs.References.{references_in};
-ghost use Rattle.sp_rules.specs.Refusals.{fits_call, fits_store, refusal, refusal_number, result_of};
+ghost use Rattle.sp_rules.specs.Refusals.{fits_call, fits_store, refusal, refusal_number, result_of, stands_at};
 ghost use Rattle.sp_rules.specs.State.{State, object_at};
+ghost use Rattle.sp_state.specs.LetIn.{MayCommit};
 ghost use Rattle.sp_tasks.specs.Behaviours.{op_of, outcome_of, stand_of};
 ghost use Rattle.sp_tasks.specs.Rows.{TaskRow, row_holds, row_holds_op, row_of};
 ghost use Rattle.sp_rules.specs.Tasks.{AsksFor, HasEnded};
-ghost use Rattle.sp_twin_core.specs.Hands.{committed, finished, parked};
+ghost use Rattle.sp_twin_core.specs.Hands.{committed, finished, is_on_store, parked};
 
 use crate::{LentTask, SpaceCore};
 use sp_call_classes::{CallClasses, ClassSet, FieldKind};
@@ -22,50 +25,60 @@ use space_ids::{ObjId, Value};
 impl SpaceCore {
     ghost use Rattle.sp_twin_core.specs.Cores.{IsCore, Lends, lends, lent_as};
 
-    // Why the operation on the store is refused, if it is: the reason with the lowest number, but 98 first.
+    // Why an operation, a call or an end of a task is refused that is not lent.
+    pub(crate) fn refuse_unlent(&self, task: &LentTask) -> CoreFault
+        requires { lends self.now task.now.task ≡ false }
+        ensures committed { (g : Setting) (s : State) (lent : List ℕ) (op : Asked) → IsCore g s self.now → Lends self.now lent → Refuses (refusal g (lent_as s task.now.task lent) s (Committed task.now.task.id task.now.task.made op)) result }
+        ensures parked { (g : Setting) (s : State) (lent : List ℕ) → IsCore g s self.now → Lends self.now lent → Refuses (refusal g (lent_as s task.now.task lent) s (parked task.now.task)) result }
+        ensures finished { (g : Setting) (s : State) (lent : List ℕ) → IsCore g s self.now → Lends self.now lent → Refuses (refusal g (lent_as s task.now.task lent) s (finished task.now.task)) result }
+    {
+        if self.is_worn() {
+            CoreFault::WornOut
+        } else {
+            CoreFault::NotLent
+        }
+    }
+
+    // Why the operation on the store of a lent task is refused, if it is: the reason with the lowest number, but
+    // 98 first.
     pub(crate) fn refuse_commit<C: ClassSet>(
         &self,
         classes: &C,
         task: &LentTask,
+        stand: &Stand,
         op: &Op,
-        is_own: bool,
     ) -> Option<CoreFault>
-        requires { lends self.now task.now.task ≡ is_own }
-        ensures lent { result ≡ None → is_own ≡ true }
-        ensures refused { (g : Setting) (s : State) (lent : List ℕ) → IsCore g s self.now → Lends self.now lent → C.tells classes.now g.classes → option_map refusal_number (refusal g (lent_as s task.now.task lent) s (committed task.now.task op.now)) ≡ option_and_then core_fault_number result }
+        requires { lends self.now task.now.task ≡ true }
+        ensures may { result ≡ None → (g : Setting) (s : State) → IsCore g s self.now → C.tells classes.now g.classes → MayCommit g s (op_of op.now) }
+        ensures refused { (g : Setting) (s : State) (lent : List ℕ) → IsCore g s self.now → Lends self.now lent → C.tells classes.now g.classes → StandsAt g task.now.task stand.now → option_map refusal_number (refusal g (lent_as s task.now.task lent) s (committed task.now.task op.now)) ≡ option_and_then core_fault_number result }
     {
         if self.is_worn() {
             return Some(CoreFault::WornOut);
         }
-        if !is_own {
-            return Some(CoreFault::NotLent);
-        }
         if !self.holds_op(task, op) {
             return Some(CoreFault::NotHeld);
         }
-        if !self.fits_store(classes, op) {
+        if !self.fits_at(classes, stand, op) {
             return Some(CoreFault::WrongKind);
         }
         None
     }
 
-    // The call for which the task in hand asks, or why it is refused.
+    // The call for which a lent task asks, or why it is refused.
     pub(crate) fn refuse_park<'a, C: CallClasses>(
         &self,
         classes: &C,
         task: &LentTask,
         stand: &'a Stand,
     ) -> Result<&'a Op, CoreFault>
+        requires { lends self.now task.now.task ≡ true }
         ensures asks { IfOk result (λ op. stand_of stand.now ≡ AsksFor (op_of op.now)) }
-        ensures lent { OnOk result (lends self.now task.now.task ≡ true) }
+        ensures call { IfOk result (λ op. is_on_store (op_of op.now) ≡ false) }
         ensures accepted { OnOk result ((g : Setting) (s : State) (lent : List ℕ) → IsCore g s self.now → Lends self.now lent → C.tells classes.now g.classes → StandsAt g task.now.task stand.now → refusal g (lent_as s task.now.task lent) s (parked task.now.task) ≡ None) }
         ensures refused { IfErr result (λ fault. (g : Setting) (s : State) (lent : List ℕ) → IsCore g s self.now → Lends self.now lent → C.tells classes.now g.classes → StandsAt g task.now.task stand.now → option_map refusal_number (refusal g (lent_as s task.now.task lent) s (parked task.now.task)) ≡ core_fault_number fault) }
     {
         if self.is_worn() {
             return Err(CoreFault::WornOut);
-        }
-        if !self.lends(task) {
-            return Err(CoreFault::NotLent);
         }
         match stand {
             Stand::AsksFor(op) => {
@@ -81,22 +94,19 @@ impl SpaceCore {
         }
     }
 
-    // How the task in hand ended, or why it is refused.
+    // How a lent task ended, or why it is refused.
     pub(crate) fn refuse_finish<'a>(
         &self,
         task: &LentTask,
         stand: &'a Stand,
     ) -> Result<&'a Outcome, CoreFault>
+        requires { lends self.now task.now.task ≡ true }
         ensures ended { IfOk result (λ outcome. stand_of stand.now ≡ HasEnded (outcome_of outcome.now)) }
-        ensures lent { OnOk result (lends self.now task.now.task ≡ true) }
         ensures accepted { OnOk result ((g : Setting) (s : State) (lent : List ℕ) → IsCore g s self.now → Lends self.now lent → StandsAt g task.now.task stand.now → refusal g (lent_as s task.now.task lent) s (finished task.now.task) ≡ None) }
         ensures refused { IfErr result (λ fault. (g : Setting) (s : State) (lent : List ℕ) → IsCore g s self.now → Lends self.now lent → StandsAt g task.now.task stand.now → option_map refusal_number (refusal g (lent_as s task.now.task lent) s (finished task.now.task)) ≡ core_fault_number fault) }
     {
         if self.is_worn() {
             return Err(CoreFault::WornOut);
-        }
-        if !self.lends(task) {
-            return Err(CoreFault::NotLent);
         }
         match stand {
             Stand::HasEnded(outcome) => {
@@ -108,6 +118,13 @@ impl SpaceCore {
             }
             _ => Err(CoreFault::WrongKind),
         }
+    }
+
+    // Whether the operation on the store fits, and is the one at which the task stands.
+    fn fits_at<C: ClassSet>(&self, classes: &C, stand: &Stand, op: &Op) -> bool
+        ensures { (g : Setting) (s : State) → IsCore g s self.now → C.tells classes.now g.classes → result ≡ (fits_store g s (op_of op.now) && stands_at (op_of op.now) (Some (stand_of stand.now))) }
+    {
+        self.fits_store(classes, op) && stand.is_at(op)
     }
 
     // Whether the operation is one on the store, and its class, field and value fit.
@@ -141,7 +158,8 @@ impl SpaceCore {
 
     // Whether the operation is a call of an object of another space, with arguments that fit.
     fn fits_call<C: CallClasses>(&self, classes: &C, op: &Op) -> bool
-        ensures { (g : Setting) (s : State) → IsCore g s self.now → C.tells classes.now g.classes → result ≡ fits_call g (op_of op.now) }
+        ensures fits { (g : Setting) (s : State) → IsCore g s self.now → C.tells classes.now g.classes → result ≡ fits_call g (op_of op.now) }
+        ensures call { result ≡ true → is_on_store (op_of op.now) ≡ false }
     {
         match op {
             Op::Call {

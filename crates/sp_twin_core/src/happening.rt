@@ -1,6 +1,6 @@
 //! Events that come from outside.
 
-ghost use Rattle.std.specs.Prelude.{◌≡◌, ℕ, List, [], ◌∷◌, None, IfErr, IfOk, IfSome, OnErr, OnOk, map};
+ghost use Rattle.std.specs.Prelude.{◌≡◌, ℕ, List, [], ◌∷◌, None, IfErr, IfOk, OnErr, OnOk, map};
 ghost use Rattle.sp_events.specs.Events.{event_of};
 ghost use Rattle.sp_events.specs.FaultNames.{Refuses};
 ghost use Rattle.sp_outputs.specs.Notes.{output_of};
@@ -10,20 +10,19 @@ ghost use Rattle.sp_rules.specs.Origins.{IsTaken, OwnStand};
 ghost use Rattle.sp_rules.specs.Refusals.{refusal};
 ghost use Rattle.sp_rules.specs.Space.{on as after_event, state_of};
 ghost use Rattle.sp_rules.specs.State.{State};
-ghost use Rattle.sp_state.specs.Spaces.{IsAtRest, IsSpace};
+ghost use Rattle.sp_state.specs.LetIn.{IsLetIn};
 
 use crate::SpaceCore;
-use crate::space_core::let_go;
 use sp_call_classes::CallClasses;
+use sp_changes::{follow, let_go};
 use sp_event_copies::copy_event;
 use sp_events::{CoreFault, Event};
 use sp_outputs::Output;
-use sp_state::SpaceState;
 use std::alloc::AllocError;
 use std::mem;
 
 impl SpaceCore {
-    ghost use Rattle.sp_twin_core.specs.Cores.{IsCore};
+    ghost use Rattle.sp_twin_core.specs.Cores.{IsCore, is_lent};
 
     /// Lets an event happen, and answers its outputs. A refused event changes nothing, nor does one that finds
     /// no memory; the refusal with the lowest number counts, but 98 before all others.
@@ -35,6 +34,7 @@ impl SpaceCore {
         ensures accepted { OnOk result ((g : Setting) (s : State) (lent : List ℕ) → IsCore g s self.old → refusal g lent s (event_of event.now) ≡ None) }
         ensures outputs { IfOk result (λ outputs. (g : Setting) (s : State) → IsCore g s self.old → C.tells classes.now g.classes → map output_of outputs.items ≡ (after_event g (event_of event.now) s).1) }
         ensures state { OnOk result ((g : Setting) (s : State) → IsCore g s self.old → C.tells classes.now g.classes → IsCore g (after_event g (event_of event.now) s).0 self.new) }
+        ensures lent { (g : Setting) (s : State) → IsCore g s self.old → (id : ℕ) → is_lent self.new id ≡ is_lent self.old id }
         ensures refused { IfErr result (λ fault. (g : Setting) (s : State) (lent : List ℕ) → IsCore g s self.old → Refuses (refusal g lent s (event_of event.now)) fault) }
         ensures unchanged { OnErr result ((g : Setting) (s : State) → IsCore g s self.old → IsCore g s self.new) }
 
@@ -54,8 +54,9 @@ impl SpaceCore {
         classes: &C,
         event: &Event,
     ) -> Result<Vec<Output>, AllocError>
-        ensures outputs { IfOk result (λ outputs. (g : Setting) (s : State) → IsCore g s self.old → C.tells classes.now g.classes → map output_of outputs.items ≡ (after_event g (event_of event.now) s).1) }
-        ensures state { OnOk result ((g : Setting) (s : State) → IsCore g s self.old → C.tells classes.now g.classes → IsCore g (after_event g (event_of event.now) s).0 self.new) }
+        ensures outputs { IfOk result (λ outputs. (g : Setting) (s : State) → IsCore g s self.old → C.tells classes.now g.classes → IsLetIn g s (event_of event.now) → map output_of outputs.items ≡ (after_event g (event_of event.now) s).1) }
+        ensures state { OnOk result ((g : Setting) (s : State) → IsCore g s self.old → C.tells classes.now g.classes → IsLetIn g s (event_of event.now) → IsCore g (after_event g (event_of event.now) s).0 self.new) }
+        ensures lent { (g : Setting) (s : State) → IsCore g s self.old → (id : ℕ) → is_lent self.new id ≡ is_lent self.old id }
         ensures unchanged { OnErr result ((g : Setting) (s : State) → IsCore g s self.old → IsCore g s self.new) }
     {
         let first = copy_event(self.alloc, event)?;
@@ -71,15 +72,4 @@ impl SpaceCore {
         self.sightings.see_results(&self.state, outputs.as_slice());
         Ok(outputs)
     }
-}
-
-// The state after the event happened to it too. There is none at out of memory.
-fn follow<C: CallClasses>(mut last: SpaceState, classes: &C, event: Event) -> Option<SpaceState>
-    ensures { IfSome result (λ space. (g : Setting) (s : State) → IsSpace g s last → IsAtRest s → C.tells classes.now g.classes → IsSpace g (after_event g (event_of event) s).0 space) }
-{
-    let Ok(_) = last.on(classes, event) else {
-        let_go(last);
-        return None;
-    };
-    Some(last)
 }

@@ -11,11 +11,12 @@ ghost use Rattle.sp_rules.specs.Refusals.{refusal};
 ghost use Rattle.sp_rules.specs.Space.{on as after_event, state_of};
 ghost use Rattle.sp_rules.specs.State.{State, ready_at};
 ghost use Rattle.sp_state.specs.Hands as state;
-ghost use Rattle.sp_state.specs.Spaces.{IsSpace};
-ghost use Rattle.sp_tasks.specs.Rows.{hand_of, row_of};
-ghost use Rattle.sp_twin_core.specs.Hands.{fits, given_back};
+ghost use Rattle.sp_state.specs.declared.space_state.SpaceState.{SpaceState};
+ghost use Rattle.sp_tasks.specs.Lent.{LendsNoMore};
+ghost use Rattle.sp_twin_core.specs.Hands.{IsLentToo, IsSecond, fits, given_back};
 
 use crate::{LentTask, SpaceCore};
+use sp_changes::let_go;
 use sp_events::CoreFault;
 use sp_state::SpaceState;
 use sp_tasks::LentTask as TaskInHand;
@@ -23,8 +24,7 @@ use sp_tasks::LentTask as TaskInHand;
 impl SpaceCore {
     ghost use Rattle.sp_twin_core.specs.Cores.{IsCore, Lends, has_lent, is_historys, is_lent, lends, lent_as};
 
-    /// Lends a task that may go on, with its record, if it is not lent. It needs no memory; only if it ran out
-    /// before, the second state is copied here, if it can be.
+    /// Lends a task that may go on, with its record, if it is not lent. It takes no memory.
     pub fn lend(&mut self, task: u64) -> Option<LentTask>
         ensures lent { (g : Setting) (s : State) (lent : List ℕ) → IsCore g s self.old → Lends self.old lent → is_some result ≡ (is_some (ready_at s task) && not (list_any (◌==◌ task) lent)) }
         ensures hand { IfSome result (λ hand. (g : Setting) (s : State) → IsCore g s self.old → is_historys (ready_at s task) hand.task ≡ true) }
@@ -34,7 +34,6 @@ impl SpaceCore {
         ensures others { IfSome result (λ hand. (other : ℕ) → is_lent self.new other ≡ (other == task || is_lent self.old other)) }
         ensures unchanged { IfNone result ((other : ℕ) → is_lent self.new other ≡ is_lent self.old other) }
     {
-        self.renew();
         let Some(hand) = self.state.lend(task) else {
             return None;
         };
@@ -42,19 +41,10 @@ impl SpaceCore {
         Some(LentTask { task: hand, twin })
     }
 
-    // Copies the first state for the second, if there is none and there is memory.
-    fn renew(&mut self)
-        ensures same { (g : Setting) (s : State) → IsCore g s self.old → IsCore g s self.new }
-        ensures state { self.new.state ≡ self.old.state }
-    {
-        let spare = self.take_spare().ok();
-        self.put_spare(spare);
-    }
-
     // The twin of a task, which the second state lends, if there are both.
     fn lend_twin(&mut self, task: u64) -> Option<TaskInHand>
-        ensures same { (g : Setting) (s : State) → IsCore g s self.old → IsCore g s self.new }
-        ensures state { self.new.state ≡ self.old.state }
+        ensures core { self.new ≡ record self.old { spare = self.new.spare } }
+        ensures lent { IsLentToo task self.old.spare self.new.spare result }
         ensures own { IfSome result (λ twin. IfSome self.new.spare (λ spare. state.has_lent spare twin ≡ true)) }
         ensures twin { IfSome result (λ twin. (twin.id ≡ task) × (twin.made ≡ 0)) }
     {
@@ -145,7 +135,7 @@ impl SpaceCore {
 }
 
 // Whether the second state lends the twin of a task, if it has one.
-pub(crate) fn lends_twin(spare: &SpaceState, task: &LentTask) -> bool
+fn lends_twin(spare: &SpaceState, task: &LentTask) -> bool
     ensures { result ≡ fits (Some spare.now) task.now.task task.now.twin }
 {
     match &task.twin {
@@ -169,13 +159,13 @@ fn take_twin_back(
     twin: Option<TaskInHand>,
 ) -> Option<SpaceState>
     requires { fits spare task.now twin ≡ true }
-    ensures { IfSome result (λ new. (g : Setting) (s : State) → IfSome spare (IsSpace g s) → IsSpace g (give_back task.now.id task.now.made s) new) }
+    ensures { IfSome result (λ new. (g : Setting) (s : State) (first now : SpaceState) → IfSome spare (IsSecond g s first) → LendsNoMore task.now.id first.living.tasks now.living.tasks → IsSecond g (give_back task.now.id task.now.made s) now new) }
 {
     let Some(mut spare) = spare else {
         return None;
     };
     let Some(twin) = twin else {
-        crate::space_core::let_go(spare);
+        let_go(spare);
         return None;
     };
     spare.give_back(twin);

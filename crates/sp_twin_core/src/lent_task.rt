@@ -8,7 +8,8 @@ use sp_tasks::{LentTask as TaskInHand, Record};
 /// A task that a core lends, beside its machine: its id, its record and its own instructions as it was lent,
 /// and the instructions that its machine made since.
 ///
-/// Both states of the core lend it. If memory ran out in the second, the core is so for it until it comes back.
+/// Both states of the core lend it, each with a hand of its own. If memory ran out in the second, both the second
+/// state and its hand are made anew where they are needed next.
 #[derive(Drop)]
 pub struct LentTask {
     pub(crate) task: TaskInHand,

@@ -1,6 +1,6 @@
 //! Why events that come from outside are refused.
 
-ghost use Rattle.std.specs.Prelude.{◌≡◌, ◌+◌, ◌^◌, ◌||◌, nat_le, ℕ, List, false, None, Some, if◌then◌else◌, is_some, option_and_then, option_map};
+ghost use Rattle.std.specs.Prelude.{◌≡◌, ◌^◌, ◌||◌, nat_le, ℕ, List, false, None, Some, if◌then◌else◌, is_some, option_and_then, option_map};
 ghost use Rattle.std.specs.List.{list_any};
 ghost use Rattle.sp_events.specs.Events.{event_of};
 ghost use Rattle.sp_events.specs.FaultNames.{core_fault_number};
@@ -55,14 +55,14 @@ impl SpaceCore {
         fault_if(!self.is_open(conn), CoreFault::Strange)
     }
 
-    // Whether the next number of an object, a task, a call, or a dirty or clean call would be 2^63.
+    // Whether the number of an object, a task, a call, or a dirty or clean call has come to 2^63.
     pub(crate) fn is_worn(&self) -> bool
         ensures { (g : Setting) (s : State) → IsCore g s self.now → result ≡ is_worn s }
     {
-        let objects = is_last(self.state.owner().objects_made());
-        let tasks = is_last(self.state.living().tasks().made());
-        let calls = is_last(self.state.living().transport().calls_made());
-        let sequences = is_last(self.state.living().transport().last_sequence());
+        let objects = is_end(self.state.owner().objects_made());
+        let tasks = is_end(self.state.living().tasks().made());
+        let calls = is_end(self.state.living().transport().calls_made());
+        let sequences = is_end(self.state.living().transport().last_sequence());
         is_any(objects, tasks, calls, sequences)
     }
 
@@ -112,11 +112,11 @@ fn fault_if(fails: bool, fault: CoreFault) -> Option<CoreFault>
     if fails { Some(fault) } else { None }
 }
 
-// Whether the number after this one would be 2^63 or more.
-fn is_last(number: u64) -> bool
-    ensures { result ≡ nat_le (2 ^ 63) (number + 1) }
+// Whether a number has come to 2^63.
+fn is_end(number: u64) -> bool
+    ensures { result ≡ nat_le (2 ^ 63) number }
 {
-    number >= END - 1
+    number >= END
 }
 
 fn is_any(objects: bool, tasks: bool, calls: bool, sequences: bool) -> bool

@@ -1,6 +1,6 @@
 //! Roots: tasks that the space starts by itself.
 
-ghost use Rattle.std.specs.Prelude.{◌≡◌, ℕ, List, [], ◌∷◌, None, true, IfErr, IfOk, IfSome, OnErr, OnOk, is_some, map, option_and_then, option_map};
+ghost use Rattle.std.specs.Prelude.{◌≡◌, ℕ, List, [], ◌∷◌, None, true, IfErr, IfOk, OnErr, OnOk, is_some, map, option_and_then, option_map};
 ghost use Rattle.std.specs.List.{list_all};
 ghost use Rattle.sp_events.specs.Events.{event_of_root};
 ghost use Rattle.sp_events.specs.FaultNames.{RefusesOrLacks, core_fault_number};
@@ -13,22 +13,20 @@ ghost use Rattle.sp_rules.specs.References.{reference_of, references_of};
 ghost use Rattle.sp_rules.specs.Refusals.{checks, first_refusal, is_root_argument, refusal, refusal_number};
 ghost use Rattle.sp_rules.specs.Space.{on as after_event, state_of};
 ghost use Rattle.sp_rules.specs.State.{State};
-ghost use Rattle.sp_state.specs.Spaces.{IsAtRest, IsSpace};
 ghost use Rattle.sp_twin_core.specs.Roots.{IsTold, root_number};
 
 use crate::SpaceCore;
-use crate::space_core::let_go;
+use sp_changes::{follow_root, let_go};
 use sp_endings::is_busy;
 use sp_events::{CoreFault, Root, StartFault};
 use sp_holders::has_holder;
 use sp_outputs::Output;
-use sp_state::SpaceState;
 use space_ids::{ForeignId, Ref, Value};
 use std::alloc::AllocError;
 use std::mem;
 
 impl SpaceCore {
-    ghost use Rattle.sp_twin_core.specs.Cores.{IsCore};
+    ghost use Rattle.sp_twin_core.specs.Cores.{IsCore, is_lent};
 
     /// Starts a task at a method, and answers that it started and may go on. Refused or out of memory, nothing
     /// changes; the refusal with the lowest number counts, but 98 before all others. To look for a reason takes
@@ -37,6 +35,7 @@ impl SpaceCore {
         ensures accepted { OnOk result ((g : Setting) (s : State) (lent : List ℕ) → IsCore g s self.old → IsTold g root.now → refusal g lent s (event_of_root root.now) ≡ None) }
         ensures outputs { IfOk result (λ outputs. (g : Setting) (s : State) → IsCore g s self.old → map output_of outputs.items ≡ (after_event g (event_of_root root.now) s).1) }
         ensures state { OnOk result ((g : Setting) (s : State) → IsCore g s self.old → IsCore g (after_event g (event_of_root root.now) s).0 self.new) }
+        ensures lent { (g : Setting) (s : State) → IsCore g s self.old → (id : ℕ) → is_lent self.new id ≡ is_lent self.old id }
         ensures refused { IfErr result (λ fault. (g : Setting) (s : State) (lent : List ℕ) → IsCore g s self.old → IsTold g root.now → RefusesOrLacks (refusal g lent s (event_of_root root.now)) fault) }
         ensures unchanged { OnErr result ((g : Setting) (s : State) → IsCore g s self.old → IsCore g s self.new) }
 
@@ -123,6 +122,7 @@ impl SpaceCore {
     fn start(&mut self, root: &Root) -> Result<Vec<Output>, AllocError>
         ensures outputs { IfOk result (λ outputs. (g : Setting) (s : State) → IsCore g s self.old → map output_of outputs.items ≡ (after_event g (event_of_root root.now) s).1) }
         ensures state { OnOk result ((g : Setting) (s : State) → IsCore g s self.old → IsCore g (after_event g (event_of_root root.now) s).0 self.new) }
+        ensures lent { (g : Setting) (s : State) → IsCore g s self.old → (id : ℕ) → is_lent self.new id ≡ is_lent self.old id }
         ensures unchanged { OnErr result ((g : Setting) (s : State) → IsCore g s self.old → IsCore g s self.new) }
     {
         let mut next = self.take_spare()?;
@@ -135,17 +135,6 @@ impl SpaceCore {
         self.put_spare(spare);
         Ok(outputs)
     }
-}
-
-// The state after the root started in it too. There is none at out of memory.
-fn follow_root(mut last: SpaceState, root: &Root) -> Option<SpaceState>
-    ensures { IfSome result (λ space. (g : Setting) (s : State) → IsSpace g s last → IsAtRest s → IsSpace g (after_event g (event_of_root root.now) s).0 space) }
-{
-    let Ok(_) = last.on_root(root) else {
-        let_go(last);
-        return None;
-    };
-    Some(last)
 }
 
 // The first of the reasons to refuse a root.

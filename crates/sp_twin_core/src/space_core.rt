@@ -1,9 +1,9 @@
 //! The core of a space, and its two states.
 
-ghost use Rattle.std.specs.Prelude.{◌≡◌, None, IfOk, IfSome, OnErr, OnOk, is_some, true};
+ghost use Rattle.std.specs.Prelude.{◌≡◌, None, IfOk};
 ghost use Rattle.sp_rules.specs.Classes.{Setting};
 ghost use Rattle.sp_rules.specs.State.{State, opening};
-ghost use Rattle.sp_state.specs.Spaces.{IsSpace};
+ghost use Rattle.sp_twin_core.specs.Hands.{IsSecond};
 
 use net_message::Digest;
 use sp_holders::Sightings;
@@ -11,7 +11,7 @@ use sp_state::SpaceState;
 use space_ids::Uuid;
 use std::alloc::{AllocError, Global};
 
-// Numbers and moments stay below this one.
+// Moments stay below this one, and a space whose numbers have come to it is worn out.
 pub(crate) const END: u64 = 1 << 63;
 
 /// The core of one space.
@@ -58,7 +58,7 @@ impl SpaceCore {
 
     // Takes the second state out: a copy of the first, if there is none.
     pub(crate) fn take_spare(&mut self) -> Result<SpaceState, AllocError>
-        ensures spare { IfOk result (λ spare. (g : Setting) (s : State) → IsCore g s self.old → IsSpace g s spare) }
+        ensures spare { IfOk result (λ spare. (g : Setting) (s : State) → IsCore g s self.old → IsSecond g s self.old.state spare) }
         ensures core { self.new ≡ record self.old { spare = None } }
     {
         match self.spare.take() {
@@ -72,9 +72,4 @@ impl SpaceCore {
     {
         drop(std::mem::replace(&mut self.spare, spare));
     }
-}
-
-// Lets a state go. At each place that lets one go by itself, all of which a state is made of is proved anew.
-pub(crate) fn let_go(space: SpaceState) {
-    drop(space);
 }

@@ -1,5 +1,5 @@
 -- A result that waits for leases came on its connection, through every event.
-use mathlib.Core.Path.{sym, subst}
+use mathlib.Core.Path.{sym, ap, subst}
 use Rattle.std.proofs.Common.{inl, inr}
 use Rattle.std.proofs.lemmas.Bool.{true≢false, eq-eqb}
 use Rattle.std.specs.Prelude.{◌≡◌, refl, ℕ, ◌==◌, not, Bool, true, false, List, [], ◌∷◌, ◌++◌, Option, if◌then◌else◌}
@@ -42,6 +42,7 @@ view g e h = record {
   Known = Came (e ∷ h);
   Fails = λ c. Unit {0};
   Ends = λ a r. Unit {0};
+  Starts = λ o n a. Unit {0};
   Keeps = λ l s. AllOf (Came (e ∷ h)) s.parked;
 }
 
@@ -64,6 +65,7 @@ came_flow g e h = record {
   origins = λ l s k. all-from g e h s.tasks;
   sided = λ p a. tt;
   fails = λ asked class a. tt;
+  starts = λ l s p target method fuel arguments o n going k known is stands finds. tt;
   gives = λ p value fuel asked is a b c. tt;
   refuses = λ c n class is. tt;
   finds = λ c n name r is own. tt;
@@ -71,6 +73,7 @@ came_flow g e h = record {
   says = λ l s output is so k. k;
   sends = λ l s turn c m may held k. k;
   clears = λ s k. k;
+  stores = λ l s store is k. k;
   adds = λ l s q k. k;
   calls_out = λ l s turn c peer number task lent kind m there k. k;
   looks_out = λ l s turn c peer number task name there k. k;
@@ -82,7 +85,7 @@ came_flow g e h = record {
   removes_one = λ l s finds is n q eq passes has k. k;
   removes_told = λ l s dirty c sequence k. k;
   answers = λ l s c n k. k;
-  begins = λ l s origin method arguments fuel going k. k;
+  begins = λ l s origin method arguments fuel going at k. k;
   ends = λ l s id t over is k. k;
   replies = λ l s peer number task lent kind m reply t may is k. k;
   replies_none = λ l s peer number task lent kind m is k. k;
@@ -105,14 +108,15 @@ came-begin g s e h = record {
   opens = λ c dialled is k. k;
   parks = λ id n t target method arguments is ready stands k. k;
   looks = λ peer name is k. k;
+  roots = λ method arguments fuel is. tt;
   unmarshal = λ is. tt;
   connect = λ is. tt;
   marshal = λ is. tt;
   threw = λ c n class is q found has. tt;
   spent = λ c n is q found has. tt;
   finished = λ id n t outcome c m is ready stands origin. tt;
-  call_came = λ p is there. call p p.frame is;
-  result_came = λ p value fuel is frame there q found. subst (CameAs (e ∷ h) p) (sym frame) (now p value fuel is);
+  call_came = λ p target o method passed arguments is there stands may fit names. call p p.frame (ap Frames.is_call_frame is);
+  result_came = λ p value fuel is frame there q found fits names. subst (CameAs (e ∷ h) p) (sym frame) (now p value fuel is);
 }
   where
     call : (p : ParkedFrame) (f : Frame) → Frames.is_call_frame f ≡ true → CameAs (e ∷ h) p f

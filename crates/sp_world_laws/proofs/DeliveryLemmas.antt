@@ -14,7 +14,7 @@ use Rattle.sp_rules.specs.Lists.{with_some, at_index}
 use Rattle.sp_rules.specs.Refusals.{Refusal, refusal}
 use Rattle.sp_rules.specs.Space
 use Rattle.sp_rules.specs.State.{State, task_at, is_open}
-use Rattle.sp_rules.specs.Tasks.{Task, Stand, Runs, AsksFor, HasEnded, stand, step}
+use Rattle.sp_rules.specs.Tasks.{Task, Stand, Runs, AsksFor, HasEnded, is_at_end, stand, step}
 use Rattle.sp_rules.specs.Worlds
 use Rattle.sp_rules.specs.Worlds.{World, Space, End, Dialler, Accepter, Side, Pipe, Phase, Unopened, Live, Over, side, other, grown, put, acts, take_event, after, happens, run, new_space, new_world, WorldEvent, Own, Step, Open, Refuse, Accept, Deliver, ReadFails, WriteFails}
 use Rattle.sp_rules.proofs.AllLemmas.{some-none, or-left, or-right, all-with}
@@ -381,7 +381,7 @@ lent-plain id task = at (stand task)
     of-op (Call target method arguments) = ((λ n. (refl, refl)), tt)
 
     at : (stands : Stand) → AllOf Plain (Worlds.events_at id task stands)
-    at Runs = after-one (Worlds.is_over (stand (step task)))
+    at Runs = after-one (is_at_end (step task).behaviour)
     at (AsksFor op) = of-op op
     at (HasEnded outcome) = ((λ n. (refl, refl)), tt)
 

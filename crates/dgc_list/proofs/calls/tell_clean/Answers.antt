@@ -7,12 +7,12 @@ use Rattle.dgc_list.proofs.CallsLemmas.{tells-push, known-kept, named-at}
 use Rattle.dgc_list.proofs.RememberedLemmas.{clean-twice, clean-keeps, strong-some, can-clean}
 use Rattle.dgc_list.proofs.calls.tell_clean.Goals as goal
 
-pub replace-requires : goal.replace-requires
-replace-requires c =
+pub replace-requires-clause-room : goal.replace-requires-clause-room
+replace-requires-clause-room c =
     let nowhere : ObjId = record { 0 = 0 } in
     let id = get_or c.args.ids.now c.loop-id.id-index nowhere in
     let named = named-at c.args.ids.now c.loop-id.id-index nowhere c.loop-id-test.true in
-    let told = c.after_clean-remembered.ensures ∙ ap (after_clean c.args.number c.args.strong) c.get.ensures in
+    let told = c.after_clean-remembered.ensures ∙ ap (after_clean c.args.number c.args.strong) c.get-before.ensures in
     rw told (can-clean (clients_at c.loop-id.objects id) c.args.client.now c.args.number c.args.strong (λ strong. c.loop-id.invariant.known strong id named))
 
 pub loop-id-preserved : goal.loop-id-preserved
@@ -20,7 +20,7 @@ loop-id-preserved c =
     let nowhere : ObjId = record { 0 = 0 } in
     let id = get_or c.args.ids.now c.loop-id.id-index nowhere in
     let f = after_clean c.args.number c.args.strong in
-    let told : c.after_clean-remembered.result ≡ f (remembered_at c.loop-id.objects id c.args.client.now) = c.after_clean-remembered.ensures ∙ ap f c.get.ensures in
+    let told : c.after_clean-remembered.result ≡ f (remembered_at c.loop-id.objects id c.args.client.now) = c.after_clean-remembered.ensures ∙ ap f c.get-before.ensures in
     let set = rw told at c.replace.ensures.here in
     record {
       told = rw (take_more c.args.ids.now c.loop-id.id-index nowhere c.loop-id-test.true)

@@ -8,8 +8,8 @@ use Rattle.dgc_list.proofs.RememberedLemmas.{dirty-twice, dirty-some}
 use Rattle.dgc_list.proofs.ReplaceLemmas.{dirty-same, planned-dirty}
 use Rattle.dgc_list.proofs.calls.tell_dirty.Goals as goal
 
-pub replace-requires : goal.replace-requires
-replace-requires c =
+pub replace-requires-clause-room : goal.replace-requires-clause-room
+replace-requires-clause-room c =
     let nowhere : ObjId = record { 0 = 0 } in
     or-left _ _ (c.loop-id.invariant.known (get_or c.args.ids.now c.loop-id.id-index nowhere) (named-at c.args.ids.now c.loop-id.id-index nowhere c.loop-id-test.true))
 
@@ -19,7 +19,7 @@ loop-id-preserved c =
     let id = get_or c.args.ids.now c.loop-id.id-index nowhere in
     let named = named-at c.args.ids.now c.loop-id.id-index nowhere c.loop-id-test.true in
     let f = after_dirty c.args.number c.args.expires in
-    let told : c.after_dirty-remembered.result ≡ f (remembered_at c.loop-id.objects id c.args.client.now) = c.after_dirty-remembered.ensures ∙ ap f c.get.ensures in
+    let told : c.after_dirty-remembered.result ≡ f (remembered_at c.loop-id.objects id c.args.client.now) = c.after_dirty-remembered.ensures ∙ ap f c.get-before.ensures in
     let set = rw told at c.replace.ensures.here in
     record {
       told = rw (take_more c.args.ids.now c.loop-id.id-index nowhere c.loop-id-test.true)

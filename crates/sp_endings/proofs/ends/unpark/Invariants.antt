@@ -5,9 +5,12 @@ use Rattle.sp_rules.specs.Lists.{each}
 use Rattle.sp_rules.specs.State.{State}
 use Rattle.sp_endings.specs.Passing.{let_references_go}
 use Rattle.sp_living.specs.Livings.{IsLiving}
+use Rattle.sp_tasks.specs.Lent.{KeepsLent}
 use Rattle.sp_endings.proofs.ends.unpark.Given as goal
 
 -- each of the frames so far let its references go
 abbrev pub invariant-loop-frame : goal.invariant-loop-frame
-invariant-loop-frame l =
-    (g : Setting) (s : State) → IsLiving g s l.initial.living → IsLiving g (each let_references_go (map parked_of (take l.frame-index l.frame-items)) s) l.living
+invariant-loop-frame l = record {
+  done : (g : Setting) (s : State) → IsLiving g s l.initial.living → IsLiving g (each let_references_go (map parked_of (take l.frame-index l.frame-items)) s) l.living;
+  lent : KeepsLent l.fn.living.tasks l.living.tasks;
+}

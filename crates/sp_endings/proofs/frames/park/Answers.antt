@@ -10,14 +10,18 @@ use Rattle.sp_living.specs.Frames.{with_parked}
 use Rattle.sp_living.specs.Livings.{IsLiving}
 use Rattle.sp_endings.proofs.PassLemmas.{park-apart}
 use Rattle.sp_endings.proofs.StoreLemmas.{hold-store}
+use Rattle.sp_tasks.proofs.LentLemmas.{lent-next}
 use Rattle.sp_endings.proofs.frames.park.Goals as goal
 
-pub returns : goal.returns
+pub returns-clause-parked : goal.returns-clause-parked
 unfolding park_frame
-returns w c = on_ok_weaker c.go_all.result (λ gone. λ g s a tells after.
+returns-clause-parked w c = on_ok_weaker c.go_all.result (λ gone. λ g s a tells after.
     let frame = c.args.frame in
     let refs = frame.references in
-    let held : IsLiving g (hold_ids refs s) c.hold_ids.new.self = subst (λ (ids : List ForeignId). IsLiving g (hold_ids ids s) c.hold_ids.new.self) c.as_slice.ensures (c.in_ok-hold_ids.ensures g s a) in
+    let held : IsLiving g (hold_ids refs s) c.hold_ids.new.self = subst (λ (ids : List ForeignId). IsLiving g (hold_ids ids s) c.hold_ids.new.self) c.as_slice.ensures (c.in_ok-hold_ids.ensures.held g s a) in
     let parked : State = with_parked (s.parked ++ parked_of frame ∷ []) s in
-    let put = subst (λ (u : State). IsLiving g u c.put_frame.new.self) (park-apart refs (parked_of frame) s) (c.in_ok-put_frame.ensures g (hold_ids refs s) held) in
-    gone g (hold_ids refs parked) put tells (subst (λ (h : List Stored). IsAfter g h c.args.store.now) (sym (hold-store refs parked)) after)) c.go_all.ensures
+    let put = subst (λ (u : State). IsLiving g u c.put_frame.new.self) (park-apart refs (parked_of frame) s) (c.in_ok-put_frame.ensures.parked g (hold_ids refs s) held) in
+    gone g (hold_ids refs parked) put tells (subst (λ (h : List Stored). IsAfter g h c.args.store.now) (sym (hold-store refs parked)) after)) c.go_all.ensures.gone
+
+pub returns-clause-lent : goal.returns-clause-lent
+returns-clause-lent w c = on_ok_weaker c.go_all.result (λ gone. lent-next c.hold_ids.ensures.tasks (lent-next c.put_frame.ensures.tasks gone)) c.go_all.ensures.lent

@@ -1,22 +1,19 @@
-use Rattle.std.proofs.Common.{sym, ◌∙◌}
-use Rattle.sp_holders.proofs.PlaceLemmas.{elsewhere, fields, frames, if-ok, in-fields, in-frames, results, tasks}
+use Rattle.std.proofs.Common.{sym, ap, ◌∙◌}
+use Rattle.std.specs.Prelude.{◌||◌}
+use Rattle.sp_holders.specs.Places.{is_away}
+use Rattle.sp_holders.proofs.PlaceLemmas.{if-err, if-ok, near-or-far}
 use Rattle.sp_holders.proofs.holders.has_holder.Goals as goal
 
-pub returns-then-is_in_fields : goal.returns-then-is_in_fields
-returns-then-is_in_fields c = λ g s is.
+pub returns-then-is_at_hand-clause-held : goal.returns-then-is_at_hand-clause-held
+returns-then-is_at_hand-clause-held c = λ g s is.
     let r = c.args.reference.now in
-    in-fields (tasks s r) (fields g s r) (results s r) (frames s r) (sym (c.is_in_fields.ensures g s (c.owner.ensures g s is) is.numbers) ∙ c.if-is_in_fields.true)
+    sym (near-or-far g s r ∙ ap (λ b. b || is_away s r) (sym (c.is_at_hand.ensures g s is) ∙ c.if-is_at_hand.true))
 
-pub returns-then-branch : goal.returns-then-branch
-returns-then-branch c = λ g s is.
+pub returns-clause-held : goal.returns-clause-held
+returns-clause-held c = if-ok c.is_away.result _ _ (λ n told. λ g s is.
     let r = c.args.reference.now in
-    in-frames (tasks s r) (fields g s r) (results s r) (frames s r) (sym (c.in_ok-is_in_frames.ensures s.parked (c.parked.ensures g s (c.living-living.ensures.stands g s is))) ∙ c.if-branch.true)
+    told g s (c.living.ensures.stands g s is)
+    ∙ sym (near-or-far g s r ∙ ap (λ b. b || is_away s r) (sym (c.is_at_hand.ensures g s is) ∙ c.if-is_at_hand.false))) c.is_away.ensures
 
-pub returns : goal.returns
-returns c = if-ok c.is_in_tables.result _ _ (λ n told. λ g s is.
-    let r = c.args.reference.now in
-    let living = c.living-living.ensures.stands g s is in
-    elsewhere (tasks s r) (fields g s r) (results s r) (frames s r) n
-    (sym (c.is_in_fields.ensures g s (c.owner.ensures g s is) is.numbers) ∙ c.if-is_in_fields.false)
-    (sym (c.in_ok-is_in_frames.ensures s.parked (c.parked.ensures g s living)) ∙ c.if-branch.false)
-    (told g s living)) c.is_in_tables.ensures
+pub returns-clause-err : goal.returns-clause-err
+returns-clause-err c = if-err c.is_away.result _ (λ g s is. sym (c.is_at_hand.ensures g s is) ∙ c.if-is_at_hand.false)

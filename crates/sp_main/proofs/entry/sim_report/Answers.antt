@@ -1,5 +1,6 @@
 use Rattle.std.proofs.Common.{◌∙◌, subst, sym}
 use Rattle.std.proofs.lemmas.Result.{IfOk-at_ok}
+use Rattle.sp_reply_laws.proofs.CrossingLemmas.{remote_rules_are_kept}
 use Rattle.sp_main.specs.Folders.{AreFilesOf, told_by}
 use Rattle.sp_texts.specs.RefusalTexts.{IsRefusalOf}
 use Rattle.sp_words.specs.Requests.{sim_words}
@@ -11,6 +12,10 @@ pub returns-in-Err : goal.returns-in-Err
 returns-in-Err g c =
     unreadable_simulated (told_by (g.F.Folder.lists c.args.folder.now) (g.F.Folder.gives c.args.folder.now)) (sim_words c.args.request.now) c.folder_report.result
     (c.folder_report.ensures).status (c.folder_report.ensures).text
+
+-- a program that files make keeps the rules on its remote classes
+pub program_report-requires : goal.program_report-requires
+program_report-requires g c = let p = (c.in-Ok-program_of.ensures).program in remote_rules_are_kept p.classes _ p.set p.linked.set p.makes_a_set
 
 pub returns-in-Ok-program_of : goal.returns-in-Ok-program_of
 returns-in-Ok-program_of g c =

@@ -1,7 +1,12 @@
 use Rattle.std.proofs.Common.{◌∙◌, subst, sym}
+use Rattle.sp_reply_laws.proofs.CrossingLemmas.{remote_rules_are_kept}
 use Rattle.sp_texts.specs.RefusalTexts.{IsRefusalOf}
 use Rattle.sp_main.proofs.Refused.{no_program_file, without_program}
 use Rattle.sp_serve_command.proofs.command.over_folder.Goals as goal
+
+-- a program that files make keeps the rules on its remote classes
+pub over_program-requires-clause-rules : goal.over_program-requires-clause-rules
+over_program-requires-clause-rules g c κs within = let p = (c.in-Ok.ensures).program in remote_rules_are_kept p.classes _ p.set p.linked.set p.makes_a_set
 
 pub refusal_report-requires : goal.refusal_report-requires
 refusal_report-requires g c = record {

@@ -1,29 +1,16 @@
-use Rattle.std.proofs.Common.{◌≡◌, ◌+◌, ◌≤◌, ◌∷◌, List, ℕ, None, length, ap, sym, ◌∙◌, arith}
-use Rattle.std.specs.Map.{lookup}
-use Rattle.std.specs.Str.{bytes_eq}
-use Rattle.lru.specs.LruCache.{LruCache}
+use Rattle.std.proofs.Common.{◌++◌, ◌∷◌, [], List, ℕ, sym, ap, subst, ◌∙◌}
 use Rattle.dgc_list.specs.declared.remembered.Remembered.{Remembered}
 use Rattle.dgc_list.specs.Remembered.{blank}
-use Rattle.dgc_list.proofs.ClientsLemmas.{put-new, distinct-added, same-added, known-first, lookup-none_from}
+use Rattle.dgc_list.specs.Clients.{IsSame}
+use Rattle.dgc_list.proofs.ClientsLemmas.{known-pushed, same-pushed}
 use Rattle.dgc_list.proofs.clients.Clients.add.Goals as goal
 
-absent : (c : goal.In_ok-put) → lookup (bytes_eq c.args.client.now) c.self.inside.remembered.entries ≡ None
-absent c = lookup-none_from _ (sym c.contains.ensures ∙ c.if-contains.false)
-
-put : (c : goal.In_ok-put) → c.put.new.self.entries ≡ (c.args.client.now, blank) ∷ c.self.inside.remembered.entries
-put c =
-    let cap = c.self.invariant.1 in
-    let few : length c.self.inside.remembered.entries + 1 ≤ c.self.inside.remembered.cap = omega (arith, c.len-count.ensures.len, c.len-count.ensures.fits, cap) in
-    ap (λ (l : LruCache (List ℕ) Remembered). l.entries) c.in_ok-put.ensures.entries ∙ put-new c.args.client.now blank c.self.inside.remembered (absent c) few
-
-pub invariant_of-self-2 : goal.invariant_of-self-2
-invariant_of-self-2 c = (
-  rw (put c) (distinct-added c.args.client.now blank c.self.inside.remembered.entries c.self.invariant.0 (absent c)),
-  ap (λ (l : LruCache (List ℕ) Remembered). l.cap) c.in_ok-put.ensures.entries ∙ c.self.invariant.1,
-)
-
 pub returns-clause-known : goal.returns-clause-known
-returns-clause-known c = rw (put c) (known-first c.args.client.now blank c.self.inside.remembered.entries)
+returns-clause-known c = rw c.in_ok-push.ensures.pushed (known-pushed c.args.client.now blank c.widen.new.self)
 
 pub returns-clause-same : goal.returns-clause-same
-returns-clause-same c = rw (put c, ← c.self.view_is) (same-added c.args.client.now c.self.inside.remembered.entries (absent c))
+returns-clause-same c =
+    let client = c.args.client.now in
+    subst (λ (es : List (List ℕ × Remembered)). IsSame c.args.self.now es)
+    (sym (c.in_ok-push.ensures.pushed ∙ ap (λ (es : List (List ℕ × Remembered)). es ++ (client, blank) ∷ []) c.widen.ensures))
+    (same-pushed client c.args.self.now)

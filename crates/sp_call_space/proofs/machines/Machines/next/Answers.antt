@@ -4,8 +4,8 @@ use Rattle.sp_call_space.specs.Machines.{IsNextAt, machine_at}
 use Rattle.sp_call_space.specs.Players.{IsLevelAt, Played}
 use Rattle.sp_call_space.proofs.machines.Machines.next.Goals as goal
 
-pub returns-in_ok-next-in-Some-clause-next : goal.returns-in_ok-next-in-Some-clause-next
-returns-in_ok-next-in-Some-clause-next c = λ links g t level.
+pub returns-clause-next : goal.returns-clause-next
+returns-clause-next c = λ links g t level.
     let was : machine_at c.args.id c.args.self.now ≡ Some c.in-Some.player.now = grind (arith, common_steps) in
     let now : machine_at c.args.id (record { rows = c.get_mut.follows.lender c.next.new.self }) ≡ Some c.next.new.self = grind (arith, common_steps) in
     subst (λ (o : Option Played). IsNextAt t o c.in_ok-next-in-Some.field-0) (sym now)

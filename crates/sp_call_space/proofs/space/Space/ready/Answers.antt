@@ -1,6 +1,13 @@
+use Rattle.std.proofs.Common.{[], sym, subst}
+use Rattle.sp_rules.specs.Classes.{Setting}
+use Rattle.sp_rules.specs.State.{State}
+use Rattle.sp_call_space.specs.Spaces.{IsSpace}
 use Rattle.sp_call_space.proofs.EventLemmas.{space-core}
-use Rattle.sp_call_space.proofs.LentLemmas.{lends-those, lent_ids}
+use Rattle.sp_call_space.proofs.FreeLemmas.{lends-none}
 use Rattle.sp_call_space.proofs.space.Space.ready.Goals as goal
 
 pub returns : goal.returns
-returns c = λ g s is. (lent_ids c.args.self.now.core, c.ready.ensures g s (lent_ids c.args.self.now.core) (space-core g s c.args.self.now is) (lends-those c.args.self.now.core))
+returns c = λ g s is.
+    let space = c.self.inside.parts in
+    let inside : IsSpace g s space = subst (IsSpace g s) (sym c.self.view_is) is in
+    c.ready.ensures g s [] (space-core g s space inside) (lends-none space.core inside.free)

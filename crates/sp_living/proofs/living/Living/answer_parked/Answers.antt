@@ -12,10 +12,11 @@ use Rattle.sp_living.specs.Livings.{IsLiving}
 use Rattle.sp_living.proofs.FoundLemmas.{none-asks, one-asks}
 use Rattle.sp_living.proofs.LivingLemmas.{moved, sent-own}
 use Rattle.sp_living.proofs.AnswerLemmas.{acked, result-drops, result-goes}
+use Rattle.sp_tasks.proofs.LentLemmas.{lent-none}
 use Rattle.sp_living.proofs.living.Living.answer_parked.Goals as goal
 
-pub returns-in-Some : goal.returns-in-Some
-returns-in-Some c = on_ok_weaker c.reply_to.result (λ replied. λ g s p a at of.
+pub returns-in-Some-clause-answered : goal.returns-in-Some-clause-answered
+returns-in-Some-clause-answered c = on_ok_weaker c.reply_to.result (λ replied. λ g s p a at of.
     let conn = c.args.conn in
     let number = c.args.number in
     let mine = c.is_dialled.ensures.ours c.if-not-is_dialled.false s a.transport in
@@ -25,10 +26,10 @@ returns-in-Some c = on_ok_weaker c.reply_to.result (λ replied. λ g s p a at of
     (c.acknowledge_reserved.ensures.acknowledged s mine.row mine.peer t mine.stands mine.dialled) in
     let living = moved g s (acked conn number s) c.args.self.now c.acknowledge_reserved.new.self (sent-own Acks conn (message.Ack number) (remove_requests (is_call_on conn number) s)) (λ before. now) a in
     subst (λ (u : State). IsLiving g u c.reply_to.new.self) (sym (result-goes g p (reply_of c.args.reply) s conn number by.row at of by.there))
-    (replied g (acked conn number s) by.row.asked living by.asks)) c.reply_to.ensures
+    (replied g (acked conn number s) by.row.asked living by.asks)) c.reply_to.ensures.replied
 
-pub returns-in-None : goal.returns-in-None
-returns-in-None c = λ g s p a at of.
+pub returns-in-None-clause-answered : goal.returns-in-None-clause-answered
+returns-in-None-clause-answered c = λ g s p a at of.
     let conn = c.args.conn in
     let number = c.args.number in
     let mine = c.is_dialled.ensures.ours c.if-not-is_dialled.false s a.transport in
@@ -38,3 +39,6 @@ returns-in-None c = λ g s p a at of.
     (c.acknowledge_reserved.ensures.acknowledged s mine.row mine.peer t mine.stands mine.dialled) in
     let living = moved g s s c.args.self.now c.acknowledge_reserved.new.self refl (λ before. now) a in
     subst (λ (u : State). IsLiving g u (record c.args.self.now { transport = c.acknowledge_reserved.new.self })) (sym (result-drops g p (reply_of c.args.reply) s conn number at of none)) living
+
+pub returns-in-None-clause-lent : goal.returns-in-None-clause-lent
+returns-in-None-clause-lent c = lent-none c.args.self.now.tasks

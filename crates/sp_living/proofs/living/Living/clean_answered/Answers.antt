@@ -12,36 +12,32 @@ use Rattle.sp_living.proofs.ToldLemmas.{none-answered, some-answered}
 use Rattle.sp_living.proofs.living.Living.clean_answered.Goals as goal
 
 pub returns-in-Some-clause-some : goal.returns-in-Some-clause-some
-returns-in-Some-clause-some c = λ g s a.
-    let mine = c.is_dialled.ensures.ours c.if-not-is_dialled.false s a.transport in
-    let told = told-so c.in-Some.told (find (tells_on false c.args.conn c.args.sequence) s.requests) (sym c.in-Some.is ∙ c.take_group.ensures.group s mine.row mine.peer a.transport mine.stands mine.dialled) in
+returns-in-Some-clause-some c = λ g s row peer a there dialled.
+    let told = told-so c.in-Some.told (find (tells_on false c.args.conn c.args.sequence) s.requests) (sym c.in-Some.is ∙ c.take_group.ensures.group s row peer a.transport there dialled) in
     sym (ap (λ (o : Option Request). is_some o) told.there)
 
 pub returns-in-Some-clause-told : goal.returns-in-Some-clause-told
-returns-in-Some-clause-told c = λ g s a.
+returns-in-Some-clause-told c = λ g s row peer a there dialled.
     let conn = c.args.conn in
     let sequence = c.args.sequence in
-    let mine = c.is_dialled.ensures.ours c.if-not-is_dialled.false s a.transport in
     let out = c.in-Some.told in
     let left = remove_requests (tells_on false conn sequence) s in
-    let taken = c.take_group.ensures.taken s mine.row mine.peer a.transport mine.stands mine.dialled in
-    let told = told-so out (find (tells_on false conn sequence) s.requests) (sym c.in-Some.is ∙ c.take_group.ensures.group s mine.row mine.peer a.transport mine.stands mine.dialled) in
+    let taken = c.take_group.ensures.taken s row peer a.transport there dialled in
+    let told = told-so out (find (tells_on false conn sequence) s.requests) (sym c.in-Some.is ∙ c.take_group.ensures.group s row peer a.transport there dialled) in
     let now = tell_leases out.group (CleanAnswered out.call) left in
     let living = moved g s now c.args.self.now c.clean_answered.new.self refl (λ t. c.clean_answered.ensures.told left taken) a in
     subst (λ (u : State). IsLiving g u (record c.args.self.now { transport = c.clean_answered.new.self })) (sym (some-answered s false conn sequence CleanAnswered out told)) living
 
 pub returns-in-None-clause-some : goal.returns-in-None-clause-some
-returns-in-None-clause-some c = λ g s a.
-    let mine = c.is_dialled.ensures.ours c.if-not-is_dialled.false s a.transport in
-    let none = none-tells false c.args.conn c.args.sequence s.requests (sym c.in-None.is ∙ c.take_group.ensures.group s mine.row mine.peer a.transport mine.stands mine.dialled) in
+returns-in-None-clause-some c = λ g s row peer a there dialled.
+    let none = none-tells false c.args.conn c.args.sequence s.requests (sym c.in-None.is ∙ c.take_group.ensures.group s row peer a.transport there dialled) in
     sym (ap (λ (o : Option Request). is_some o) none)
 
 pub returns-in-None-clause-told : goal.returns-in-None-clause-told
-returns-in-None-clause-told c = λ g s a.
+returns-in-None-clause-told c = λ g s row peer a there dialled.
     let conn = c.args.conn in
     let sequence = c.args.sequence in
-    let mine = c.is_dialled.ensures.ours c.if-not-is_dialled.false s a.transport in
-    let none = none-tells false conn sequence s.requests (sym c.in-None.is ∙ c.take_group.ensures.group s mine.row mine.peer a.transport mine.stands mine.dialled) in
+    let none = none-tells false conn sequence s.requests (sym c.in-None.is ∙ c.take_group.ensures.group s row peer a.transport there dialled) in
     let left = remove_requests (tells_on false conn sequence) s in
-    let living = moved g s left c.args.self.now c.take_group.new.self refl (λ t. c.take_group.ensures.taken s mine.row mine.peer t mine.stands mine.dialled) a in
+    let living = moved g s left c.args.self.now c.take_group.new.self refl (λ t. c.take_group.ensures.taken s row peer t there dialled) a in
     subst (λ (u : State). IsLiving g u (record c.args.self.now { transport = c.take_group.new.self })) (sym (none-answered s false conn sequence CleanAnswered none)) living

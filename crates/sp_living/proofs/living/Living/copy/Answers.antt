@@ -36,4 +36,5 @@ returns c = record {
           once = is.parked.once;
         };
       };
+  rows = ap (λ (t : TaskTable). t.rows) (IfOk-at_ok _ c.in_ok-tasks.ensures.0 c.copy-5.ensures.copied);
 }

@@ -7,5 +7,5 @@ use Rattle.sp_living.specs.Livings.{IsLiving}
 use Rattle.sp_living.proofs.LivingLemmas.{dropped-none}
 use Rattle.sp_living.proofs.living.Living.drop_found.Goals as goal
 
-pub returns-in-None : goal.returns-in-None
-returns-in-None c = λ g s a. subst (λ (u : State). IsLiving g u c.args.self.now) (sym (ap (λ (o : Option Ref). drop g (listed o) s) c.in-None.is ∙ dropped-none s)) a
+pub returns-in-None-clause-dropped : goal.returns-in-None-clause-dropped
+returns-in-None-clause-dropped c = λ g s a. subst (λ (u : State). IsLiving g u c.args.self.now) (sym (ap (λ (o : Option Ref). drop g (listed o) s) c.in-None.is ∙ dropped-none s)) a

@@ -13,4 +13,4 @@ returns-clause-back c = λ g s a.
     let hand = c.args.task in
     let h = taken g s c.args.self.now hand a c.requires in
     subst (λ (u : State). IsLiving g u (record c.args.self.now { tasks = c.give_back.new.self })) (sym (ap (λ (o : Option Living). with_some o s (λ t. set_task (after_steps hand.made) hand.id s)) h.ready))
-    (now-back g s c.args.self.now hand c.give_back.new.self h c.give_back.ensures a)
+    (now-back g s c.args.self.now hand c.give_back.new.self h c.give_back.ensures.back a)

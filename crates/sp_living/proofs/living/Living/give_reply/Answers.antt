@@ -17,6 +17,7 @@ use Rattle.sp_living.specs.Livings.{IsLiving}
 use Rattle.sp_living.specs.declared.living.Living.{Living as Lives}
 use Rattle.sp_living.proofs.HandLemmas.{given-own, on-both, taken}
 use Rattle.sp_living.proofs.StepLemmas.{gains-after, held-of, held-set, now-given}
+use Rattle.sp_tasks.proofs.LentLemmas.{lent-next}
 use Rattle.sp_living.proofs.living.Living.give_reply.Goals as goal
 
 -- what the task holds after the reply and did not before
@@ -54,3 +55,6 @@ returns-clause-own c =
     let own : has_lent c.hold_found.new.self c.args.task.now ≡ true = ap (λ (t : TaskTable). is_in_hand (row_of c.args.task.now.id t.rows) c.args.task.now) c.in_ok-hold_found.ensures.tasks ∙ c.requires in
     ap (λ (hand : Hand). is_in_hand (row_of hand.id c.reply.new.self.rows) hand) task
     ∙ given-own c.hold_found.new.self (record c.hold_found.new.self { tasks = c.reply.new.self }) c.args.task.now (reply_of c.in_ok-entered.entered) own rows)
+
+pub returns-clause-lent : goal.returns-clause-lent
+returns-clause-lent c = on_ok_weaker c.reply.result (λ kept. lent-next c.in_ok-hold_found.ensures.tasks kept) c.reply.ensures.lent

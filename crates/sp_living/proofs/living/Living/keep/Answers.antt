@@ -9,8 +9,8 @@ use Rattle.sp_living.proofs.ResultLemmas.{call-kept}
 use Rattle.sp_living.proofs.StepLemmas.{results-now}
 use Rattle.sp_living.proofs.living.Living.keep.Goals as goal
 
-pub returns : goal.returns
-returns c = on_ok_weaker c.hold_found.result (λ held. λ g s a.
+pub returns-clause-kept : goal.returns-clause-kept
+returns-clause-kept c = on_ok_weaker c.hold_found.result (λ held. λ g s a.
     let conn = c.args.conn in
     let number = c.args.number in
     let value = c.args.value in

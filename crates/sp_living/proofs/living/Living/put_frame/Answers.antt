@@ -8,8 +8,8 @@ use Rattle.sp_living.proofs.TableLemmas.{parked-changed}
 use Rattle.sp_living.proofs.OnceLemmas.{once-more}
 use Rattle.sp_living.proofs.living.Living.put_frame.Goals as goal
 
-pub returns : goal.returns
-returns c = λ g s a.
+pub returns-clause-parked : goal.returns-clause-parked
+returns-clause-parked c = λ g s a.
     let p = a.parked in
     let frame = c.args.frame in
     let row : ℕ × ParkedFrame = (last_ticket c.reserve.new.self + 1, frame) in

@@ -19,7 +19,7 @@ returns-in-Some-clause-released c = λ g s a.
     let calls = c.in-Some.ensures.released s.moment s.results a.results.of_calls in
     let now = results-now g s l left.results l.results c.release.new.self (call-released s.moment c.args.conn c.args.number s.results l.results l.call_results c.release.new.self calls a.results) a in
     let refs = ap references_of_results (c.in-Some.ensures.value s.moment s.results a.results.of_calls) ∙ append-nil (references_in c.in-Some.value) ∙ c.reference_in.ensures in
-    subst (λ (u : State). IsLiving g u c.drop_found.new.self) (sym (released-as g s (is_acked_by c.args.conn c.args.number) _ refs)) (c.drop_found.ensures g left now)
+    subst (λ (u : State). IsLiving g u c.drop_found.new.self) (sym (released-as g s (is_acked_by c.args.conn c.args.number) _ refs)) (c.drop_found.ensures.dropped g left now)
 
 pub returns-in-None-clause-held : goal.returns-in-None-clause-held
 returns-in-None-clause-held c = λ g s a. sym (any-none (is_acked_by c.args.conn c.args.number) s.results (c.in-None.ensures.value s.moment s.results a.results.of_calls))

@@ -13,8 +13,8 @@ use Rattle.sp_living.proofs.ResultLemmas.{of-task, released-as, root-released}
 use Rattle.sp_living.proofs.StepLemmas.{results-now}
 use Rattle.sp_living.proofs.living.Living.release_root.Goals as goal
 
-pub returns-in-Some : goal.returns-in-Some
-returns-in-Some c = λ g s a.
+pub returns-in-Some-clause-released : goal.returns-in-Some-clause-released
+returns-in-Some-clause-released c = λ g s a.
     let l = c.args.self.now in
     let task = c.args.task in
     let left : State = record s { results = filter (λ (r : KeptResult). not (is_of_root task r)) s.results } in
@@ -22,10 +22,10 @@ returns-in-Some c = λ g s a.
     let now = results-now g s l left.results c.take.new.self l.call_results roots a in
     let found : filter (is_of_root task) s.results ≡ kept (task, c.in-Some.value) ∷ [] = of-task s.moment task s.results l.results l.call_results a.results ∙ ap (map kept) c.in-Some.ensures.value in
     let refs = ap references_of_results found ∙ append-nil (references_in c.in-Some.value) ∙ c.reference_in.ensures in
-    subst (λ (u : State). IsLiving g u c.drop_found.new.self) (sym (released-as g s (is_of_root task) _ refs)) (c.drop_found.ensures g left now)
+    subst (λ (u : State). IsLiving g u c.drop_found.new.self) (sym (released-as g s (is_of_root task) _ refs)) (c.drop_found.ensures.dropped g left now)
 
-pub returns-in-None : goal.returns-in-None
-returns-in-None c = λ g s a.
+pub returns-in-None-clause-released : goal.returns-in-None-clause-released
+returns-in-None-clause-released c = λ g s a.
     let l = c.args.self.now in
     let task = c.args.task in
     let left : State = record s { results = filter (λ (r : KeptResult). not (is_of_root task r)) s.results } in

@@ -1,7 +1,7 @@
 use Rattle.sp_state.proofs.space_state.SpaceState.copy.Goals as goal
 
-pub returns : goal.returns
-returns c = λ g s is rest. record {
+pub returns-clause-stands : goal.returns-clause-stands
+returns-clause-stands c = λ g s is rest. record {
   id = is.id;
   digest = is.digest;
   numbers = is.numbers;

@@ -6,32 +6,32 @@ use Rattle.sp_state.specs.Spaces.{IsSpace}
 use Rattle.sp_state.proofs.FrameLemmas.{closed-at}
 use Rattle.sp_state.proofs.space_state.SpaceState.got_answer.Goals as goal
 
-pub returns-in-Hello : goal.returns-in-Hello
+pub returns-in-Hello-clause-got : goal.returns-in-Hello-clause-got
 unfolding got
-returns-in-Hello w c = on_ok_weaker c.close.result (λ now. λ g s row peer is silent tells on dialled.
-    subst (λ (m : Message). IsSpace g (got g row m s) c.close.new.self) (sym c.in-Hello.is) (closed-at g g.classes.unmarshal c.args.conn s row c.close.new.self on (now g s is silent tells))) c.close.ensures
+returns-in-Hello-clause-got w c = on_ok_weaker c.close.result (λ now. λ g s row peer is silent tells on dialled.
+    subst (λ (m : Message). IsSpace g (got g row m s) c.close.new.self) (sym c.in-Hello.is) (closed-at g g.classes.unmarshal c.args.conn s row c.close.new.self on (now g s is silent tells))) c.close.ensures.closed
 
-pub returns-in-Returned : goal.returns-in-Returned
+pub returns-in-Returned-clause-got : goal.returns-in-Returned-clause-got
 unfolding got
-returns-in-Returned w c = on_ok_weaker c.got_returned.result (λ now. λ g s row peer is silent tells on dialled.
-    subst (λ (m : Message). IsSpace g (got g row m s) c.got_returned.new.self) (sym c.in-Returned.is) (now g s row peer is silent tells on dialled)) c.got_returned.ensures
+returns-in-Returned-clause-got w c = on_ok_weaker c.got_returned.result (λ now. λ g s row peer is silent tells on dialled.
+    subst (λ (m : Message). IsSpace g (got g row m s) c.got_returned.new.self) (sym c.in-Returned.is) (now g s row peer is silent tells on dialled)) c.got_returned.ensures.got
 
-pub returns-in-Threw : goal.returns-in-Threw
+pub returns-in-Threw-clause-got : goal.returns-in-Threw-clause-got
 unfolding got
-returns-in-Threw w c = on_ok_weaker c.got_threw.result (λ now. λ g s row peer is silent tells on dialled.
-    subst (λ (m : Message). IsSpace g (got g row m s) c.got_threw.new.self) (sym c.in-Threw.is) (now g s row peer is silent tells on dialled)) c.got_threw.ensures
+returns-in-Threw-clause-got w c = on_ok_weaker c.got_threw.result (λ now. λ g s row peer is silent tells on dialled.
+    subst (λ (m : Message). IsSpace g (got g row m s) c.got_threw.new.self) (sym c.in-Threw.is) (now g s row peer is silent tells on dialled)) c.got_threw.ensures.got
 
-pub returns-in-Spent : goal.returns-in-Spent
+pub returns-in-Spent-clause-got : goal.returns-in-Spent-clause-got
 unfolding got
-returns-in-Spent w c = on_ok_weaker c.got_spent.result (λ now. λ g s row peer is silent tells on dialled.
-    subst (λ (m : Message). IsSpace g (got g row m s) c.got_spent.new.self) (sym c.in-Spent.is) (now g s row peer is silent tells on dialled)) c.got_spent.ensures
+returns-in-Spent-clause-got w c = on_ok_weaker c.got_spent.result (λ now. λ g s row peer is silent tells on dialled.
+    subst (λ (m : Message). IsSpace g (got g row m s) c.got_spent.new.self) (sym c.in-Spent.is) (now g s row peer is silent tells on dialled)) c.got_spent.ensures.got
 
-pub returns-in-Lease : goal.returns-in-Lease
+pub returns-in-Lease-clause-got : goal.returns-in-Lease-clause-got
 unfolding got
-returns-in-Lease w c = on_ok_weaker c.got_lease.result (λ now. λ g s row peer is silent tells on dialled.
-    subst (λ (m : Message). IsSpace g (got g row m s) c.got_lease.new.self) (sym c.in-Lease.is) (now g s row is silent tells on)) c.got_lease.ensures
+returns-in-Lease-clause-got w c = on_ok_weaker c.got_lease.result (λ now. λ g s row peer is silent tells on dialled.
+    subst (λ (m : Message). IsSpace g (got g row m s) c.got_lease.new.self) (sym c.in-Lease.is) (now g s row peer is silent tells on dialled)) c.got_lease.ensures.got
 
-pub returns-in-Cleaned : goal.returns-in-Cleaned
+pub returns-in-Cleaned-clause-got : goal.returns-in-Cleaned-clause-got
 unfolding got
-returns-in-Cleaned w c = on_ok_weaker c.got_cleaned.result (λ now. λ g s row peer is silent tells on dialled.
-    subst (λ (m : Message). IsSpace g (got g row m s) c.got_cleaned.new.self) (sym c.in-Cleaned.is) (now g s row is silent tells on)) c.got_cleaned.ensures
+returns-in-Cleaned-clause-got w c = on_ok_weaker c.got_cleaned.result (λ now. λ g s row peer is silent tells on dialled.
+    subst (λ (m : Message). IsSpace g (got g row m s) c.got_cleaned.new.self) (sym c.in-Cleaned.is) (now g s row peer is silent tells on dialled)) c.got_cleaned.ensures.got

@@ -7,30 +7,30 @@ use Rattle.sp_rules.specs.Frames.{got, got_clean, got_dirty, got_lookup}
 use Rattle.sp_state.specs.Spaces.{IsSpace}
 use Rattle.sp_state.proofs.space_state.SpaceState.got_asking.Goals as goal
 
-pub returns-in-Call : goal.returns-in-Call
+pub returns-in-Call-clause-got : goal.returns-in-Call-clause-got
 unfolding got
-returns-in-Call w c = on_ok_weaker c.got_call.result (λ now. λ g s row is silent tells on seen there.
-    subst (λ (m : Message). IsSpace g (got g row m s) c.got_call.new.self) (sym c.in-Call.is) (now g s row is silent tells on (sym (ap (λ (k : Connection). k.last) seen)))) c.got_call.ensures
+returns-in-Call-clause-got w c = on_ok_weaker c.got_call.result (λ now. λ g s row is silent tells on seen there.
+    subst (λ (m : Message). IsSpace g (got g row m s) c.got_call.new.self) (sym c.in-Call.is) (now g s row is silent tells on (sym (ap (λ (k : Connection). k.last) seen)))) c.got_call.ensures.got
 
-pub returns-in-Lookup : goal.returns-in-Lookup
+pub returns-in-Lookup-clause-got : goal.returns-in-Lookup-clause-got
 unfolding got
-returns-in-Lookup w c = on_ok_weaker c.got_lookup.result (λ now. λ g s row is silent tells on seen there.
+returns-in-Lookup-clause-got w c = on_ok_weaker c.got_lookup.result (λ now. λ g s row is silent tells on seen there.
     subst (λ (m : Message). IsSpace g (got g row m s) c.got_lookup.new.self) (sym c.in-Lookup.is)
-    (subst (λ (name : List ℕ). IsSpace g (got_lookup g row c.in-Lookup.number name s) c.got_lookup.new.self) c.as_slice.ensures (now g s row is silent tells on (sym (ap (λ (k : Connection). k.last) seen))))) c.got_lookup.ensures
+    (subst (λ (name : List ℕ). IsSpace g (got_lookup g row c.in-Lookup.number name s) c.got_lookup.new.self) c.as_slice.ensures (now g s row is silent tells on (sym (ap (λ (k : Connection). k.last) seen))))) c.got_lookup.ensures.got
 
-pub returns-in-Ack : goal.returns-in-Ack
+pub returns-in-Ack-clause-got : goal.returns-in-Ack-clause-got
 unfolding got
-returns-in-Ack w c = on_ok_weaker c.got_ack.result (λ now. λ g s row is silent tells on seen there.
-    subst (λ (m : Message). IsSpace g (got g row m s) c.got_ack.new.self) (sym c.in-Ack.is) (now g s row is silent tells on)) c.got_ack.ensures
+returns-in-Ack-clause-got w c = on_ok_weaker c.got_ack.result (λ now. λ g s row is silent tells on seen there.
+    subst (λ (m : Message). IsSpace g (got g row m s) c.got_ack.new.self) (sym c.in-Ack.is) (now g s row is silent tells on)) c.got_ack.ensures.got
 
-pub returns-in-Dirty : goal.returns-in-Dirty
+pub returns-in-Dirty-clause-got : goal.returns-in-Dirty-clause-got
 unfolding got
-returns-in-Dirty w c = on_ok_weaker c.got_dirty.result (λ now. λ g s row is silent tells on seen there.
+returns-in-Dirty-clause-got w c = on_ok_weaker c.got_dirty.result (λ now. λ g s row is silent tells on seen there.
     subst (λ (m : Message). IsSpace g (got g row m s) c.got_dirty.new.self) (sym c.in-Dirty.is)
-    (subst (λ (ids : List ObjId). IsSpace g (got_dirty g row c.in-Dirty.sequence c.in-Dirty.period ids s) c.got_dirty.new.self) c.as_slice-in-Dirty.ensures (now g s row is on (sym (ap (λ (k : Connection). k.peer) seen))))) c.got_dirty.ensures
+    (subst (λ (ids : List ObjId). IsSpace g (got_dirty g row c.in-Dirty.sequence c.in-Dirty.period ids s) c.got_dirty.new.self) c.as_slice-in-Dirty.ensures (now g s row is on (sym (ap (λ (k : Connection). k.peer) seen))))) c.got_dirty.ensures.got
 
-pub returns-in-Clean : goal.returns-in-Clean
+pub returns-in-Clean-clause-got : goal.returns-in-Clean-clause-got
 unfolding got
-returns-in-Clean w c = on_ok_weaker c.got_clean.result (λ now. λ g s row is silent tells on seen there.
+returns-in-Clean-clause-got w c = on_ok_weaker c.got_clean.result (λ now. λ g s row is silent tells on seen there.
     subst (λ (m : Message). IsSpace g (got g row m s) c.got_clean.new.self) (sym c.in-Clean.is)
-    (subst (λ (ids : List ObjId). IsSpace g (got_clean g row c.in-Clean.sequence c.in-Clean.strong ids s) c.got_clean.new.self) c.as_slice-in-Clean.ensures (now g s row is on (sym (ap (λ (k : Connection). k.peer) seen))))) c.got_clean.ensures
+    (subst (λ (ids : List ObjId). IsSpace g (got_clean g row c.in-Clean.sequence c.in-Clean.strong ids s) c.got_clean.new.self) c.as_slice-in-Clean.ensures (now g s row is on (sym (ap (λ (k : Connection). k.peer) seen))))) c.got_clean.ensures.got

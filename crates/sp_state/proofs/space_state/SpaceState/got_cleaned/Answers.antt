@@ -7,8 +7,8 @@ use Rattle.sp_state.proofs.QuietLemmas.{parts-quiet, told_by_keeps}
 use Rattle.sp_state.proofs.SpaceLemmas.{quiet}
 use Rattle.sp_state.proofs.space_state.SpaceState.got_cleaned.Goals as goal
 
-pub returns : goal.returns
-returns w c = on_ok_weaker c.cleaned.result (λ now. λ g s row is silent tells on.
+pub returns-clause-got : goal.returns-clause-got
+returns-clause-got w c = on_ok_weaker c.cleaned.result (λ now. λ g s row peer is silent tells on dialled.
     quiet g s (told_by g row false c.args.sequence CleanAnswered s) c.args.self.now c.cleaned.new.living
     (told_by_keeps (parts-quiet g (owner_parts s)) {s = s} row false c.args.sequence CleanAnswered refl)
-    (now g s row is.living silent tells (c.store-store.ensures g s is.owner) on.there) is) c.cleaned.ensures
+    (now g s row peer is.living silent tells (c.store-store.ensures g s is.owner) on.there dialled) is) c.cleaned.ensures.told

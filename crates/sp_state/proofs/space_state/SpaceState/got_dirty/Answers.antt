@@ -13,11 +13,12 @@ use Rattle.sp_state.specs.declared.space_state.SpaceState.{SpaceState}
 use Rattle.sp_state.proofs.CallLemmas.{client-so}
 use Rattle.sp_state.proofs.QuietLemmas.{parts-quiet, replies-early, send_keeps}
 use Rattle.sp_state.proofs.SpaceLemmas.{living-still, quiet}
+use Rattle.sp_tasks.proofs.LentLemmas.{lent-same, on-any}
 use Rattle.sp_state.proofs.space_state.SpaceState.got_dirty.Goals as goal
 
-pub returns : goal.returns
+pub returns-clause-got : goal.returns-clause-got
 unfolding got_dirty
-returns c = on_ok_weaker c.reply.result (λ replied. λ g s row is on same.
+returns-clause-got c = on_ok_weaker c.reply.result (λ replied. λ g s row is on same.
     let client = c.unwrap_or-client.result in
     let told : State = tell_owner (Dirty client (that_stand s c.args.ids.now) c.args.sequence c.args.period) s in
     let frame : Message = message.Lease c.args.sequence c.in_ok-granted.granted in
@@ -26,4 +27,7 @@ returns c = on_ok_weaker c.reply.result (λ replied. λ g s row is on same.
     let now : IsSpace g told x = record { id = is.id; digest = is.digest; numbers = is.numbers; owner = c.in_ok-granted.ensures.told g s is.owner; living = living } in
     let sent = quiet g told (send Replies c.args.conn frame told) x c.reply.new.self (send_keeps (parts-quiet g (owner_parts told)) {s = told} Replies c.args.conn frame replies-early refl) (replied g told living) now in
     let who : client ≡ _ = c.unwrap_or-client.ensures ∙ ap (λ (o : Option Uuid). unwrap_or o c.args.self.now.id) (sym same) ∙ ap (λ (own : Uuid). unwrap_or row.peer own) is.id ∙ sym (client-so row.peer g.id) in
-    subst (λ (t : State). IsSpace g t (record x { living = c.reply.new.self })) (λ j. send Replies (sym on.number j) (message.Lease c.args.sequence (c.in_ok-granted.ensures.granted j)) (tell_owner (Dirty (who j) (that_stand s c.args.ids.now) c.args.sequence c.args.period) s)) sent) c.reply.ensures
+    subst (λ (t : State). IsSpace g t (record x { living = c.reply.new.self })) (λ j. send Replies (sym on.number j) (message.Lease c.args.sequence (c.in_ok-granted.ensures.granted j)) (tell_owner (Dirty (who j) (that_stand s c.args.ids.now) c.args.sequence c.args.period) s)) sent) c.reply.ensures.sent
+
+pub returns-clause-lent : goal.returns-clause-lent
+returns-clause-lent c = on-any c.reply.result (lent-same c.reply.ensures.tasks)

@@ -13,14 +13,15 @@ use Rattle.sp_state.specs.Hellos.{take_hello}
 use Rattle.sp_state.proofs.FrameLemmas.{closed-at, hello-dialled, hello-other, space-is}
 use Rattle.sp_state.proofs.QuietLemmas.{flush_keeps, parts-quiet}
 use Rattle.sp_state.proofs.SpaceLemmas.{quiet}
+use Rattle.sp_tasks.proofs.LentLemmas.{lent-same, on-any}
 use Rattle.sp_state.proofs.space_state.SpaceState.hello_of_dialled.Goals as goal
 
 second : (a b : Bool) → (a && b) ≡ true → b ≡ true
 second true b h = h
 second false b h = absurd (true≢false (sym h))
 
-pub returns-then-is_of : goal.returns-then-is_of
-returns-then-is_of w c = on_ok_weaker c.flush_waiting.result (λ flushed. λ g s row is silent tells on dialled fresh.
+pub returns-then-is_of-clause-got : goal.returns-then-is_of-clause-got
+returns-then-is_of-clause-got w c = on_ok_weaker c.flush_waiting.result (λ flushed. λ g s row is silent tells on dialled fresh.
     let hello = c.args.hello in
     let peer = c.args.peer.now in
     let both = sym (c.is_of.ensures g s is) ∙ c.if-is_of.true in
@@ -28,11 +29,14 @@ returns-then-is_of w c = on_ok_weaker c.flush_waiting.result (λ flushed. λ g s
     let out : State = flush_waiting peer row.number (greeted hello.space row.number s) in
     let living = subst (λ (t : State). IsLiving g t c.flush_waiting.new.self) (λ j. flush_waiting peer (sym on.number j) (greeted (sym who j) (sym on.number j) s)) (flushed g s row is.living silent on.there dialled fresh) in
     space-is g out (take_hello g row hello s) _ (hello-dialled g row hello s peer dialled both)
-    (quiet g s out c.args.self.now c.flush_waiting.new.self (flush_keeps (parts-quiet g (owner_parts s)) {s = greeted hello.space row.number s} peer row.number refl) living is)) c.flush_waiting.ensures
+    (quiet g s out c.args.self.now c.flush_waiting.new.self (flush_keeps (parts-quiet g (owner_parts s)) {s = greeted hello.space row.number s} peer row.number refl) living is)) c.flush_waiting.ensures.flushed
 
-pub returns : goal.returns
-returns w c = on_ok_weaker c.close.result (λ now. λ g s row is silent tells on dialled fresh.
+pub returns-clause-got : goal.returns-clause-got
+returns-clause-got w c = on_ok_weaker c.close.result (λ now. λ g s row is silent tells on dialled fresh.
     let hello = c.args.hello in
     let other = sym (c.is_of.ensures g s is) ∙ c.if-is_of.false in
     space-is g (close g g.classes.connect row.number s) (take_hello g row hello s) c.close.new.self (hello-other g row hello s c.args.peer.now dialled other)
-    (closed-at g g.classes.connect c.args.conn s row c.close.new.self on (now g s is silent tells))) c.close.ensures
+    (closed-at g g.classes.connect c.args.conn s row c.close.new.self on (now g s is silent tells))) c.close.ensures.closed
+
+pub returns-then-is_of-clause-lent : goal.returns-then-is_of-clause-lent
+returns-then-is_of-clause-lent w c = on-any c.flush_waiting.result (lent-same c.flush_waiting.ensures.tasks)

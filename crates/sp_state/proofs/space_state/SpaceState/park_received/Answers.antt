@@ -16,8 +16,8 @@ use Rattle.sp_state.proofs.space_state.SpaceState.park_received.Goals as goal
 pub park-requires : goal.park-requires
 park-requires w c = subst (IsDistinct is_same) (sym c.new.ensures) c.in_ok-references.ensures.distinct
 
-pub returns : goal.returns
-returns w c = on_ok_weaker c.park.result (λ parked. λ g s is tells.
+pub returns-clause-parked : goal.returns-clause-parked
+returns-clause-parked w c = on_ok_weaker c.park.result (λ parked. λ g s is tells.
     let k = c.args.call in
     let conn = c.args.conn in
     let number = c.args.number in
@@ -26,4 +26,4 @@ returns w c = on_ok_weaker c.park.result (λ parked. λ g s is tells.
     let now = quiet g s (park_frame g conn number (CallFrame k.target k.method k.fuel k.arguments) c.new.result s) c.args.self.now c.park.new.living
     (park_frame_keeps (parts-quiet g (owner_parts s)) {s = s} conn number (CallFrame k.target k.method k.fuel k.arguments) c.new.result refl)
     (parked g s is.living tells (c.store.ensures g s is.owner)) is in
-    subst (λ (ids : List ForeignId). IsSpace g (park_frame g conn number (CallFrame k.target k.method k.fuel k.arguments) ids s) (record c.args.self.now { living = c.park.new.living })) same now) c.park.ensures
+    subst (λ (ids : List ForeignId). IsSpace g (park_frame g conn number (CallFrame k.target k.method k.fuel k.arguments) ids s) (record c.args.self.now { living = c.park.new.living })) same now) c.park.ensures.parked

@@ -8,8 +8,8 @@ use Rattle.sp_state.specs.Denying.{told_denied}
 use Rattle.sp_state.proofs.SpaceLemmas.{named, named-numbers}
 use Rattle.sp_state.proofs.space_state.SpaceState.rebind.Goals as goal
 
-pub returns : goal.returns
-returns c = on_ok_weaker c.deny.result (λ told. λ g s is.
+pub returns-clause-bound : goal.returns-clause-bound
+returns-clause-bound c = on_ok_weaker c.deny.result (λ told. λ g s is.
     let names = registry.rebind s.owner.names c.args.name.now (own_object g s c.args.value.now) in
     record {
       id = is.id;
@@ -17,4 +17,4 @@ returns c = on_ok_weaker c.deny.result (λ told. λ g s is.
       numbers = named-numbers names s is.numbers;
       owner = c.in_ok-denied.ensures.rebound g s is.owner;
       living = named g names s c.deny.new.living (subst (λ (d : Option RegistryFault). IsLiving g (told_denied d s) c.deny.new.living) (c.in_ok-denied.ensures.denied g s is.owner) (told g s is.living));
-    }) c.deny.ensures
+    }) c.deny.ensures.denied

@@ -7,8 +7,8 @@ use Rattle.sp_state.specs.Denying.{told_denied}
 use Rattle.sp_state.proofs.SpaceLemmas.{named, named-numbers}
 use Rattle.sp_state.proofs.space_state.SpaceState.unbind.Goals as goal
 
-pub returns : goal.returns
-returns c = on_ok_weaker c.deny.result (λ told. λ g s is.
+pub returns-clause-unbound : goal.returns-clause-unbound
+returns-clause-unbound c = on_ok_weaker c.deny.result (λ told. λ g s is.
     let names = registry.unbind s.owner.names c.args.name.now in
     record {
       id = is.id;
@@ -16,4 +16,4 @@ returns c = on_ok_weaker c.deny.result (λ told. λ g s is.
       numbers = named-numbers names s is.numbers;
       owner = c.unbind-denied.ensures.unbound g s is.owner;
       living = named g names s c.deny.new.living (subst (λ (d : Option RegistryFault). IsLiving g (told_denied d s) c.deny.new.living) (c.unbind-denied.ensures.denied g s is.owner) (told g s is.living));
-    }) c.deny.ensures
+    }) c.deny.ensures.denied

@@ -14,10 +14,11 @@ use Rattle.sp_state.specs.declared.space_state.SpaceState.{SpaceState}
 use Rattle.sp_state.proofs.QuietLemmas.{drop_keeps, parts-quiet}
 use Rattle.sp_state.proofs.SpaceLemmas.{living-still, quiet}
 use Rattle.sp_state.proofs.SweepLemmas.{without-numbered, without-still}
+use Rattle.sp_tasks.proofs.LentLemmas.{lent-same, on-any}
 use Rattle.sp_state.proofs.space_state.SpaceState.withdraw.Goals as goal
 
-pub returns : goal.returns
-returns c = on_ok_weaker c.say.result (λ said. λ g s is.
+pub returns-clause-withdrawn : goal.returns-clause-withdrawn
+returns-clause-withdrawn c = on_ok_weaker c.say.result (λ said. λ g s is.
     let ids = c.args.ids.items in
     let gone : State = without ids s in
     let x : SpaceState = record c.args.self.now { owner = c.withdraw.new.self } in
@@ -28,4 +29,7 @@ returns c = on_ok_weaker c.say.result (λ said. λ g s is.
     let left : State = drop g c.as_slice-dropped.result.now gone in
     let told : State = say (Withdrawn c.new.result) left in
     let done = quiet g gone told x c.say.new.self (drop_keeps (parts-quiet g (owner_parts gone)) {s = gone} (foreign_ids g.id c.as_slice-dropped.result.now) refl) (said g left (c.drop_holders.ensures.dropped g gone living)) now in
-    subst (λ (t : State). IsSpace g t (record x { living = c.say.new.self })) (λ j. say (Withdrawn (c.new.ensures j)) (drop g (refs j) gone)) done) c.say.ensures
+    subst (λ (t : State). IsSpace g t (record x { living = c.say.new.self })) (λ j. say (Withdrawn (c.new.ensures j)) (drop g (refs j) gone)) done) c.say.ensures.said
+
+pub returns-clause-lent : goal.returns-clause-lent
+returns-clause-lent c = on-any c.say.result (lent-same (c.say.ensures.tasks ∙ c.drop_holders.ensures.tasks))

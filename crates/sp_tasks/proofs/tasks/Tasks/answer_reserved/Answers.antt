@@ -1,8 +1,9 @@
-use Rattle.std.proofs.Common.{◌≡◌, Some, set, sym, ap, ◌∙◌, Option, None, true≢false}
+use Rattle.std.proofs.Common.{◌≡◌, Some, set, refl, sym, ap, ◌∙◌, Option, None, true≢false}
 use Rattle.sp_tasks.specs.Behaviours.{reply_of}
 use Rattle.sp_tasks.specs.Rows.{answered_row, row_of, TaskRow, is_parked}
 use Rattle.rising_map.proofs.RowLemmas.{entry-at, none-from}
 use Rattle.sp_tasks.proofs.TableLemmas.{in-view, out-of-view, changed, in_tree, row-changed}
+use Rattle.sp_tasks.proofs.LentLemmas.{lent-at}
 use Rattle.sp_tasks.proofs.tasks.Tasks.answer_reserved.Goals as goal
 
 pub put-requires : goal.put-requires
@@ -17,8 +18,8 @@ invariant_of-self c =
     changed _ _ _ m.entries c.self.inside.ready c.put.new.self id c.in-Some.index v c.answer_reserved.new.self entry
     (c.put.ensures.numbers ∙ ap (λ n. set c.self.inside.ready.numbers c.in-Some.index n) c.ready_id-number.ensures) c.put.ensures.room c.self.invariant
 
-pub returns : goal.returns
-returns c =
+pub returns-clause-answered : goal.returns-clause-answered
+returns-clause-answered c =
     let m = c.self.inside.rows in
     let id = c.args.id in
     let v = c.index_mut-row.result.now in
@@ -38,3 +39,6 @@ answer_reserved-requires-clause-waits c =
     let v = c.index_mut-row.result.now in
     let found : row_of c.args.id m.entries ≡ Some v = sym c.in-Some.ensures.value ∙ c.index_mut-row.ensures.value in
     let seen : row_of c.args.id c.args.self.now.rows ≡ Some v = rw (← c.self.view_is) (in-view c.args.id m.entries v c.self.invariant.distinct found) in ap (λ (o : Option TaskRow). is_parked o) (sym seen) ∙ c.requires.waits
+
+pub returns-clause-lent : goal.returns-clause-lent
+returns-clause-lent c = lent-at c.args.id (answered_row (reply_of c.args.reply)) c.args.self.now _ (λ row. refl) (returns-clause-answered c)

@@ -1,7 +1,8 @@
-use Rattle.std.proofs.Common.{◌≡◌, Some, set, sym, ap, ◌∙◌, Option, None, true≢false}
+use Rattle.std.proofs.Common.{◌≡◌, Some, set, refl, sym, ap, ◌∙◌, Option, None, true≢false}
 use Rattle.sp_tasks.specs.Rows.{back_row, row_of, TaskRow, is_in_hand}
 use Rattle.rising_map.proofs.RowLemmas.{entry-at, none-from}
 use Rattle.sp_tasks.proofs.TableLemmas.{in-view, out-of-view, changed, in_tree, row-changed}
+use Rattle.sp_tasks.proofs.LentLemmas.{no-more-at}
 use Rattle.sp_tasks.proofs.tasks.Tasks.give_back.Goals as goal
 
 pub put-requires : goal.put-requires
@@ -16,8 +17,8 @@ invariant_of-self c =
     changed _ _ _ m.entries c.self.inside.ready c.put.new.self id c.in-Some.index v c.give_back.new.self entry
     (c.put.ensures.numbers ∙ ap (λ n. set c.self.inside.ready.numbers c.in-Some.index n) c.ready_id-number.ensures) c.put.ensures.room c.self.invariant
 
-pub returns : goal.returns
-returns c =
+pub returns-clause-back : goal.returns-clause-back
+returns-clause-back c =
     let m = c.self.inside.rows in
     let id = c.id-id.result in
     let v = c.index_mut-row.result.now in
@@ -37,3 +38,6 @@ give_back-requires c =
     let v = c.index_mut-row.result.now in
     let found : row_of c.id-id.result m.entries ≡ Some v = sym c.in-Some.ensures.value ∙ c.index_mut-row.ensures.value in
     let seen : row_of c.args.task.id c.args.self.now.rows ≡ Some v = rw (← c.self.view_is, ← c.id-id.ensures) (in-view c.id-id.result m.entries v c.self.invariant.distinct found) in ap (λ (o : Option TaskRow). is_in_hand o c.args.task) (sym seen) ∙ c.requires
+
+pub returns-clause-lent : goal.returns-clause-lent
+returns-clause-lent c = no-more-at c.args.task.id (back_row c.args.task.made) c.args.self.now _ (λ row. refl) (returns-clause-back c)

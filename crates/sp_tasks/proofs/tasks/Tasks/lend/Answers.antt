@@ -5,6 +5,7 @@ use Rattle.rising_map.proofs.RowLemmas.{entry-at, none-from}
 use Rattle.sp_tasks.proofs.OrderLemmas.{lookup-by}
 use Rattle.sp_tasks.proofs.RowLemmas.{unwritten}
 use Rattle.sp_tasks.proofs.TableLemmas.{changed, lent-number, in_tree, row-changed}
+use Rattle.sp_tasks.proofs.LentLemmas.{lend-none, lend-too}
 use Rattle.sp_tasks.proofs.tasks.Tasks.lend.Goals as goal
 
 pub put-requires : goal.put-requires
@@ -49,3 +50,15 @@ returns-in_err-index-clause-rows c =
     let id = c.args.id in
     let none : row_of id m.entries ≡ None = none-from (row_of id m.entries) c.in_err-index.ensures.found in
     rw (← c.self.view_is) (let e = unwritten id lent_row _ (lookup-by id m.entries c.self.invariant.distinct ∙ none) in λ j. record { made = c.self.inside.made; room = c.self.inside.room; rows = sym e j })
+
+pub returns-clause-lent : goal.returns-clause-lent
+returns-clause-lent c = lend-too c.args.id c.args.self.now _ c.lend-task.result (returns-clause-task c) (returns-clause-rows c)
+
+pub returns-clause-unlent : goal.returns-clause-unlent
+returns-clause-unlent c = lend-none c.args.id c.args.self.now _ c.lend-task.result (returns-clause-task c) (returns-clause-rows c)
+
+pub returns-in_err-index-clause-lent : goal.returns-in_err-index-clause-lent
+returns-in_err-index-clause-lent c = lend-too c.args.id c.args.self.now _ c.from_residual.result (returns-in_err-index-clause-task c) (returns-in_err-index-clause-rows c)
+
+pub returns-in_err-index-clause-unlent : goal.returns-in_err-index-clause-unlent
+returns-in_err-index-clause-unlent c = lend-none c.args.id c.args.self.now _ c.from_residual.result (returns-in_err-index-clause-task c) (returns-in_err-index-clause-rows c)

@@ -1,10 +1,11 @@
-use Rattle.std.proofs.Common.{◌≡◌, Some, sym, ap, ◌∙◌, Option, None, true≢false}
+use Rattle.std.proofs.Common.{◌≡◌, Some, refl, sym, ap, ◌∙◌, Option, None, true≢false}
 use Rattle.sp_tasks.specs.Behaviours.{reply_of}
 use Rattle.sp_tasks.specs.Rows.{TaskRow, replied_row, row_of, is_in_hand}
 use Rattle.sp_tasks.specs.Tables.{ready_number}
 use Rattle.rising_map.proofs.RowLemmas.{entry-at, none-from}
 use Rattle.sp_tasks.proofs.RowLemmas.{on-err, on-ok}
 use Rattle.sp_tasks.proofs.TableLemmas.{in-view, out-of-view, either-way, kept, row-changed, row-kept}
+use Rattle.sp_tasks.proofs.LentLemmas.{lent-at}
 use Rattle.sp_tasks.proofs.tasks.Tasks.reply.Goals as goal
 
 pub invariant_of-self : goal.invariant_of-self
@@ -47,3 +48,7 @@ reply-requires-clause-lent c =
     let v = c.index_mut.result.now in
     let found : row_of c.id.result m.entries ≡ Some v = sym c.in-Some.ensures.value ∙ c.index_mut.ensures.value in
     let seen : row_of c.args.task.now.id c.args.self.now.rows ≡ Some v = rw (← c.self.view_is, ← c.id.ensures) (in-view c.id.result m.entries v c.self.invariant.distinct found) in ap (λ (o : Option TaskRow). is_in_hand o c.args.task.now) (sym seen) ∙ c.requires.lent
+
+pub returns-clause-lent : goal.returns-clause-lent
+returns-clause-lent c =
+    on-ok c.reply.result _ _ (returns-clause-rows c) (λ is. lent-at c.args.task.now.id (replied_row c.args.task.now.made (reply_of c.args.reply)) c.args.self.now _ (λ row. refl) is)

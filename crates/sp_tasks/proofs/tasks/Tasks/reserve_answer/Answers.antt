@@ -1,9 +1,10 @@
-use Rattle.std.proofs.Common.{◌≡◌, Some, sym, ap, ◌∙◌, Option, None, true≢false}
+use Rattle.std.proofs.Common.{◌≡◌, Some, refl, sym, ap, ◌∙◌, Option, None, true≢false}
 use Rattle.sp_tasks.specs.Rows.{TaskRow, roomy_row, row_of, is_in_hand}
 use Rattle.sp_tasks.specs.Tables.{ready_number}
 use Rattle.rising_map.proofs.RowLemmas.{entry-at, none-from}
 use Rattle.sp_tasks.proofs.RowLemmas.{on-err, on-ok}
 use Rattle.sp_tasks.proofs.TableLemmas.{out-of-view, either-way, kept, row-changed, row-kept}
+use Rattle.sp_tasks.proofs.LentLemmas.{lent-at}
 use Rattle.sp_tasks.proofs.tasks.Tasks.reserve_answer.Goals as goal
 
 pub invariant_of-self : goal.invariant_of-self
@@ -39,3 +40,6 @@ pub unreachable-requires : goal.unreachable-requires
 unreachable-requires c =
     let none = out-of-view c.id.result c.self.inside.rows.entries c.self.invariant.distinct (none-from _ c.in-None.ensures.found) in
     let seen : row_of c.args.task.now.id c.args.self.now.rows ≡ None = rw (← c.self.view_is, ← c.id.ensures) none in true≢false (sym c.requires ∙ ap (λ (o : Option TaskRow). is_in_hand o c.args.task.now) seen)
+
+pub returns-clause-lent : goal.returns-clause-lent
+returns-clause-lent c = on-ok c.reserve_answer.result _ _ (returns-clause-rows c) (λ is. lent-at c.args.task.now.id roomy_row c.args.self.now _ (λ row. refl) is)

@@ -1,9 +1,10 @@
-use Rattle.std.proofs.Common.{◌≡◌, ◌+◌, ◌-◌, None, nat_eq, ◌∙◌, arith}
+use Rattle.std.proofs.Common.{◌≡◌, ◌+◌, ◌-◌, None, nat_eq, sym, ap, ◌∙◌, arith}
 use Rattle.indexmap.specs.IndexMap.{spare}
 use Rattle.indexmap.proofs.CallerLemmas.{insert_entry-new}
-use Rattle.sp_tasks.specs.Rows.{row_of}
+use Rattle.sp_tasks.specs.Rows.{TaskRow, is_ready, row_of}
 use Rattle.sp_tasks.proofs.RowLemmas.{above}
 use Rattle.sp_tasks.proofs.TableLemmas.{row-started, started-table}
+use Rattle.sp_tasks.proofs.LentLemmas.{lent-started}
 use Rattle.sp_tasks.proofs.tasks.Tasks.start_reserved.Goals as goal
 
 pub invariant_of-self : goal.invariant_of-self
@@ -25,3 +26,7 @@ returns-clause-started c =
     rw (← c.self.view_is, ← c.into_row.ensures.row)
     (let e = row-started made c.into_row.result m.entries c.insert.new.self.entries is.distinct is.below (c.in-Ok.ensures.entries ∙ insert_entry-new nat_eq m (made + 1) c.into_row.result none) (λ q. c.in-Ok.ensures.updates.0 q) in
     λ j. record { made = made + 1; room = c.self.inside.room - 1; rows = e j })
+
+pub returns-clause-lent : goal.returns-clause-lent
+returns-clause-lent c =
+    lent-started c.args.new c.args.self.now _ (ap (λ (row : TaskRow). is_ready row) (sym c.into_row.ensures.row) ∙ c.into_row.ensures.ready) (returns-clause-started c)

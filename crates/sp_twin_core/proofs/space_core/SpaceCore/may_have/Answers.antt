@@ -12,4 +12,4 @@ returns-then-not-is_leased c = λ g s is. free-argument g s c.args.reference.now
 
 pub returns : goal.returns
 returns c = if-ok c.has_holder.result _ _ (λ held told. λ g s is.
-    leased-argument g s c.args.reference.now c.args.self.now.id held c.is_leased.result is.id (sym c.eq.ensures ∙ c.if-eq.false) (told g s is.state) (c.is_leased.ensures g s is) c.if-not-is_leased.false) c.has_holder.ensures
+    leased-argument g s c.args.reference.now c.args.self.now.id held c.is_leased.result is.id (sym c.eq.ensures ∙ c.if-eq.false) (told g s is.state) (c.is_leased.ensures g s is) c.if-not-is_leased.false) c.has_holder.ensures.held

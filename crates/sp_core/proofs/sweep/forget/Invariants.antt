@@ -1,8 +1,0 @@
-use Rattle.std.proofs.Common.{List, take}
-use Rattle.dgc_list.specs.History as owner
-use Rattle.sp_core.specs.Sweeps.{forgotten}
-use Rattle.sp_core.proofs.sweep.forget.Given as goal
-
--- those so far are forgotten
-abbrev pub invariant-loop-id : goal.invariant-loop-id
-invariant-loop-id l = (h : List owner.Call) → owner.IsAfter h l.initial.entries → owner.IsAfter (forgotten (take l.id-index l.ids) h) l.entries

@@ -1,0 +1,3 @@
+pub mod BookLemmas
+pub mod EntryLemmas
+pub mod FrameLemmas

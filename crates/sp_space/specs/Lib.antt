@@ -1,4 +1,0 @@
-pub mod Players
-pub mod Machines
-pub mod Spaces
-pub mod Hands

@@ -1,8 +1,0 @@
-use Rattle.std.proofs.Common.{ℕ, List, ap, ◌∙◌}
-use Rattle.sp_tasks.specs.Least.{number_at}
-use Rattle.sp_tasks.proofs.LeastLemmas.{tree-least}
-use Rattle.sp_tasks.proofs.least.LeastTree.least.Goals as goal
-
-pub returns : goal.returns
-returns c =
-    rw (← c.self.view_is) (c.at_index.ensures ∙ ap (λ (l : List ℕ). number_at l 0) c.deref.ensures.value ∙ tree-least c.self.inside.numbers.items c.self.inside.lows.items c.self.invariant)
