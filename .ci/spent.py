@@ -20,7 +20,7 @@ sys.dont_write_bytecode = True
 RECORD = f"{HERE}/costs"
 # What a crate, and the longest chain of crates, may cost. Crates that cost more when this was written have a bound of their own, which may only fall.
 MOST_OF_A_CRATE, MOST_OF_THE_CHAIN = 300, 4000
-MOST_OF = {"sp_call_space": 500, "sp_living": 320, "sp_main": 320, "sp_state": 400, "sp_twin_core": 630}
+MOST_OF = {"sp_space": 500, "sp_living": 320, "sp_main": 320, "sp_state": 400, "sp_core": 630}
 DEAREST = 10
 # Runs a command, and adds to a log what it was and what it took. It ends as the command does.
 TIMED = """

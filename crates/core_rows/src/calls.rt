@@ -2,7 +2,7 @@
 //! what the call promises.
 
 use super::classes::OneClass;
-use sp_twin_core::{CoreFault, Event, LentTask, Op, Output, Reply, Root, Shown, SpaceCore, Stand};
+use sp_core::{CoreFault, Event, LentTask, Op, Output, Reply, Root, Shown, SpaceCore, Stand};
 use std::alloc::Global;
 
 /// What a core answers.

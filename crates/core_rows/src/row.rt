@@ -1,7 +1,7 @@
 //! The rows of the input.
 
 use super::parts::{method, name, values};
-use sp_twin_core::{Event, Op, Outcome, Root, Stand, StartFault};
+use sp_core::{Event, Op, Outcome, Root, Stand, StartFault};
 use space_ids::{ObjId, Row as Values, Uuid};
 use std::alloc::Global;
 use test_rows::{RowFault, class, index, number, space, value};

@@ -4,7 +4,7 @@ use super::calls;
 use super::calls::{Answer, HandAnswer};
 use super::classes::OneClass;
 use super::row::{Hand, Row, row_of};
-use sp_twin_core::{CoreFault, Event, LentTask, Op, Output, Root, Shown, SpaceCore, Stand};
+use sp_core::{CoreFault, Event, LentTask, Op, Output, Root, Shown, SpaceCore, Stand};
 use space_ids::Uuid;
 use std::alloc::{AllocError, Global};
 use std::io::Write;

@@ -15,7 +15,7 @@ use std::io;
 use std::io::ErrorKind;
 use ver_check::CheckFault;
 use vm_heap::Value;
-use vm_run::{Limits, StartFault};
+use vm_step::{Limits, StartFault};
 
 const WANT: (u8, &str) = (3, "no memory\n");
 

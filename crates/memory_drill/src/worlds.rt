@@ -16,7 +16,7 @@ use sp_tasks::Outcome;
 use sp_world::{Dial, End, Event, Output, Unfinished, World, WorldEvent, run};
 use space_ids::{Ref, Row, Uuid, Value};
 use std::alloc::{AllocError, Global};
-use vm_run::Program;
+use vm_step::Program;
 
 // The two spaces, by number.
 const OWNER: usize = 0;

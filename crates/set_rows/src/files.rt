@@ -10,7 +10,7 @@ use std::alloc::Global;
 use std::io::Write;
 use test_rows::{RowFault, put};
 use ver_check::{Accepted, CheckFault, accept};
-use vm_run::Program;
+use vm_step::Program;
 
 /// Links the set of class files, and prints how many classes and methods it has, or why there is none.
 pub fn linked_set(

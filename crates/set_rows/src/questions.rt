@@ -8,7 +8,7 @@ use std::alloc::{AllocError, Global};
 use std::io::Write;
 use std::str;
 use test_rows::{RowFault, class, one_word, put, value};
-use vm_run::Program;
+use vm_step::Program;
 
 /// Plays a question about a program.
 pub fn play(

@@ -7,7 +7,7 @@ use class_builder::{BuildFault, SUM};
 use cls_link::Linked;
 use std::alloc::Global;
 use test_rows::{RowFault, Stage, one_number, put, replace, words_of};
-use vm_run::Program;
+use vm_step::Program;
 
 /// The class files of the rows so far, the last set that was linked, and the last program that was made.
 #[derive(Drop)]

@@ -2,8 +2,8 @@
 use Rattle.std.specs.Prelude.{ℕ, List}
 use Rattle.cls_link.specs.Links.{Links}
 use Rattle.sim_worlds.specs.declared.played.Shown.{Shown}
-use Rattle.sp_twin_core.specs.Shown as core
-use Rattle.vm_run.specs.declared.limits.Limits.{Limits}
+use Rattle.sp_core.specs.Shown as core
+use Rattle.vm_step.specs.declared.limits.Limits.{Limits}
 
 -- what spaces are made of: the linked set of their program, and the digest of its files
 pub record Origins : Type 0 where

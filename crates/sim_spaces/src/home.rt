@@ -2,24 +2,24 @@
 
 ghost use Rattle.std.specs.Prelude.{◌≡◌, ◌⊎◌, [], None, Some, IfOk, map, option_map, slice_get};
 ghost use Rattle.cls_set.specs.Classes.{name_at};
-ghost use Rattle.sp_call_space.specs.Slices.{IsSliceOf};
-ghost use Rattle.sp_call_space.specs.Spaces.{IsSpace};
+ghost use Rattle.sp_space.specs.Slices.{IsSliceOf};
+ghost use Rattle.sp_space.specs.Spaces.{IsSpace};
 ghost use Rattle.sp_outputs.specs.Notes.{output_of};
 ghost use Rattle.sp_rules.specs.Classes.{Setting};
 ghost use Rattle.sp_rules.specs.State.{State, standing};
 ghost use Rattle.sp_files.specs.Names.{NamesMethod};
-ghost use Rattle.sp_twin_core.specs.Shown.{lowest_ready, shown};
+ghost use Rattle.sp_core.specs.Shown.{lowest_ready, shown};
 ghost use Rattle.sim_spaces.specs.Homes.{shown_of};
 
 use sim_worlds::{Played, Shown};
-use sp_call_space::Space;
 use sp_events::{CoreFault, Event, StartFault};
 use sp_files::find_named;
 use sp_outputs::Output;
+use sp_space::Space;
 use sp_world::Inhabitant;
 use space_ids::{ClassId, Uuid, Value};
 use std::alloc::Global;
-use vm_run::MethodId;
+use vm_step::MethodId;
 
 /// A space with the program that its tasks run, as scripts play it.
 #[derive(Drop)]

@@ -1,7 +1,7 @@
 //! The spaces of a program.
 
 ghost use Rattle.std.specs.Prelude.{◌≡◌, IfOk};
-ghost use Rattle.sp_call_space.specs.Spaces.{AreLimits, IsSpace};
+ghost use Rattle.sp_space.specs.Spaces.{AreLimits, IsSpace};
 ghost use Rattle.sp_classes.specs.Classes.{classes_of};
 ghost use Rattle.sp_reply_laws.specs.Told.{AreRemoteRules};
 ghost use Rattle.sp_rules.specs.Classes.{Setting};
@@ -12,11 +12,11 @@ use crate::Home;
 use net_message::Digest;
 use sim_worlds::Origin;
 use sp_call_set::CallSet;
-use sp_call_space::Space;
+use sp_space::Space;
 use space_ids::Uuid;
 use std::alloc::{AllocError, Global};
 use std::marker::Model;
-use vm_run::{Limits, Program};
+use vm_step::{Limits, Program};
 
 /// Makes spaces of one program, over class files of one digest.
 ///

@@ -26,14 +26,14 @@ use Rattle.vm_act.specs.declared.asked.Reply.{Reply}
 use Rattle.vm_act.specs.declared.asked.Reply.TheVariants as reply
 use Rattle.vm_act.specs.declared.ending.Thrown.TheVariants as thrown
 use Rattle.vm_act.specs.declared.machine.Machine.{Machine}
-use Rattle.vm_run.specs.Steps as insns
-use Rattle.vm_run.specs.Ends as ends
-use Rattle.vm_run.specs.Ends.{End, Threw, ThrewObject, end_of}
-use Rattle.vm_run.specs.Run.{State, Running, Waits, Over, Lost, after, answer, made, made_in, fuel_after, over, run, step, FitsFuel, IsDue, IsNeverStuck}
-use Rattle.vm_run.specs.Task.{outcome_at}
-use Rattle.vm_run.specs.declared.outcome.Outcome.{Outcome}
-use Rattle.vm_run.specs.declared.outcome.Outcome.TheVariants as outcome
-use Rattle.vm_run.proofs.Runs.{IsNeverStuck-answer, IsNeverStuck-step, IsQuiet, answered_quiet, at_once}
+use Rattle.vm_step.specs.Steps as insns
+use Rattle.vm_step.specs.Ends as ends
+use Rattle.vm_step.specs.Ends.{End, Threw, ThrewObject, end_of}
+use Rattle.vm_step.specs.Run.{State, Running, Waits, Over, Lost, after, answer, made, made_in, fuel_after, over, run, step, FitsFuel, IsDue, IsNeverStuck}
+use Rattle.vm_step.specs.Task.{outcome_at}
+use Rattle.vm_step.specs.declared.outcome.Outcome.{Outcome}
+use Rattle.vm_step.specs.declared.outcome.Outcome.TheVariants as outcome
+use Rattle.vm_step.proofs.Runs.{IsNeverStuck-answer, IsNeverStuck-step, IsQuiet, answered_quiet, at_once}
 use Rattle.sp_behaviours.specs.Behaviours.{after_reply, asking, behaviour_of, by_next, by_reply, completed_by, op_at, reply_to, told, told_end, told_ending, told_some}
 use Rattle.sp_behaviours.specs.Follows.{Follows, HoldsAs, HoldsAsked, PlaysOn, is_over, stand_before, stand_of, waiting}
 use Rattle.sp_behaviours.proofs.Coming.{Comes, comes, stays-within}
@@ -108,7 +108,7 @@ module _ (links : Links) (g : Setting) (t : Task) (m : Machine) (fuel depth : �
   next-follows Stuck b stays safe = absurd (at_once links Lost safe)
 
   next-made : (n : Next) → t.behaviour ≡ by_next links.classes m.heap.cells (behaviour_of links depth) n → IsNeverStuck links (after m.heap.cells n fuel)
-      → (tasks.step t).made ≡ t.made + Rattle.vm_run.specs.Run.made_by n
+      → (tasks.step t).made ≡ t.made + Rattle.vm_step.specs.Run.made_by n
   next-made (On m') b safe = ap (λ (u : Task). u.made) (step-plain t (behaviour_of links depth m') fuel b f)
   next-made (Ends ending) b safe = ap (λ (u : Task). u.made) (step-ends t (told_ending links.classes (end_of m.heap.cells ending)) fuel b f)
   next-made (Asks op m') b safe =

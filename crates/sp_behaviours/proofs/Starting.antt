@@ -15,16 +15,16 @@ use Rattle.sp_rules.specs.Tasks.{Task, start, within_limit}
 use Rattle.vm_heap.specs.References as heap
 use Rattle.vm_heap.specs.References.{Table, row_for}
 use Rattle.vm_act.specs.declared.ending.Thrown.TheVariants.{OutOfMemoryError, StackOverflowError}
-use Rattle.vm_run.specs.Ends.{Threw}
-use Rattle.vm_run.specs.Run.{State, Running, Waits, Over, Lost, IsNeverStuck}
-use Rattle.vm_run.specs.Begin.{begun, is_static_at, receiver_refusal}
-use Rattle.vm_run.specs.Start.{have_room, have_rows, is_row, no_references, opening_machine, opening_state, refusal, startable, with_arguments}
-use Rattle.vm_run.specs.Subjects.{Declared}
-use Rattle.vm_run.specs.Task.{Tasked, fuel_left}
-use Rattle.vm_run.specs.declared.fault.StartFault.{StartFault}
-use Rattle.vm_run.specs.declared.fault.StartFault.TheVariants as fault
-use Rattle.vm_run.specs.declared.limits.Limits.{Limits}
-use Rattle.vm_run.specs.declared.outcome.Outcome.TheVariants as outcome
+use Rattle.vm_step.specs.Ends.{Threw}
+use Rattle.vm_step.specs.Run.{State, Running, Waits, Over, Lost, IsNeverStuck}
+use Rattle.vm_step.specs.Begin.{begun, is_static_at, receiver_refusal}
+use Rattle.vm_step.specs.Start.{have_room, have_rows, is_row, no_references, opening_machine, opening_state, refusal, startable, with_arguments}
+use Rattle.vm_step.specs.Subjects.{Declared}
+use Rattle.vm_step.specs.Task.{Tasked, fuel_left}
+use Rattle.vm_step.specs.declared.fault.StartFault.{StartFault}
+use Rattle.vm_step.specs.declared.fault.StartFault.TheVariants as fault
+use Rattle.vm_step.specs.declared.limits.Limits.{Limits}
+use Rattle.vm_step.specs.declared.outcome.Outcome.TheVariants as outcome
 use Rattle.vm_stack.specs.Frames.{frame_cost}
 use Rattle.sp_behaviours.specs.Behaviours.{behaviour, behaviour_at, limits_of, of_begun, told_end, told_some}
 use Rattle.sp_behaviours.proofs.OwnSteps.{stand-is}

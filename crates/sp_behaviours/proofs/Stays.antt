@@ -69,8 +69,8 @@ use Rattle.vm_code.specs.Methods.{callee_of, chosen, init_begins_uninit, interfa
 use Rattle.vm_code.specs.Parameters.{parameters_of}
 use Rattle.vm_code.specs.Operators.{binary_result, condition_holds, unary_result}
 use Rattle.vm_rows.specs.Steps as rows
-use Rattle.vm_run.specs.Steps as insns
-use Rattle.vm_run.specs.Steps.{crossing}
+use Rattle.vm_step.specs.Steps as insns
+use Rattle.vm_step.specs.Steps.{crossing}
 use Rattle.sp_rules.specs.References.{is_reference_in, is_same_reference}
 use Rattle.sp_rules.proofs.OwnLemmas.{and-left}
 use Rattle.sp_behaviours.specs.Follows.{HoldsAsked, IsAskedRemotely, IsCalledRemotely}

@@ -19,15 +19,15 @@ use Rattle.vm_act.specs.declared.asked.FieldValue.TheVariants as field
 use Rattle.vm_act.specs.declared.asked.Reply.{Reply}
 use Rattle.vm_act.specs.declared.asked.Reply.TheVariants as reply
 use Rattle.vm_act.specs.declared.machine.Machine.{Machine}
-use Rattle.vm_run.specs.Steps.{step}
-use Rattle.vm_run.specs.Ends.{End, end_of}
-use Rattle.vm_run.specs.Run.{State, Running, Waits, Over, Lost}
-use Rattle.vm_run.specs.Begin.{begun}
-use Rattle.vm_run.specs.Task.{Tasked, arguments_of, outcome_of}
-use Rattle.vm_run.specs.declared.fault.StartFault.{StartFault}
-use Rattle.vm_run.specs.declared.limits.Limits.{Limits}
-use Rattle.vm_run.specs.declared.outcome.Outcome.{Outcome}
-use Rattle.vm_run.specs.declared.outcome.Outcome.TheVariants as outcome
+use Rattle.vm_step.specs.Steps.{step}
+use Rattle.vm_step.specs.Ends.{End, end_of}
+use Rattle.vm_step.specs.Run.{State, Running, Waits, Over, Lost}
+use Rattle.vm_step.specs.Begin.{begun}
+use Rattle.vm_step.specs.Task.{Tasked, arguments_of, outcome_of}
+use Rattle.vm_step.specs.declared.fault.StartFault.{StartFault}
+use Rattle.vm_step.specs.declared.limits.Limits.{Limits}
+use Rattle.vm_step.specs.declared.outcome.Outcome.{Outcome}
+use Rattle.vm_step.specs.declared.outcome.Outcome.TheVariants as outcome
 
 -- ---- ends
 

@@ -20,9 +20,9 @@ use Rattle.vm_act.specs.declared.asked.Asked.{Asked}
 use Rattle.vm_act.specs.declared.asked.Asked.TheVariants as asked
 use Rattle.vm_heap.specs.References.{Table}
 use Rattle.vm_rows.specs.Steps.{insn_at}
-use Rattle.vm_run.specs.Steps as insns
-use Rattle.vm_run.specs.Run.{State, Running, Waits, Over, Lost, IsNeverStuck}
-use Rattle.vm_run.specs.Task.{fuel_left}
+use Rattle.vm_step.specs.Steps as insns
+use Rattle.vm_step.specs.Run.{State, Running, Waits, Over, Lost, IsNeverStuck}
+use Rattle.vm_step.specs.Task.{fuel_left}
 use Rattle.sp_behaviours.specs.Behaviours.{asking, behaviour, behaviour_of, op_at, told_end}
 
 -- The classes of a setting play on a linked set: what tasks do is what its machines do, and the class that a task throws over its limits is

@@ -8,10 +8,10 @@ use Rattle.sp_rules.specs.Tasks as tasks
 use Rattle.vm_act.specs.declared.asked.Asked.{Asked}
 use Rattle.vm_act.specs.declared.asked.Reply.{Reply}
 use Rattle.vm_act.specs.declared.machine.Machine.{Machine}
-use Rattle.vm_run.specs.Run.{State, Running, Waits, answer, made, run, IsDue, IsNeverStuck}
-use Rattle.vm_run.specs.Begin.{begun}
-use Rattle.vm_run.specs.Task.{Tasked, outcome_at}
-use Rattle.vm_run.specs.declared.outcome.Outcome.{Outcome}
+use Rattle.vm_step.specs.Run.{State, Running, Waits, answer, made, run, IsDue, IsNeverStuck}
+use Rattle.vm_step.specs.Begin.{begun}
+use Rattle.vm_step.specs.Task.{Tasked, outcome_at}
+use Rattle.vm_step.specs.declared.outcome.Outcome.{Outcome}
 use Rattle.sp_behaviours.specs.Behaviours.{limits_of, reply_to, told}
 use Rattle.sp_behaviours.specs.Follows.{Follows, HoldsAsked, PlaysOn, is_over, stand_of, waiting}
 

@@ -11,7 +11,7 @@ use space_ids::{ClassId, Value};
 use std::alloc::{AllocError, Global};
 use std::marker::Model;
 use vm_code::is_subtype;
-use vm_run::Program;
+use vm_step::Program;
 
 /// The classes and methods of a program, as a core that takes calls asks for them. A contract sees it as
 /// the program's linked set.

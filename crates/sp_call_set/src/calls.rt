@@ -13,7 +13,7 @@ use cls_link::{ClassSet, Flags, Method, MethodId};
 use space_ids::ClassId;
 use std::alloc::{AllocError, Global};
 use vm_code::is_subtype;
-use vm_run::Program;
+use vm_step::Program;
 
 /// Whether the method of this number may be called on objects of a class. The interfaces are the remote
 /// ones of the set.

@@ -9,7 +9,7 @@ use cls_link::{Code, Flags, Linked, Method, MethodId};
 use cls_tables::Tables;
 use space_ids::ClassId;
 use vm_code::is_subtype;
-use vm_run::Program;
+use vm_step::Program;
 
 /// The method that a call of this one runs on an object of a class.
 pub(crate) fn selected(

@@ -13,7 +13,7 @@ use Rattle.vm_code.specs.Classes.{is_remote}
 use Rattle.vm_code.specs.Fields.{kinds_of, kinds_up}
 use Rattle.vm_heap.specs.declared.heap.WordKind.{WordKind}
 use Rattle.vm_heap.specs.declared.heap.WordKind.TheVariants as word
-use Rattle.vm_run.specs.Sound.{IsSoundSet}
+use Rattle.vm_step.specs.Sound.{IsSoundSet}
 use Rattle.vm_typing.specs.Owed.{HasKind}
 use Rattle.vm_world.proofs.LookUps.{held}
 use Rattle.vm_world.specs.Files.{own_types, types_of, types_up}

@@ -34,11 +34,11 @@ use Rattle.vm_world.proofs.Owing.{owed}
 use Rattle.vm_world.proofs.Subjects.{passes_both}
 use Rattle.vm_world.specs.Files.{Declares}
 use Rattle.vm_world.specs.Worlds.{subject_at, world_of}
-use Rattle.vm_run.specs.Begin.{begun, received, receiver_refusal}
-use Rattle.vm_run.specs.Sound.{IsSoundSet}
-use Rattle.vm_run.specs.Start.{fill, startable, takes_crossing}
-use Rattle.vm_run.specs.Subjects.{declared_at, declared_of}
-use Rattle.vm_run.specs.declared.limits.Limits.{Limits}
+use Rattle.vm_step.specs.Begin.{begun, received, receiver_refusal}
+use Rattle.vm_step.specs.Sound.{IsSoundSet}
+use Rattle.vm_step.specs.Start.{fill, startable, takes_crossing}
+use Rattle.vm_step.specs.Subjects.{declared_at, declared_of}
+use Rattle.vm_step.specs.declared.limits.Limits.{Limits}
 use Rattle.sp_classes.specs.Receiving.{IsCallOn, SelectedMethodsBegin}
 use Rattle.sp_classes.specs.Remote.{method_of, selected_by}
 

@@ -8,7 +8,7 @@ use Rattle.cls_set.specs.declared.class.Class.{Class}
 use Rattle.cls_link.specs.Links.{method_at}
 use Rattle.sp_rules.specs.Classes.{Kind, IntKind, IntArrayKind, ReferenceKind, VoidKind}
 use Rattle.vm_code.specs.Parameters.{is_array_type}
-use Rattle.vm_run.specs.Start.{is_int_type}
+use Rattle.vm_step.specs.Start.{is_int_type}
 
 -- the kind of a type
 abbrev pub kind_of_type : FieldType → Kind

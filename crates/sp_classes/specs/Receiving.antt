@@ -8,10 +8,10 @@ use Rattle.space_ids.specs.declared.value.Value.TheVariants as value
 use Rattle.uuid.specs.declared.Uuid.{Uuid}
 use Rattle.vm_code.specs.Classes.{is_remote}
 use Rattle.vm_code.specs.Methods.{is_init}
-use Rattle.vm_run.specs.Begin.{begun, received}
-use Rattle.vm_run.specs.Sound.{IsSoundSet}
-use Rattle.vm_run.specs.Start.{fill, takes_crossing}
-use Rattle.vm_run.specs.declared.limits.Limits.{Limits}
+use Rattle.vm_step.specs.Begin.{begun, received}
+use Rattle.vm_step.specs.Sound.{IsSoundSet}
+use Rattle.vm_step.specs.Start.{fill, takes_crossing}
+use Rattle.vm_step.specs.declared.limits.Limits.{Limits}
 use Rattle.sp_classes.specs.Remote.{selected_by}
 
 -- A call of a method, of this number, on a remote object of a space: the method is no <init>, what it takes and gives crosses, and the arguments

@@ -4,9 +4,9 @@ use Rattle.cls_link.specs.Links.{Links}
 use Rattle.space_ids.specs.declared.value.Value.{Value}
 use Rattle.uuid.specs.declared.Uuid.{Uuid}
 use Rattle.sp_rules.specs.Classes.{StartRefusal, AbsentMethod, BadSignature, BadArgument}
-use Rattle.vm_run.specs.Start.{start_fault}
-use Rattle.vm_run.specs.declared.fault.StartFault.{StartFault}
-use Rattle.vm_run.specs.declared.fault.StartFault.TheVariants as fault
+use Rattle.vm_step.specs.Start.{start_fault}
+use Rattle.vm_step.specs.declared.fault.StartFault.{StartFault}
+use Rattle.vm_step.specs.declared.fault.StartFault.TheVariants as fault
 
 -- out of memory is no refusal
 abbrev pub refusal_of : StartFault → Option StartRefusal

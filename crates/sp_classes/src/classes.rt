@@ -7,7 +7,7 @@ use crate::fields::{count_fields, kind_at};
 use crate::remote::has_instances;
 use sp_call_classes::{ClassSet, FieldKind};
 use space_ids::ClassId;
-use vm_run::Program;
+use vm_step::Program;
 
 /// The remote classes of a program, as the core of a space asks for them. Each answer takes constant time.
 #[derive(Clone, Copy)]

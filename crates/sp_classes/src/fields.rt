@@ -7,7 +7,7 @@ ghost use Rattle.sp_classes.specs.Fields.{fields_of, kind_of_word};
 use sp_call_classes::FieldKind;
 use space_ids::ClassId;
 use vm_heap::WordKind;
-use vm_run::Program;
+use vm_step::Program;
 
 /// How many fields an object of a remote class has; 0 for any other class.
 pub(crate) fn count_fields(program: &Program, class: ClassId) -> usize

@@ -5,7 +5,7 @@ ghost use Rattle.sp_classes.specs.Remote.{has_instances, is_abstract};
 
 use cls_link::{ClassSet, Flags};
 use space_ids::ClassId;
-use vm_run::Program;
+use vm_step::Program;
 
 /// Whether a class is remote and not abstract.
 pub(crate) fn has_instances(program: &Program, class: ClassId) -> bool

@@ -8,7 +8,7 @@ use Rattle.cls_set.specs.declared.fault.SetFault.TheVariants as set
 use Rattle.sp_files.specs.declared.refusal.Refusal.{Refusal}
 use Rattle.sp_files.specs.declared.refusal.Refusal.TheVariants as refusal
 use Rattle.ver_rules.specs.declared.fault.CheckFault.TheVariants as check
-use Rattle.vm_run.specs.declared.fault.StartFault.TheVariants as start
+use Rattle.vm_step.specs.declared.fault.StartFault.TheVariants as start
 
 -- memory ran out while a file was read
 abbrev pub IsReadOut : LoadFault → Type 0

@@ -11,7 +11,7 @@ use cls_resolve::MemberIndex;
 use cls_search::{MethodIndex, find_method};
 use cls_set::{ClassId, ClassSet};
 use std::alloc::{AllocError, Global};
-use vm_run::Program;
+use vm_step::Program;
 
 /// Returns the method that a text names, as `f(I)I`, in the class of this name, or in a class or interface above
 /// it, if there is one (JVMS 5.4.3.3). The text is a name and a descriptor, joined. A name may have parentheses too

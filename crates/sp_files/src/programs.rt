@@ -11,7 +11,7 @@ use cls_link::link;
 use cls_set::ClassSet;
 use std::alloc::Global;
 use ver_check::{Accepted, accept};
-use vm_run::Program;
+use vm_step::Program;
 
 /// Returns the program that the files make. The first refusal counts: files in order, then the set, links and
 /// checks. It may be out of memory instead.

@@ -8,7 +8,7 @@ use cls_link::LinkFault;
 use cls_set::SetFault;
 use std::alloc::{AllocError, AllocFailed};
 use ver_check::CheckFault;
-use vm_run::StartFault;
+use vm_step::StartFault;
 
 /// Why a class set is not run. Nothing of it has run then.
 #[derive(Debug, Drop)]

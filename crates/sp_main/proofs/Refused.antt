@@ -9,7 +9,7 @@ use Rattle.sp_files.specs.declared.refusal.Refusal.{Refusal}
 use Rattle.sp_files.specs.declared.refusal.Refusal.TheVariants as refusal
 use Rattle.sp_files.specs.declared.files.ClassBytes.{ClassBytes}
 use Rattle.space_ids.specs.declared.value.Value.{Value}
-use Rattle.vm_run.specs.declared.limits.Limits.{Limits}
+use Rattle.vm_step.specs.declared.limits.Limits.{Limits}
 
 -- a file that is at fault stands in the list
 unread_file : (files : List ClassBytes) (r : Refusal) → IsUnread files r → IsRefusalOf files r

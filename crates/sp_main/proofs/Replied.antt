@@ -21,7 +21,7 @@ use Rattle.sp_words.specs.declared.words.Request.{Request}
 use Rattle.sp_words.specs.declared.words.Request.TheVariants.{Run, Check, Sim, Tell, Refuse}
 use Rattle.sp_words.specs.declared.words.RunRequest.{RunRequest}
 use Rattle.sp_words.specs.declared.words.SimRequest.{SimRequest}
-use Rattle.vm_run.specs.declared.limits.Limits.{Limits}
+use Rattle.vm_step.specs.declared.limits.Limits.{Limits}
 
 module _ {E : Type 0} (telling : Telling) (run : RunWords) (answer : Result Report E) where
   -- the report is the reply to all arguments that ask for this run

@@ -14,7 +14,7 @@ use Rattle.sp_files.specs.declared.files.ClassBytes.{ClassBytes}
 use Rattle.sp_files.specs.declared.outcome.RunOutcome.{RunOutcome}
 use Rattle.sp_texts.specs.declared.status.Status.{Status}
 use Rattle.sp_texts.specs.declared.status.Status.TheVariants.{Done, Failed}
-use Rattle.vm_run.specs.declared.limits.Limits.{Limits}
+use Rattle.vm_step.specs.declared.limits.Limits.{Limits}
 
 -- what a task may use: the fuel that was said, or a million instructions
 abbrev pub limits_of : Option ℕ → Limits

@@ -22,7 +22,7 @@ use sp_texts::{
 use sp_words::{Folder, FolderFault, Request, RunRequest, SimRequest, request_of};
 use std::alloc::{AllocError, Global};
 use std::io::{Read, Write};
-use vm_run::{Limits, Program};
+use vm_step::{Limits, Program};
 
 /// Does what the command line asks for, and returns the exit status. The first of `words` is the
 /// program's own name. What it prints is complete before its first byte is written.

@@ -31,7 +31,7 @@ use Rattle.vm_code.proofs.Remotes.{interface_sound}
 use Rattle.vm_code.proofs.Subtypes.{subtype_sound, subtype_test}
 use Rattle.vm_code.specs.Classes.{is_below_remote, is_remote_interface, is_subtype}
 use Rattle.vm_code.specs.Parameters.{is_array_element, is_array_type}
-use Rattle.vm_run.specs.Start.{crosses, is_int_element, is_int_type, is_remote_element, is_remote_type, takes_crossing}
+use Rattle.vm_step.specs.Start.{crosses, is_int_element, is_int_type, is_remote_element, is_remote_type, takes_crossing}
 use Rattle.sp_reply_laws.specs.Told.{RemoteMethodsCross, RemoteRulesAreKept}
 use Rattle.sp_reply_laws.proofs.RemoteLemmas
 use Rattle.sp_reply_laws.proofs.RemoteLemmas.{Above, remote_name}

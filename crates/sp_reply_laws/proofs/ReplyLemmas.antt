@@ -30,7 +30,7 @@ use Rattle.vm_act.specs.declared.asked.FieldValue.{FieldValue}
 use Rattle.vm_act.specs.declared.asked.FieldValue.TheVariants as field
 use Rattle.vm_heap.specs.References.{Table, is_own}
 use Rattle.vm_replies.specs.Replies.{fields_world}
-use Rattle.vm_run.specs.Run.{IsReply}
+use Rattle.vm_step.specs.Run.{IsReply}
 use Rattle.vm_typing.specs.Asking.{ValueFits}
 use Rattle.vm_typing.specs.Fits.{IsA, OfSpace, OfStub, There}
 use Rattle.vm_world.specs.Files.{types_of}

@@ -14,7 +14,7 @@ use Rattle.vm_act.specs.declared.ending.Thrown.TheVariants as thrown
 use Rattle.vm_code.proofs.Remotes.{remote_sound, remote_test}
 use Rattle.vm_code.specs.Classes.{is_remote}
 use Rattle.vm_rows.proofs.Sets.{number_known, object_stands}
-use Rattle.vm_run.proofs.Throws.{thrown_stands}
+use Rattle.vm_step.proofs.Throws.{thrown_stands}
 use Rattle.vm_world.specs.Files.{types_of}
 use Rattle.sp_classes.specs.Classes.{class_named, classes_of}
 use Rattle.sp_classes.specs.Fields.{kind_of_field}

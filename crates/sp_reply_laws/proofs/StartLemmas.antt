@@ -41,13 +41,13 @@ use Rattle.vm_code.proofs.Subtypes.{subtype_sound}
 use Rattle.vm_code.specs.Classes.{is_remote, is_remote_interface, is_subtype}
 use Rattle.vm_code.specs.Methods.{is_init, is_public}
 use Rattle.vm_code.specs.Parameters.{is_array_type}
-use Rattle.vm_run.specs.Begin.{begun}
-use Rattle.vm_run.specs.Start.{crosses, fill, is_int_type, is_of_type, is_remote_type, startable, takes_crossing}
-use Rattle.vm_run.specs.Start as machines
-use Rattle.vm_run.specs.Subjects as subjects
-use Rattle.vm_run.specs.declared.fault.StartFault.{StartFault}
-use Rattle.vm_run.specs.declared.fault.StartFault.TheVariants as fault
-use Rattle.vm_run.specs.declared.limits.Limits.{Limits}
+use Rattle.vm_step.specs.Begin.{begun}
+use Rattle.vm_step.specs.Start.{crosses, fill, is_int_type, is_of_type, is_remote_type, startable, takes_crossing}
+use Rattle.vm_step.specs.Start as machines
+use Rattle.vm_step.specs.Subjects as subjects
+use Rattle.vm_step.specs.declared.fault.StartFault.{StartFault}
+use Rattle.vm_step.specs.declared.fault.StartFault.TheVariants as fault
+use Rattle.vm_step.specs.declared.limits.Limits.{Limits}
 use Rattle.vm_typing.proofs.Leads.{AllZip-get}
 use Rattle.sp_reply_laws.specs.Calls.{IsSettingOf}
 use Rattle.sp_reply_laws.specs.Starts.{TasksBegin}

@@ -44,10 +44,10 @@ use Rattle.vm_code.specs.Parameters.{is_array_element, is_array_type}
 use Rattle.vm_heap.specs.References.{Table, is_own}
 use Rattle.vm_replies.specs.Replies.{fields_world}
 use Rattle.vm_rows.proofs.Sets.{number_known, object_stands}
-use Rattle.vm_run.proofs.Runs.{at_once}
-use Rattle.vm_run.specs.Run.{Waits, FitsFuel, IsAsked, IsReply}
-use Rattle.vm_run.specs.Start.{crosses, is_int_element, is_int_type, is_remote_element, is_remote_type}
-use Rattle.vm_run.specs.Task.{arguments_of}
+use Rattle.vm_step.proofs.Runs.{at_once}
+use Rattle.vm_step.specs.Run.{Waits, FitsFuel, IsAsked, IsReply}
+use Rattle.vm_step.specs.Start.{crosses, is_int_element, is_int_type, is_remote_element, is_remote_type}
+use Rattle.vm_step.specs.Task.{arguments_of}
 use Rattle.vm_typing.specs.Asking.{CrossedFits, ResultFits}
 use Rattle.vm_typing.specs.Fits.{There}
 use Rattle.vm_typing.specs.World.{World}

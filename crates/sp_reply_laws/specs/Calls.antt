@@ -18,9 +18,9 @@ use Rattle.sp_rules.specs.Tasks.{Task}
 use Rattle.vm_act.specs.declared.asked.Asked.{Asked}
 use Rattle.vm_act.specs.declared.asked.Reply.{Reply}
 use Rattle.vm_act.specs.declared.machine.Machine.{Machine}
-use Rattle.vm_run.specs.Run.{Waits, IsDue}
-use Rattle.vm_run.specs.Sound.{IsSoundSet}
-use Rattle.vm_run.specs.Start.{takes_crossing}
+use Rattle.vm_step.specs.Run.{Waits, IsDue}
+use Rattle.vm_step.specs.Sound.{IsSoundSet}
+use Rattle.vm_step.specs.Start.{takes_crossing}
 use Rattle.sp_reply_laws.specs.Told.{AreRemoteFields, AreRemoteMethods}
 
 -- ---- methods of remote interfaces

@@ -18,7 +18,7 @@ use Rattle.vm_act.specs.declared.asked.Asked.{Asked}
 use Rattle.vm_act.specs.declared.asked.Asked.TheVariants as asked
 use Rattle.vm_act.specs.declared.asked.Reply.TheVariants as reply
 use Rattle.vm_heap.specs.References.{Table}
-use Rattle.vm_run.specs.Run.{IsAsked, IsReply}
+use Rattle.vm_step.specs.Run.{IsAsked, IsReply}
 use Rattle.vm_typing.specs.Fits.{There}
 
 -- The object of which a field is asked for stands, and is of its reference's class.

@@ -7,8 +7,8 @@ use Rattle.sp_rules.specs.Events.{Event}
 use Rattle.sp_rules.specs.Origins.{IsTaken}
 use Rattle.sp_rules.specs.Space.{state_of}
 use Rattle.sp_rules.specs.State.{Living}
-use Rattle.vm_run.specs.Begin.{begun}
-use Rattle.vm_run.specs.declared.limits.Limits.{Limits}
+use Rattle.vm_step.specs.Begin.{begun}
+use Rattle.vm_step.specs.declared.limits.Limits.{Limits}
 use Rattle.sp_reply_laws.specs.Calls.{IsSettingOf}
 
 -- the method of a task begins with the task's values, whatever the limits

@@ -15,7 +15,7 @@ use Rattle.sp_rules.specs.Classes.{Classes, Kind, IntKind, ReferenceKind, field_
 use Rattle.ver_frames.specs.declared.vtype.VType.{VType}
 use Rattle.ver_frames.specs.declared.vtype.VType.TheVariants as vtype
 use Rattle.vm_code.specs.Classes.{is_remote_interface}
-use Rattle.vm_run.specs.Start.{takes_crossing}
+use Rattle.vm_step.specs.Start.{takes_crossing}
 use Rattle.vm_world.specs.Files.{types_of}
 
 -- what the kind of a field says of its type

@@ -2,10 +2,10 @@
 use Rattle.std.proofs.Common.{◌≡◌, ◌∙◌, ◌+◌, ◌<◌, ◌≤◌, ℕ, Option, Some, None, arith, refl, subst, sym}
 use Rattle.std.specs.Prelude.{IsSome}
 use Rattle.cls_link.specs.Links.{Links}
-use Rattle.vm_run.specs.Run.{State, Running, Waits, Over, Lost, HasNoRemote, HasStopped, IsNeverStuck, IsOver, run}
-use Rattle.vm_run.specs.Task.{fuel_left, pause_at}
-use Rattle.vm_run.specs.declared.outcome.Pause.TheVariants.{Turn}
-use Rattle.vm_run.proofs.Runs.{at_once, run_over, stopped_over}
+use Rattle.vm_step.specs.Run.{State, Running, Waits, Over, Lost, HasNoRemote, HasStopped, IsNeverStuck, IsOver, run}
+use Rattle.vm_step.specs.Task.{fuel_left, pause_at}
+use Rattle.vm_step.specs.declared.outcome.Pause.TheVariants.{Turn}
+use Rattle.vm_step.proofs.Runs.{at_once, run_over, stopped_over}
 
 pub ended_by_one_more : (program : Links) (reached ended : State) (fuel most : ℕ) → HasNoRemote program.classes
     → (pause_at reached ≡ Turn → fuel_left reached + most ≡ fuel) → fuel ≤ most

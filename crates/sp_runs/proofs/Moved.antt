@@ -13,16 +13,16 @@ use Rattle.sp_runs.specs.OverReplies.{made_over}
 use Rattle.vm_act.specs.Crossing.{most_elements}
 use Rattle.vm_act.specs.Next.{Next, On, Ends, Asks, Stuck}
 use Rattle.vm_act.specs.declared.ending.Thrown.TheVariants as thrown
-use Rattle.vm_run.specs.Ends.{End, ReturnedNothing, ReturnedInt, ReturnedNull, ReturnedInts, ReturnedRemote, Threw, ThrewObject, Spent}
-use Rattle.vm_run.specs.Run.{State, Running, Waits, Over, Lost, AreDue, IsNeverStuck, IsNotLost, after, answer, played, run, step}
-use Rattle.vm_run.specs.Steps as insns
-use Rattle.vm_run.specs.Task.{IsOfSet, Tells, fuel_left, outcome_of, thrown_name, threw_named, unmarshalled}
-use Rattle.vm_run.specs.declared.outcome.Outcome.{Outcome}
-use Rattle.vm_run.specs.declared.outcome.Outcome.TheVariants as outcome
-use Rattle.vm_run.proofs.Made.{made-fuel}
-use Rattle.vm_run.proofs.Outcomes.{is_outcome}
-use Rattle.vm_run.proofs.Runs.{at_once, at_steps}
-use Rattle.vm_run.proofs.Throws.{thrown_stands}
+use Rattle.vm_step.specs.Ends.{End, ReturnedNothing, ReturnedInt, ReturnedNull, ReturnedInts, ReturnedRemote, Threw, ThrewObject, Spent}
+use Rattle.vm_step.specs.Run.{State, Running, Waits, Over, Lost, AreDue, IsNeverStuck, IsNotLost, after, answer, played, run, step}
+use Rattle.vm_step.specs.Steps as insns
+use Rattle.vm_step.specs.Task.{IsOfSet, Tells, fuel_left, outcome_of, thrown_name, threw_named, unmarshalled}
+use Rattle.vm_step.specs.declared.outcome.Outcome.{Outcome}
+use Rattle.vm_step.specs.declared.outcome.Outcome.TheVariants as outcome
+use Rattle.vm_step.proofs.Made.{made-fuel}
+use Rattle.vm_step.proofs.Outcomes.{is_outcome}
+use Rattle.vm_step.proofs.Runs.{at_once, at_steps}
+use Rattle.vm_step.proofs.Throws.{thrown_stands}
 use Rattle.vm_typing.specs.Runs.{Move, Replied, Steps}
 
 -- ---- one after the other

@@ -35,22 +35,22 @@ use Rattle.vm_act.specs.declared.asked.Asked.{Asked}
 use Rattle.vm_act.specs.declared.asked.Asked.TheVariants as asked
 use Rattle.vm_act.specs.declared.asked.Reply.{Reply}
 use Rattle.vm_act.specs.declared.machine.Machine.{Machine}
-use Rattle.vm_run.specs.Begin.{begin_refusal, receiver_refusal}
+use Rattle.vm_step.specs.Begin.{begin_refusal, receiver_refusal}
 use Rattle.vm_act.specs.declared.ending.Thrown.TheVariants.{OutOfMemoryError, StackOverflowError}
-use Rattle.vm_run.specs.Ends.{Threw}
-use Rattle.vm_run.specs.Limited.{AlwaysKeepsWithin}
-use Rattle.vm_run.specs.Run.{State, Running, Waits, Over, Lost, AreDue, FitsFuel, IsDue, IsNeverStuck, IsNotLost, after, answer, fuel_after, played, run, step}
-use Rattle.vm_run.specs.Start.{fill, have_room, have_rows, no_references, opening_machine, opening_state, refusal, startable, started, takes_crossing, with_arguments}
-use Rattle.vm_run.specs.Steps as insns
-use Rattle.vm_run.specs.Subjects.{Declared}
-use Rattle.vm_run.specs.Task.{IsOfSet, Tasked, fuel_left}
-use Rattle.vm_run.specs.declared.fault.StartFault.{StartFault}
-use Rattle.vm_run.specs.declared.fault.StartFault.TheVariants as fault
-use Rattle.vm_run.specs.declared.limits.Limits.{Limits}
-use Rattle.vm_run.proofs.Begins.{Begins, startable-begins}
-use Rattle.vm_run.proofs.Begun.{started_begun}
-use Rattle.vm_run.proofs.Made.{made-fuel}
-use Rattle.vm_run.proofs.Runs.{answer-fuel, at_once}
+use Rattle.vm_step.specs.Ends.{Threw}
+use Rattle.vm_step.specs.Limited.{AlwaysKeepsWithin}
+use Rattle.vm_step.specs.Run.{State, Running, Waits, Over, Lost, AreDue, FitsFuel, IsDue, IsNeverStuck, IsNotLost, after, answer, fuel_after, played, run, step}
+use Rattle.vm_step.specs.Start.{fill, have_room, have_rows, no_references, opening_machine, opening_state, refusal, startable, started, takes_crossing, with_arguments}
+use Rattle.vm_step.specs.Steps as insns
+use Rattle.vm_step.specs.Subjects.{Declared}
+use Rattle.vm_step.specs.Task.{IsOfSet, Tasked, fuel_left}
+use Rattle.vm_step.specs.declared.fault.StartFault.{StartFault}
+use Rattle.vm_step.specs.declared.fault.StartFault.TheVariants as fault
+use Rattle.vm_step.specs.declared.limits.Limits.{Limits}
+use Rattle.vm_step.proofs.Begins.{Begins, startable-begins}
+use Rattle.vm_step.proofs.Begun.{started_begun}
+use Rattle.vm_step.proofs.Made.{made-fuel}
+use Rattle.vm_step.proofs.Runs.{answer-fuel, at_once}
 use Rattle.vm_stack.specs.Frames.{frame_cost}
 use Rattle.vm_typing.specs.Runs.{Move, Replied, Steps}
 

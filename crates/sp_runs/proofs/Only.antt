@@ -22,14 +22,14 @@ use Rattle.sp_files.specs.declared.refusal.Refusal.{Refusal}
 use Rattle.sp_files.specs.declared.refusal.Refusal.TheVariants as refusal
 use Rattle.uuid.specs.Parts.{zero_bytes}
 use Rattle.vm_act.specs.Crossing.{most_elements}
-use Rattle.vm_run.proofs.Runs.{run_ended}
-use Rattle.vm_run.specs.Ends.{End, ReturnedNothing, ReturnedInt, ReturnedNull, ReturnedInts, ReturnedRemote, Threw, ThrewObject, Spent}
-use Rattle.vm_run.specs.Run.{HasNoRemote, State, Over, run}
-use Rattle.vm_run.specs.Start.{started}
-use Rattle.vm_run.specs.Task.{Tasked, unmarshalled}
-use Rattle.vm_run.specs.declared.fault.StartFault.{StartFault}
-use Rattle.vm_run.specs.declared.fault.StartFault.TheVariants as start
-use Rattle.vm_run.specs.declared.limits.Limits.{Limits}
+use Rattle.vm_step.proofs.Runs.{run_ended}
+use Rattle.vm_step.specs.Ends.{End, ReturnedNothing, ReturnedInt, ReturnedNull, ReturnedInts, ReturnedRemote, Threw, ThrewObject, Spent}
+use Rattle.vm_step.specs.Run.{HasNoRemote, State, Over, run}
+use Rattle.vm_step.specs.Start.{started}
+use Rattle.vm_step.specs.Task.{Tasked, unmarshalled}
+use Rattle.vm_step.specs.declared.fault.StartFault.{StartFault}
+use Rattle.vm_step.specs.declared.fault.StartFault.TheVariants as start
+use Rattle.vm_step.specs.declared.limits.Limits.{Limits}
 use Rattle.sp_files.proofs.Only.{one_named, one_program}
 
 -- ---- answers

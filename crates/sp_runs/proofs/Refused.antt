@@ -13,9 +13,9 @@ use Rattle.sp_runs.specs.InSpace.{RunsInSpace}
 use Rattle.sp_runs.specs.OfProgram.{IsNotFound, IsRefusedOf, IsRunOf}
 use Rattle.sp_runs.specs.Runs.{IsNotRun, IsNotRunInSpace, IsRefused, IsRun, Runs, absent, no_memory, not_started, passes_reference}
 use Rattle.space_ids.specs.declared.value.Value.{Value}
-use Rattle.vm_run.specs.Run.{HasNoRemote}
-use Rattle.vm_run.specs.declared.fault.StartFault.{StartFault}
-use Rattle.vm_run.specs.declared.limits.Limits.{Limits}
+use Rattle.vm_step.specs.Run.{HasNoRemote}
+use Rattle.vm_step.specs.declared.fault.StartFault.{StartFault}
+use Rattle.vm_step.specs.declared.limits.Limits.{Limits}
 
 refused : (files : List ClassBytes) (class text : List ℕ) (arguments : List Value) (limits : Limits) (program : Links) (method : MethodId)
     → IsProgram files program → NamesMethod program class text (Some method) → (r : Refusal) → IsNotRun program method arguments limits r → IsRefused files class text arguments limits r

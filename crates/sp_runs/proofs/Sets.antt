@@ -10,8 +10,8 @@ use Rattle.sp_reply_laws.specs.Told.{AreRemoteRules}
 use Rattle.sp_reply_laws.proofs.CrossingLemmas.{remote_rules_are_kept}
 use Rattle.sp_reply_laws.proofs.SetLemmas.{memory_named}
 use Rattle.sp_rules.specs.Classes.{Classes, Setting}
-use Rattle.vm_run.specs.Sound.{IsSoundSet}
-use Rattle.vm_run.proofs.Sound.{sound_set}
+use Rattle.vm_step.specs.Sound.{IsSoundSet}
+use Rattle.vm_step.proofs.Sound.{sound_set}
 
 pub record IsSet (links : Links) : Type 0 where
   pub linked : AreLinks links

@@ -15,8 +15,8 @@ use Rattle.sp_runs.proofs.Alone.{only-there}
 use Rattle.sp_runs.proofs.Sets.{IsSet}
 use Rattle.sp_runs.proofs.SpaceOnly.{awaits-next, one-way}
 use Rattle.sp_runs.proofs.SpaceSteps.{Moves, ends_task, goes_on, moves, only-lowest}
-use Rattle.vm_run.specs.Run.{State as Machine}
-use Rattle.vm_run.specs.declared.outcome.Outcome.{Outcome}
+use Rattle.vm_step.specs.Run.{State as Machine}
+use Rattle.vm_step.specs.declared.outcome.Outcome.{Outcome}
 
 -- The step ended the task, or left it alone with a unit less of fuel.
 pub data Went (program : Links) (g : Setting) (first : Event) (start : Machine) (fuel : ℕ) (later : List Event) (outputs : List Output) : Type 0 where

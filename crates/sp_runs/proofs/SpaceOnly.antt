@@ -11,8 +11,8 @@ use Rattle.sp_rules.specs.Space.{state_of}
 use Rattle.sp_rules.specs.State.{Living, task_at}
 use Rattle.sp_rules.specs.Worlds.{step_events}
 use Rattle.sp_behaviours.specs.Behaviours.{told}
-use Rattle.vm_run.specs.declared.outcome.Outcome.{Outcome}
-use Rattle.vm_run.specs.declared.outcome.Outcome.TheVariants as outcome
+use Rattle.vm_step.specs.declared.outcome.Outcome.{Outcome}
+use Rattle.vm_step.specs.declared.outcome.Outcome.TheVariants as outcome
 use Rattle.sp_runs.specs.Going.{Reaches, same, step}
 use Rattle.sp_runs.specs.InSpace.{EndsAs, Grows, answers_to, begins, grown, lowest_ready, steps}
 use Rattle.sp_runs.specs.Outcomes.{IsNamed}

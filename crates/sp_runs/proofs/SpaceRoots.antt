@@ -31,14 +31,14 @@ use Rattle.sp_runs.proofs.Whole.{named-IsTold}
 use Rattle.uuid.specs.Parts.{zero_bytes}
 use Rattle.uuid.specs.declared.Uuid.{Uuid}
 use Rattle.ver_frames.specs.Method.{is_static}
-use Rattle.vm_run.specs.Start.{fill, refusal as start_refused, start_fault, startable, started, takes_crossing}
-use Rattle.vm_run.specs.Subjects.{Declared}
-use Rattle.vm_run.specs.Task.{Tasked}
-use Rattle.vm_run.specs.declared.fault.StartFault.{StartFault}
-use Rattle.vm_run.specs.declared.fault.StartFault.TheVariants as fault
-use Rattle.vm_run.specs.declared.limits.Limits.{Limits}
-use Rattle.vm_run.specs.declared.outcome.Outcome.{Outcome}
-use Rattle.vm_run.proofs.Refused.{refused, starts}
+use Rattle.vm_step.specs.Start.{fill, refusal as start_refused, start_fault, startable, started, takes_crossing}
+use Rattle.vm_step.specs.Subjects.{Declared}
+use Rattle.vm_step.specs.Task.{Tasked}
+use Rattle.vm_step.specs.declared.fault.StartFault.{StartFault}
+use Rattle.vm_step.specs.declared.fault.StartFault.TheVariants as fault
+use Rattle.vm_step.specs.declared.limits.Limits.{Limits}
+use Rattle.vm_step.specs.declared.outcome.Outcome.{Outcome}
+use Rattle.vm_step.proofs.Refused.{refused, starts}
 
 -- ---- the setting
 

@@ -29,9 +29,9 @@ use Rattle.sp_runs.proofs.OwnValues.{own-among}
 use Rattle.sp_runs.proofs.Sets.{IsSet}
 use Rattle.vm_act.specs.declared.asked.Asked.{Asked}
 use Rattle.vm_act.specs.declared.asked.Asked.TheVariants as asked
-use Rattle.vm_run.specs.Run.{State as Machine}
-use Rattle.vm_run.specs.Task.{IsOfSet}
-use Rattle.vm_run.specs.declared.outcome.Outcome.{Outcome}
+use Rattle.vm_step.specs.Run.{State as Machine}
+use Rattle.vm_step.specs.Task.{IsOfSet}
+use Rattle.vm_step.specs.declared.outcome.Outcome.{Outcome}
 
 pub only-lowest : (g : Setting) (s : State) (t : Living) → IsOnly g s t → lowest_ready s ≡ Some 1
 only-lowest g s t only =

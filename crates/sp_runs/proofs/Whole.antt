@@ -13,16 +13,16 @@ use Rattle.uuid.specs.Parts.{zero_bytes}
 use Rattle.space_ids.specs.declared.value.Value.{Value}
 use Rattle.space_ids.specs.declared.value.Value.TheVariants as value
 use Rattle.vm_act.specs.Crossing.{most_elements}
-use Rattle.vm_run.specs.Ends.{End, ReturnedNothing, ReturnedInt, ReturnedNull, ReturnedInts, ReturnedRemote, Threw, ThrewObject, Spent}
-use Rattle.vm_run.specs.Limited.{KeepsWithin}
-use Rattle.vm_run.specs.Run.{run, IsNeverStuck}
-use Rattle.vm_run.specs.Start.{started}
-use Rattle.vm_run.specs.Task as tasks
-use Rattle.vm_run.specs.Task.{Tasked, IsOutcome, TellsThrown, fuel_left, thrown_name, unmarshalled}
-use Rattle.vm_run.specs.declared.limits.Limits.{Limits}
-use Rattle.vm_run.specs.declared.outcome.Outcome.{Outcome}
-use Rattle.vm_run.specs.declared.outcome.Outcome.TheVariants as outcome
-use Rattle.vm_run.proofs.Made.{made-fuel}
+use Rattle.vm_step.specs.Ends.{End, ReturnedNothing, ReturnedInt, ReturnedNull, ReturnedInts, ReturnedRemote, Threw, ThrewObject, Spent}
+use Rattle.vm_step.specs.Limited.{KeepsWithin}
+use Rattle.vm_step.specs.Run.{run, IsNeverStuck}
+use Rattle.vm_step.specs.Start.{started}
+use Rattle.vm_step.specs.Task as tasks
+use Rattle.vm_step.specs.Task.{Tasked, IsOutcome, TellsThrown, fuel_left, thrown_name, unmarshalled}
+use Rattle.vm_step.specs.declared.limits.Limits.{Limits}
+use Rattle.vm_step.specs.declared.outcome.Outcome.{Outcome}
+use Rattle.vm_step.specs.declared.outcome.Outcome.TheVariants as outcome
+use Rattle.vm_step.proofs.Made.{made-fuel}
 
 module _ (classes : List Class) (o : Outcome) (named : RunOutcome) (is : IsNamed classes o named) where
   abbrev renamed : (p : Outcome) → o ≡ p → IsNamed classes p named

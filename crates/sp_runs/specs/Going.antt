@@ -18,11 +18,11 @@ use Rattle.sp_rules.specs.Worlds.{step_events}
 use Rattle.sp_runs.specs.InSpace.{EndsAs, Grows, grown, lowest_ready}
 use Rattle.sp_runs.specs.OverReplies.{made_over}
 use Rattle.uuid.specs.declared.Uuid.{Uuid}
-use Rattle.vm_run.specs.Ends.{End}
-use Rattle.vm_run.specs.Run.{State as Machine, Over, AreDue, played}
-use Rattle.vm_run.specs.Task.{IsOfSet, Tells, fuel_left}
-use Rattle.vm_run.specs.declared.limits.Limits.{Limits}
-use Rattle.vm_run.specs.declared.outcome.Outcome.{Outcome}
+use Rattle.vm_step.specs.Ends.{End}
+use Rattle.vm_step.specs.Run.{State as Machine, Over, AreDue, played}
+use Rattle.vm_step.specs.Task.{IsOfSet, Tells, fuel_left}
+use Rattle.vm_step.specs.declared.limits.Limits.{Limits}
+use Rattle.vm_step.specs.declared.outcome.Outcome.{Outcome}
 use Rattle.vm_typing.specs.Runs.{Move}
 
 -- ---- a space that no other has to do with

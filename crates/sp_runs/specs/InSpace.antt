@@ -16,8 +16,8 @@ use Rattle.sp_runs.specs.Outcomes.{IsNamed}
 use Rattle.sp_runs.specs.OverReplies.{RunsOverReplies}
 use Rattle.sp_files.specs.declared.outcome.RunOutcome.{RunOutcome}
 use Rattle.uuid.specs.Parts.{zero_bytes}
-use Rattle.vm_run.specs.declared.limits.Limits.{Limits}
-use Rattle.vm_run.specs.declared.outcome.Outcome.{Outcome}
+use Rattle.vm_step.specs.declared.limits.Limits.{Limits}
+use Rattle.vm_step.specs.declared.outcome.Outcome.{Outcome}
 
 -- the lowest living task that does not wait
 abbrev pub lowest_ready : State → Option ℕ

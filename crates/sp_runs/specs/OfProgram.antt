@@ -10,11 +10,11 @@ use Rattle.sp_files.specs.declared.refusal.Refusal.TheVariants as refusal
 use Rattle.space_ids.specs.declared.value.Value.{Value}
 use Rattle.sp_runs.specs.Outcomes.{IsNamed}
 use Rattle.sp_runs.specs.Runs.{IsRefused, IsRun}
-use Rattle.vm_run.specs.Run.{State}
-use Rattle.vm_run.specs.Task.{IsOutcome}
-use Rattle.vm_run.specs.declared.fault.StartFault.TheVariants as start
-use Rattle.vm_run.specs.declared.limits.Limits.{Limits}
-use Rattle.vm_run.specs.declared.outcome.Outcome.{Outcome}
+use Rattle.vm_step.specs.Run.{State}
+use Rattle.vm_step.specs.Task.{IsOutcome}
+use Rattle.vm_step.specs.declared.fault.StartFault.TheVariants as start
+use Rattle.vm_step.specs.declared.limits.Limits.{Limits}
+use Rattle.vm_step.specs.declared.outcome.Outcome.{Outcome}
 
 -- the method of this name runs to this outcome
 abbrev pub IsRunOf : Links → (class text : List ℕ) → List Value → Limits → RunOutcome → Type 0

@@ -7,10 +7,10 @@ use Rattle.sp_files.specs.declared.outcome.RunOutcome.TheVariants as told
 use Rattle.space_ids.specs.declared.ids.ClassId.{ClassId}
 use Rattle.space_ids.specs.declared.value.Value.TheVariants as value
 use Rattle.vm_act.specs.Crossing.{most_elements}
-use Rattle.vm_run.specs.Ends.{End, ReturnedNothing, ReturnedInt, ReturnedNull, ReturnedInts, ReturnedRemote, Threw, ThrewObject, Spent}
-use Rattle.vm_run.specs.Task.{thrown_name, unmarshalled}
-use Rattle.vm_run.specs.declared.outcome.Outcome.{Outcome}
-use Rattle.vm_run.specs.declared.outcome.Outcome.TheVariants as outcome
+use Rattle.vm_step.specs.Ends.{End, ReturnedNothing, ReturnedInt, ReturnedNull, ReturnedInts, ReturnedRemote, Threw, ThrewObject, Spent}
+use Rattle.vm_step.specs.Task.{thrown_name, unmarshalled}
+use Rattle.vm_step.specs.declared.outcome.Outcome.{Outcome}
+use Rattle.vm_step.specs.declared.outcome.Outcome.TheVariants as outcome
 
 -- the class of this number was thrown, by its name in the set
 abbrev pub ThrewClass : List Class → ClassId → RunOutcome → Type 0

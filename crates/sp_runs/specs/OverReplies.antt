@@ -6,12 +6,12 @@ use Rattle.space_ids.specs.declared.value.Value.{Value}
 use Rattle.sp_files.specs.declared.outcome.RunOutcome.{RunOutcome}
 use Rattle.sp_runs.specs.Outcomes.{IsTold}
 use Rattle.uuid.specs.Parts.{zero_bytes}
-use Rattle.vm_run.specs.Ends.{End}
-use Rattle.vm_run.specs.Limited.{AlwaysKeepsWithin}
-use Rattle.vm_run.specs.Run.{State, Over, AreDue, IsNeverStuck, answer, made, played, run}
-use Rattle.vm_run.specs.Start.{started}
-use Rattle.vm_run.specs.Task.{Tasked}
-use Rattle.vm_run.specs.declared.limits.Limits.{Limits}
+use Rattle.vm_step.specs.Ends.{End}
+use Rattle.vm_step.specs.Limited.{AlwaysKeepsWithin}
+use Rattle.vm_step.specs.Run.{State, Over, AreDue, IsNeverStuck, answer, made, played, run}
+use Rattle.vm_step.specs.Start.{started}
+use Rattle.vm_step.specs.Task.{Tasked}
+use Rattle.vm_step.specs.declared.limits.Limits.{Limits}
 use Rattle.vm_typing.specs.Runs.{Move, Replied, Steps}
 
 -- how many instructions a machine makes: its own, and each that a reply completes

@@ -11,14 +11,14 @@ use Rattle.sp_files.specs.declared.refusal.Refusal.{Refusal}
 use Rattle.sp_files.specs.declared.refusal.Refusal.TheVariants as refusal
 use Rattle.uuid.specs.Parts.{zero_bytes}
 use Rattle.space_ids.specs.declared.value.Value.{Value}
-use Rattle.vm_run.specs.Ends.{End}
-use Rattle.vm_run.specs.Limited.{KeepsWithin}
-use Rattle.vm_run.specs.Run.{HasNoRemote, Over, made, run, IsNeverStuck}
-use Rattle.vm_run.specs.Start.{started}
-use Rattle.vm_run.specs.Task.{Tasked}
-use Rattle.vm_run.specs.declared.fault.StartFault.{StartFault}
-use Rattle.vm_run.specs.declared.fault.StartFault.TheVariants as start
-use Rattle.vm_run.specs.declared.limits.Limits.{Limits}
+use Rattle.vm_step.specs.Ends.{End}
+use Rattle.vm_step.specs.Limited.{KeepsWithin}
+use Rattle.vm_step.specs.Run.{HasNoRemote, Over, made, run, IsNeverStuck}
+use Rattle.vm_step.specs.Start.{started}
+use Rattle.vm_step.specs.Task.{Tasked}
+use Rattle.vm_step.specs.declared.fault.StartFault.{StartFault}
+use Rattle.vm_step.specs.declared.fault.StartFault.TheVariants as start
+use Rattle.vm_step.specs.declared.limits.Limits.{Limits}
 use Rattle.sp_files.specs.Names.{NamesMethod}
 use Rattle.sp_files.specs.Programs.{IsNoProgram, IsProgram}
 

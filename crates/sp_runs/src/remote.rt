@@ -1,10 +1,10 @@
 //! Whether a method runs alone or in a space.
 
 ghost use Rattle.std.specs.Prelude.{◌≡◌, true, false};
-ghost use Rattle.vm_run.specs.Run.{HasNoRemote};
+ghost use Rattle.vm_step.specs.Run.{HasNoRemote};
 
 use space_ids::ClassId;
-use vm_run::Program;
+use vm_step::Program;
 
 /// Whether a class of the program is remote.
 pub fn has_remote(program: &Program) -> bool

@@ -7,13 +7,13 @@ ghost use Rattle.sp_runs.specs.OfProgram.{IsEndOf, IsNotFound};
 ghost use Rattle.sp_runs.specs.Only.{OnlyGives};
 ghost use Rattle.sp_runs.specs.Outcomes.{IsNamed};
 ghost use Rattle.sp_runs.specs.Runs.{IsNotRun, Runs};
-ghost use Rattle.vm_run.specs.Run.{HasNoRemote, run};
-ghost use Rattle.vm_run.specs.Task.{IsOfSet, fuel_left};
+ghost use Rattle.vm_step.specs.Run.{HasNoRemote, run};
+ghost use Rattle.vm_step.specs.Task.{IsOfSet, fuel_left};
 
 use sp_files::{Refusal, RunOutcome, find_named};
 use space_ids::{Uuid, Value};
 use std::alloc::{AllocError, Global};
-use vm_run::{Limits, MethodId, Outcome, Program, StartFault, Task};
+use vm_step::{Limits, MethodId, Outcome, Program, StartFault, Task};
 
 /// The method that a text names in the class of this name, or why it has none.
 pub fn method_named(

@@ -9,19 +9,19 @@ use Rattle.ghost_value.specs.contracts.Ghost as Ghost
 use Rattle.ver_check.proofs.accepted.Accepted.TheSendSync as accepted
 use Rattle.vm_flat.proofs.insn.FlatInsn.TheSendSync as flat
 use Rattle.vm_calls.proofs.callees.CalleeRow.TheSendSync as callees
-use Rattle.vm_run.specs.contracts.program.Program as Program
-use Rattle.vm_run.specs.contracts.task.Task as Task
+use Rattle.vm_step.specs.contracts.program.Program as Program
+use Rattle.vm_step.specs.contracts.task.Task as Task
 use Rattle.indexmap.proofs.map.IndexMap.TheSendSync as map
 use Rattle.sp_call_set.specs.contracts.call_set.CallSet as CallSet
-use Rattle.sp_call_space.specs.contracts.player.Player as Player
-use Rattle.sp_call_space.specs.contracts.machines.Machines as Machines
+use Rattle.sp_space.specs.contracts.player.Player as Player
+use Rattle.sp_space.specs.contracts.machines.Machines as Machines
 use Rattle.sim_spaces.specs.contracts.home.Home as Home
-use Rattle.sp_call_space.specs.contracts.parts.Parts as Parts
-use Rattle.sp_call_space.specs.contracts.space.Space as Space
-use Rattle.sp_call_space.specs.contracts.space.Space.TheInside as Inside
-use Rattle.vm_run.proofs.limits.Limits.TheSendSync as limits
+use Rattle.sp_space.specs.contracts.parts.Parts as Parts
+use Rattle.sp_space.specs.contracts.space.Space as Space
+use Rattle.sp_space.specs.contracts.space.Space.TheInside as Inside
+use Rattle.vm_step.proofs.limits.Limits.TheSendSync as limits
 use Rattle.uuid.proofs.Uuid.TheSendSync as uuid
-use Rattle.sp_twin_core.proofs.space_core.SpaceCore.TheSendSync as core
+use Rattle.sp_core.proofs.space_core.SpaceCore.TheSendSync as core
 
 pub ghost_send : (Y : RattleType) → IsSend (Ghost.the_row Y)
 ghost_send Y = record { owned = λ d vs. ((λ vss. (tt, ((λ uss. (tt, tt)), tt))), tt); leaving = λ k f vs. tt }

@@ -18,7 +18,7 @@ use space_ids::Uuid;
 use std::alloc::{AllocError, Global};
 use std::io::{BufRead, Write};
 use std::random::RandomSource;
-use vm_run::Program;
+use vm_step::Program;
 
 /// Does what the words ask for, of which the first is `serve` or `call`: serves a space until the input ends, or makes
 /// one call. Returns the exit status:

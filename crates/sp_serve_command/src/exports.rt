@@ -1,7 +1,7 @@
 //! The methods that make objects to be bound.
 
 use std::alloc::{AllocError, Global};
-use vm_run::Program;
+use vm_step::Program;
 
 /// The name and descriptor of the method `export` of a class that takes nothing and gives an object, if the class
 /// declares one.

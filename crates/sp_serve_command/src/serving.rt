@@ -10,7 +10,7 @@ use sp_texts::{Status, write_text};
 use sp_world::CoreFault;
 use std::alloc::{AllocError, Global};
 use std::io::{BufRead, Write};
-use vm_run::Limits;
+use vm_step::Limits;
 
 /// Runs a space for what it is asked for. `methods` make the objects that are to be bound. Returns the status.
 pub(crate) fn run_space<

@@ -7,7 +7,7 @@ use sp_serve::Peer;
 use space_ids::Uuid;
 use std::alloc::{AllocError, Global};
 use std::net::SocketAddr;
-use vm_run::Limits;
+use vm_step::Limits;
 
 /// A space that is wanted, over the class files of a folder, and what for.
 #[derive(Drop)]

@@ -2,8 +2,8 @@
 use Rattle.std.proofs.Common.{◌≡◌, ℕ, ◌-◌, ◌≤◌, List, [], ◌∷◌, ◌++◌, Option, None, Some, refl, sym, ap, subst, ◌∙◌}
 use Rattle.std.specs.Prelude.{cond, false}
 use Rattle.cls_link.specs.Links.{Links}
-use Rattle.sp_call_space.specs.Spaces.{IsSpace}
-use Rattle.sp_call_space.specs.declared.parts.Parts.{Parts}
+use Rattle.sp_space.specs.Spaces.{IsSpace}
+use Rattle.sp_space.specs.declared.parts.Parts.{Parts}
 use Rattle.sp_rules.specs.Classes.{Setting}
 use Rattle.sp_rules.specs.Events.{Event, Output}
 use Rattle.sp_rules.specs.Lists.{with_some}
@@ -20,8 +20,8 @@ use Rattle.sp_runs.proofs.SpaceGoes.{Went, told-end, told-none, went}
 use Rattle.sp_space_runs.specs.Going.{Goes}
 use Rattle.sp_world.specs.Steps as steps
 use Rattle.sp_world.specs.Steps.{events_of_step, refusal_of, state_after, step_at, step_refusal}
-use Rattle.vm_run.specs.Run.{State as Machine}
-use Rattle.vm_run.specs.declared.outcome.Outcome.{Outcome}
+use Rattle.vm_step.specs.Run.{State as Machine}
+use Rattle.vm_step.specs.declared.outcome.Outcome.{Outcome}
 
 -- ---- histories
 

@@ -8,9 +8,9 @@ use Rattle.cls_link.specs.Links.{Links}
 use Rattle.cls_link.specs.declared.linked_code.MethodId.{MethodId}
 use Rattle.space_ids.specs.declared.ids.Ref.{Ref}
 use Rattle.space_ids.specs.declared.value.Value.{Value}
-use Rattle.sp_call_space.specs.Spaces as spaces
-use Rattle.sp_call_space.specs.Spaces.{IsSpace}
-use Rattle.sp_call_space.specs.declared.parts.Parts.{Parts}
+use Rattle.sp_space.specs.Spaces as spaces
+use Rattle.sp_space.specs.Spaces.{IsSpace}
+use Rattle.sp_space.specs.declared.parts.Parts.{Parts}
 use Rattle.sp_classes.specs.Classes.{classes_of}
 use Rattle.sp_classes.specs.Starts.{start_refusal_in}
 use Rattle.sp_events.specs.FaultNames.{Refuses, RefusesOrLacks, core_fault_number, start_refusal}
@@ -37,9 +37,9 @@ use Rattle.sp_runs.proofs.SpaceRoots.{Rooted, its-limits, not-started, one-run, 
 use Rattle.sp_space_runs.specs.Going.{Goes, IsRootFault, refusal_at}
 use Rattle.uuid.specs.Parts.{zero_bytes}
 use Rattle.uuid.specs.declared.Uuid.{Uuid}
-use Rattle.vm_run.specs.Task.{Tasked}
-use Rattle.vm_run.specs.declared.limits.Limits.{Limits}
-use Rattle.vm_run.specs.declared.outcome.Outcome.{Outcome}
+use Rattle.vm_step.specs.Task.{Tasked}
+use Rattle.vm_step.specs.declared.limits.Limits.{Limits}
+use Rattle.vm_step.specs.declared.outcome.Outcome.{Outcome}
 
 -- ---- why it does not start
 

@@ -1,8 +1,8 @@
 -- A space whose only task goes on, as the code has it. (This project's own.)
 use Rattle.std.specs.Prelude.{◌≡◌, ℕ, List}
 use Rattle.cls_link.specs.Links.{Links}
-use Rattle.sp_call_space.specs.Spaces.{IsSpace}
-use Rattle.sp_call_space.specs.declared.parts.Parts.{Parts}
+use Rattle.sp_space.specs.Spaces.{IsSpace}
+use Rattle.sp_space.specs.declared.parts.Parts.{Parts}
 use Rattle.sp_classes.specs.Classes.{classes_of}
 use Rattle.sp_events.specs.declared.fault.CoreFault.{CoreFault}
 use Rattle.sp_events.specs.declared.fault.CoreFault.TheVariants as core
@@ -15,8 +15,8 @@ use Rattle.sp_rules.specs.Classes.{Setting}
 use Rattle.sp_rules.specs.Events.{Event}
 use Rattle.sp_rules.specs.Space.{state_of}
 use Rattle.sp_runs.specs.Going.{GoesOn}
-use Rattle.vm_run.specs.Run.{State}
-use Rattle.vm_run.specs.declared.fault.StartFault.TheVariants as start
+use Rattle.vm_step.specs.Run.{State}
+use Rattle.vm_step.specs.declared.fault.StartFault.TheVariants as start
 
 -- The space stands at the end of a history that began with this event and made steps since. Its only task is its first, which follows a machine
 -- that began so, and has this fuel.

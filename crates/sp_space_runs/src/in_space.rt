@@ -3,7 +3,7 @@
 ghost use Rattle.std.specs.Prelude.{◌≡◌, List, Option, IfOk, IfErr, map};
 ghost use Rattle.cls_link.specs.Links.{Links};
 ghost use Rattle.sp_behaviours.specs.Behaviours.{told as told_to_space};
-ghost use Rattle.sp_call_space.specs.Spaces.{IsSpace};
+ghost use Rattle.sp_space.specs.Spaces.{IsSpace};
 ghost use Rattle.sp_files.specs.Only.{IsOutOfMemory};
 ghost use Rattle.sp_files.specs.Programs.{IsProgram};
 ghost use Rattle.sp_outputs.specs.Notes.{output_of};
@@ -16,19 +16,19 @@ ghost use Rattle.sp_runs.specs.Only.{OnlyGives};
 ghost use Rattle.sp_runs.specs.Runs.{IsNotRunInSpace};
 ghost use Rattle.sp_tasks.specs.Behaviours.{outcome_of};
 ghost use Rattle.uuid.specs.Parts.{zero_bytes};
-ghost use Rattle.vm_run.specs.Run.{State};
+ghost use Rattle.vm_step.specs.Run.{State};
 ghost use Rattle.sp_space_runs.specs.Going.{Goes, IsGoing, IsRootFault, refusal_at};
 
 use sp_call_set::CallSet;
-use sp_call_space::Space;
 use sp_events::CoreFault;
 use sp_files::{ClassBytes, Refusal, RunOutcome};
 use sp_outputs::Output;
 use sp_runs::named;
+use sp_space::Space;
 use sp_world::Inhabitant;
 use space_ids::{Uuid, Value};
 use std::alloc::Global;
-use vm_run::{Limits, MethodId, Outcome, Program, StartFault};
+use vm_step::{Limits, MethodId, Outcome, Program, StartFault};
 
 /// Runs the method as the only root of a new space of id 0, and returns how it ended. `Refusal::Start` if it
 /// does not start with these arguments, and with `StartFault::BadArgument` if one of them is a reference: a

@@ -12,7 +12,7 @@ use sp_files::{ClassBytes, Refusal, RunOutcome, program_of};
 use sp_runs::{has_remote, method_named, run_method};
 use space_ids::Value;
 use std::alloc::Global;
-use vm_run::{Limits, Program};
+use vm_step::{Limits, Program};
 
 /// Runs the static method of this name and descriptor, as `f(I)I`, over the class set of the files,
 /// and returns how it ended. Method resolution finds it, so the class may inherit it (JVMS 5.4.3.3). In a set

@@ -22,9 +22,9 @@ use Rattle.sp_files.specs.declared.files.ClassBytes.{ClassBytes}
 use Rattle.ver_rules.specs.FaultNames.{check_rule_name, check_rule_number}
 use Rattle.ver_rules.specs.declared.fault.CheckFault.{CheckFault}
 use Rattle.ver_rules.specs.declared.fault.CheckFault.TheVariants as check
-use Rattle.vm_run.specs.FaultNames.{start_fault_name, start_fault_number}
-use Rattle.vm_run.specs.declared.fault.StartFault.{StartFault}
-use Rattle.vm_run.specs.declared.fault.StartFault.TheVariants as start
+use Rattle.vm_step.specs.FaultNames.{start_fault_name, start_fault_number}
+use Rattle.vm_step.specs.declared.fault.StartFault.{StartFault}
+use Rattle.vm_step.specs.declared.fault.StartFault.TheVariants as start
 
 -- a file or a folder that cannot be read
 abbrev pub unreadable_text : (path : List ℕ) → List ℕ

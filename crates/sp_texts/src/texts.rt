@@ -18,7 +18,7 @@ use sp_words::FolderFault;
 use space_ids::Value;
 use std::alloc::{AllocError, Global};
 use ver_check::CheckFault;
-use vm_run::StartFault;
+use vm_step::StartFault;
 
 /// Returns a text, with one newline at its end.
 pub fn text_report(alloc: Global, text: &str, status: Status) -> Result<Report, AllocError>

@@ -8,7 +8,7 @@ use cls_set::{ClassId, ClassSet, SetFault};
 use std::alloc::Global;
 use test_rows::RowFault;
 use ver_check::{Accepted, CheckFault, accept};
-use vm_run::{MethodId, Program};
+use vm_step::{MethodId, Program};
 
 /// Returns the program of the class of examples/sum.
 pub fn sum(alloc: Global) -> Result<Program, RowFault> {

@@ -6,7 +6,7 @@ use super::spelling::{argument, count, short_number};
 use super::tasks;
 use std::alloc::Global;
 use test_rows::{RowFault, Stage, number, one_word, put, replace, words_of};
-use vm_run::{Limits, Program};
+use vm_step::{Limits, Program};
 
 /// The heap, the references, the program and the limits of the rows so far.
 #[derive(Drop)]

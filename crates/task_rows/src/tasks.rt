@@ -7,7 +7,7 @@ use super::spelling::{MOST_HEAP_WORDS, values};
 use std::alloc::Global;
 use std::io::Write;
 use test_rows::{RowFault, number, put};
-use vm_run::{Limits, MethodId, Numbered, Outcome, Pause, Program, StartFault, Task, Uuid, Value};
+use vm_step::{Limits, MethodId, Numbered, Outcome, Pause, Program, StartFault, Task, Uuid, Value};
 
 /// Prints the number and the name of each reason not to start.
 pub fn put_faults(said: &mut Vec<u8>) -> Result<(), RowFault> {

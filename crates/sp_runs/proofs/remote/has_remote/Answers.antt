@@ -2,7 +2,7 @@ use Rattle.std.proofs.Common.{◌≡◌, ◌∙◌, List, ap, arith, subst}
 use Rattle.cls_link.specs.Links.{Links}
 use Rattle.cls_set.specs.Subtypes.{IsRemote}
 use Rattle.cls_set.specs.declared.class.Class.{Class}
-use Rattle.vm_run.specs.Run.{HasNoRemote}
+use Rattle.vm_step.specs.Run.{HasNoRemote}
 use Rattle.sp_runs.proofs.RemoteClasses.{none_at_all, none_more, tested, tested_not}
 use Rattle.sp_runs.proofs.remote.has_remote.Goals as goal
 

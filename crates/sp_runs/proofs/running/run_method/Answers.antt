@@ -1,7 +1,7 @@
 use Rattle.std.proofs.Common.{◌≡◌, List, Ok, ℕ, ◌<◌, arith, rules, subst}
 use Rattle.std.specs.Prelude.{Err}
 use Rattle.cls_link.specs.Links.{Links}
-use Rattle.vm_run.specs.Start.{started}
+use Rattle.vm_step.specs.Start.{started}
 use Rattle.sp_files.specs.Only.{IsOutOfMemory}
 use Rattle.sp_files.specs.declared.refusal.Refusal.TheVariants.{Start}
 use Rattle.sp_runs.proofs.Only.{only_error, only_ran, out_ran, start_out}

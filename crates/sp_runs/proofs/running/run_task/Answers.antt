@@ -1,9 +1,9 @@
 use Rattle.std.proofs.Common.{◌≡◌, ◌∙◌, Option, ap, arith, subst}
 use Rattle.std.specs.Prelude.{IfSome}
 use Rattle.cls_link.specs.Links.{Links}
-use Rattle.vm_run.specs.Run.{State, run}
-use Rattle.vm_run.specs.Task.{IsOutcome, Tasked, fuel_left}
-use Rattle.vm_run.specs.declared.outcome.Outcome.{Outcome}
+use Rattle.vm_step.specs.Run.{State, run}
+use Rattle.vm_step.specs.Task.{IsOutcome, Tasked, fuel_left}
+use Rattle.vm_step.specs.declared.outcome.Outcome.{Outcome}
 use Rattle.sp_runs.proofs.Ended.{ended_by_one_more, none_told}
 use Rattle.sp_runs.proofs.running.run_task.Goals as goal
 

@@ -2,7 +2,7 @@ use Rattle.cls_link.specs.Links.{Links}
 use Rattle.sp_rules.specs.Classes.{Setting}
 use Rattle.sp_rules.specs.Events.{Event}
 use Rattle.sp_space_runs.specs.Going.{Goes}
-use Rattle.vm_run.specs.Run.{State}
+use Rattle.vm_step.specs.Run.{State}
 use Rattle.sp_space_runs.proofs.in_space.play.Given as goal
 
 -- the task goes on with the fuel that is left

@@ -1,5 +1,5 @@
 use Rattle.std.proofs.Common.{ap, subst, sym, ◌∙◌}
-use Rattle.sp_call_space.specs.Spaces.{AreLimits}
+use Rattle.sp_space.specs.Spaces.{AreLimits}
 use Rattle.sp_classes.specs.Classes.{classes_of}
 use Rattle.sim_spaces.specs.Homes.{Origins}
 use Rattle.sim_spaces.proofs.homes.HomesOriginHome.space.Goals as goal

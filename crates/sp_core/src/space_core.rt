@@ -1,0 +1,75 @@
+//! The core of a space, and its two states.
+
+ghost use Rattle.std.specs.Prelude.{◌≡◌, None, IfOk};
+ghost use Rattle.sp_rules.specs.Classes.{Setting};
+ghost use Rattle.sp_rules.specs.State.{State, opening};
+ghost use Rattle.sp_core.specs.Hands.{IsSecond};
+
+use net_message::Digest;
+use sp_holders::Sightings;
+use sp_state::SpaceState;
+use space_ids::Uuid;
+use std::alloc::{AllocError, Global};
+
+// Moments stay below this one, and a space whose numbers have come to it is worn out.
+pub(crate) const END: u64 = 1 << 63;
+
+/// The core of one space.
+///
+/// It keeps two equal states. An event happens to the second first, then to the first. One that is out of
+/// memory is let go, and copied anew. A contract names the states of the rules that the value may stand for.
+#[derive(Drop)]
+pub struct SpaceCore {
+    pub(crate) alloc: Global,
+    pub(crate) id: Uuid,
+    // With how much fuel a root may start.
+    pub(crate) fuel: u64,
+    pub(crate) state: SpaceState,
+    pub(crate) spare: Option<SpaceState>,
+    // Where references were seen to be held. What finds no memory is not kept.
+    pub(crate) sightings: Sightings,
+}
+
+impl SpaceCore {
+    ghost use Rattle.sp_core.specs.Cores.{IsCore};
+
+    /// The core of the space of this id, over class files of this digest, whose roots start with at most this
+    /// fuel. Nothing has happened to it.
+    pub fn new(alloc: Global, id: Uuid, digest: Digest, fuel: u64) -> Result<SpaceCore, AllocError>
+        ensures { IfOk result (λ core. (g : Setting) → g.id ≡ id → g.digest ≡ digest → g.limits.fuel ≡ fuel → IsCore g opening core) }
+    {
+        let state = SpaceState::new(alloc, id, digest)?;
+        Ok(SpaceCore {
+            alloc,
+            id,
+            fuel,
+            state,
+            spare: None,
+            sightings: Sightings::new(alloc),
+        })
+    }
+
+    /// The space's id.
+    pub fn id(&self) -> Uuid
+        ensures { (g : Setting) (s : State) → IsCore g s self.now → result ≡ g.id }
+    {
+        self.id
+    }
+
+    // Takes the second state out: a copy of the first, if there is none.
+    pub(crate) fn take_spare(&mut self) -> Result<SpaceState, AllocError>
+        ensures spare { IfOk result (λ spare. (g : Setting) (s : State) → IsCore g s self.old → IsSecond g s self.old.state spare) }
+        ensures core { self.new ≡ record self.old { spare = None } }
+    {
+        match self.spare.take() {
+            Some(spare) => Ok(spare),
+            None => self.state.copy(),
+        }
+    }
+
+    pub(crate) fn put_spare(&mut self, spare: Option<SpaceState>)
+        ensures { self.new ≡ record self.old { spare = spare } }
+    {
+        drop(std::mem::replace(&mut self.spare, spare));
+    }
+}

@@ -1,6 +1,0 @@
-use Rattle.std.proofs.Common.{sym}
-use Rattle.sp_twin_core.proofs.RestLemmas.{opening-rest}
-use Rattle.sp_twin_core.proofs.space_core.SpaceCore.new.Goals as goal
-
-pub returns : goal.returns
-returns c = λ g id digest fuel. record { id = sym id; fuel = sym fuel; state = c.in_ok-state.ensures g id digest; spare = tt; rest = opening-rest }

@@ -1,5 +1,0 @@
-use Rattle.vm_act.specs.declared.ending.Thrown.TheVariants.{OutOfMemoryError}
-use Rattle.vm_run.proofs.program.Program.out_of_memory.Goals as goal
-
-pub returns : goal.returns
-returns c = c.thrown.ensures.named OutOfMemoryError
