@@ -13,7 +13,7 @@ use Rattle.vm_step.specs.contracts.program.Program as Program
 use Rattle.vm_step.specs.contracts.task.Task as Task
 use Rattle.indexmap.proofs.map.IndexMap.TheSendSync as map
 use Rattle.sp_call_set.specs.contracts.call_set.CallSet as CallSet
-use Rattle.sp_space.specs.contracts.player.Player as Player
+use Rattle.sp_players.specs.contracts.player.Player as Player
 use Rattle.sp_space.specs.contracts.machines.Machines as Machines
 use Rattle.sim_spaces.specs.contracts.home.Home as Home
 use Rattle.sp_space.specs.contracts.parts.Parts as Parts

@@ -36,24 +36,17 @@ use Rattle.vm_step.specs.declared.fault.StartFault.{StartFault}
 use Rattle.vm_step.specs.declared.limits.Limits.{Limits}
 use Rattle.sp_space.specs.Hands.{LivesAs}
 use Rattle.sp_space.specs.Machines.{machine_at}
-use Rattle.sp_space.specs.Players.{IsLevel, IsPlayed, IsUntouched, Played, reached}
-use Rattle.sp_space.specs.Spaces.{AreLimits, IsFree, IsOf, IsSpace, Stands}
+use Rattle.sp_players.specs.Players.{IsLevel, IsPlayed, IsUntouched, Played, reached}
+use Rattle.sp_players.specs.Limits.{AreLimits}
+use Rattle.sp_space.specs.Spaces.{IsFree, IsOf, IsSpace, Stands}
 use Rattle.sp_space.specs.declared.machines.Machines.{Machines}
 use Rattle.sp_space.specs.declared.parts.Parts.{Parts}
 use Rattle.sp_space.proofs.EventLemmas.{KeepsLending, event-space, space-core}
 use Rattle.sp_space.proofs.FreeLemmas.{still-free}
+use Rattle.sp_players.proofs.BeginLemmas.{no-machine, plays-on}
 use Rattle.sp_space.proofs.StandLemmas.{machine-change}
 
 -- ---- a new space
-
-pub plays-on : (g : Setting) (links : Links) (memory : ClassId) → g.classes ≡ classes_of links → number_of links.classes (codes "java/lang/OutOfMemoryError") ≡ Some memory → PlaysOn links g
-plays-on g links memory same known =
-    let none : ClassId = record { 0 = 0 } in
-    let named : class_named links.classes (codes "java/lang/OutOfMemoryError") ≡ memory = ap (λ (o : Option ClassId). unwrap_or o none) known in
-    record {
-      behaviour = λ own limits method arguments fuel. ap (λ (c : Classes). c.behaviour own limits method arguments fuel) same;
-      out_of_memory = known ∙ ap Some (sym named) ∙ sym (ap (λ (c : Classes). Some c.out_of_memory) same);
-    }
 
 -- no task lives, so none is lent
 no-rows : (es : List (ℕ × TaskRow)) → map seen_row es ≡ [] → (id : ℕ) → unwrap_or (option_map (λ (row : TaskRow). row.lent) (row_of id es)) false ≡ false
@@ -115,39 +108,6 @@ root-space space core root arguments tells accepted state lent g s is =
     (event-space g s (event_of_root root) space core is refl [] (accepted g s [] core-is (told-root g s space root arguments is tells)) (state g s core-is) (still-free space.core core is.free (lent g s core-is)))
 
 -- ---- machines
-
-start-fuel : (g : Setting) (method : ℕ) (arguments : List Value) (fuel : ℕ) → (start g method arguments fuel).fuel ≡ fuel
-unfolding start
-start-fuel g method arguments fuel = refl
-
-limits-same : (g : Setting) (limits : Limits) (fuel : ℕ) → AreLimits g limits → record limits { fuel = fuel } ≡ limits_of g.limits fuel
-limits-same g limits fuel are = λ j. record { heap_words = sym are.heap j; stack_words = sym are.stack j; references = sym are.references j; fuel = fuel }
-
--- what a machine begins as, is what the task of its record does
-pub begins-level : (links : Links) (g : Setting) (t : Living) (p : Played) (own : Uuid) (past : Recorded) (given limits : Limits) (fuel : ℕ) → PlaysOn links g → own ≡ g.id → AreLimits g limits → IsUntouched links g t
-    → recorded_in t ≡ past → fuel ≡ past.began.fuel → given ≡ record limits { fuel = fuel } → begun links own (record { 0 = past.began.method }) past.began.arguments given ≡ Ok p.task
-    → p.task.program ≡ links → IsNeverStuck links p.task.state → p.taken ≡ 0 → p.ahead ≡ false → IsLevel links g t p
-begins-level links g t p own past given limits fuel plays mine are untouched same counted as-limited begins program safe none abreast =
-    let within : given ≡ limits_of g.limits past.began.fuel = as-limited ∙ ap (λ n. record limits { fuel = n }) counted ∙ limits-same g limits past.began.fuel are in
-    let there : begun links g.id (record { 0 = past.began.method }) past.began.arguments (limits_of g.limits past.began.fuel) ≡ Ok p.task =
-    (λ j. begun links (sym mine j) (record { 0 = past.began.method }) past.began.arguments (sym within j)) ∙ begins in
-    let follows : Follows links g (start g past.began.method past.began.arguments past.began.fuel) p.task.state = starts-follow links g past.began.method past.began.arguments past.began.fuel p.task plays there safe in
-    let counts : t.steps ≡ 0 = untouched.steps in
-    let left : t.task.fuel ≡ t.began.fuel = ap (λ (u : Task). u.fuel) untouched.stands ∙ start-fuel g t.began.method t.began.arguments t.began.fuel in
-    let task : start g past.began.method past.began.arguments past.began.fuel ≡ t.task = ap (λ (r : Recorded). start g r.began.method r.began.arguments r.began.fuel) (sym same) ∙ sym untouched.stands in
-    record {
-      program = program;
-      ready = untouched.ready;
-      taken = none ∙ sym (ap length untouched.given);
-      within = omega (arith, counts, left);
-      follows = subst (λ b. Follows links g (reached b t.task) p.task.state) (sym abreast) (subst (λ (u : Task). Follows links g u p.task.state) task follows);
-      own = λ ahead. absurd (false≢true (sym abreast ∙ ahead));
-      last = λ ahead. absurd (false≢true (sym abreast ∙ ahead));
-    }
-
-no-machine : (links : Links) (g : Setting) (t : Living) (o : Option Played) → is_some o ≡ false → IsPlayed links g (Some t) o → IsUntouched links g t
-no-machine links g t None none p = p
-no-machine links g t (Some p) none played = absurd (true≢false none)
 
 pub untouched-at : (g : Setting) (h : List Event) (space : Parts) (id : ℕ) (t : Living) → Stands g h space → task_at (state_of g h) id ≡ Some t → is_some (machine_at id space.machines) ≡ false → IsUntouched space.program.now g t
 untouched-at g h space id t is lives none =

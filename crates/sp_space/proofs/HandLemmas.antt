@@ -36,17 +36,19 @@ use Rattle.vm_act.specs.declared.asked.Asked.TheVariants as asked
 use Rattle.vm_act.specs.declared.machine.Machine.{Machine}
 use Rattle.vm_step.specs.Run.{State as Machine_state, Running, Waits, Over, Lost}
 use Rattle.sp_space.specs.Hands.{AsksInHand, ComesNext, EndsInHand, HasMade, IsInHand, IsLevelHand}
-use Rattle.sp_space.specs.Machines.{IsNextAt, fuel_at, machine_at}
-use Rattle.sp_space.specs.Players.{AsksIn, CanCatchUp, IsBehind, IsLevel, IsLevelAt, IsPlayed, IsWaiting, Played, reached}
+use Rattle.sp_players.specs.Coming.{IsNextAt, fuel_at}
+use Rattle.sp_space.specs.Machines.{machine_at}
+use Rattle.sp_players.specs.Players.{AsksIn, CanCatchUp, IsBehind, IsLevel, IsLevelAt, IsPlayed, IsWaiting, Played, reached}
 use Rattle.sp_space.specs.Spaces.{Stands}
 use Rattle.sp_space.specs.declared.machines.Machines.{Machines}
-use Rattle.sp_space.specs.declared.player.Next.{Next}
-use Rattle.sp_space.specs.declared.player.Next.TheVariants as next
+use Rattle.sp_players.specs.declared.player.Next.{Next}
+use Rattle.sp_players.specs.declared.player.Next.TheVariants as next
 use Rattle.sp_space.specs.declared.parts.Parts.{Parts}
-use Rattle.sp_space.proofs.EndLemmas.{some-fuel, step-fuel}
+use Rattle.sp_players.proofs.EndLemmas.{some-fuel, step-fuel}
 use Rattle.sp_space.proofs.LentLemmas.{Lent, lent-hand}
-use Rattle.sp_space.proofs.PlayedLemmas.{follows-abreast, follows-ahead}
-use Rattle.sp_space.proofs.StandLemmas.{back-nothing, lent-event, machine-change, only}
+use Rattle.sp_players.proofs.PlayedLemmas.{follows-abreast, follows-ahead, waits-in}
+use Rattle.sp_space.proofs.StandLemmas.{back-nothing, lent-event, machine-change}
+use Rattle.sp_players.proofs.PlayedLemmas.{only}
 
 -- ---- instructions, none or one
 
@@ -219,12 +221,6 @@ gone-played g h space hand outcome machines e none =
     (subst (λ (o : Option Living). IsPlayed space.program.now g o None) (sym (finished-gone g h space hand outcome e)) tt)
 
 -- ---- what it asks for
-
-waits-in : (op : Asked) (s : Machine_state) → AsksIn op s → (m : Machine) × (fuel : ℕ) × (s ≡ Waits op m fuel)
-waits-in op (Running m fuel) asks = absurd asks
-waits-in op (Waits other m fuel) asks = (m, fuel, ap (λ x. Waits x m fuel) asks)
-waits-in op (Over end fuel) asks = absurd asks
-waits-in op Lost asks = absurd asks
 
 pub asks-hand : (g : Setting) (h : List Event) (space : Parts) (hand : LentTask) (asked : Asked) (op : Told_op) → ComesNext g h space hand (next.Asks asked)
     → ((p : Played) (m : Machine) (fuel : ℕ) → machine_at hand.task.id space.machines ≡ Some p → p.task.state ≡ Waits asked m fuel → op_of op ≡ op_at p.task.program.classes asked m) → AsksInHand g h space hand op

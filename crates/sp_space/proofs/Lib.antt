@@ -1,8 +1,5 @@
-pub mod ResultLemmas
 pub mod LentLemmas
 pub mod FreeLemmas
-pub mod EndLemmas
-pub mod PlayedLemmas
 pub mod EventLemmas
 pub mod StandLemmas
 pub mod StepLemmas

@@ -18,7 +18,7 @@ use Rattle.sp_core.specs.declared.space_core.SpaceCore.{SpaceCore}
 use Rattle.sp_space.specs.Events.{HadSlice, HasRun, Happened}
 use Rattle.sp_space.specs.Hands.{IsLevelHand}
 use Rattle.sp_space.specs.Machines.{machine_at}
-use Rattle.sp_space.specs.Players.{IsLevelAt, IsPlayed}
+use Rattle.sp_players.specs.Players.{IsLevelAt, IsPlayed}
 use Rattle.sp_space.specs.Slices.{IsSliceOf}
 use Rattle.sp_space.specs.Spaces.{IsFree, IsResting, IsSpace}
 use Rattle.sp_space.specs.declared.machines.Machines.{Machines}
@@ -27,7 +27,8 @@ use Rattle.sp_space.proofs.HandLemmas.{level-player, level-stands, ready-is}
 use Rattle.sp_space.proofs.LentLemmas.{back-alone, lent-hand, lent_ids}
 use Rattle.sp_space.proofs.NextLemmas.{hand-now}
 use Rattle.sp_space.proofs.SpaceStep.{rests-at, step-accepted, step-answers, step-space}
-use Rattle.sp_space.proofs.StandLemmas.{after-none, lent-event, only}
+use Rattle.sp_players.proofs.PlayedLemmas.{after-none, only}
+use Rattle.sp_space.proofs.StandLemmas.{lent-event}
 use Rattle.sp_space.proofs.StepLemmas.{happened}
 
 -- its machine has made instructions, and is level with the task after them

@@ -18,13 +18,11 @@ use Rattle.sp_core.specs.Cores.{IsCore}
 use Rattle.sp_core.specs.Hands.{given_back}
 use Rattle.sp_core.specs.declared.space_core.SpaceCore.{SpaceCore}
 use Rattle.sp_space.specs.Machines.{machine_at}
-use Rattle.sp_space.specs.Players.{IsPlayed, Played}
+use Rattle.sp_players.specs.Players.{IsPlayed, Played}
 use Rattle.sp_space.specs.Spaces.{IsOf, Stands}
 use Rattle.sp_space.specs.declared.machines.Machines.{Machines}
 use Rattle.sp_space.specs.declared.parts.Parts.{Parts}
-
-pub only : {A : Type 0} (x y : A) → Some x ≡ Some y → x ≡ y
-only x y h = ap (λ o. unwrap_or o x) h
+use Rattle.sp_players.proofs.PlayedLemmas.{after-none}
 
 itself : (n : ℕ) → (n == n) ≡ true
 itself n = eq-eqb n n refl
@@ -69,10 +67,6 @@ pub core-change : (g : Setting) (h : List Event) (space : Parts) (core : SpaceCo
 core-change g h space core is core-is = record { of = same-of g space core space.machines is.of; taken = is.taken; core = core-is; played = is.played }
 
 -- ---- no instruction
-
-pub after-none : (t : Living) → after_steps 0 t ≡ t
-unfolding steps
-after-none t = let e : t.steps + 0 ≡ t.steps = omega arith in λ j. record t { steps = e j }
 
 first-same : (p : Living → Bool) (f : Living → Living) (ts : List Living) → ((t : Living) → f t ≡ t) → at_first p f ts ≡ ts
 first-same p f [] same = refl

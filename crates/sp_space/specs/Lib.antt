@@ -1,4 +1,3 @@
-pub mod Players
 pub mod Machines
 pub mod Spaces
 pub mod Events

@@ -10,17 +10,10 @@ use Rattle.sp_behaviours.specs.Follows.{PlaysOn}
 use Rattle.sp_reply_laws.specs.Calls.{IsSettingOf}
 use Rattle.sp_core.specs.Cores.{IsCore, is_lent}
 use Rattle.sp_core.specs.declared.space_core.SpaceCore.{SpaceCore}
-use Rattle.vm_step.specs.declared.limits.Limits.{Limits}
+pub use Rattle.sp_players.specs.Limits.{AreLimits}
 use Rattle.sp_space.specs.Machines.{machine_at}
-use Rattle.sp_space.specs.Players.{IsPlayed}
+use Rattle.sp_players.specs.Players.{IsPlayed}
 use Rattle.sp_space.specs.declared.parts.Parts.{Parts}
-
--- The limits of a setting are those that machines are given.
-pub record AreLimits (g : Setting) (limits : Limits) : Type 0 where
-  pub heap : g.limits.heap ≡ limits.heap_words
-  pub stack : g.limits.stack ≡ limits.stack_words
-  pub references : g.limits.references ≡ limits.references
-  pub fuel : g.limits.fuel ≡ limits.fuel
 
 -- A space is one of this setting: its tasks run on the linked set that the setting's classes are of, within the setting's limits.
 pub record IsOf (g : Setting) (space : Parts) : Type 0 where

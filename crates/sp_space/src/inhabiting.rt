@@ -1,8 +1,9 @@
 //! A space as an inhabitant of a world.
 
-use crate::{Space, telling};
+use crate::Space;
 use sp_events::{CoreFault, Event, Root};
 use sp_outputs::Output;
+use sp_players::refusal;
 use sp_world::Inhabitant;
 use space_ids::{Row, Uuid, Value};
 use table_copies::copy_values;
@@ -27,7 +28,7 @@ impl<'p> Inhabitant for Space<'p> {
         arguments: &[Value],
         fuel: u64,
     ) -> Result<Vec<Output>, CoreFault> {
-        let refused = telling::refusal(self.parts.program, method, arguments)?;
+        let refused = refusal(self.parts.program, method, arguments)?;
         let arguments = Row::new(copy_values(self.parts.alloc, arguments)?);
         self.parts.core.root(&Root {
             method,

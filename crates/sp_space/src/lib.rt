@@ -10,8 +10,6 @@ mod ending;
 mod inhabiting;
 mod machines;
 mod parts;
-mod player;
 mod slicing;
 mod space;
 mod stepping;
-mod telling;

@@ -12,11 +12,12 @@ ghost use Rattle.sp_rules.specs.State.{Living};
 ghost use Rattle.sp_tasks.specs.Behaviours.{op_of};
 ghost use Rattle.vm_act.specs.declared.machine.Machine.{Machine};
 ghost use Rattle.vm_step.specs.Run.{Waits};
-ghost use Rattle.sp_space.specs.Machines.{IsAskedBy, IsNextAt, fuel_at, machine_at};
-ghost use Rattle.sp_space.specs.Players.{AsksIn, CanCatchUp, IsLevelAt, IsPlayed, Played};
+ghost use Rattle.sp_players.specs.Coming.{IsAskedBy, IsNextAt, fuel_at};
+ghost use Rattle.sp_space.specs.Machines.{machine_at};
+ghost use Rattle.sp_players.specs.Players.{AsksIn, CanCatchUp, IsLevelAt, IsPlayed, Played};
 
-use crate::player::{Next, Player};
 use indexmap::IndexMap;
+use sp_players::{Next, Player};
 use sp_tasks::{Op, Record};
 use std::alloc::{AllocError, Global};
 use vm_code::Asked;

@@ -5,7 +5,8 @@ ghost use Rattle.sp_classes.specs.Classes.{classes_of};
 ghost use Rattle.sp_reply_laws.specs.Told.{AreRemoteRules};
 ghost use Rattle.sp_rules.specs.Classes.{Setting};
 ghost use Rattle.sp_rules.specs.State.{opening};
-ghost use Rattle.sp_space.specs.Spaces.{AreLimits, IsResting, IsSpace};
+ghost use Rattle.sp_players.specs.Limits.{AreLimits};
+ghost use Rattle.sp_space.specs.Spaces.{IsResting, IsSpace};
 
 use crate::machines::Machines;
 use net_message::Digest;

@@ -6,7 +6,8 @@ ghost use Rattle.sp_reply_laws.specs.Told.{AreRemoteRules};
 ghost use Rattle.sp_rules.specs.Classes.{Setting};
 ghost use Rattle.sp_rules.specs.State.{State, opening, standing};
 ghost use Rattle.sp_core.specs.Shown.{lowest_ready, shown, shown_of};
-ghost use Rattle.sp_space.specs.Spaces.{AreLimits, IsSpace};
+ghost use Rattle.sp_players.specs.Limits.{AreLimits};
+ghost use Rattle.sp_space.specs.Spaces.{IsSpace};
 
 use crate::parts::Parts;
 use net_message::Digest;

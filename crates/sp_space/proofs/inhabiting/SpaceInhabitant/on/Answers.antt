@@ -4,7 +4,7 @@ use Rattle.sp_rules.specs.Space.{state_of}
 use Rattle.sp_rules.specs.State.{State}
 use Rattle.sp_space.specs.Spaces.{IsSpace}
 use Rattle.sp_space.proofs.EventLemmas.{kept-space, on-space, space-core}
-use Rattle.sp_space.proofs.ResultLemmas.{if-err, if-ok, ok-or-on, on-err, on-ok, on-ok-two}
+use Rattle.sp_players.proofs.ResultLemmas.{if-err, if-ok, ok-or-on, on-err, on-ok, on-ok-two}
 use Rattle.sp_space.proofs.SpaceStep.{at-rest, resting}
 use Rattle.sp_space.proofs.inhabiting.SpaceInhabitant.on.Goals as goal
 

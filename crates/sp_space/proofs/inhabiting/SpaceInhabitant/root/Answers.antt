@@ -12,7 +12,7 @@ use Rattle.sp_outputs.specs.Notes.{output_of}
 use Rattle.sp_space.specs.Spaces.{IsSpace}
 use Rattle.sp_space.proofs.BeginLemmas.{Tells, root-space, told-root}
 use Rattle.sp_space.proofs.EventLemmas.{kept-space, space-core}
-use Rattle.sp_space.proofs.ResultLemmas.{if-err, if-ok, ok-or-on, on-err, on-ok, on-ok-two}
+use Rattle.sp_players.proofs.ResultLemmas.{if-err, if-ok, ok-or-on, on-err, on-ok, on-ok-two}
 use Rattle.sp_space.proofs.SpaceStep.{at-rest, resting}
 use Rattle.sp_space.proofs.inhabiting.SpaceInhabitant.root.Goals as goal
 

@@ -5,9 +5,9 @@ use Rattle.sp_rules.specs.Space.{state_of}
 use Rattle.sp_tasks.specs.Recorded.{Recorded}
 use Rattle.sp_space.specs.Events.{HasRun}
 use Rattle.sp_space.specs.Machines.{machine_at}
-use Rattle.sp_space.specs.Players.{IsLevelAt}
+use Rattle.sp_players.specs.Players.{IsLevelAt}
 use Rattle.sp_space.proofs.LentLemmas.{lends-those, lent_ids}
-use Rattle.sp_space.proofs.ResultLemmas.{if-err, if-ok, on-err}
+use Rattle.sp_players.proofs.ResultLemmas.{if-err, if-ok, on-err}
 use Rattle.sp_space.proofs.SliceLemmas.{level-after, none-level, slice-fits, slice-runs, some-made}
 use Rattle.sp_space.proofs.parts.Parts.run_on.Goals as goal
 

@@ -2,7 +2,7 @@ use Rattle.std.proofs.Common.{sym, subst}
 use Rattle.sp_rules.specs.Classes.{Setting}
 use Rattle.sp_rules.specs.State.{State}
 use Rattle.sp_space.specs.Spaces.{IsSpace}
-use Rattle.sp_space.proofs.ResultLemmas.{if-err, if-ok, ok-of, ok-or-on, on-err}
+use Rattle.sp_players.proofs.ResultLemmas.{if-err, if-ok, ok-of, ok-or-on, on-err}
 use Rattle.sp_space.proofs.SliceLemmas.{slice-is, slice-rests}
 use Rattle.sp_space.proofs.SpaceStep.{rests-at, step-refused, step-same}
 use Rattle.sp_space.proofs.space.Space.run.Goals as goal

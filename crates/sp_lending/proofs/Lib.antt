@@ -1,0 +1,11 @@
+mod LentIds
+mod RecordLemmas
+mod AlikeLemmas
+mod FoundLemmas
+mod SpaceLemmas
+mod TaskLemmas
+mod ReturnLemmas
+mod CommitLemmas
+mod BeginLemmas
+mod LendLemmas
+mod WorkLemmas

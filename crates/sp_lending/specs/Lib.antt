@@ -1,0 +1,4 @@
+pub mod Rows
+pub mod Hands
+pub mod Spaces
+pub mod Works
