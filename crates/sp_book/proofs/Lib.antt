@@ -1,0 +1,3 @@
+pub mod HandLemmas
+pub mod SeatLemmas
+pub mod StandLemmas
