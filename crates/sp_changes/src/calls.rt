@@ -13,10 +13,9 @@ ghost use Rattle.sp_state.specs.Hands.{has_lent};
 ghost use Rattle.sp_state.specs.Spaces.{IsAtRest, IsSpace};
 ghost use Rattle.sp_tasks.specs.Lent.{LendsNoMore};
 
-use crate::let_go;
+use crate::{BoxedState, let_go};
 use sp_call_classes::CallClasses;
 use sp_outputs::Output;
-use sp_state::SpaceState;
 use sp_tasks::LentTask;
 use space_ids::{Ref, Row, Value};
 use std::alloc::AllocError;
@@ -31,12 +30,12 @@ pub struct Call {
 
 /// The state in which the task waits too. There is none at out of memory.
 pub fn park_too<C: CallClasses>(
-    last: SpaceState,
+    last: BoxedState,
     classes: &C,
     task: LentTask,
     call: Call,
     fuel: u64,
-) -> Option<SpaceState>
+) -> Option<BoxedState>
     requires { has_lent last task ≡ true }
     ensures parked { IfSome result (λ space. (g : Setting) (s : State) → IsSpace g s last → IsAtRest s → C.tells classes.now g.classes → stand (task_of g task) ≡ AsksFor (Calls call.target call.method call.arguments) → fuel ≡ (task_of g task).fuel → IsSpace g (after_event g (Parked task.id task.made) s).0 space) }
     ensures lent { IfSome result (λ space. LendsNoMore task.id last.living.tasks space.living.tasks) }
@@ -54,7 +53,7 @@ pub fn park_too<C: CallClasses>(
 /// Lets a task that a state lends, with this fuel left, wait for the reply to its call, and ends the event. What
 /// fails is to be let go.
 pub fn park_in<C: CallClasses>(
-    space: &mut SpaceState,
+    space: &mut BoxedState,
     classes: &C,
     task: LentTask,
     call: Call,
@@ -71,8 +70,9 @@ pub fn park_in<C: CallClasses>(
         arguments,
     } = call;
     let lent = fuel.saturating_sub(1);
-    let Ok(()) = space.park_call(classes, task, target, method, arguments, lent) else {
+    let state = &mut *space.state;
+    let Ok(()) = state.park_call(classes, task, target, method, arguments, lent) else {
         return Err(AllocError);
     };
-    space.conclude()
+    state.conclude()
 }

@@ -11,16 +11,15 @@ ghost use Rattle.sp_tasks.specs.Behaviours.{op_of, reply_of};
 ghost use Rattle.sp_tasks.specs.Lent.{KeepsLent};
 ghost use Rattle.sp_tasks.specs.Rows.{replied_hand};
 
-use crate::let_go;
+use crate::{BoxedState, let_go};
 use sp_call_classes::CallClasses;
-use sp_state::SpaceState;
 use sp_tasks::{LentTask, Op, Reply, copy_reply};
 use std::alloc::{AllocError, Global};
 
 /// Does an operation on the store in a state, and answers the reply twice. What fails is to be let go.
 pub fn commit_in<C: CallClasses>(
     alloc: Global,
-    space: &mut SpaceState,
+    space: &mut BoxedState,
     classes: &C,
     hand: &mut LentTask,
     op: &Op,
@@ -33,18 +32,18 @@ pub fn commit_in<C: CallClasses>(
     ensures own { OnOk result (has_lent space.new hand.new ≡ true) }
     ensures lent { OnOk result (KeepsLent space.old.living.tasks space.new.living.tasks) }
 {
-    let reply = space.commit(classes, hand, op)?;
+    let reply = space.state.commit(classes, hand, op)?;
     let copy = copy_reply(alloc, &reply)?;
     Ok((reply, copy))
 }
 
 /// The state after the operation was done in it too. There is none at out of memory.
 pub fn commit_too<C: CallClasses>(
-    last: SpaceState,
+    last: BoxedState,
     classes: &C,
     hand: &mut LentTask,
     op: &Op,
-) -> Option<SpaceState>
+) -> Option<BoxedState>
     requires { has_lent last hand.old ≡ true }
     ensures own { IfSome result (λ space. has_lent space hand.new ≡ true) }
     ensures hand { IfSome result (λ _. (hand.new.id ≡ hand.old.id) × (hand.new.made ≡ 0)) }
@@ -52,7 +51,7 @@ pub fn commit_too<C: CallClasses>(
     ensures lent { IfSome result (λ space. KeepsLent last.living.tasks space.living.tasks) }
 {
     let mut last = last;
-    let Ok(_) = last.commit(classes, hand, op) else {
+    let Ok(_) = last.state.commit(classes, hand, op) else {
         let_go(last);
         return None;
     };

@@ -13,21 +13,20 @@ ghost use Rattle.sp_state.specs.Spaces.{IsAtRest, IsSpace};
 ghost use Rattle.sp_tasks.specs.Behaviours.{outcome_of};
 ghost use Rattle.sp_tasks.specs.Lent.{LendsNoMore};
 
-use crate::let_go;
+use crate::{BoxedState, let_go};
 use sp_call_classes::CallClasses;
 use sp_outputs::Output;
-use sp_state::SpaceState;
 use sp_tasks::{LentTask, Outcome};
 use std::alloc::AllocError;
 
 /// The state after the task ended in it too. There is none at out of memory.
 pub fn finish_too<C: CallClasses>(
-    last: SpaceState,
+    last: BoxedState,
     classes: &C,
     task: &LentTask,
     fuel: u64,
     outcome: Outcome,
-) -> Option<SpaceState>
+) -> Option<BoxedState>
     requires { has_lent last task.now ≡ true }
     ensures finished { IfSome result (λ space. (g : Setting) (s : State) → IsSpace g s last → IsAtRest s → C.tells classes.now g.classes → stand (task_of g task.now) ≡ HasEnded (outcome_of outcome) → fuel ≡ (task_of g task.now).fuel → IsSpace g (after_event g (Finished task.now.id task.now.made) s).0 space) }
     ensures lent { IfSome result (λ space. LendsNoMore task.now.id last.living.tasks space.living.tasks) }
@@ -45,7 +44,7 @@ pub fn finish_too<C: CallClasses>(
 /// Lets a task go that a state lends and that ended so, with this fuel left, and ends the event. What fails is to
 /// be let go.
 pub fn finish_in<C: CallClasses>(
-    space: &mut SpaceState,
+    space: &mut BoxedState,
     classes: &C,
     task: &LentTask,
     fuel: u64,
@@ -56,6 +55,7 @@ pub fn finish_in<C: CallClasses>(
     ensures state { OnOk result ((g : Setting) (s : State) → IsSpace g s space.old → IsAtRest s → C.tells classes.now g.classes → stand (task_of g task.now) ≡ HasEnded (outcome_of outcome) → fuel ≡ (task_of g task.now).fuel → IsSpace g (after_event g (Finished task.now.id task.now.made) s).0 space.new) }
     ensures lent { OnOk result (LendsNoMore task.now.id space.old.living.tasks space.new.living.tasks) }
 {
-    space.finish_task(classes, task, fuel, outcome)?;
-    space.conclude()
+    let state = &mut *space.state;
+    state.finish_task(classes, task, fuel, outcome)?;
+    state.conclude()
 }

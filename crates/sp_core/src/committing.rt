@@ -17,9 +17,8 @@ ghost use Rattle.sp_core.specs.Hands.{IsSecond, committed, fits};
 
 use crate::{LentTask, SpaceCore};
 use sp_call_classes::CallClasses;
-use sp_changes::{commit_in, commit_too, let_go};
+use sp_changes::{BoxedState, commit_in, commit_too, let_go};
 use sp_events::CoreFault;
-use sp_state::SpaceState;
 use sp_tasks::{LentTask as TaskInHand, Op, Reply, Stand};
 use std::alloc::AllocError;
 use std::mem;
@@ -128,7 +127,7 @@ impl SpaceCore {
         &mut self,
         hand: &TaskInHand,
         twin: Option<TaskInHand>,
-    ) -> Result<(SpaceState, TaskInHand), AllocError>
+    ) -> Result<(BoxedState, TaskInHand), AllocError>
         requires lent { lends self.old hand.now ≡ true }
         requires fits { fits self.old.spare hand.now twin ≡ true }
         ensures own { IfOk result (λ second. fits (Some second.0) hand.now (Some second.1) ≡ true) }
@@ -142,13 +141,13 @@ impl SpaceCore {
     }
 
     // A copy of the first state, and of a task that it lends.
-    fn copy_for(&self, hand: &TaskInHand) -> Result<(SpaceState, TaskInHand), AllocError>
+    fn copy_for(&self, hand: &TaskInHand) -> Result<(BoxedState, TaskInHand), AllocError>
         requires { lends self.now hand.now ≡ true }
         ensures own { IfOk result (λ second. fits (Some second.0) hand.now (Some second.1) ≡ true) }
         ensures state { IfOk result (λ second. (g : Setting) (s : State) → IsCore g s self.now → IsSecond g s self.now.state second.0) }
     {
         let twin = hand.copy(self.alloc)?;
-        let space = self.state.copy()?;
+        let space = self.state.copy(self.alloc)?;
         Ok((space, twin))
     }
 }

@@ -113,8 +113,8 @@ impl SpaceCore {
         ensures { self.new ≡ record self.old { sightings = self.new.sightings } }
     {
         match call {
-            Some(call) => self.sightings.see_call(&self.state, call),
-            None => self.sightings.see_results(&self.state, outputs),
+            Some(call) => self.sightings.see_call(self.state.state(), call),
+            None => self.sightings.see_results(self.state.state(), outputs),
         }
     }
 

@@ -69,7 +69,8 @@ impl SpaceCore {
         let last = mem::replace(&mut self.state, next);
         let spare = follow(last, classes, second);
         self.put_spare(spare);
-        self.sightings.see_results(&self.state, outputs.as_slice());
+        self.sightings
+            .see_results(self.state.state(), outputs.as_slice());
         Ok(outputs)
     }
 }

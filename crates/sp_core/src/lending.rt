@@ -16,9 +16,8 @@ ghost use Rattle.sp_tasks.specs.Lent.{LendsNoMore};
 ghost use Rattle.sp_core.specs.Hands.{IsLentToo, IsSecond, fits, given_back};
 
 use crate::{LentTask, SpaceCore};
-use sp_changes::let_go;
+use sp_changes::{BoxedState, let_go};
 use sp_events::CoreFault;
-use sp_state::SpaceState;
 use sp_tasks::LentTask as TaskInHand;
 
 impl SpaceCore {
@@ -135,7 +134,7 @@ impl SpaceCore {
 }
 
 // Whether the second state lends the twin of a task, if it has one.
-fn lends_twin(spare: &SpaceState, task: &LentTask) -> bool
+fn lends_twin(spare: &BoxedState, task: &LentTask) -> bool
     ensures { result ≡ fits (Some spare.now) task.now.task task.now.twin }
 {
     match &task.twin {
@@ -145,7 +144,7 @@ fn lends_twin(spare: &SpaceState, task: &LentTask) -> bool
 }
 
 // Whether a task is lent by the second state, and equal to the one that the first lends.
-fn is_twin(spare: &SpaceState, task: &TaskInHand, twin: &TaskInHand) -> bool
+fn is_twin(spare: &BoxedState, task: &TaskInHand, twin: &TaskInHand) -> bool
     ensures { result ≡ fits (Some spare.now) task.now (Some twin.now) }
 {
     (twin.id() == task.id() && twin.made() == task.made())
@@ -155,9 +154,9 @@ fn is_twin(spare: &SpaceState, task: &TaskInHand, twin: &TaskInHand) -> bool
 // The second state after the twin of a task came back to it. Without a twin it is let go.
 fn take_twin_back(
     task: &TaskInHand,
-    spare: Option<SpaceState>,
+    spare: Option<BoxedState>,
     twin: Option<TaskInHand>,
-) -> Option<SpaceState>
+) -> Option<BoxedState>
     requires { fits spare task.now twin ≡ true }
     ensures { IfSome result (λ new. (g : Setting) (s : State) (first now : SpaceState) → IfSome spare (IsSecond g s first) → LendsNoMore task.now.id first.living.tasks now.living.tasks → IsSecond g (give_back task.now.id task.now.made s) now new) }
 {

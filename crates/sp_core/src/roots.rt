@@ -43,7 +43,7 @@ impl SpaceCore {
         ensures standing { OnOk result ((g : Setting) (h : List Happening) → IsCore g (state_of g h) self.old → IsTold g root.now → IsTaken g h → OwnStand g (state_of g (event_of_root root.now ∷ h))) }
     {
         let arguments = root.arguments.as_slice();
-        self.sightings.look_for(&self.state, arguments);
+        self.sightings.look_for(self.state.state(), arguments);
         match self.refuse_root(root)? {
             Some(fault) => Err(fault),
             None => Ok(self.start(root)?),
@@ -104,7 +104,7 @@ impl SpaceCore {
         if !self.is_leased(reference) {
             return Ok(false);
         }
-        has_holder(self.alloc, &self.state, &self.sightings, reference)
+        has_holder(self.alloc, self.state.state(), &self.sightings, reference)
     }
 
     // Whether a foreign reference is leased.

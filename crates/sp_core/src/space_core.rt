@@ -6,6 +6,7 @@ ghost use Rattle.sp_rules.specs.State.{State, opening};
 ghost use Rattle.sp_core.specs.Hands.{IsSecond};
 
 use net_message::Digest;
+use sp_changes::BoxedState;
 use sp_holders::Sightings;
 use sp_state::SpaceState;
 use space_ids::Uuid;
@@ -24,8 +25,8 @@ pub struct SpaceCore {
     pub(crate) id: Uuid,
     // With how much fuel a root may start.
     pub(crate) fuel: u64,
-    pub(crate) state: SpaceState,
-    pub(crate) spare: Option<SpaceState>,
+    pub(crate) state: BoxedState,
+    pub(crate) spare: Option<BoxedState>,
     // Where references were seen to be held. What finds no memory is not kept.
     pub(crate) sightings: Sightings,
 }
@@ -38,7 +39,8 @@ impl SpaceCore {
     pub fn new(alloc: Global, id: Uuid, digest: Digest, fuel: u64) -> Result<SpaceCore, AllocError>
         ensures { IfOk result (λ core. (g : Setting) → g.id ≡ id → g.digest ≡ digest → g.limits.fuel ≡ fuel → IsCore g opening core) }
     {
-        let state = SpaceState::new(alloc, id, digest)?;
+        let first = SpaceState::new(alloc, id, digest)?;
+        let state = BoxedState::new(alloc, first)?;
         Ok(SpaceCore {
             alloc,
             id,
@@ -57,17 +59,17 @@ impl SpaceCore {
     }
 
     // Takes the second state out: a copy of the first, if there is none.
-    pub(crate) fn take_spare(&mut self) -> Result<SpaceState, AllocError>
+    pub(crate) fn take_spare(&mut self) -> Result<BoxedState, AllocError>
         ensures spare { IfOk result (λ spare. (g : Setting) (s : State) → IsCore g s self.old → IsSecond g s self.old.state spare) }
         ensures core { self.new ≡ record self.old { spare = None } }
     {
         match self.spare.take() {
             Some(spare) => Ok(spare),
-            None => self.state.copy(),
+            None => self.state.copy(self.alloc),
         }
     }
 
-    pub(crate) fn put_spare(&mut self, spare: Option<SpaceState>)
+    pub(crate) fn put_spare(&mut self, spare: Option<BoxedState>)
         ensures { self.new ≡ record self.old { spare = spare } }
     {
         drop(std::mem::replace(&mut self.spare, spare));
